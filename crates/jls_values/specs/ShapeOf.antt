@@ -1,0 +1,25 @@
+-- The shape of four values, or why there is none: the first range that they break.
+use Rattle.std.specs.Prelude.{ℕ, ◌||◌, ◌==◌, nat_lt, List, length, Option, Some, None, Result, Ok, Err, if◌then◌else◌}
+use Rattle.jls_values.specs.declared.shape.ShapeFault.{ShapeFault}
+use Rattle.jls_values.specs.declared.shape.ShapeFault.TheVariants.{Precision, Width, Height, Count, RepeatedId}
+use Rattle.jls_values.specs.Shape.{PictureShape, has_repeat}
+
+-- the first range that is broken by the sizes and the number of identifiers
+abbrev pub size_fault : ℕ → ℕ → ℕ → ℕ → Option ShapeFault
+size_fault precision width height count =
+    if nat_lt precision 2 || nat_lt 16 precision then Some Precision
+    else if width == 0 then Some Width
+    else if height == 0 then Some Height
+    else if count == 0 || nat_lt 4 count then Some Count
+    else None
+
+-- `otherwise`, where there is no fault
+abbrev pub unless_fault : Option ShapeFault → Result PictureShape ShapeFault → Result PictureShape ShapeFault
+unless_fault (Some fault) otherwise = Err fault
+unless_fault None otherwise = otherwise
+
+abbrev pub shape_of : ℕ → ℕ → ℕ → List ℕ → Result PictureShape ShapeFault
+shape_of precision width height ids =
+    unless_fault (size_fault precision width height (length ids))
+    (if has_repeat ids then Err RepeatedId
+    else Ok (record { precision = precision; width = width; height = height; ids = ids }))

@@ -1,0 +1,8 @@
+//! Values that all crates of the salvager share: shapes, coding parameters, and values that are merged.
+#![tactic(auto)]
+
+mod merge;
+mod shape;
+
+pub use merge::{Merge, MergeFault, merge_all, same_members_same_join};
+pub use shape::{Shape, ShapeFault};
