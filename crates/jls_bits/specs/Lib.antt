@@ -1,0 +1,4 @@
+pub mod Bits
+pub mod Golomb
+pub mod Pad
+pub mod Unread

@@ -1,0 +1,2 @@
+//! Data bits with the bit stuffed after each byte 0xFF, and Golomb codes of a limited length (ITU-T T.87, annex A).
+#![tactic(auto)]
