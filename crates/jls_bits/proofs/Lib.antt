@@ -1,1 +1,3 @@
+pub mod DataBits
+pub mod NumberBits
 mod Rows
