@@ -1,3 +1,5 @@
+mod Rows
+pub mod CodeSteps
+pub mod Codes
 pub mod DataBits
 pub mod NumberBits
-mod Rows

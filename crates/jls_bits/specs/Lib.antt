@@ -1,4 +1,5 @@
 pub mod Bits
+pub mod CodeState
 pub mod Golomb
 pub mod Pad
 pub mod Unread
