@@ -1,5 +1,7 @@
-mod Rows
+pub mod Appending
 pub mod CodeSteps
 pub mod Codes
 pub mod DataBits
 pub mod NumberBits
+pub mod Padding
+mod Rows

@@ -1,3 +1,4 @@
+pub mod Appending
 pub mod Bits
 pub mod CodeState
 pub mod Golomb
