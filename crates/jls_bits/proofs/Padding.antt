@@ -1,15 +1,15 @@
 -- The pad of bits: that it is one, the shortest, and how bytes that bits were written to become it.
-use Rattle.std.proofs.Common.{◌≡◌, ℕ, zero, suc, ◌+◌, ◌-◌, ◌*◌, ◌/◌, ◌%◌, ◌^◌, ◌<◌, ◌≤◌, Bool, true, false, eqb, cond, List, [], ◌∷◌, ◌++◌, length, replicate, refl, sym, ap, ◌∙◌, subst, arith, inl, inr, append_assoc, length-append}
-use Rattle.std.proofs.lemmas.Nat.{pow_pos, shr_high, mod_low}
+use Rattle.std.proofs.Common.{◌≡◌, ℕ, zero, suc, ◌+◌, ◌-◌, ◌*◌, ◌/◌, ◌%◌, ◌^◌, ◌<◌, ◌≤◌, Bool, true, false, eqb, cond, List, [], ◌∷◌, ◌++◌, length, replicate, refl, sym, ap, ◌∙◌, subst, arith, inl, inr, append_assoc, length-append, add-zero}
+use Rattle.std.proofs.lemmas.Nat.{pow_pos, shr_high, mod_low, shl-shr, shl_below}
 use Rattle.std.proofs.lemmas.List.{append-nil, nil_from_length, length-replicate, replicate-append-replicate}
 use Rattle.std.proofs.lemmas.Bool.{cases_Bool, cases_lt, cases_eq, eqb-true, eqb-false, eq-eqb, ne_eqb}
 use Rattle.std.proofs.Math.Nat.{mod-eq_of_lt, zero-div, div-eq_of_lt, pow-suc}
 use Rattle.jls_bits.specs.Bits.{bits, value_of_bits, width_after, bits_read_after, is_whole_after, bits_read, AreDataBits}
 use Rattle.jls_bits.specs.Pad.{Carries, IsPad, last_bytes, pad_after, pad}
 use Rattle.jls_bits.specs.Appending.{last_after, AreFilled}
-use Rattle.jls_bits.proofs.NumberBits.{length-bits, bits_none, bits_cong, cons_same}
+use Rattle.jls_bits.proofs.NumberBits.{length-bits, bits_none, bits_cong, bits_split, cons_same}
 use Rattle.jls_bits.proofs.DataBits.{width_bounds, data_end, whole_end}
-use Rattle.jls_bits.proofs.Appending.{data_append, whole_front, last_append, last_is, many_bits, same_stream, filled_more}
+use Rattle.jls_bits.proofs.Appending.{data_append, whole_front, last_append, last_is, many_bits, same_stream, filled_more, below_256}
 
 -- bytes that carry the bits have as many data bits at least
 carried_length : (given : List Bool) (bytes : List ℕ) → Carries given bytes → length given ≤ length (bits_read bytes)
@@ -173,3 +173,32 @@ pads_from given pending (b ∷ bs) bytes f few e =
 -- the pad of the bits
 pub pad_is_pad : (given : List Bool) → IsPad given (pad given)
 pad_is_pad given = pads_from given [] given [] (record { are_bytes = tt; whole = whole_end 0 }) (let w = width_bounds 0 in omega (arith, w)) (ap (λ z. z ++ given) (sym (data_end 0)))
+
+-- the bits behind whole bytes, at the top of a byte of zeros
+top_bits : (w count partial : ℕ) → count < w → partial < 2 ^ count
+    → (bits w (partial * 2 ^ (w - count)) ≡ bits count partial ++ replicate (w - count) false) × (partial * 2 ^ (w - count) < 2 ^ w)
+top_bits w count partial l b =
+    let d = w - count in let x = partial * 2 ^ d in let e : w ≡ count + d = omega arith in
+    let none : x % 2 ^ d ≡ 0 % 2 ^ d = ap (λ z. z % 2 ^ d) (sym (add-zero x)) ∙ mod_low partial d 0 (pow_pos d) ∙ sym (mod-eq_of_lt (pow_pos d)) in
+    (ap (λ z. bits z x) e ∙ bits_split count d x ∙ ap (λ z. bits count z ++ bits d x) (shl-shr partial d) ∙ ap (λ z. bits count partial ++ z) (bits_cong d x 0 none ∙ zero_bits d), subst (λ z. x < 2 ^ z) (sym e) (shl_below partial count d b))
+
+-- the three ends of a writer
+module _ (bytes : List ℕ) (last count partial : ℕ) (f : AreFilled bytes) (e : last ≡ last_after 0 bytes) where
+  pub finish_partial : (x : ℕ) → count < width_after last → partial < 2 ^ count → 0 < count → x ≡ partial * 2 ^ (width_after last - count) % 256
+      → IsPad (bits_read bytes ++ bits count partial) (bytes ++ x ∷ [])
+  finish_partial x few small some is =
+      let given = bits_read bytes ++ bits count partial in let w = width_after (last_after 0 bytes) in
+      let few' : count < w = subst (λ z. count < width_after z) e few in let r = top_bits w count partial few' small in let n = length-bits count partial in
+      let byte = below_256 (last_after 0 bytes) (partial * 2 ^ (w - count)) r.1 in
+      let same : x ≡ partial * 2 ^ (w - count) = is ∙ ap (λ z. partial * 2 ^ (width_after z - count) % 256) e ∙ mod-eq_of_lt byte in
+      let p = partial_pad given (bits count partial) bytes (partial * 2 ^ (w - count)) f refl (omega (arith, n, some)) (omega (arith, n, few')) r.1 (r.0 ∙ ap (λ z. bits count partial ++ replicate (w - z) false) (sym n)) in
+      subst (λ z. IsPad given (bytes ++ z ∷ [])) (sym same) p
+
+  no_bits : count ≡ 0 → bits_read bytes ++ bits count partial ≡ bits_read bytes
+  no_bits h = ap (λ z. bits_read bytes ++ z) (ap (λ z. bits z partial) h ∙ bits_none partial) ∙ append-nil (bits_read bytes)
+
+  pub finish_stuffed : count ≡ 0 → last ≡ 255 → IsPad (bits_read bytes ++ bits count partial) (bytes ++ 0 ∷ [])
+  finish_stuffed h j = stuffed_pad (bits_read bytes ++ bits count partial) bytes f (no_bits h) (sym e ∙ j) (zero_bits (width_after (last_after 0 bytes)))
+
+  pub finish_whole : count ≡ 0 → (last ≡ 255 → ⊥) → IsPad (bits_read bytes ++ bits count partial) bytes
+  finish_whole h j = whole_pad (bits_read bytes ++ bits count partial) bytes f (no_bits h) (λ q. j (e ∙ q))

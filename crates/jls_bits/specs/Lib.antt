@@ -2,5 +2,6 @@ pub mod Appending
 pub mod Bits
 pub mod CodeState
 pub mod Golomb
+pub mod Packing
 pub mod Pad
 pub mod Unread

@@ -3,8 +3,11 @@
 
 mod code_state;
 mod golomb;
+mod packing;
 mod reader;
 mod stuffing;
+mod writer;
 
 pub use golomb::{no_golomb_code_begins_another, read_golomb};
 pub use reader::BitReader;
+pub use writer::BitWriter;
