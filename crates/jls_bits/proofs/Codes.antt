@@ -1,12 +1,12 @@
 -- Golomb codes: the two kinds, what stands at the front of some bits, and that no code begins another.
 use Rattle.std.proofs.Common.{◌≡◌, ℕ, zero, suc, ◌+◌, ◌-◌, ◌*◌, ◌/◌, ◌%◌, ◌^◌, ◌<◌, ◌≤◌, Bool, true, false, ◌&&◌, eqb, ltb, leb, List, [], ◌∷◌, ◌++◌, replicate, refl, sym, ap, ◌∙◌, arith, inl, inr, append_assoc}
 use Rattle.std.proofs.lemmas.List.{append-nil}
-use Rattle.std.proofs.lemmas.Nat.{div-add-mod', shr_high, mod_low}
-use Rattle.std.proofs.Math.Nat.{mod-eq_of_lt}
+use Rattle.std.proofs.lemmas.Nat.{div-add-mod', shr_high, mod_low, mod_below, pow_pos}
+use Rattle.std.proofs.Math.Nat.{mod-eq_of_lt, zero-div}
 use Rattle.std.proofs.lemmas.Bool.{cases_Bool, ltb-true, ltb-false, lt-ltb, le-ltb, le-leb, leb-true, and_from, and_parts}
 use Rattle.jls_bits.specs.Bits.{bits}
 use Rattle.jls_bits.specs.Golomb.{escape_zeros, is_short, golomb, has_golomb}
-use Rattle.jls_bits.proofs.NumberBits.{bits_same, bits_cong}
+use Rattle.jls_bits.proofs.NumberBits.{bits_same, bits_cong, bits_more, cons_same}
 
 pub zeros_then_one : (a b : ℕ) (s t : List Bool)
     → replicate a false ++ true ∷ s ≡ replicate b false ++ true ∷ t → (a ≡ b) × (s ≡ t)
@@ -84,3 +84,32 @@ module _ (k g q : ℕ) where
   escape_code v given b j a =
       let h : is_short k g q (v + 1) ≡ false = le-ltb ((v + 1) / 2 ^ k) esc j in let c : v + 1 - 1 ≡ v = omega arith in
       (rw h (and_from (leb 1 (v + 1)) (leb (v + 1) (2 ^ q)) (le-leb 1 (v + 1) (omega arith)) (le-leb (v + 1) (2 ^ q) (omega arith))), sym (append-nil (golomb k g q (v + 1))) ∙ golomb_long (v + 1) [] h ∙ ap (λ x. replicate esc false ++ true ∷ x) (append-nil (bits q (v + 1 - 1)) ∙ ap (λ x. bits q x) c) ∙ sym a)
+
+-- bits that begin with a one
+leading_one : (n low x : ℕ) → low < 2 ^ n → low % 2 ^ n ≡ x % 2 ^ n → bits (n + 1) (2 ^ n + low) ≡ true ∷ bits n x
+leading_one n low x l e =
+    let m : n + 1 - 1 ≡ n = omega arith in let one : 2 ^ n + low ≡ 1 * 2 ^ n + low = omega arith in
+    let d : (2 ^ n + low) / 2 ^ (n + 1 - 1) ≡ 1 = ap (λ z. (2 ^ n + low) / 2 ^ z) m ∙ ap (λ z. z / 2 ^ n) one ∙ shr_high 1 n low l in
+    let r : (2 ^ n + low) % 2 ^ n ≡ x % 2 ^ n = ap (λ z. z % 2 ^ n) one ∙ mod_low 1 n low l ∙ sym (mod-eq_of_lt l) ∙ e in
+    bits_more (n + 1) (2 ^ n + low) (omega arith) ∙ cons_same (ap (λ z. eqb (z % 2) 1) d) (ap (λ z. bits z (2 ^ n + low)) m ∙ bits_cong n (2 ^ n + low) x r)
+
+-- a code in two parts
+module _ (k g q : ℕ) where
+  pub parts_of_short : (m : ℕ) → m / 2 ^ k < g - q - 1 → replicate (m / 2 ^ k) false ++ bits (k + 1) (2 ^ k + m % 2 ^ k) ≡ golomb k g q m
+  parts_of_short m l =
+      let low = mod_below m (2 ^ k) (pow_pos k) in
+      ap (λ z. replicate (m / 2 ^ k) false ++ z) (leading_one k (m % 2 ^ k) m low (mod-eq_of_lt low) ∙ sym (ap (λ z. true ∷ z) (append-nil (bits k m)))) ∙ sym (golomb_short k g q m [] (lt-ltb (m / 2 ^ k) (g - q - 1) l)) ∙ append-nil (golomb k g q m)
+
+  pub parts_of_escape : (m : ℕ) → g - q - 1 ≤ m / 2 ^ k → m - 1 < 2 ^ q → replicate (g - q - 1) false ++ bits (q + 1) (2 ^ q + (m - 1)) ≡ golomb k g q m
+  parts_of_escape m l b =
+      ap (λ z. replicate (g - q - 1) false ++ z) (leading_one q (m - 1) (m - 1) b refl ∙ sym (ap (λ z. true ∷ z) (append-nil (bits q (m - 1))))) ∙ sym (golomb_long k g q m [] (le-ltb (m / 2 ^ k) (g - q - 1) l)) ∙ append-nil (golomb k g q m)
+
+  -- an escape's number isn't 0
+  pub escape_above_0 : (m : ℕ) → q + 2 ≤ g → g - q - 1 ≤ m / 2 ^ k → 1 ≤ m
+  escape_above_0 zero h l = let e = zero-div (2 ^ k) in absurd (omega arith)
+  escape_above_0 (suc m) h l = omega arith
+
+  -- every number of at most 2^qbpp has a code
+  pub small_has_code : (m : ℕ) → q + 2 ≤ g → m ≤ 2 ^ q → has_golomb k g q m ≡ true
+  small_has_code m h l =
+      elim (cases_Bool (is_short k g q m)) [ inl s ↦ rw s refl | inr s ↦ (let a = escape_above_0 m h (ltb-false (m / 2 ^ k) (g - q - 1) s) in rw s (and_from (leb 1 m) (leb m (2 ^ q)) (le-leb 1 m a) (le-leb m (2 ^ q) l))) ]

@@ -8,6 +8,6 @@ mod reader;
 mod stuffing;
 mod writer;
 
-pub use golomb::{no_golomb_code_begins_another, read_golomb};
+pub use golomb::{no_golomb_code_begins_another, read_golomb, write_golomb};
 pub use reader::BitReader;
 pub use writer::BitWriter;

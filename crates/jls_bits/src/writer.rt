@@ -47,14 +47,14 @@ impl BitWriter {
         Ok(())
     }
 
-    /// Appends the low `count` bits of `value`, the most significant first. The only refusal is out of memory.
-    pub fn push_bits(&mut self, value: u32, count: u8) -> Result<(), AllocError>
-        requires count { count ≤ 32 }
-        requires value { value < 2 ^ count }
-        ensures ok { OnOk result (self.new ≡ self.old ++ bits count value) }
+    /// Appends the low `n` bits of `value`, the most significant first. The only refusal is out of memory.
+    pub fn push_bits(&mut self, value: u32, n: u8) -> Result<(), AllocError>
+        requires n { n ≤ 32 }
+        requires value { value < 2 ^ n }
+        ensures ok { OnOk result (self.new ≡ self.old ++ bits n value) }
         ensures err { OnErr result (self.new ≡ self.old) }
     {
-        self.push_zeros_then_bits(0, value, count)
+        self.push_zeros_then_bits(0, value, n)
     }
 
     /// Appends zeros, and then the low `count` bits of `value`: all of them, or nothing where memory is refused.
