@@ -1,0 +1,6 @@
+pub mod Entries
+pub mod InsertFaults
+pub mod Partial
+pub mod Place
+pub mod Reading
+pub mod Status

@@ -1,0 +1,9 @@
+//! Partial pictures: a shape, a set of readings of its lines, and the one text of both.
+#![tactic(auto)]
+
+mod insert_fault;
+mod place;
+mod status;
+
+pub use insert_fault::InsertFault;
+pub use status::Status;
