@@ -1,6 +1,10 @@
 pub mod Entries
+pub mod Held
 pub mod InsertFaults
+pub mod Merging
 pub mod Partial
+pub mod PartialLaws
 pub mod Place
 pub mod Reading
+pub mod ReadingOrder
 pub mod Status

@@ -2,8 +2,13 @@
 #![tactic(auto)]
 
 mod insert_fault;
+mod merging;
+mod partial;
 mod place;
+mod readings;
+mod sample_lists;
 mod status;
 
 pub use insert_fault::InsertFault;
+pub use partial::Partial;
 pub use status::Status;

@@ -1,0 +1,5 @@
+pub mod Entries
+pub mod Growth
+pub mod ReadBack
+pub mod Unions
+pub mod Views
