@@ -4,3 +4,5 @@ pub mod Partial
 pub mod Place
 pub mod Reading
 pub mod Status
+pub mod Text
+pub mod TextReading

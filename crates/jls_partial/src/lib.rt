@@ -4,6 +4,8 @@
 mod insert_fault;
 mod place;
 mod status;
+mod text_fault;
 
 pub use insert_fault::InsertFault;
 pub use status::Status;
+pub use text_fault::TextFault;
