@@ -8,3 +8,5 @@ pub mod Place
 pub mod Reading
 pub mod ReadingOrder
 pub mod Status
+pub mod Text
+pub mod TextReading

@@ -8,7 +8,9 @@ mod place;
 mod readings;
 mod sample_lists;
 mod status;
+mod text_fault;
 
 pub use insert_fault::InsertFault;
 pub use partial::Partial;
 pub use status::Status;
+pub use text_fault::TextFault;
