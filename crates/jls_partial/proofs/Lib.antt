@@ -1,6 +1,9 @@
 pub mod Entries
 pub mod Growth
 pub mod ReadBack
+pub mod SameReadings
 pub mod TextRows
 pub mod Unions
 pub mod Views
+pub mod WrittenEntries
+pub mod Yielded

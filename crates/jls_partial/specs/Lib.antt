@@ -1,4 +1,5 @@
 pub mod Entries
+pub mod Equality
 pub mod Held
 pub mod InsertFaults
 pub mod Merging
@@ -10,3 +11,4 @@ pub mod ReadingOrder
 pub mod Status
 pub mod Text
 pub mod TextReading
+pub mod Writing
