@@ -2,6 +2,10 @@ pub mod Entries
 pub mod Growth
 pub mod ReadBack
 pub mod SameReadings
+pub mod TextEntries
+pub mod TextFields
+pub mod TextLaws
+pub mod TextReadings
 pub mod TextRows
 pub mod Unions
 pub mod Views
