@@ -4,6 +4,7 @@ pub mod ReadBack
 pub mod TextEntries
 pub mod TextFields
 pub mod TextLaws
+pub mod TextLoops
 pub mod TextReadings
 pub mod TextRows
 pub mod Unions

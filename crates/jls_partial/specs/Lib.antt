@@ -9,4 +9,5 @@ pub mod Reading
 pub mod ReadingOrder
 pub mod Status
 pub mod Text
+pub mod TextInto
 pub mod TextReading

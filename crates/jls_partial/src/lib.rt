@@ -9,6 +9,8 @@ mod readings;
 mod sample_lists;
 mod status;
 mod text_fault;
+mod text_fields;
+mod text_reading;
 
 pub use insert_fault::InsertFault;
 pub use partial::Partial;
