@@ -1,22 +1,17 @@
 -- Readings taken one after the other.
-use Rattle.std.proofs.Common.{◌≡◌, ℕ, zero, suc, ◌+◌, ◌-◌, ◌<◌, Bool, true, false, ◌||◌, List, [], ◌∷◌, ◌++◌, map, take, Some, refl, ap, sym, subst, ◌∙◌, append_assoc, add-zero, arith}
-use Rattle.std.specs.Prelude.{slice_get}
+use Rattle.std.proofs.Common.{◌≡◌, ℕ, zero, suc, ◌+◌, ◌-◌, ◌<◌, Bool, true, false, ◌||◌, List, [], ◌∷◌, ◌++◌, map, refl, ap, sym, subst, ◌∙◌, append_assoc, add-zero, arith}
 use Rattle.std.specs.List.{list_any, flat_map}
 use Rattle.std.specs.Ordering.{eq_by_cmp}
-use Rattle.std.proofs.lemmas.List.{append-nil, map-append, take_more}
+use Rattle.std.proofs.lemmas.List.{append-nil, map-append}
 use Rattle.std.proofs.lemmas.List.Concat.{flat_map-cons}
 use Rattle.std.proofs.lemmas.Grind.{flat_map-append}
 use Rattle.std.proofs.lemmas.List.Folds.{list_any-append}
-use Rattle.std.proofs.lemmas.Option.{slice_get_within, get_or_from_slice_get}
 use Rattle.jls_partial.specs.Merging.{with_all, line_readings, readings_of_lines, readings_of_components, Grows}
 use Rattle.jls_partial.specs.Partial.{PartialPicture, with_reading}
 use Rattle.jls_partial.specs.Reading.{Reading, reading_cmp, reading_of}
 use Rattle.jls_partial.specs.ReadingOrder.{reading_total}
 use Rattle.jls_values.specs.OrderedSet.{contains}
 use Rattle.jls_values.specs.OrderedSetLaws.{contains-insert_all, insert_all-append, or_assoc}
-
-pub take_read : {X : Type 0} (xs : List X) (i : ℕ) (x : X) → slice_get xs i ≡ Some x → take (i + 1) xs ≡ take i xs ++ x ∷ []
-take_read xs i x e = take_more xs i x (slice_get_within xs i x e) ∙ ap (λ y. take i xs ++ (y ∷ [])) (get_or_from_slice_get xs i x x e)
 
 -- what was written, after what was written before it
 pub follow : (a b c x y : List ℕ) → a ≡ b ++ x → b ≡ c ++ y → a ≡ c ++ (y ++ x)
@@ -29,12 +24,11 @@ pub with_all-append : (p : PartialPicture) (xs ys : List Reading) → with_all p
 with_all-append p xs ys = ap (λ s. record { shape = p.shape; readings = s }) (insert_all-append p.readings xs ys)
 
 -- one reading more of a line
-pub with_all-take_more : (p q : PartialPicture) (c l : ℕ) (xs : List (List ℕ)) (i : ℕ) (x : List ℕ) → slice_get xs i ≡ Some x → q ≡ with_all p (map (reading_of c l) (take i xs))
-    → with_reading q c l x ≡ with_all p (map (reading_of c l) (take (i + 1) xs))
-with_all-take_more p q c l xs i x e is =
+pub with_all-push : (p q : PartialPicture) (c l : ℕ) (xs : List (List ℕ)) (x : List ℕ) → q ≡ with_all p (map (reading_of c l) xs) → with_reading q c l x ≡ with_all p (map (reading_of c l) (xs ++ x ∷ []))
+with_all-push p q c l xs x is =
     ap (λ (q : PartialPicture). with_reading q c l x) is
-    ∙ sym (with_all-append p (map (reading_of c l) (take i xs)) (reading_of c l x ∷ []))
-    ∙ ap (with_all p) (sym (map-append (reading_of c l) (take i xs) (x ∷ [])) ∙ ap (map (reading_of c l)) (sym (take_read xs i x e)))
+    ∙ sym (with_all-append p (map (reading_of c l) xs) (reading_of c l x ∷ []))
+    ∙ ap (with_all p) (sym (map-append (reading_of c l) xs (x ∷ [])))
 
 or_left : (a b : Bool) → a ≡ true → (a || b) ≡ true
 or_left a b e = rw e refl

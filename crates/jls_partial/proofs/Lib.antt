@@ -1,6 +1,7 @@
 pub mod Entries
 pub mod Growth
 pub mod ReadBack
+pub mod SameReadings
 pub mod TextEntries
 pub mod TextFields
 pub mod TextLaws
@@ -9,3 +10,5 @@ pub mod TextReadings
 pub mod TextRows
 pub mod Unions
 pub mod Views
+pub mod WrittenEntries
+pub mod Yielded

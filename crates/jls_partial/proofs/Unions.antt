@@ -51,22 +51,22 @@ any_line r c l (k ∷ rs) =
           ∙ apart (test k) (is_at (place_cmp (place c l)) (place_of r)) (list_any test rs) (λ t. ap (λ (z : Reading). is_at (place_cmp (place c l)) (place_of z)) (same_reading r k t) ∙ not_there)
     ] refl
 
-in_line : (p : PartialPicture) (r : Reading) (c l : ℕ) → list_any (eq_by_cmp reading_cmp r) (line_readings p c l) ≡ (is_at (place_cmp (place c l)) (place_of r) && contains p.readings r)
+pub in_line : (p : PartialPicture) (r : Reading) (c l : ℕ) → list_any (eq_by_cmp reading_cmp r) (line_readings p c l) ≡ (is_at (place_cmp (place c l)) (place_of r) && contains p.readings r)
 in_line p r c l = any_line r c l (items p.readings) ∙ ap (λ b. is_at (place_cmp (place c l)) (place_of r) && b) (sym (contains-items p.readings r))
 
-second : (b c : Bool) → (b && c) ≡ true → c ≡ true
+pub second : (b c : Bool) → (b && c) ≡ true → c ≡ true
 second true c e = e
 second false c e = absurd cc
 
-either : (P : Type 0) (b c : Bool) → (b ≡ true → P) → (c ≡ true → P) → (b || c) ≡ true → P
+pub either : (P : Type 0) (b c : Bool) → (b ≡ true → P) → (c ≡ true → P) → (b || c) ≡ true → P
 either P true c f g e = f refl
 either P false c f g e = g e
 
-or_right : (a b : Bool) → b ≡ true → (a || b) ≡ true
+pub or_right : (a b : Bool) → b ≡ true → (a || b) ≡ true
 or_right true b e = refl
 or_right false b e = e
 
-or_left : (a b : Bool) → a ≡ true → (a || b) ≡ true
+pub or_left : (a b : Bool) → a ≡ true → (a || b) ≡ true
 or_left a b e = rw e refl
 
 sound_below : (p : PartialPicture) (r : Reading) (c n : ℕ) → list_any (eq_by_cmp reading_cmp r) (readings_of_lines p c n) ≡ true → contains p.readings r ≡ true
@@ -79,7 +79,7 @@ sound_upto p r zero e = absurd cc
 sound_upto p r (suc n) e =
     either _ _ _ (sound_upto p r n) (sound_below p r n p.shape.height) (sym (list_any-append (eq_by_cmp reading_cmp r) (readings_of_components p n) (readings_of_lines p n p.shape.height)) ∙ e)
 
-here : (p : PartialPicture) (r : Reading) → contains p.readings r ≡ true → list_any (eq_by_cmp reading_cmp r) (line_readings p r.component r.line) ≡ true
+pub here : (p : PartialPicture) (r : Reading) → contains p.readings r ≡ true → list_any (eq_by_cmp reading_cmp r) (line_readings p r.component r.line) ≡ true
 here p r h = in_line p r r.component r.line ∙ rw (ap is_eq (tied_itself place_total (place_of r)), h) refl
 
 complete_below : (p : PartialPicture) (r : Reading) (n : ℕ) → contains p.readings r ≡ true → r.line < n → list_any (eq_by_cmp reading_cmp r) (readings_of_lines p r.component n) ≡ true
@@ -102,7 +102,7 @@ complete_upto p r (suc n) h lt line =
       | inr le ↦ or_right (list_any test (readings_of_components p n)) _ (subst (λ (c : ℕ). list_any test (readings_of_lines p c p.shape.height) ≡ true) (omega arith) (complete_below p r p.shape.height h line))
     ]
 
-both_ways : (s t : Bool) → (s ≡ true → t ≡ true) → (t ≡ true → s ≡ true) → s ≡ t
+pub both_ways : (s t : Bool) → (s ≡ true → t ≡ true) → (t ≡ true → s ≡ true) → s ≡ t
 both_ways true t f g = sym (f refl)
 both_ways false true f g = g refl
 both_ways false false f g = refl

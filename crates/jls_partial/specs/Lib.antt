@@ -1,4 +1,5 @@
 pub mod Entries
+pub mod Equality
 pub mod Held
 pub mod InsertFaults
 pub mod Merging
@@ -11,3 +12,4 @@ pub mod Status
 pub mod Text
 pub mod TextInto
 pub mod TextReading
+pub mod Writing

@@ -11,20 +11,20 @@ use Rattle.jls_partial.specs.Partial.{has_same_shape, union}
 use Rattle.jls_partial.specs.ReadingOrder.{reading_total, reading_exact}
 use Rattle.jls_values.specs.OrderedSetLaws.{union-idempotent, union-commutative, union-associative}
 
-both : (b c : Bool) → (b && c) ≡ true → (b ≡ true) × (c ≡ true)
+pub both : (b c : Bool) → (b && c) ≡ true → (b ≡ true) × (c ≡ true)
 both true c e = (refl, e)
 both false c e = absurd cc
 
 eqb_itself : (n : ℕ) → (n == n) ≡ true
 eqb_itself n = nat_eq_equiv.refl n
 
-same_list : (xs ys : List ℕ) → pointwise nat_eq xs ys ≡ true → xs ≡ ys
+pub same_list : (xs ys : List ℕ) → pointwise nat_eq xs ys ≡ true → xs ≡ ys
 same_list [] [] e = refl
 same_list [] (y ∷ ys) e = absurd cc
 same_list (x ∷ xs) [] e = absurd cc
 same_list (x ∷ xs) (y ∷ ys) e = let p = both (nat_eq x y) (pointwise nat_eq xs ys) e in (λ i. eqb-true x y p.0 i ∷ same_list xs ys p.1 i)
 
-itself_list : (xs : List ℕ) → pointwise nat_eq xs xs ≡ true
+pub itself_list : (xs : List ℕ) → pointwise nat_eq xs xs ≡ true
 itself_list [] = refl
 itself_list (x ∷ xs) = rw (eqb_itself x) (itself_list xs)
 
@@ -39,7 +39,7 @@ one_shape s t e =
 pub shape_itself : (s : PictureShape) → same_shape s s ≡ true
 shape_itself s = rw (eqb_itself s.precision, eqb_itself s.width, eqb_itself s.height) (itself_list s.ids)
 
-turned : (b c : Bool) → (b ≡ true → c ≡ true) → (c ≡ true → b ≡ true) → b ≡ c
+pub turned : (b c : Bool) → (b ≡ true → c ≡ true) → (c ≡ true → b ≡ true) → b ≡ c
 turned true c f g = sym (f refl)
 turned false true f g = g refl
 turned false false f g = refl

@@ -10,6 +10,10 @@ status_of [] = Missing
 status_of (first ∷ []) = Settled
 status_of (first ∷ second ∷ others) = Disputed
 
--- each line of the shape is settled
+-- each line of the component is settled
+abbrev pub IsComponentSettled : PartialPicture → ℕ → Type 0
+IsComponentSettled p component = (line : ℕ) → line < p.shape.height → status_of (readings_at p component line) ≡ Settled
+
+-- each line of the picture is settled
 abbrev pub IsSettled : PartialPicture → Type 0
-IsSettled p = (component line : ℕ) → component < length p.shape.ids → line < p.shape.height → status_of (readings_at p component line) ≡ Settled
+IsSettled p = (component : ℕ) → component < length p.shape.ids → IsComponentSettled p component

@@ -1,6 +1,7 @@
 //! Partial pictures: a shape, a set of readings of its lines, and the one text of both.
 #![tactic(auto)]
 
+mod equality;
 mod insert_fault;
 mod merging;
 mod partial;
@@ -11,6 +12,7 @@ mod status;
 mod text_fault;
 mod text_fields;
 mod text_reading;
+mod writing;
 
 pub use insert_fault::InsertFault;
 pub use partial::Partial;

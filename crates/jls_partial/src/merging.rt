@@ -14,13 +14,11 @@ fn merge_line(
     component: u8,
     line: u16,
 ) -> Result<(), AllocError>
-    requires component_in { component < length other.now.shape.ids }
-    requires line_in { line < other.now.shape.height }
     ensures ok { OnOk result (into.new ≡ with_all into.old (line_readings other.now component line)) }
     ensures err { OnErr result (Grows into.old into.new (line_readings other.now component line)) }
 {
-    for i in 0..other.count(component, line) {
-        match into.insert(component, line, other.reading(component, line, i)) {
+    for samples in other.readings(component, line) {
+        match into.insert(component, line, samples) {
             Ok(_) => {}
             Err(_) => return Err(AllocError),
         }
@@ -30,7 +28,6 @@ fn merge_line(
 
 /// Takes the readings of one component.
 fn merge_component(into: &mut Partial, other: &Partial, component: u8) -> Result<(), AllocError>
-    requires { component < length other.now.shape.ids }
     ensures ok { OnOk result (into.new ≡ with_all into.old (readings_of_lines other.now component other.now.shape.height)) }
     ensures err { OnErr result (Grows into.old into.new (readings_of_lines other.now component other.now.shape.height)) }
 {

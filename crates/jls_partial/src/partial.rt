@@ -14,6 +14,7 @@ ghost use Rattle.std.specs.Prelude.{◌≡◌, ◌<◌, ◌≤◌, ◌^◌, nat_
 
 use crate::insert_fault::InsertFault;
 use crate::place::Place;
+use crate::readings::Readings;
 use crate::sample_lists::SampleLists;
 use jls_values::Shape;
 use std::alloc::{AllocError, Global};
@@ -136,6 +137,16 @@ fn list_at(store: &BTreeMap<Place, SampleLists>, at: Place, i: usize) -> &[u16]
     }
 }
 
+/// The sample lists at a place.
+fn lists_at(store: &BTreeMap<Place, SampleLists>, at: Place) -> Readings<'_>
+    ensures { result ≡ samples_at store.now.entries at }
+{
+    match store.get(&at) {
+        Some(lists) => Readings::of(lists),
+        None => Readings::none(),
+    }
+}
+
 impl Partial {
     /// A picture of this shape of which nothing is known. It takes no memory.
     pub fn empty(alloc: Global, shape: Shape) -> Partial
@@ -197,5 +208,12 @@ impl Partial {
         ensures { slice_get (readings_at self.now component line) i ≡ Some result.now }
     {
         list_at(&self.store, Place { component, line }, i)
+    }
+
+    /// The readings of a line one after the other, in the order of `reading`.
+    pub(crate) fn readings(&self, component: u8, line: u16) -> Readings<'_>
+        ensures { result ≡ readings_at self.now component line }
+    {
+        lists_at(&self.store, Place { component, line })
     }
 }
