@@ -6,6 +6,7 @@ pub mod SameReadings
 pub mod TextEntries
 pub mod TextFields
 pub mod TextLaws
+pub mod TextLoops
 pub mod TextReadings
 pub mod TextRows
 pub mod Unions

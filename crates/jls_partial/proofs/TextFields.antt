@@ -138,22 +138,28 @@ bytes_again size xs rest =
     let long : ltb (length (xs ++ rest)) (length xs) ≡ false = le-ltb _ _ (omega (arith, length-append xs rest)) in
     rw (long, take_at xs rest (length xs) refl, drop_at xs rest (length xs) refl) refl
 
-pub magic_takes : (size : ℕ) (wants bytes rest : List ℕ) → IsBytes bytes → magic_field size wants bytes ≡ Ok rest → Takes bytes wants rest
+abbrev magic_then : ℕ → ℕ → List ℕ → List ℕ → ℕ × List ℕ → Result (List ℕ) TextFault
+magic_then size wanted others bytes first = cond (eqb first.0 wanted) (magic_field size others first.1) (Err (fault.Magic (offset size bytes)))
+
+-- the test of a byte of the magic did not fail
+wanted_ok : (b : Bool) (read : Result (List ℕ) TextFault) (d : TextFault) (rest : List ℕ) → cond b read (Err d) ≡ Ok rest → (b ≡ true) × (read ≡ Ok rest)
+wanted_ok true read d rest e = (refl, e)
+wanted_ok false read d rest e = absurd cc
+
+pub magic_takes : (size : ℕ) (wanted bytes rest : List ℕ) → IsBytes bytes → magic_field size wanted bytes ≡ Ok rest → Takes bytes wanted rest
 unfolding magic_field
 magic_takes size [] bytes rest fits e = subst (λ (y : List ℕ). Takes bytes [] y) (ok_is bytes rest e) (record { parts = refl; rest_fits = fits })
-magic_takes size (want ∷ wants) [] rest fits e = absurd cc
-magic_takes size (want ∷ wants) (b ∷ bytes) rest fits e =
-    elim (eqb b want) as (λ t. eqb b want ≡ t → cond t (magic_field size wants bytes) (Err (fault.Magic (offset size (b ∷ bytes)))) ≡ Ok rest → Takes (b ∷ bytes) (want ∷ wants) rest) [
-      | true ↦ λ same h.
-          let others = magic_takes size wants bytes rest (IsBytes-rest b bytes fits) h in
-          record { parts = λ i. eqb-true b want same i ∷ others.parts i; rest_fits = others.rest_fits }
-      | false ↦ λ same h. absurd cc
-    ] refl e
+magic_takes size (wanted ∷ others) bytes rest fits e =
+    let a = bind_ok (byte_field size bytes) (magic_then size wanted others bytes) rest e in
+    let g = wanted_ok (eqb a.0.0 wanted) (magic_field size others a.0.1) (fault.Magic (offset size bytes)) rest a.2 in
+    let first = byte_takes size bytes a.0.0 a.0.1 fits a.1 in
+    let second = magic_takes size others a.0.1 rest first.0.rest_fits g.1 in
+    subst (λ (b : ℕ). Takes bytes (b ∷ others) rest) (eqb-true a.0.0 wanted g.0) (Takes-then bytes (a.0.0 ∷ []) a.0.1 others rest first.0 second)
 
-pub magic_again : (size : ℕ) (wants rest : List ℕ) → magic_field size wants (wants ++ rest) ≡ Ok rest
+pub magic_again : (size : ℕ) (wanted rest : List ℕ) → magic_field size wanted (wanted ++ rest) ≡ Ok rest
 unfolding magic_field
 magic_again size [] rest = refl
-magic_again size (want ∷ wants) rest = rw (eq-eqb want want refl) (magic_again size wants rest)
+magic_again size (first ∷ others) rest = rw (byte_again size first (others ++ rest), eq-eqb first first refl) (magic_again size others rest)
 
 -- ---- the shape
 

@@ -83,6 +83,15 @@ in_picture shape (Some b) at e =
     let p = and_parts (nat_lt at.component (length shape.ids)) (nat_lt at.line shape.height) q.1 in
     (ltb-true _ _ p.0, ltb-true _ _ p.1)
 
+-- an entry that is read is of a line of the picture
+pub place_inside : (size : ℕ) (shape : PictureShape) (before : Option Place) (bytes : List ℕ) (x : Place × List ℕ) → place_fields size shape before bytes ≡ Ok x → (x.0.component < length shape.ids) × (x.0.line < shape.height)
+unfolding place_fields
+place_inside size shape before bytes x e =
+    let c = bind_ok (byte_field size bytes) (λ component. number_field size w16 component.1 >>= followed size shape before bytes component.0) x e in
+    let l = bind_ok (number_field size w16 c.0.1) (followed size shape before bytes c.0.0) x c.2 in
+    let g = passed_ok (may_follow shape before (place c.0.0 l.0.0)) (fault.Place (offset size bytes)) (place c.0.0 l.0.0, l.0.1) x l.2 in
+    subst (λ (y : Place × List ℕ). (y.0.component < length shape.ids) × (y.0.line < shape.height)) g.1 (in_picture shape before (place c.0.0 l.0.0) g.0)
+
 pub fits_there : (shape : PictureShape) (c l : ℕ) (xs : List ℕ) → c < length shape.ids → l < shape.height → samples_fault shape.precision shape.width xs ≡ None → reading_fault shape c l xs ≡ None
 fits_there shape c l xs cs ls fit = rw (lt-leb (length shape.ids) c cs, lt-leb shape.height l ls) fit
 

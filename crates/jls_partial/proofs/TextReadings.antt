@@ -89,6 +89,28 @@ reading_takes size shape before bytes x fits e =
     subst (λ (y : List ℕ × List ℕ). Takes bytes (samples_text y.0) y.1 × (is_above before y.0 ≡ true) × (samples_fault shape.precision shape.width y.0 ≡ None)) g.1
     (t.0, g.0, fits_from shape.precision shape.width a.0.0 t.1 t.2)
 
+samples_fit : (size limit n : ℕ) (bytes : List ℕ) (x : List ℕ × List ℕ) → samples_fields size limit n bytes ≡ Ok x → (length x.0 ≡ n) × (list_any (λ s. nat_le limit s) x.0 ≡ false)
+unfolding samples_fields sample_field
+samples_fit size limit zero bytes x e = subst (λ (y : List ℕ × List ℕ). (length y.0 ≡ 0) × (list_any (λ s. nat_le limit s) y.0 ≡ false)) (ok_is ([], bytes) x e) (refl, refl)
+samples_fit size limit (suc n) bytes x e =
+    let a = bind_ok (sample_field size limit bytes) (λ first. samples_fields size limit n first.1 >>= λ others. Ok (first.0 ∷ others.0, others.1)) x e in
+    let b = bind_ok (samples_fields size limit n a.0.1) (λ others. Ok (a.0.0 ∷ others.0, others.1)) x a.2 in
+    let s = bind_ok (number_field size w16 bytes) (λ s. cond (leb limit s.0) (Err (fault.Sample (offset size bytes))) (Ok s)) a.0 a.1 in
+    let g = guard_ok (leb limit s.0.0) (fault.Sample (offset size bytes)) s.0 a.0 s.2 in
+    let first : leb limit a.0.0 ≡ false = ap (λ (y : ℕ × List ℕ). leb limit y.0) (sym g.1) ∙ g.0 in
+    let second = samples_fit size limit n a.0.1 b.0 b.1 in
+    let made : List ℕ × List ℕ = (a.0.0 ∷ b.0.0, b.0.1) in
+    subst (λ (y : List ℕ × List ℕ). (length y.0 ≡ suc n) × (list_any (λ s. nat_le limit s) y.0 ≡ false)) (ok_is made x b.2) (ap suc second.0, or_from (leb limit a.0.0) _ first second.1)
+
+-- a reading that is read fits the shape
+pub reading_fits : (size : ℕ) (shape : PictureShape) (before : Option (List ℕ)) (bytes : List ℕ) (x : List ℕ × List ℕ) → reading_fields size shape before bytes ≡ Ok x → samples_fault shape.precision shape.width x.0 ≡ None
+unfolding reading_fields
+reading_fits size shape before bytes x e =
+    let a = bind_ok (samples_fields size (2 ^ shape.precision) shape.width bytes) (λ s. cond (is_above before s.0) (Ok s) (Err (fault.Order (offset size bytes)))) x e in
+    let g = passed_ok (is_above before a.0.0) (fault.Order (offset size bytes)) a.0 x a.2 in
+    let t = samples_fit size (2 ^ shape.precision) shape.width bytes a.0 a.1 in
+    subst (λ (y : List ℕ × List ℕ). samples_fault shape.precision shape.width y.0 ≡ None) g.1 (fits_from shape.precision shape.width a.0.0 t.0 t.1)
+
 pub reading_again : (size : ℕ) (shape : PictureShape) (before : Option (List ℕ)) (xs rest : List ℕ) → 2 ^ shape.precision ≤ 2 ^ 16 → is_above before xs ≡ true → samples_fault shape.precision shape.width xs ≡ None
     → reading_fields size shape before (samples_text xs ++ rest) ≡ Ok (xs, rest)
 unfolding reading_fields

@@ -12,5 +12,6 @@ pub mod Reading
 pub mod ReadingOrder
 pub mod Status
 pub mod Text
+pub mod TextInto
 pub mod TextReading
 pub mod Writing

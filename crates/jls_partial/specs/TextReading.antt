@@ -49,11 +49,12 @@ number_field size w bytes =
     if nat_lt (length bytes) (byte_len w) then Err (fault.Truncated size)
     else Ok (from_be_bytes w (take (byte_len w) bytes), drop (byte_len w) bytes)
 
--- the bytes of the magic, one by one
+-- the bytes of the magic, each a field of its own
 unfoldable pub magic_field : ℕ → List ℕ → List ℕ → Result (List ℕ) TextFault
 magic_field size [] bytes = Ok bytes
-magic_field size (want ∷ wants) [] = Err (fault.Truncated size)
-magic_field size (want ∷ wants) (b ∷ rest) = if b == want then magic_field size wants rest else Err (fault.Magic (offset size (b ∷ rest)))
+magic_field size (wanted ∷ others) bytes = do
+  first ← byte_field size bytes
+  if first.0 == wanted then magic_field size others first.1 else Err (fault.Magic (offset size bytes))
 
 -- ---- the shape
 

@@ -11,6 +11,8 @@ mod readings;
 mod sample_lists;
 mod status;
 mod text_fault;
+mod text_fields;
+mod text_reading;
 mod writing;
 
 pub use insert_fault::InsertFault;

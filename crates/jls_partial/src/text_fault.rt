@@ -1,5 +1,9 @@
 //! Why bytes are not the text of a partial picture.
 
+ghost use Rattle.jls_partial.specs.declared.text_fault.TextFault.TheVariants.{OutOfMemory};
+ghost use Rattle.std.specs.Prelude.{◌≡◌};
+
+use std::alloc::{AllocError, AllocFailed};
 use thiserror::Error;
 
 /// The first fault of a text from the front, with its offset in bytes from the start of the text.
@@ -33,4 +37,20 @@ pub enum TextFault {
     /// There was no memory for the readings.
     #[error("out of memory")]
     OutOfMemory,
+}
+
+impl From<AllocError> for TextFault {
+    ghost from_gives = { λ _ e. e ≡ OutOfMemory };
+
+    fn from(_e: AllocError) -> TextFault {
+        TextFault::OutOfMemory
+    }
+}
+
+impl<T: Drop> From<AllocFailed<T>> for TextFault {
+    ghost from_gives = { λ _ e. e ≡ OutOfMemory };
+
+    fn from(_e: AllocFailed<T>) -> TextFault {
+        TextFault::OutOfMemory
+    }
 }
