@@ -140,7 +140,7 @@ lookup_from_each P (e ∷ es) q h =
       | false ↦ λ t. lookup_from_each P es q h.1
     ] refl
 
-any_all : (P : List ℕ → Type 0) (x : List ℕ) (xs : List (List ℕ)) → AllByRecursion P xs → list_any (eq_by_cmp S x) xs ≡ true → P x
+pub any_all : (P : List ℕ → Type 0) (x : List ℕ) (xs : List (List ℕ)) → AllByRecursion P xs → list_any (eq_by_cmp S x) xs ≡ true → P x
 any_all P x [] h e = absurd cc
 any_all P x (y ∷ xs) h e =
     elim (eq_by_cmp S x y) as (λ b. eq_by_cmp S x y ≡ b → (b || list_any (eq_by_cmp S x) xs) ≡ true → P x) [
@@ -183,7 +183,7 @@ insert_some (z ∷ xs) x =
       | Greater ↦ omega arith
     ]
 
-all_inserted : (P : List ℕ → Type 0) (xs : List (List ℕ)) (x : List ℕ) → AllByRecursion P xs → P x → AllByRecursion P (insert_key S xs x)
+pub all_inserted : (P : List ℕ → Type 0) (xs : List (List ℕ)) (x : List ℕ) → AllByRecursion P xs → P x → AllByRecursion P (insert_key S xs x)
 all_inserted P [] x h p = (p, tt)
 all_inserted P (z ∷ xs) x h p =
     elim (S x z) as (λ r. AllByRecursion P (match_ordering r (x ∷ z ∷ xs) (z ∷ xs) (z ∷ insert_key S xs x))) [
@@ -192,7 +192,7 @@ all_inserted P (z ∷ xs) x h p =
       | Greater ↦ (h.0, all_inserted P xs x h.1 p)
     ]
 
-fit_at : (shape : PictureShape) (es : List Entry) (q : Place) → IsStore shape es → AllByRecursion (λ y. reading_fault shape q.component q.line y ≡ None) (samples_at es q)
+pub fit_at : (shape : PictureShape) (es : List Entry) (q : Place) → IsStore shape es → AllByRecursion (λ y. reading_fault shape q.component q.line y ≡ None) (samples_at es q)
 fit_at shape es q kept =
     elim (lookup (is_at (place_cmp q)) es) as (λ (o : Option (List (List ℕ))). IfSome o (λ xs. IsEntry shape (q, xs)) → AllByRecursion (λ y. reading_fault shape q.component q.line y ≡ None) (unwrap_or o [])) [
       | None ↦ λ k. tt

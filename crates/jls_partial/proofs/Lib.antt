@@ -1,5 +1,6 @@
 pub mod Entries
 pub mod Growth
+pub mod LineSets
 pub mod ReadBack
 pub mod SameReadings
 pub mod TextEntries

@@ -1,5 +1,6 @@
 -- A set of vectors, seen as the list of their items.
-use Rattle.std.proofs.Common.{◌≡◌, Bool, ◌||◌, List, [], ◌∷◌, map, refl, ap}
+use Rattle.std.proofs.Common.{◌≡◌, ℕ, zero, suc, Bool, ◌||◌, List, [], ◌∷◌, map, Some, refl, ap, subst}
+use Rattle.std.specs.Prelude.{slice_get}
 use Rattle.std.specs.declared.cmp.Ordering.{Ordering}
 use Rattle.std.specs.declared.cmp.Ordering.TheVariants.{Less, Equal, Greater}
 use Rattle.std.specs.Ordering.{match_ordering}
@@ -30,3 +31,9 @@ module _ {A B : Type 0} (f : A → B) where
     unfolding IsStrictlySortedBy
     sorted-map [] h = tt
     sorted-map (x ∷ xs) h = (all-map (λ y. R (f x) y ≡ Less) xs h.0, sorted-map xs h.1)
+
+-- a fact of each element is one of the element at an index
+pub all-slice_get : {A : Type 0} (P : A → Type 0) (xs : List A) (i : ℕ) (x : A) → AllByRecursion P xs → slice_get xs i ≡ Some x → P x
+all-slice_get P [] i x all e = absurd cc
+all-slice_get P (y ∷ xs) zero x all e = let same : y ≡ x = cc in subst P same all.0
+all-slice_get P (y ∷ xs) (suc i) x all e = all-slice_get P xs i x all.1 e

@@ -2,6 +2,8 @@ pub mod Entries
 pub mod Equality
 pub mod Held
 pub mod InsertFaults
+pub mod LineSet
+pub mod LineSetLaws
 pub mod Merging
 pub mod Partial
 pub mod PartialLaws

@@ -15,7 +15,7 @@ pub both : (b c : Bool) → (b && c) ≡ true → (b ≡ true) × (c ≡ true)
 both true c e = (refl, e)
 both false c e = absurd cc
 
-eqb_itself : (n : ℕ) → (n == n) ≡ true
+pub eqb_itself : (n : ℕ) → (n == n) ≡ true
 eqb_itself n = nat_eq_equiv.refl n
 
 pub same_list : (xs ys : List ℕ) → pointwise nat_eq xs ys ≡ true → xs ≡ ys

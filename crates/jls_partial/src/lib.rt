@@ -3,6 +3,7 @@
 
 mod equality;
 mod insert_fault;
+mod line_set;
 mod merging;
 mod partial;
 mod place;
@@ -15,6 +16,10 @@ mod text_reading;
 mod writing;
 
 pub use insert_fault::InsertFault;
+pub use line_set::LineSet;
 pub use partial::Partial;
 pub use status::Status;
 pub use text_fault::TextFault;
+
+#[cfg(test)]
+mod tests;

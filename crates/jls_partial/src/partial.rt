@@ -2,7 +2,7 @@
 
 ghost use Rattle.jls_values.specs.OrderedSet as set;
 ghost use Rattle.jls_partial.specs.Held.{samples_at, PutsAt};
-ghost use Rattle.jls_partial.specs.InsertFaults.{reading_fault, samples_fault, Refuses};
+ghost use Rattle.jls_partial.specs.InsertFaults.{reading_fault, Refuses};
 ghost use Rattle.jls_partial.specs.Partial.{holds, with_reading, readings_at, IsFitting, IsCountable};
 ghost use Rattle.jls_partial.specs.Place.{place_cmp};
 ghost use Rattle.std.specs.BTreeMap.{IsOrdered};
@@ -10,9 +10,9 @@ ghost use Rattle.std.specs.Cmp.Lexicographic.{slice_cmp};
 ghost use Rattle.std.specs.List.Sorted.{IsStrictlySortedBy};
 ghost use Rattle.std.specs.List.{list_any};
 ghost use Rattle.std.specs.Ordering.{nat_cmp, eq_by_cmp};
-ghost use Rattle.std.specs.Prelude.{◌≡◌, ◌<◌, ◌≤◌, ◌^◌, nat_le, length, true, not, IfOk, OnOk, OnErr, IsOk, All, Some, None, List, slice_get};
+ghost use Rattle.std.specs.Prelude.{◌≡◌, ◌<◌, ◌≤◌, ◌^◌, length, true, not, IfOk, OnOk, OnErr, IsOk, Some, None, slice_get};
 
-use crate::insert_fault::InsertFault;
+use crate::insert_fault::{InsertFault, find_reading_fault};
 use crate::place::Place;
 use crate::readings::Readings;
 use crate::sample_lists::SampleLists;
@@ -44,42 +44,6 @@ impl Model for Partial {
     ghost view = { λ a. record { shape = a.shape; readings = set.from_list (readings_of_entries a.store.entries) } };
 
     ghost invariant = { λ a. IsStore a.shape a.store.entries };
-}
-
-/// Whether a sample has more bits than the precision.
-fn has_large_sample(samples: &[u16], precision: u8) -> bool
-    requires { precision ≤ 16 }
-    ensures { result ≡ list_any (λ x. nat_le (2 ^ precision) x) samples.now }
-{
-    let limit = 2u32.pow(precision as u32);
-    samples.iter().any(|x| limit <= *x as u32)
-}
-
-/// What is wrong with the samples of a line, in a picture of this precision and width.
-pub(crate) fn samples_fault(samples: &[u16], precision: u8, width: u16) -> Option<InsertFault>
-    requires { precision ≤ 16 }
-    ensures { result ≡ Rattle.jls_partial.specs.InsertFaults.samples_fault precision width samples.now }
-{
-    if samples.len() != width as usize {
-        return Some(InsertFault::Width);
-    }
-    if has_large_sample(samples, precision) {
-        return Some(InsertFault::Sample);
-    }
-    None
-}
-
-/// What is wrong with a reading, in a picture of this shape.
-fn reading_fault(shape: &Shape, component: u8, line: u16, samples: &[u16]) -> Option<InsertFault>
-    ensures { result ≡ Rattle.jls_partial.specs.InsertFaults.reading_fault shape.now component line samples.now }
-{
-    if shape.ids().len() <= component as usize {
-        return Some(InsertFault::Component);
-    }
-    if shape.height() <= line {
-        return Some(InsertFault::Line);
-    }
-    samples_fault(samples, shape.precision(), shape.width())
 }
 
 /// Keeps one more sample list at a place.
@@ -178,7 +142,7 @@ impl Partial {
         ensures added { IfOk result (λ added. added ≡ not (holds self.old component line samples.now)) }
         ensures no_memory { holds self.old component line samples.now ≡ true → IsOk result }
     {
-        if let Some(fault) = reading_fault(&self.shape, component, line, samples) {
+        if let Some(fault) = find_reading_fault(&self.shape, component, line, samples) {
             return Err(fault);
         }
         let at = Place { component, line };
@@ -200,12 +164,13 @@ impl Partial {
     }
 
     /// The reading of a line that has `i` others below it, lent from the store: readings stand in
-    /// ascending order of their samples, compared from the first one on.
+    /// ascending order of their samples, compared from the first one on. Each fits the shape.
     pub fn reading(&self, component: u8, line: u16, i: usize) -> &[u16]
         requires component_in { component < length self.now.shape.ids }
         requires line_in { line < self.now.shape.height }
         requires i_in { i < length (readings_at self.now component line) }
-        ensures { slice_get (readings_at self.now component line) i ≡ Some result.now }
+        ensures value { slice_get (readings_at self.now component line) i ≡ Some result.now }
+        ensures fitting { reading_fault self.now.shape component line result.now ≡ None }
     {
         list_at(&self.store, Place { component, line }, i)
     }
