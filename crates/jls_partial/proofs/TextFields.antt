@@ -138,7 +138,8 @@ bytes_again size xs rest =
     let long : ltb (length (xs ++ rest)) (length xs) ≡ false = le-ltb _ _ (omega (arith, length-append xs rest)) in
     rw (long, take_at xs rest (length xs) refl, drop_at xs rest (length xs) refl) refl
 
-abbrev magic_then : ℕ → ℕ → List ℕ → List ℕ → ℕ × List ℕ → Result (List ℕ) TextFault
+-- what is read behind a byte of the magic
+abbrev pub magic_then : ℕ → ℕ → List ℕ → List ℕ → ℕ × List ℕ → Result (List ℕ) TextFault
 magic_then size wanted others bytes first = cond (eqb first.0 wanted) (magic_field size others first.1) (Err (fault.Magic (offset size bytes)))
 
 -- the test of a byte of the magic did not fail

@@ -22,7 +22,7 @@ use Rattle.jls_partial.specs.TextInto.{with_readings, with_entry, with_entries}
 use Rattle.jls_partial.specs.Text.{magic}
 use Rattle.jls_partial.specs.TextReading.{◌>>=◌, Fails, offset, byte_field, number_field, magic_field, shape_fields, sample_field, samples_fields, reading_fields, readings_fields, place_fields, entry_fields, entries_fields, partial_of, text_fields, read_text}
 use Rattle.jls_partial.specs.InsertFaults.{reading_fault}
-use Rattle.jls_partial.proofs.TextFields.{bind_ok, passed_ok, ok_is}
+use Rattle.jls_partial.proofs.TextFields.{magic_then}
 use Rattle.jls_partial.proofs.TextReadings.{reading_fits}
 use Rattle.jls_partial.proofs.TextLaws.{fits_there, place_inside}
 
@@ -42,9 +42,6 @@ pub fails_same : {A : Type 0} (e : TextFault) (one two : Result A TextFault) →
 fails_same e one two same h = subst (Fails e) same h
 
 -- ---- the magic
-
-abbrev magic_then : ℕ → ℕ → List ℕ → List ℕ → ℕ × List ℕ → Result (List ℕ) TextFault
-magic_then size wanted others bytes first = cond (eqb first.0 wanted) (magic_field size others first.1) (Err (fault.Magic (offset size bytes)))
 
 pub magic_goes_on : (size : ℕ) (wanted : List ℕ) (want : ℕ) (others bytes : List ℕ) (byte : ℕ) (after : List ℕ) (total : Result (List ℕ) TextFault) → wanted ≡ want ∷ others → byte_field size bytes ≡ Ok (byte, after) → byte ≡ want
     → magic_field size wanted bytes ≡ total → magic_field size others after ≡ total

@@ -36,6 +36,7 @@ fn read_u16(size: u64, bytes: &[u8]) -> Result<(u16, &[u8]), TextFault>
     Ok((u16::from_be_bytes([front[0], front[1]]), rest))
 }
 
+/// A number of four bytes.
 pub(crate) fn read_u32(size: u64, bytes: &[u8]) -> Result<(u32, &[u8]), TextFault>
     ensures { Gives (λ x. (x.0, x.1.now)) result (number_field size w32 bytes.now) }
 {
@@ -89,7 +90,7 @@ pub(crate) fn read_magic<'a>(
     Ok(rest)
 }
 
-/// `rest`, where the shape has no fault.
+/// `rest`, unless the fields of the shape have a fault.
 fn without_fault(fault: Option<ShapeFault>, rest: &[u8]) -> Result<&[u8], TextFault>
     ensures { Gives (λ x. x.now) result (unless_bad_shape fault rest.now) }
 {
@@ -108,6 +109,7 @@ fn shape_or_fault(shape: Result<Shape, ShapeFault>) -> Result<Shape, TextFault>
     }
 }
 
+/// The shape, which is judged once before its identifiers and once after them.
 #[tactic(auto, unfolding(crate::specs::TextReading::shape_fields))]
 pub(crate) fn read_shape(size: u64, bytes: &[u8]) -> Result<(Shape, &[u8]), TextFault>
     ensures { Gives (λ x. (x.0, x.1.now)) result (shape_fields size bytes.now) }

@@ -172,3 +172,6 @@ impl Partial {
         read_partial(alloc, bytes)
     }
 }
+
+#[cfg(test)]
+mod tests;
