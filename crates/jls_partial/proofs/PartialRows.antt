@@ -1,5 +1,5 @@
 -- Small pictures worked out by hand: faults, readings in order, and the status of a line.
-use Rattle.std.proofs.Common.{◌≡◌, ℕ, List, [], ◌∷◌, map, Some, None, refl, ap}
+use Rattle.std.proofs.Common.{◌≡◌, List, [], ◌∷◌, map, Some, None, refl, ap}
 use Rattle.std.specs.Prelude.{filter, ◌&&◌, ◌==◌}
 use Rattle.std.specs.List.Sorted.{IsStrictlySortedBy}
 use Rattle.jls_values.specs.OrderedSet as set
@@ -12,7 +12,6 @@ use Rattle.jls_partial.specs.Partial.{PartialPicture, with_reading, readings_at}
 use Rattle.jls_partial.specs.Reading.{Reading, reading_of, reading_cmp}
 use Rattle.jls_partial.specs.ReadingOrder.{reading_total}
 use Rattle.jls_partial.specs.Status.{status_of}
-use Rattle.jls_partial.proofs.Entries.{held_same}
 
 -- ---- faults, the first of several
 
