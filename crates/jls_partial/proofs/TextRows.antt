@@ -1,8 +1,7 @@
 -- Texts that were written out by hand, and what is read of them.
 use Rattle.std.proofs.Common.{◌≡◌, ℕ, List, [], ◌∷◌, ◌++◌, take, drop, refl, ap, arith}
-use Rattle.std.specs.Prelude.{Result, Ok, Err}
+use Rattle.std.specs.Prelude.{Ok, Err}
 use Rattle.jls_values.specs.Shape.{PictureShape}
-use Rattle.jls_partial.specs.declared.text_fault.TextFault.{TextFault}
 use Rattle.jls_partial.specs.declared.text_fault.TextFault.TheVariants.{Magic, BadShape, Truncated, Place, Count, Order, Sample, Trailing}
 use Rattle.jls_partial.specs.Entries.{Entry}
 use Rattle.jls_partial.specs.Held.{IsStore}
