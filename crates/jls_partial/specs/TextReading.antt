@@ -58,15 +58,19 @@ magic_field size (wanted ∷ others) bytes = do
 
 -- ---- the shape
 
+-- where the fields of the shape begin
+abbrev pub shape_offset : ℕ
+shape_offset = length magic
+
 -- no fault, or the fault at the first field of the shape
 abbrev pub unless_bad_shape : {A E : Type 0} → Option E → A → Result A TextFault
 unless_bad_shape None x = Ok x
-unless_bad_shape (Some e) x = Err (fault.BadShape 5)
+unless_bad_shape (Some e) x = Err (fault.BadShape shape_offset)
 
 -- the shape that the fields make, or the fault at the first of them
 abbrev pub shape_or_fault : {E : Type 0} → Result PictureShape E → Result PictureShape TextFault
 shape_or_fault (Ok shape) = Ok shape
-shape_or_fault (Err e) = Err (fault.BadShape 5)
+shape_or_fault (Err e) = Err (fault.BadShape shape_offset)
 
 unfoldable pub shape_fields : ℕ → List ℕ → Result (PictureShape × List ℕ) TextFault
 shape_fields size bytes = do
