@@ -1,0 +1,3 @@
+pub mod CellMade
+pub mod Histories
+pub mod WordsTaken

@@ -1,0 +1,6 @@
+-- What the contracts of this crate cite.
+pub mod Counts
+pub mod Event
+pub mod History
+pub mod HistoryCode
+pub mod Words
