@@ -1,8 +1,8 @@
 //! The command line.
 
-ghost use Rattle.std.specs.Prelude.{◌≡◌, true, false, IfOk, IfErr, map};
+ghost use Rattle.std.specs.Prelude.{◌≡◌, ℕ, true, false, List, ◌∷◌, Some, IsSomeAnd, IfOk, IfErr, map, codes};
 ghost use Rattle.std.specs.String.{string_bytes};
-ghost use Rattle.clap.specs.Words.{app_of, kind_of, subcommand_of, subcommand_rows_of, takes};
+ghost use Rattle.clap.specs.Words.{Row, all_of, app_of, first_of, kind_of, subcommand_of, subcommand_rows_of, takes};
 ghost use Rattle.clap.specs.declared.builder.command.Command.TheViews.{out-Command};
 ghost use Rattle.jls_salvage.specs.Words.{join_app, salvage_app};
 
@@ -77,4 +77,30 @@ pub fn matches<'a>(alloc: Global, words: &'a [String]) -> Result<ArgMatches<'a>,
     ensures passes { IfErr result (λ e. takes salvage_app (map string_bytes words.entry.now) ≡ true → kind_of e ≡ ErrorKind.OutOfMemory) }
 {
     command(alloc)?.try_get_matches_from(words)
+}
+
+/// OUT, the first FILE and the other FILEs, where clap read the words as `join`.
+pub fn join_words<'m, 'a>(matches: &'m ArgMatches<'a>) -> Option<(&'a str, &'a str, &'m [&'a str])>
+    ensures { (rows : List Row) (out first : List ℕ) (others : List (List ℕ))
+        → subcommand_rows_of matches.now ≡ Some (codes "join", rows)
+        → first_of (codes "OUT") rows ≡ Some out
+        → all_of (codes "FILE") rows ≡ Some (first ∷ others)
+        → IsSomeAnd result (λ w. (w.0.now ≡ out) × (w.1.now ≡ first) × (map (λ f. f.now) w.2.now ≡ others)) }
+{
+    let join = match matches.subcommand_matches("join") {
+        Some(join) => join,
+        None => return None,
+    };
+    let out = match join.get_str("OUT") {
+        Some(out) => out,
+        None => return None,
+    };
+    let files = match join.get_strs("FILE") {
+        Some(files) => files,
+        None => return None,
+    };
+    match files.split_first() {
+        Some((first, others)) => Some((out, first, others)),
+        None => None,
+    }
 }
