@@ -1,5 +1,5 @@
 -- Counts that rise, from one call to the next.
-use Rattle.std.proofs.Common.{◌≡◌, ℕ, ◌≤◌, Bool, List, ◌⊎◌, inl, inr, refl, ap, arith}
+use Rattle.std.proofs.Common.{◌≡◌, ℕ, ◌≤◌, Bool, List, inl, inr, arith}
 use Rattle.jls_salvage.specs.History.{History, after_open, after_create, after_failed_open}
 use Rattle.jls_salvage.specs.Reads.{RoseBy, Reads, KeepsCounts}
 use Rattle.jls_salvage.specs.Writes.{Writes}

@@ -1,10 +1,10 @@
 -- What a device's history keeps from one call to the next.
-use Rattle.std.proofs.Common.{◌≡◌, ℕ, ◌+◌, ◌-◌, ◌^◌, ◌≤◌, ◌==◌, cond, ltb, Bool, true, false, List, [], ◌∷◌, ◌++◌, suc, length, min, nat_lt, refl, sym, ap, ◌∙◌, append_assoc, arith, rules}
+use Rattle.std.proofs.Common.{◌≡◌, ℕ, ◌+◌, ◌-◌, ◌^◌, ◌≤◌, cond, ltb, Bool, true, false, List, [], ◌∷◌, ◌++◌, suc, length, nat_lt, refl, ap, append_assoc, arith, rules}
 use Rattle.std.proofs.lemmas.Grind.{common_steps}
 use Rattle.std.proofs.lemmas.List.{append-nil}
-use Rattle.std.proofs.lemmas.Bool.{ltb-true, ltb-false}
-use Rattle.jls_salvage.specs.History.{History, Input, on_last, input_after, after_read, after_failed_read, saturating_increment}
-use Rattle.jls_salvage.specs.Reads.{RoseBy, Reads, given}
+use Rattle.std.proofs.lemmas.Bool.{ltb-false}
+use Rattle.jls_salvage.specs.History.{Input, on_last, saturating_increment}
+use Rattle.jls_salvage.specs.Reads.{RoseBy, given}
 
 -- a change of the last element leaves the length
 pub length_on_last : {X : Type 0} (change : X → X) (xs : List X) → length (on_last change xs) ≡ length xs

@@ -1,6 +1,5 @@
 -- One input, opened and read whole.
-use Rattle.std.proofs.Common.{◌≡◌, ℕ, ◌⊎◌, inl, inr, true, List, [], ◌∷◌, ◌++◌, refl, sym, subst, ap, ◌∙◌}
-use Rattle.jls_salvage.specs.declared.cause.Cause.{Cause}
+use Rattle.std.proofs.Common.{◌≡◌, ℕ, inl, inr, true, List, [], ◌∷◌, ◌++◌, sym, subst, ap, ◌∙◌}
 use Rattle.jls_salvage.specs.declared.cause.Cause.TheVariants as cause
 use Rattle.jls_salvage.specs.declared.input.InputFault.{InputFault}
 use Rattle.jls_salvage.specs.declared.input.InputFault.TheVariants as fault
@@ -11,7 +10,7 @@ use Rattle.jls_salvage.specs.Joining.{whole_input}
 use Rattle.jls_salvage.specs.Causes.{RefusesFor}
 use Rattle.jls_salvage.specs.Failures.{HasFailed}
 use Rattle.jls_salvage.proofs.Histories.{on_last_append, rises_by_one}
-use Rattle.jls_salvage.proofs.Counting.{reads_keep, counts_kept_on, open_keeps, failed_after}
+use Rattle.jls_salvage.proofs.Counting.{reads_keep, open_keeps, failed_after}
 
 -- an input that was opened and gave these bytes to its end
 pub opened_and_read : (old mid new : History) (name bytes : List ℕ) → mid ≡ after_open old name → Reads mid bytes true new

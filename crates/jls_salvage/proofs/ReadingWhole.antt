@@ -1,7 +1,7 @@
 -- Reads of one input, one after the other.
 use Rattle.std.proofs.Common.{◌≡◌, ℕ, ◌+◌, ◌<◌, ◌≤◌, ◌==◌, Bool, true, List, [], ◌++◌, length, refl, sym, subst, ap, ◌∙◌, arith}
 use Rattle.std.proofs.lemmas.List.{append-nil}
-use Rattle.jls_salvage.specs.History.{History, Input, on_last, after_read, after_failed_read}
+use Rattle.jls_salvage.specs.History.{History, on_last, after_read, after_failed_read}
 use Rattle.jls_salvage.specs.Reads.{RoseBy, Reads, GaveBeforeStop, given}
 use Rattle.jls_salvage.proofs.Histories.{last_ended, given_nothing, given_twice, increment_rises, increment_by_one, rises_more, rises_by_none, rises_by_one}
 

@@ -1,16 +1,14 @@
 -- What the status says where the program stopped.
-use Rattle.std.proofs.Common.{◌≡◌, ◌≤◌, ℕ, List, [], ◌∷◌, ◌++◌, arith, ap, sym, subst, ◌∙◌}
+use Rattle.std.proofs.Common.{◌≡◌, ◌≤◌, ℕ, List, [], ◌∷◌, ◌++◌, arith, ap, subst, ◌∙◌}
 use Rattle.jls_salvage.specs.declared.cause.Cause.{Cause}
 use Rattle.jls_salvage.specs.declared.cause.Cause.TheVariants as cause
 use Rattle.jls_salvage.specs.declared.input.InputFault.TheVariants as fault
 use Rattle.jls_salvage.specs.History.{History, Output}
-use Rattle.jls_salvage.specs.Joining.{Refuses, Takes, TakesJoin, Joins}
+use Rattle.jls_salvage.specs.Joining.{Refuses, TakesJoin, Joins}
 use Rattle.jls_salvage.specs.Causes.{StopsFor, status_of}
 use Rattle.jls_salvage.specs.Failures.{HasFailed}
-use Rattle.jls_salvage.specs.Reads.{KeepsCounts}
 use Rattle.jls_partial.specs.Partial.{PartialPicture}
 use Rattle.jls_partial.specs.Text.{text}
-use Rattle.jls_salvage.proofs.Counting.{failed_after}
 use Rattle.jls_salvage.proofs.TakingInputs.{takes_still}
 
 pub status_at_least : (c : Cause) → 3 ≤ status_of c

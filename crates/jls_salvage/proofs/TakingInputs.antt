@@ -1,5 +1,5 @@
 -- Inputs taken one after the other.
-use Rattle.std.proofs.Common.{◌≡◌, ℕ, ◌+◌, ◌<◌, ◌⊎◌, inl, inr, Bool, true, false, List, [], ◌∷◌, ◌++◌, length, get_or, map, take, drop, All, refl, sym, subst, ap, ◌∙◌, append_assoc, length-append, arith, Err}
+use Rattle.std.proofs.Common.{◌≡◌, ℕ, ◌+◌, ◌<◌, inl, inr, true, false, List, [], ◌∷◌, ◌++◌, length, get_or, map, take, drop, All, refl, sym, subst, ap, ◌∙◌, append_assoc, length-append, arith}
 use Rattle.std.proofs.lemmas.List.{append-nil, drop_more, map-append, take_more, take-append-drop}
 use Rattle.std.proofs.lemmas.List.Elements.{All-append, All-cons, All-nil}
 use Rattle.jls_values.specs.OrderedSet as set
@@ -11,13 +11,12 @@ use Rattle.jls_partial.specs.Reading.{reading_cmp}
 use Rattle.jls_partial.specs.ReadingOrder.{reading_total, reading_exact}
 use Rattle.jls_partial.specs.Partial.{PartialPicture, has_same_shape, union}
 use Rattle.jls_partial.specs.Text.{text, IsPartial}
-use Rattle.jls_partial.specs.TextReading.{read_text}
 use Rattle.jls_salvage.specs.declared.cause.Cause.{Cause}
 use Rattle.jls_salvage.specs.declared.cause.Cause.TheVariants as cause
 use Rattle.jls_salvage.specs.declared.input.InputFault.TheVariants as fault
 use Rattle.jls_salvage.specs.History.{History, Input}
 use Rattle.jls_salvage.specs.Reads.{KeepsCounts}
-use Rattle.jls_salvage.specs.Joining.{whole_input, whole_texts, AreOfOneShape, Takes, TakesJoin, Refuses}
+use Rattle.jls_salvage.specs.Joining.{whole_input, whole_texts, Takes, TakesJoin, Refuses}
 use Rattle.jls_salvage.specs.Causes.{RefusesFor, StopsFor}
 use Rattle.jls_salvage.proofs.Counting.{counts_kept, counts_kept_on, failed_after}
 

@@ -1,7 +1,7 @@
 -- Words that clap does read as `join`: the premise of the theorem on `run` holds of them.
-use Rattle.std.proofs.Common.{◌≡◌, true, Some, List, [], ◌∷◌, refl}
-use Rattle.std.specs.Prelude.{codes, option_and_then}
-use Rattle.clap.specs.Words.{Text, all_of, first_of, subcommand_of, takes, is_simple_and_free}
+use Rattle.std.proofs.Common.{◌≡◌, true, List, [], ◌∷◌, refl}
+use Rattle.std.specs.Prelude.{codes}
+use Rattle.clap.specs.Words.{Text, is_simple_and_free}
 use Rattle.clap.proofs.OnLiterals.{clap_on_literals}
 use Rattle.jls_salvage.specs.Words.{salvage_app, ReadsAsJoin}
 

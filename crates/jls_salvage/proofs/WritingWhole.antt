@@ -1,12 +1,12 @@
 -- Writes to one output, one after the other.
-use Rattle.std.proofs.Common.{◌≡◌, ℕ, ◌≤◌, List, [], ◌∷◌, ◌++◌, refl, sym, subst, ap, ◌∙◌, append_assoc, arith, inl, inr}
+use Rattle.std.proofs.Common.{◌≡◌, ℕ, List, [], ◌∷◌, ◌++◌, refl, sym, subst, ap, ◌∙◌, append_assoc, arith, inl, inr}
 use Rattle.std.proofs.lemmas.List.{append-nil}
-use Rattle.jls_salvage.specs.History.{History, Output, on_last, output_after, after_write, after_failed_write, after_create, saturating_increment}
-use Rattle.jls_salvage.specs.Reads.{RoseBy, KeepsCounts}
+use Rattle.jls_salvage.specs.History.{History, Output, on_last, output_after, after_write, after_failed_write, after_create}
+use Rattle.jls_salvage.specs.Reads.{RoseBy}
 use Rattle.jls_salvage.specs.Writes.{Writes}
 use Rattle.jls_salvage.specs.Failures.{HasFailed}
 use Rattle.jls_salvage.proofs.Counting.{create_keeps, failed_after}
-use Rattle.jls_salvage.proofs.Histories.{on_last_twice, on_last_append, increment_rises, rises_more, rises_by_one}
+use Rattle.jls_salvage.proofs.Histories.{on_last_twice, on_last_append, increment_rises, rises_more}
 
 written_nothing : (xs : List Output) → on_last (output_after []) xs ≡ xs
 written_nothing [] = refl

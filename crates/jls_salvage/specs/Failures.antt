@@ -1,5 +1,5 @@
 -- A count of a device's failures rose.
-use Rattle.std.specs.Prelude.{ℕ, ◌⊎◌}
+use Rattle.std.specs.Prelude.{◌⊎◌}
 use Rattle.jls_salvage.specs.History.{History}
 use Rattle.jls_salvage.specs.Reads.{RoseBy}
 

@@ -1,5 +1,5 @@
 -- What `join` does with the inputs and the output.
-use Rattle.std.specs.Prelude.{◌≡◌, ℕ, ◌⊎◌, Bool, true, false, List, [], ◌∷◌, ◌++◌, length, All, Err}
+use Rattle.std.specs.Prelude.{◌≡◌, ℕ, ◌⊎◌, true, false, List, [], ◌∷◌, ◌++◌, length, All, Err}
 use Rattle.jls_values.specs.Join.{join_all, AllOfShape}
 use Rattle.jls_partial.specs.Partial.{PartialPicture, has_same_shape, union}
 use Rattle.jls_partial.specs.Text.{text, IsPartial}

@@ -1,6 +1,4 @@
-use Rattle.std.proofs.Common.{rules, ◌≡◌, ◌∙◌, ◌+◌, ap, sym, subst, List, ℕ, arith, take, length}
-use Rattle.jls_salvage.specs.History.{after_read}
-use Rattle.jls_salvage.specs.Reads.{Reads}
+use Rattle.std.proofs.Common.{rules, ◌≡◌, ◌+◌, ap, sym, subst, List, ℕ, arith, take, length}
 use Rattle.jls_salvage.proofs.ReadingWhole.{ReadSoFar, nothing_read, one_read_more, read_to_end, read_so_far}
 use Rattle.jls_salvage.proofs.input.read_all.Goals as goal
 

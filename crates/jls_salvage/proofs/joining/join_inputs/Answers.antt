@@ -1,4 +1,4 @@
-use Rattle.std.proofs.Common.{◌≡◌, ◌∙◌, ◌∷◌, map, sym, subst, List, ℕ}
+use Rattle.std.proofs.Common.{◌∙◌, ◌∷◌, map, sym, subst, List, ℕ}
 use Rattle.std.specs.Borrow.{Bor}
 use Rattle.jls_partial.specs.Partial.{PartialPicture}
 use Rattle.jls_salvage.specs.Joining.{TakesJoin}

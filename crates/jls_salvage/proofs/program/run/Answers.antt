@@ -1,4 +1,4 @@
-use Rattle.std.proofs.Common.{◌≡◌, ◌∙◌, ◌∷◌, List, ℕ}
+use Rattle.std.proofs.Common.{◌∙◌}
 use Rattle.jls_salvage.proofs.Stopping.{joins_by, refuses_by}
 use Rattle.jls_salvage.proofs.program.run.Goals as goal
 

@@ -1,4 +1,3 @@
-use Rattle.std.proofs.Common.{◌≡◌}
 use Rattle.jls_salvage.proofs.Opening.{opened_and_read, refused_for}
 use Rattle.jls_salvage.proofs.taking.open_and_read.Goals as goal
 

@@ -1,6 +1,5 @@
-use Rattle.std.proofs.Common.{◌≡◌, ◌∷◌, ◌++◌, map, take, drop, List, ℕ, ap, sym, subst, false, Err, ◌+◌, arith}
+use Rattle.std.proofs.Common.{◌∷◌, map, take, drop, List, ℕ, ap, sym, subst, Err, ◌+◌, arith}
 use Rattle.std.specs.Borrow.{Bor}
-use Rattle.jls_partial.specs.Partial.{has_same_shape}
 use Rattle.jls_salvage.proofs.TakingInputs.{TakenSoFar, stops_first, stops_next, differs_next, taken_one_more, names_split, names_one_more}
 use Rattle.jls_salvage.proofs.taking.take_inputs.Goals as goal
 

@@ -1,4 +1,4 @@
-use Rattle.std.proofs.Common.{◌≡◌, ◌+◌, ◌++◌, List, ℕ, arith, sym, subst, take, drop}
+use Rattle.std.proofs.Common.{List, ℕ, arith, sym, subst, take, drop}
 use Rattle.std.proofs.Math.Seq.{take-add}
 use Rattle.std.proofs.lemmas.List.{take_rest}
 use Rattle.jls_salvage.specs.Writes.{Writes}

@@ -1,7 +1,6 @@
 -- `new` makes a cell of the blank history: a walk, since the check does not make a struct with ghost data.
 use Rattle.std.proofs.Common.{[], ◌∷◌, refl}
 use Rattle.std.proofs.raw_atomic.Walks.{proved}
-use contract.Running.{tables}
 use types.Kit.{raw, ‵, ◌$◌, ◌∵◌, !, qed, done, drop, suffices}
 use types.Part.{agg}
 use types.Run.{enter, no_more, returns}

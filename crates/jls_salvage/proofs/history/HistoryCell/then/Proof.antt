@@ -2,9 +2,8 @@
 -- data. Both parameters are only looked at, so what is left of them at the end is nothing.
 use Rattle.std.proofs.Common.{[], ◌∷◌, refl}
 use Rattle.std.proofs.raw_atomic.Walks.{proved}
-use contract.Running.{tables}
 use mir.Syntax.{named}
-use types.Kit.{raw, ‵, ◌⊛◌, ◌$◌, ◌∵◌, !, qed, done, keep, move, drop, split, fjoin, suffices}
+use types.Kit.{raw, ‵, ◌⊛◌, ◌$◌, ◌∵◌, !, qed, done, keep, move, split, fjoin, suffices}
 use types.Part.{agg}
 use types.Run.{enter, no_more, returns}
 use types.ByLocal.{alloc_all, pass_all, free_all, look_at, sets}
