@@ -1,0 +1,45 @@
+use Rattle.std.proofs.Common.{◌≡◌, ◌∙◌, ap, sym, List, [], ◌∷◌, ℕ, Some, None, map, codes, length, arith}
+use Rattle.std.specs.Borrow.{Bor}
+use Rattle.clap.specs.Words.{Text, found_of}
+use Rattle.jls_salvage.proofs.WordsRead.{same_rows, first_by_rows, all_by_rows}
+use Rattle.jls_salvage.proofs.command.join_words.Goals as goal
+
+abbrev name_of : Bor (List ℕ) → List ℕ
+name_of f = f.now
+
+-- a list that has a first element, by its parts
+first_and_others : (files : List (Bor (List ℕ))) (first : Text) (others : List Text) (x : Bor (List ℕ)) (xs : List (Bor (List ℕ)))
+    → Some (map name_of files) ≡ Some (first ∷ others) → files ≡ x ∷ xs → (x.now ≡ first) × (map name_of xs ≡ others)
+first_and_others files first others x xs h e =
+    let k : Some (x.now ∷ map name_of xs) ≡ Some (first ∷ others) = sym (ap (λ (ys : List (Bor (List ℕ))). Some (map name_of ys)) e) ∙ h in
+    (cc, cc)
+
+not_empty : (files : List (Bor (List ℕ))) (first : Text) (others : List Text) → Some (map name_of files) ≡ Some (first ∷ others) → length files ≡ 0 → ⊥
+not_empty [] first others h e = cc
+not_empty (x ∷ xs) first others h e = absurd (omega arith)
+
+pub returns-in-None-get_str : goal.returns-in-None-get_str
+returns-in-None-get_str c rows out first others entered out_is files_are =
+    let mine = same_rows _ _ rows _ c.in-Some.ensures.rows entered in
+    let k : None ≡ Some out = first_by_rows (found_of c.in-Some.join.now) rows (codes "OUT") None out c.in-None-get_str.ensures mine out_is in
+    cc
+
+pub returns-in-None-get_strs : goal.returns-in-None-get_strs
+returns-in-None-get_strs c rows out first others entered out_is files_are =
+    let mine = same_rows _ _ rows _ c.in-Some.ensures.rows entered in
+    let k : None ≡ Some (first ∷ others) = all_by_rows (found_of c.in-Some.join.now) rows (codes "FILE") None (first ∷ others) c.in-None-get_strs.ensures mine files_are in
+    cc
+
+pub returns-in-Some-split_first : goal.returns-in-Some-split_first
+returns-in-Some-split_first c rows out first others entered out_is files_are =
+    let mine = same_rows _ _ rows _ c.in-Some.ensures.rows entered in
+    let k : Some c.in-Some-get_str.out.now ≡ Some out = first_by_rows (found_of c.in-Some.join.now) rows (codes "OUT") _ out c.in-Some-get_str.ensures mine out_is in
+    let files = all_by_rows (found_of c.in-Some.join.now) rows (codes "FILE") _ (first ∷ others) c.in-Some-get_strs.ensures mine files_are in
+    let parts = first_and_others c.in-Some-get_strs.files.now first others c.in-Some-split_first.first.now c.in-Some-split_first.others.now files c.in-Some-split_first.ensures.cases.0 in
+    (cc, parts.0, parts.1)
+
+pub returns-in-None-split_first : goal.returns-in-None-split_first
+returns-in-None-split_first c rows out first others entered out_is files_are =
+    let mine = same_rows _ _ rows _ c.in-Some.ensures.rows entered in
+    let files = all_by_rows (found_of c.in-Some.join.now) rows (codes "FILE") _ (first ∷ others) c.in-Some-get_strs.ensures mine files_are in
+    not_empty c.in-Some-get_strs.files.now first others files c.in-None-split_first.ensures.cases

@@ -1,0 +1,33 @@
+//! Salvages JPEG-LS pictures: the program `jls-salvage` and the stations behind it.
+#![tactic(auto)]
+
+mod cause;
+mod command;
+mod counted;
+mod device;
+mod history;
+mod host;
+mod input;
+mod joining;
+mod ledger;
+mod printing;
+mod program;
+mod station;
+mod taking;
+mod writing;
+
+use counted::Counted;
+use host::HostDesk;
+use std::process::ExitCode;
+
+/// Hands the program its words, a desk over files and standard streams, standard output as its report and standard
+/// error for its faults, and ends with its answer.
+fn main(rt: HostRuntime) -> std::io::Result<ExitCode> {
+    let alloc = rt.alloc();
+    let words: Vec<String> = std::env::args(&rt)?.collect(alloc)?;
+    let mut desk = HostDesk::new(&rt);
+    let mut report = Counted::new(rt.stdout());
+    let mut faults = Counted::new(rt.stderr());
+    let status = program::run(alloc, &words, &mut desk, &mut report, &mut faults);
+    Ok(ExitCode::from(status))
+}

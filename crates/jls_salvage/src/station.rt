@@ -1,0 +1,58 @@
+//! Stations.
+
+ghost use Rattle.std.specs.Prelude.{◌≡◌, ◌↔◌, true, false, OnOk, IsErrOf};
+ghost use Rattle.jls_values.specs.Join.{IsBetween};
+ghost use Rattle.jls_values.specs.OrderedSet as set;
+ghost use Rattle.jls_values.specs.declared.merge.MergeFault.TheVariants.{ShapeDiffers, OutOfMemory};
+ghost use Rattle.jls_partial.specs.Partial.{has_same_shape, union};
+
+use jls_partial::Partial;
+use jls_values::{Merge, MergeFault, Shape};
+use std::alloc::Global;
+use std::marker::Model;
+
+/// A place where what is known of one picture comes together. Clauses see it as the partial picture that it holds.
+#[derive(Drop)]
+pub struct Station {
+    held: Partial,
+}
+
+impl Model for Station {
+    ghost use Rattle.jls_partial.specs.Partial.{PartialPicture, coded_partial};
+
+    ghost Value = { PartialPicture };
+
+    ghost coded = { coded_partial };
+
+    ghost view = { λ s. s.held };
+}
+
+impl Station {
+    /// A station for pictures of this shape, which holds nothing yet. It takes no memory.
+    pub fn new(alloc: Global, shape: Shape) -> Station
+        ensures { result ≡ record { shape = shape; readings = set.empty } }
+    {
+        Station {
+            held: Partial::empty(alloc, shape),
+        }
+    }
+
+    /// Takes in the readings of a partial picture. At `ShapeDiffers` nothing has changed; after want of memory all
+    /// that was held is still held, with some of the other's readings, and the same call can be made again.
+    pub fn take(&mut self, other: &Partial) -> Result<(), MergeFault>
+        ensures ok { OnOk result (self.new ≡ union self.old other.now) }
+        ensures ok_same_shape { OnOk result (has_same_shape self.old other.now ≡ true) }
+        ensures shape_differs { IsErrOf result ShapeDiffers ↔ (has_same_shape self.old other.now ≡ false) }
+        ensures unchanged { IsErrOf result ShapeDiffers → self.new ≡ self.old }
+        ensures out_of_memory { IsErrOf result OutOfMemory → IsBetween union self.old self.new (union self.old other.now) }
+    {
+        self.held.merge(other)
+    }
+
+    /// What the station holds.
+    pub fn partial(&self) -> &Partial
+        ensures { result.now ≡ self.now }
+    {
+        &self.held
+    }
+}
