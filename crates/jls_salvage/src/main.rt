@@ -14,6 +14,8 @@ mod printing;
 mod program;
 mod station;
 mod taking;
+#[cfg(test)]
+mod tests;
 mod writing;
 
 use counted::Counted;
