@@ -5,17 +5,17 @@ use Rattle.jls_context.specs.declared.interruption.RunCell.{RunCell}
 
 -- A is small enough that k is at most 16
 pub record IsCell (reset : ℕ) (cell : Cell) : Type 0 where
-  pub n_low : 1 ≤ cell.occurrences
-  pub n_high : cell.occurrences ≤ reset
-  pub a_high : cell.magnitudes ≤ 2 ^ 15 * (cell.occurrences + 1)
-  pub b_low : neg_ℤ (pos cell.occurrences) <ℤ cell.bias
-  pub b_high : cell.bias ≤ℤ pos 0
-  pub c_low : negsuc 127 ≤ℤ cell.correction
-  pub c_high : cell.correction ≤ℤ pos 127
+  pub occurrences_at_least : 1 ≤ cell.occurrences
+  pub occurrences_at_most : cell.occurrences ≤ reset
+  pub magnitudes_at_most : cell.magnitudes ≤ 2 ^ 15 * (cell.occurrences + 1)
+  pub bias_above : neg_ℤ (pos cell.occurrences) <ℤ cell.bias
+  pub bias_at_most : cell.bias ≤ℤ pos 0
+  pub correction_at_least : negsuc 127 ≤ℤ cell.correction
+  pub correction_at_most : cell.correction ≤ℤ pos 127
 
 -- the same, of a cell of run interruption
 pub record IsRunCell (reset : ℕ) (cell : RunCell) : Type 0 where
-  pub n_low : 1 ≤ cell.occurrences
-  pub n_high : cell.occurrences ≤ reset
-  pub a_high : cell.magnitudes ≤ 2 ^ 15 * (cell.occurrences + 1)
-  pub negative_errors_high : cell.negative_errors ≤ cell.occurrences
+  pub occurrences_at_least : 1 ≤ cell.occurrences
+  pub occurrences_at_most : cell.occurrences ≤ reset
+  pub magnitudes_at_most : cell.magnitudes ≤ 2 ^ 15 * (cell.occurrences + 1)
+  pub negative_errors_at_most : cell.negative_errors ≤ cell.occurrences

@@ -6,8 +6,8 @@ use Rattle.jls_context.specs.Mode.{with_sign}
 
 -- the errors: from -floor(RANGE/2) to ceil(RANGE/2) - 1
 pub record IsError (p : CodingParameters) (e : ℤ) : Type 0 where
-  pub low : neg_ℤ (pos (range p / 2)) ≤ℤ e
-  pub high : e <ℤ pos ((range p + 1) / 2)
+  pub at_least : neg_ℤ (pos (range p / 2)) ≤ℤ e
+  pub below : e <ℤ pos ((range p + 1) / 2)
 
 -- the numbers differ by a multiple of the modulus
 abbrev pub IsCongruent : ℕ → ℤ → ℤ → Type 0
@@ -22,7 +22,7 @@ pub record IsModuloReduced (p : CodingParameters) (difference e : ℤ) : Type 0 
 unfoldable pub modulo_reduced : CodingParameters → ℤ → ℤ
 modulo_reduced p difference =
     let remainder = int_rem_euclid difference (pos (range p)) in
-    if (int_le (pos ((range p + 1) / 2)) remainder) then remainder -ℤ pos (range p) else remainder
+    if int_le (pos ((range p + 1) / 2)) remainder then remainder -ℤ pos (range p) else remainder
 
 -- the error of a sample against its prediction: the difference with SIGN, reduced (A.4.3, A.4.5)
 abbrev pub prediction_error : CodingParameters → Bool → ℕ → ℕ → ℤ

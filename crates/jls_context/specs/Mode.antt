@@ -16,7 +16,11 @@ is_run_mode near = (near.rd == near.rb) && (near.rb == near.rc) && (near.rc == n
 -- the size of a quantized gradient, from that of the gradient (A.3.3)
 abbrev pub quantized_size : CodingParameters → ℕ → ℕ
 quantized_size p size =
-    if (size == 0) then 0 else (if (nat_lt size p.t1) then 1 else (if (nat_lt size p.t2) then 2 else (if (nat_lt size p.t3) then 3 else 4)))
+    if size == 0 then 0
+    else if nat_lt size p.t1 then 1
+    else if nat_lt size p.t2 then 2
+    else if nat_lt size p.t3 then 3
+    else 4
 
 -- a gradient in nine steps from -4 to 4: its size in five steps, with its sign (A.3.3)
 unfoldable pub quantized_gradient : CodingParameters → ℤ → ℤ
@@ -57,14 +61,15 @@ context p near =
     let q = quantized_gradients p near in let negative = is_negative p near in
     unsigned_abs (weighed (with_sign negative q.q1) (with_sign negative q.q2) (with_sign negative q.q3))
 
--- the answer is right that a sample with these neighbours is in run mode, or in regular mode with this context and SIGN
+-- a sample with these neighbours is in regular mode, with this context and SIGN
 pub record IsRegularMode (p : CodingParameters) (near : Neighbours) (cell : ℕ) (negative : Bool) : Type 0 where
   pub not_run : is_run_mode near ≡ false
   pub context_is : cell ≡ context p near
   pub sign_is : negative ≡ is_negative p near
-  pub low : 1 ≤ cell
-  pub high : cell ≤ 364
+  pub at_least : 1 ≤ cell
+  pub at_most : cell ≤ 364
 
+-- a sample with these neighbours is in this mode (A.3)
 abbrev pub IsMode : CodingParameters → Neighbours → Mode → Type 0
 IsMode p near Run = is_run_mode near ≡ true
 IsMode p near (Regular cell negative) = IsRegularMode p near cell negative

@@ -6,7 +6,9 @@ use Rattle.jls_context.specs.Mode.{with_sign}
 -- the prediction from Ra, Rb and Rc, which finds edges (A.4.1)
 abbrev pub edge_detecting_predictor : ℕ → ℕ → ℕ → ℕ
 edge_detecting_predictor ra rb rc =
-    if (nat_le (max ra rb) rc) then min ra rb else (if (nat_le rc (min ra rb)) then max ra rb else ra + rb - rc)
+    if nat_le (max ra rb) rc then min ra rb
+    else if nat_le rc (min ra rb) then max ra rb
+    else ra + rb - rc
 
 -- the sample from 0 to MAXVAL that is nearest to a number
 abbrev pub clamped : CodingParameters → ℤ → ℕ

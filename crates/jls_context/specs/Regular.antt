@@ -48,12 +48,16 @@ counted cell = record cell { occurrences = cell.occurrences + 1 }
 -- B brought nearer to -N < B <= 0 by N, and at least to its bound (A.6.2)
 abbrev pub computed_bias : ℕ → ℤ → ℤ
 computed_bias n b =
-    if (int_le b (neg_ℤ (pos n))) then int_max (b +ℤ pos n) (pos 1 -ℤ pos n) else (if (int_lt (pos 0) b) then int_min (b -ℤ pos n) (pos 0) else b)
+    if int_le b (neg_ℤ (pos n)) then int_max (b +ℤ pos n) (pos 1 -ℤ pos n)
+    else if int_lt (pos 0) b then int_min (b -ℤ pos n) (pos 0)
+    else b
 
 -- C one lower or one higher where B is below or above that range, but from -128 to 127 (A.6.2)
 abbrev pub computed_correction : ℕ → ℤ → ℤ → ℤ
 computed_correction n b c =
-    if (int_le b (neg_ℤ (pos n))) then int_max (c -ℤ pos 1) (negsuc 127) else (if (int_lt (pos 0) b) then int_min (c +ℤ pos 1) (pos 127) else c)
+    if int_le b (neg_ℤ (pos n)) then int_max (c -ℤ pos 1) (negsuc 127)
+    else if int_lt (pos 0) b then int_min (c +ℤ pos 1) (pos 127)
+    else c
 
 -- the bias computation (A.6.2)
 abbrev pub bias_computed : Cell → Cell
