@@ -1,0 +1,9 @@
+//! One interval of scan data: the code of its lines, what reads as it, and the laws of both.
+#![tactic(auto)]
+
+mod laws;
+
+pub use laws::{
+    codes_are_apart, cuts_are_exact, events_are_apart, events_have_bits, full_blocks_fit,
+    growth_ends_in_lines, lines_are_parted_once, lines_grow, pieces_read_once,
+};
