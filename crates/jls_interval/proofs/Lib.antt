@@ -19,3 +19,4 @@ pub mod CutCodes
 pub mod PiecesLaw
 pub mod Places
 pub mod OneParting
+pub mod WorkedExamples
