@@ -2,7 +2,12 @@
 #![tactic(auto)]
 
 mod merge;
+mod params;
 mod shape;
 
 pub use merge::{Merge, MergeFault, merge_all, same_members_same_join};
+pub use params::{ParamFault, Params};
 pub use shape::{Shape, ShapeFault};
+
+#[cfg(test)]
+mod tests;

@@ -1,0 +1,46 @@
+-- Coding parameters: the preset values in force for a scan (T.87, C.2.4.1.1), and the numbers that follow
+-- from MAXVAL in lossless coding (T.87, A.2.1, with NEAR 0).
+use Rattle.std.specs.Prelude.{ℕ, zero, suc, ◌+◌, ◌*◌, ◌^◌, ◌≤◌, ◌<◌, min, max, Bool, nat_le, if◌then◌else◌}
+
+-- bits per sample, MAXVAL, the thresholds of the gradients, and RESET
+pub record CodingParameters : Type 0 where
+  pub precision : ℕ
+  pub maxval : ℕ
+  pub t1 : ℕ
+  pub t2 : ℕ
+  pub t3 : ℕ
+  pub reset : ℕ
+
+-- the ranges of T.87, table C.3, at the precisions of this profile
+pub record AreCodingParameters (p : CodingParameters) : Type 0 where
+  pub precision_at_least : 2 ≤ p.precision
+  pub precision_at_most : p.precision ≤ 16
+  pub maxval_at_least : 1 ≤ p.maxval
+  pub maxval_below : p.maxval < 2 ^ p.precision
+  pub t1_at_least : 1 ≤ p.t1
+  pub t2_at_least : p.t1 ≤ p.t2
+  pub t3_at_least : p.t2 ≤ p.t3
+  pub t3_at_most : p.t3 ≤ p.maxval
+  pub reset_at_least : 3 ≤ p.reset
+  pub reset_at_most : p.reset ≤ max 255 p.maxval
+
+-- the first of `count` numbers from `from` on that passes the test, or the number after them
+unfoldable pub least_from : (ℕ → Bool) → ℕ → ℕ → ℕ
+least_from passes zero from = from
+least_from passes (suc count) from = let later = least_from passes count (suc from) in if passes from then from else later
+
+-- RANGE: how many values a sample can have
+abbrev pub range : CodingParameters → ℕ
+range p = p.maxval + 1
+
+-- qbpp: the least number of bits that hold RANGE values
+abbrev pub qbpp : CodingParameters → ℕ
+qbpp p = least_from (λ bits. nat_le (range p) (2 ^ bits)) 16 0
+
+-- bpp: the least number of bits that hold a sample, but at least 2
+abbrev pub bpp : CodingParameters → ℕ
+bpp p = max 2 (qbpp p)
+
+-- LIMIT: the longest Golomb code of a regular sample, in bits
+abbrev pub limit : CodingParameters → ℕ
+limit p = 2 * (bpp p + max 8 (bpp p))
