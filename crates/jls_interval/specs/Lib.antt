@@ -6,5 +6,6 @@ pub mod Code
 pub mod Reading
 pub mod Reads
 pub mod Stepwise
+pub mod Fits
 pub mod Growth
 pub mod Laws
