@@ -19,5 +19,10 @@ pub mod CutCodes
 pub mod PiecesLaw
 pub mod Places
 pub mod OneParting
+pub mod WrittenRuns
+pub mod EncodedEvents
+pub mod EncodedStretches
+pub mod EncodedLines
+pub mod PackedLaw
 pub mod WorkedExamples
 pub mod LineLists

@@ -7,5 +7,7 @@ pub mod Reading
 pub mod Reads
 pub mod Stepwise
 pub mod Fits
+pub mod Encoding
 pub mod Growth
 pub mod Laws
+pub mod ReadBack
