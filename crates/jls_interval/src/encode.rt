@@ -1,7 +1,6 @@
 //! Writing an interval.
 
-ghost use Rattle.std.specs.Prelude.{◌≡◌, ℕ, ◌<◌, ◌≤◌, [], length, get_or, map, take, IfOk, OnOk};
-ghost use Rattle.jls_interval.specs.Events;
+ghost use Rattle.std.specs.Prelude.{◌≡◌, [], get_or, map, IfOk, OnOk};
 ghost use Rattle.jls_interval.specs.Fits.{FitsInterval};
 ghost use Rattle.jls_interval.specs.Code.{code};
 ghost use Rattle.jls_interval.specs.Reads.{packed};
@@ -9,6 +8,7 @@ ghost use Rattle.jls_interval.specs.ReadBack.{PackedLinesReadBack};
 
 use crate::encode_line::write_line;
 use crate::encode_sample::CodeLengths;
+use crate::neighbours::line_back;
 use jls_bits::BitWriter;
 use jls_context::Cells;
 use jls_values::Params;
@@ -21,19 +21,6 @@ fn line_at(lines: &[Vec<u16>], j: usize) -> &[u16]
     match lines.get(j) {
         None => &[],
         Some(line) => line.as_slice(),
-    }
-}
-
-/// The line that stands so many places before line j, or an empty one where there is none.
-fn line_back(lines: &[Vec<u16>], j: usize, back: usize) -> &[u16]
-    requires j { j ≤ length lines.now }
-    requires back { 0 < back }
-    ensures { result.now ≡ Events.line_back (take j (map (λ v. v.items) lines.now)) back }
-{
-    if j < back {
-        &[]
-    } else {
-        line_at(lines, j - back)
     }
 }
 
@@ -55,8 +42,8 @@ fn write_lines(
     let mut run_indices = [0u8; 4];
     for j in 0..lines.len() {
         let component = j % row_lines;
-        let line_above = line_back(lines, j, row_lines);
-        let line_two_above = line_back(lines, j, 2 * row_lines);
+        let line_above = line_back(&lines[..j], row_lines);
+        let line_two_above = line_back(&lines[..j], 2 * row_lines);
         let line = line_at(lines, j);
         let after = write_line(
             writer,

@@ -1,6 +1,6 @@
 //! Writing one line, a stretch of columns at a time (ITU-T T.87, A.3 and A.7).
 
-ghost use Rattle.std.specs.Prelude.{◌≡◌, ℕ, ◌^◌, ◌<◌, ◌≤◌, true, ◌==◌, List, [], ◌∷◌, length, get_or, IfOk};
+ghost use Rattle.std.specs.Prelude.{◌≡◌, ℕ, ◌^◌, ◌<◌, ◌≤◌, true, ◌==◌, List, [], ◌∷◌, length, IfOk};
 ghost use Rattle.std.specs.List.{AllByRecursion, prefix_len};
 ghost use Rattle.jls_context.specs.Mode.{is_run_mode};
 ghost use Rattle.jls_interval.specs.Events.{Above, neighbours, stretch, line_events};
@@ -8,41 +8,11 @@ ghost use Rattle.jls_interval.specs.Encoding.{AreLengths, Encoder, Writes};
 
 use crate::encode_run::{write_interrupted_run, write_run_to_end};
 use crate::encode_sample::{CodeLengths, write_interrupting, write_regular};
+use crate::neighbours::neighbours_at;
 use crate::run_index::{lowered, run_order};
 use jls_bits::BitWriter;
-use jls_context::{Cells, Mode, Neighbours};
+use jls_context::{Cells, Mode};
 use std::alloc::AllocError;
-
-/// The sample in a column, or 0 where there is none.
-fn sample_or_zero(line: &[u16], x: usize) -> u16
-    ensures { result ≡ get_or line.now x 0 }
-{
-    match line.get(x) {
-        None => 0,
-        Some(sample) => *sample,
-    }
-}
-
-/// The samples round column x of a line, under the two lines above it in its component.
-fn neighbours_of(line_above: &[u16], line_two_above: &[u16], line: &[u16], x: usize) -> Neighbours
-    requires { x < length line.now }
-    ensures { result ≡ neighbours (length line.now) (record { line_above = line_above.now; line_two_above = line_two_above.now }) line.now x }
-{
-    let rb = sample_or_zero(line_above, x);
-    let rd = if x + 1 < line.len() {
-        sample_or_zero(line_above, x + 1)
-    } else {
-        rb
-    };
-    if x == 0 {
-        let rc = sample_or_zero(line_two_above, 0);
-        Neighbours { ra: rb, rb, rc, rd }
-    } else {
-        let ra = line[x - 1];
-        let rc = sample_or_zero(line_above, x - 1);
-        Neighbours { ra, rb, rc, rd }
-    }
-}
 
 /// How many samples from the front on have this value.
 fn run_length(samples: &[u16], value: u16) -> usize
@@ -98,7 +68,7 @@ fn write_run(
         });
     }
     let raised = write_interrupted_run(writer, run_index, count as u32)?;
-    let near = neighbours_of(line_above, line_two_above, line, stop);
+    let near = neighbours_at(line.len(), line_above, line_two_above, line, stop);
     write_interrupting(writer, cells, lengths, near, run_order(raised), line[stop])?;
     Ok(Next {
         column: stop + 1,
@@ -129,7 +99,7 @@ fn write_stretch(
     ensures run_index { IfOk result (λ next. next.run_index ≤ 31) }
     ensures parameters { cells.new.parameters ≡ cells.old.parameters }
 {
-    let near = neighbours_of(line_above, line_two_above, line, x);
+    let near = neighbours_at(line.len(), line_above, line_two_above, line, x);
     match cells.mode(near.ra, near.rb, near.rc, near.rd) {
         Mode::Run => write_run(
             writer,

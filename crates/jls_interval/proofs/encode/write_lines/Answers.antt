@@ -1,6 +1,6 @@
 use Rattle.std.proofs.Common.{◌≡◌, ℕ, ◌+◌, ◌*◌, ◌%◌, ◌<◌, ◌≤◌, List, [], ◌∷◌, map, take, length, get_or, set, Vec, Global, refl, sym, ap, ◌∙◌, subst, arith}
 use Rattle.std.specs.List.{AllByRecursion}
-use Rattle.std.proofs.lemmas.List.{length-map, length-set}
+use Rattle.std.proofs.lemmas.List.{length-map, length-set, take-map}
 use Rattle.jls_values.specs.Params.{CodingParameters}
 use Rattle.jls_context.specs.Variables.{Variables}
 use Rattle.jls_interval.specs.Events.{Above, above, line_back, line_events}
@@ -21,7 +21,7 @@ loop-j-init c = record {
 pub write_line-requires-clause-above : goal.write_line-requires-clause-above
 write_line-requires-clause-above c =
     let L = items c.args.lines.now in let n = length-map c.args.lines.now (λ (v : Vec ℕ Global). v.items) in let t = c.loop-j-test.true in let s = c.requires.lines.components_at_least in let r = c.from-row_lines.ensures in
-    subst (λ (q : CodingParameters). AllByRecursion (λ s. s ≤ q.maxval) c.line_back-line_above.result.now) (sym c.loop-j.invariant.are.cells_are.parameters) (subst (AllByRecursion (λ s. s ≤ c.args.params.now.maxval)) (sym c.line_back-line_above.ensures) (back_small c.args.params.now c.args.width L c.loop-j.j c.from-row_lines.result c.requires.lines.each (omega arith) (omega arith)))
+    subst (λ (q : CodingParameters). AllByRecursion (λ s. s ≤ q.maxval) c.line_back-line_above.result.now) (sym c.loop-j.invariant.are.cells_are.parameters) (subst (AllByRecursion (λ s. s ≤ c.args.params.now.maxval)) (sym (c.line_back-line_above.ensures ∙ ap (λ z. line_back z c.from-row_lines.result) (sym (take-map (λ (v : Vec ℕ Global). v.items) c.loop-j.j c.args.lines.now)))) (back_small c.args.params.now c.args.width L c.loop-j.j c.from-row_lines.result c.requires.lines.each (omega arith) (omega arith)))
 
 pub write_line-requires-clause-samples : goal.write_line-requires-clause-samples
 write_line-requires-clause-samples c =
@@ -38,7 +38,8 @@ loop-j-preserved c =
     let k_below : k < count = omega arith in let i = c.loop-j.invariant in let four : length c.loop-j.run_indices ≡ 4 = i.four in
     let line : List ℕ = c.line_at-line.result.now in let line_is : line ≡ get_or L j [] = c.line_at-line.ensures in
     let up : Above = record { line_above = c.line_back-line_above.result.now; line_two_above = c.line_back-line_two_above.result.now } in
-    let up_is : up ≡ above count (take j L) = above_same _ _ _ _ (c.line_back-line_above.ensures ∙ ap (line_back (take j L)) row_is) (c.line_back-line_two_above.ensures ∙ ap (λ z. line_back (take j L) (2 * z)) row_is) in
+    let front = sym (take-map (λ (v : Vec ℕ Global). v.items) j c.args.lines.now) in
+    let up_is : up ≡ above count (take j L) = above_same _ _ _ _ (c.line_back-line_above.ensures ∙ ap (λ z. line_back z row) front ∙ ap (line_back (take j L)) row_is) (c.line_back-line_two_above.ensures ∙ ap (λ z. line_back z (2 * row)) front ∙ ap (λ z. line_back (take j L) (2 * z)) row_is) in
     let wide : length line ≡ w = ap length line_is ∙ (line_in p w L j c.requires.lines.each within).0 in
     let old : Variables = c.loop-j.cells in let new : Variables = c.write_line.new.cells in let index : ℕ = c.in_ok-after.after in
     let before : Encoder = record { cells = old; run_index = get_or c.loop-j.run_indices k 0; written = c.loop-j.writer } in

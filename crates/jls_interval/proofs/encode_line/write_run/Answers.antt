@@ -3,7 +3,7 @@ use Rattle.jls_context.specs.declared.mode.Neighbours.{Neighbours}
 use Rattle.jls_context.specs.Variables.{Variables}
 use Rattle.jls_interval.specs.Events.{Event, Above, neighbours, Stretch, stretch, interrupted_run}
 use Rattle.jls_interval.specs.Encoding.{Encoder, Writes}
-use Rattle.jls_interval.proofs.StepLaw.{b_small}
+use Rattle.jls_interval.proofs.EventsApart.{b_small}
 use Rattle.jls_interval.proofs.EncodedEvents.{to_end_writes, interrupted_writes}
 use Rattle.jls_interval.proofs.EncodedStretches.{counted, stop_within, stop_differs, stop_value, stretch_to_end, stretch_interrupted}
 use Rattle.jls_interval.proofs.encode_line.write_run.Goals as goal
@@ -31,8 +31,8 @@ pub overflow_cast-count-2 : goal.overflow_cast-count-2
 overflow_cast-count-2 c =
     let l = stop_within c.args.line.now c.args.x c.args.value c.run_length-count.result c.requires.column (counted c.args.line.now c.args.x c.args.value c.run_length-count.result c.run_length-count.ensures) in let w = c.requires.width in omega arith
 
-pub neighbours_of-near-requires : goal.neighbours_of-near-requires
-neighbours_of-near-requires c =
+pub neighbours_at-near-requires : goal.neighbours_at-near-requires
+neighbours_at-near-requires c =
     let l = stop_within c.args.line.now c.args.x c.args.value c.run_length-count.result c.requires.column (counted c.args.line.now c.args.x c.args.value c.run_length-count.result c.run_length-count.ensures) in let f = c.if-stop-line.false in omega arith
 
 pub offset_bounds-line-stop : goal.offset_bounds-line-stop
@@ -46,13 +46,13 @@ bounds-line-stop c =
 pub write_interrupting-requires-clause-above : goal.write_interrupting-requires-clause-above
 write_interrupting-requires-clause-above c =
     let up : Above = record { line_above = c.args.line_above.now; line_two_above = c.args.line_two_above.now } in
-    subst (λ (n : Neighbours). n.rb ≤ c.args.cells.now.parameters.maxval) (sym c.neighbours_of-near.ensures) (b_small c.args.cells.now.parameters (length c.args.line.now) up c.args.line.now (c.args.x + c.run_length-count.result) c.requires.above)
+    subst (λ (n : Neighbours). n.rb ≤ c.args.cells.now.parameters.maxval) (sym c.neighbours_at-near.ensures) (b_small c.args.cells.now.parameters (length c.args.line.now) up c.args.line.now (c.args.x + c.run_length-count.result) c.requires.above)
 
 pub write_interrupting-requires-clause-another : goal.write_interrupting-requires-clause-another
 write_interrupting-requires-clause-another c = λ e.
     let up : Above = record { line_above = c.args.line_above.now; line_two_above = c.args.line_two_above.now } in
     let v = stop_value c.args.line.now c.args.x c.args.value c.run_length-count.result c.requires.column (counted c.args.line.now c.args.x c.args.value c.run_length-count.result c.run_length-count.ensures) up c.requires.value in
-    stop_differs c.args.line.now c.args.x c.args.value c.run_length-count.result c.requires.column (counted c.args.line.now c.args.x c.args.value c.run_length-count.result c.run_length-count.ensures) c.if-stop-line.false (e ∙ ap (λ (n : Neighbours). n.ra) c.neighbours_of-near.ensures ∙ v)
+    stop_differs c.args.line.now c.args.x c.args.value c.run_length-count.result c.requires.column (counted c.args.line.now c.args.x c.args.value c.run_length-count.result c.run_length-count.ensures) c.if-stop-line.false (e ∙ ap (λ (n : Neighbours). n.ra) c.neighbours_at-near.ensures ∙ v)
 
 pub overflow_add-result : goal.overflow_add-result
 overflow_add-result c =
@@ -68,10 +68,10 @@ pub returns-clause-written : goal.returns-clause-written
 returns-clause-written c = λ component.
     let up : Above = record { line_above = c.args.line_above.now; line_two_above = c.args.line_two_above.now } in
     let old : Variables = c.args.cells.now in let new : Variables = c.write_interrupting.new.cells in
-    let count : ℕ = c.run_length-count.result in let near : Neighbours = c.neighbours_of-near.result in let sample : ℕ = get_or c.args.line.now (c.args.x + count) 0 in
+    let count : ℕ = c.run_length-count.result in let near : Neighbours = c.neighbours_at-near.result in let sample : ℕ = get_or c.args.line.now (c.args.x + count) 0 in
     let s = stretch_interrupted c.args.line.now c.args.x c.args.value count c.requires.column (counted c.args.line.now c.args.x c.args.value c.run_length-count.result c.run_length-count.ensures) up c.requires.value component c.requires.run c.if-stop-line.false in
     let before : Encoder = record { cells = old; run_index = c.args.run_index; written = c.args.writer.now } in
     let after : Encoder = record { cells = new; run_index = c.lowered.result; written = c.write_interrupting.new.writer } in
     let e = c.in_ok-write_interrupting.ensures in
     let w = interrupted_writes old new near sample c.write_interrupting.ensures.parameters e.updated c.write_interrupting.ensures.other c.write_interrupting.ensures.regular component count c.args.run_index c.in_ok-raised.raised c.lowered.result c.run_order.result c.args.writer.now c.write_interrupted_run.new.writer c.write_interrupting.new.writer c.in_ok-raised.ensures.written c.in_ok-raised.ensures.run_index c.run_order.ensures.value e.written c.lowered.ensures in
-    subst (λ (z : Stretch). Writes old.parameters component before after (z.event ∷ [])) (sym s) (subst (λ (n : Neighbours). Writes old.parameters component before after (interrupted_run component count n sample ∷ [])) c.neighbours_of-near.ensures w)
+    subst (λ (z : Stretch). Writes old.parameters component before after (z.event ∷ [])) (sym s) (subst (λ (n : Neighbours). Writes old.parameters component before after (interrupted_run component count n sample ∷ [])) c.neighbours_at-near.ensures w)
