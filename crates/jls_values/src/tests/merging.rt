@@ -38,47 +38,19 @@ impl Merge for Numbers {
     }
 }
 
+fn numbers(zero: bool, one: bool) -> Numbers {
+    Numbers { zero, one }
+}
+
 #[test]
 fn a_list_is_merged_whole_and_repeats_change_nothing(rt: HostRuntime) -> Result<(), Fail> {
-    let empty = Numbers {
-        zero: false,
-        one: false,
-    };
-    let mut held = empty;
-    let list = [
-        Numbers {
-            zero: true,
-            one: false,
-        },
-        empty,
-        Numbers {
-            zero: false,
-            one: true,
-        },
-    ];
+    let mut held = numbers(false, false);
+    let list = [numbers(true, false), held, numbers(false, true)];
     merge_all(&mut held, &list[..2])?;
-    assert_eq!(rt;
-        held,
-        Numbers {
-            zero: true,
-            one: false
-        }
-    );
+    assert_eq!(rt; held, numbers(true, false));
     merge_all(&mut held, &list)?;
-    assert_eq!(rt;
-        held,
-        Numbers {
-            zero: true,
-            one: true
-        }
-    );
+    assert_eq!(rt; held, numbers(true, true));
     merge_all(&mut held, &list)?;
-    assert_eq!(rt;
-        held,
-        Numbers {
-            zero: true,
-            one: true
-        }
-    );
+    assert_eq!(rt; held, numbers(true, true));
     Ok(())
 }
