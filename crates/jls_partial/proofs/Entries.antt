@@ -29,14 +29,14 @@ abbrev pub S : List ℕ → List ℕ → Ordering
 S = slice_cmp nat_cmp
 
 -- what the readings at one place are
-any_block : (r : Reading) (p : Place) (xs : List (List ℕ)) → list_any (eq_by_cmp reading_cmp r) (map (at_place p) xs) ≡ (eq_by_cmp place_cmp (place_of r) p && list_any (eq_by_cmp S r.samples) xs)
-any_block r p [] = none (eq_by_cmp place_cmp (place_of r) p)
+any-at_place : (r : Reading) (p : Place) (xs : List (List ℕ)) → list_any (eq_by_cmp reading_cmp r) (map (at_place p) xs) ≡ (eq_by_cmp place_cmp (place_of r) p && list_any (eq_by_cmp S r.samples) xs)
+any-at_place r p [] = none (eq_by_cmp place_cmp (place_of r) p)
   where
     none : (b : Bool) → false ≡ (b && false)
     none true = refl
     none false = refl
-any_block r p (x ∷ xs) =
-    (λ i. eq_reading r p x i || any_block r p xs i) ∙ both (eq_by_cmp place_cmp (place_of r) p) (eq_by_cmp S r.samples x) (list_any (eq_by_cmp S r.samples) xs)
+any-at_place r p (x ∷ xs) =
+    (λ i. eq_reading r p x i || any-at_place r p xs i) ∙ both (eq_by_cmp place_cmp (place_of r) p) (eq_by_cmp S r.samples x) (list_any (eq_by_cmp S r.samples) xs)
   where
     both : (b c d : Bool) → ((b && c) || (b && d)) ≡ (b && (c || d))
     both true c d = refl
@@ -51,14 +51,14 @@ pub none_kept : (q p : Place) (es : List Entry) → is_at (place_cmp q) p ≡ tr
 none_kept q p es e h = subst (λ (z : Place). lookup (is_at (place_cmp z)) es ≡ None) (sym (same_place q p e)) (none_later p es h)
 
 -- a reading is in the list of all exactly if it is kept at its place
-pub any_flat : (es : List Entry) (r : Reading) → IsStrictlySortedBy place_cmp (map (λ e. e.0) es) → list_any (eq_by_cmp reading_cmp r) (readings_of_entries es) ≡ list_any (eq_by_cmp S r.samples) (samples_at es (place_of r))
+pub any-entries : (es : List Entry) (r : Reading) → IsStrictlySortedBy place_cmp (map (λ e. e.0) es) → list_any (eq_by_cmp reading_cmp r) (readings_of_entries es) ≡ list_any (eq_by_cmp S r.samples) (samples_at es (place_of r))
 unfolding IsStrictlySortedBy
-any_flat [] r h = refl
-any_flat (e ∷ es) r h =
+any-entries [] r h = refl
+any-entries (e ∷ es) r h =
     let test = eq_by_cmp reading_cmp r in
     ap (list_any test) (flat_map-cons (λ (e : Entry). map (at_place e.0) e.1) e es)
     ∙ list_any-append test (map (at_place e.0) e.1) (readings_of_entries es)
-    ∙ (λ i. any_block r e.0 e.1 i || any_flat es r h.1 i)
+    ∙ (λ i. any-at_place r e.0 e.1 i || any-entries es r h.1 i)
     ∙ elim (eq_by_cmp place_cmp (place_of r) e.0) as (λ b. eq_by_cmp place_cmp (place_of r) e.0 ≡ b →
     ((b && list_any (eq_by_cmp S r.samples) e.1) || list_any (eq_by_cmp S r.samples) (samples_at es (place_of r)))
     ≡ list_any (eq_by_cmp S r.samples) (unwrap_or (cond b (Some e.1) (lookup (is_at (place_cmp (place_of r))) es)) [])) [
@@ -94,10 +94,10 @@ pub set_put : (old new : List Entry) (place : Place) (x : List ℕ) → IsStrict
     → from_list {R = reading_cmp} (readings_of_entries new) ≡ insert (from_list {R = reading_cmp} (readings_of_entries old)) (at_place place x)
 set_put old new place x h k puts =
     same_set reading_total reading_exact _ _ (λ r.
-    contains-from_list reading_total (readings_of_entries new) r ∙ any_flat new r k
+    contains-from_list reading_total (readings_of_entries new) r ∙ any-entries new r k
     ∙ ap (λ (o : Option (List (List ℕ))). list_any (eq_by_cmp S r.samples) (unwrap_or o [])) (puts (place_of r))
     ∙ step r
-    ∙ ap (λ b. eq_by_cmp reading_cmp r (at_place place x) || b) (sym (any_flat old r h) ∙ sym (contains-from_list reading_total (readings_of_entries old) r))
+    ∙ ap (λ b. eq_by_cmp reading_cmp r (at_place place x) || b) (sym (any-entries old r h) ∙ sym (contains-from_list reading_total (readings_of_entries old) r))
     ∙ sym (contains-insert reading_total (from_list (readings_of_entries old)) (at_place place x) r))
   where
     turned : (p q : Place) → eq_by_cmp place_cmp p q ≡ eq_by_cmp place_cmp q p
@@ -154,7 +154,7 @@ seen shape es = record { shape = shape; readings = from_list (readings_of_entrie
 
 pub holds_kept : (shape : PictureShape) (es : List Entry) (p : PartialPicture) (c l : ℕ) (x : List ℕ) → IsStore shape es → seen shape es ≡ p → holds p c l x ≡ list_any (eq_by_cmp S x) (samples_at es (place c l))
 holds_kept shape es p c l x kept is =
-    ap (λ (q : PartialPicture). holds q c l x) (sym is) ∙ contains-from_list reading_total (readings_of_entries es) (at_place (place c l) x) ∙ any_flat es (at_place (place c l) x) kept.sorted
+    ap (λ (q : PartialPicture). holds q c l x) (sym is) ∙ contains-from_list reading_total (readings_of_entries es) (at_place (place c l) x) ∙ any-entries es (at_place (place c l) x) kept.sorted
 
 pub fits_kept : (shape : PictureShape) (es : List Entry) (c l : ℕ) (x : List ℕ) → IsStore shape es → list_any (eq_by_cmp S x) (samples_at es (place c l)) ≡ true → reading_fault shape c l x ≡ None
 fits_kept shape es c l x kept e =
@@ -207,7 +207,7 @@ countable_at shape es q kept =
       | Some xs ↦ λ k. k.countable
     ] (lookup_from_each (IsEntry shape) es q kept.each)
 
--- what is kept stays in order, and has_same_shape the shape
+-- with one sample list more, what is kept stays in order and fits the shape
 pub kept_put : (shape : PictureShape) (old new : List Entry) (place : Place) (x : List ℕ) → IsStore shape old → IsStrictlySortedBy place_cmp (map (λ e. e.0) new) → PutsAt old place x new
     → IsStrictlySortedBy S (samples_at new place) → length (samples_at new place) < 2 ^ 64 → reading_fault shape place.component place.line x ≡ None → IsStore shape new
 kept_put shape old new place x kept order puts sorted countable fitting = record {

@@ -1,10 +1,9 @@
 -- Readings taken one after the other.
 use Rattle.std.proofs.Common.{◌≡◌, ℕ, zero, suc, ◌+◌, ◌-◌, ◌<◌, Bool, true, false, ◌||◌, List, [], ◌∷◌, ◌++◌, map, refl, ap, sym, subst, ◌∙◌, append_assoc, add-zero, arith}
-use Rattle.std.specs.List.{list_any, flat_map}
+use Rattle.std.specs.List.{list_any}
 use Rattle.std.specs.Ordering.{eq_by_cmp}
+use Rattle.std.proofs.lemmas.Bool.{or_left}
 use Rattle.std.proofs.lemmas.List.{append-nil, map-append}
-use Rattle.std.proofs.lemmas.List.Concat.{flat_map-cons}
-use Rattle.std.proofs.lemmas.Grind.{flat_map-append}
 use Rattle.std.proofs.lemmas.List.Folds.{list_any-append}
 use Rattle.jls_partial.specs.Merging.{with_all, line_readings, readings_of_lines, readings_of_components, Grows}
 use Rattle.jls_partial.specs.Partial.{PartialPicture, with_reading}
@@ -13,13 +12,7 @@ use Rattle.jls_partial.specs.ReadingOrder.{reading_total}
 use Rattle.jls_values.specs.OrderedSet.{contains}
 use Rattle.jls_values.specs.OrderedSetLaws.{contains-insert_all, insert_all-append, or_assoc}
 
--- what was written, after what was written before it
-pub follow : (a b c x y : List ℕ) → a ≡ b ++ x → b ≡ c ++ y → a ≡ c ++ (y ++ x)
-follow a b c x y p q = p ∙ ap (λ (t : List ℕ). t ++ x) q ∙ append_assoc c y x
-
-pub flat_map-push : {X A : Type 0} (f : X → List A) (xs : List X) (x : X) → flat_map f (xs ++ x ∷ []) ≡ flat_map f xs ++ f x
-flat_map-push f xs x = flat_map-append f xs (x ∷ []) ∙ ap (λ t. flat_map f xs ++ t) (flat_map-cons f x [] ∙ append-nil (f x))
-
+-- two lists of readings, one after the other
 pub with_all-append : (p : PartialPicture) (xs ys : List Reading) → with_all p (xs ++ ys) ≡ with_all (with_all p xs) ys
 with_all-append p xs ys = ap (λ s. record { shape = p.shape; readings = s }) (insert_all-append p.readings xs ys)
 
@@ -30,9 +23,7 @@ with_all-push p q c l xs x is =
     ∙ sym (with_all-append p (map (reading_of c l) xs) (reading_of c l x ∷ []))
     ∙ ap (with_all p) (sym (map-append (reading_of c l) xs (x ∷ [])))
 
-or_left : (a b : Bool) → a ≡ true → (a || b) ≡ true
-or_left a b e = rw e refl
-
+-- some of the readings are taken
 pub grows_front : (p : PartialPicture) (xs ys : List Reading) → Grows p (with_all p xs) (xs ++ ys)
 grows_front p xs ys = record {
   shape = refl;
@@ -60,30 +51,32 @@ grows_then p q xs ys zs g = record {
     regroup false false c d = refl
 
 -- the first lines are a front of all lines
-pub below_front : (p : PartialPicture) (c n k : ℕ) → (zs : List Reading) × (readings_of_lines p c (n + k) ≡ readings_of_lines p c n ++ zs)
-below_front p c n zero = ([], ap (readings_of_lines p c) (add-zero n) ∙ sym (append-nil (readings_of_lines p c n)))
-below_front p c n (suc k) =
-    let rest = below_front p c n k in
+pub lines_front : (p : PartialPicture) (c n k : ℕ) → (zs : List Reading) × (readings_of_lines p c (n + k) ≡ readings_of_lines p c n ++ zs)
+lines_front p c n zero = ([], ap (readings_of_lines p c) (add-zero n) ∙ sym (append-nil (readings_of_lines p c n)))
+lines_front p c n (suc k) =
+    let rest = lines_front p c n k in
     let e : n + suc k ≡ suc (n + k) = omega arith in
     (rest.0 ++ line_readings p c (n + k), ap (readings_of_lines p c) e ∙ ap (λ t. t ++ line_readings p c (n + k)) rest.1 ∙ append_assoc (readings_of_lines p c n) rest.0 (line_readings p c (n + k)))
 
-pub upto_front : (p : PartialPicture) (n k : ℕ) → (zs : List Reading) × (readings_of_components p (n + k) ≡ readings_of_components p n ++ zs)
-upto_front p n zero = ([], ap (readings_of_components p) (add-zero n) ∙ sym (append-nil (readings_of_components p n)))
-upto_front p n (suc k) =
-    let rest = upto_front p n k in
+pub components_front : (p : PartialPicture) (n k : ℕ) → (zs : List Reading) × (readings_of_components p (n + k) ≡ readings_of_components p n ++ zs)
+components_front p n zero = ([], ap (readings_of_components p) (add-zero n) ∙ sym (append-nil (readings_of_components p n)))
+components_front p n (suc k) =
+    let rest = components_front p n k in
     let e : n + suc k ≡ suc (n + k) = omega arith in
     (rest.0 ++ readings_of_lines p (n + k) p.shape.height, ap (readings_of_components p) e ∙ ap (λ t. t ++ readings_of_lines p (n + k) p.shape.height) rest.1 ∙ append_assoc (readings_of_components p n) rest.0 (readings_of_lines p (n + k) p.shape.height))
 
-pub grows_line : (p q r : PartialPicture) (c l n : ℕ) → l < n → q ≡ with_all p (readings_of_lines r c l) → (s : PartialPicture) → Grows q s (line_readings r c l) → Grows p s (readings_of_lines r c n)
-grows_line p q r c l n lt is s g =
-    let front = below_front r c (suc l) (n - suc l) in
+-- the lines before are taken whole, and of the next some readings
+pub grows_by_line : (p q r : PartialPicture) (c l n : ℕ) → l < n → q ≡ with_all p (readings_of_lines r c l) → (s : PartialPicture) → Grows q s (line_readings r c l) → Grows p s (readings_of_lines r c n)
+grows_by_line p q r c l n lt is s g =
+    let front = lines_front r c (suc l) (n - suc l) in
     let e : suc l + (n - suc l) ≡ n = omega arith in
     subst (Grows p s) (sym front.1 ∙ ap (readings_of_lines r c) e)
     (grows_then p s (readings_of_lines r c l) (line_readings r c l) front.0 (subst (λ (z : PartialPicture). Grows z s (line_readings r c l)) is g))
 
-pub grows_component : (p q r : PartialPicture) (c n : ℕ) → c < n → q ≡ with_all p (readings_of_components r c) → (s : PartialPicture) → Grows q s (readings_of_lines r c r.shape.height) → Grows p s (readings_of_components r n)
-grows_component p q r c n lt is s g =
-    let front = upto_front r (suc c) (n - suc c) in
+-- the components before are taken whole, and of the next some readings
+pub grows_by_component : (p q r : PartialPicture) (c n : ℕ) → c < n → q ≡ with_all p (readings_of_components r c) → (s : PartialPicture) → Grows q s (readings_of_lines r c r.shape.height) → Grows p s (readings_of_components r n)
+grows_by_component p q r c n lt is s g =
+    let front = components_front r (suc c) (n - suc c) in
     let e : suc c + (n - suc c) ≡ n = omega arith in
     subst (Grows p s) (sym front.1 ∙ ap (readings_of_components r) e)
     (grows_then p s (readings_of_components r c) (readings_of_lines r c r.shape.height) front.0 (subst (λ (z : PartialPicture). Grows z s (readings_of_lines r c r.shape.height)) is g))

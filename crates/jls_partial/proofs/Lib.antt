@@ -1,6 +1,7 @@
 pub mod Entries
 pub mod Growth
 pub mod LineSets
+pub mod PartialRows
 pub mod ReadBack
 pub mod SameReadings
 pub mod TextEntries

@@ -1,6 +1,6 @@
 -- The readings of a line are what is kept at its place, in order.
-use Rattle.std.proofs.Common.{◌≡◌, ◌<◌, length, arith, ℕ, Bool, true, false, cond, ◌&&◌, List, [], ◌∷◌, ◌++◌, map, Option, Some, None, refl, ap, sym, subst, ◌∙◌}
-use Rattle.std.specs.Prelude.{filter, unwrap_or, is_some, ◌==◌}
+use Rattle.std.proofs.Common.{◌≡◌, ℕ, Bool, true, false, cond, ◌&&◌, List, [], ◌∷◌, ◌++◌, map, Some, refl, ap, sym, subst, ◌∙◌}
+use Rattle.std.specs.Prelude.{filter, unwrap_or, ◌==◌}
 use Rattle.std.specs.declared.cmp.Ordering.{Ordering}
 use Rattle.std.specs.declared.cmp.Ordering.TheVariants.{Less, Equal, Greater}
 use Rattle.std.specs.Ordering.{nat_cmp, is_eq, ordering_then}
@@ -26,14 +26,14 @@ use Rattle.jls_partial.proofs.Entries.{S, seen}
 use Rattle.jls_values.specs.OrderedSetLaws.{items-from_list, sorted-append}
 
 -- the readings at one place rise as their samples do
-all_block : (p : Place) (x : List ℕ) (xs : List (List ℕ)) → AllByRecursion (λ y. S x y ≡ Less) xs → AllByRecursion (λ r. reading_cmp (at_place p x) r ≡ Less) (map (at_place p) xs)
-all_block p x [] h = tt
-all_block p x (y ∷ xs) h = (rw (tied_itself nat_cmp_total p.component, tied_itself nat_cmp_total p.line) h.0, all_block p x xs h.1)
+reading_below_block : (p : Place) (x : List ℕ) (xs : List (List ℕ)) → AllByRecursion (λ y. S x y ≡ Less) xs → AllByRecursion (λ r. reading_cmp (at_place p x) r ≡ Less) (map (at_place p) xs)
+reading_below_block p x [] h = tt
+reading_below_block p x (y ∷ xs) h = (rw (tied_itself nat_cmp_total p.component, tied_itself nat_cmp_total p.line) h.0, reading_below_block p x xs h.1)
 
-sorted_block : (p : Place) (xs : List (List ℕ)) → IsStrictlySortedBy S xs → IsStrictlySortedBy reading_cmp (map (at_place p) xs)
+sorted-at_place : (p : Place) (xs : List (List ℕ)) → IsStrictlySortedBy S xs → IsStrictlySortedBy reading_cmp (map (at_place p) xs)
 unfolding IsStrictlySortedBy
-sorted_block p [] h = tt
-sorted_block p (x ∷ xs) h = (all_block p x xs h.0, sorted_block p xs h.1)
+sorted-at_place p [] h = tt
+sorted-at_place p (x ∷ xs) h = (reading_below_block p x xs h.0, sorted-at_place p xs h.1)
 
 first_less : (r s t : Ordering) → ordering_then r s ≡ Less → ordering_then r (ordering_then s t) ≡ Less
 first_less Less s t h = refl
@@ -42,30 +42,30 @@ first_less Equal Equal t h = absurd cc
 first_less Equal Greater t h = absurd cc
 first_less Greater s t h = absurd cc
 
-below_block : (r : Reading) (p : Place) (xs : List (List ℕ)) → place_cmp (place_of r) p ≡ Less → AllByRecursion (λ s. reading_cmp r s ≡ Less) (map (at_place p) xs)
-below_block r p [] h = tt
-below_block r p (x ∷ xs) h = (first_less (nat_cmp r.component p.component) (nat_cmp r.line p.line) (S r.samples x) h, below_block r p xs h)
+below-at_place : (r : Reading) (p : Place) (xs : List (List ℕ)) → place_cmp (place_of r) p ≡ Less → AllByRecursion (λ s. reading_cmp r s ≡ Less) (map (at_place p) xs)
+below-at_place r p [] h = tt
+below-at_place r p (x ∷ xs) h = (first_less (nat_cmp r.component p.component) (nat_cmp r.line p.line) (S r.samples x) h, below-at_place r p xs h)
 
 all-append : (P : Reading → Type 0) (xs ys : List Reading) → AllByRecursion P xs → AllByRecursion P ys → AllByRecursion P (xs ++ ys)
 all-append P [] ys p q = q
 all-append P (x ∷ xs) ys p q = (p.0, all-append P xs ys p.1 q)
 
-below_flat : (r : Reading) (es : List Entry) → AllByRecursion (λ q. place_cmp (place_of r) q ≡ Less) (map (λ e. e.0) es) → AllByRecursion (λ s. reading_cmp r s ≡ Less) (readings_of_entries es)
-below_flat r [] h = tt
-below_flat r (e ∷ es) h =
+below-entries : (r : Reading) (es : List Entry) → AllByRecursion (λ q. place_cmp (place_of r) q ≡ Less) (map (λ e. e.0) es) → AllByRecursion (λ s. reading_cmp r s ≡ Less) (readings_of_entries es)
+below-entries r [] h = tt
+below-entries r (e ∷ es) h =
     subst (AllByRecursion (λ s. reading_cmp r s ≡ Less)) (sym (flat_map-cons (λ (e : Entry). map (at_place e.0) e.1) e es))
-    (all-append (λ s. reading_cmp r s ≡ Less) (map (at_place e.0) e.1) (readings_of_entries es) (below_block r e.0 e.1 h.0) (below_flat r es h.1))
+    (all-append (λ s. reading_cmp r s ≡ Less) (map (at_place e.0) e.1) (readings_of_entries es) (below-at_place r e.0 e.1 h.0) (below-entries r es h.1))
 
-block_below_flat : (p : Place) (xs : List (List ℕ)) (es : List Entry) → AllByRecursion (λ q. place_cmp p q ≡ Less) (map (λ e. e.0) es) → AllByRecursion (λ r. AllByRecursion (λ s. reading_cmp r s ≡ Less) (readings_of_entries es)) (map (at_place p) xs)
-block_below_flat p [] es h = tt
-block_below_flat p (x ∷ xs) es h = (below_flat (at_place p x) es h, block_below_flat p xs es h)
+at_place_below_entries : (p : Place) (xs : List (List ℕ)) (es : List Entry) → AllByRecursion (λ q. place_cmp p q ≡ Less) (map (λ e. e.0) es) → AllByRecursion (λ r. AllByRecursion (λ s. reading_cmp r s ≡ Less) (readings_of_entries es)) (map (at_place p) xs)
+at_place_below_entries p [] es h = tt
+at_place_below_entries p (x ∷ xs) es h = (below-entries (at_place p x) es h, at_place_below_entries p xs es h)
 
-pub sorted_flat : (shape : PictureShape) (es : List Entry) → IsStrictlySortedBy place_cmp (map (λ e. e.0) es) → AllByRecursion (IsEntry shape) es → IsStrictlySortedBy reading_cmp (readings_of_entries es)
+pub sorted-entries : (shape : PictureShape) (es : List Entry) → IsStrictlySortedBy place_cmp (map (λ e. e.0) es) → AllByRecursion (IsEntry shape) es → IsStrictlySortedBy reading_cmp (readings_of_entries es)
 unfolding IsStrictlySortedBy
-sorted_flat shape [] h k = tt
-sorted_flat shape (e ∷ es) h k =
+sorted-entries shape [] h k = tt
+sorted-entries shape (e ∷ es) h k =
     subst (IsStrictlySortedBy reading_cmp) (sym (flat_map-cons (λ (e : Entry). map (at_place e.0) e.1) e es))
-    (sorted-append reading_total (map (at_place e.0) e.1) (readings_of_entries es) (sorted_block e.0 e.1 k.0.sorted) (sorted_flat shape es h.1 k.1) (block_below_flat e.0 e.1 es h.0))
+    (sorted-append reading_total (map (at_place e.0) e.1) (readings_of_entries es) (sorted-at_place e.0 e.1 k.0.sorted) (sorted-entries shape es h.1 k.1) (at_place_below_entries e.0 e.1 es h.0))
 
 -- ---- the readings of one line
 
@@ -116,13 +116,5 @@ kept_there c l (e ∷ es) h =
 pub readings_kept : (shape : PictureShape) (es : List Entry) (p : PartialPicture) (c l : ℕ) → IsStore shape es → seen shape es ≡ p → readings_at p c l ≡ samples_at es (place c l)
 readings_kept shape es p c l kept is =
     ap (λ (q : PartialPicture). readings_at q c l) (sym is)
-    ∙ ap (λ (rs : List Reading). map (λ r. r.samples) (filter (is_there c l) rs)) (items-from_list reading_total (readings_of_entries es) (sorted_flat shape es kept.sorted kept.each))
+    ∙ ap (λ (rs : List Reading). map (λ r. r.samples) (filter (is_there c l) rs)) (items-from_list reading_total (readings_of_entries es) (sorted-entries shape es kept.sorted kept.each))
     ∙ kept_there c l es kept.sorted
-
--- where a reading is kept, its place is found
-pub found_some : (es : List Entry) (q : Place) (i : ℕ) → i < length (samples_at es q) → is_some (lookup (is_at (place_cmp q)) es) ≡ true
-found_some es q i lt =
-    elim (lookup (is_at (place_cmp q)) es) as (λ (o : Option (List (List ℕ))). i < length (unwrap_or o []) → is_some o ≡ true) [
-      | None ↦ λ h. absurd (omega arith)
-      | Some xs ↦ λ h. refl
-    ] lt

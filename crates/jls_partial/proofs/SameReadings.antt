@@ -1,6 +1,7 @@
 -- Two partial pictures with the same readings of each line.
 use Rattle.std.proofs.Common.{◌≡◌, ℕ, ◌<◌, Bool, true, false, not, List, [], ◌∷◌, ◌++◌, map, length, Option, Some, None, refl, ap, sym, subst, ◌∙◌}
 use Rattle.std.specs.Prelude.{nat_eq, is_some, MatchOption, ◌&&◌, ◌==◌, ◌↔◌}
+use Rattle.std.specs.Cmp.{both_ways}
 use Rattle.std.specs.Cmp.Lexicographic.{pointwise}
 use Rattle.std.specs.List.{list_any}
 use Rattle.std.specs.Ordering.{eq_by_cmp}
@@ -13,10 +14,11 @@ use Rattle.jls_partial.specs.Partial.{PartialPicture, readings_at, IsFitting}
 use Rattle.jls_partial.specs.PartialLaws.{itself_list, one_shape}
 use Rattle.jls_partial.specs.Reading.{Reading, reading_of, reading_cmp}
 use Rattle.jls_partial.specs.ReadingOrder.{reading_total, reading_exact}
-use Rattle.jls_partial.proofs.Unions.{both_ways, here, in_line, second, places_in}
+use Rattle.jls_partial.proofs.Unions.{in_its_line, held_in_line, place_exists}
 
 -- ---- two lists, item by item
 
+-- the first item
 abbrev first_of_all : List (List ℕ) → List ℕ
 first_of_all [] = []
 first_of_all (x ∷ xs) = x
@@ -59,13 +61,15 @@ shapes_from_test s t differ is same =
     four true false c d e = absurd cc
     four false b c d e = absurd cc
 
+-- what one holds the other holds
 same_contains : (p q : PartialPicture) → IsFitting p → (n : ℕ) → n ≡ length p.shape.ids → ((component : ℕ) → component < n → (line : ℕ) → line < p.shape.height → readings_at p component line ≡ readings_at q component line)
     → (r : Reading) → contains p.readings r ≡ true → contains q.readings r ≡ true
 same_contains p q fitting n is same r h =
-    let inside = places_in p.shape r.component r.line r.samples (fitting r.component r.line r.samples h) in
+    let inside = place_exists p.shape r.component r.line r.samples (fitting r.component r.line r.samples h) in
     let equal = same r.component (subst (λ (m : ℕ). r.component < m) (sym is) inside.0) r.line inside.1 in
-    second _ _ (sym (in_line q r r.component r.line) ∙ ap (λ (xs : List (List ℕ)). list_any (eq_by_cmp reading_cmp r) (map (reading_of r.component r.line) xs)) (sym equal) ∙ here p r h)
+    held_in_line q r r.component r.line (ap (λ (xs : List (List ℕ)). list_any (eq_by_cmp reading_cmp r) (map (reading_of r.component r.line) xs)) (sym equal) ∙ in_its_line p r h)
 
+-- and so their readings are one
 pub same_readings : (p q : PartialPicture) → IsFitting p → IsFitting q → p.shape ≡ q.shape → SameComponents p q (length p.shape.ids) → p.readings ≡ q.readings
 same_readings p q fitting others shape same =
     same_set reading_total reading_exact p.readings q.readings (λ r. both_ways _ _

@@ -1,37 +1,36 @@
 -- Entries and partial pictures: entries in order are the entries of their partial, and the entries of a partial hold its readings.
-use Rattle.std.proofs.Common.{◌≡◌, ℕ, suc, ◌+◌, ◌*◌, ◌<◌, ◌≤◌, ◌^◌, Bool, true, false, cond, ◌&&◌, ◌||◌, T, List, [], ◌∷◌, ◌++◌, length, map, Option, Some, None, refl, ap, sym, subst, ◌∙◌, arith, inl, inr}
+use Rattle.std.proofs.Common.{◌≡◌, ℕ, ◌+◌, ◌*◌, ◌<◌, ◌≤◌, ◌^◌, Bool, true, false, cond, ◌&&◌, ◌||◌, T, List, [], ◌∷◌, length, map, Option, Some, None, refl, ap, sym, subst, ◌∙◌, arith}
 use Rattle.std.specs.Prelude.{IfSome, unwrap_or, filter, nat_le, ◌==◌}
 use Rattle.std.specs.declared.cmp.Ordering.{Ordering}
 use Rattle.std.specs.declared.cmp.Ordering.TheVariants.{Less, Equal, Greater}
 use Rattle.std.specs.Ordering.{nat_cmp, is_eq, is_lt, eq_by_cmp, ordering_then, ordering_reverse}
 use Rattle.std.specs.Cmp.{IsTotalOrder}
-use Rattle.std.specs.Cmp.Lexicographic.{slice_cmp}
 use Rattle.std.specs.BTreeMap.{is_at}
 use Rattle.std.specs.FinMap as fin
 use Rattle.std.specs.FinMap.Entries as sorted
-use Rattle.std.specs.List.{list_any, flat_map, AllByRecursion}
+use Rattle.std.specs.List.{list_any, AllByRecursion}
 use Rattle.std.specs.List.Sorted.{IsStrictlySortedBy}
 use Rattle.std.specs.Map.{lookup}
-use Rattle.std.proofs.lemmas.Bool.{eqb-true, and_parts, or_parts, or_right, or_left, cases_Bool, ltb-true, leb-false, true≢false}
-use Rattle.std.proofs.lemmas.Cmp.{tied_itself, nat_cmp_total, eq_by_cmp_equiv, ranked}
+use Rattle.std.proofs.lemmas.Bool.{eqb-true, and_parts, or_parts, or_right, or_left, leb-false}
+use Rattle.std.proofs.lemmas.Cmp.{tied_itself, nat_cmp_total, ranked}
 use Rattle.std.proofs.lemmas.List.Concat.{flat_map-cons}
 use Rattle.std.proofs.lemmas.List.{map-append, length-map}
 use Rattle.std.proofs.lemmas.List.Folds.{list_any-append}
-use Rattle.jls_values.specs.OrderedSet.{OrderedSet, contains, items, from_list}
+use Rattle.jls_values.specs.OrderedSet.{OrderedSet, items, from_list}
 use Rattle.jls_values.specs.OrderedSetLaws.{or_false, or_itself, contains-items, contains-from_list, same_set, items-from_list}
 use Rattle.jls_values.specs.Shape.{PictureShape, IsShape}
 use Rattle.jls_partial.specs.declared.place.Place.{Place}
 use Rattle.jls_partial.specs.Entries.{Entry, at_place, readings_of_entries}
 use Rattle.jls_partial.specs.Held.{samples_at, IsEntry, IsStore}
 use Rattle.jls_partial.specs.InsertFaults.{reading_fault}
-use Rattle.jls_partial.specs.Partial.{PartialPicture, readings_at, holds}
+use Rattle.jls_partial.specs.Partial.{PartialPicture, readings_at}
 use Rattle.jls_partial.specs.Place.{place, place_cmp, place_of}
-use Rattle.jls_partial.specs.Reading.{Reading, reading_cmp, reading_of}
+use Rattle.jls_partial.specs.Reading.{Reading, reading_cmp}
 use Rattle.jls_partial.specs.ReadingOrder.{place_total, place_exact, reading_total, reading_exact, eq_reading, same_place}
 use Rattle.jls_partial.specs.Text.{places_held, entries, IsPartial}
 use Rattle.jls_partial.specs.TextReading.{partial_of}
-use Rattle.jls_partial.proofs.Entries.{S, any_flat, lookup_from_each, holds_kept, fits_kept}
-use Rattle.jls_partial.proofs.ReadBack.{sorted_flat, eq_there, readings_kept, is_there}
+use Rattle.jls_partial.proofs.Entries.{S, any-entries, lookup_from_each, holds_kept, fits_kept}
+use Rattle.jls_partial.proofs.ReadBack.{sorted-entries, eq_there, readings_kept, is_there}
 
 -- ---- sets
 
@@ -83,7 +82,7 @@ same_places shape t (e ∷ es) h =
 
 pub places_again : (shape : PictureShape) (es : List Entry) → IsStore shape es → places_held (partial_of shape es) ≡ map (λ e. e.0) es
 places_again shape es kept =
-    ap (λ (rs : List Reading). items (from_list {R = place_cmp} (map place_of rs))) (items-from_list reading_total (readings_of_entries es) (sorted_flat shape es kept.sorted kept.each))
+    ap (λ (rs : List Reading). items (from_list {R = place_cmp} (map place_of rs))) (items-from_list reading_total (readings_of_entries es) (sorted-entries shape es kept.sorted kept.each))
     ∙ ap items (same_set place_total place_exact (from_list (map place_of (readings_of_entries es))) (from_list (map (λ e. e.0) es))
     (λ q. contains-from_list place_total (map place_of (readings_of_entries es)) q ∙ same_places shape (eq_by_cmp place_cmp q) es kept.each ∙ sym (contains-from_list place_total (map (λ e. e.0) es) q)))
     ∙ items-from_list place_total (map (λ e. e.0) es) kept.sorted
@@ -164,7 +163,7 @@ none_there r (x ∷ rs) e =
 
 pub set_again : (p : PartialPicture) → from_list {R = reading_cmp} (readings_of_entries (entries p)) ≡ p.readings
 set_again p = same_set reading_total reading_exact (from_list (readings_of_entries (entries p))) p.readings (λ r.
-    contains-from_list reading_total (readings_of_entries (entries p)) r ∙ any_flat (entries p) r (entries_rise p)
+    contains-from_list reading_total (readings_of_entries (entries p)) r ∙ any-entries (entries p) r (entries_rise p)
     ∙ ap (λ (o : Option (List (List ℕ))). list_any (eq_by_cmp S r.samples) (unwrap_or o [])) (lookup_made (λ at. readings_at p at.component at.line) (place_of r) (places_held p))
     ∙ ap (λ b. list_any (eq_by_cmp S r.samples) (unwrap_or (cond b (Some (readings_at p r.component r.line)) None) [])) (held_place r)
     ∙ step r

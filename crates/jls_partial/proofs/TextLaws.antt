@@ -1,5 +1,5 @@
 -- The two laws of texts: what is read has these bytes as its text, and each text is read.
-use Rattle.std.proofs.Common.{◌≡◌, ℕ, zero, suc, ◌+◌, ◌^◌, ◌<◌, ◌≤◌, Bool, true, false, cond, ltb, leb, eqb, ◌&&◌, List, [], ◌∷◌, ◌++◌, length, map, Option, Some, None, Result, Ok, Err, refl, sym, ap, subst, ◌∙◌, append_assoc, arith}
+use Rattle.std.proofs.Common.{◌≡◌, ℕ, zero, suc, ◌^◌, ◌<◌, ◌≤◌, true, false, cond, eqb, ◌&&◌, List, [], ◌∷◌, ◌++◌, length, map, Option, Some, None, Result, Ok, Err, refl, sym, ap, subst, ◌∙◌, append_assoc, arith}
 use Rattle.std.specs.Prelude.{nat_lt, nat_le, IfOk}
 use Rattle.std.specs.Int.{w16, w32, w64, to_be_bytes}
 use Rattle.std.specs.Ordering.{is_lt}
@@ -7,14 +7,13 @@ use Rattle.std.specs.declared.cmp.Ordering.TheVariants.{Less}
 use Rattle.std.specs.List.{flat_map, AllByRecursion}
 use Rattle.std.specs.List.Sorted.{IsStrictlySortedBy}
 use Rattle.std.proofs.Math.Nat.{pow-le-pow_right}
-use Rattle.std.proofs.lemmas.Bool.{ltb-true, lt-ltb, leb-false, lt-leb, eqb-true, eqb-false, eq-eqb, ne_eqb, and_parts, and_from}
+use Rattle.std.proofs.lemmas.Bool.{ltb-true, lt-ltb, lt-leb, eqb-true, ne_eqb, and_parts, and_from}
 use Rattle.std.proofs.lemmas.List.{append-nil, nil_from_length}
 use Rattle.std.proofs.lemmas.List.Concat.{flat_map-cons}
 use Rattle.jls_values.specs.Shape.{PictureShape, IsShape}
 use Rattle.jls_partial.specs.declared.place.Place.{Place}
 use Rattle.jls_partial.specs.declared.text_fault.TextFault.{TextFault}
 use Rattle.jls_partial.specs.declared.text_fault.TextFault.TheVariants as fault
-use Rattle.jls_partial.specs.declared.insert_fault.InsertFault.{InsertFault}
 use Rattle.jls_partial.specs.InsertFaults.{reading_fault, samples_fault}
 use Rattle.jls_partial.specs.Entries.{Entry}
 use Rattle.jls_partial.specs.Held.{IsEntry, IsStore}
@@ -25,7 +24,7 @@ use Rattle.jls_partial.specs.Text.{magic, shape_text, samples_text, entry_text, 
 use Rattle.jls_partial.specs.TextReading.{◌>>=◌, Gives, offset, byte_field, number_field, magic_field, shape_fields, readings_fields, may_follow, place_fields, count_field, entry_fields, entries_fields, partial_of, text_fields, read_text}
 use Rattle.jls_partial.proofs.TextEntries.{first_none, line_of_entry, entries_again, entries_are, partial_again, partial_is, few_entries}
 use Rattle.jls_partial.proofs.TextFields.{IsBytes, bind_ok, guard_ok, passed_ok, ok_is, Takes, Takes-then, wide16, wide32, wide64, number_takes, number_again, byte_takes, byte_again, magic_takes, magic_again, shape_takes, shape_again}
-use Rattle.jls_partial.proofs.TextReadings.{less_from_lt, Rise, sorted_from_rise, rise_from_sorted, readings_take, readings_again}
+use Rattle.jls_partial.proofs.TextReadings.{less_from_lt, sorted_from_rise, rise_from_sorted, readings_take, readings_again}
 
 -- ---- the place of an entry
 

@@ -1,10 +1,10 @@
 -- Reading one thing after the other, as a loop does.
-use Rattle.std.proofs.Common.{◌≡◌, ℕ, zero, suc, ◌-◌, ◌+◌, ◌≤◌, ◌<◌, ◌^◌, Bool, true, false, cond, eqb, List, [], ◌∷◌, ◌++◌, map, length, Option, Some, None, Result, Ok, Err, refl, sym, ap, subst, ◌∙◌, append_assoc, arith}
+use Rattle.std.proofs.Common.{◌≡◌, ℕ, suc, ◌-◌, ◌+◌, ◌≤◌, ◌<◌, List, [], ◌∷◌, ◌++◌, map, length, Option, Some, None, Result, Ok, Err, refl, sym, ap, subst, ◌∙◌, append_assoc, arith}
 use Rattle.std.proofs.lemmas.Bool.{eq-eqb, ne_eqb}
 use Rattle.std.proofs.lemmas.List.{append-nil}
 use Rattle.std.specs.Int.{w32}
 use Rattle.std.proofs.lemmas.List.Concat.{flat_map-cons}
-use Rattle.jls_values.specs.OrderedSet.{from_list, insert_all, contains, empty}
+use Rattle.jls_values.specs.OrderedSet.{from_list, insert_all, empty}
 use Rattle.jls_values.specs.OrderedSetLaws.{same_set, contains-insert_all, contains-from_list, contains-empty, insert_all-append}
 use Rattle.jls_values.specs.Shape.{PictureShape}
 use Rattle.std.specs.List.{list_any}
@@ -20,11 +20,8 @@ use Rattle.jls_partial.specs.Reading.{Reading, reading_cmp}
 use Rattle.jls_partial.specs.ReadingOrder.{reading_total, reading_exact}
 use Rattle.jls_partial.specs.TextInto.{with_readings, with_entry, with_entries}
 use Rattle.jls_partial.specs.Text.{magic}
-use Rattle.jls_partial.specs.TextReading.{◌>>=◌, Fails, offset, byte_field, number_field, magic_field, shape_fields, sample_field, samples_fields, reading_fields, readings_fields, place_fields, entry_fields, entries_fields, partial_of, text_fields, read_text}
-use Rattle.jls_partial.specs.InsertFaults.{reading_fault}
+use Rattle.jls_partial.specs.TextReading.{◌>>=◌, Fails, offset, byte_field, number_field, magic_field, shape_fields, sample_field, samples_fields, reading_fields, readings_fields, entry_fields, entries_fields, partial_of, text_fields, read_text}
 use Rattle.jls_partial.proofs.TextFields.{magic_then}
-use Rattle.jls_partial.proofs.TextReadings.{reading_fits}
-use Rattle.jls_partial.proofs.TextLaws.{fits_there, place_inside}
 
 -- no fault, or one that reading gives: a fault of a later step is that of the whole
 pub fails_then : {A B : Type 0} (e : TextFault) (read : Result A TextFault) (f : A → Result B TextFault) → Fails e read → Fails e (read >>= f)

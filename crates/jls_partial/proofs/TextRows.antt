@@ -1,11 +1,13 @@
 -- Texts that were written out by hand, and what is read of them.
-use Rattle.std.proofs.Common.{◌≡◌, ℕ, List, [], ◌∷◌, ◌++◌, take, drop, refl}
-use Rattle.std.specs.Prelude.{Result, Ok, Err}
+use Rattle.std.proofs.Common.{◌≡◌, ℕ, List, [], ◌∷◌, ◌++◌, take, drop, refl, ap, arith}
+use Rattle.std.specs.Prelude.{Ok, Err}
 use Rattle.jls_values.specs.Shape.{PictureShape}
-use Rattle.jls_partial.specs.declared.text_fault.TextFault.{TextFault}
 use Rattle.jls_partial.specs.declared.text_fault.TextFault.TheVariants.{Magic, BadShape, Truncated, Place, Count, Order, Sample, Trailing}
 use Rattle.jls_partial.specs.Entries.{Entry}
-use Rattle.jls_partial.specs.Text.{text_of}
+use Rattle.jls_partial.specs.Held.{IsStore}
+use Rattle.jls_partial.specs.Text.{text_of, text}
+use Rattle.jls_partial.proofs.TextEntries.{entries_again}
+use Rattle.std.specs.List.Sorted.{IsStrictlySortedBy}
 use Rattle.jls_partial.specs.TextReading.{partial_of, read_text, text_fields, magic_field, byte_field, bytes_field, shape_fields, sample_field, samples_fields, reading_fields, readings_fields, place_fields, count_field, entry_fields, entries_fields}
 
 -- one sample of 8 bits, component 1
@@ -25,6 +27,17 @@ its_text = start ++ 0 ∷ 3 ∷ 0 ∷ 5 ∷ []
 -- what is written of it
 written : text_of one_sample two_readings ≡ its_text
 written = refl
+
+-- the entries are in order and fit, so that they are those of their partial picture
+kept : IsStore one_sample two_readings
+unfolding IsStrictlySortedBy
+kept = record {
+  sorted = (tt, tt);
+  each = (record { read = omega arith; sorted = ((refl, tt), (tt, tt)); countable = omega arith; fitting = (refl, (refl, tt)) }, tt);
+}
+
+its_text_is : text (partial_of one_sample two_readings) ≡ its_text
+its_text_is = ap (text_of one_sample) (entries_again one_sample two_readings kept)
 
 -- the one reading 0
 abbrev settled : List Entry

@@ -6,10 +6,10 @@ use Rattle.std.specs.declared.cmp.Ordering.TheVariants.{Less, Equal}
 use Rattle.std.specs.BTreeMap.{is_at}
 use Rattle.std.specs.List.{list_any, AllByRecursion}
 use Rattle.std.specs.List.Sorted.{IsStrictlySortedBy}
-use Rattle.std.specs.Cmp.{nat_cmp_is}
+use Rattle.std.specs.Cmp.{nat_cmp_is, both_ways}
 use Rattle.std.specs.Ordering.{nat_cmp, eq_by_cmp, is_eq, ordering_then}
 use Rattle.std.proofs.Math.Dec.{eqb-suc-zero}
-use Rattle.std.proofs.lemmas.Bool.{cases_lt}
+use Rattle.std.proofs.lemmas.Bool.{cases_lt, and_parts, or_left, or_right}
 use Rattle.std.proofs.lemmas.Cmp.{tied_itself}
 use Rattle.std.proofs.lemmas.List.{map-append}
 use Rattle.std.proofs.lemmas.List.Folds.{list_any-append}
@@ -24,7 +24,7 @@ use Rattle.jls_partial.specs.ReadingOrder.{place_total, place_exact, reading_tot
 use Rattle.jls_partial.specs.Text.{places_held, entries}
 use Rattle.jls_partial.specs.Writing.{line_entries, entries_of_lines, entries_of_components, lines_held, components_held}
 use Rattle.jls_partial.proofs.ReadBack.{is_there, eq_there}
-use Rattle.jls_partial.proofs.Unions.{both_ways, either, or_left, or_right, places_in}
+use Rattle.jls_partial.proofs.Unions.{either, place_exists}
 
 -- whether a list has an item
 abbrev some_of : {X : Type 0} → List X → Bool
@@ -75,13 +75,9 @@ places-append q es fs = ap (list_any (eq_by_cmp place_cmp q)) (map-append (λ (e
 abbrev HasReading : PartialPicture → Place → Type 0
 HasReading p q = some_of (readings_at p q.component q.line) ≡ true
 
-parts : (b c : Bool) → (b && c) ≡ true → (b ≡ true) × (c ≡ true)
-parts true c e = (refl, e)
-parts false c e = absurd cc
-
 line_sound : (p : PartialPicture) (q : Place) (c l : ℕ) → list_any (eq_by_cmp place_cmp q) (places (line_entries p c l)) ≡ true → HasReading p q
 line_sound p q c l e =
-    let both = parts (eq_by_cmp place_cmp q (place c l)) (some_of (readings_at p c l)) (sym (place_of_line p q c l) ∙ e) in
+    let both = and_parts (eq_by_cmp place_cmp q (place c l)) (some_of (readings_at p c l)) (sym (place_of_line p q c l) ∙ e) in
     subst (λ (z : Place). HasReading p z) (sym (same_place q (place c l) both.0)) both.1
 
 lines_sound : (p : PartialPicture) (q : Place) (c n : ℕ) → list_any (eq_by_cmp place_cmp q) (places (entries_of_lines p c n)) ≡ true → HasReading p q
@@ -240,7 +236,7 @@ in_picture p fitting q e =
     let found = any_place q (items p.readings) e in
     let r = found.0 in
     subst (λ (z : Place). (z.component < length p.shape.ids) × (z.line < p.shape.height)) found.1
-    (places_in p.shape r.component r.line r.samples (fitting r.component r.line r.samples (contains-items p.readings r ∙ found.2)))
+    (place_exists p.shape r.component r.line r.samples (fitting r.component r.line r.samples (contains-items p.readings r ∙ found.2)))
 
 -- what is written line by line is the text's list of entries
 pub written_entries : (p : PartialPicture) → IsFitting p → entries_of_components p (length p.shape.ids) ≡ entries p

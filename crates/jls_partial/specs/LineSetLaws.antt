@@ -1,16 +1,16 @@
 -- The union of line sets is a join.
 use Rattle.std.specs.Prelude.{◌≡◌, true, ◌==◌}
 use Rattle.std.proofs.Common.{refl, ap}
-use Rattle.std.specs.Cmp.{IsTotalOrder}
+use Rattle.std.specs.Cmp.{IsTotalOrder, both_ways}
 use Rattle.std.specs.Cmp.Lexicographic.{slice_cmp}
 use Rattle.std.specs.Ordering.{nat_cmp}
-use Rattle.std.proofs.lemmas.Bool.{eqb-true}
+use Rattle.std.proofs.lemmas.Bool.{eqb-true, and_parts}
 use Rattle.std.proofs.lemmas.Cmp.{nat_list_cmp_total}
 use Rattle.std.proofs.lemmas.Map.Lookups.{CmpEqualImpliesEq, exact_bytes}
 use Rattle.jls_values.specs.Join.{JoinLaws}
 use Rattle.jls_values.specs.OrderedSetLaws.{union-idempotent, union-commutative, union-associative}
 use Rattle.jls_partial.specs.LineSet.{PictureLines, has_same_line_shape, union_of_lines}
-use Rattle.jls_partial.specs.PartialLaws.{both, turned, eqb_itself}
+use Rattle.jls_partial.specs.PartialLaws.{eqb_itself}
 
 pub lines_total : IsTotalOrder (slice_cmp nat_cmp)
 lines_total = nat_list_cmp_total
@@ -24,7 +24,7 @@ itself s = rw (eqb_itself s.precision, eqb_itself s.width) refl
 -- line sets that pass the test agree in both
 agree : (s t : PictureLines) → has_same_line_shape s t ≡ true → (s.precision ≡ t.precision) × (s.width ≡ t.width)
 agree s t e =
-    let p = both (s.precision == t.precision) (s.width == t.width) e in
+    let p = and_parts (s.precision == t.precision) (s.width == t.width) e in
     (eqb-true s.precision t.precision p.0, eqb-true s.width t.width p.1)
 
 test_turned : (s t : PictureLines) → has_same_line_shape s t ≡ true → has_same_line_shape t s ≡ true
@@ -40,7 +40,7 @@ test_along s t u e f =
 pub line_set_laws : JoinLaws has_same_line_shape union_of_lines
 line_set_laws = record {
   reflexive = itself;
-  symmetric = λ x y. turned (has_same_line_shape x y) (has_same_line_shape y x) (test_turned x y) (test_turned y x);
+  symmetric = λ x y. both_ways (has_same_line_shape x y) (has_same_line_shape y x) (test_turned x y) (test_turned y x);
   transitive = test_along;
   join_same_shape = λ x y e. itself x;
   idempotent = λ x. ap (λ s. record { precision = x.precision; width = x.width; lines = s }) (union-idempotent lines_total lines_exact x.lines);

@@ -1,7 +1,7 @@
 -- Reading a text from the front, with the first fault that is met and its offset.
 -- Each reader answers a value and the bytes after it. `size` is the length of the whole text, so that the offset of
 -- what is next is the size less the length of what is left.
-use Rattle.std.specs.Prelude.{◌≡◌, ℕ, zero, suc, ◌-◌, ◌^◌, Bool, true, ◌&&◌, ◌==◌, nat_lt, nat_le, List, [], ◌∷◌, ◌++◌, length, take, drop, Option, Some, None, Result, Ok, Err, if◌then◌else◌}
+use Rattle.std.specs.Prelude.{◌≡◌, ℕ, zero, suc, ◌-◌, ◌^◌, Bool, true, ◌&&◌, ◌==◌, nat_lt, nat_le, List, [], ◌∷◌, length, take, drop, Option, Some, None, Result, Ok, Err, if◌then◌else◌}
 use Rattle.std.specs.Int.{Width, w16, w32, w64, byte_len, from_be_bytes}
 use Rattle.std.specs.Ordering.{nat_cmp, is_lt}
 use Rattle.std.specs.Cmp.Lexicographic.{slice_cmp}
@@ -58,15 +58,19 @@ magic_field size (wanted ∷ others) bytes = do
 
 -- ---- the shape
 
+-- where the fields of the shape begin
+abbrev pub shape_offset : ℕ
+shape_offset = length magic
+
 -- no fault, or the fault at the first field of the shape
 abbrev pub unless_bad_shape : {A E : Type 0} → Option E → A → Result A TextFault
 unless_bad_shape None x = Ok x
-unless_bad_shape (Some e) x = Err (fault.BadShape 5)
+unless_bad_shape (Some e) x = Err (fault.BadShape shape_offset)
 
 -- the shape that the fields make, or the fault at the first of them
 abbrev pub shape_or_fault : {E : Type 0} → Result PictureShape E → Result PictureShape TextFault
 shape_or_fault (Ok shape) = Ok shape
-shape_or_fault (Err e) = Err (fault.BadShape 5)
+shape_or_fault (Err e) = Err (fault.BadShape shape_offset)
 
 unfoldable pub shape_fields : ℕ → List ℕ → Result (PictureShape × List ℕ) TextFault
 shape_fields size bytes = do

@@ -164,7 +164,8 @@ impl Partial {
     }
 
     /// The reading of a line that has `i` others below it, lent from the store: readings stand in
-    /// ascending order of their samples, compared from the first one on. Each fits the shape.
+    /// ascending order of their samples, compared from the first one on. Each fits the shape. It walks
+    /// over the readings below that one.
     pub fn reading(&self, component: u8, line: u16, i: usize) -> &[u16]
         requires component_in { component < length self.now.shape.ids }
         requires line_in { line < self.now.shape.height }

@@ -23,13 +23,14 @@ impl<'a> Model for Readings<'a> {
 }
 
 impl<'a> Readings<'a> {
-    /// None.
+    /// No sample list.
     pub(crate) fn none() -> Readings<'a>
         ensures { result ≡ [] }
     {
         Readings { rest: None }
     }
 
+    /// All of the lists, from the least to the greatest.
     pub(crate) fn of(lists: &'a SampleLists) -> Readings<'a>
         ensures { result ≡ lists.now }
     {

@@ -25,7 +25,7 @@ impl Model for SampleLists {
 }
 
 impl SampleLists {
-    /// None. It takes no memory.
+    /// No lists. It takes no memory.
     pub(crate) fn new(alloc: Global) -> SampleLists
         ensures { result ≡ [] }
     {
@@ -34,13 +34,14 @@ impl SampleLists {
         }
     }
 
+    /// Whether these samples are one of the lists.
     pub(crate) fn contains(&self, samples: &[u16]) -> bool
         ensures { result ≡ list_any (eq_by_cmp (slice_cmp nat_cmp) samples.now) self.now }
     {
         self.lists.contains(samples)
     }
 
-    /// Puts one in, at its place.
+    /// Puts one list in, at its place in the order.
     pub(crate) fn insert(&mut self, samples: Vec<u16>) -> Result<(), AllocError>
         ensures ok { OnOk result (self.new ≡ insert_key (slice_cmp nat_cmp) self.old samples.items) }
         ensures err { OnErr result (self.new ≡ self.old) }
@@ -48,10 +49,12 @@ impl SampleLists {
         ensures countable { OnOk result (length self.new < 2 ^ 64) }
     {
         self.lists.insert(samples)?;
+        // The length of a set is a `usize`: the clause `countable` rests on it.
         prove!(self.lists.len() < usize::MAX);
         Ok(())
     }
 
+    /// How many lists there are.
     pub(crate) fn len(&self) -> usize
         ensures value { result ≡ length self.now }
         ensures sorted { IsStrictlySortedBy (slice_cmp nat_cmp) self.now }
@@ -59,7 +62,7 @@ impl SampleLists {
         self.lists.len()
     }
 
-    /// The one with `i` below it.
+    /// The list that has `i` others below it. It walks over these.
     pub(crate) fn get(&self, i: usize) -> &[u16]
         requires { i < length self.now }
         ensures { slice_get self.now i ≡ Some result.now }

@@ -9,6 +9,9 @@ use crate::place::Place;
 use crate::text_fault::TextFault;
 use jls_values::{Shape, ShapeFault};
 
+/// Where the fields of the shape begin, behind the magic and the version.
+const SHAPE_OFFSET: u64 = 5;
+
 /// The offset of what is left.
 pub(crate) fn offset(size: u64, rest: &[u8]) -> u64
     ensures { result ≡ Rattle.jls_partial.specs.TextReading.offset size rest.now }
@@ -96,7 +99,7 @@ fn without_fault(fault: Option<ShapeFault>, rest: &[u8]) -> Result<&[u8], TextFa
 {
     match fault {
         None => Ok(rest),
-        Some(_) => Err(TextFault::BadShape(5)),
+        Some(_) => Err(TextFault::BadShape(SHAPE_OFFSET)),
     }
 }
 
@@ -105,7 +108,7 @@ fn shape_or_fault(shape: Result<Shape, ShapeFault>) -> Result<Shape, TextFault>
 {
     match shape {
         Ok(shape) => Ok(shape),
-        Err(_) => Err(TextFault::BadShape(5)),
+        Err(_) => Err(TextFault::BadShape(SHAPE_OFFSET)),
     }
 }
 

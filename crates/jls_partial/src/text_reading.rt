@@ -159,8 +159,9 @@ fn read_partial(alloc: Global, bytes: &[u8]) -> Result<Partial, TextFault>
 }
 
 impl Partial {
-    /// The partial picture whose text the bytes are, or the first fault from the front, with its offset.
-    /// Memory grows with the readings that are there, not with what the text says of their number.
+    /// The partial picture whose text the bytes are, or the first fault from the front with its offset:
+    /// each field is judged as soon as all its bytes are there. Memory grows with the readings that are
+    /// there, not with the numbers that the text claims.
     pub fn from_bytes(alloc: Global, bytes: &[u8]) -> Result<Partial, TextFault>
         // What is read has these bytes as its text.
         ensures found { IfOk result (λ p. IsPartial p × (bytes.now ≡ text p)) }

@@ -3,13 +3,13 @@ use Rattle.std.proofs.lemmas.Result.{err_from_is_err_and}
 use Rattle.std.specs.Prelude.{length}
 use Rattle.jls_partial.specs.Merging.{with_all, readings_of_components, readings_of_lines}
 use Rattle.jls_partial.specs.Partial.{PartialPicture}
-use Rattle.jls_partial.proofs.Growth.{with_all-append, grows_component}
+use Rattle.jls_partial.proofs.Growth.{with_all-append, grows_by_component}
 use Rattle.jls_partial.proofs.merging.merge_components.Goals as goal
 
 pub returns-in_err-merge_component-clause-err : goal.returns-in_err-merge_component-clause-err
 returns-in_err-merge_component-clause-err c =
     let p = err_from_is_err_and c.from_residual.result c.from_residual.ensures.1 in
-    rw p.1 (grows_component c.args.into.now c.loop-component.into c.args.other.now c.loop-component.component (length c.args.other.now.shape.ids) (omega (arith, ap (λ s. length s.ids) c.shape.ensures.value, ap length c.ids.ensures.value))
+    rw p.1 (grows_by_component c.args.into.now c.loop-component.into c.args.other.now c.loop-component.component (length c.args.other.now.shape.ids) (omega (arith, ap (λ s. length s.ids) c.shape.ensures.value, ap length c.ids.ensures.value))
     c.loop-component.invariant c.merge_component.new.into c.in_err-merge_component.ensures.err)
 
 pub loop-component-preserved : goal.loop-component-preserved

@@ -1,4 +1,3 @@
-use Rattle.std.proofs.Common.{◌≡◌}
 use Rattle.std.proofs.lemmas.Result.{err_from_is_err_and}
 use Rattle.jls_partial.specs.TextReading.{samples_fields}
 use Rattle.jls_partial.proofs.TextLoops.{samples_go_on, samples_end, samples_done}

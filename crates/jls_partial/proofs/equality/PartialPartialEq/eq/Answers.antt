@@ -1,7 +1,7 @@
 use Rattle.std.proofs.Common.{◌≡◌, ◌∙◌, true, ap, sym, subst}
+use Rattle.std.specs.Cmp.{both_ways}
 use Rattle.jls_partial.specs.Equality.{is_same, is_same-itself, one_partial}
 use Rattle.jls_partial.specs.Partial.{PartialPicture, readings_at}
-use Rattle.jls_partial.specs.PartialLaws.{turned}
 use Rattle.jls_partial.proofs.SameReadings.{shapes_from_test, same_readings}
 use Rattle.jls_partial.proofs.equality.PartialPartialEq.eq.Goals as goal
 
@@ -18,6 +18,6 @@ pub returns-clause-test : goal.returns-clause-test
 returns-clause-test c =
     let p = c.args.self.now in
     let exactly = returns-clause-exactly c in
-    turned c.same_components.result (is_same p c.args.other.now)
+    both_ways c.same_components.result (is_same p c.args.other.now)
     (λ e. subst (λ (z : PartialPicture). is_same p z ≡ true) (exactly.0 e) (is_same-itself p))
     (λ e. exactly.1 (one_partial p c.args.other.now e))

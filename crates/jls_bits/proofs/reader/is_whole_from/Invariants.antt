@@ -1,0 +1,6 @@
+use Rattle.std.proofs.Common.{◌≡◌, drop}
+use Rattle.jls_bits.specs.Bits.{is_whole_after}
+use Rattle.jls_bits.proofs.reader.is_whole_from.Given as goal
+
+abbrev pub invariant-loop-next : goal.invariant-loop-next
+invariant-loop-next l = is_whole_after l.before (drop l.next-index l.bytes) ≡ is_whole_after l.fn.before l.bytes

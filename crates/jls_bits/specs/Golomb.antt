@@ -1,0 +1,26 @@
+-- Golomb codes of a limited length (T.87 A.5.3): LG(k, g) of a number, with qbpp bits in an escape.
+use Rattle.std.specs.Prelude.{◌≡◌, ℕ, ◌-◌, ◌/◌, ◌^◌, Bool, true, false, ◌&&◌, nat_lt, nat_le, if◌then◌else◌, List, ◌∷◌, ◌++◌, replicate}
+use Rattle.jls_bits.specs.Bits.{bits}
+
+-- so many zeros announce an escape
+abbrev pub escape_zeros : ℕ → ℕ → ℕ
+escape_zeros g qbpp = g - qbpp - 1
+
+-- whether the number has a short code: its quotient by 2^k takes fewer zeros than an escape
+abbrev pub is_short : ℕ → ℕ → ℕ → ℕ → Bool
+is_short k g qbpp m = nat_lt (m / 2 ^ k) (escape_zeros g qbpp)
+
+-- the code of m: as many zeros as its quotient, a one, and its low k bits; where that isn't short, the escape's zeros,
+-- a one, and m - 1 in qbpp bits
+unfoldable pub golomb : ℕ → ℕ → ℕ → ℕ → List Bool
+golomb k g qbpp m =
+    if (is_short k g qbpp m) then replicate (m / 2 ^ k) false ++ true ∷ bits k m else replicate (escape_zeros g qbpp) false ++ true ∷ bits qbpp (m - 1)
+
+-- whether m has a code: every number with a short one has, and of the others those from 1 to 2^qbpp
+abbrev pub has_golomb : ℕ → ℕ → ℕ → ℕ → Bool
+has_golomb k g qbpp m = if (is_short k g qbpp m) then true else nat_le 1 m && nat_le m (2 ^ qbpp)
+
+-- no number's code stands at the front of the bits
+abbrev pub NoCodeBegins : ℕ → ℕ → ℕ → List Bool → Type 0
+NoCodeBegins k g qbpp given =
+    (m : ℕ) (rest : List Bool) → has_golomb k g qbpp m ≡ true → given ≡ golomb k g qbpp m ++ rest → ⊥

@@ -1,0 +1,71 @@
+-- The cells of regular mode: k, the mapping of errors, and what an error changes (T.87, A.2, A.5.1, A.5.2, A.6).
+use Rattle.std.specs.Prelude.{ℕ, ◌+◌, ◌*◌, ◌/◌, ◌^◌, max, Bool, ◌&&◌, nat_le, ◌==◌, if◌then◌else◌, ℤ, pos, negsuc, ◌+ℤ◌, ◌-ℤ◌, ◌*ℤ◌, neg_ℤ, unsigned_abs, int_lt, int_le}
+use Rattle.std.specs.Int.{int_div_euclid, int_max, int_min}
+use Rattle.jls_values.specs.Params.{CodingParameters, range, least_from}
+use Rattle.jls_context.specs.declared.regular.Cell.{Cell}
+use Rattle.jls_context.specs.Errors.{error_mapped}
+
+-- A at the start (A.2)
+abbrev pub initial_magnitudes : CodingParameters → ℕ
+initial_magnitudes p = max 2 ((range p + 32) / 64)
+
+-- a cell at the start of an interval (A.2)
+abbrev pub initial_cell : CodingParameters → Cell
+initial_cell p =
+    record { magnitudes = initial_magnitudes p; occurrences = 1; bias = pos 0; correction = pos 0 }
+
+-- the least k with N * 2^k >= A (A.5.1). A itself is large enough, for N above 0
+unfoldable pub golomb_k : ℕ → ℕ → ℕ
+golomb_k occurrences magnitudes = least_from (λ k. nat_le magnitudes (occurrences * 2 ^ k)) magnitudes 0
+
+-- k of a cell (A.5.1)
+abbrev pub regular_k : Cell → ℕ
+regular_k cell = golomb_k cell.occurrences cell.magnitudes
+
+-- whether errors are mapped by the special mapping: k is 0, and 2 * B <= -N (A.5.2)
+abbrev pub uses_special_mapping : Cell → Bool
+uses_special_mapping cell =
+    (regular_k cell == 0) && int_le (pos 2 *ℤ cell.bias) (neg_ℤ (pos cell.occurrences))
+
+-- the number that an error is mapped to (A.5.2)
+abbrev pub regular_mapped : Cell → ℤ → ℕ
+regular_mapped cell e = error_mapped (uses_special_mapping cell) e
+
+-- B += E and A += |E| (A.6.1)
+abbrev pub added : Cell → ℤ → Cell
+added cell e =
+    record cell { magnitudes = cell.magnitudes + unsigned_abs e; bias = cell.bias +ℤ e }
+
+-- A, B and N halved, each to its floor (A.6.1)
+abbrev pub halved : Cell → Cell
+halved cell =
+    record cell { magnitudes = cell.magnitudes / 2; occurrences = cell.occurrences / 2; bias = int_div_euclid cell.bias (pos 2) }
+
+-- N += 1 (A.6.1)
+abbrev pub counted : Cell → Cell
+counted cell = record cell { occurrences = cell.occurrences + 1 }
+
+-- B brought nearer to -N < B <= 0 by N, and at least to its bound (A.6.2)
+abbrev pub computed_bias : ℕ → ℤ → ℤ
+computed_bias n b =
+    if int_le b (neg_ℤ (pos n)) then int_max (b +ℤ pos n) (pos 1 -ℤ pos n)
+    else if int_lt (pos 0) b then int_min (b -ℤ pos n) (pos 0)
+    else b
+
+-- C one lower or one higher where B is below or above that range, but from -128 to 127 (A.6.2)
+abbrev pub computed_correction : ℕ → ℤ → ℤ → ℤ
+computed_correction n b c =
+    if int_le b (neg_ℤ (pos n)) then int_max (c -ℤ pos 1) (negsuc 127)
+    else if int_lt (pos 0) b then int_min (c +ℤ pos 1) (pos 127)
+    else c
+
+-- the bias computation (A.6.2)
+abbrev pub bias_computed : Cell → Cell
+bias_computed cell =
+    record cell { bias = computed_bias cell.occurrences cell.bias; correction = computed_correction cell.occurrences cell.bias cell.correction }
+
+-- a cell after an error (A.6)
+unfoldable pub updated : ℕ → Cell → ℤ → Cell
+updated reset cell e =
+    let now = added cell e in
+    bias_computed (counted (if (now.occurrences == reset) then halved now else now))

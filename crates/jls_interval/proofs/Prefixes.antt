@@ -1,0 +1,47 @@
+-- The laws of codes that are read step by step.
+use Rattle.std.proofs.Common.{◌≡◌, Bool, List, [], ◌∷◌, ◌++◌, refl, sym, ap, ◌∙◌, subst, append_assoc, ◌⊎◌, inl, inr}
+use Rattle.std.proofs.lemmas.List.{append_cancel_left, append-nil}
+use Rattle.jls_interval.specs.Stepwise.{StepwiseCode, Leads, bits_of_steps, IsEnd, IsPrefixFree, IsKept}
+
+-- of two fronts of one list, one begins the other
+pub one_begins : {A : Type 0} → (a b c d : List A) → a ++ b ≡ c ++ d → ((x : List A) × (a ≡ c ++ x) × (x ++ b ≡ d)) ⊎ ((x : List A) × (y : A) × (c ≡ a ++ (y ∷ x)) × (b ≡ (y ∷ x) ++ d))
+one_begins [] b [] d e = inl ([], refl, e)
+one_begins [] b (y ∷ c) d e = inr (c, y, refl, e)
+one_begins (x ∷ a) b [] d e = inl (x ∷ a, refl, e)
+one_begins (x ∷ a) b (y ∷ c) d e =
+    let h : x ≡ y = cc in let r = one_begins a b c d (cc) in
+    elim r [ inl p ↦ inl (p.0, (let q = p.1 in cc), p.2) | inr p ↦ inr (p.0, p.1, (let q = p.2 in cc), p.3) ]
+
+pub regroup : {A : Type 0} → (a b t c d u : List A) → (a ++ b) ++ t ≡ (c ++ d) ++ u → a ++ (b ++ t) ≡ c ++ (d ++ u)
+regroup a b t c d u e = sym (append_assoc a b t) ∙ e ∙ append_assoc c d u
+
+cons_same : {A : Type 0} → (x y : A) (xs ys : List A) → x ≡ y → xs ≡ ys → x ∷ xs ≡ y ∷ ys
+cons_same x y xs ys e f = cc
+
+module _ (m : StepwiseCode) (free : IsPrefixFree m) (kept : IsKept m) where
+  -- what a whole code begins is one code, and its bits are all read
+  pub one_code : (s z y : m.State) (es fs : List m.Event) (t u : List Bool) → m.Sound s → Leads m s es z → Leads m s fs y → IsEnd m z → IsEnd m y
+      → bits_of_steps m s es ++ t ≡ bits_of_steps m s fs ++ u → (es ≡ fs) × (t ≡ u)
+  one_code s z y [] [] t u ok p q a b e = (refl, e)
+  one_code s z y [] (f ∷ fs) t u ok p q a b e = absurd (a f (subst (λ v. m.Next v f) p q.0))
+  one_code s z y (g ∷ es) [] t u ok p q a b e = absurd (b g (subst (λ v. m.Next v g) q p.0))
+  one_code s z y (g ∷ es) (f ∷ fs) t u ok p q a b e =
+      let flat : m.step_bits s g ++ (bits_of_steps m (m.after s g) es ++ t) ≡ m.step_bits s f ++ (bits_of_steps m (m.after s f) fs ++ u) = regroup (m.step_bits s g) (bits_of_steps m (m.after s g) es) t (m.step_bits s f) (bits_of_steps m (m.after s f) fs) u e in
+      let h : g ≡ f = free s g f (bits_of_steps m (m.after s g) es ++ t) (bits_of_steps m (m.after s f) fs ++ u) ok p.0 q.0 flat in
+      let onto : m.step_bits s f ++ (bits_of_steps m (m.after s f) es ++ t) ≡ m.step_bits s f ++ (bits_of_steps m (m.after s f) fs ++ u) = subst (λ k. m.step_bits s k ++ (bits_of_steps m (m.after s k) es ++ t) ≡ m.step_bits s f ++ (bits_of_steps m (m.after s f) fs ++ u)) h flat in
+      let rest : bits_of_steps m (m.after s f) es ++ t ≡ bits_of_steps m (m.after s f) fs ++ u = append_cancel_left (m.step_bits s f) _ _ onto in
+      let r : (es ≡ fs) × (t ≡ u) = one_code (m.after s f) z y es fs t u (kept s f ok q.0) (subst (λ k. Leads m (m.after s k) es z) h p.1) q.1 a b rest in
+      (cons_same g f es fs h r.0, r.1)
+
+  -- where a whole code begins with the bits of some events, it begins with these events
+  pub begins : (s z y : m.State) (es fs : List m.Event) (t u : List Bool) → m.Sound s → Leads m s es z → Leads m s fs y → IsEnd m y
+      → bits_of_steps m s es ++ t ≡ bits_of_steps m s fs ++ u → (u ≡ []) → (gs : List m.Event) × (fs ≡ es ++ gs) × Leads m z gs y × (t ≡ bits_of_steps m z gs)
+  begins s z y [] fs t u ok p q b e n = (fs, refl, subst (λ v. Leads m v fs y) p q, (e ∙ ap (λ v. bits_of_steps m s fs ++ v) n ∙ append-nil _) ∙ ap (λ v. bits_of_steps m v fs) p)
+  begins s z y (g ∷ es) [] t u ok p q b e n = absurd (b g (subst (λ v. m.Next v g) q p.0))
+  begins s z y (g ∷ es) (f ∷ fs) t u ok p q b e n =
+      let flat : m.step_bits s g ++ (bits_of_steps m (m.after s g) es ++ t) ≡ m.step_bits s f ++ (bits_of_steps m (m.after s f) fs ++ u) = regroup (m.step_bits s g) (bits_of_steps m (m.after s g) es) t (m.step_bits s f) (bits_of_steps m (m.after s f) fs) u e in
+      let h : g ≡ f = free s g f (bits_of_steps m (m.after s g) es ++ t) (bits_of_steps m (m.after s f) fs ++ u) ok p.0 q.0 flat in
+      let onto : m.step_bits s f ++ (bits_of_steps m (m.after s f) es ++ t) ≡ m.step_bits s f ++ (bits_of_steps m (m.after s f) fs ++ u) = subst (λ k. m.step_bits s k ++ (bits_of_steps m (m.after s k) es ++ t) ≡ m.step_bits s f ++ (bits_of_steps m (m.after s f) fs ++ u)) h flat in
+      let rest : bits_of_steps m (m.after s f) es ++ t ≡ bits_of_steps m (m.after s f) fs ++ u = append_cancel_left (m.step_bits s f) _ _ onto in
+      let r = begins (m.after s f) z y es fs t u (kept s f ok q.0) (subst (λ k. Leads m (m.after s k) es z) h p.1) q.1 b rest n in
+      (r.0, cons_same f g fs (es ++ r.0) (sym h) r.1, r.2, r.3)

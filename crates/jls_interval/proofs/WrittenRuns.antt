@@ -1,0 +1,53 @@
+-- The bits of a run, block by block, as they are written.
+use Rattle.std.proofs.Common.{◌≡◌, ℕ, ◌-◌, ◌^◌, ◌<◌, ◌≤◌, Bool, true, false, List, [], ◌∷◌, ◌++◌, replicate, refl, sym, ap, ◌∙◌, arith, inl, inr, append_assoc}
+use Rattle.std.proofs.lemmas.List.{append-nil}
+use Rattle.std.proofs.lemmas.Bool.{ne_eqb, eq-eqb}
+use Rattle.jls_bits.specs.Bits.{bits}
+use Rattle.jls_interval.specs.Runs.{run_order, Blocks, blocks}
+use Rattle.jls_interval.specs.Code.{run_to_end_bits, interrupted_run_bits}
+use Rattle.jls_interval.proofs.RunsApart.{risen, blocks_step, blocks_none}
+
+-- one full block more
+module _ (r n : ℕ) (within : r ≤ 31) (full : 2 ^ run_order r ≤ n) where
+  pub block_written : (before : List Bool) → (before ++ true ∷ []) ++ replicate (blocks (risen r) (n - 2 ^ run_order r)).full_blocks true ≡ before ++ replicate (blocks r n).full_blocks true
+  block_written before =
+      append_assoc before (true ∷ []) _ ∙ ap (λ (b : Blocks). before ++ replicate b.full_blocks true) (sym (blocks_step r n within full))
+
+  pub block_run_index : (blocks (risen r) (n - 2 ^ run_order r)).run_index ≡ (blocks r n).run_index
+  block_run_index = ap (λ (b : Blocks). b.run_index) (sym (blocks_step r n within full))
+
+  pub block_remaining : (blocks (risen r) (n - 2 ^ run_order r)).remaining ≡ (blocks r n).remaining
+  block_remaining = ap (λ (b : Blocks). b.remaining) (sym (blocks_step r n within full))
+
+-- no full block more
+module _ (r n : ℕ) (within : r ≤ 31) (short : n < 2 ^ run_order r) where
+  pub no_block_written : (written before : List Bool) → written ++ replicate (blocks r n).full_blocks true ≡ before → written ≡ before
+  no_block_written written before e =
+      sym (append-nil written) ∙ ap (λ (b : Blocks). written ++ replicate b.full_blocks true) (sym (blocks_none r n within short)) ∙ e
+
+  pub no_block_run_index : (index : ℕ) → (blocks r n).run_index ≡ index → r ≡ index
+  no_block_run_index index e = ap (λ (b : Blocks). b.run_index) (sym (blocks_none r n within short)) ∙ e
+
+  pub no_block_remaining : (rest : ℕ) → (blocks r n).remaining ≡ rest → n ≡ rest
+  no_block_remaining rest e = ap (λ (b : Blocks). b.remaining) (sym (blocks_none r n within short)) ∙ e
+
+-- a run to the end, where columns remain and where none does
+pub end_with : (run : Blocks) (before written : List Bool) → written ≡ before ++ replicate run.full_blocks true → 0 < run.remaining → written ++ true ∷ [] ≡ before ++ run_to_end_bits run
+end_with run before written e some =
+    let t = ne_eqb run.remaining 0 (λ z. omega arith) in
+    ap (λ z. z ++ true ∷ []) e ∙ append_assoc before (replicate run.full_blocks true) (true ∷ []) ∙ rw t refl
+
+pub end_without : (run : Blocks) (before written : List Bool) → written ≡ before ++ replicate run.full_blocks true → run.remaining ≡ 0 → written ≡ before ++ run_to_end_bits run
+end_without run before written e none =
+    let t = eq-eqb run.remaining 0 none in
+    e ∙ ap (λ z. before ++ z) (sym (append-nil (replicate run.full_blocks true))) ∙ rw t refl
+
+-- an interrupted run
+pub interruption_with : (run : Blocks) (before written : List Bool) (order count : ℕ) → written ≡ before ++ replicate run.full_blocks true → order ≡ run_order run.run_index → count ≡ run.remaining
+    → (written ++ false ∷ []) ++ bits order count ≡ before ++ interrupted_run_bits run []
+interruption_with run before written order count e o r =
+    append_assoc written (false ∷ []) (bits order count) ∙ ap (λ z. z ++ false ∷ bits order count) e ∙ ap (λ z. (before ++ replicate run.full_blocks true) ++ false ∷ bits z count) o ∙ ap (λ z. (before ++ replicate run.full_blocks true) ++ false ∷ bits (run_order run.run_index) z) r ∙ append_assoc before (replicate run.full_blocks true) (false ∷ bits (run_order run.run_index) run.remaining) ∙ ap (λ z. before ++ z) (sym (append-nil _))
+
+-- the sample behind it
+pub interruption_then : (run : Blocks) (rest : List Bool) → interrupted_run_bits run [] ++ rest ≡ interrupted_run_bits run rest
+interruption_then run rest = ap (λ z. z ++ rest) (append-nil _)

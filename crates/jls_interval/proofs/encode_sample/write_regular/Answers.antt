@@ -1,0 +1,18 @@
+use Rattle.std.proofs.Common.{◌≡◌, ℕ, List, Bool, sym, ap, ◌∙◌, arith, to_z, of_z, w32}
+use Rattle.std.specs.Prelude.{ℤ}
+use Rattle.std.proofs.lemmas.Int.{ints}
+use Rattle.jls_bits.specs.Golomb.{golomb}
+use Rattle.jls_context.specs.Variables.{Variables, cell_at}
+use Rattle.jls_interval.specs.Cells.{regular_error}
+use Rattle.jls_interval.proofs.EncodedEvents.{error_is, regular_code_is, regular_writes}
+use Rattle.jls_interval.proofs.encode_sample.write_regular.Goals as goal
+
+pub returns-clause-written : goal.returns-clause-written
+returns-clause-written c = λ component run_index.
+    let old : Variables = c.args.cells.now in let new : Variables = c.update_regular.new.self in let near = c.args.near in let mode = c.requires.mode in
+    let difference : ℤ = to_z w32 (of_z w32 c.signed_difference.result) in let error : ℤ = to_z w32 (of_z w32 c.reduce-error.result) in
+    let dd : difference ≡ c.signed_difference.result = omega (arith, ints) in
+    let ee : error ≡ c.reduce-error.result = omega (arith, ints) in
+    let is : error ≡ regular_error old.parameters (cell_at old c.args.cell) near c.args.sample = ee ∙ error_is old new near c.args.cell c.args.negative c.args.sample mode c.predict-predicted.result difference c.reduce-error.result c.predict-predicted.ensures.value (dd ∙ c.signed_difference.ensures) c.reduce-error.ensures.value in
+    let k : ℕ = c.regular_code-k.result.0 in let mapped : ℕ = c.regular_code-k.result.1 in
+    regular_writes old new near c.args.cell c.args.negative c.args.sample mode error is c.update_regular.ensures.parameters c.update_regular.ensures.updated c.update_regular.ensures.others c.update_regular.ensures.run_cells component run_index c.args.writer.now c.write_golomb.new.writer (golomb k c.args.lengths.limit c.args.lengths.qbpp mapped) c.in_ok-write_golomb.ensures.ok (regular_code_is old new near c.args.cell c.args.negative c.args.sample mode error k c.args.lengths.limit c.args.lengths.qbpp mapped is c.regular_code-k.ensures.k c.requires.lengths.limit_is c.requires.lengths.qbpp_is c.regular_code-k.ensures.mapped)

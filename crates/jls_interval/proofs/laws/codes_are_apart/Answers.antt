@@ -1,0 +1,5 @@
+use Rattle.jls_interval.proofs.CodesApart.{code_law}
+use Rattle.jls_interval.proofs.laws.codes_are_apart.Goals as goal
+
+pub returns : goal.returns
+returns c = code_law

@@ -1,0 +1,5 @@
+use Rattle.jls_interval.proofs.Grown.{events_some}
+use Rattle.jls_interval.proofs.laws.events_have_bits.Goals as goal
+
+pub returns : goal.returns
+returns c = events_some

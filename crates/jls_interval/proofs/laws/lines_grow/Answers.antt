@@ -1,0 +1,5 @@
+use Rattle.jls_interval.proofs.Growing.{lines_lead}
+use Rattle.jls_interval.proofs.laws.lines_grow.Goals as goal
+
+pub returns : goal.returns
+returns c = lines_lead

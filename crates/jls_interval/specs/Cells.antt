@@ -1,0 +1,74 @@
+-- The state of a cell before an event: the update, folded over the earlier events of the interval that use the cell (T.87 A.6, A.7.2).
+use Rattle.std.specs.Prelude.{ℕ, Bool, true, false, not, nat_lt, ◌==◌, List, ℤ}
+use Rattle.std.specs.List.{filter, fold}
+use Rattle.jls_values.specs.Params.{CodingParameters}
+use Rattle.jls_context.specs.declared.mode.Neighbours.{Neighbours}
+use Rattle.jls_context.specs.declared.regular.Cell.{Cell}
+use Rattle.jls_context.specs.declared.interruption.RunCell.{RunCell}
+use Rattle.jls_context.specs.Mode.{context, is_negative}
+use Rattle.jls_context.specs.Prediction.{edge_detecting_predictor, corrected_prediction}
+use Rattle.jls_context.specs.Errors.{prediction_error}
+use Rattle.jls_context.specs.Regular.{updated, initial_cell}
+use Rattle.jls_context.specs.Interruption.{initial_run_cell, run_updated}
+use Rattle.jls_interval.specs.Events.{Event, regular, run_to_end, interrupted_run}
+
+-- Regular mode ---------------------------------------------------------------------------------------
+
+-- whether an event uses cell q, from 1 to 364: it has one column in regular mode, whose context that is
+abbrev pub uses_cell : CodingParameters → ℕ → Event → Bool
+uses_cell p q (regular near sample) = context p near == q
+uses_cell p q (run_to_end component count) = false
+uses_cell p q (interrupted_run component count near sample) = false
+
+-- the prediction of a sample in regular mode, under the correction C of its cell
+abbrev pub regular_prediction : CodingParameters → Cell → Neighbours → ℕ
+regular_prediction p cell near =
+    corrected_prediction p (is_negative p near) cell.correction (edge_detecting_predictor near.ra near.rb near.rc)
+
+-- the prediction error of a sample in regular mode
+abbrev pub regular_error : CodingParameters → Cell → Neighbours → ℕ → ℤ
+regular_error p cell near sample =
+    prediction_error p (is_negative p near) sample (regular_prediction p cell near)
+
+-- a cell after an event that uses it
+abbrev pub cell_after : CodingParameters → Cell → Event → Cell
+cell_after p cell (regular near sample) = updated p.reset cell (regular_error p cell near sample)
+cell_after p cell (run_to_end component count) = cell
+cell_after p cell (interrupted_run component count near sample) = cell
+
+-- cell q before an event, from the earlier events
+unfoldable pub cell_before : CodingParameters → List Event → ℕ → Cell
+cell_before p earlier q = fold (cell_after p) (initial_cell p) (filter (uses_cell p q) earlier)
+
+-- Run interruption -----------------------------------------------------------------------------------
+
+-- whether the RItype of an interrupting sample is 1, and so its cell 366: a and b round that sample itself are equal
+abbrev pub is_same : Neighbours → Bool
+is_same near = near.ra == near.rb
+
+-- The prediction error of an interrupting sample. Its prediction is b, which for RItype 1 is also a; where a is above b, as it
+-- can be for RItype 0 alone, the sign is turned
+abbrev pub interruption_error : CodingParameters → Neighbours → ℕ → ℤ
+interruption_error p near sample = prediction_error p (nat_lt near.rb near.ra) sample near.rb
+
+abbrev pub equal : Bool → Bool → Bool
+equal true y = y
+equal false y = not y
+
+-- whether an event uses cell 365 (`same` is false) or 366 (`same` is true)
+abbrev pub uses_run_cell : Bool → Event → Bool
+uses_run_cell same (regular near sample) = false
+uses_run_cell same (run_to_end component count) = false
+uses_run_cell same (interrupted_run component count near sample) = equal same (is_same near)
+
+-- that cell after an event that uses it
+abbrev pub run_cell_after : CodingParameters → Bool → RunCell → Event → RunCell
+run_cell_after p same cell (regular near sample) = cell
+run_cell_after p same cell (run_to_end component count) = cell
+run_cell_after p same cell (interrupted_run component count near sample) =
+    run_updated p.reset same cell (interruption_error p near sample)
+
+-- cell 365 or 366 before an event, from the earlier events
+unfoldable pub run_cell_before : CodingParameters → List Event → Bool → RunCell
+run_cell_before p earlier same =
+    fold (run_cell_after p same) (initial_run_cell p) (filter (uses_run_cell same) earlier)

@@ -1,0 +1,105 @@
+-- The events of an interval: the columns of its finished lines, parted into stretches (T.87 A.3.2 and A.7).
+use Rattle.std.specs.Prelude.{◌≡◌, ℕ, zero, suc, ◌+◌, ◌-◌, ◌*◌, ◌/◌, ◌%◌, ◌<◌, true, false, nat_lt, ◌==◌, if◌then◌else◌, List, [], ◌∷◌, ◌++◌, length, drop, get_or, pos}
+use Rattle.std.specs.List.{prefix_len}
+use Rattle.jls_context.specs.declared.mode.Neighbours.{Neighbours}
+use Rattle.jls_context.specs.Mode.{is_run_mode}
+use Rattle.jls_interval.specs.Lines.{sample_at, neighbours_at}
+
+pub data Event : Type 0 where
+  -- one column in regular mode: its neighbours and its sample
+  regular : Neighbours → ℕ → Event
+  -- a run in a component, of so many columns to the end of the line
+  run_to_end : ℕ → ℕ → Event
+  -- a run in a component, of so many columns, and then the sample that interrupts it, with its neighbours
+  interrupted_run : ℕ → ℕ → Neighbours → ℕ → Event
+
+-- Which events the columns of finished lines are -----------------------------------------------------
+
+-- so many columns from x on of line y of a component hold the run's value, which is `a` at column x
+abbrev pub HoldRun : ℕ → ℕ → List (List ℕ) → ℕ → ℕ → ℕ → ℕ → Type 0
+HoldRun width components lines component y x count =
+    (i : ℕ) → i < count → sample_at components lines component (pos y) (x + i) ≡ (neighbours_at width components lines component y x).ra
+
+-- an event is what stands in line y of a component from column x on, to before column `next`
+abbrev pub StandsIn : ℕ → ℕ → List (List ℕ) → ℕ → ℕ → ℕ → Event → ℕ → Type 0
+StandsIn width components lines component y x (regular near sample) next =
+    (near ≡ neighbours_at width components lines component y x) × (is_run_mode near ≡ false) × (sample ≡ sample_at components lines component (pos y) x) × (next ≡ x + 1)
+StandsIn width components lines component y x (run_to_end of_component count) next =
+    (of_component ≡ component) × (is_run_mode (neighbours_at width components lines component y x) ≡ true) × (x + count ≡ width) × HoldRun width components lines component y x count × (next ≡ width)
+StandsIn width components lines component y x (interrupted_run of_component count near sample) next =
+    (of_component ≡ component) × (is_run_mode (neighbours_at width components lines component y x) ≡ true) × (x + count < width) × HoldRun width components lines component y x count × (near ≡ neighbours_at width components lines component y (x + count)) × (sample ≡ sample_at components lines component (pos y) (x + count)) × (sample ≡ (neighbours_at width components lines component y x).ra → ⊥) × (next ≡ x + count + 1)
+
+-- the columns from x on of line y of a component are parted into these events
+abbrev pub IsParted : ℕ → ℕ → List (List ℕ) → ℕ → ℕ → ℕ → List Event → Type 0
+IsParted width components lines component y x [] = x ≡ width
+IsParted width components lines component y x (event ∷ later) =
+    (next : ℕ) × (x < width) × StandsIn width components lines component y x event next × IsParted width components lines component y next later
+
+-- So many lines from line j on are parted into these events, one line after another. Line j of an interval is line
+-- j / components of component j % components
+abbrev pub AreParted : ℕ → ℕ → List (List ℕ) → ℕ → ℕ → List Event → Type 0
+AreParted width components lines j zero events = events ≡ []
+AreParted width components lines j (suc more) events =
+    (first : List Event) × (later : List Event) × (events ≡ first ++ later) × IsParted width components lines (j % components) (j / components) 0 first × AreParted width components lines (j + 1) more later
+
+-- the events of the interval with these lines. For lines as `AreLines` has them there is exactly one list of them
+abbrev pub AreEvents : ℕ → ℕ → List (List ℕ) → List Event → Type 0
+AreEvents width components lines events = AreParted width components lines 0 (length lines) events
+
+-- The same, computed ---------------------------------------------------------------------------------
+
+-- the two lines of one component above a line. A line that isn't there reads as zeros
+pub record Above : Type 0 where
+  pub line_above : List ℕ
+  pub line_two_above : List ℕ
+
+-- `neighbours_at` for a line whose samples before column x are known
+abbrev pub neighbours : ℕ → Above → List ℕ → ℕ → Neighbours
+neighbours width up line zero =
+    record { ra = get_or up.line_above 0 0; rb = get_or up.line_above 0 0; rc = get_or up.line_two_above 0 0; rd = if (nat_lt 1 width) then get_or up.line_above 1 0 else get_or up.line_above 0 0 }
+neighbours width up line (suc x) =
+    record { ra = get_or line x 0; rb = get_or up.line_above (suc x) 0; rc = get_or up.line_above x 0; rd = if (nat_lt (x + 2) width) then get_or up.line_above (x + 2) 0 else get_or up.line_above (suc x) 0 }
+
+-- the first column from x on whose sample isn't v, or the width
+abbrev pub run_stop : List ℕ → ℕ → ℕ → ℕ
+run_stop line v x = x + prefix_len (λ sample. sample == v) (drop x line)
+
+-- an event, and the column after it
+pub record Stretch : Type 0 where
+  pub event : Event
+  pub next : ℕ
+
+-- the stretch that begins at column x
+abbrev pub stretch : ℕ → ℕ → Above → List ℕ → ℕ → Stretch
+stretch width component up line x =
+    let near = neighbours width up line x in let stop = run_stop line near.ra x in
+    if (is_run_mode near) then (if (nat_lt stop width) then record { event = interrupted_run component (stop - x) (neighbours width up line stop) (get_or line stop 0); next = suc stop } else record { event = run_to_end component (width - x); next = width }) else record { event = regular near (get_or line x 0); next = suc x }
+
+-- the events of the columns from x on; `fuel` is at least their number
+unfoldable pub events_from : ℕ → ℕ → Above → List ℕ → ℕ → ℕ → List Event
+events_from width component up line zero x = []
+events_from width component up line (suc fuel) x =
+    let first = stretch width component up line x in
+    let later = events_from width component up line fuel first.next in if (nat_lt x width) then first.event ∷ later else []
+
+abbrev pub line_events : ℕ → ℕ → Above → List ℕ → List Event
+line_events width component up line = events_from width component up line width 0
+
+-- the line so many places back, or none
+abbrev pub line_back : List (List ℕ) → ℕ → List ℕ
+line_back lines back = if (nat_lt (length lines) back) then [] else get_or lines (length lines - back) []
+
+-- the lines above the line that follows these, where the components take turns
+abbrev pub above : ℕ → List (List ℕ) → Above
+above components lines = record { line_above = line_back lines components; line_two_above = line_back lines (2 * components) }
+
+-- the events of these lines, which follow the lines before
+unfoldable pub events_after : ℕ → ℕ → List (List ℕ) → List (List ℕ) → List Event
+events_after width components before [] = []
+events_after width components before (line ∷ lines) =
+    line_events width (length before % components) (above components before) line ++ events_after width components (before ++ line ∷ []) lines
+
+-- The events of an interval, computed. They are those of `AreEvents` for lines as `AreLines` has them; a line of another
+-- width is read as if it had zeros where it is too short, which means nothing
+abbrev pub events : ℕ → ℕ → List (List ℕ) → List Event
+events width components lines = events_after width components [] lines

@@ -1,0 +1,13 @@
+pub mod Lines
+pub mod Events
+pub mod Cells
+pub mod Runs
+pub mod Code
+pub mod Reading
+pub mod Reads
+pub mod Stepwise
+pub mod Fits
+pub mod Encoding
+pub mod Growth
+pub mod Laws
+pub mod ReadBack

@@ -1,0 +1,30 @@
+-- The lines of an interval, and the samples round a place in them (T.87 A.2 and A.3; B.2 for several components).
+use Rattle.std.specs.Prelude.{◌≡◌, ℕ, ◌+◌, ◌-◌, ◌*◌, ◌≤◌, nat_lt, ◌==◌, if◌then◌else◌, List, [], length, get_or, ℤ, pos, negsuc, ◌-ℤ◌}
+use Rattle.std.specs.List.{AllByRecursion}
+use Rattle.jls_values.specs.Params.{CodingParameters}
+use Rattle.jls_context.specs.declared.mode.Neighbours.{Neighbours}
+
+-- a line of this width, its samples at most MAXVAL
+abbrev pub IsLine : CodingParameters → ℕ → List ℕ → Type 0
+IsLine p width line = (length line ≡ width) × AllByRecursion (λ sample. sample ≤ p.maxval) line
+
+-- So many lines of this width. They stand row by row, and in a row by component, in the order of the scan: with two components
+-- lines 0, 2, 4 .. are those of the first. They may end inside a row
+pub record AreLines (p : CodingParameters) (width count : ℕ) (lines : List (List ℕ)) : Type 0 where
+  pub count_is : length lines ≡ count
+  pub each : AllByRecursion (IsLine p width) lines
+
+-- L(y, x): the sample in column x of line y of a component. The lines -1 and -2 are zeros
+unfoldable pub sample_at : ℕ → List (List ℕ) → ℕ → ℤ → ℕ → ℕ
+sample_at components lines component (pos y) x = get_or (get_or lines (y * components + component) []) x 0
+sample_at components lines component (negsuc y) x = 0
+
+-- The samples round column x of line y of a component: Ra to the left, Rb above, Rc above to the left, Rd above to the right.
+-- In the first column Ra is Rb, and Rc is the Ra that the line above had there; in the last column Rd is Rb
+unfoldable pub neighbours_at : ℕ → ℕ → List (List ℕ) → ℕ → ℕ → ℕ → Neighbours
+neighbours_at width components lines component y x = record {
+  ra = if (x == 0) then sample_at components lines component (pos y -ℤ pos 1) x else sample_at components lines component (pos y) (x - 1);
+  rb = sample_at components lines component (pos y -ℤ pos 1) x;
+  rc = if (x == 0) then sample_at components lines component (pos y -ℤ pos 2) x else sample_at components lines component (pos y -ℤ pos 1) (x - 1);
+  rd = if (nat_lt (x + 1) width) then sample_at components lines component (pos y -ℤ pos 1) (x + 1) else sample_at components lines component (pos y -ℤ pos 1) x;
+}

@@ -1,0 +1,11 @@
+-- What is written is read.
+use Rattle.std.specs.Prelude.{◌≡◌, ℕ, ◌<◌, List}
+use Rattle.jls_values.specs.Params.{CodingParameters, AreCodingParameters}
+use Rattle.jls_interval.specs.Lines.{AreLines}
+use Rattle.jls_interval.specs.Reads.{Reads, packed}
+
+-- the bytes that lines are written as read as these lines, and as no others
+abbrev pub PackedLinesReadBack : Type 0
+PackedLinesReadBack =
+    (p : CodingParameters) (width components count : ℕ) → AreCodingParameters p → 0 < width → (lines : List (List ℕ)) → AreLines p width count lines
+    → Reads p width components count (packed p width components lines) lines × ((others : List (List ℕ)) → Reads p width components count (packed p width components lines) others → others ≡ lines)

@@ -1,0 +1,37 @@
+-- When bytes of scan data read as an interval's lines, and what else they are (T.87 A.1; that at most seven bits may follow, of any
+-- value, is this profile's choice).
+use Rattle.std.specs.Prelude.{ℕ, ◌≤◌, ◌<◌, Bool, List, ◌++◌, length}
+use Rattle.std.specs.List.{AllByRecursion}
+use Rattle.jls_values.specs.Params.{CodingParameters}
+use Rattle.jls_bits.specs.Bits.{AreDataBits}
+use Rattle.jls_bits.specs.Pad.{pad}
+use Rattle.jls_interval.specs.Lines.{AreLines}
+use Rattle.jls_interval.specs.Code.{code}
+
+-- the piece is bytes whose data bits are the code of these lines and then some more bits
+pub record BeginsWithCode (p : CodingParameters) (width components count : ℕ) (piece : List ℕ) (lines : List (List ℕ)) (unread : List Bool) : Type 0 where
+  pub are_bytes : AllByRecursion (λ x. x < 256) piece
+  pub are_lines : AreLines p width count lines
+  pub data_bits : AreDataBits piece (code p width components lines ++ unread)
+
+-- the piece reads as the lines: at most seven bits follow their code
+pub record Reads (p : CodingParameters) (width components count : ℕ) (piece : List ℕ) (lines : List (List ℕ)) : Type 0 where
+  pub unread : List Bool
+  pub begins : BeginsWithCode p width components count piece lines unread
+  pub at_most_seven : length unread ≤ 7
+
+-- the piece is too long: more than seven bits follow the code of some lines
+pub record IsLong (p : CodingParameters) (width components count : ℕ) (piece : List ℕ) : Type 0 where
+  pub lines : List (List ℕ)
+  pub unread : List Bool
+  pub begins : BeginsWithCode p width components count piece lines unread
+  pub more_than_seven : 7 < length unread
+
+-- the piece is broken: it neither reads as any lines nor is it too long
+pub record IsBroken (p : CodingParameters) (width components count : ℕ) (piece : List ℕ) : Type 0 where
+  pub not_read : (lines : List (List ℕ)) → Reads p width components count piece lines → ⊥
+  pub not_long : IsLong p width components count piece → ⊥
+
+-- the bytes that lines are written as
+abbrev pub packed : CodingParameters → ℕ → ℕ → List (List ℕ) → List ℕ
+packed p width components lines = pad (code p width components lines)

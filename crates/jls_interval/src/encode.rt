@@ -1,0 +1,84 @@
+//! Writing an interval.
+
+ghost use Rattle.std.specs.Prelude.{◌≡◌, [], get_or, map, IfOk, OnOk};
+ghost use Rattle.jls_interval.specs.Fits.{FitsInterval};
+ghost use Rattle.jls_interval.specs.Code.{code};
+ghost use Rattle.jls_interval.specs.Reads.{packed};
+ghost use Rattle.jls_interval.specs.ReadBack.{PackedLinesReadBack};
+
+use crate::encode_line::write_line;
+use crate::encode_sample::CodeLengths;
+use crate::neighbours::line_back;
+use jls_bits::BitWriter;
+use jls_context::Cells;
+use jls_values::Params;
+use std::alloc::{AllocError, Global};
+
+/// Line j, or an empty one where there is none.
+fn line_at(lines: &[Vec<u16>], j: usize) -> &[u16]
+    ensures { result.now ≡ get_or (map (λ v. v.items) lines.now) j [] }
+{
+    match lines.get(j) {
+        None => &[],
+        Some(line) => line.as_slice(),
+    }
+}
+
+/// Writes the bits of the lines, one line after another.
+fn write_lines(
+    writer: &mut BitWriter,
+    params: &Params,
+    width: u16,
+    components: u8,
+    lines: &[Vec<u16>],
+) -> Result<(), AllocError>
+    requires lines { FitsInterval params.now width components (map (λ v. v.items) lines.now) }
+    requires none { writer.old ≡ [] }
+    ensures { OnOk result (writer.new ≡ code params.now width components (map (λ v. v.items) lines.now)) }
+{
+    let lengths = CodeLengths::of(params);
+    let row_lines = usize::from(components);
+    let mut cells = Cells::new(params);
+    let mut run_indices = [0u8; 4];
+    for j in 0..lines.len() {
+        let component = j % row_lines;
+        let line_above = line_back(&lines[..j], row_lines);
+        let line_two_above = line_back(&lines[..j], 2 * row_lines);
+        let line = line_at(lines, j);
+        let after = write_line(
+            writer,
+            &mut cells,
+            lengths,
+            run_indices[component],
+            line_above,
+            line_two_above,
+            line,
+        )?;
+        run_indices[component] = after;
+    }
+    Ok(())
+}
+
+/// The bytes that lines are written as, where they fit an interval (`fits`). The width is that of a
+/// line in samples. The lines stand row by row, and in a row by component; the components share the
+/// cells, and each has a RUNindex of its own (ITU-T T.87, A.7 and B.2). The only refusal is out of
+/// memory.
+pub fn encode_interval(
+    alloc: Global,
+    params: &Params,
+    width: u16,
+    components: u8,
+    lines: &[Vec<u16>],
+) -> Result<Vec<u8>, AllocError>
+    requires { FitsInterval params.now width components (map (λ v. v.items) lines.now) }
+    ensures { IfOk result (λ bytes. bytes.items ≡ packed params.now width components (map (λ v. v.items) lines.now)) }
+{
+    let mut writer = BitWriter::new(alloc);
+    write_lines(&mut writer, params, width, components, lines)?;
+    writer.finish()
+}
+
+/// A law: the bytes that lines are written as read as these lines, and as no others.
+pub fn packed_lines_read_back()
+    ensures { PackedLinesReadBack }
+{}

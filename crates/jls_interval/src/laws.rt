@@ -1,0 +1,55 @@
+//! The laws of an interval's code. Each is a function that does nothing and whose contract is the law.
+
+ghost use Rattle.jls_interval.specs.Laws.{PartedOnce, FullBlocksFit, GrowthEndsInLines, LinesGrow, EventsAreApart, EventsHaveBits, CodesAreApart, PiecesReadOnce, PackedLinesRead, CutsAreExact};
+
+/// The columns of finished lines are parted into events in exactly one way.
+pub fn lines_are_parted_once()
+    ensures { PartedOnce }
+{}
+
+/// A run has as many full blocks as fit into its columns, and one more would not fit.
+pub fn full_blocks_fit()
+    ensures { FullBlocksFit }
+{}
+
+/// Lines that grow event by event until none can come next are whole lines, and the events are
+/// those that they are parted into.
+pub fn growth_ends_in_lines()
+    ensures { GrowthEndsInLines }
+{}
+
+/// All lines grow so, from their events.
+pub fn lines_grow()
+    ensures { LinesGrow }
+{}
+
+/// After the same earlier events, of two events that can come next neither's bits begin the other's.
+pub fn events_are_apart()
+    ensures { EventsAreApart }
+{}
+
+/// Every event has at least one bit.
+pub fn events_have_bits()
+    ensures { EventsHaveBits }
+{}
+
+/// Of the codes of two lists of lines of the same number and width, neither begins the other.
+pub fn codes_are_apart()
+    ensures { CodesAreApart }
+{}
+
+/// A piece reads as at most one list of lines, and no piece that reads is also too long.
+pub fn pieces_read_once()
+    ensures { PiecesReadOnce }
+{}
+
+/// What lines are written as reads as them.
+pub fn packed_lines_read()
+    ensures { PackedLinesRead }
+{}
+
+/// Bits are a proper prefix of the code of some lines exactly where they are the bits of whole first
+/// events and then a proper prefix of the bits of one event that can come next.
+pub fn cuts_are_exact()
+    ensures { CutsAreExact }
+{}

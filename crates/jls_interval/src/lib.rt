@@ -1,0 +1,21 @@
+//! One interval of scan data: the code of its lines, what reads as it, and the laws of both.
+#![tactic(auto)]
+
+mod encode;
+mod encode_line;
+mod encode_run;
+mod encode_sample;
+mod laws;
+mod lines;
+mod neighbours;
+mod run_index;
+
+pub use encode::{encode_interval, packed_lines_read_back};
+pub use laws::{
+    codes_are_apart, cuts_are_exact, events_are_apart, events_have_bits, full_blocks_fit,
+    growth_ends_in_lines, lines_are_parted_once, lines_grow, packed_lines_read, pieces_read_once,
+};
+pub use lines::fits;
+
+#[cfg(test)]
+mod tests;
