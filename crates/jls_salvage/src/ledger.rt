@@ -50,7 +50,7 @@ impl Ledger {
         }
     }
 
-    /// A read into a buffer of `room` bytes gave these bytes.
+    /// Notes that a read into a buffer of `room` bytes gave these bytes.
     pub(crate) fn read(&mut self, room: usize, bytes: &[u8])
         ensures { self.new ≡ after_read self.old room bytes.now }
     {
@@ -58,6 +58,7 @@ impl Ledger {
         self.reads = saturating_increment(self.reads);
     }
 
+    /// Notes that a read failed.
     pub(crate) fn read_failed(&mut self)
         ensures { self.new ≡ after_failed_read self.old }
     {
@@ -66,13 +67,14 @@ impl Ledger {
         self.read_failures = saturating_increment(self.read_failures);
     }
 
-    /// A write took these bytes.
+    /// Notes that a write took these bytes.
     pub(crate) fn written(&mut self, bytes: &[u8])
         ensures { self.new ≡ after_write self.old bytes.now }
     {
         self.cell.note(Event::Write(bytes));
     }
 
+    /// Notes that a write failed.
     pub(crate) fn write_failed(&mut self)
         ensures { self.new ≡ after_failed_write self.old }
     {
@@ -80,18 +82,21 @@ impl Ledger {
         self.write_failures = saturating_increment(self.write_failures);
     }
 
+    /// Notes that the input of this name was opened.
     pub(crate) fn opened(&mut self, name: &str)
         ensures { self.new ≡ after_open self.old name.now }
     {
         self.cell.note(Event::Open(name));
     }
 
+    /// Notes that the output of this name was created.
     pub(crate) fn created(&mut self, name: &str)
         ensures { self.new ≡ after_create self.old name.now }
     {
         self.cell.note(Event::Create(name));
     }
 
+    /// Notes that an input could not be opened, or an output not be created.
     pub(crate) fn open_failed(&mut self)
         ensures { self.new ≡ after_failed_open self.old }
     {
@@ -99,24 +104,28 @@ impl Ledger {
         self.open_failures = saturating_increment(self.open_failures);
     }
 
+    /// How many reads were made; at 2^64 - 1 the count stays.
     pub(crate) fn reads(&self) -> u64
         ensures { result ≡ self.now.reads }
     {
         self.reads
     }
 
+    /// How many reads failed; at 2^64 - 1 the count stays.
     pub(crate) fn read_failures(&self) -> u64
         ensures { result ≡ self.now.read_failures }
     {
         self.read_failures
     }
 
+    /// How many writes failed; at 2^64 - 1 the count stays.
     pub(crate) fn write_failures(&self) -> u64
         ensures { result ≡ self.now.write_failures }
     {
         self.write_failures
     }
 
+    /// How many inputs and outputs could not be opened or created; at 2^64 - 1 the count stays.
     pub(crate) fn open_failures(&self) -> u64
         ensures { result ≡ self.now.open_failures }
     {
