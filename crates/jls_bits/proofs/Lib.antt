@@ -1,3 +1,7 @@
+pub mod Appending
+pub mod CodeSteps
+pub mod Codes
 pub mod DataBits
 pub mod NumberBits
+pub mod Padding
 mod Rows

@@ -20,9 +20,7 @@ golomb k g qbpp m =
 abbrev pub has_golomb : ℕ → ℕ → ℕ → ℕ → Bool
 has_golomb k g qbpp m = if (is_short k g qbpp m) then true else nat_le 1 m && nat_le m (2 ^ qbpp)
 
--- the code of some number stands at the front of the bits
-pub record HasCode (k g qbpp : ℕ) (given : List Bool) : Type 0 where
-  pub number : ℕ
-  pub rest : List Bool
-  pub has : has_golomb k g qbpp number ≡ true
-  pub code : given ≡ golomb k g qbpp number ++ rest
+-- no number's code stands at the front of the bits
+abbrev pub NoCodeBegins : ℕ → ℕ → ℕ → List Bool → Type 0
+NoCodeBegins k g qbpp given =
+    (m : ℕ) (rest : List Bool) → has_golomb k g qbpp m ≡ true → given ≡ golomb k g qbpp m ++ rest → ⊥

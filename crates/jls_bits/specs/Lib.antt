@@ -1,4 +1,7 @@
+pub mod Appending
 pub mod Bits
+pub mod CodeState
 pub mod Golomb
+pub mod Packing
 pub mod Pad
 pub mod Unread

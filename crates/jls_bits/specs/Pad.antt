@@ -1,5 +1,5 @@
 -- The bytes in which an interval's bits are written: filled up with zeros, and never with 0xFF last.
-use Rattle.std.specs.Prelude.{◌≡◌, ℕ, zero, suc, ◌+◌, ◌<◌, ◌≤◌, Bool, false, ◌==◌, if◌then◌else◌, List, [], ◌∷◌, ◌++◌, length, take, drop, replicate}
+use Rattle.std.specs.Prelude.{◌≡◌, ℕ, ◌+◌, ◌<◌, ◌-◌, ◌≤◌, Bool, false, ◌==◌, if◌then◌else◌, List, [], ◌∷◌, ◌++◌, length, replicate}
 use Rattle.std.specs.List.{AllByRecursion}
 use Rattle.jls_bits.specs.Bits.{value_of_bits, width_after, AreDataBits}
 
@@ -15,15 +15,20 @@ pub record IsPad (given : List Bool) (bytes : List ℕ) : Type 0 where
   pub carries : Carries given bytes
   pub shortest : (others : List ℕ) → Carries given others → length bytes ≤ length others
 
--- The same, computed: the bytes for the bits that follow the byte `before`, each of as many bits as it can carry. A byte
--- takes seven bits or more, or the last ones, so a fuel above the number of bits suffices
-unfoldable pub pad_after : ℕ → ℕ → List Bool → List ℕ
-pad_after zero before given = []
-pad_after (suc fuel) before [] = if (before == 255) then 0 ∷ [] else []
-pad_after (suc fuel) before (b ∷ bs) =
-    let x = value_of_bits (take (width_after before) ((b ∷ bs) ++ replicate 7 false)) in
-    x ∷ pad_after fuel x (drop (width_after before) (b ∷ bs))
+-- the bytes for the last bits, fewer than a byte carries behind `before`: zeros fill the byte up, and no bits need a byte
+-- only behind 0xFF
+abbrev pub last_bytes : ℕ → List Bool → List ℕ
+last_bytes before [] = if (before == 255) then 0 ∷ [] else []
+last_bytes before (p ∷ ps) =
+    value_of_bits ((p ∷ ps) ++ replicate (width_after before - length (p ∷ ps)) false) ∷ []
 
--- the pad of the bits, computed: the only bytes of `IsPad`
+-- the bytes for the bits `pending` and then `given` behind the byte `before`, where the pending ones fill no byte
+unfoldable pub pad_after : ℕ → List Bool → List Bool → List ℕ
+pad_after before pending [] = last_bytes before pending
+pad_after before pending (b ∷ bs) =
+    let full = length pending + 1 == width_after before in let byte = value_of_bits (pending ++ b ∷ []) in
+    let rest = pad_after (if full then byte else before) (if full then [] else pending ++ b ∷ []) bs in if full then byte ∷ rest else rest
+
+-- the one pad of the bits, computed
 abbrev pub pad : List Bool → List ℕ
-pad given = pad_after (length given + 1) 0 given
+pad given = pad_after 0 [] given

@@ -1,0 +1,124 @@
+-- Bytes that bits are appended to: whole bytes, and then the bits that fill no byte yet.
+use Rattle.std.proofs.Common.{◌≡◌, ℕ, zero, suc, ◌+◌, ◌-◌, ◌*◌, ◌/◌, ◌%◌, ◌^◌, ◌<◌, ◌≤◌, Bool, true, false, not, ◌&&◌, eqb, leb, cond, List, [], ◌∷◌, ◌++◌, length, replicate, refl, sym, ap, ◌∙◌, subst, arith, inl, inr, append_assoc, length-append}
+use mir.Val.{bool_byte}
+use Rattle.std.specs.List.{AllByRecursion}
+use Rattle.std.proofs.lemmas.List.{append-nil}
+use Rattle.std.proofs.lemmas.Bool.{cases_Bool, cases_eq, and_parts, and_from, and_left, and_right, not-true, eqb-true, leb-false, ne_eqb, lt-leb}
+use Rattle.std.proofs.Math.Pow.{pow_mono}
+use Rattle.std.proofs.Math.Nat.{mod-eq_of_lt}
+use Rattle.jls_bits.specs.Bits.{bits, width_after, ends_data, bits_read_after, is_whole_after}
+use Rattle.jls_bits.specs.Appending.{last_after, AreFilled}
+use Rattle.jls_bits.proofs.NumberBits.{bits_same, bits_push_bool, bits_more}
+use Rattle.jls_bits.proofs.DataBits.{width_bounds, data_end, data_more, whole_more, whole_end, length_more}
+
+abbrev AreBytes : List ℕ → Type 0
+AreBytes xs = AllByRecursion (λ x. x < 256) xs
+
+-- whole bytes begin with one that doesn't end the data
+pub whole_parts : (before x : ℕ) (xs : List ℕ) → is_whole_after before (x ∷ xs) ≡ true → (ends_data before x ≡ false) × (is_whole_after x xs ≡ true)
+unfolding is_whole_after
+whole_parts before x xs h = let p = and_parts (not (ends_data before x)) (is_whole_after x xs) h in (not-true (ends_data before x) p.0, p.1)
+
+-- a byte that doesn't end the data is below 2 to the number of its data bits, and the other way round
+pub fits_width : (before x : ℕ) → ends_data before x ≡ false → x < 256 → x < 2 ^ width_after before
+unfolding ends_data width_after
+fits_width before x h l =
+    elim (cases_Bool (eqb before 255)) [ inl e ↦ (let f : leb 128 x ≡ false = rw e at h in let g = leb-false 128 x f in rw e (omega arith)) | inr e ↦ rw e (omega arith) ]
+
+pub goes_on : (before x : ℕ) → x < 2 ^ width_after before → ends_data before x ≡ false
+unfolding ends_data width_after
+goes_on before x l =
+    elim (cases_Bool (eqb before 255)) [ inl e ↦ (let s : x < 2 ^ 7 = rw e at l in let f : leb 128 x ≡ false = lt-leb 128 x (omega arith) in rw (e, f) refl) | inr e ↦ rw e refl ]
+
+pub below_256 : (before x : ℕ) → x < 2 ^ width_after before → x < 256
+below_256 before x l = let m : 2 ^ width_after before ≤ 2 ^ 8 = pow_mono {i = width_after before} {j = 8} (width_bounds before).1 in omega arith
+
+-- the data bits of joined bytes
+pub data_append : (before : ℕ) (xs ys : List ℕ) → is_whole_after before xs ≡ true
+    → bits_read_after before (xs ++ ys) ≡ bits_read_after before xs ++ bits_read_after (last_after before xs) ys
+data_append before [] ys h = ap (λ z. z ++ bits_read_after before ys) (sym (data_end before))
+data_append before (x ∷ xs) ys h =
+    let p = whole_parts before x xs h in
+    data_more before x (xs ++ ys) p.0 ∙ ap (λ z. bits (width_after before) x ++ z) (data_append x xs ys p.1) ∙ sym (append_assoc (bits (width_after before) x) (bits_read_after x xs) (bits_read_after (last_after x xs) ys)) ∙ ap (λ z. z ++ bits_read_after (last_after x xs) ys) (sym (data_more before x xs p.0))
+
+pub whole_append : (before : ℕ) (xs ys : List ℕ) → is_whole_after before xs ≡ true → is_whole_after (last_after before xs) ys ≡ true → is_whole_after before (xs ++ ys) ≡ true
+whole_append before [] ys h j = j
+whole_append before (x ∷ xs) ys h j = let p = whole_parts before x xs h in whole_more before x (xs ++ ys) p.0 ∙ whole_append x xs ys p.1 j
+
+pub whole_front : (before : ℕ) (xs ys : List ℕ) → is_whole_after before (xs ++ ys) ≡ true → (is_whole_after before xs ≡ true) × (is_whole_after (last_after before xs) ys ≡ true)
+whole_front before [] ys h = (whole_end before, h)
+whole_front before (x ∷ xs) ys h = let p = whole_parts before x (xs ++ ys) h in let r = whole_front x xs ys p.1 in (whole_more before x xs p.0 ∙ r.0, r.1)
+
+pub bytes_append : (xs ys : List ℕ) → AreBytes xs → AreBytes ys → AreBytes (xs ++ ys)
+bytes_append [] ys h j = j
+bytes_append (x ∷ xs) ys h j = (h.0, bytes_append xs ys h.1 j)
+
+pub last_append : (before : ℕ) (xs : List ℕ) (y : ℕ) → last_after before (xs ++ y ∷ []) ≡ y
+last_append before [] y = refl
+last_append before (x ∷ xs) y = last_append x xs y
+
+-- a list whose last element is x
+front_of : (x y : ℕ) (ys : List ℕ) (v : ℕ) → last_after y ys ≡ v → (front : List ℕ) × (x ∷ (y ∷ ys) ≡ front ++ v ∷ [])
+front_of x y [] v e = (x ∷ [], ap (λ z. x ∷ (z ∷ [])) e)
+front_of x y (z ∷ zs) v e = let r = front_of y z zs v e in (x ∷ r.0, ap (λ u. x ∷ u) r.1)
+
+-- bytes that end in 0xFF
+pub last_is : (before : ℕ) (xs : List ℕ) → (before ≡ 255 → ⊥) → last_after before xs ≡ 255 → (front : List ℕ) × (xs ≡ front ++ 255 ∷ [])
+last_is before [] h e = absurd (h e)
+last_is before (x ∷ []) h e = ([], ap (λ z. z ∷ []) e)
+last_is before (x ∷ (y ∷ ys)) h e = front_of x y ys 255 e
+
+-- whole bytes have seven data bits each at least
+pub many_bits : (before : ℕ) (xs : List ℕ) → is_whole_after before xs ≡ true → 7 * length xs ≤ length (bits_read_after before xs)
+many_bits before [] h = omega arith
+many_bits before (x ∷ xs) h =
+    let p = whole_parts before x xs h in let r = many_bits x xs p.1 in let l = length_more before x xs p.0 in let w = width_bounds before in omega (arith, r, l, w)
+
+-- the bytes for one stream of bits: of two lists the shorter one begins the other
+pub same_stream : (before : ℕ) (xs ys : List ℕ) (s t : List Bool) → AreBytes xs → AreBytes ys → is_whole_after before xs ≡ true → is_whole_after before ys ≡ true
+    → bits_read_after before xs ++ s ≡ bits_read_after before ys ++ t → length xs ≤ length ys → (rest : List ℕ) × (ys ≡ xs ++ rest)
+same_stream before [] ys s t a b h j e l = (ys, refl)
+same_stream before (x ∷ xs) [] s t a b h j e l = absurd (omega arith)
+same_stream before (x ∷ xs) (y ∷ ys) s t a b h j e l =
+    let p = whole_parts before x xs h in let q = whole_parts before y ys j in let w = width_after before in
+    let f : bits w x ++ (bits_read_after x xs ++ s) ≡ bits w y ++ (bits_read_after y ys ++ t) = sym (append_assoc (bits w x) (bits_read_after x xs) s) ∙ ap (λ z. z ++ s) (sym (data_more before x xs p.0)) ∙ e ∙ ap (λ z. z ++ t) (data_more before y ys q.0) ∙ append_assoc (bits w y) (bits_read_after y ys) t in
+    let r = bits_same w x y (bits_read_after x xs ++ s) (bits_read_after y ys ++ t) f in
+    let m : x % 2 ^ w ≡ x = mod-eq_of_lt (fits_width before x p.0 a.0) in let n : y % 2 ^ w ≡ y = mod-eq_of_lt (fits_width before y q.0 b.0) in
+    let c : x ≡ y = sym m ∙ r.0 ∙ n in
+    let k : (is_whole_after x ys ≡ true) × (bits_read_after x xs ++ s ≡ bits_read_after x ys ++ t) = rw c (q.1, rw c at r.1) in
+    let u = same_stream x xs ys s t a.1 b.1 p.1 k.0 k.1 (omega arith) in (u.0, ap (λ z. z ∷ ys) (sym c) ∙ ap (λ z. x ∷ z) u.1)
+
+-- bytes that bits were written to, and one more byte
+pub filled_more : (bytes : List ℕ) (x : ℕ) → AreFilled bytes → x < 2 ^ width_after (last_after 0 bytes)
+    → AreFilled (bytes ++ x ∷ []) × (bits_read_after 0 (bytes ++ x ∷ []) ≡ bits_read_after 0 bytes ++ bits (width_after (last_after 0 bytes)) x)
+filled_more bytes x f l =
+    let last = last_after 0 bytes in let e = goes_on last x l in
+    (record { are_bytes = bytes_append bytes (x ∷ []) f.are_bytes (below_256 last x l, tt); whole = whole_append 0 bytes (x ∷ []) f.whole (whole_more last x [] e ∙ whole_end x) }, data_append 0 bytes (x ∷ []) f.whole ∙ ap (λ z. bits_read_after 0 bytes ++ z) (data_more last x [] e ∙ ap (λ z. bits (width_after last) x ++ z) (data_end x) ∙ append-nil (bits (width_after last) x)))
+
+-- a bit that fills the next byte
+pub bit_fills : (bytes : List ℕ) (last count partial : ℕ) (bit : Bool) → AreFilled bytes → last ≡ last_after 0 bytes → count + 1 ≡ width_after last → partial < 2 ^ count
+    → AreFilled (bytes ++ (2 * partial + bool_byte bit) ∷ []) × (bits_read_after 0 (bytes ++ (2 * partial + bool_byte bit) ∷ []) ≡ (bits_read_after 0 bytes ++ bits count partial) ++ bit ∷ [])
+bit_fills bytes last count partial bit f e w l =
+    let x = 2 * partial + bool_byte bit in let p = bits_push_bool bit count partial l in
+    let v : count + 1 ≡ width_after (last_after 0 bytes) = w ∙ ap width_after e in
+    let r = filled_more bytes x f (subst (λ z. x < 2 ^ z) v p.1) in
+    (r.0, r.1 ∙ ap (λ z. bits_read_after 0 bytes ++ bits z x) (sym v) ∙ ap (λ z. bits_read_after 0 bytes ++ z) p.0 ∙ sym (append_assoc (bits_read_after 0 bytes) (bits count partial) (bit ∷ [])))
+
+-- a bit that doesn't
+pub bit_adds : (done : List Bool) (count partial : ℕ) (bit : Bool) → partial < 2 ^ count
+    → (done ++ bits (count + 1) (2 * partial + bool_byte bit) ≡ (done ++ bits count partial) ++ bit ∷ []) × (2 * partial + bool_byte bit < 2 ^ (count + 1))
+bit_adds done count partial bit l = let p = bits_push_bool bit count partial l in (ap (λ z. done ++ z) p.0 ∙ sym (append_assoc done (bits count partial) (bit ∷ [])), p.1)
+
+-- the bits of a byte that isn't full, and one more
+pub byte_of_bits : (last count partial : ℕ) (bit : Bool) → count < width_after last → partial < 2 ^ count → (2 * partial + bool_byte bit < 256) × (2 * partial ≤ 2 * partial + bool_byte bit)
+byte_of_bits last count partial bit l b =
+    let w = width_bounds last in let p = bits_push_bool bit count partial b in
+    let m : 2 ^ (count + 1) ≤ 2 ^ 8 = pow_mono {i = count + 1} {j = 8} (omega arith) in (omega arith, omega arith)
+
+-- one more of a number's bits
+pub next_bit : (done after : List Bool) (count place value : ℕ) (bit : Bool) → place < count → after ≡ done ++ bit ∷ [] → bit ≡ eqb (value / 2 ^ (count - 1 - place) % 2) 1
+    → after ++ bits (count - (place + 1)) value ≡ done ++ bits (count - place) value
+next_bit done after count place value bit l e b =
+    let n = count - place in let m : count - (place + 1) ≡ n - 1 = omega arith in let k : count - 1 - place ≡ n - 1 = omega arith in
+    let d : bit ∷ bits (count - (place + 1)) value ≡ bits n value = ap (λ z. z ∷ bits (count - (place + 1)) value) (b ∙ ap (λ z. eqb (value / 2 ^ z % 2) 1) k) ∙ ap (λ z. eqb (value / 2 ^ (n - 1) % 2) 1 ∷ bits z value) m ∙ sym (bits_more n value (omega arith)) in
+    ap (λ z. z ++ bits (count - (place + 1)) value) e ∙ append_assoc done (bit ∷ []) (bits (count - (place + 1)) value) ∙ ap (λ z. done ++ z) d

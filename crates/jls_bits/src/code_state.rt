@@ -1,0 +1,131 @@
+//! A Golomb code as a machine that is told one bit after another.
+
+ghost use Rattle.std.specs.Prelude.{◌+◌, ◌≤◌, [], ◌∷◌, ◌++◌};
+ghost use Rattle.jls_bits.specs.CodeState.{bits_told, IsOpen, StepIs};
+ghost use Rattle.jls_bits.specs.declared.code_state.CodeState.TheVariants.{Zeros, Remainder, Escape};
+
+/// Where the bits of a code that isn't whole have come to.
+#[derive(Clone, Copy)]
+pub(crate) enum CodeState {
+    /// So many zeros, and nothing else.
+    Zeros(u8),
+    /// The zeros of a short code's quotient, the one, and the first bits of the remainder.
+    Remainder { quotient: u8, count: u8, value: u32 },
+    /// The zeros of an escape, the one, and the first bits of its number.
+    Escape { count: u8, value: u32 },
+}
+
+/// What one more bit makes of a code.
+#[derive(Clone, Copy)]
+pub(crate) enum CodeStep {
+    /// The bits begin some code, and none is whole.
+    More(CodeState),
+    /// The bits are this number's code.
+    Done(u32),
+    /// The bits begin no code, however they go on.
+    Refused,
+}
+
+impl CodeState {
+    /// No bit yet.
+    pub(crate) const START: CodeState = CodeState::Zeros(0);
+
+    /// Takes the next bit.
+    pub(crate) fn push(self, k: u8, g: u8, qbpp: u8, bit: bool) -> CodeStep
+        requires k { k ≤ 16 }
+        requires qbpp { (1 ≤ qbpp) × (qbpp ≤ 16) }
+        requires g { (qbpp + 2 ≤ g) × (g ≤ 64) }
+        requires open { IsOpen k g qbpp self }
+        ensures { StepIs k g qbpp (bits_told g qbpp self ++ bit ∷ []) result }
+    {
+        match self {
+            CodeState::Zeros(zeros) => push_to_zeros(zeros, k, g, qbpp, bit),
+            CodeState::Remainder {
+                quotient,
+                count,
+                value,
+            } => push_to_remainder(quotient, count, value, k, g, qbpp, bit),
+            CodeState::Escape { count, value } => push_to_escape(count, value, k, g, qbpp, bit),
+        }
+    }
+}
+
+/// Takes a bit behind zeros alone.
+fn push_to_zeros(zeros: u8, k: u8, g: u8, qbpp: u8, bit: bool) -> CodeStep
+    requires k { k ≤ 16 }
+    requires qbpp { (1 ≤ qbpp) × (qbpp ≤ 16) }
+    requires g { (qbpp + 2 ≤ g) × (g ≤ 64) }
+    requires open { IsOpen k g qbpp (Zeros zeros) }
+    ensures { StepIs k g qbpp (bits_told g qbpp (Zeros zeros) ++ bit ∷ []) result }
+{
+    let escape = g - qbpp - 1;
+    if bit {
+        if zeros == escape {
+            CodeStep::More(CodeState::Escape { count: 0, value: 0 })
+        } else if k == 0 {
+            CodeStep::Done(zeros as u32)
+        } else {
+            CodeStep::More(CodeState::Remainder {
+                quotient: zeros,
+                count: 0,
+                value: 0,
+            })
+        }
+    } else if zeros == escape {
+        CodeStep::Refused
+    } else if zeros + 1 == escape && 1 << qbpp < (escape as u32) << k {
+        // Every number of an escape has a short code.
+        CodeStep::Refused
+    } else {
+        CodeStep::More(CodeState::Zeros(zeros + 1))
+    }
+}
+
+/// Takes a bit of a short code's remainder.
+fn push_to_remainder(
+    quotient: u8,
+    count: u8,
+    value: u32,
+    k: u8,
+    g: u8,
+    qbpp: u8,
+    bit: bool,
+) -> CodeStep
+    requires k { k ≤ 16 }
+    requires g { g ≤ 64 }
+    requires open { IsOpen k g qbpp (Remainder quotient count value) }
+    ensures { StepIs k g qbpp (bits_told g qbpp (Remainder quotient count value) ++ bit ∷ []) result }
+{
+    let value = 2 * value + bit as u32;
+    let count = count + 1;
+    if count == k {
+        CodeStep::Done(((quotient as u32) << k) + value)
+    } else {
+        CodeStep::More(CodeState::Remainder {
+            quotient,
+            count,
+            value,
+        })
+    }
+}
+
+/// Takes a bit of an escape's number.
+fn push_to_escape(count: u8, value: u32, k: u8, g: u8, qbpp: u8, bit: bool) -> CodeStep
+    requires k { k ≤ 16 }
+    requires qbpp { qbpp ≤ 16 }
+    requires g { (qbpp + 2 ≤ g) × (g ≤ 64) }
+    requires open { IsOpen k g qbpp (Escape count value) }
+    ensures { StepIs k g qbpp (bits_told g qbpp (Escape count value) ++ bit ∷ []) result }
+{
+    let escape = g - qbpp - 1;
+    let value = 2 * value + bit as u32;
+    let count = count + 1;
+    let largest = (value + 1) << (qbpp - count);
+    if largest < (escape as u32) << k {
+        CodeStep::Refused
+    } else if count == qbpp {
+        CodeStep::Done(value + 1)
+    } else {
+        CodeStep::More(CodeState::Escape { count, value })
+    }
+}
