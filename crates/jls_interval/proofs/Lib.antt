@@ -20,3 +20,4 @@ pub mod PiecesLaw
 pub mod Places
 pub mod OneParting
 pub mod WorkedExamples
+pub mod RunSteps

@@ -8,3 +8,4 @@ pub mod Reads
 pub mod Stepwise
 pub mod Growth
 pub mod Laws
+pub mod RunState

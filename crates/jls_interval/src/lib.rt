@@ -2,6 +2,8 @@
 #![tactic(auto)]
 
 mod laws;
+mod run_index;
+mod run_reader;
 
 pub use laws::{
     codes_are_apart, cuts_are_exact, events_are_apart, events_have_bits, full_blocks_fit,
