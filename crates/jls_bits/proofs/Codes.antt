@@ -1,11 +1,11 @@
 -- Golomb codes: the two kinds, what stands at the front of some bits, and that no code begins another.
-use Rattle.std.proofs.Common.{◌≡◌, ℕ, zero, suc, ◌+◌, ◌-◌, ◌*◌, ◌/◌, ◌%◌, ◌^◌, ◌<◌, ◌≤◌, Bool, true, false, ◌&&◌, eqb, ltb, leb, List, [], ◌∷◌, ◌++◌, replicate, refl, sym, ap, ◌∙◌, arith, inl, inr, append_assoc}
+use Rattle.std.proofs.Common.{◌≡◌, ℕ, zero, suc, ◌+◌, ◌-◌, ◌*◌, ◌/◌, ◌%◌, ◌^◌, ◌<◌, ◌≤◌, Bool, true, false, ◌&&◌, eqb, leb, List, [], ◌∷◌, ◌++◌, replicate, refl, sym, ap, ◌∙◌, arith, inl, inr, append_assoc}
 use Rattle.std.proofs.lemmas.List.{append-nil}
 use Rattle.std.proofs.lemmas.Nat.{div-add-mod', shr_high, mod_low, mod_below, pow_pos}
 use Rattle.std.proofs.Math.Nat.{mod-eq_of_lt, zero-div}
 use Rattle.std.proofs.lemmas.Bool.{cases_Bool, ltb-true, ltb-false, lt-ltb, le-ltb, le-leb, leb-true, and_from, and_parts}
 use Rattle.jls_bits.specs.Bits.{bits}
-use Rattle.jls_bits.specs.Golomb.{escape_zeros, is_short, golomb, has_golomb}
+use Rattle.jls_bits.specs.Golomb.{is_short, golomb, has_golomb}
 use Rattle.jls_bits.proofs.NumberBits.{bits_same, bits_cong, bits_more, cons_same}
 
 pub zeros_then_one : (a b : ℕ) (s t : List Bool)

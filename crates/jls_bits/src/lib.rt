@@ -10,4 +10,7 @@ mod writer;
 
 pub use golomb::{no_golomb_code_begins_another, read_golomb, write_golomb};
 pub use reader::BitReader;
-pub use writer::BitWriter;
+pub use writer::{BitWriter, bits_have_one_pad};
+
+#[cfg(test)]
+mod tests;

@@ -1,8 +1,8 @@
 //! Writing bits into bytes.
 
-ghost use Rattle.std.specs.Prelude.{◌≡◌, ◌^◌, ◌<◌, ◌≤◌, false, [], ◌∷◌, ◌++◌, replicate, IfOk, OnOk, OnErr};
+ghost use Rattle.std.specs.Prelude.{◌≡◌, ℕ, Bool, List, ◌^◌, ◌<◌, ◌≤◌, false, [], ◌∷◌, ◌++◌, replicate, IfOk, OnOk, OnErr};
 ghost use Rattle.jls_bits.specs.Bits.{bits};
-ghost use Rattle.jls_bits.specs.Pad.{IsPad};
+ghost use Rattle.jls_bits.specs.Pad.{IsPad, pad};
 
 use crate::packing::Packing;
 use std::alloc::{AllocError, Global};
@@ -83,3 +83,9 @@ impl BitWriter {
         self.packing.finish()
     }
 }
+
+/// A law: bits have exactly one pad, and the definition `pad` computes it.
+pub fn bits_have_one_pad()
+    ensures computed { (given : List Bool) → IsPad given (pad given) }
+    ensures only { (given : List Bool) (bytes : List ℕ) → IsPad given bytes → bytes ≡ pad given }
+{}
