@@ -1,5 +1,8 @@
--- What is true of each cell that a number of errors has changed.
-use Rattle.std.specs.Prelude.{ℕ, ◌+◌, ◌*◌, ◌^◌, ◌≤◌, pos, negsuc, neg_ℤ, ◌≤ℤ◌, ◌<ℤ◌}
+-- What is true of the cells after any number of errors.
+use Rattle.std.specs.Prelude.{◌≡◌, ℕ, ◌+◌, ◌*◌, ◌^◌, ◌<◌, ◌≤◌, length, pos, negsuc, neg_ℤ, ◌≤ℤ◌, ◌<ℤ◌}
+use Rattle.std.specs.List.{All}
+use Rattle.jls_values.specs.Params.{AreCodingParameters}
+use Rattle.jls_context.specs.Variables.{Variables}
 use Rattle.jls_context.specs.declared.regular.Cell.{Cell}
 use Rattle.jls_context.specs.declared.interruption.RunCell.{RunCell}
 
@@ -19,3 +22,13 @@ pub record IsRunCell (reset : ℕ) (cell : RunCell) : Type 0 where
   pub occurrences_at_most : cell.occurrences ≤ reset
   pub magnitudes_at_most : cell.magnitudes ≤ 2 ^ 15 * (cell.occurrences + 1)
   pub negative_errors_at_most : cell.negative_errors ≤ cell.occurrences
+
+-- what is true of all of them
+pub record AreVariables (v : Variables) : Type 0 where
+  pub ranges : AreCodingParameters v.parameters
+  pub maxval_below : v.parameters.maxval < 2 ^ 16
+  pub reset_below : v.parameters.reset < 2 ^ 16
+  pub length_is : length v.regular ≡ 365
+  pub regular : All (IsCell v.parameters.reset) v.regular
+  pub run_other : IsRunCell v.parameters.reset v.run_other
+  pub run_same : IsRunCell v.parameters.reset v.run_same

@@ -1,5 +1,5 @@
 -- The error of a prediction, modulo RANGE (T.87, A.4.3 to A.4.5), and how it is mapped to a number (A.5.2).
-use Rattle.std.specs.Prelude.{◌≡◌, ℕ, ◌+◌, ◌*◌, ◌/◌, Bool, if◌then◌else◌, ℤ, pos, negsuc, ◌+ℤ◌, ◌-ℤ◌, ◌*ℤ◌, neg_ℤ, ◌≤ℤ◌, ◌<ℤ◌, int_le}
+use Rattle.std.specs.Prelude.{◌≡◌, ℕ, ◌+◌, ◌*◌, ◌/◌, Bool, if◌then◌else◌, ℤ, pos, negsuc, ◌-ℤ◌, neg_ℤ, ◌≤ℤ◌, ◌<ℤ◌, int_le}
 use Rattle.std.specs.Int.{int_rem_euclid}
 use Rattle.jls_values.specs.Params.{CodingParameters, range}
 use Rattle.jls_context.specs.Mode.{with_sign}
@@ -9,9 +9,9 @@ pub record IsError (p : CodingParameters) (e : ℤ) : Type 0 where
   pub at_least : neg_ℤ (pos (range p / 2)) ≤ℤ e
   pub below : e <ℤ pos ((range p + 1) / 2)
 
--- the numbers differ by a multiple of the modulus
+-- the numbers leave the same remainder from 0 to modulus - 1
 abbrev pub IsCongruent : ℕ → ℤ → ℤ → Type 0
-IsCongruent modulus x y = (k : ℤ) × (x ≡ y +ℤ k *ℤ pos modulus)
+IsCongruent modulus x y = int_rem_euclid x (pos modulus) ≡ int_rem_euclid y (pos modulus)
 
 -- the error that is congruent to a difference modulo RANGE (A.4.5)
 pub record IsModuloReduced (p : CodingParameters) (difference e : ℤ) : Type 0 where

@@ -1,5 +1,5 @@
 -- The two cells of samples that interrupt a run (T.87, A.7.2). `same` says that RItype is 1: Ra and Rb are the same.
-use Rattle.std.specs.Prelude.{ℕ, ◌+◌, ◌-◌, ◌*◌, ◌/◌, Bool, not, ◌&&◌, ◌||◌, nat_lt, nat_le, ◌==◌, if◌then◌else◌, ℤ, pos, unsigned_abs, int_lt}
+use Rattle.std.specs.Prelude.{ℕ, ◌+◌, ◌-◌, ◌*◌, ◌/◌, Bool, false, not, ◌&&◌, ◌||◌, nat_lt, nat_le, ◌==◌, if◌then◌else◌, ℤ, pos, unsigned_abs, int_lt}
 use Rattle.jls_values.specs.Params.{CodingParameters}
 use Rattle.jls_context.specs.declared.interruption.RunCell.{RunCell}
 use Rattle.jls_context.specs.Regular.{initial_magnitudes, golomb_k}
@@ -31,6 +31,22 @@ one_if b = if b then 1 else 0
 abbrev pub interruption_mapped : Bool → RunCell → ℤ → ℕ
 interruption_mapped same cell e =
     2 * unsigned_abs e - one_if same - one_if (interruption_map same cell e)
+
+-- map by the sign alone, where `first` says what it is for an error above 0
+abbrev pub map_by_sign : Bool → ℤ → Bool
+map_by_sign first e =
+    if int_lt (pos 0) e then first
+    else if int_lt e (pos 0) then not first
+    else false
+
+-- whether map is 1 for an error above 0, and then for none below
+abbrev pub maps_positive : Bool → RunCell → Bool
+maps_positive same cell =
+    (run_k same cell == 0) && nat_lt (2 * cell.negative_errors) cell.occurrences
+
+-- EM with a map by the sign
+abbrev pub mapped_by_sign : Bool → Bool → ℤ → ℕ
+mapped_by_sign same first e = 2 * unsigned_abs e - one_if same - one_if (map_by_sign first e)
 
 -- A += floor((EM + 1 - RItype) / 2), and Nn += 1 where the error is negative
 abbrev pub run_added : Bool → RunCell → ℤ → RunCell

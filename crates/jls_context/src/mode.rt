@@ -1,6 +1,11 @@
 //! Run mode and regular mode.
 
-/// The samples round the one that is coded, as far as they are known (T.87, figure A.2).
+ghost use Rattle.std.specs.Prelude.{◌≡◌, ◌^◌, pos, negsuc, ◌-ℤ◌, ◌≤ℤ◌, unsigned_abs};
+ghost use Rattle.jls_context.specs.Mode.{IsMode, quantized_gradients, weighed};
+
+use jls_values::Params;
+
+/// The samples round the one that is coded, as far as they are known (ITU-T T.87, figure A.2).
 #[derive(Clone, Copy, Debug, PartialEq, Eq)]
 pub struct Neighbours {
     /// To the left.
@@ -13,7 +18,7 @@ pub struct Neighbours {
     pub rd: u16,
 }
 
-/// How the next sample is coded (T.87, A.3.2 to A.3.4).
+/// How the next sample is coded (ITU-T T.87, A.3.2 to A.3.4).
 #[derive(Clone, Copy, Debug, PartialEq, Eq)]
 pub enum Mode {
     /// All gradients are 0: a run of samples equal to Ra begins here.
@@ -25,4 +30,76 @@ pub enum Mode {
         /// Whether SIGN is -1.
         negative: bool,
     },
+}
+
+/// The number with the opposite sign where SIGN is -1.
+pub(crate) fn with_sign(negative: bool, value: i32) -> i32
+    requires at_least { negsuc (2 ^ 17) ≤ℤ value }
+    requires at_most { value ≤ℤ pos (2 ^ 17) }
+    ensures value { result ≡ Rattle.jls_context.specs.Mode.with_sign negative value }
+    ensures size { unsigned_abs result ≡ unsigned_abs value }
+{
+    if negative { -value } else { value }
+}
+
+fn is_run_mode(near: Neighbours) -> bool
+    ensures { result ≡ Rattle.jls_context.specs.Mode.is_run_mode near }
+{
+    near.rd == near.rb && near.rb == near.rc && near.rc == near.ra
+}
+
+fn quantized_size(params: &Params, size: u16) -> i32
+    ensures value { result ≡ pos (Rattle.jls_context.specs.Mode.quantized_size params.now size) }
+    ensures at_least { pos 0 ≤ℤ result }
+    ensures at_most { result ≤ℤ pos 4 }
+{
+    if size == 0 {
+        0
+    } else if size < params.t1() {
+        1
+    } else if size < params.t2() {
+        2
+    } else if size < params.t3() {
+        3
+    } else {
+        4
+    }
+}
+
+/// The quantized gradient from one sample to another.
+fn quantized_gradient(params: &Params, to: u16, from: u16) -> i32
+    ensures value { result ≡ Rattle.jls_context.specs.Mode.quantized_gradient params.now (pos to -ℤ pos from) }
+    ensures at_least { negsuc 3 ≤ℤ result }
+    ensures at_most { result ≤ℤ pos 4 }
+{
+    if to < from {
+        -quantized_size(params, from - to)
+    } else {
+        quantized_size(params, to - from)
+    }
+}
+
+/// The quantized gradients, weighed: its size is the context's number, and its sign is SIGN.
+fn weighed_gradients(params: &Params, near: Neighbours) -> i32
+    ensures { let q = quantized_gradients params.now near in result ≡ weighed q.q1 q.q2 q.q3 }
+{
+    81 * quantized_gradient(params, near.rd, near.rb)
+        + 9 * quantized_gradient(params, near.rb, near.rc)
+        + quantized_gradient(params, near.rc, near.ra)
+}
+
+impl Mode {
+    /// The mode of a sample with these neighbours.
+    pub(crate) fn of(params: &Params, near: Neighbours) -> Mode
+        ensures { IsMode params.now near result }
+    {
+        if is_run_mode(near) {
+            return Mode::Run;
+        }
+        let number = weighed_gradients(params, near);
+        Mode::Regular {
+            cell: number.unsigned_abs() as u16,
+            negative: number < 0,
+        }
+    }
 }

@@ -1,7 +1,15 @@
 //! Cells of regular mode.
 
-/// The variables of one context of regular mode (T.87 A.2).
-#[derive(Clone, Copy, Debug, PartialEq, Eq)]
+ghost use Rattle.std.specs.Prelude.{◌≡◌, ℕ, ◌+◌, ◌*◌, ◌^◌, ◌<◌, ◌≤◌, pos, negsuc, neg_ℤ, ◌≤ℤ◌, ◌<ℤ◌};
+ghost use Rattle.jls_values.specs.Params.{AreCodingParameters};
+ghost use Rattle.jls_context.specs.Regular.{initial_cell, regular_k, updated, added, halved, bias_computed, computed_bias, computed_correction};
+ghost use Rattle.jls_context.specs.Bounds.{IsCell};
+
+use crate::golomb::golomb_k;
+use jls_values::Params;
+
+/// The variables of one context of regular mode (ITU-T T.87, A.2).
+#[derive(Clone, Copy)]
 pub struct Cell {
     /// A: the sizes of its errors, added up.
     pub magnitudes: u32,
@@ -11,4 +19,136 @@ pub struct Cell {
     pub bias: i32,
     /// C: the correction of its predictions.
     pub correction: i32,
+}
+
+/// A at the start of an interval.
+pub(crate) fn initial_magnitudes(params: &Params) -> u32
+    ensures value { result ≡ Rattle.jls_context.specs.Regular.initial_magnitudes params.now }
+    ensures at_most { result ≤ 2 ^ 16 }
+    ensures ranges { AreCodingParameters params.now }
+{
+    ((params.range() + 32) / 64).max(2)
+}
+
+/// B brought to above -N and at most 0.
+fn computed_bias(occurrences: u32, bias: i32) -> i32
+    requires some { 1 ≤ occurrences }
+    requires few { occurrences ≤ 2 ^ 16 }
+    requires bias_at_least { negsuc (2 ^ 18) ≤ℤ bias }
+    requires bias_at_most { bias ≤ℤ pos (2 ^ 18) }
+    ensures value { result ≡ Rattle.jls_context.specs.Regular.computed_bias occurrences bias }
+    ensures above { neg_ℤ (pos occurrences) <ℤ result }
+    ensures at_most { result ≤ℤ pos 0 }
+{
+    let count = occurrences as i32;
+    if bias <= -count {
+        (bias + count).max(1 - count)
+    } else if bias > 0 {
+        (bias - count).min(0)
+    } else {
+        bias
+    }
+}
+
+/// C after a bias.
+fn computed_correction(occurrences: u32, bias: i32, correction: i32) -> i32
+    requires few { occurrences ≤ 2 ^ 16 }
+    requires correction_at_least { negsuc 127 ≤ℤ correction }
+    requires correction_at_most { correction ≤ℤ pos 127 }
+    ensures value { result ≡ Rattle.jls_context.specs.Regular.computed_correction occurrences bias correction }
+    ensures at_least { negsuc 127 ≤ℤ result }
+    ensures at_most { result ≤ℤ pos 127 }
+{
+    if bias <= -(occurrences as i32) {
+        (correction - 1).max(-128)
+    } else if bias > 0 {
+        (correction + 1).min(127)
+    } else {
+        correction
+    }
+}
+
+impl Cell {
+    /// The cell at the start of an interval.
+    pub(crate) fn initial(params: &Params) -> Cell
+        ensures value { result ≡ initial_cell params.now }
+        ensures cell { IsCell params.now.reset result }
+        ensures ranges { AreCodingParameters params.now }
+    {
+        Cell {
+            magnitudes: initial_magnitudes(params),
+            occurrences: 1,
+            bias: 0,
+            correction: 0,
+        }
+    }
+
+    /// The k of its codes.
+    pub(crate) fn k(self) -> u8
+        requires cell { (reset : ℕ) × IsCell reset self }
+        ensures value { result ≡ regular_k self }
+        ensures enough { self.magnitudes ≤ self.occurrences * 2 ^ result }
+        ensures least { (k : ℕ) → k < result → self.occurrences * 2 ^ k < self.magnitudes }
+        ensures at_most { result ≤ 16 }
+    {
+        golomb_k(self.occurrences, self.magnitudes)
+    }
+
+    /// Whether its errors are mapped by the special mapping, where k is its k.
+    pub(crate) fn uses_special_mapping(self, k: u8) -> bool
+        requires cell { (reset : ℕ) × (reset < 2 ^ 16) × IsCell reset self }
+        requires k { k ≡ regular_k self }
+        ensures { result ≡ Rattle.jls_context.specs.Regular.uses_special_mapping self }
+    {
+        k == 0 && 2 * self.bias <= -(self.occurrences as i32)
+    }
+
+    /// The cell with its bias brought back into its range.
+    fn bias_computed(self) -> Cell
+        requires some { 1 ≤ self.occurrences }
+        requires few { self.occurrences ≤ 2 ^ 16 }
+        requires bias_at_least { negsuc (2 ^ 18) ≤ℤ self.bias }
+        requires bias_at_most { self.bias ≤ℤ pos (2 ^ 18) }
+        requires correction_at_least { negsuc 127 ≤ℤ self.correction }
+        requires correction_at_most { self.correction ≤ℤ pos 127 }
+        ensures value { result ≡ bias_computed self }
+        ensures cell { (reset : ℕ) → self.occurrences ≤ reset → self.magnitudes ≤ 2 ^ 15 * (self.occurrences + 1) → IsCell reset result }
+    {
+        Cell {
+            bias: computed_bias(self.occurrences, self.bias),
+            correction: computed_correction(self.occurrences, self.bias, self.correction),
+            ..self
+        }
+    }
+
+    /// The cell after an error.
+    pub(crate) fn updated(self, reset: u32, error: i32) -> Cell
+        requires reset_at_least { 3 ≤ reset }
+        requires reset_below { reset < 2 ^ 16 }
+        requires cell { IsCell reset self }
+        requires error_at_least { negsuc (2 ^ 15) <ℤ error }
+        requires error_at_most { error ≤ℤ pos (2 ^ 15) }
+        ensures value { result ≡ updated reset self error }
+        ensures cell { IsCell reset result }
+    {
+        let magnitudes = self.magnitudes + error.unsigned_abs();
+        let bias = self.bias + error;
+        if self.occurrences == reset {
+            let aged = Cell {
+                magnitudes: magnitudes / 2,
+                occurrences: self.occurrences / 2 + 1,
+                bias: bias.div_euclid(2),
+                correction: self.correction,
+            };
+            aged.bias_computed()
+        } else {
+            let grown = Cell {
+                magnitudes,
+                occurrences: self.occurrences + 1,
+                bias,
+                correction: self.correction,
+            };
+            grown.bias_computed()
+        }
+    }
 }

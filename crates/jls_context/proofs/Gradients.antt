@@ -1,0 +1,113 @@
+-- Quantized gradients: their range, and what their weighed sum says of SIGN and the context.
+use Rattle.std.proofs.Common.{◌≡◌, ℕ, zero, suc, ◌-◌, ◌<◌, ◌≤◌, Bool, true, false, eqb, ltb, [], ◌∷◌, refl, ap, sym, ◌∙◌, arith, inl, inr}
+use Rattle.std.specs.Prelude.{ℤ, pos, negsuc, ◌-ℤ◌, neg_ℤ, ◌≤ℤ◌, ◌<ℤ◌, unsigned_abs, int_lt}
+use Rattle.std.proofs.lemmas.Int.{ints}
+use Rattle.std.proofs.lemmas.Bool.{cases_Bool, cases_lt, eq-eqb, ne_eqb, false≢true}
+use Rattle.jls_values.specs.Params.{CodingParameters}
+use Rattle.jls_context.specs.declared.mode.Neighbours.{Neighbours}
+use Rattle.jls_context.specs.Mode.{with_sign, is_run_mode, quantized_size, quantized_gradient, quantized_gradients, is_first_negative, is_negative, weighed, context, IsRegularMode}
+
+pub gradient_below : (p : CodingParameters) (to from : ℕ) → to < from → quantized_gradient p (pos to -ℤ pos from) ≡ neg_ℤ (pos (quantized_size p (from - to)))
+unfolding quantized_gradient
+gradient_below p to from h =
+    let negative : int_lt (pos to -ℤ pos from) (pos 0) ≡ true = grind (arith, ints) in
+    let size : unsigned_abs (pos to -ℤ pos from) ≡ from - to = omega (arith, ints) in rw (negative, size) refl
+
+pub gradient_above : (p : CodingParameters) (to from : ℕ) → from ≤ to → quantized_gradient p (pos to -ℤ pos from) ≡ pos (quantized_size p (to - from))
+unfolding quantized_gradient
+gradient_above p to from h =
+    let negative : int_lt (pos to -ℤ pos from) (pos 0) ≡ false = grind (arith, ints) in
+    let size : unsigned_abs (pos to -ℤ pos from) ≡ to - from = omega (arith, ints) in rw (negative, size) refl
+
+-- five steps
+size_range : (p : CodingParameters) (n : ℕ) → quantized_size p n ≤ 4
+size_range p n =
+    elim (cases_Bool (eqb n 0)) [
+      | inl e ↦ rw e (omega arith)
+      | inr e ↦ elim (cases_Bool (ltb n p.t1)) [
+        | inl f ↦ rw (e, f) (omega arith)
+        | inr f ↦ elim (cases_Bool (ltb n p.t2)) [
+          | inl g ↦ rw (e, f, g) (omega arith)
+          | inr g ↦ elim (cases_Bool (ltb n p.t3)) [ inl h ↦ rw (e, f, g, h) (omega arith) | inr h ↦ rw (e, f, g, h) (omega arith) ]
+        ]
+      ]
+    ]
+
+-- only 0 has the size 0
+size_zero : (p : CodingParameters) (n : ℕ) → 0 < n → quantized_size p n ≡ 0 → ⊥
+size_zero p n some =
+    let e : eqb n 0 ≡ false = ne_eqb n 0 (λ h. omega arith) in
+    elim (cases_Bool (ltb n p.t1)) [
+      | inl f ↦ rw (e, f) (λ z. omega arith)
+      | inr f ↦ elim (cases_Bool (ltb n p.t2)) [
+        | inl g ↦ rw (e, f, g) (λ z. omega arith)
+        | inr g ↦ elim (cases_Bool (ltb n p.t3)) [ inl h ↦ rw (e, f, g, h) (λ z. omega arith) | inr h ↦ rw (e, f, g, h) (λ z. omega arith) ]
+      ]
+    ]
+
+-- nine steps
+pub record IsStep (q : ℤ) : Type 0 where
+  pub at_least : negsuc 3 ≤ℤ q
+  pub at_most : q ≤ℤ pos 4
+
+pub gradient_range : (p : CodingParameters) (z : ℤ) → IsStep (quantized_gradient p z)
+unfolding quantized_gradient
+gradient_range p z =
+    let small = size_range p (unsigned_abs z) in
+    elim (cases_Bool (int_lt z (pos 0))) [ inl e ↦ rw e (record { at_least = omega (arith, ints); at_most = omega (arith, ints) }) | inr e ↦ rw e (record { at_least = omega (arith, ints); at_most = omega (arith, ints) }) ]
+
+-- only the gradient 0 is quantized to 0
+pub gradient_zero : (p : CodingParameters) (z : ℤ) → quantized_gradient p z ≡ pos 0 → z ≡ pos 0
+unfolding quantized_gradient
+gradient_zero p z h =
+    let size : quantized_size p (unsigned_abs z) ≡ 0 = elim (cases_Bool (int_lt z (pos 0))) [ inl e ↦ (let k = rw e at h in omega (arith, ints)) | inr e ↦ (let k = rw e at h in omega (arith, ints)) ] in
+    elim (cases_lt 0 (unsigned_abs z)) [ inl some ↦ absurd (size_zero p (unsigned_abs z) some size) | inr none ↦ omega (arith, ints) ]
+
+-- the first other than 0 decides the sum's sign, since 9 * 4 + 4 is less than 81
+pub sign_is : (q1 q2 q3 : ℤ) → IsStep q1 → IsStep q2 → IsStep q3 → is_first_negative (q1 ∷ q2 ∷ q3 ∷ []) ≡ int_lt (weighed q1 q2 q3) (pos 0)
+sign_is (negsuc n) q2 q3 a b c = let e : int_lt (weighed (negsuc n) q2 q3) (pos 0) ≡ true = grind (arith, ints) in sym e
+sign_is (pos (suc n)) q2 q3 a b c = let e : int_lt (weighed (pos (suc n)) q2 q3) (pos 0) ≡ false = grind (arith, ints) in sym e
+sign_is (pos zero) (negsuc n) q3 a b c = let e : int_lt (weighed (pos 0) (negsuc n) q3) (pos 0) ≡ true = grind (arith, ints) in sym e
+sign_is (pos zero) (pos (suc n)) q3 a b c = let e : int_lt (weighed (pos 0) (pos (suc n)) q3) (pos 0) ≡ false = grind (arith, ints) in sym e
+sign_is (pos zero) (pos zero) (negsuc n) a b c = let e : int_lt (weighed (pos 0) (pos 0) (negsuc n)) (pos 0) ≡ true = grind (arith, ints) in sym e
+sign_is (pos zero) (pos zero) (pos (suc n)) a b c = let e : int_lt (weighed (pos 0) (pos 0) (pos (suc n))) (pos 0) ≡ false = grind (arith, ints) in sym e
+sign_is (pos zero) (pos zero) (pos zero) a b c = refl
+
+below_zero : (z : ℤ) → true ≡ int_lt z (pos 0) → z <ℤ pos 0
+below_zero z e = grind (arith, ints)
+
+not_below_zero : (z : ℤ) → false ≡ int_lt z (pos 0) → pos 0 ≤ℤ z
+not_below_zero z e = grind (arith, ints)
+
+-- where SIGN is that of the sum, the sum with SIGN is its size
+size_is : (negative : Bool) (q1 q2 q3 : ℤ) → negative ≡ int_lt (weighed q1 q2 q3) (pos 0)
+    → pos (unsigned_abs (weighed q1 q2 q3)) ≡ weighed (with_sign negative q1) (with_sign negative q2) (with_sign negative q3)
+size_is true q1 q2 q3 e = let h = below_zero (weighed q1 q2 q3) e in omega (arith, ints)
+size_is false q1 q2 q3 e = let h = not_below_zero (weighed q1 q2 q3) e in omega (arith, ints)
+
+-- only three of 0 weigh 0
+none : (q1 q2 q3 : ℤ) → IsStep q1 → IsStep q2 → IsStep q3 → unsigned_abs (weighed q1 q2 q3) ≡ 0 → (q1 ≡ pos 0) × (q2 ≡ pos 0) × (q3 ≡ pos 0)
+none q1 q2 q3 a b c e = (omega (arith, ints), omega (arith, ints), omega (arith, ints))
+
+same : (x y : ℕ) → (pos x -ℤ pos y) ≡ pos 0 → eqb x y ≡ true
+same x y e = eq-eqb x y (omega (arith, ints))
+
+-- outside run mode the size of the weighed sum is the context, and its sign is SIGN
+pub regular_mode : (p : CodingParameters) (near : Neighbours) → is_run_mode near ≡ false
+    → (number : ℤ) → number ≡ (let q = quantized_gradients p near in weighed q.q1 q.q2 q.q3)
+    → IsRegularMode p near (unsigned_abs number) (int_lt number (pos 0))
+unfolding is_negative context
+regular_mode p near regular number is =
+    let d1 : ℤ = pos near.rd -ℤ pos near.rb in let d2 : ℤ = pos near.rb -ℤ pos near.rc in let d3 : ℤ = pos near.rc -ℤ pos near.ra in
+    let a = gradient_range p d1 in let b = gradient_range p d2 in let c = gradient_range p d3 in
+    let q1 : ℤ = quantized_gradient p d1 in let q2 : ℤ = quantized_gradient p d2 in let q3 : ℤ = quantized_gradient p d3 in
+    let sign : is_negative p near ≡ int_lt number (pos 0) = sign_is q1 q2 q3 a b c ∙ ap (λ z. int_lt z (pos 0)) (sym is) in
+    let size : pos (unsigned_abs number) ≡ weighed (with_sign (is_negative p near) q1) (with_sign (is_negative p near) q2) (with_sign (is_negative p near) q3) = ap (λ z. pos (unsigned_abs z)) is ∙ size_is (is_negative p near) q1 q2 q3 (sign_is q1 q2 q3 a b c) in
+    let some : unsigned_abs number ≡ 0 → ⊥ = λ e. (let zeros = none q1 q2 q3 a b c (ap unsigned_abs (sym is) ∙ e) in let e1 = same near.rd near.rb (gradient_zero p d1 zeros.0) in let e2 = same near.rb near.rc (gradient_zero p d2 zeros.1) in let e3 = same near.rc near.ra (gradient_zero p d3 zeros.2) in false≢true (sym regular ∙ rw (e1, e2, e3) refl)) in
+    record {
+      not_run = regular;
+      context_is = omega (arith, ints);
+      sign_is = sym sign;
+      at_least = omega (arith, ints);
+      at_most = omega (arith, ints);
+    }

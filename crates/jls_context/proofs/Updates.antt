@@ -1,0 +1,38 @@
+-- What an error changes in a cell.
+use Rattle.std.proofs.Common.{◌≡◌, ℕ, ◌+◌, ◌/◌, refl, true, false, eqb, arith}
+use Rattle.std.specs.Prelude.{ℤ, pos, negsuc, neg_ℤ, ◌+ℤ◌, ◌-ℤ◌, ◌<ℤ◌, ◌≤ℤ◌, int_lt, int_le, unsigned_abs}
+use Rattle.std.specs.Int.{int_div_euclid, int_max, int_min}
+use Rattle.std.proofs.lemmas.Int.{ints}
+use Rattle.std.proofs.lemmas.Bool.{eq-eqb, ne_eqb}
+use Rattle.jls_context.specs.declared.regular.Cell.{Cell}
+use Rattle.jls_context.specs.Regular.{computed_bias, computed_correction, bias_computed, updated}
+
+pub bias_low : (n : ℕ) (b : ℤ) → b ≤ℤ neg_ℤ (pos n) → computed_bias n b ≡ int_max (b +ℤ pos n) (pos 1 -ℤ pos n)
+bias_low n b h = let low : int_le b (neg_ℤ (pos n)) ≡ true = grind (arith, ints) in rw low refl
+
+pub bias_high : (n : ℕ) (b : ℤ) → neg_ℤ (pos n) <ℤ b → pos 0 <ℤ b → computed_bias n b ≡ int_min (b -ℤ pos n) (pos 0)
+bias_high n b h i =
+    let low : int_le b (neg_ℤ (pos n)) ≡ false = grind (arith, ints) in let high : int_lt (pos 0) b ≡ true = grind (arith, ints) in rw (low, high) refl
+
+pub correction_low : (n : ℕ) (b c : ℤ) → b ≤ℤ neg_ℤ (pos n) → computed_correction n b c ≡ int_max (c -ℤ pos 1) (negsuc 127)
+correction_low n b c h = let low : int_le b (neg_ℤ (pos n)) ≡ true = grind (arith, ints) in rw low refl
+
+pub correction_high : (n : ℕ) (b c : ℤ) → neg_ℤ (pos n) <ℤ b → pos 0 <ℤ b → computed_correction n b c ≡ int_min (c +ℤ pos 1) (pos 127)
+correction_high n b c h i =
+    let low : int_le b (neg_ℤ (pos n)) ≡ false = grind (arith, ints) in let high : int_lt (pos 0) b ≡ true = grind (arith, ints) in rw (low, high) refl
+
+-- before RESET
+pub updated-grown : (reset : ℕ) (cell : Cell) (e : ℤ) (grown : Cell) → (cell.occurrences ≡ reset → ⊥)
+    → grown.magnitudes ≡ cell.magnitudes + unsigned_abs e → grown.occurrences ≡ cell.occurrences + 1 → grown.bias ≡ cell.bias +ℤ e → grown.correction ≡ cell.correction
+    → bias_computed grown ≡ updated reset cell e
+unfolding updated
+updated-grown reset cell e grown other m n b c =
+    let test : eqb cell.occurrences reset ≡ false = ne_eqb cell.occurrences reset other in rw (test, m, n, b, c) refl
+
+-- at RESET
+pub updated-aged : (reset : ℕ) (cell : Cell) (e : ℤ) (aged : Cell) → cell.occurrences ≡ reset
+    → aged.magnitudes ≡ (cell.magnitudes + unsigned_abs e) / 2 → aged.occurrences ≡ cell.occurrences / 2 + 1 → aged.bias ≡ int_div_euclid (cell.bias +ℤ e) (pos 2) → aged.correction ≡ cell.correction
+    → bias_computed aged ≡ updated reset cell e
+unfolding updated
+updated-aged reset cell e aged same m n b c =
+    let test : eqb cell.occurrences reset ≡ true = eq-eqb cell.occurrences reset same in rw (test, m, n, b, c) refl

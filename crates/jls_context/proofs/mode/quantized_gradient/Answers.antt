@@ -1,0 +1,12 @@
+use Rattle.std.proofs.Common.{arith}
+use Rattle.std.proofs.lemmas.Int.{ints}
+use Rattle.jls_context.proofs.Gradients.{gradient_below, gradient_above}
+use Rattle.jls_context.proofs.mode.quantized_gradient.Goals as goal
+
+pub returns-then-to-from-clause-value : goal.returns-then-to-from-clause-value
+returns-then-to-from-clause-value c =
+    let is = gradient_below c.args.params.now c.args.to c.args.from c.if-to-from.true in omega (arith, ints)
+
+pub returns-else-to-from-clause-value : goal.returns-else-to-from-clause-value
+returns-else-to-from-clause-value c =
+    let is = gradient_above c.args.params.now c.args.to c.args.from c.if-to-from.false in omega (arith, ints)

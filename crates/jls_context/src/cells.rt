@@ -1,0 +1,233 @@
+//! The cells of all contexts.
+
+ghost use Rattle.std.specs.Prelude.{◌≡◌, ◌≢◌, ℕ, ◌*◌, ◌^◌, ◌<◌, ◌≤◌, Bool, not, true, ℤ, pos, neg_ℤ, ◌<ℤ◌, IfSome, IfNone};
+ghost use Rattle.jls_values.specs.Params.{range, qbpp};
+ghost use Rattle.jls_context.specs.declared.mode.Neighbours.{Neighbours};
+ghost use Rattle.jls_context.specs.Mode.{IsMode};
+ghost use Rattle.jls_context.specs.Prediction.{edge_detecting_predictor, corrected_prediction};
+ghost use Rattle.jls_context.specs.Errors.{IsError, IsModuloReduced, modulo_reduced, prediction_error};
+ghost use Rattle.jls_context.specs.Regular.{regular_k, regular_mapped, updated};
+ghost use Rattle.jls_context.specs.Interruption.{interruption_magnitudes, run_k, interruption_mapped, run_updated};
+ghost use Rattle.jls_context.specs.Variables.{initial_variables, cell_at, run_cell_at};
+ghost use Rattle.jls_context.specs.Bounds.{IsCell, IsRunCell, AreVariables};
+
+use crate::errors::{error_mapped, error_unmapped, is_error, reduced, restored};
+use crate::interruption::RunCell;
+use crate::mode::{Mode, Neighbours};
+use crate::prediction::{corrected_prediction, edge_detecting_predictor};
+use crate::regular::Cell;
+use jls_values::Params;
+use std::marker::Model;
+
+/// The parameters of a scan, and the variables of all contexts between two samples of an interval
+/// (ITU-T T.87, annex A, at NEAR 0). No call takes memory.
+#[derive(Drop)]
+pub struct Cells {
+    params: Params,
+    regular: [Cell; 365],
+    run_other: RunCell,
+    run_same: RunCell,
+}
+
+impl Model for Cells {
+    ghost use Rattle.jls_context.specs.Bounds.{AreVariables};
+    ghost use Rattle.jls_context.specs.Variables.{Variables};
+
+    ghost Value = { Variables };
+
+    ghost view = { λ a. record { parameters = a.params; regular = a.regular; run_other = a.run_other; run_same = a.run_same } };
+
+    ghost invariant = { λ a. AreVariables (record { parameters = a.params; regular = a.regular; run_other = a.run_other; run_same = a.run_same }) };
+}
+
+impl Cells {
+    /// The cells at the start of an interval.
+    pub fn new(params: &Params) -> Cells
+        ensures { result ≡ initial_variables params.now }
+    {
+        Cells {
+            params: *params,
+            regular: [Cell::initial(params); 365],
+            run_other: RunCell::initial(params),
+            run_same: RunCell::initial(params),
+        }
+    }
+
+    /// The mode of the sample between these (A.3).
+    pub fn mode(&self, ra: u16, rb: u16, rc: u16, rd: u16) -> Mode
+        ensures { let near : Neighbours = record { ra = ra; rb = rb; rc = rc; rd = rd } in IsMode self.now.parameters near result }
+    {
+        Mode::of(&self.params, Neighbours { ra, rb, rc, rd })
+    }
+
+    fn regular_cell(&self, cell: u16) -> Cell
+        requires { cell ≤ 364 }
+        ensures value { result ≡ cell_at self.now cell }
+        ensures cell { IsCell self.now.parameters.reset result }
+        ensures variables { AreVariables self.now }
+    {
+        self.regular[usize::from(cell)]
+    }
+
+    fn run_cell(&self, same: bool) -> RunCell
+        ensures value { result ≡ run_cell_at self.now same }
+        ensures cell { IsRunCell self.now.parameters.reset result }
+        ensures variables { AreVariables self.now }
+    {
+        if same { self.run_same } else { self.run_other }
+    }
+
+    /// The prediction of a sample in regular mode, with the correction of its context (A.4.1, A.4.2).
+    pub fn predict(&self, cell: u16, negative: bool, ra: u16, rb: u16, rc: u16) -> u16
+        requires { cell ≤ 364 }
+        ensures value { result ≡ corrected_prediction self.now.parameters negative (cell_at self.now cell).correction (edge_detecting_predictor ra rb rc) }
+        ensures sample { result ≤ self.now.parameters.maxval }
+    {
+        let correction = self.regular_cell(cell).correction;
+        corrected_prediction(
+            &self.params,
+            negative,
+            correction,
+            edge_detecting_predictor(ra, rb, rc),
+        )
+    }
+
+    /// The error that a difference becomes modulo RANGE (A.4.5).
+    pub fn reduce(&self, difference: i32) -> i32
+        requires above { neg_ℤ (pos (range self.now.parameters)) <ℤ difference }
+        requires below { difference <ℤ pos (range self.now.parameters) }
+        ensures value { result ≡ modulo_reduced self.now.parameters difference }
+        ensures reduced { IsModuloReduced self.now.parameters difference result }
+    {
+        reduced(&self.params, difference)
+    }
+
+    /// The only sample that has this error against its prediction.
+    pub fn restore(&self, predicted: u16, negative: bool, error: i32) -> u16
+        requires predicted { predicted ≤ self.now.parameters.maxval }
+        requires error { IsError self.now.parameters error }
+        ensures sample { result ≤ self.now.parameters.maxval }
+        ensures error { prediction_error self.now.parameters negative result predicted ≡ error }
+        ensures only { (other : ℕ) → other ≤ self.now.parameters.maxval → prediction_error self.now.parameters negative other predicted ≡ error → other ≡ result }
+    {
+        restored(&self.params, predicted, negative, error)
+    }
+
+    /// The k of the codes of a context's errors (A.5.1).
+    pub fn regular_k(&self, cell: u16) -> u8
+        requires { cell ≤ 364 }
+        ensures value { result ≡ regular_k (cell_at self.now cell) }
+        ensures enough { let at = cell_at self.now cell in at.magnitudes ≤ at.occurrences * 2 ^ result }
+        ensures least { let at = cell_at self.now cell in (k : ℕ) → k < result → at.occurrences * 2 ^ k < at.magnitudes }
+        ensures at_most { result ≤ 16 }
+    {
+        self.regular_cell(cell).k()
+    }
+
+    /// k, and the number that an error is mapped to (A.5.1, A.5.2).
+    pub fn regular_code(&self, cell: u16, error: i32) -> (u8, u32)
+        requires cell { cell ≤ 364 }
+        requires error { IsError self.now.parameters error }
+        ensures k { result.0 ≡ regular_k (cell_at self.now cell) }
+        ensures mapped { result.1 ≡ regular_mapped (cell_at self.now cell) error }
+        ensures k_at_most { result.0 ≤ 16 }
+        ensures mapped_at_most { result.1 ≤ 2 ^ qbpp self.now.parameters }
+    {
+        let cell = self.regular_cell(cell);
+        let k = cell.k();
+        (k, error_mapped(cell.uses_special_mapping(k), error))
+    }
+
+    /// The error that `regular_code` maps to this number, if there is one.
+    pub fn regular_error(&self, cell: u16, mapped: u32) -> Option<i32>
+        requires { cell ≤ 364 }
+        ensures error { IfSome result (IsError self.now.parameters) }
+        ensures mapped { IfSome result (λ e. regular_mapped (cell_at self.now cell) e ≡ mapped) }
+        ensures only { IfSome result (λ e. (other : ℤ) → regular_mapped (cell_at self.now cell) other ≡ mapped → other ≡ e) }
+        ensures none { IfNone result ((e : ℤ) → IsError self.now.parameters e → regular_mapped (cell_at self.now cell) e ≢ mapped) }
+    {
+        let cell = self.regular_cell(cell);
+        let error = error_unmapped(cell.uses_special_mapping(cell.k()), mapped);
+        if is_error(&self.params, error) {
+            Some(error)
+        } else {
+            None
+        }
+    }
+
+    /// Takes in an error of a sample in regular mode (A.6).
+    pub fn update_regular(&mut self, cell: u16, error: i32)
+        requires cell { cell ≤ 364 }
+        requires error { IsError self.old.parameters error }
+        ensures updated { cell_at self.new cell ≡ updated self.old.parameters.reset (cell_at self.old cell) error }
+        ensures others { (other : ℕ) → other ≢ cell → cell_at self.new other ≡ cell_at self.old other }
+        ensures run_cells { (same : Bool) → run_cell_at self.new same ≡ run_cell_at self.old same }
+        ensures parameters { self.new.parameters ≡ self.old.parameters }
+    {
+        let old = self.regular_cell(cell);
+        let reset = u32::from(self.params.reset());
+        self.regular[usize::from(cell)] = old.updated(reset, error);
+    }
+
+    /// The k of the codes of an error that interrupts a run (A.7.2).
+    pub fn run_k(&self, same: bool) -> u8
+        ensures value { result ≡ run_k same (run_cell_at self.now same) }
+        ensures enough { let at = run_cell_at self.now same in interruption_magnitudes same at ≤ at.occurrences * 2 ^ result }
+        ensures least { let at = run_cell_at self.now same in (k : ℕ) → k < result → at.occurrences * 2 ^ k < interruption_magnitudes same at }
+        ensures at_most { result ≤ 16 }
+    {
+        self.run_cell(same).k(same)
+    }
+
+    /// k, and the number that an error is mapped to (A.7.2).
+    pub fn run_code(&self, same: bool, error: i32) -> (u8, u32)
+        requires error { IsError self.now.parameters error }
+        requires another { same ≡ true → error ≢ pos 0 }
+        ensures k { result.0 ≡ run_k same (run_cell_at self.now same) }
+        ensures mapped { result.1 ≡ interruption_mapped same (run_cell_at self.now same) error }
+        ensures k_at_most { result.0 ≤ 16 }
+        ensures mapped_at_most { result.1 ≤ 2 ^ qbpp self.now.parameters }
+    {
+        let cell = self.run_cell(same);
+        let k = cell.k(same);
+        (k, cell.error_mapped(same, k, error))
+    }
+
+    /// The error that `run_code` maps to this number, if there is one.
+    pub fn run_error(&self, same: bool, mapped: u32) -> Option<i32>
+        ensures error { IfSome result (IsError self.now.parameters) }
+        ensures another { IfSome result (λ e. same ≡ true → e ≢ pos 0) }
+        ensures mapped { IfSome result (λ e. interruption_mapped same (run_cell_at self.now same) e ≡ mapped) }
+        ensures only { IfSome result (λ e. (other : ℤ) → (same ≡ true → other ≢ pos 0) → interruption_mapped same (run_cell_at self.now same) other ≡ mapped → other ≡ e) }
+        ensures none { IfNone result ((e : ℤ) → IsError self.now.parameters e → (same ≡ true → e ≢ pos 0) → interruption_mapped same (run_cell_at self.now same) e ≢ mapped) }
+    {
+        let cell = self.run_cell(same);
+        // No error of 16 bits is mapped to more.
+        if mapped > 65536 {
+            return None;
+        }
+        let error = cell.error_unmapped(same, cell.k(same), mapped);
+        if is_error(&self.params, error) {
+            Some(error)
+        } else {
+            None
+        }
+    }
+
+    /// Takes in an error of a sample that interrupts a run (A.7.2).
+    pub fn update_run(&mut self, same: bool, error: i32)
+        requires error { IsError self.old.parameters error }
+        requires another { same ≡ true → error ≢ pos 0 }
+        ensures updated { run_cell_at self.new same ≡ run_updated self.old.parameters.reset same (run_cell_at self.old same) error }
+        ensures other { run_cell_at self.new (not same) ≡ run_cell_at self.old (not same) }
+        ensures regular { self.new.regular ≡ self.old.regular }
+        ensures parameters { self.new.parameters ≡ self.old.parameters }
+    {
+        let reset = u32::from(self.params.reset());
+        if same {
+            self.run_same = self.run_same.updated(reset, true, error);
+        } else {
+            self.run_other = self.run_other.updated(reset, false, error);
+        }
+    }
+}
