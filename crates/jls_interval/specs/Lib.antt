@@ -6,6 +6,7 @@ pub mod Code
 pub mod Reading
 pub mod Reads
 pub mod Stepwise
+pub mod Fits
 pub mod Growth
 pub mod Laws
 pub mod RunState

@@ -2,6 +2,7 @@
 #![tactic(auto)]
 
 mod laws;
+mod lines;
 mod run_index;
 mod run_reader;
 
@@ -9,3 +10,4 @@ pub use laws::{
     codes_are_apart, cuts_are_exact, events_are_apart, events_have_bits, full_blocks_fit,
     growth_ends_in_lines, lines_are_parted_once, lines_grow, pieces_read_once,
 };
+pub use lines::fits;

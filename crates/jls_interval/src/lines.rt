@@ -1,0 +1,43 @@
+//! Which lines can be written as one interval.
+
+ghost use Rattle.std.specs.Prelude.{◌↔◌, IsTrue, map};
+ghost use Rattle.std.specs.List.{AllByRecursion};
+ghost use Rattle.jls_interval.specs.Lines.{IsLine};
+ghost use Rattle.jls_interval.specs.Fits.{FitsInterval};
+
+use jls_values::Params;
+
+/// The most samples that an interval may have, in all its lines together.
+const MOST_SAMPLES: usize = 1 << 28;
+
+fn is_line(params: &Params, width: u16, line: &[u16]) -> bool
+    ensures { IsTrue result ↔ IsLine params.now width line.now }
+{
+    line.len() == usize::from(width) && line.iter().all(|&sample| sample <= params.maxval())
+}
+
+fn are_lines(params: &Params, width: u16, lines: &[Vec<u16>]) -> bool
+    ensures { IsTrue result ↔ AllByRecursion (IsLine params.now width) (map (λ v. v.items) lines.now) }
+{
+    for line in lines {
+        if !is_line(params, width, line.as_slice()) {
+            return false;
+        }
+    }
+    true
+}
+
+/// Whether these lines can be written as one interval. They stand row by row, and in a row by
+/// component. The width is that of a line in samples. It is so where the width is at least 1, there
+/// are 1 to 4 components, the number of lines is a positive multiple of theirs, each line has
+/// `width` samples of at most MAXVAL, and all together are at most 2^28.
+pub fn fits(params: &Params, width: u16, components: u8, lines: &[Vec<u16>]) -> bool
+    ensures { IsTrue result ↔ FitsInterval params.now width components (map (λ v. v.items) lines.now) }
+{
+    width >= 1
+        && (1..=4).contains(&components)
+        && !lines.is_empty()
+        && lines.len() % usize::from(components) == 0
+        && lines.len() <= MOST_SAMPLES / usize::from(width)
+        && are_lines(params, width, lines)
+}
