@@ -20,8 +20,8 @@ pub mod PiecesLaw
 pub mod Places
 pub mod OneParting
 pub mod WorkedExamples
-<<<<<<< HEAD
 pub mod RunSteps
-=======
 pub mod LineLists
->>>>>>> 7ffd665a9a31f53910d808daacffbe898988ac2b
+pub mod DecodedEvents
+pub mod DecodedLines
+pub mod DecodedPieces

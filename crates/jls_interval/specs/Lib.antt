@@ -10,3 +10,5 @@ pub mod Fits
 pub mod Growth
 pub mod Laws
 pub mod RunState
+pub mod DecodedEvent
+pub mod PieceFaults

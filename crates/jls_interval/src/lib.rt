@@ -1,11 +1,16 @@
 //! One interval of scan data: the code of its lines, what reads as it, and the laws of both.
 #![tactic(auto)]
 
+mod decode_event;
+mod decode_piece;
+mod decode_sample;
 mod laws;
 mod lines;
+mod neighbours;
 mod run_index;
 mod run_reader;
 
+pub use decode_piece::{PieceFault, decode_interval};
 pub use laws::{
     codes_are_apart, cuts_are_exact, events_are_apart, events_have_bits, full_blocks_fit,
     growth_ends_in_lines, lines_are_parted_once, lines_grow, pieces_read_once,

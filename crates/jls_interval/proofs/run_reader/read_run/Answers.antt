@@ -19,4 +19,3 @@ returns-in-Refused-clause-none c =
 
 pub returns-clause-none : goal.returns-clause-none
 returns-clause-none c = told_all c.loop-bit.state c.args.run_index c.args.width c.args.reader.now.left c.loop-bit.reader.left c.loop-bit.invariant.told c.loop-bit.invariant.state c.in_default.ensures.none.0
-
