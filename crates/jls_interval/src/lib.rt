@@ -16,3 +16,6 @@ pub use laws::{
     growth_ends_in_lines, lines_are_parted_once, lines_grow, pieces_read_once,
 };
 pub use lines::fits;
+
+#[cfg(test)]
+mod tests;
