@@ -16,7 +16,7 @@ use Rattle.jls_interval.proofs.Lead.{lines_lead}
 use Rattle.jls_interval.proofs.StepLaw.{step_law}
 use Rattle.jls_interval.proofs.CodeLaw.{kept, code_is, finished, grown_earlier}
 
--- (comment)
+-- What was read of the given bits: the events so far lead to a position inside a line, and these bits are unread.
 pub record Decoded (p : CodingParameters) (w c n : ℕ) (given : List Bool) (z : Position) (left : List Bool) : Type 0 where
   pub leads : Leads (interval_steps p w c n) start z.earlier z
   pub bits_are : given ≡ bits_of_steps (interval_steps p w c n) start z.earlier ++ left

@@ -6,32 +6,9 @@ use Rattle.std.proofs.Math.Numerals.{one-add}
 use Rattle.std.proofs.Math.Nat.{mod-eq_of_lt}
 use Rattle.std.proofs.lemmas.Bool.{cases_Bool, ltb-true, leb-true, and_parts}
 use Rattle.jls_bits.specs.Bits.{bits}
+use Rattle.jls_bits.proofs.NumberBits.{bits_same}
+use Rattle.jls_bits.proofs.Codes.{zeros_then_one}
 use Rattle.jls_bits.specs.Golomb.{golomb, has_golomb}
-
-pub zeros_then_one : (a b : ℕ) (s t : List Bool)
-    → replicate a false ++ true ∷ s ≡ replicate b false ++ true ∷ t → (a ≡ b) × (s ≡ t)
-zeros_then_one zero zero s t e = (refl, cc)
-zeros_then_one zero (suc b) s t e = cc
-zeros_then_one (suc a) zero s t e = cc
-zeros_then_one (suc a) (suc b) s t e =
-    let h : (a ≡ b) × (s ≡ t) = zeros_then_one a b s t (cc) in (ap suc h.0, h.1)
-
-bit_same : (x y : ℕ) → eqb (x % 2) 1 ≡ eqb (y % 2) 1 → x % 2 ≡ y % 2
-bit_same x y e = grind (arith, nat_tests)
-
-bits_step : (n x y : ℕ) → x / 2 ^ n % 2 ≡ y / 2 ^ n % 2 → x % 2 ^ n ≡ y % 2 ^ n → x % 2 ^ suc n ≡ y % 2 ^ suc n
-bits_step n x y b r =
-    let p : x % 2 ^ (1 + n) ≡ (x / 2 ^ n % 2) * 2 ^ n + x % 2 ^ n = mod-pow-add x 1 n in
-    let q : y % 2 ^ (1 + n) ≡ (y / 2 ^ n % 2) * 2 ^ n + y % 2 ^ n = mod-pow-add y 1 n in
-    subst (λ m. x % 2 ^ m ≡ y % 2 ^ m) (one-add n) (cc)
-
-pub bits_same : (n x y : ℕ) (s t : List Bool) → bits n x ++ s ≡ bits n y ++ t → (x % 2 ^ n ≡ y % 2 ^ n) × (s ≡ t)
-unfolding bits
-bits_same zero x y s t e = (omega arith, e)
-bits_same (suc n) x y s t e =
-    let head : eqb (x / 2 ^ n % 2) 1 ≡ eqb (y / 2 ^ n % 2) 1 = cc in
-    let rest : (x % 2 ^ n ≡ y % 2 ^ n) × (s ≡ t) = bits_same n x y s t (cc) in
-    (bits_step n x y (bit_same (x / 2 ^ n) (y / 2 ^ n) head) rest.0, rest.1)
 
 pub golomb_short : (k g qbpp m : ℕ) (s : List Bool) → ltb (m / 2 ^ k) (g - qbpp - 1) ≡ true
     → golomb k g qbpp m ++ s ≡ replicate (m / 2 ^ k) false ++ true ∷ (bits k m ++ s)

@@ -25,3 +25,4 @@ pub mod LineLists
 pub mod DecodedEvents
 pub mod DecodedLines
 pub mod DecodedPieces
+pub mod PackedLines

@@ -1,6 +1,6 @@
 -- After the same earlier events no event's bits begin another's.
 use Rattle.std.proofs.Common.{◌≡◌, ℕ, zero, suc, ◌+◌, ◌-◌, ◌*◌, ◌/◌, ◌%◌, ◌^◌, ◌<◌, ◌≤◌, Bool, true, false, cond, not, ◌&&◌, ◌||◌, ltb, leb, List, [], ◌∷◌, ◌++◌, length, get_or, replicate, max, refl, sym, ap, ◌∙◌, subst, arith, inl, inr, append_assoc}
-use Rattle.std.specs.Prelude.{◌==◌, ℤ, pos, negsuc, ◌-ℤ◌, int_lt}
+use Rattle.std.specs.Prelude.{◌==◌, ℤ, unsigned_abs, pos, negsuc, ◌-ℤ◌, int_lt}
 use Rattle.std.specs.List.{AllByRecursion}
 use Rattle.std.proofs.lemmas.Int.{ints}
 use Rattle.std.proofs.lemmas.Nat.{shr_le}
@@ -12,7 +12,7 @@ use Rattle.jls_context.specs.Errors.{IsError, modulo_reduced, prediction_error, 
 use Rattle.jls_context.specs.Mode.{is_run_mode, is_negative, context}
 use Rattle.jls_context.specs.Prediction.{clamped, corrected_prediction}
 use Rattle.jls_context.specs.Regular.{uses_special_mapping, regular_k}
-use Rattle.jls_context.specs.Interruption.{run_k, interruption_map, interruption_mapped}
+use Rattle.jls_context.specs.Interruption.{run_k, interruption_map, interruption_mapped, one_if, map_by_sign, maps_positive, mapped_by_sign}
 use Rattle.jls_context.specs.declared.mode.Neighbours.{Neighbours}
 use Rattle.jls_context.specs.declared.regular.Cell.{Cell}
 use Rattle.jls_context.specs.declared.interruption.RunCell.{RunCell}
@@ -26,24 +26,17 @@ use Rattle.jls_interval.specs.Growth.{Fits, interval_steps}
 use Rattle.jls_interval.specs.Stepwise.{IsPrefixFree}
 use Rattle.jls_interval.specs.Code.{interrupted_run_bits}
 use Rattle.std.proofs.Math.Pow.{pow_mono}
-use Rattle.jls_interval.proofs.Least.{least_passes}
 use Rattle.jls_interval.proofs.Golomb.{golomb_same}
-use Rattle.jls_interval.proofs.Errors.{em, reduced_is, reduced_range, error_range, mapped_range, mapped_same, sample_same, em_same}
+use Rattle.jls_context.proofs.Samples.{error_range, sample_same}
+use Rattle.jls_context.proofs.Remainders.{modulo_reduced_is, modulo_reduced_near}
+use Rattle.jls_context.proofs.Sizes.{maxval_small, range-le-pow, error_mapped_at_most, interruption_mapped_at_most}
+use Rattle.jls_interval.proofs.Errors.{mapped_same, em_same}
 use Rattle.jls_interval.proofs.Runs.{run_index_before_small, run_apart, run_same}
 
 -- a number up to 2^q has a code where the escape isn't empty
 pub has_from : (k g q m : ℕ) → q + 2 ≤ g → m ≤ 2 ^ q → has_golomb k g q m ≡ true
 has_from k g q m h j =
     elim (cases_Bool (ltb (m / 2 ^ k) (g - q - 1))) [ inl e ↦ rw e refl | inr e ↦ (let l = ltb-false _ _ e in let s = shr_le m k in rw e (and_from (leb 1 m) (leb m (2 ^ q)) (le-leb _ _ (omega arith)) (le-leb _ _ j))) ]
-
-below : (a n : ℕ) → a ≤ 16 → n ≤ 2 ^ a → n ≤ 2 ^ 16
-below a n h j = let m : 2 ^ a ≤ 2 ^ 16 = pow_mono {i = a} {j = 16} h in omega arith
-
-pub range_fits : (p : CodingParameters) → AreCodingParameters p → range p ≤ 2 ^ qbpp p
-range_fits p ok =
-    let h : p.maxval < 2 ^ p.precision = ok.maxval_below in
-    let top : leb (range p) (2 ^ 16) ≡ true = le-leb _ _ (below p.precision (range p) ok.precision_at_most (omega arith)) in
-    leb-true _ _ (least_passes (λ q. leb (range p) (2 ^ q)) 16 0 top)
 
 pub limit_room : (p : CodingParameters) (j : ℕ) → j ≤ 15 → qbpp p + 2 ≤ limit p - j - 1
 limit_room p j h = generic (qbpp p)
@@ -74,14 +67,14 @@ pub regular_same : (p : CodingParameters) (cell : Cell) (near : Neighbours) (s s
 regular_same p cell near s s' t u r a b e =
     let neg = is_negative p near in let x = regular_prediction p cell near in let xs : x ≤ p.maxval = predicted_small p cell near in
     let v = prediction_error p neg s x in let v' = prediction_error p neg s' x in
-    let m = mapped_range p (uses_special_mapping cell) v (error_range p neg s x a xs) in let m' = mapped_range p (uses_special_mapping cell) v' (error_range p neg s' x b xs) in
+    let m = error_mapped_at_most p (uses_special_mapping cell) v (error_range p neg s x) in let m' = error_mapped_at_most p (uses_special_mapping cell) v' (error_range p neg s' x) in
     let room = limit_room p 0 (omega arith) in
     let h = golomb_same (regular_k cell) (limit p) (qbpp p) (error_mapped (uses_special_mapping cell) v) (error_mapped (uses_special_mapping cell) v') t u (has_from (regular_k cell) (limit p) (qbpp p) (error_mapped (uses_special_mapping cell) v) (omega arith) (omega arith)) (has_from (regular_k cell) (limit p) (qbpp p) (error_mapped (uses_special_mapping cell) v') (omega arith) (omega arith)) e in
     sample_same p neg s s' x a b xs (mapped_same (uses_special_mapping cell) v v' h.0)
 
 -- the sign decides the map
 pub run_map_is : (same : Bool) (cell : RunCell) (e : ℤ)
-    → interruption_map same cell e ≡ cond (int_lt (pos 0) e) ((run_k same cell == 0) && ltb (2 * cell.negative_errors) cell.occurrences) (cond (int_lt e (pos 0)) (not ((run_k same cell == 0) && ltb (2 * cell.negative_errors) cell.occurrences)) false)
+    → interruption_map same cell e ≡ map_by_sign (maps_positive same cell) e
 run_map_is same cell e =
     parts (run_k same cell == 0) (ltb (2 * cell.negative_errors) cell.occurrences) (leb cell.occurrences (2 * cell.negative_errors)) (int_lt (pos 0) e) (int_lt e (pos 0)) (opposite (2 * cell.negative_errors) cell.occurrences) (apart e)
   where
@@ -110,10 +103,6 @@ run_map_is same cell e =
     parts true l m false false h j = refl
     parts false l m false false h j = refl
 
-pub em_range : (p : CodingParameters) (same map : Bool) (e : ℤ) → IsError p e → em same map e ≤ range p
-em_range p same map (pos n) h = omega (arith, ints)
-em_range p same map (negsuc n) h = omega (arith, ints)
-
 -- the value of a run before its interrupting sample
 pub run_value : (w : ℕ) (up : Above) (line : List ℕ) (count : ℕ)
     → (neighbours w up (line ++ replicate count (neighbours w up line (length line)).ra) (length line + count)).ra ≡ (neighbours w up line (length line)).ra
@@ -126,8 +115,8 @@ run_value w up line (suc c) =
 pub same_is : (p : CodingParameters) (x : ℕ) → prediction_error p false x x ≡ pos 0
 same_is p x =
     let z : pos x -ℤ pos x ≡ pos 0 = omega (arith, ints) in
-    let r = reduced_is p (pos 0) (omega (arith, ints)) (omega (arith, ints)) in let b = reduced_range p (pos 0) (omega (arith, ints)) (omega (arith, ints)) in
-    ap (modulo_reduced p) z ∙ (omega (arith, ints))
+    let r = modulo_reduced_near p (pos 0) (omega (arith, ints)) (omega (arith, ints)) in let b = modulo_reduced_is p (pos 0) in
+    ap (modulo_reduced p) z ∙ (let range : IsError p (modulo_reduced p (pos 0)) = b.is_error in omega (arith, ints))
 
 -- an interrupting sample of RItype 1 has an error
 pub no_zero : (p : CodingParameters) (near : Neighbours) → near.rb ≤ p.maxval → (s : ℕ) → s ≤ p.maxval → (s ≡ near.ra → ⊥) → is_same near ≡ true → interruption_error p near s ≡ pos 0 → ⊥
@@ -142,11 +131,11 @@ pub interrupting_same : (p : CodingParameters) (run : Blocks) (cell : RunCell) (
     → (s ≡ near.ra → ⊥) → (s' ≡ near.ra → ⊥)
     → golomb (run_k (is_same near) cell) g (qbpp p) (interruption_mapped (is_same near) cell (interruption_error p near s)) ++ t ≡ golomb (run_k (is_same near) cell) g (qbpp p) (interruption_mapped (is_same near) cell (interruption_error p near s')) ++ u → (s ≡ s') × (t ≡ u)
 interrupting_same p run cell near g s s' t u r room x a b na nb e =
-    let neg = ltb near.rb near.ra in let same = is_same near in let turn = (run_k same cell == 0) && ltb (2 * cell.negative_errors) cell.occurrences in
+    let neg = ltb near.rb near.ra in let same = is_same near in let turn = maps_positive same cell in
     let v = interruption_error p near s in let v' = interruption_error p near s' in
-    let m : interruption_mapped same cell v ≡ em same (cond (int_lt (pos 0) v) turn (cond (int_lt v (pos 0)) (not turn) false)) v = ap (λ z. em same z v) (run_map_is same cell v) in
-    let m' : interruption_mapped same cell v' ≡ em same (cond (int_lt (pos 0) v') turn (cond (int_lt v' (pos 0)) (not turn) false)) v' = ap (λ z. em same z v') (run_map_is same cell v') in
-    let l = em_range p same (interruption_map same cell v) v (error_range p neg s near.rb a x) in let l' = em_range p same (interruption_map same cell v') v' (error_range p neg s' near.rb b x) in
+    let m : interruption_mapped same cell v ≡ mapped_by_sign same turn v = ap (λ z. 2 * unsigned_abs v - one_if same - one_if z) (run_map_is same cell v) in
+    let m' : interruption_mapped same cell v' ≡ mapped_by_sign same turn v' = ap (λ z. 2 * unsigned_abs v' - one_if same - one_if z) (run_map_is same cell v') in
+    let l = interruption_mapped_at_most p same cell v (error_range p neg s near.rb) in let l' = interruption_mapped_at_most p same cell v' (error_range p neg s' near.rb) in
     let h = golomb_same (run_k same cell) g (qbpp p) (interruption_mapped same cell v) (interruption_mapped same cell v') t u (has_from (run_k same cell) g (qbpp p) (interruption_mapped same cell v) room (omega arith)) (has_from (run_k same cell) g (qbpp p) (interruption_mapped same cell v') room (omega arith)) e in
     (sample_same p neg s s' near.rb a b x (em_same same turn v v' (λ i. (no_zero p near x s a na i, no_zero p near x s' b nb i)) (sym m ∙ h.0 ∙ m')), h.1)
 
@@ -230,4 +219,4 @@ module _ (p : CodingParameters) (wide : range p ≤ 2 ^ qbpp p) (w k : ℕ) (up 
 
 pub step_law : (p : CodingParameters) (width components count : ℕ) → AreCodingParameters p → IsPrefixFree (interval_steps p width components count)
 step_law p width components count ok s e f t u sound a b eq =
-    cases p (range_fits p ok) width (length s.lines % components) (above components s.lines) (small_back p s.lines components sound.0) s.line s.earlier e f t u a.1 b.1 eq
+    cases p (range-le-pow p (maxval_small p ok)) width (length s.lines % components) (above components s.lines) (small_back p s.lines components sound.0) s.line s.earlier e f t u a.1 b.1 eq

@@ -13,7 +13,7 @@ mod run_reader;
 pub use decode_piece::{PieceFault, decode_interval};
 pub use laws::{
     codes_are_apart, cuts_are_exact, events_are_apart, events_have_bits, full_blocks_fit,
-    growth_ends_in_lines, lines_are_parted_once, lines_grow, pieces_read_once,
+    growth_ends_in_lines, lines_are_parted_once, lines_grow, packed_lines_read, pieces_read_once,
 };
 pub use lines::fits;
 
