@@ -1,17 +1,17 @@
 -- What one more bit makes of a Golomb code that is read bit by bit.
-use Rattle.std.proofs.Common.{◌≡◌, ℕ, zero, suc, ◌+◌, ◌-◌, ◌*◌, ◌/◌, ◌%◌, ◌^◌, ◌<◌, ◌≤◌, Bool, true, false, ◌&&◌, eqb, ltb, leb, List, [], ◌∷◌, ◌++◌, replicate, refl, sym, ap, ◌∙◌, subst, arith, inl, inr, append_assoc}
+use Rattle.std.proofs.Common.{◌≡◌, ℕ, ◌+◌, ◌-◌, ◌*◌, ◌/◌, ◌%◌, ◌^◌, ◌<◌, ◌≤◌, Bool, true, false, eqb, leb, List, [], ◌∷◌, ◌++◌, replicate, refl, sym, ap, ◌∙◌, subst, arith, inl, inr, append_assoc}
 use mir.Val.{bool_byte}
 use Rattle.std.proofs.lemmas.List.{append-nil}
 use Rattle.std.proofs.lemmas.Nat.{shl_below, shr_high, mod_low, shl-shr, le-div, pow_pos, pow-add, div_below, shr_below, div-add-mod', mod_below, mul-le, shl_whole}
 use Rattle.std.proofs.Math.Pow.{pow_mono}
 use Rattle.std.proofs.Math.Nat.{mod-eq_of_lt}
-use Rattle.std.proofs.lemmas.Bool.{cases_lt, ltb-true, ltb-false, lt-ltb, le-ltb, le-leb, leb-true, and_from}
+use Rattle.std.proofs.lemmas.Bool.{cases_lt, ltb-false, lt-ltb, le-ltb, le-leb, and_from}
 use Rattle.jls_bits.specs.Bits.{bits}
-use Rattle.jls_bits.specs.Golomb.{escape_zeros, is_short, golomb, has_golomb}
+use Rattle.jls_bits.specs.Golomb.{is_short, golomb, has_golomb}
 use Rattle.jls_bits.specs.CodeState.{bits_told, IsOpen, BeginsCode, RefusesCode, StepIs}
 use Rattle.jls_bits.specs.declared.code_state.CodeState.{CodeState}
 use Rattle.jls_bits.specs.declared.code_state.CodeState.TheVariants.{Zeros, Remainder, Escape}
-use Rattle.jls_bits.specs.declared.code_state.CodeStep.TheVariants.{More, Done, Refused}
+use Rattle.jls_bits.specs.declared.code_state.CodeStep.TheVariants.{More, Done}
 use Rattle.jls_bits.proofs.NumberBits.{bits_none, bits_more, bits_split, bits_same, bits_cong, bits_push_bool}
 use Rattle.jls_bits.proofs.Codes.{golomb_short, golomb_long, golomb_same, escape_range, many_zeros, escape_behind_zeros, short_code, escape_code, zeros_push, zeros_then_one}
 

@@ -1,12 +1,12 @@
 -- Golomb codes: the two kinds, what stands at the front of some bits, and that no code begins another.
-use Rattle.std.proofs.Common.{◌≡◌, ℕ, zero, suc, ◌+◌, ◌-◌, ◌*◌, ◌/◌, ◌%◌, ◌^◌, ◌<◌, ◌≤◌, Bool, true, false, ◌&&◌, eqb, ltb, leb, List, [], ◌∷◌, ◌++◌, replicate, refl, sym, ap, ◌∙◌, arith, inl, inr, append_assoc}
-use Rattle.std.proofs.lemmas.List.{append-nil}
+use Rattle.std.proofs.Common.{◌≡◌, ℕ, zero, suc, ◌+◌, ◌-◌, ◌*◌, ◌/◌, ◌%◌, ◌^◌, ◌<◌, ◌≤◌, Bool, true, false, ◌&&◌, eqb, leb, List, [], ◌∷◌, ◌++◌, replicate, refl, sym, ap, ◌∙◌, arith, inl, inr, append_assoc, length, length-append}
+use Rattle.std.proofs.lemmas.List.{append-nil, length-replicate}
 use Rattle.std.proofs.lemmas.Nat.{div-add-mod', shr_high, mod_low, mod_below, pow_pos}
 use Rattle.std.proofs.Math.Nat.{mod-eq_of_lt, zero-div}
 use Rattle.std.proofs.lemmas.Bool.{cases_Bool, ltb-true, ltb-false, lt-ltb, le-ltb, le-leb, leb-true, and_from, and_parts}
 use Rattle.jls_bits.specs.Bits.{bits}
-use Rattle.jls_bits.specs.Golomb.{escape_zeros, is_short, golomb, has_golomb}
-use Rattle.jls_bits.proofs.NumberBits.{bits_same, bits_cong, bits_more, cons_same}
+use Rattle.jls_bits.specs.Golomb.{is_short, golomb, has_golomb}
+use Rattle.jls_bits.proofs.NumberBits.{bits_same, bits_cong, bits_more, cons_same, length-bits}
 
 pub zeros_then_one : (a b : ℕ) (s t : List Bool)
     → replicate a false ++ true ∷ s ≡ replicate b false ++ true ∷ t → (a ≡ b) × (s ≡ t)
@@ -113,3 +113,12 @@ module _ (k g q : ℕ) where
   pub small_has_code : (m : ℕ) → q + 2 ≤ g → m ≤ 2 ^ q → has_golomb k g q m ≡ true
   small_has_code m h l =
       elim (cases_Bool (is_short k g q m)) [ inl s ↦ rw s refl | inr s ↦ (let a = escape_above_0 m h (ltb-false (m / 2 ^ k) (g - q - 1) s) in rw s (and_from (leb 1 m) (leb m (2 ^ q)) (le-leb 1 m a) (le-leb m (2 ^ q) l))) ]
+
+-- how long a code is
+pub length_limited : (k g q m : ℕ) → k ≤ q → q + 2 ≤ g → length (golomb k g q m) ≤ g
+length_limited k g q m h r =
+    let n = ap length (append-nil (golomb k g q m)) in
+    elim (cases_Bool (is_short k g q m)) [
+      | inl s ↦ (let l = ltb-true (m / 2 ^ k) (g - q - 1) s in let e = ap length (golomb_short k g q m [] s) in let a = length-append (replicate (m / 2 ^ k) false) (true ∷ (bits k m ++ [])) in let b = length-replicate (m / 2 ^ k) false in let c = ap length (append-nil (bits k m)) in let d = length-bits k m in omega (arith, n, l, e, a, b, c, d))
+      | inr s ↦ (let e = ap length (golomb_long k g q m [] s) in let a = length-append (replicate (g - q - 1) false) (true ∷ (bits q (m - 1) ++ [])) in let b = length-replicate (g - q - 1) false in let c = ap length (append-nil (bits q (m - 1))) in let d = length-bits q (m - 1) in omega (arith, n, e, a, b, c, d))
+    ]

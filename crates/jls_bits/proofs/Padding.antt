@@ -1,10 +1,10 @@
 -- The pad of bits: that it is one, the shortest, and how bytes that bits were written to become it.
-use Rattle.std.proofs.Common.{◌≡◌, ℕ, zero, suc, ◌+◌, ◌-◌, ◌*◌, ◌/◌, ◌%◌, ◌^◌, ◌<◌, ◌≤◌, Bool, true, false, eqb, cond, List, [], ◌∷◌, ◌++◌, length, replicate, refl, sym, ap, ◌∙◌, subst, arith, inl, inr, append_assoc, length-append, add-zero}
+use Rattle.std.proofs.Common.{◌≡◌, ℕ, zero, suc, ◌+◌, ◌-◌, ◌*◌, ◌/◌, ◌%◌, ◌^◌, ◌<◌, ◌≤◌, Bool, true, false, eqb, List, [], ◌∷◌, ◌++◌, length, replicate, refl, sym, ap, ◌∙◌, subst, arith, inl, inr, append_assoc, length-append, add-zero}
 use Rattle.std.proofs.lemmas.Nat.{pow_pos, shr_high, mod_low, shl-shr, shl_below}
 use Rattle.std.proofs.lemmas.List.{append-nil, nil_from_length, length-replicate, replicate-append-replicate}
-use Rattle.std.proofs.lemmas.Bool.{cases_Bool, cases_lt, cases_eq, eqb-true, eqb-false, eq-eqb, ne_eqb}
+use Rattle.std.proofs.lemmas.Bool.{cases_Bool, cases_lt, cases_eq, eqb-true, eqb-false}
 use Rattle.std.proofs.Math.Nat.{mod-eq_of_lt, zero-div, div-eq_of_lt, pow-suc}
-use Rattle.jls_bits.specs.Bits.{bits, value_of_bits, width_after, bits_read_after, is_whole_after, bits_read, AreDataBits}
+use Rattle.jls_bits.specs.Bits.{bits, value_of_bits, width_after, bits_read_after, is_whole_after, bits_read}
 use Rattle.jls_bits.specs.Pad.{Carries, IsPad, last_bytes, pad_after, pad}
 use Rattle.jls_bits.specs.Appending.{last_after, AreFilled}
 use Rattle.jls_bits.proofs.NumberBits.{length-bits, bits_none, bits_cong, bits_split, cons_same}

@@ -1,5 +1,5 @@
--- The bits of numbers, and the data bits that bytes carry where a bit 0 is stuffed after each byte 0xFF (T.87 A.1, C.2.1).
-use Rattle.std.specs.Prelude.{◌≡◌, ℕ, zero, suc, ◌+◌, ◌/◌, ◌%◌, ◌^◌, Bool, true, not, ◌&&◌, nat_le, ◌==◌, if◌then◌else◌, List, [], ◌∷◌, ◌++◌, length}
+-- The bits of numbers, and the data bits that bytes carry where a bit 0 is stuffed after each byte 0xFF (T.87 A.1).
+use Rattle.std.specs.Prelude.{◌≡◌, ℕ, zero, suc, ◌+◌, ◌/◌, ◌%◌, ◌^◌, ◌<◌, Bool, true, not, ◌&&◌, nat_le, ◌==◌, if◌then◌else◌, List, [], ◌∷◌, ◌++◌, length}
 
 -- the low `count` bits of a number, the most significant first
 unfoldable pub bits : ℕ → ℕ → List Bool
@@ -13,11 +13,11 @@ value_of_bits (b ∷ bs) = (if b then 2 ^ length bs else 0) + value_of_bits bs
 
 -- how many data bits the byte after `before` carries: its low seven after 0xFF, since its top bit is stuffed, else all eight
 unfoldable pub width_after : ℕ → ℕ
-width_after before = if (before == 255) then 7 else 8
+width_after before = if (before == 0xFF) then 7 else 8
 
 -- whether the byte x, of 0x80 or more, follows 0xFF: no data byte does, only the code of a marker
 unfoldable pub ends_data : ℕ → ℕ → Bool
-ends_data before x = (before == 255) && nat_le 128 x
+ends_data before x = (before == 0xFF) && nat_le 0x80 x
 
 -- the data bits of the bytes that follow the byte `before`, read up to the first byte that ends the data
 unfoldable pub bits_read_after : ℕ → List ℕ → List Bool
@@ -38,7 +38,11 @@ bits_read bytes = bits_read_after 0 bytes
 abbrev pub is_whole : List ℕ → Bool
 is_whole bytes = is_whole_after 0 bytes
 
--- The bytes have data bits, and `data` are they. Bytes in which one of 0x80 or more follows 0xFF have none
+-- each byte that follows 0xFF is below 0x80, as its stuffed bit makes it
+abbrev pub BelowMarkers : List ℕ → Type 0
+BelowMarkers bytes = (front back : List ℕ) (x : ℕ) → bytes ≡ front ++ 0xFF ∷ (x ∷ back) → x < 0x80
+
+-- The bytes have data bits, and these are they. Bytes in which one of 0x80 or more follows 0xFF have none
 pub record AreDataBits (bytes : List ℕ) (given : List Bool) : Type 0 where
   pub whole : is_whole bytes ≡ true
   pub read : bits_read bytes ≡ given

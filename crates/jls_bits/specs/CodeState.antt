@@ -1,5 +1,5 @@
 -- A Golomb code that is read bit by bit: which bits a state stands for, and what one more bit makes of them.
-use Rattle.std.specs.Prelude.{◌≡◌, ℕ, ◌+◌, ◌-◌, ◌*◌, ◌^◌, ◌≤◌, ◌<◌, Bool, true, false, List, [], ◌∷◌, ◌++◌, replicate}
+use Rattle.std.specs.Prelude.{◌≡◌, ℕ, ◌+◌, ◌-◌, ◌*◌, ◌^◌, ◌≤◌, ◌<◌, Bool, true, false, List, ◌∷◌, ◌++◌, replicate}
 use Rattle.jls_bits.specs.Bits.{bits}
 use Rattle.jls_bits.specs.Golomb.{escape_zeros, golomb, has_golomb}
 use Rattle.jls_bits.specs.declared.code_state.CodeState.{CodeState}

@@ -8,7 +8,7 @@ pub record Carries (given : List Bool) (bytes : List ℕ) : Type 0 where
   pub are_bytes : AllByRecursion (λ x. x < 256) bytes
   pub zeros : ℕ
   pub data_bits : AreDataBits bytes (given ++ replicate zeros false)
-  pub last : (front : List ℕ) → bytes ≡ front ++ 255 ∷ [] → ⊥
+  pub last : (front : List ℕ) → bytes ≡ front ++ 0xFF ∷ [] → ⊥
 
 -- the shortest such bytes
 pub record IsPad (given : List Bool) (bytes : List ℕ) : Type 0 where
@@ -18,7 +18,7 @@ pub record IsPad (given : List Bool) (bytes : List ℕ) : Type 0 where
 -- the bytes for the last bits, fewer than a byte carries behind `before`: zeros fill the byte up, and no bits need a byte
 -- only behind 0xFF
 abbrev pub last_bytes : ℕ → List Bool → List ℕ
-last_bytes before [] = if (before == 255) then 0 ∷ [] else []
+last_bytes before [] = if (before == 0xFF) then 0 ∷ [] else []
 last_bytes before (p ∷ ps) =
     value_of_bits ((p ∷ ps) ++ replicate (width_after before - length (p ∷ ps)) false) ∷ []
 

@@ -1,6 +1,7 @@
 //! A Golomb code as a machine that is told one bit after another.
 
-ghost use Rattle.std.specs.Prelude.{◌+◌, ◌≤◌, [], ◌∷◌, ◌++◌};
+ghost use Rattle.std.specs.Prelude.{ℕ, ◌+◌, ◌^◌, ◌<◌, ◌≤◌, [], ◌∷◌, ◌++◌};
+ghost use Rattle.jls_bits.specs.Golomb.{escape_zeros};
 ghost use Rattle.jls_bits.specs.CodeState.{bits_told, IsOpen, StepIs};
 ghost use Rattle.jls_bits.specs.declared.code_state.CodeState.TheVariants.{Zeros, Remainder, Escape};
 
@@ -44,7 +45,7 @@ impl CodeState {
                 quotient,
                 count,
                 value,
-            } => push_to_remainder(quotient, count, value, k, g, qbpp, bit),
+            } => push_to_remainder(quotient, count, value, k, bit),
             CodeState::Escape { count, value } => push_to_escape(count, value, k, g, qbpp, bit),
         }
     }
@@ -82,19 +83,12 @@ fn push_to_zeros(zeros: u8, k: u8, g: u8, qbpp: u8, bit: bool) -> CodeStep
 }
 
 /// Takes a bit of a short code's remainder.
-fn push_to_remainder(
-    quotient: u8,
-    count: u8,
-    value: u32,
-    k: u8,
-    g: u8,
-    qbpp: u8,
-    bit: bool,
-) -> CodeStep
+fn push_to_remainder(quotient: u8, count: u8, value: u32, k: u8, bit: bool) -> CodeStep
     requires k { k ≤ 16 }
-    requires g { g ≤ 64 }
-    requires open { IsOpen k g qbpp (Remainder quotient count value) }
-    ensures { StepIs k g qbpp (bits_told g qbpp (Remainder quotient count value) ++ bit ∷ []) result }
+    requires count { count < k }
+    requires value { value < 2 ^ count }
+    ensures { (g qbpp : ℕ) → qbpp + 2 ≤ g → quotient < escape_zeros g qbpp
+        → StepIs k g qbpp (bits_told g qbpp (Remainder quotient count value) ++ bit ∷ []) result }
 {
     let value = 2 * value + bit as u32;
     let count = count + 1;

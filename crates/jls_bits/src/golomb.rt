@@ -1,6 +1,6 @@
 //! Golomb codes of a limited length, LG(k, g) (ITU-T T.87, A.5.3).
 
-ghost use Rattle.std.specs.Prelude.{◌≡◌, ℕ, ◌+◌, ◌^◌, ◌≤◌, true, false, List, Bool, ◌++◌, replicate, IfSome, IfNone, OnOk, OnErr};
+ghost use Rattle.std.specs.Prelude.{◌≡◌, ℕ, ◌+◌, ◌^◌, ◌≤◌, true, false, List, Bool, ◌++◌, replicate, length, IfSome, IfNone, OnOk, OnErr};
 ghost use Rattle.jls_bits.specs.Bits.{bits};
 ghost use Rattle.jls_bits.specs.Golomb.{golomb, has_golomb, NoCodeBegins};
 
@@ -116,4 +116,9 @@ pub fn write_golomb(
 pub fn no_golomb_code_begins_another()
     ensures { (k g qbpp m n : ℕ) (s t : List Bool) → has_golomb k g qbpp m ≡ true → has_golomb k g qbpp n ≡ true
         → golomb k g qbpp m ++ s ≡ golomb k g qbpp n ++ t → (m ≡ n) × (s ≡ t) }
+{}
+
+/// A law: no code is longer than g where k is at most qbpp. With a larger k a short code can be.
+pub fn golomb_codes_are_limited()
+    ensures { (k g qbpp m : ℕ) → k ≤ qbpp → qbpp + 2 ≤ g → length (golomb k g qbpp m) ≤ g }
 {}

@@ -8,8 +8,10 @@ mod reader;
 mod stuffing;
 mod writer;
 
-pub use golomb::{no_golomb_code_begins_another, read_golomb, write_golomb};
-pub use reader::BitReader;
+pub use golomb::{
+    golomb_codes_are_limited, no_golomb_code_begins_another, read_golomb, write_golomb,
+};
+pub use reader::{BitReader, data_bits_end_at_a_marker};
 pub use writer::{BitWriter, bits_have_one_pad};
 
 #[cfg(test)]

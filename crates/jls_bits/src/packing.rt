@@ -12,13 +12,13 @@ use std::alloc::{AllocError, Global};
 #[derive(Drop)]
 pub(crate) struct Packing {
     /// The bytes that are whole.
-    pub bytes: Vec<u8>,
+    bytes: Vec<u8>,
     /// The last of them, or 0 where there is none.
-    pub last: u8,
+    last: u8,
     /// How many bits of the next byte are there.
-    pub count: u8,
+    count: u8,
     /// Those bits.
-    pub partial: u8,
+    partial: u8,
 }
 
 impl Packing {

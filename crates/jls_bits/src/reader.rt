@@ -1,7 +1,7 @@
 //! Reading the data bits of bytes.
 
-ghost use Rattle.std.specs.Prelude.{◌≡◌, ◌^◌, ◌≤◌, [], ◌∷◌, ◌++◌, length, IfSome, IfNone};
-ghost use Rattle.jls_bits.specs.Bits.{bits, bits_read, bits_read_after, is_whole, is_whole_after};
+ghost use Rattle.std.specs.Prelude.{◌≡◌, ◌↔◌, ℕ, ◌^◌, ◌≤◌, true, List, [], ◌∷◌, ◌++◌, length, IfSome, IfNone};
+ghost use Rattle.jls_bits.specs.Bits.{bits, bits_read, bits_read_after, is_whole, is_whole_after, BelowMarkers};
 
 use crate::stuffing::{ends_data, width_after};
 use std::marker::Model;
@@ -146,3 +146,11 @@ impl<'a> BitReader<'a> {
         }
     }
 }
+
+/// A law: bytes are whole exactly where each byte behind 0xFF is below 0x80, and what can be read of bytes that aren't
+/// are the data bits in front of the first byte of 0x80 or more that follows 0xFF.
+pub fn data_bits_end_at_a_marker()
+    ensures whole { (bytes : List ℕ) → (is_whole bytes ≡ true) ↔ BelowMarkers bytes }
+    ensures read { (front back : List ℕ) (x : ℕ) → is_whole (front ++ 0xFF ∷ []) ≡ true → 0x80 ≤ x
+        → bits_read (front ++ 0xFF ∷ (x ∷ back)) ≡ bits_read (front ++ 0xFF ∷ []) }
+{}

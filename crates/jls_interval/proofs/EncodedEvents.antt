@@ -19,7 +19,7 @@ use Rattle.jls_interval.specs.Cells.{regular_error, cell_before, cell_after, use
 use Rattle.jls_interval.specs.Runs.{run_order, Blocks, blocks, run_index_before, run_index_lowered}
 use Rattle.jls_interval.specs.Code.{regular_bits, run_to_end_bits, interrupted_run_bits, interrupting_bits, event_bits, bits_of_events}
 use Rattle.jls_interval.specs.Encoding.{AreCellsAfter, Encoder, IsAfter, Writes}
-use Rattle.jls_interval.proofs.CellsHeld.{cell_used, cell_unused, run_cell_more, run_cell_learned, index_end, index_interrupted, index_other}
+use Rattle.jls_interval.proofs.Holds.{cell_used, cell_unused, run_cell_more, run_cell_learned, index_end, index_interrupted, index_other}
 use Rattle.jls_interval.proofs.WrittenRuns.{interruption_then}
 
 -- One list of events behind another ----------------------------------------------------

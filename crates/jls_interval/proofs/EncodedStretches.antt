@@ -7,7 +7,7 @@ use Rattle.std.proofs.lemmas.Bool.{eqb-true, eqb-false, cases_eq}
 use Rattle.jls_context.specs.Mode.{is_run_mode}
 use Rattle.jls_context.specs.declared.mode.Neighbours.{Neighbours}
 use Rattle.jls_interval.specs.Events.{Event, run_to_end, interrupted_run, Above, neighbours, run_stop, Stretch, stretch}
-use Rattle.jls_interval.proofs.Stretches.{to, stretch_same, at_end, at_stop}
+use Rattle.jls_interval.proofs.Parting.{to, stretch_same, at_end, at_stop}
 
 -- the samples from column x on are those of a slice
 pub counted : (line : List ℕ) (x value count : ℕ) → count ≡ prefix_len (λ s. eqb s value) (take (length line - x) (drop x line)) → count ≡ prefix_len (λ s. eqb s value) (drop x line)

@@ -63,7 +63,11 @@ fn or_default(given: u16, default: u16) -> u16
 fn clamped(maxval: u16, low: u16, value: u16) -> u16
     ensures { result ≡ Rattle.jls_values.specs.ParamsOf.clamped maxval low value }
 {
-    if value < low || value > maxval { low } else { value }
+    if value < low || value > maxval {
+        low
+    } else {
+        value
+    }
 }
 
 fn factor(maxval: u16) -> u16
@@ -82,7 +86,11 @@ fn default_t1(maxval: u16) -> u16
     ensures { result ≡ Rattle.jls_values.specs.ParamsOf.default_t1 maxval }
 {
     let factor = factor(maxval);
-    let value = if maxval >= 128 { factor + 2 } else { (3 / factor).max(2) };
+    let value = if maxval >= 128 {
+        factor + 2
+    } else {
+        (3 / factor).max(2)
+    };
     clamped(maxval, 1, value)
 }
 
@@ -90,7 +98,11 @@ fn default_t2(maxval: u16, t1: u16) -> u16
     ensures { result ≡ Rattle.jls_values.specs.ParamsOf.default_t2 maxval t1 }
 {
     let factor = factor(maxval);
-    let value = if maxval >= 128 { 4 * factor + 3 } else { (7 / factor).max(3) };
+    let value = if maxval >= 128 {
+        4 * factor + 3
+    } else {
+        (7 / factor).max(3)
+    };
     clamped(maxval, t1, value)
 }
 
@@ -98,7 +110,11 @@ fn default_t3(maxval: u16, t2: u16) -> u16
     ensures { result ≡ Rattle.jls_values.specs.ParamsOf.default_t3 maxval t2 }
 {
     let factor = factor(maxval);
-    let value = if maxval >= 128 { 17 * factor + 4 } else { (21 / factor).max(4) };
+    let value = if maxval >= 128 {
+        17 * factor + 4
+    } else {
+        (21 / factor).max(4)
+    };
     clamped(maxval, t2, value)
 }
 
@@ -109,7 +125,14 @@ fn largest_sample(precision: u8) -> u16
     (2u32.pow(u32::from(precision)) - 1) as u16
 }
 
-fn range_fault(precision: u8, maxval: u16, t1: u16, t2: u16, t3: u16, reset: u16) -> Option<ParamFault>
+fn range_fault(
+    precision: u8,
+    maxval: u16,
+    t1: u16,
+    t2: u16,
+    t3: u16,
+    reset: u16,
+) -> Option<ParamFault>
     requires at_least { 2 ≤ precision }
     requires at_most { precision ≤ 16 }
     ensures value { result ≡ param_fault (record { precision = precision; maxval = maxval; t1 = t1; t2 = t2; t3 = t3; reset = reset }) }
@@ -133,7 +156,14 @@ fn range_fault(precision: u8, maxval: u16, t1: u16, t2: u16, t3: u16, reset: u16
 impl Params {
     /// The parameters in force where these values are given, 0 standing for the default of the
     /// precision. The refusals come in the order of `ParamFault`.
-    pub fn new(precision: u8, maxval: u16, t1: u16, t2: u16, t3: u16, reset: u16) -> Result<Params, ParamFault>
+    pub fn new(
+        precision: u8,
+        maxval: u16,
+        t1: u16,
+        t2: u16,
+        t3: u16,
+        reset: u16,
+    ) -> Result<Params, ParamFault>
         ensures { result ≡ params_of precision maxval t1 t2 t3 reset }
     {
         if precision < 2 || precision > 16 {

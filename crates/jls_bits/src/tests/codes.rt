@@ -55,6 +55,12 @@ fn numbers_have_their_codes(rt: HostRuntime) -> Result<(), Fail> {
     assert!(rt; is_code(alloc, "00000000000000000000000101011011", 92, 2, 32, 8)?);
     assert!(rt; is_code(alloc, "00000000000000000000000101011101", 94, 2, 32, 8)?);
     assert!(rt; is_code(alloc, "00000000000000000000000111111111", 256, 2, 32, 8)?);
+    Ok(())
+}
+
+#[test]
+fn codes_at_the_ends_of_k_g_and_qbpp(rt: HostRuntime) -> Result<(), Fail> {
+    let alloc = rt.alloc();
     assert!(rt; is_code(alloc, "1", 0, 0, 3, 1)?);
     assert!(rt; is_code(alloc, "010", 1, 0, 3, 1)?);
     assert!(rt; is_code(alloc, "011", 2, 0, 3, 1)?);

@@ -21,17 +21,15 @@ impl Merge for Numbers {
 
     ghost join = { λ a b. record { zero = a.zero || b.zero; one = a.one || b.one } };
 
-    ghost laws = {
-        record {
-            reflexive = λ _. refl;
-            symmetric = λ _ _. refl;
-            transitive = λ _ _ _ _ _. refl;
-            join_same_shape = λ _ _ _. refl;
-            idempotent = λ a i. record { zero = or_itself a.zero i; one = or_itself a.one i };
-            commutative = λ a b _ i. record { zero = or_comm a.zero b.zero i; one = or_comm a.one b.one i };
-            associative = λ a b c _ _ i. record { zero = or_assoc a.zero b.zero c.zero i; one = or_assoc a.one b.one c.one i };
-        }
-    };
+    ghost laws = { record {
+      reflexive = λ _. refl;
+      symmetric = λ _ _. refl;
+      transitive = λ _ _ _ _ _. refl;
+      join_same_shape = λ _ _ _. refl;
+      idempotent = λ a i. record { zero = or_itself a.zero i; one = or_itself a.one i };
+      commutative = λ a b _ i. record { zero = or_comm a.zero b.zero i; one = or_comm a.one b.one i };
+      associative = λ a b c _ _ i. record { zero = or_assoc a.zero b.zero c.zero i; one = or_assoc a.one b.one c.one i };
+    } };
 
     fn merge(&mut self, other: &Numbers) -> Result<(), MergeFault> {
         self.zero |= other.zero;
@@ -42,14 +40,45 @@ impl Merge for Numbers {
 
 #[test]
 fn a_list_is_merged_whole_and_repeats_change_nothing(rt: HostRuntime) -> Result<(), Fail> {
-    let empty = Numbers { zero: false, one: false };
+    let empty = Numbers {
+        zero: false,
+        one: false,
+    };
     let mut held = empty;
-    let list = [Numbers { zero: true, one: false }, empty, Numbers { zero: false, one: true }];
+    let list = [
+        Numbers {
+            zero: true,
+            one: false,
+        },
+        empty,
+        Numbers {
+            zero: false,
+            one: true,
+        },
+    ];
     merge_all(&mut held, &list[..2])?;
-    assert_eq!(rt; held, Numbers { zero: true, one: false });
+    assert_eq!(rt;
+        held,
+        Numbers {
+            zero: true,
+            one: false
+        }
+    );
     merge_all(&mut held, &list)?;
-    assert_eq!(rt; held, Numbers { zero: true, one: true });
+    assert_eq!(rt;
+        held,
+        Numbers {
+            zero: true,
+            one: true
+        }
+    );
     merge_all(&mut held, &list)?;
-    assert_eq!(rt; held, Numbers { zero: true, one: true });
+    assert_eq!(rt;
+        held,
+        Numbers {
+            zero: true,
+            one: true
+        }
+    );
     Ok(())
 }

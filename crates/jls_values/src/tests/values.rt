@@ -26,8 +26,14 @@ fn shapes_are_refused_in_order(rt: HostRuntime) {
     assert_eq!(rt; shape_fault(2, 0, 0, &[]), Some(ShapeFault::Width));
     assert_eq!(rt; shape_fault(16, 1, 0, &[]), Some(ShapeFault::Height));
     assert_eq!(rt; shape_fault(16, 1, 1, &[]), Some(ShapeFault::Count));
-    assert_eq!(rt; shape_fault(16, 1, 1, &[7, 7, 7, 7, 7]), Some(ShapeFault::Count));
-    assert_eq!(rt; shape_fault(16, 1, 1, &[7, 1, 7]), Some(ShapeFault::RepeatedId));
+    assert_eq!(rt;
+        shape_fault(16, 1, 1, &[7, 7, 7, 7, 7]),
+        Some(ShapeFault::Count)
+    );
+    assert_eq!(rt;
+        shape_fault(16, 1, 1, &[7, 1, 7]),
+        Some(ShapeFault::RepeatedId)
+    );
     assert_eq!(rt; shape_fault(16, 1, 1, &[7, 1, 0]), None);
     assert_eq!(rt; Shape::size_fault(16, 1, 1, 5), Some(ShapeFault::Count));
 }
@@ -45,39 +51,80 @@ fn values(params: &Params) -> [u16; 5] {
 
 #[test]
 fn defaults_follow_the_precision(rt: HostRuntime) -> Result<(), Fail> {
-    assert_eq!(rt; values(&Params::new(8, 0, 0, 0, 0, 0)?), [255, 3, 7, 21, 64]);
-    assert_eq!(rt; values(&Params::new(12, 0, 0, 0, 0, 0)?), [4095, 18, 67, 276, 64]);
+    assert_eq!(rt;
+        values(&Params::new(8, 0, 0, 0, 0, 0)?),
+        [255, 3, 7, 21, 64]
+    );
+    assert_eq!(rt;
+        values(&Params::new(12, 0, 0, 0, 0, 0)?),
+        [4095, 18, 67, 276, 64]
+    );
     assert_eq!(rt; values(&Params::new(2, 0, 0, 0, 0, 0)?), [3, 2, 3, 3, 64]);
     Ok(())
 }
 
 #[test]
 fn defaults_follow_the_values_given(rt: HostRuntime) -> Result<(), Fail> {
-    assert_eq!(rt; values(&Params::new(8, 127, 0, 0, 0, 0)?), [127, 2, 3, 10, 64]);
+    assert_eq!(rt;
+        values(&Params::new(8, 127, 0, 0, 0, 0)?),
+        [127, 2, 3, 10, 64]
+    );
     assert_eq!(rt; values(&Params::new(8, 1, 0, 0, 0, 0)?), [1, 1, 1, 1, 64]);
-    assert_eq!(rt; values(&Params::new(8, 0, 10, 0, 0, 0)?), [255, 10, 10, 21, 64]);
-    assert_eq!(rt; values(&Params::new(8, 0, 0, 0, 0, 255)?), [255, 3, 7, 21, 255]);
+    assert_eq!(rt;
+        values(&Params::new(8, 0, 10, 0, 0, 0)?),
+        [255, 10, 10, 21, 64]
+    );
+    assert_eq!(rt;
+        values(&Params::new(8, 0, 0, 0, 0, 255)?),
+        [255, 3, 7, 21, 255]
+    );
     Ok(())
 }
 
 #[test]
 fn params_are_refused_in_order(rt: HostRuntime) {
-    assert_eq!(rt; Params::new(1, 4, 9, 0, 0, 2).err(), Some(ParamFault::Precision));
-    assert_eq!(rt; Params::new(8, 256, 300, 0, 0, 2).err(), Some(ParamFault::MaxVal));
+    assert_eq!(rt;
+        Params::new(1, 4, 9, 0, 0, 2).err(),
+        Some(ParamFault::Precision)
+    );
+    assert_eq!(rt;
+        Params::new(8, 256, 300, 0, 0, 2).err(),
+        Some(ParamFault::MaxVal)
+    );
     assert_eq!(rt; Params::new(8, 0, 256, 2, 0, 2).err(), Some(ParamFault::T1));
     assert_eq!(rt; Params::new(8, 0, 0, 2, 1, 2).err(), Some(ParamFault::T2));
     assert_eq!(rt; Params::new(8, 0, 0, 0, 6, 2).err(), Some(ParamFault::T3));
-    assert_eq!(rt; Params::new(8, 0, 0, 0, 0, 2).err(), Some(ParamFault::Reset));
-    assert_eq!(rt; Params::new(8, 0, 0, 0, 0, 256).err(), Some(ParamFault::Reset));
+    assert_eq!(rt;
+        Params::new(8, 0, 0, 0, 0, 2).err(),
+        Some(ParamFault::Reset)
+    );
+    assert_eq!(rt;
+        Params::new(8, 0, 0, 0, 0, 256).err(),
+        Some(ParamFault::Reset)
+    );
 }
 
 #[test]
 fn lengths_follow_maxval(rt: HostRuntime) -> Result<(), Fail> {
     let eight = Params::new(8, 0, 0, 0, 0, 0)?;
-    assert_eq!(rt; (eight.precision(), eight.range(), eight.qbpp(), eight.limit()), (8, 256, 8, 32));
+    assert_eq!(rt;
+        (
+            eight.precision(),
+            eight.range(),
+            eight.qbpp(),
+            eight.limit()
+        ),
+        (8, 256, 8, 32)
+    );
     let one = Params::new(8, 1, 0, 0, 0, 0)?;
-    assert_eq!(rt; (one.precision(), one.range(), one.qbpp(), one.limit()), (8, 2, 1, 20));
+    assert_eq!(rt;
+        (one.precision(), one.range(), one.qbpp(), one.limit()),
+        (8, 2, 1, 20)
+    );
     let sixteen = Params::new(16, 0, 0, 0, 0, 0)?;
-    assert_eq!(rt; (sixteen.range(), sixteen.qbpp(), sixteen.limit()), (65536, 16, 64));
+    assert_eq!(rt;
+        (sixteen.range(), sixteen.qbpp(), sixteen.limit()),
+        (65536, 16, 64)
+    );
     Ok(())
 }

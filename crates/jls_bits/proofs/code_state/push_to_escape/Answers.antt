@@ -1,4 +1,4 @@
-use Rattle.std.proofs.Common.{◌≡◌, ◌*◌, ◌^◌, ◌+◌, ◌-◌, ◌%◌, arith, ap, ◌∙◌}
+use Rattle.std.proofs.Common.{◌≡◌, ◌*◌, ◌^◌, ◌+◌, ◌-◌, arith, ap, ◌∙◌}
 use mir.Val.{bool_byte}
 use Rattle.jls_bits.proofs.NumberBits.{bits_push_bool}
 use Rattle.jls_bits.proofs.CodeSteps.{escape_more, escape_whole, escape_too_small, escape_shifted, largest_shifted}

@@ -1,4 +1,4 @@
-use Rattle.std.proofs.Common.{◌+◌, ◌-◌, ◌*◌, ◌/◌, ◌%◌, ◌^◌, ◌++◌, replicate, false, ap, ◌∙◌, arith}
+use Rattle.std.proofs.Common.{◌+◌, ◌-◌, ◌/◌, ◌%◌, ◌^◌, ◌++◌, replicate, false, ap, ◌∙◌, arith}
 use Rattle.jls_bits.specs.Bits.{bits}
 use Rattle.jls_bits.proofs.Codes.{parts_of_short, parts_of_escape, escape_above_0}
 use Rattle.jls_bits.proofs.CodeSteps.{one_shifted}

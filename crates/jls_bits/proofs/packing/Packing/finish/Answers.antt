@@ -1,4 +1,4 @@
-use Rattle.std.proofs.Common.{◌*◌, ◌^◌, ◌-◌, ◌%◌, ap, ◌∙◌, arith}
+use Rattle.std.proofs.Common.{◌*◌, ◌^◌, ◌-◌, ◌%◌, ap, arith}
 use Rattle.jls_bits.specs.Packing.{bits_put}
 use Rattle.jls_bits.proofs.Padding.{finish_partial, finish_stuffed, finish_whole}
 use Rattle.jls_bits.proofs.packing.Packing.finish.Goals as goal

@@ -1,11 +1,10 @@
-use Rattle.std.proofs.Common.{◌++◌, ◌+◌, ◌*◌, ◌^◌, ◌≤◌, [], ◌∷◌, ap, sym, subst, ◌∙◌, arith}
+use Rattle.std.proofs.Common.{◌++◌, ◌+◌, ◌*◌, ap, sym, subst, ◌∙◌, arith}
 use mir.Val.{bool_byte}
 use Rattle.std.proofs.lemmas.List.{append-nil}
-use Rattle.std.proofs.Math.Pow.{pow_mono}
-use Rattle.jls_bits.specs.Bits.{bits, bits_read, is_whole, width_after}
+use Rattle.jls_bits.specs.Bits.{bits_read}
 use Rattle.jls_bits.specs.Packing.{bits_put}
 use Rattle.jls_bits.specs.Appending.{last_after, AreFilled}
-use Rattle.jls_bits.proofs.NumberBits.{bits_none, bits_push_bool}
+use Rattle.jls_bits.proofs.NumberBits.{bits_none}
 use Rattle.jls_bits.proofs.DataBits.{width_bounds}
 use Rattle.jls_bits.proofs.Appending.{bit_fills, bit_adds, last_append, byte_of_bits}
 use Rattle.jls_bits.proofs.packing.Packing.put_bit.Goals as goal

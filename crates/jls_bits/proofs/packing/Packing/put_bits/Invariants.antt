@@ -1,4 +1,4 @@
-use Rattle.std.proofs.Common.{◌≡◌, ◌≤◌, ◌+◌, ◌-◌, ◌*◌, ◌/◌, ◌^◌, ◌++◌, vec_len, vec_capacity}
+use Rattle.std.proofs.Common.{◌≡◌, ◌≤◌, ◌+◌, ◌-◌, ◌*◌, ◌++◌, vec_len, vec_capacity}
 use Rattle.jls_bits.specs.Bits.{bits}
 use Rattle.jls_bits.specs.Packing.{IsPacking, bits_put}
 use Rattle.jls_bits.proofs.packing.Packing.put_bits.Given as goal

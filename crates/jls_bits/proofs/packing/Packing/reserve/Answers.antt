@@ -1,4 +1,4 @@
-use Rattle.std.proofs.Common.{◌++◌, ap, sym, subst, ◌∙◌, arith}
+use Rattle.std.proofs.Common.{◌++◌, ap, sym, subst, ◌∙◌}
 use Rattle.jls_bits.specs.Bits.{bits, bits_read}
 use Rattle.jls_bits.specs.Packing.{bits_put}
 use Rattle.jls_bits.specs.Appending.{last_after, AreFilled}

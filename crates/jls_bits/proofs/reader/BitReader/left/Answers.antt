@@ -1,4 +1,4 @@
-use Rattle.std.proofs.Common.{◌++◌, arith, ap, length, length-append}
+use Rattle.std.proofs.Common.{arith, ap, length, length-append}
 use Rattle.jls_bits.specs.Bits.{bits, bits_read_after}
 use Rattle.jls_bits.specs.Unread.{Unread}
 use Rattle.jls_bits.proofs.NumberBits.{length-bits}

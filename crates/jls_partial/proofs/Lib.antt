@@ -1,0 +1,16 @@
+pub mod Entries
+pub mod Growth
+pub mod LineSets
+pub mod PartialRows
+pub mod ReadBack
+pub mod SameReadings
+pub mod TextEntries
+pub mod TextFields
+pub mod TextLaws
+pub mod TextLoops
+pub mod TextReadings
+pub mod TextRows
+pub mod Unions
+pub mod Views
+pub mod WrittenEntries
+pub mod Yielded

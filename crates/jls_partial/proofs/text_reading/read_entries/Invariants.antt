@@ -1,0 +1,10 @@
+use Rattle.std.proofs.Common.{◌≡◌, ◌-◌, None}
+use Rattle.jls_partial.specs.TextInto.{with_entries}
+use Rattle.jls_partial.specs.TextReading.{entries_fields}
+use Rattle.jls_partial.proofs.text_reading.read_entries.Given as goal
+
+abbrev pub invariant-loop : goal.invariant-loop
+invariant-loop l = record {
+  shape : l.partial.shape ≡ l.fn.partial.shape;
+  same : with_entries l.partial (entries_fields l.size l.fn.partial.shape l.before (l.count - l.counter) l.rest) ≡ with_entries l.fn.partial (entries_fields l.fn.size l.fn.partial.shape None l.fn.count l.fn.bytes);
+}

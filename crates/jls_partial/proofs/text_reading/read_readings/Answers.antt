@@ -1,0 +1,53 @@
+use Rattle.std.proofs.Common.{◌≡◌, ◌+◌, ◌-◌, ◌∙◌, ap, sym, subst, List, ℕ, None, Some, Ok}
+use Rattle.std.proofs.lemmas.Result.{err_from_is_err_and}
+use Rattle.std.specs.Option.{option_map}
+use Rattle.jls_values.specs.Shape.{PictureShape}
+use Rattle.jls_partial.specs.InsertFaults.{reading_fault}
+use Rattle.jls_partial.specs.Partial.{PartialPicture, with_reading}
+use Rattle.jls_partial.specs.TextInto.{with_readings}
+use Rattle.jls_partial.specs.TextReading.{Fails, reading_fields, readings_fields}
+use Rattle.jls_partial.proofs.TextLaws.{fits_there}
+use Rattle.jls_partial.proofs.TextLoops.{readings_go_on, readings_end, readings_done}
+use Rattle.jls_partial.proofs.TextReadings.{reading_fits}
+use Rattle.jls_partial.proofs.text_reading.read_readings.Goals as goal
+
+pub returns-in_err-samples : goal.returns-in_err-samples
+returns-in_err-samples c =
+    let p = err_from_is_err_and c.from_residual.result c.from_residual.ensures.1 in
+    let shape = c.args.partial.now.shape in
+    let before = option_map (λ v. v.items) c.loop.before in
+    let e = c.in_err-samples.field-0.0 in
+    let failed : Fails e (reading_fields c.args.size shape before c.loop.rest.now) =
+    subst (λ (s : PictureShape). Fails e (reading_fields c.args.size s before c.loop.rest.now)) (c.shape.ensures.value ∙ c.loop.invariant.shape) c.in_err-samples.ensures in
+    rw (p.1, p.2) (readings_end e c.args.size shape c.loop.partial c.args.at before c.args.count c.loop.counter c.loop.rest.now (with_readings c.args.partial.now c.args.at (readings_fields c.args.size shape None c.args.count c.args.bytes.now)) c.loop-test.true failed c.loop.invariant.same)
+
+pub take_reading-requires : goal.take_reading-requires
+take_reading-requires c =
+    let shape = c.args.partial.now.shape in
+    let before = option_map (λ v. v.items) c.loop.before in
+    let xs = c.in_ok-samples.samples.items in
+    let read : reading_fields c.args.size shape before c.loop.rest.now ≡ Ok (xs, c.in_ok-samples.after.now) =
+    subst (λ (s : PictureShape). reading_fields c.args.size s before c.loop.rest.now ≡ Ok (xs, c.in_ok-samples.after.now)) (c.shape.ensures.value ∙ c.loop.invariant.shape) c.in_ok-samples.ensures in
+    let fits = fits_there shape c.args.at.component c.args.at.line xs c.requires.component_in c.requires.line_in (reading_fits c.args.size shape before c.loop.rest.now (xs, c.in_ok-samples.after.now) read) in
+    subst (λ (s : PictureShape). reading_fault s c.args.at.component c.args.at.line c.deref.result.now ≡ None) (sym c.loop.invariant.shape)
+    (subst (λ (ys : List ℕ). reading_fault shape c.args.at.component c.args.at.line ys ≡ None) (sym c.deref.ensures.value) fits)
+
+pub loop-preserved : goal.loop-preserved
+loop-preserved c =
+    let shape = c.args.partial.now.shape in
+    let before = option_map (λ v. v.items) c.loop.before in
+    let xs = c.in_ok-samples.samples.items in
+    let total = with_readings c.args.partial.now c.args.at (readings_fields c.args.size shape None c.args.count c.args.bytes.now) in
+    let read : reading_fields c.args.size shape before c.loop.rest.now ≡ Ok (xs, c.in_ok-samples.after.now) =
+    subst (λ (s : PictureShape). reading_fields c.args.size s before c.loop.rest.now ≡ Ok (xs, c.in_ok-samples.after.now)) (c.shape.ensures.value ∙ c.loop.invariant.shape) c.in_ok-samples.ensures in
+    let taken : c.take_reading.new.partial ≡ with_reading c.loop.partial c.args.at.component c.args.at.line xs =
+    c.in_ok-take_reading.ensures.ok ∙ ap (with_reading c.loop.partial c.args.at.component c.args.at.line) c.deref.ensures.value in
+    record {
+      shape = ap (λ (q : PartialPicture). q.shape) taken ∙ c.loop.invariant.shape;
+      same = subst (λ (q : PartialPicture). with_readings q c.args.at (readings_fields c.args.size shape (Some xs) (c.args.count - (c.loop.counter + 1)) c.in_ok-samples.after.now) ≡ total) (sym taken)
+          (readings_go_on c.args.size shape c.loop.partial c.args.at before c.args.count c.loop.counter c.loop.rest.now xs c.in_ok-samples.after.now total c.loop-test.true read c.loop.invariant.same);
+    }
+
+pub returns : goal.returns
+returns c =
+    readings_done c.args.size c.args.partial.now.shape c.loop.partial c.args.at (option_map (λ v. v.items) c.loop.before) c.args.count c.loop.counter c.loop.rest.now (with_readings c.args.partial.now c.args.at (readings_fields c.args.size c.args.partial.now.shape None c.args.count c.args.bytes.now)) c.loop-test.false c.loop.invariant.same

@@ -1,0 +1,11 @@
+use Rattle.std.proofs.Common.{◌≡◌, ◌-◌, None}
+use Rattle.std.specs.Option.{option_map}
+use Rattle.jls_partial.specs.TextInto.{with_readings}
+use Rattle.jls_partial.specs.TextReading.{readings_fields}
+use Rattle.jls_partial.proofs.text_reading.read_readings.Given as goal
+
+abbrev pub invariant-loop : goal.invariant-loop
+invariant-loop l = record {
+  shape : l.partial.shape ≡ l.fn.partial.shape;
+  same : with_readings l.partial l.at (readings_fields l.size l.fn.partial.shape (option_map (λ v. v.items) l.before) (l.count - l.counter) l.rest) ≡ with_readings l.fn.partial l.fn.at (readings_fields l.fn.size l.fn.partial.shape None l.fn.count l.fn.bytes);
+}

@@ -1,0 +1,7 @@
+use Rattle.std.proofs.Common.{◌≡◌, ◌-◌}
+use Rattle.jls_partial.specs.TextReading.{samples_fields}
+use Rattle.jls_partial.proofs.TextLoops.{after_samples}
+use Rattle.jls_partial.proofs.text_reading.read_samples.Given as goal
+
+abbrev pub invariant-loop : goal.invariant-loop
+invariant-loop l = after_samples l.samples.items (samples_fields l.size l.limit (l.count - l.counter) l.rest) ≡ samples_fields l.fn.size l.fn.limit l.fn.count l.fn.bytes

@@ -1,0 +1,17 @@
+pub mod Entries
+pub mod Equality
+pub mod Held
+pub mod InsertFaults
+pub mod LineSet
+pub mod LineSetLaws
+pub mod Merging
+pub mod Partial
+pub mod PartialLaws
+pub mod Place
+pub mod Reading
+pub mod ReadingOrder
+pub mod Status
+pub mod Text
+pub mod TextInto
+pub mod TextReading
+pub mod Writing

@@ -1,0 +1,49 @@
+-- The union of line sets is a join.
+use Rattle.std.specs.Prelude.{◌≡◌, true, ◌==◌}
+use Rattle.std.proofs.Common.{refl, ap}
+use Rattle.std.specs.Cmp.{IsTotalOrder, both_ways}
+use Rattle.std.specs.Cmp.Lexicographic.{slice_cmp}
+use Rattle.std.specs.Ordering.{nat_cmp}
+use Rattle.std.proofs.lemmas.Bool.{eqb-true, and_parts}
+use Rattle.std.proofs.lemmas.Cmp.{nat_list_cmp_total}
+use Rattle.std.proofs.lemmas.Map.Lookups.{CmpEqualImpliesEq, exact_bytes}
+use Rattle.jls_values.specs.Join.{JoinLaws}
+use Rattle.jls_values.specs.OrderedSetLaws.{union-idempotent, union-commutative, union-associative}
+use Rattle.jls_partial.specs.LineSet.{PictureLines, has_same_line_shape, union_of_lines}
+use Rattle.jls_partial.specs.PartialLaws.{eqb_itself}
+
+pub lines_total : IsTotalOrder (slice_cmp nat_cmp)
+lines_total = nat_list_cmp_total
+
+pub lines_exact : CmpEqualImpliesEq (slice_cmp nat_cmp)
+lines_exact = exact_bytes
+
+itself : (s : PictureLines) → has_same_line_shape s s ≡ true
+itself s = rw (eqb_itself s.precision, eqb_itself s.width) refl
+
+-- line sets that pass the test agree in both
+agree : (s t : PictureLines) → has_same_line_shape s t ≡ true → (s.precision ≡ t.precision) × (s.width ≡ t.width)
+agree s t e =
+    let p = and_parts (s.precision == t.precision) (s.width == t.width) e in
+    (eqb-true s.precision t.precision p.0, eqb-true s.width t.width p.1)
+
+test_turned : (s t : PictureLines) → has_same_line_shape s t ≡ true → has_same_line_shape t s ≡ true
+test_turned s t e =
+    let p = agree s t e in
+    rw (p.0, p.1, eqb_itself t.precision, eqb_itself t.width) refl
+
+test_along : (s t u : PictureLines) → has_same_line_shape s t ≡ true → has_same_line_shape t u ≡ true → has_same_line_shape s u ≡ true
+test_along s t u e f =
+    let p = agree s t e in
+    rw (p.0, p.1) f
+
+pub line_set_laws : JoinLaws has_same_line_shape union_of_lines
+line_set_laws = record {
+  reflexive = itself;
+  symmetric = λ x y. both_ways (has_same_line_shape x y) (has_same_line_shape y x) (test_turned x y) (test_turned y x);
+  transitive = test_along;
+  join_same_shape = λ x y e. itself x;
+  idempotent = λ x. ap (λ s. record { precision = x.precision; width = x.width; lines = s }) (union-idempotent lines_total lines_exact x.lines);
+  commutative = λ x y e. let p = agree x y e in λ i. record { precision = p.0 i; width = p.1 i; lines = union-commutative lines_total lines_exact x.lines y.lines i };
+  associative = λ x y z e f. ap (λ s. record { precision = x.precision; width = x.width; lines = s }) (union-associative lines_total lines_exact x.lines y.lines z.lines);
+}

@@ -1,0 +1,176 @@
+-- Reading a text from the front, with the first fault that is met and its offset.
+-- Each reader answers a value and the bytes after it. `size` is the length of the whole text, so that the offset of
+-- what is next is the size less the length of what is left.
+use Rattle.std.specs.Prelude.{◌≡◌, ℕ, zero, suc, ◌-◌, ◌^◌, Bool, true, ◌&&◌, ◌==◌, nat_lt, nat_le, List, [], ◌∷◌, length, take, drop, Option, Some, None, Result, Ok, Err, if◌then◌else◌}
+use Rattle.std.specs.Int.{Width, w16, w32, w64, byte_len, from_be_bytes}
+use Rattle.std.specs.Ordering.{nat_cmp, is_lt}
+use Rattle.std.specs.Cmp.Lexicographic.{slice_cmp}
+use Rattle.jls_values.specs.Shape.{PictureShape}
+use Rattle.jls_values.specs.ShapeOf.{size_fault, shape_of}
+use Rattle.jls_values.specs.OrderedSet as set
+use Rattle.jls_partial.specs.declared.text_fault.TextFault.{TextFault}
+use Rattle.jls_partial.specs.declared.text_fault.TextFault.TheVariants as fault
+use Rattle.jls_partial.specs.declared.place.Place.{Place}
+use Rattle.jls_partial.specs.Place.{place_cmp}
+use Rattle.jls_partial.specs.Partial.{PartialPicture}
+use Rattle.jls_partial.specs.Entries.{Entry, readings_of_entries}
+use Rattle.jls_partial.specs.Text.{magic}
+
+infixl 10 ◌>>=◌
+abbrev pub ◌>>=◌ : {A B : Type 0} → Result A TextFault → (A → Result B TextFault) → Result B TextFault
+(Ok x) >>= f = f x
+(Err e) >>= f = Err e
+
+-- What a function returned, seen by view, is what reading gives, unless memory ran out.
+abbrev pub Fails : {Y : Type 0} → TextFault → Result Y TextFault → Type 0
+Fails fault.OutOfMemory read = Unit {0}
+Fails f read = read ≡ Err f
+
+abbrev pub Gives : {X Y : Type 0} → (X → Y) → Result X TextFault → Result Y TextFault → Type 0
+Gives view (Ok x) read = read ≡ Ok (view x)
+Gives view (Err e) read = Fails e read
+
+-- the offset of the first of the bytes that are left
+abbrev pub offset : ℕ → List ℕ → ℕ
+offset size rest = size - length rest
+
+-- ---- fields
+
+unfoldable pub byte_field : ℕ → List ℕ → Result (ℕ × List ℕ) TextFault
+byte_field size [] = Err (fault.Truncated size)
+byte_field size (b ∷ rest) = Ok (b, rest)
+
+unfoldable pub bytes_field : ℕ → ℕ → List ℕ → Result (List ℕ × List ℕ) TextFault
+bytes_field size n bytes = if nat_lt (length bytes) n then Err (fault.Truncated size) else Ok (take n bytes, drop n bytes)
+
+-- a number in as many bytes as its width has, the most significant first
+abbrev pub number_field : ℕ → Width → List ℕ → Result (ℕ × List ℕ) TextFault
+number_field size w bytes =
+    if nat_lt (length bytes) (byte_len w) then Err (fault.Truncated size)
+    else Ok (from_be_bytes w (take (byte_len w) bytes), drop (byte_len w) bytes)
+
+-- the bytes of the magic, each a field of its own
+unfoldable pub magic_field : ℕ → List ℕ → List ℕ → Result (List ℕ) TextFault
+magic_field size [] bytes = Ok bytes
+magic_field size (wanted ∷ others) bytes = do
+  first ← byte_field size bytes
+  if first.0 == wanted then magic_field size others first.1 else Err (fault.Magic (offset size bytes))
+
+-- ---- the shape
+
+-- where the fields of the shape begin
+abbrev pub shape_offset : ℕ
+shape_offset = length magic
+
+-- no fault, or the fault at the first field of the shape
+abbrev pub unless_bad_shape : {A E : Type 0} → Option E → A → Result A TextFault
+unless_bad_shape None x = Ok x
+unless_bad_shape (Some e) x = Err (fault.BadShape shape_offset)
+
+-- the shape that the fields make, or the fault at the first of them
+abbrev pub shape_or_fault : {E : Type 0} → Result PictureShape E → Result PictureShape TextFault
+shape_or_fault (Ok shape) = Ok shape
+shape_or_fault (Err e) = Err (fault.BadShape shape_offset)
+
+unfoldable pub shape_fields : ℕ → List ℕ → Result (PictureShape × List ℕ) TextFault
+shape_fields size bytes = do
+  precision ← byte_field size bytes
+  width ← number_field size w16 precision.1
+  height ← number_field size w16 width.1
+  count ← byte_field size height.1
+  id_bytes ← unless_bad_shape (size_fault precision.0 width.0 height.0 count.0) count.1
+  ids ← bytes_field size count.0 id_bytes
+  shape ← shape_or_fault (shape_of precision.0 width.0 height.0 ids.0)
+  Ok (shape, ids.1)
+
+-- ---- readings
+
+-- a sample below the limit
+unfoldable pub sample_field : ℕ → ℕ → List ℕ → Result (ℕ × List ℕ) TextFault
+sample_field size limit bytes = do
+  sample ← number_field size w16 bytes
+  if nat_le limit sample.0 then Err (fault.Sample (offset size bytes)) else Ok sample
+
+-- n samples
+unfoldable pub samples_fields : ℕ → ℕ → ℕ → List ℕ → Result (List ℕ × List ℕ) TextFault
+samples_fields size limit zero bytes = Ok ([], bytes)
+samples_fields size limit (suc n) bytes = do
+  first ← sample_field size limit bytes
+  others ← samples_fields size limit n first.1
+  Ok (first.0 ∷ others.0, others.1)
+
+-- whether a reading is above the one before
+abbrev pub is_above : Option (List ℕ) → List ℕ → Bool
+is_above None samples = true
+is_above (Some before) samples = is_lt (slice_cmp nat_cmp before samples)
+
+-- one reading, which is above the one before
+unfoldable pub reading_fields : ℕ → PictureShape → Option (List ℕ) → List ℕ → Result (List ℕ × List ℕ) TextFault
+reading_fields size shape before bytes = do
+  samples ← samples_fields size (2 ^ shape.precision) shape.width bytes
+  if is_above before samples.0 then Ok samples else Err (fault.Order (offset size bytes))
+
+-- n readings of one line, each above the one before
+unfoldable pub readings_fields : ℕ → PictureShape → Option (List ℕ) → ℕ → List ℕ → Result (List (List ℕ) × List ℕ) TextFault
+readings_fields size shape before zero bytes = Ok ([], bytes)
+readings_fields size shape before (suc n) bytes = do
+  first ← reading_fields size shape before bytes
+  others ← readings_fields size shape (Some first.0) n first.1
+  Ok (first.0 ∷ others.0, others.1)
+
+-- ---- entries
+
+-- whether an entry of this line may follow the entry before: the picture has the line, and it is after that of the entry before
+abbrev pub may_follow : PictureShape → Option Place → Place → Bool
+may_follow shape None place = nat_lt place.component (length shape.ids) && nat_lt place.line shape.height
+may_follow shape (Some before) place = is_lt (place_cmp before place) && (nat_lt place.component (length shape.ids) && nat_lt place.line shape.height)
+
+-- the line of an entry
+unfoldable pub place_fields : ℕ → PictureShape → Option Place → List ℕ → Result (Place × List ℕ) TextFault
+place_fields size shape before bytes = do
+  component ← byte_field size bytes
+  line ← number_field size w16 component.1
+  if may_follow shape before (record { component = component.0; line = line.0 })
+      then Ok (record { component = component.0; line = line.0 }, line.1)
+      else Err (fault.Place (offset size bytes))
+
+-- how many readings an entry has: one or more
+unfoldable pub count_field : ℕ → List ℕ → Result (ℕ × List ℕ) TextFault
+count_field size bytes = do
+  count ← number_field size w64 bytes
+  if count.0 == 0 then Err (fault.Count (offset size bytes)) else Ok count
+
+unfoldable pub entry_fields : ℕ → PictureShape → Option Place → List ℕ → Result (Entry × List ℕ) TextFault
+entry_fields size shape before bytes = do
+  place ← place_fields size shape before bytes
+  count ← count_field size place.1
+  readings ← readings_fields size shape None count.0 count.1
+  Ok ((place.0, readings.0), readings.1)
+
+-- n entries, each of a line after that of the one before
+unfoldable pub entries_fields : ℕ → PictureShape → Option Place → ℕ → List ℕ → Result (List Entry × List ℕ) TextFault
+entries_fields size shape before zero bytes = Ok ([], bytes)
+entries_fields size shape before (suc n) bytes = do
+  first ← entry_fields size shape before bytes
+  others ← entries_fields size shape (Some first.0.0) n first.1
+  Ok (first.0 ∷ others.0, others.1)
+
+-- ---- the text
+
+-- the partial picture of a shape and entries
+abbrev pub partial_of : PictureShape → List Entry → PartialPicture
+partial_of shape es = record { shape = shape; readings = set.from_list (readings_of_entries es) }
+
+unfoldable pub text_fields : ℕ → List ℕ → Result (PictureShape × List Entry × List ℕ) TextFault
+text_fields size bytes = do
+  shape_bytes ← magic_field size magic bytes
+  shape ← shape_fields size shape_bytes
+  count ← number_field size w32 shape.1
+  entries ← entries_fields size shape.0 None count.0 count.1
+  Ok (shape.0, entries.0, entries.1)
+
+-- the partial whose text the bytes are, or the first fault
+unfoldable pub read_text : List ℕ → Result PartialPicture TextFault
+read_text bytes = do
+  fields ← text_fields (length bytes) bytes
+  if length fields.2 == 0 then Ok (partial_of fields.0 fields.1) else Err (fault.Trailing (offset (length bytes) fields.2))

@@ -1,0 +1,25 @@
+//! Partial pictures: a shape, a set of readings of its lines, and the one text of both.
+#![tactic(auto)]
+
+mod equality;
+mod insert_fault;
+mod line_set;
+mod merging;
+mod partial;
+mod place;
+mod readings;
+mod sample_lists;
+mod status;
+mod text_fault;
+mod text_fields;
+mod text_reading;
+mod writing;
+
+pub use insert_fault::InsertFault;
+pub use line_set::LineSet;
+pub use partial::Partial;
+pub use status::Status;
+pub use text_fault::TextFault;
+
+#[cfg(test)]
+mod tests;
