@@ -108,6 +108,7 @@ regular_mode p near regular number is =
       not_run = regular;
       context_is = omega (arith, ints);
       sign_is = sym sign;
+      weighed_is = rw sign at size;
       at_least = omega (arith, ints);
       at_most = omega (arith, ints);
     }

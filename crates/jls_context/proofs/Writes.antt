@@ -1,11 +1,26 @@
 -- One cell is written, and all others stay.
-use Rattle.std.proofs.Common.{◌≡◌, ◌≢◌, ℕ, ◌<◌, List, length, get_or, set, sym, subst, ◌∙◌, arith, inl, inr}
+use Rattle.std.proofs.Common.{◌≡◌, ◌≢◌, ℕ, ◌<◌, List, length, get_or, replicate, set, sym, subst, ◌∙◌, arith, inl, inr}
 use Rattle.std.specs.List.{All}
-use Rattle.std.proofs.lemmas.List.{get_or-set_same, get_or-set_other, length-set}
-use Rattle.std.proofs.lemmas.Bool.{cases_eq}
+use Rattle.std.proofs.lemmas.List.{get_or-set_same, get_or-set_other, get_or-replicate, length-set, length-replicate}
+use Rattle.std.proofs.lemmas.Bool.{cases_eq, cases_lt}
 use Rattle.jls_context.specs.declared.regular.Cell.{Cell}
+use Rattle.jls_context.specs.declared.interruption.RunCell.{RunCell}
 use Rattle.jls_context.specs.Bounds.{IsCell, AreVariables}
 use Rattle.jls_context.specs.Variables.{Variables, cell_at}
+use Rattle.jls_context.specs.Regular.{initial_cell}
+use Rattle.jls_values.specs.Params.{CodingParameters}
+use Rattle.std.proofs.Math.ListN.{get_or-eq_default}
+
+-- a list of one value reads as that value everywhere, where the default is the same
+replicated : (n i : ℕ) (x d : Cell) → x ≡ d → get_or (replicate n x) i d ≡ d
+replicated n i x d is =
+    elim (cases_lt i n) [ inl within ↦ get_or-replicate n i x d within ∙ is | inr beyond ↦ (let size = length-replicate n x in get_or-eq_default (replicate n x) d (omega arith)) ]
+
+-- at the start all cells are the same
+pub cell_at-start : (p : CodingParameters) (x : Cell) (run_other run_same : RunCell) (i : ℕ) → x ≡ initial_cell p
+    → (let v : Variables = record { parameters = p; regular = replicate 365 x; run_other = run_other; run_same = run_same } in cell_at v i) ≡ initial_cell p
+unfolding cell_at
+cell_at-start p x run_other run_same i is = replicated 365 i x (initial_cell p) is
 
 -- the variables with another cell at this place
 abbrev pub written : Variables → ℕ → Cell → Variables

@@ -66,6 +66,7 @@ pub record IsRegularMode (p : CodingParameters) (near : Neighbours) (cell : ℕ)
   pub not_run : is_run_mode near ≡ false
   pub context_is : cell ≡ context p near
   pub sign_is : negative ≡ is_negative p near
+  pub weighed_is : let q = quantized_gradients p near in pos cell ≡ weighed (with_sign negative q.q1) (with_sign negative q.q2) (with_sign negative q.q3)
   pub at_least : 1 ≤ cell
   pub at_most : cell ≤ 364
 

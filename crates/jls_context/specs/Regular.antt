@@ -1,5 +1,5 @@
 -- The cells of regular mode: k, the mapping of errors, and what an error changes (T.87, A.2, A.5.1, A.5.2, A.6).
-use Rattle.std.specs.Prelude.{ℕ, ◌+◌, ◌*◌, ◌/◌, ◌^◌, max, Bool, ◌&&◌, nat_le, ◌==◌, if◌then◌else◌, ℤ, pos, negsuc, ◌+ℤ◌, ◌-ℤ◌, ◌*ℤ◌, neg_ℤ, unsigned_abs, int_lt, int_le}
+use Rattle.std.specs.Prelude.{ℕ, ◌+◌, ◌*◌, ◌/◌, ◌^◌, ◌<◌, ◌≤◌, max, Bool, ◌&&◌, nat_le, ◌==◌, if◌then◌else◌, ℤ, pos, negsuc, ◌+ℤ◌, ◌-ℤ◌, ◌*ℤ◌, neg_ℤ, unsigned_abs, int_lt, int_le}
 use Rattle.std.specs.Int.{int_div_euclid, int_max, int_min}
 use Rattle.jls_values.specs.Params.{CodingParameters, range, least_from}
 use Rattle.jls_context.specs.declared.regular.Cell.{Cell}
@@ -17,6 +17,11 @@ initial_cell p =
 -- the least k with N * 2^k >= A (A.5.1). A itself is large enough, for N above 0
 unfoldable pub golomb_k : ℕ → ℕ → ℕ
 golomb_k occurrences magnitudes = least_from (λ k. nat_le magnitudes (occurrences * 2 ^ k)) magnitudes 0
+
+-- it is the least (A.5.1)
+pub record IsGolombK (occurrences magnitudes k : ℕ) : Type 0 where
+  pub enough : magnitudes ≤ occurrences * 2 ^ k
+  pub least : (below : ℕ) → below < k → occurrences * 2 ^ below < magnitudes
 
 -- k of a cell (A.5.1)
 abbrev pub regular_k : Cell → ℕ

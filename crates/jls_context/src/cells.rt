@@ -6,8 +6,8 @@ ghost use Rattle.jls_context.specs.declared.mode.Neighbours.{Neighbours};
 ghost use Rattle.jls_context.specs.Mode.{IsMode};
 ghost use Rattle.jls_context.specs.Prediction.{edge_detecting_predictor, corrected_prediction};
 ghost use Rattle.jls_context.specs.Errors.{IsError, IsModuloReduced, modulo_reduced, prediction_error};
-ghost use Rattle.jls_context.specs.Regular.{regular_k, regular_mapped, updated};
-ghost use Rattle.jls_context.specs.Interruption.{interruption_magnitudes, run_k, interruption_mapped, run_updated};
+ghost use Rattle.jls_context.specs.Regular.{initial_cell, regular_k, regular_mapped, updated, IsGolombK};
+ghost use Rattle.jls_context.specs.Interruption.{initial_run_cell, interruption_magnitudes, run_k, interruption_mapped, run_updated};
 ghost use Rattle.jls_context.specs.Variables.{initial_variables, cell_at, run_cell_at};
 ghost use Rattle.jls_context.specs.Bounds.{IsCell, IsRunCell, AreVariables};
 
@@ -20,7 +20,11 @@ use jls_values::Params;
 use std::marker::Model;
 
 /// The parameters of a scan, and the variables of all contexts between two samples of an interval
-/// (ITU-T T.87, annex A, at NEAR 0). No call takes memory.
+/// (ITU-T T.87, annex A, at NEAR 0).
+///
+/// Samples are from 0 to MAXVAL. `cell` is the number of a context, as `mode` gives it, and `negative`
+/// says that SIGN is -1. `same` says that RItype is 1: Ra and Rb of an interrupting sample are the same. An
+/// error is from -floor(RANGE/2) to ceil(RANGE/2) - 1, and not 0 where `same`. No call takes memory.
 #[derive(Drop)]
 pub struct Cells {
     params: Params,
@@ -41,9 +45,11 @@ impl Model for Cells {
 }
 
 impl Cells {
-    /// The cells at the start of an interval.
+    /// The cells at the start of an interval, where all contexts are the same (A.2).
     pub fn new(params: &Params) -> Cells
-        ensures { result ≡ initial_variables params.now }
+        ensures value { result ≡ initial_variables params.now }
+        ensures cells { (cell : ℕ) → cell_at result cell ≡ initial_cell params.now }
+        ensures run_cells { (same : Bool) → run_cell_at result same ≡ initial_run_cell params.now }
     {
         Cells {
             params: *params,
@@ -53,7 +59,7 @@ impl Cells {
         }
     }
 
-    /// The mode of the sample between these (A.3).
+    /// The mode of a sample with Ra to its left, Rb above, Rc above to the left and Rd above to the right (A.3).
     pub fn mode(&self, ra: u16, rb: u16, rc: u16, rd: u16) -> Mode
         ensures { let near : Neighbours = record { ra = ra; rb = rb; rc = rc; rd = rd } in IsMode self.now.parameters near result }
     {
@@ -77,7 +83,8 @@ impl Cells {
         if same { self.run_same } else { self.run_other }
     }
 
-    /// The prediction of a sample in regular mode, with the correction of its context (A.4.1, A.4.2).
+    /// The predicted sample of regular mode, with the correction of its context and clamped to 0 to MAXVAL
+    /// (A.4.1, A.4.2).
     pub fn predict(&self, cell: u16, negative: bool, ra: u16, rb: u16, rc: u16) -> u16
         requires { cell ≤ 364 }
         ensures value { result ≡ corrected_prediction self.now.parameters negative (cell_at self.now cell).correction (edge_detecting_predictor ra rb rc) }
@@ -92,7 +99,7 @@ impl Cells {
         )
     }
 
-    /// The error that a difference becomes modulo RANGE (A.4.5).
+    /// The error that the difference of two samples becomes modulo RANGE (A.4.5).
     pub fn reduce(&self, difference: i32) -> i32
         requires above { neg_ℤ (pos (range self.now.parameters)) <ℤ difference }
         requires below { difference <ℤ pos (range self.now.parameters) }
@@ -102,7 +109,7 @@ impl Cells {
         reduced(&self.params, difference)
     }
 
-    /// The only sample that has this error against its prediction.
+    /// The sample that has this error against its prediction: no other has it (A.4.3 to A.4.5).
     pub fn restore(&self, predicted: u16, negative: bool, error: i32) -> u16
         requires predicted { predicted ≤ self.now.parameters.maxval }
         requires error { IsError self.now.parameters error }
@@ -113,18 +120,17 @@ impl Cells {
         restored(&self.params, predicted, negative, error)
     }
 
-    /// The k of the codes of a context's errors (A.5.1).
+    /// The k of the Golomb code of the context's next error (A.5.1).
     pub fn regular_k(&self, cell: u16) -> u8
         requires { cell ≤ 364 }
         ensures value { result ≡ regular_k (cell_at self.now cell) }
-        ensures enough { let at = cell_at self.now cell in at.magnitudes ≤ at.occurrences * 2 ^ result }
-        ensures least { let at = cell_at self.now cell in (k : ℕ) → k < result → at.occurrences * 2 ^ k < at.magnitudes }
+        ensures least { let at = cell_at self.now cell in IsGolombK at.occurrences at.magnitudes result }
         ensures at_most { result ≤ 16 }
     {
         self.regular_cell(cell).k()
     }
 
-    /// k, and the number that an error is mapped to (A.5.1, A.5.2).
+    /// k, and the number that an error is mapped to, which is what the Golomb code stands for (A.5.1, A.5.2).
     pub fn regular_code(&self, cell: u16, error: i32) -> (u8, u32)
         requires cell { cell ≤ 364 }
         requires error { IsError self.now.parameters error }
@@ -138,7 +144,7 @@ impl Cells {
         (k, error_mapped(cell.uses_special_mapping(k), error))
     }
 
-    /// The error that `regular_code` maps to this number, if there is one.
+    /// The error that `regular_code` maps to this number. None where it maps none to it.
     pub fn regular_error(&self, cell: u16, mapped: u32) -> Option<i32>
         requires { cell ≤ 364 }
         ensures error { IfSome result (IsError self.now.parameters) }
@@ -155,7 +161,7 @@ impl Cells {
         }
     }
 
-    /// Takes in an error of a sample in regular mode (A.6).
+    /// Updates a context by the error of a sample in regular mode (A.6). All other contexts stay.
     pub fn update_regular(&mut self, cell: u16, error: i32)
         requires cell { cell ≤ 364 }
         requires error { IsError self.old.parameters error }
@@ -169,17 +175,16 @@ impl Cells {
         self.regular[usize::from(cell)] = old.updated(reset, error);
     }
 
-    /// The k of the codes of an error that interrupts a run (A.7.2).
+    /// The k of the Golomb code of the next sample that interrupts a run (A.7.2).
     pub fn run_k(&self, same: bool) -> u8
         ensures value { result ≡ run_k same (run_cell_at self.now same) }
-        ensures enough { let at = run_cell_at self.now same in interruption_magnitudes same at ≤ at.occurrences * 2 ^ result }
-        ensures least { let at = run_cell_at self.now same in (k : ℕ) → k < result → at.occurrences * 2 ^ k < interruption_magnitudes same at }
+        ensures least { let at = run_cell_at self.now same in IsGolombK at.occurrences (interruption_magnitudes same at) result }
         ensures at_most { result ≤ 16 }
     {
         self.run_cell(same).k(same)
     }
 
-    /// k, and the number that an error is mapped to (A.7.2).
+    /// k, and the number that the error of an interrupting sample is mapped to (A.7.2).
     pub fn run_code(&self, same: bool, error: i32) -> (u8, u32)
         requires error { IsError self.now.parameters error }
         requires another { same ≡ true → error ≢ pos 0 }
@@ -193,7 +198,7 @@ impl Cells {
         (k, cell.error_mapped(same, k, error))
     }
 
-    /// The error that `run_code` maps to this number, if there is one.
+    /// The error that `run_code` maps to this number. None where it maps none to it.
     pub fn run_error(&self, same: bool, mapped: u32) -> Option<i32>
         ensures error { IfSome result (IsError self.now.parameters) }
         ensures another { IfSome result (λ e. same ≡ true → e ≢ pos 0) }
@@ -214,7 +219,7 @@ impl Cells {
         }
     }
 
-    /// Takes in an error of a sample that interrupts a run (A.7.2).
+    /// Updates a context of run interruption by the error of its sample (A.7.2). All other contexts stay.
     pub fn update_run(&mut self, same: bool, error: i32)
         requires error { IsError self.old.parameters error }
         requires another { same ≡ true → error ≢ pos 0 }

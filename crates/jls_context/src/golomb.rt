@@ -1,15 +1,14 @@
 //! The parameter of Golomb codes.
 
-ghost use Rattle.std.specs.Prelude.{◌≡◌, ℕ, ◌*◌, ◌^◌, ◌<◌, ◌≤◌};
-ghost use Rattle.jls_context.specs.Regular;
+ghost use Rattle.std.specs.Prelude.{◌≡◌, ◌*◌, ◌^◌, ◌≤◌};
+ghost use Rattle.jls_context.specs.Regular.{IsGolombK};
 
 /// The least k for which N times 2^k is at least A.
 pub(crate) fn golomb_k(occurrences: u32, magnitudes: u32) -> u8
     requires some { 1 ≤ occurrences }
     requires few { magnitudes ≤ occurrences * 2 ^ 16 }
     ensures value { result ≡ Rattle.jls_context.specs.Regular.golomb_k occurrences magnitudes }
-    ensures enough { magnitudes ≤ occurrences * 2 ^ result }
-    ensures least { (k : ℕ) → k < result → occurrences * 2 ^ k < magnitudes }
+    ensures least { IsGolombK occurrences magnitudes result }
     ensures at_most { result ≤ 16 }
 {
     let mut k = 0;

@@ -1,6 +1,7 @@
 //! Cells of run interruption.
 
 ghost use Rattle.std.specs.Prelude.{◌≡◌, ◌≢◌, ℕ, ◌+◌, ◌*◌, ◌^◌, ◌<◌, ◌≤◌, true, pos, negsuc, ◌≤ℤ◌, ◌<ℤ◌};
+ghost use Rattle.jls_context.specs.Regular.{IsGolombK};
 ghost use Rattle.jls_context.specs.Interruption.{initial_run_cell, interruption_magnitudes, run_k, interruption_mapped, run_updated};
 ghost use Rattle.jls_context.specs.Bounds.{IsRunCell};
 
@@ -65,8 +66,7 @@ impl RunCell {
     pub(crate) fn k(self, same: bool) -> u8
         requires cell { (reset : ℕ) × (reset < 2 ^ 16) × IsRunCell reset self }
         ensures value { result ≡ run_k same self }
-        ensures enough { interruption_magnitudes same self ≤ self.occurrences * 2 ^ result }
-        ensures least { (k : ℕ) → k < result → self.occurrences * 2 ^ k < interruption_magnitudes same self }
+        ensures least { IsGolombK self.occurrences (interruption_magnitudes same self) result }
         ensures at_most { result ≤ 16 }
     {
         let half = if same { self.occurrences / 2 } else { 0 };

@@ -11,3 +11,6 @@ mod regular;
 
 pub use cells::Cells;
 pub use mode::{Mode, Neighbours};
+
+#[cfg(test)]
+mod tests;

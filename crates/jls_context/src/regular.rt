@@ -2,7 +2,7 @@
 
 ghost use Rattle.std.specs.Prelude.{◌≡◌, ℕ, ◌+◌, ◌*◌, ◌^◌, ◌<◌, ◌≤◌, pos, negsuc, neg_ℤ, ◌≤ℤ◌, ◌<ℤ◌};
 ghost use Rattle.jls_values.specs.Params.{AreCodingParameters};
-ghost use Rattle.jls_context.specs.Regular.{initial_cell, regular_k, updated, added, halved, bias_computed, computed_bias, computed_correction};
+ghost use Rattle.jls_context.specs.Regular.{initial_cell, regular_k, updated, bias_computed, IsGolombK};
 ghost use Rattle.jls_context.specs.Bounds.{IsCell};
 
 use crate::golomb::golomb_k;
@@ -87,8 +87,7 @@ impl Cell {
     pub(crate) fn k(self) -> u8
         requires cell { (reset : ℕ) × IsCell reset self }
         ensures value { result ≡ regular_k self }
-        ensures enough { self.magnitudes ≤ self.occurrences * 2 ^ result }
-        ensures least { (k : ℕ) → k < result → self.occurrences * 2 ^ k < self.magnitudes }
+        ensures least { IsGolombK self.occurrences self.magnitudes result }
         ensures at_most { result ≤ 16 }
     {
         golomb_k(self.occurrences, self.magnitudes)

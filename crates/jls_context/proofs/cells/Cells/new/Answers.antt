@@ -2,6 +2,7 @@ use Rattle.std.proofs.Common.{sym, subst}
 use Rattle.std.proofs.lemmas.List.{get_or-replicate, length-replicate}
 use Rattle.jls_context.specs.declared.regular.Cell.{Cell}
 use Rattle.jls_context.specs.Bounds.{IsCell}
+use Rattle.jls_context.proofs.Writes.{cell_at-start}
 use Rattle.jls_context.proofs.Sizes.{maxval_small, reset_small}
 use Rattle.jls_context.proofs.cells.Cells.new.Goals as goal
 
@@ -15,3 +16,6 @@ invariant_of-result c = record {
   run_other = c.initial-2.ensures.cell;
   run_same = c.initial-3.ensures.cell;
 }
+
+pub returns-clause-cells : goal.returns-clause-cells
+returns-clause-cells c = λ cell. cell_at-start c.args.params.now c.initial.result c.initial-2.result c.initial-3.result cell c.initial.ensures.value
