@@ -1,6 +1,7 @@
 -- Events that were written, one after another: the variables and RUNindex that they leave, and their bits.
 use Rattle.std.proofs.Common.{◌≡◌, ℕ, zero, suc, ◌+◌, ◌-◌, ◌<◌, ◌≤◌, Bool, true, false, eqb, not, cond, List, [], ◌∷◌, ◌++◌, length, get_or, refl, sym, ap, ◌∙◌, subst, arith, inl, inr, append_assoc, length-append}
-use Rattle.std.specs.Prelude.{ℤ, pos, ◌-ℤ◌}
+use Rattle.std.specs.Prelude.{ℤ, pos, neg_ℤ, ◌-ℤ◌, ◌<ℤ◌}
+use Rattle.std.proofs.lemmas.Int.{ints}
 use Rattle.std.proofs.lemmas.List.{append-nil}
 use Rattle.std.proofs.lemmas.Bool.{cases_Bool, cases_eq, eq-eqb, ne_eqb}
 use Rattle.jls_values.specs.Params.{CodingParameters, qbpp, limit}
@@ -52,6 +53,11 @@ module _ (p : CodingParameters) (component : ℕ) where
   }
 
 -- A sample of regular mode -------------------------------------------------------------
+
+-- the difference of two samples, with SIGN
+pub difference_range : (negative : Bool) (s x most : ℕ) → s ≤ most → x ≤ most → (neg_ℤ (pos (most + 1)) <ℤ with_sign negative (pos s -ℤ pos x)) × (with_sign negative (pos s -ℤ pos x) <ℤ pos (most + 1))
+difference_range true s x most a b = (omega (arith, ints), omega (arith, ints))
+difference_range false s x most a b = (omega (arith, ints), omega (arith, ints))
 
 golomb_same : (k k' g g' q q' m m' : ℕ) → k ≡ k' → g ≡ g' → q ≡ q' → m ≡ m' → golomb k g q m ≡ golomb k' g' q' m'
 golomb_same k k' g g' q q' m m' a b c d = cc

@@ -20,11 +20,11 @@ items vs = map (λ v. v.items) vs
 pub events-init : goal.events-init
 events-init c =
     let p = c.args.params.now in let w = c.args.width in let n = c.args.components in let count = c.args.count in let given = c.args.reader.now.left in
-    let none : AreDecoded p w n count given [] [] c.new-cells.result (0 ∷ 0 ∷ 0 ∷ 0 ∷ []) given = decoded_none p w n count c.requires.width.0 given c.new-cells.result (0 ∷ 0 ∷ 0 ∷ 0 ∷ []) c.new-cells.ensures four_zeros in
+    let none : AreDecoded p w n count given [] [] c.new-cells.result (0 ∷ 0 ∷ 0 ∷ 0 ∷ []) given = decoded_none p w n count c.requires.width.0 given c.new-cells.result (0 ∷ 0 ∷ 0 ∷ 0 ∷ []) c.new-cells.ensures.value four_zeros in
     let s1 = subst (λ z. AreDecoded p w n count given (items z) [] c.new-cells.result (0 ∷ 0 ∷ 0 ∷ 0 ∷ []) given) (sym c.new-lines.ensures.items) none in
     record {
       decoded = subst (λ z. AreDecoded p w n count given (items c.new-lines.result.items) z c.new-cells.result (0 ∷ 0 ∷ 0 ∷ 0 ∷ []) given) (sym c.new-line.ensures.items) s1;
-      parameters = ap (λ (v : Variables). v.parameters) c.new-cells.ensures;
+      parameters = ap (λ (v : Variables). v.parameters) c.new-cells.ensures.value;
       small = λ k. (let z = four_zeros k in omega arith);
       four = refl;
       whole = refl;
