@@ -5,10 +5,10 @@ use Rattle.jls_interval.specs.Events.{events}
 use Rattle.jls_interval.specs.Stepwise.{StepwiseCode, Leads, bits_of_steps}
 use Rattle.jls_interval.specs.Growth.{interval_steps, start, finish}
 use Rattle.jls_interval.specs.Laws.{IsCutCode, IsCutEvent}
-use Rattle.jls_interval.proofs.Prefixes.{one_begins}
-use Rattle.jls_interval.proofs.Growing.{lines_lead}
-use Rattle.jls_interval.proofs.CodesApart.{code_is}
-use Rattle.jls_interval.proofs.CutEvents.{cut_converse}
+use Rattle.jls_interval.proofs.Tree.{one_begins}
+use Rattle.jls_interval.proofs.Lead.{lines_lead}
+use Rattle.jls_interval.proofs.CodeLaw.{code_is}
+use Rattle.jls_interval.proofs.Cuts.{cut_converse}
 use Rattle.jls_interval.proofs.Grown.{decoded_from}
 
 -- whole first events, and a proper prefix of the bits of the one after them

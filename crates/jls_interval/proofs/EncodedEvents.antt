@@ -1,8 +1,9 @@
 -- Events that were written, one after another: the variables and RUNindex that they leave, and their bits.
-use Rattle.std.proofs.Common.{◌≡◌, ℕ, zero, suc, ◌+◌, ◌-◌, ◌<◌, ◌≤◌, Bool, true, false, eqb, not, cond, List, [], ◌∷◌, ◌++◌, length, get_or, refl, sym, ap, ◌∙◌, subst, arith, inl, inr, append_assoc, length-append}
-use Rattle.std.specs.Prelude.{ℤ, pos, ◌-ℤ◌}
+use Rattle.std.proofs.Common.{◌≡◌, ℕ, ◌+◌, ◌-◌, ◌<◌, ◌≤◌, Bool, true, false, not, cond, List, [], ◌∷◌, ◌++◌, refl, sym, ap, ◌∙◌, subst, arith, inl, inr, append_assoc}
+use Rattle.std.specs.Prelude.{ℤ, pos, neg_ℤ, ◌-ℤ◌, ◌<ℤ◌}
+use Rattle.std.proofs.lemmas.Int.{ints}
 use Rattle.std.proofs.lemmas.List.{append-nil}
-use Rattle.std.proofs.lemmas.Bool.{cases_Bool, cases_eq, eq-eqb, ne_eqb}
+use Rattle.std.proofs.lemmas.Bool.{cases_eq, eq-eqb, ne_eqb}
 use Rattle.jls_values.specs.Params.{CodingParameters, qbpp, limit}
 use Rattle.jls_bits.specs.Golomb.{golomb}
 use Rattle.jls_context.specs.Mode.{IsRegularMode, with_sign, context}
@@ -15,11 +16,11 @@ use Rattle.jls_context.specs.declared.mode.Neighbours.{Neighbours}
 use Rattle.jls_context.specs.declared.regular.Cell.{Cell}
 use Rattle.jls_context.specs.declared.interruption.RunCell.{RunCell}
 use Rattle.jls_interval.specs.Events.{Event, regular, run_to_end, interrupted_run}
-use Rattle.jls_interval.specs.Cells.{regular_error, cell_before, cell_after, uses_cell, is_same, interruption_error, run_cell_before, run_cell_after, uses_run_cell, equal}
-use Rattle.jls_interval.specs.Runs.{run_order, Blocks, blocks, run_index_before, run_index_lowered}
+use Rattle.jls_interval.specs.Cells.{regular_error, cell_before, uses_cell, is_same, interruption_error, run_cell_before, equal}
+use Rattle.jls_interval.specs.Runs.{run_order, blocks, run_index_before, run_index_lowered}
 use Rattle.jls_interval.specs.Code.{regular_bits, run_to_end_bits, interrupted_run_bits, interrupting_bits, event_bits, bits_of_events}
 use Rattle.jls_interval.specs.Encoding.{AreCellsAfter, Encoder, IsAfter, Writes}
-use Rattle.jls_interval.proofs.CellsHeld.{cell_used, cell_unused, run_cell_more, run_cell_learned, index_end, index_interrupted, index_other}
+use Rattle.jls_interval.proofs.Holds.{cell_used, cell_unused, run_cell_more, index_end, index_interrupted, index_other}
 use Rattle.jls_interval.proofs.WrittenRuns.{interruption_then}
 
 -- One list of events behind another ----------------------------------------------------
@@ -52,6 +53,11 @@ module _ (p : CodingParameters) (component : ℕ) where
   }
 
 -- A sample of regular mode -------------------------------------------------------------
+
+-- the difference of two samples, with SIGN
+pub difference_range : (negative : Bool) (s x most : ℕ) → s ≤ most → x ≤ most → (neg_ℤ (pos (most + 1)) <ℤ with_sign negative (pos s -ℤ pos x)) × (with_sign negative (pos s -ℤ pos x) <ℤ pos (most + 1))
+difference_range true s x most a b = (omega (arith, ints), omega (arith, ints))
+difference_range false s x most a b = (omega (arith, ints), omega (arith, ints))
 
 golomb_same : (k k' g g' q q' m m' : ℕ) → k ≡ k' → g ≡ g' → q ≡ q' → m ≡ m' → golomb k g q m ≡ golomb k' g' q' m'
 golomb_same k k' g g' q q' m m' a b c d = cc

@@ -6,18 +6,16 @@ use Rattle.std.proofs.lemmas.Bool.{cases_Bool, cases_eq, cases_lt, ne_eqb, lt-lt
 use Rattle.jls_values.specs.Params.{CodingParameters}
 use Rattle.jls_context.specs.Mode.{is_run_mode}
 use Rattle.jls_context.specs.Regular.{initial_cell}
-use Rattle.jls_context.specs.Variables.{Variables, cell_at, run_cell_at, initial_variables}
-use Rattle.jls_context.specs.declared.mode.Neighbours.{Neighbours}
-use Rattle.jls_context.specs.declared.regular.Cell.{Cell}
+use Rattle.jls_context.specs.Variables.{Variables, cell_at, initial_variables}
 use Rattle.jls_interval.specs.Lines.{IsLine}
-use Rattle.jls_interval.specs.Events.{Event, regular, run_to_end, interrupted_run, Above, neighbours, above, line_back, run_stop, Stretch, stretch, events_from, line_events, events_after, events}
+use Rattle.jls_interval.specs.Events.{Event, regular, Above, neighbours, above, line_back, run_stop, Stretch, stretch, events_from, line_events, events_after, events}
 use Rattle.jls_interval.specs.Cells.{cell_before, run_cell_before}
 use Rattle.jls_interval.specs.Runs.{is_run_of, run_index_before}
 use Rattle.jls_interval.specs.Code.{bits_of_events, code}
 use Rattle.jls_interval.specs.Encoding.{AreCellsAfter, Encoder, IsAfter, Writes, IsBegun, AreWritten}
-use Rattle.jls_interval.proofs.CellsHeld.{index_other}
-use Rattle.jls_interval.proofs.Stretches.{to, past, more, at_regular, at_end, at_stop}
-use Rattle.jls_interval.proofs.GrowthEnds.{fuel_same}
+use Rattle.jls_interval.proofs.Holds.{index_other}
+use Rattle.jls_interval.proofs.Parting.{past, more, at_regular, at_end, at_stop}
+use Rattle.jls_interval.proofs.Whole.{fuel_same}
 use Rattle.jls_interval.proofs.EncodedEvents.{bits_append, bits_none, writes_none, writes_then}
 
 -- The columns of a line ------------------------------------------------------------------

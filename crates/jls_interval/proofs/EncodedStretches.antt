@@ -1,13 +1,12 @@
 -- The run that a stretch begins with, as it is counted in its line.
-use Rattle.std.proofs.Common.{◌≡◌, ℕ, zero, suc, ◌+◌, ◌-◌, ◌<◌, ◌≤◌, Bool, true, false, eqb, List, length, take, drop, get_or, refl, sym, ap, ◌∙◌, subst, arith}
+use Rattle.std.proofs.Common.{◌≡◌, ℕ, zero, suc, ◌+◌, ◌-◌, ◌<◌, ◌≤◌, true, eqb, List, length, take, drop, get_or, refl, sym, ap, ◌∙◌, arith}
 use Rattle.std.specs.List.{prefix_len}
 use Rattle.std.proofs.lemmas.List.{get_or-drop, length-drop, take_all}
 use Rattle.std.proofs.lemmas.List.Sums.{prefix_len_passes, prefix_len_stops, prefix_len-le-length}
-use Rattle.std.proofs.lemmas.Bool.{eqb-true, eqb-false, cases_eq}
+use Rattle.std.proofs.lemmas.Bool.{eqb-true, eqb-false}
 use Rattle.jls_context.specs.Mode.{is_run_mode}
-use Rattle.jls_context.specs.declared.mode.Neighbours.{Neighbours}
-use Rattle.jls_interval.specs.Events.{Event, run_to_end, interrupted_run, Above, neighbours, run_stop, Stretch, stretch}
-use Rattle.jls_interval.proofs.Stretches.{to, stretch_same, at_end, at_stop}
+use Rattle.jls_interval.specs.Events.{run_to_end, interrupted_run, Above, neighbours, run_stop, stretch}
+use Rattle.jls_interval.proofs.Parting.{to, stretch_same, at_end, at_stop}
 
 -- the samples from column x on are those of a slice
 pub counted : (line : List ℕ) (x value count : ℕ) → count ≡ prefix_len (λ s. eqb s value) (take (length line - x) (drop x line)) → count ≡ prefix_len (λ s. eqb s value) (drop x line)

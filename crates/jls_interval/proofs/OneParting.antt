@@ -10,8 +10,8 @@ use Rattle.jls_context.specs.declared.mode.Neighbours.{Neighbours}
 use Rattle.jls_context.specs.Mode.{is_run_mode}
 use Rattle.jls_interval.specs.Lines.{IsLine, sample_at, neighbours_at}
 use Rattle.jls_interval.specs.Events.{Event, regular, run_to_end, interrupted_run, HoldRun, StandsIn, IsParted, AreParted, AreEvents, Above, neighbours, above, run_stop, Stretch, stretch, events_from, line_events, events_after, events}
-use Rattle.jls_interval.proofs.Stretches.{to, stretch_same, past, more, at_regular, at_end, at_stop}
-use Rattle.jls_interval.proofs.GrowthEnds.{stretch_moves, fuel_same}
+use Rattle.jls_interval.proofs.Parting.{to, stretch_same, past, more, at_regular, at_end, at_stop}
+use Rattle.jls_interval.proofs.Whole.{stretch_moves, fuel_same}
 use Rattle.jls_interval.proofs.Places.{sample_is, neighbours_are}
 
 -- Line j of the lines, which has the width w
@@ -50,16 +50,16 @@ module _ (w c : ℕ) (lines : List (List ℕ)) (j : ℕ) (some : 0 < c) (within 
   -- what stands at a column is the stretch there
   stands_stretch : (x : ℕ) (e : Event) (next : ℕ) → x < w → StandsIn w c lines k (j / c) x e next → stretch w k up line x ≡ to e next
   stands_stretch x (regular n s) next l h =
-      at_regular w k up line x (sym (run_is x) ∙ ap is_run_mode (sym h.0) ∙ h.1) ∙ stretch_same (regular (at x) (get_or line x 0)) (regular n s) (suc x) next (let a = h.0 ∙ near x in let b = h.2 ∙ sample x in cc) (let e = h.3 in omega arith)
+      at_regular w k up line x (sym (run_is x) ∙ ap is_run_mode (sym h.near_is) ∙ h.not_run) ∙ stretch_same (regular (at x) (get_or line x 0)) (regular n s) (suc x) next (let a = h.near_is ∙ near x in let b = h.sample_is ∙ sample x in cc) (let e = h.next_is in omega arith)
   stands_stretch x (run_to_end of count) next l h =
-      let d = length-drop x line in let full : x + count ≡ w = h.2 in
-      let len : prefix_len (λ s. eqb s (at x).ra) (drop x line) ≡ count = prefix_len_is (λ s. eqb s (at x).ra) (drop x line) count 0 (omega arith) (holds_passes x count h.3) (λ m. absurd (omega arith)) in
-      at_end w k up line x (sym (run_is x) ∙ h.1) (omega arith) ∙ stretch_same (run_to_end k (w - x)) (run_to_end of count) w next (let a = h.0 in let b : w - x ≡ count = omega arith in cc) (sym h.4)
+      let d = length-drop x line in let full : x + count ≡ w = h.to_end in
+      let len : prefix_len (λ s. eqb s (at x).ra) (drop x line) ≡ count = prefix_len_is (λ s. eqb s (at x).ra) (drop x line) count 0 (omega arith) (holds_passes x count h.holds) (λ m. absurd (omega arith)) in
+      at_end w k up line x (sym (run_is x) ∙ h.run) (omega arith) ∙ stretch_same (run_to_end k (w - x)) (run_to_end of count) w next (let a = h.component_is in let b : w - x ≡ count = omega arith in cc) (sym h.next_is)
   stands_stretch x (interrupted_run of count n s) next l h =
-      let d = length-drop x line in let room : x + count < w = h.2 in
-      let other : eqb (get_or (drop x line) count 0) (at x).ra ≡ false = ne_eqb _ _ (λ e. h.6 (h.5 ∙ sample (x + count) ∙ sym (get_or-drop x line count 0) ∙ e ∙ ap (λ (n : Neighbours). n.ra) (sym (near x)))) in
-      let len : prefix_len (λ s. eqb s (at x).ra) (drop x line) ≡ count = prefix_len_is (λ s. eqb s (at x).ra) (drop x line) count 0 (omega arith) (holds_passes x count h.3) (λ m. other) in
-      at_stop w k up line x (x + count) (sym (run_is x) ∙ h.1) (ap (λ z. x + z) len) room ∙ stretch_same (interrupted_run k (x + count - x) (at (x + count)) (get_or line (x + count) 0)) (interrupted_run of count n s) (suc (x + count)) next (let a = h.0 in let b : x + count - x ≡ count = omega arith in let f = h.4 ∙ near (x + count) in let g = h.5 ∙ sample (x + count) in cc) (let e = h.7 in omega arith)
+      let d = length-drop x line in let room : x + count < w = h.within in
+      let other : eqb (get_or (drop x line) count 0) (at x).ra ≡ false = ne_eqb _ _ (λ e. h.interrupts (h.sample_is ∙ sample (x + count) ∙ sym (get_or-drop x line count 0) ∙ e ∙ ap (λ (n : Neighbours). n.ra) (sym (near x)))) in
+      let len : prefix_len (λ s. eqb s (at x).ra) (drop x line) ≡ count = prefix_len_is (λ s. eqb s (at x).ra) (drop x line) count 0 (omega arith) (holds_passes x count h.holds) (λ m. other) in
+      at_stop w k up line x (x + count) (sym (run_is x) ∙ h.run) (ap (λ z. x + z) len) room ∙ stretch_same (interrupted_run k (x + count - x) (at (x + count)) (get_or line (x + count) 0)) (interrupted_run of count n s) (suc (x + count)) next (let a = h.component_is in let b : x + count - x ≡ count = omega arith in let f = h.near_is ∙ near (x + count) in let g = h.sample_is ∙ sample (x + count) in cc) (let e = h.next_is in omega arith)
 
   -- and the stretch stands there
   stretch_stands : (x : ℕ) → x < w → (e : Event) (next : ℕ) → stretch w k up line x ≡ to e next → StandsIn w c lines k (j / c) x e next × (next ≤ w)
@@ -71,17 +71,17 @@ module _ (w c : ℕ) (lines : List (List ℕ)) (j : ℕ) (some : 0 < c) (within 
       along f m e next q h = subst (λ (z : Stretch). StandsIn w c lines k (j / c) x z.event z.next × (z.next ≤ w)) q h
 
       alone : (x : ℕ) → x < w → is_run_mode (at x) ≡ false → StandsIn w c lines k (j / c) x (regular (at x) (get_or line x 0)) (suc x) × (suc x ≤ w)
-      alone x l r = ((sym (near x), r, sym (sample x), omega arith), l)
+      alone x l r = (record { near_is = sym (near x); not_run = r; sample_is = sym (sample x); next_is = omega arith }, l)
 
       ends : (x : ℕ) → x < w → is_run_mode (at x) ≡ true → w ≤ run_stop line (at x).ra x → StandsIn w c lines k (j / c) x (run_to_end k (w - x)) w × (w ≤ w)
-      ends x l r s = ((refl, run_is x ∙ r, omega arith, passes_hold x (w - x) (omega arith), refl), omega arith)
+      ends x l r s = (record { component_is = refl; run = run_is x ∙ r; to_end = omega arith; holds = passes_hold x (w - x) (omega arith); next_is = refl }, omega arith)
 
       stops : (x : ℕ) → is_run_mode (at x) ≡ true → run_stop line (at x).ra x < w
           → StandsIn w c lines k (j / c) x (interrupted_run k (run_stop line (at x).ra x - x) (at (run_stop line (at x).ra x)) (get_or line (run_stop line (at x).ra x) 0)) (suc (run_stop line (at x).ra x)) × (suc (run_stop line (at x).ra x) ≤ w)
       stops x r s =
           let n = prefix_len (λ s. eqb s (at x).ra) (drop x line) in let d = length-drop x line in let b : x + n - x ≡ n = omega arith in let f : x + (x + n - x) ≡ x + n = omega arith in
           let stop = prefix_len_stops (λ s. eqb s (at x).ra) (drop x line) 0 (omega arith) in
-          ((refl, run_is x ∙ r, omega arith, passes_hold x (x + n - x) (omega arith), ap at (sym f) ∙ sym (near (x + (x + n - x))), ap (λ z. get_or line z 0) (sym f) ∙ sym (sample (x + (x + n - x))), (λ e. eqb-false _ _ stop (get_or-drop x line n 0 ∙ e ∙ ap (λ (m : Neighbours). m.ra) (near x))), omega arith), omega arith)
+          (record { component_is = refl; run = run_is x ∙ r; within = omega arith; holds = passes_hold x (x + n - x) (omega arith); near_is = ap at (sym f) ∙ sym (near (x + (x + n - x))); sample_is = ap (λ z. get_or line z 0) (sym f) ∙ sym (sample (x + (x + n - x))); interrupts = λ e. eqb-false _ _ stop (get_or-drop x line n 0 ∙ e ∙ ap (λ (m : Neighbours). m.ra) (near x)); next_is = omega arith }, omega arith)
 
   -- the columns from x on
   parted_only : (es : List Event) (x : ℕ) → IsParted w c lines k (j / c) x es → es ≡ events_from w k up line w x

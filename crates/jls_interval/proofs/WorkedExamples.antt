@@ -36,6 +36,8 @@ record WorkedExamples : Type 0 where
       ≡ 0xC0 ∷ 0x00 ∷ 0x00 ∷ 0x6C ∷ 0x80 ∷ 0x20 ∷ 0x8E ∷ 0x01 ∷ 0xC0 ∷ 0x00 ∷ 0x00 ∷ 0x57 ∷ 0x40 ∷ 0x00 ∷ 0x00 ∷ 0x6E ∷ 0xE6 ∷ 0x00 ∷ 0x00 ∷ 0x01 ∷ 0xBC ∷ 0x18 ∷ 0x00 ∷ 0x00 ∷ 0x05 ∷ 0xD8 ∷ 0x00 ∷ 0x00 ∷ 0x91 ∷ 0x60 ∷ []
   -- the error 255 is -1 modulo RANGE
   error_modulo_range : packed bits_8 1 1 ((255 ∷ []) ∷ []) ≡ 0x40 ∷ []
+  -- EM is 1, which has the short code 1 01 and never the escape
+  no_needless_escape : packed bits_8 1 1 ((1 ∷ []) ∷ []) ≡ 0x50 ∷ []
   -- the shortest samples
   at_2_bits : packed bits_2 1 1 ((3 ∷ []) ∷ []) ≡ 0x40 ∷ []
   -- the longest samples: k is 10 at the start
@@ -76,6 +78,7 @@ unfolding least_from bits value_of_bits width_after golomb pad_after quantized_g
 worked_examples = record {
   picture_of_four_lines = refl;
   error_modulo_range = refl;
+  no_needless_escape = refl;
   at_2_bits = refl;
   at_16_bits = refl;
   with_maxval_15 = refl;

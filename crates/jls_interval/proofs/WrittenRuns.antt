@@ -1,11 +1,11 @@
 -- The bits of a run, block by block, as they are written.
-use Rattle.std.proofs.Common.{◌≡◌, ℕ, ◌-◌, ◌^◌, ◌<◌, ◌≤◌, Bool, true, false, List, [], ◌∷◌, ◌++◌, replicate, refl, sym, ap, ◌∙◌, arith, inl, inr, append_assoc}
+use Rattle.std.proofs.Common.{◌≡◌, ℕ, ◌-◌, ◌^◌, ◌<◌, ◌≤◌, Bool, true, false, List, [], ◌∷◌, ◌++◌, replicate, refl, sym, ap, ◌∙◌, arith, append_assoc}
 use Rattle.std.proofs.lemmas.List.{append-nil}
 use Rattle.std.proofs.lemmas.Bool.{ne_eqb, eq-eqb}
 use Rattle.jls_bits.specs.Bits.{bits}
 use Rattle.jls_interval.specs.Runs.{run_order, Blocks, blocks}
 use Rattle.jls_interval.specs.Code.{run_to_end_bits, interrupted_run_bits}
-use Rattle.jls_interval.proofs.RunsApart.{risen, blocks_step, blocks_none}
+use Rattle.jls_interval.proofs.Runs.{risen, blocks_step, blocks_none}
 
 -- one full block more
 module _ (r n : ℕ) (within : r ≤ 31) (full : 2 ^ run_order r ≤ n) where

@@ -1,5 +1,5 @@
 -- What an encoder keeps and has written between two events, against the earlier events of its interval.
-use Rattle.std.specs.Prelude.{◌≡◌, ℕ, ◌<◌, ◌≤◌, ◌+◌, Bool, List, [], ◌∷◌, ◌++◌, length, take, get_or}
+use Rattle.std.specs.Prelude.{◌≡◌, ℕ, ◌<◌, ◌≤◌, ◌+◌, Bool, List, ◌++◌, length, take, get_or}
 use Rattle.jls_values.specs.Params.{CodingParameters, qbpp, limit}
 use Rattle.jls_context.specs.Variables.{Variables, cell_at, run_cell_at}
 use Rattle.jls_interval.specs.declared.encode_sample.CodeLengths.{CodeLengths}

@@ -15,25 +15,54 @@ pub data Event : Type 0 where
 
 -- Which events the columns of finished lines are -----------------------------------------------------
 
--- so many columns from x on of line y of a component hold the run's value, which is `a` at column x
-abbrev pub HoldRun : ℕ → ℕ → List (List ℕ) → ℕ → ℕ → ℕ → ℕ → Type 0
-HoldRun width components lines component y x count =
-    (i : ℕ) → i < count → sample_at components lines component (pos y) (x + i) ≡ (neighbours_at width components lines component y x).ra
+-- Line y of a component, in the finished lines of an interval
+module _ (width components : ℕ) (lines : List (List ℕ)) (component y : ℕ) where
+  abbrev pub sample_in : ℕ → ℕ
+  sample_in x = sample_at components lines component (pos y) x
 
--- an event is what stands in line y of a component from column x on, to before column `next`
-abbrev pub StandsIn : ℕ → ℕ → List (List ℕ) → ℕ → ℕ → ℕ → Event → ℕ → Type 0
-StandsIn width components lines component y x (regular near sample) next =
-    (near ≡ neighbours_at width components lines component y x) × (is_run_mode near ≡ false) × (sample ≡ sample_at components lines component (pos y) x) × (next ≡ x + 1)
-StandsIn width components lines component y x (run_to_end of_component count) next =
-    (of_component ≡ component) × (is_run_mode (neighbours_at width components lines component y x) ≡ true) × (x + count ≡ width) × HoldRun width components lines component y x count × (next ≡ width)
-StandsIn width components lines component y x (interrupted_run of_component count near sample) next =
-    (of_component ≡ component) × (is_run_mode (neighbours_at width components lines component y x) ≡ true) × (x + count < width) × HoldRun width components lines component y x count × (near ≡ neighbours_at width components lines component y (x + count)) × (sample ≡ sample_at components lines component (pos y) (x + count)) × (sample ≡ (neighbours_at width components lines component y x).ra → ⊥) × (next ≡ x + count + 1)
+  abbrev pub neighbours_in : ℕ → Neighbours
+  neighbours_in x = neighbours_at width components lines component y x
 
--- the columns from x on of line y of a component are parted into these events
-abbrev pub IsParted : ℕ → ℕ → List (List ℕ) → ℕ → ℕ → ℕ → List Event → Type 0
-IsParted width components lines component y x [] = x ≡ width
-IsParted width components lines component y x (event ∷ later) =
-    (next : ℕ) × (x < width) × StandsIn width components lines component y x event next × IsParted width components lines component y next later
+  -- so many columns from x on hold the value of a run that begins there, which is Ra
+  abbrev pub HoldRun : ℕ → ℕ → Type 0
+  HoldRun x count = (i : ℕ) → i < count → sample_in (x + i) ≡ (neighbours_in x).ra
+
+  -- column x is in regular mode
+  pub record IsRegular (x : ℕ) (near : Neighbours) (sample next : ℕ) : Type 0 where
+    pub near_is : near ≡ neighbours_in x
+    pub not_run : is_run_mode near ≡ false
+    pub sample_is : sample ≡ sample_in x
+    pub next_is : next ≡ x + 1
+
+  -- column x is in run mode, and all columns from it on hold the run
+  pub record IsRunToEnd (x of_component count next : ℕ) : Type 0 where
+    pub component_is : of_component ≡ component
+    pub run : is_run_mode (neighbours_in x) ≡ true
+    pub to_end : x + count ≡ width
+    pub holds : HoldRun x count
+    pub next_is : next ≡ width
+
+  -- column x is in run mode, so many columns from it on hold the run, and the one after them does not
+  pub record IsInterruptedRun (x of_component count : ℕ) (near : Neighbours) (sample next : ℕ) : Type 0 where
+    pub component_is : of_component ≡ component
+    pub run : is_run_mode (neighbours_in x) ≡ true
+    pub within : x + count < width
+    pub holds : HoldRun x count
+    pub near_is : near ≡ neighbours_in (x + count)
+    pub sample_is : sample ≡ sample_in (x + count)
+    pub interrupts : sample ≡ (neighbours_in x).ra → ⊥
+    pub next_is : next ≡ x + count + 1
+
+  -- an event is what stands from column x to before column `next`
+  abbrev pub StandsIn : ℕ → Event → ℕ → Type 0
+  StandsIn x (regular near sample) next = IsRegular x near sample next
+  StandsIn x (run_to_end of_component count) next = IsRunToEnd x of_component count next
+  StandsIn x (interrupted_run of_component count near sample) next = IsInterruptedRun x of_component count near sample next
+
+  -- the columns from x on are parted into these events
+  abbrev pub IsParted : ℕ → List Event → Type 0
+  IsParted x [] = x ≡ width
+  IsParted x (event ∷ later) = (next : ℕ) × (x < width) × StandsIn x event next × IsParted next later
 
 -- So many lines from line j on are parted into these events, one line after another. Line j of an interval is line
 -- j / components of component j % components

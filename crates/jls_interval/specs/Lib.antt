@@ -7,7 +7,10 @@ pub mod Reading
 pub mod Reads
 pub mod Stepwise
 pub mod Fits
-pub mod Encoding
 pub mod Growth
 pub mod Laws
+pub mod RunState
+pub mod DecodedEvent
+pub mod PieceFaults
+pub mod Encoding
 pub mod ReadBack

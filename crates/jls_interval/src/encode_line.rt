@@ -1,10 +1,10 @@
 //! Writing one line, a stretch of columns at a time (ITU-T T.87, A.3 and A.7).
 
-ghost use Rattle.std.specs.Prelude.{◌≡◌, ℕ, ◌^◌, ◌<◌, ◌≤◌, true, ◌==◌, List, [], ◌∷◌, length, IfOk};
+ghost use Rattle.std.specs.Prelude.{◌≡◌, ℕ, ◌^◌, ◌<◌, ◌≤◌, true, ◌==◌, [], ◌∷◌, length, IfOk};
 ghost use Rattle.std.specs.List.{AllByRecursion, prefix_len};
 ghost use Rattle.jls_context.specs.Mode.{is_run_mode};
-ghost use Rattle.jls_interval.specs.Events.{Above, neighbours, stretch, line_events};
-ghost use Rattle.jls_interval.specs.Encoding.{AreLengths, Encoder, Writes};
+ghost use Rattle.jls_interval.specs.Events.{neighbours, stretch, line_events};
+ghost use Rattle.jls_interval.specs.Encoding.{AreLengths, Writes};
 
 use crate::encode_run::{write_interrupted_run, write_run_to_end};
 use crate::encode_sample::{CodeLengths, write_interrupting, write_regular};

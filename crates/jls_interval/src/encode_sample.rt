@@ -1,13 +1,13 @@
 //! Writing one sample (ITU-T T.87, A.4, A.5 and A.7.2).
 
-ghost use Rattle.std.specs.Prelude.{◌≡◌, ◌≢◌, ℕ, ◌<◌, ◌≤◌, List, [], ◌∷◌, ◌++◌, not, pos, ◌-ℤ◌, OnOk};
+ghost use Rattle.std.specs.Prelude.{◌≡◌, ◌≢◌, ℕ, ◌<◌, ◌≤◌, [], ◌∷◌, ◌++◌, not, pos, ◌-ℤ◌, OnOk};
 ghost use Rattle.jls_context.specs.Mode.{IsRegularMode, with_sign};
 ghost use Rattle.jls_context.specs.Interruption.{run_updated};
 ghost use Rattle.jls_context.specs.Variables.{run_cell_at};
 ghost use Rattle.jls_interval.specs.Events.{regular};
 ghost use Rattle.jls_interval.specs.Cells.{is_same, interruption_error};
 ghost use Rattle.jls_interval.specs.Code.{interrupting_bits};
-ghost use Rattle.jls_interval.specs.Encoding.{AreLengths, Encoder, Writes};
+ghost use Rattle.jls_interval.specs.Encoding.{AreLengths, Writes};
 
 use jls_bits::{BitWriter, write_golomb};
 use jls_context::{Cells, Neighbours};

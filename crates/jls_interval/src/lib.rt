@@ -1,6 +1,9 @@
 //! One interval of scan data: the code of its lines, what reads as it, and the laws of both.
 #![tactic(auto)]
 
+mod decode_event;
+mod decode_piece;
+mod decode_sample;
 mod encode;
 mod encode_line;
 mod encode_run;
@@ -9,7 +12,9 @@ mod laws;
 mod lines;
 mod neighbours;
 mod run_index;
+mod run_reader;
 
+pub use decode_piece::{PieceFault, decode_interval};
 pub use encode::{encode_interval, packed_lines_read_back};
 pub use laws::{
     codes_are_apart, cuts_are_exact, events_are_apart, events_have_bits, full_blocks_fit,

@@ -1,4 +1,4 @@
-use Rattle.std.proofs.Common.{◌≡◌, ℕ, ◌+◌, ◌*◌, ◌%◌, ◌<◌, ◌≤◌, List, [], ◌∷◌, map, take, length, get_or, set, Vec, Global, refl, sym, ap, ◌∙◌, subst, arith}
+use Rattle.std.proofs.Common.{◌≡◌, ℕ, ◌*◌, ◌%◌, ◌<◌, ◌≤◌, List, [], ◌∷◌, map, take, length, get_or, Vec, Global, refl, sym, ap, ◌∙◌, subst, arith}
 use Rattle.std.specs.List.{AllByRecursion}
 use Rattle.std.proofs.lemmas.List.{length-map, length-set, take-map}
 use Rattle.jls_values.specs.Params.{CodingParameters}
@@ -13,7 +13,7 @@ items vs = map (λ v. v.items) vs
 
 pub loop-j-init : goal.loop-j-init
 loop-j-init c = record {
-  are = written_start c.args.params.now c.args.width c.args.components (items c.args.lines.now) c.new-cells.result (0 ∷ 0 ∷ 0 ∷ 0 ∷ []) c.args.writer.now c.new-cells.ensures (λ k. get_same 4 0 k) c.requires.none;
+  are = written_start c.args.params.now c.args.width c.args.components (items c.args.lines.now) c.new-cells.result (0 ∷ 0 ∷ 0 ∷ 0 ∷ []) c.args.writer.now c.new-cells.ensures.value (λ k. get_same 4 0 k) c.requires.none;
   four = refl;
   within = λ k. (let P : ℕ → Type 0 = λ z. z ≤ 31 in subst P (sym (get_same 4 0 k)) (omega arith));
 }

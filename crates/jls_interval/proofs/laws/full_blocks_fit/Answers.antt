@@ -1,5 +1,5 @@
 use Rattle.std.proofs.Common.{add-one}
-use Rattle.jls_interval.proofs.RunsApart.{full_fit}
+use Rattle.jls_interval.proofs.Runs.{full_fit}
 use Rattle.jls_interval.proofs.laws.full_blocks_fit.Goals as goal
 
 pub returns : goal.returns

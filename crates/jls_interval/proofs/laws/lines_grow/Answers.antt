@@ -1,4 +1,4 @@
-use Rattle.jls_interval.proofs.Growing.{lines_lead}
+use Rattle.jls_interval.proofs.Lead.{lines_lead}
 use Rattle.jls_interval.proofs.laws.lines_grow.Goals as goal
 
 pub returns : goal.returns

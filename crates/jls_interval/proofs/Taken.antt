@@ -10,7 +10,7 @@ use Rattle.jls_interval.specs.Code.{run_to_end_bits}
 use Rattle.jls_interval.specs.Reading.{after_blocks, Taken, NoRun}
 use Rattle.jls_interval.specs.Code.{interrupted_run_bits}
 use Rattle.jls_bits.proofs.NumberBits.{bits_same}
-use Rattle.jls_interval.proofs.RunsApart.{risen, blocks_step, blocks_none, broken_none, broken_step, end_none, end_step, run_apart, tail_same}
+use Rattle.jls_interval.proofs.Runs.{risen, blocks_step, blocks_none, broken_none, broken_step, end_none, end_step, run_apart, tail_same}
 
 pub taken_start : (r w : ℕ) (given : List Bool) → r ≤ 31 → Taken r w given r w given
 taken_start r w given small = record {

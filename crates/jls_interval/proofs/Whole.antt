@@ -9,7 +9,7 @@ use Rattle.jls_context.specs.Mode.{is_run_mode}
 use Rattle.jls_interval.specs.Events.{Event, regular, run_to_end, interrupted_run, Above, neighbours, above, events_from, run_stop, Stretch, stretch, events_after}
 use Rattle.jls_interval.specs.Stepwise.{StepwiseCode, Leads, IsEnd}
 use Rattle.jls_interval.specs.Growth.{Fits, added, Position, here, IsNext, grown, interval_steps}
-use Rattle.jls_interval.proofs.Stretches.{past, more, fits_stretch}
+use Rattle.jls_interval.proofs.Parting.{past, more, fits_stretch}
 
 module _ (w k : ℕ) (up : Above) where
   pub stretch_moves : (line : List ℕ) (x : ℕ) → x < w → x < (stretch w k up line x).next

@@ -2,7 +2,7 @@
 use Rattle.std.proofs.Common.{◌≡◌, ℕ, ◌<◌, Bool, List, length, sym, ap, ◌∙◌, arith}
 use Rattle.jls_values.specs.Params.{CodingParameters, AreCodingParameters}
 use Rattle.jls_interval.specs.Reads.{BeginsWithCode, Reads, IsLong}
-use Rattle.jls_interval.proofs.CodesApart.{code_law}
+use Rattle.jls_interval.proofs.CodeLaw.{code_law}
 
 module _ (p : CodingParameters) (ok : AreCodingParameters p) (w c n : ℕ) (some : 0 < w) (piece : List ℕ) where
   -- what follows the code of lines is determined too

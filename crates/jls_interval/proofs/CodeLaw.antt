@@ -10,10 +10,10 @@ use Rattle.jls_interval.specs.Code.{event_bits, bits_of_events, code}
 use Rattle.jls_interval.specs.Stepwise.{Leads, bits_of_steps, IsEnd, IsKept}
 use Rattle.jls_interval.specs.Growth.{added, Position, HasSamples, here, IsNext, grown, moved, interval_steps, start, finish}
 use Rattle.jls_interval.specs.Lines.{AreLines}
-use Rattle.jls_interval.proofs.Prefixes.{one_code, begins, one_begins}
-use Rattle.jls_interval.proofs.GrowthEnds.{added_small, all_append, Small}
-use Rattle.jls_interval.proofs.Growing.{lines_lead}
-use Rattle.jls_interval.proofs.EventsApart.{step_law, small_back, small_get}
+use Rattle.jls_interval.proofs.Tree.{one_code, begins, one_begins}
+use Rattle.jls_interval.proofs.Whole.{added_small, all_append, Small}
+use Rattle.jls_interval.proofs.Lead.{lines_lead}
+use Rattle.jls_interval.proofs.StepLaw.{step_law, small_back, small_get}
 
 pub grown_earlier : (w : ℕ) (lines : List (List ℕ)) (line : List ℕ) (earlier : List Event) → (grown w lines line earlier).earlier ≡ earlier
 grown_earlier w lines line earlier = elim (cases_Bool (eqb (length line) w)) [ inl h ↦ rw h refl | inr h ↦ rw h refl ]

@@ -10,13 +10,13 @@ use Rattle.jls_interval.specs.Code.{event_bits, code}
 use Rattle.jls_interval.specs.Lines.{IsLine, AreLines}
 use Rattle.jls_interval.specs.Stepwise.{StepwiseCode, Leads, bits_of_steps, IsEnd, IsPrefixFree}
 use Rattle.jls_interval.specs.Growth.{added, Position, HasSamples, here, IsNext, moved, interval_steps, start, finish}
-use Rattle.jls_interval.proofs.Prefixes.{regroup}
-use Rattle.jls_interval.proofs.GrowthEnds.{ends, some_fits, Small, added_fits, grown_full, grown_part}
-use Rattle.jls_interval.proofs.Growing.{lines_lead}
-use Rattle.jls_interval.proofs.EventsApart.{step_law}
-use Rattle.jls_interval.proofs.CodesApart.{kept, code_is, finished, grown_earlier}
+use Rattle.jls_interval.proofs.Tree.{regroup}
+use Rattle.jls_interval.proofs.Whole.{ends, some_fits, Small, added_fits, grown_full, grown_part}
+use Rattle.jls_interval.proofs.Lead.{lines_lead}
+use Rattle.jls_interval.proofs.StepLaw.{step_law}
+use Rattle.jls_interval.proofs.CodeLaw.{kept, code_is, finished, grown_earlier}
 
--- (comment)
+-- What was read of the given bits: the events so far lead to a position inside a line, and these bits are unread.
 pub record Decoded (p : CodingParameters) (w c n : ℕ) (given : List Bool) (z : Position) (left : List Bool) : Type 0 where
   pub leads : Leads (interval_steps p w c n) start z.earlier z
   pub bits_are : given ≡ bits_of_steps (interval_steps p w c n) start z.earlier ++ left

@@ -10,8 +10,8 @@ use Rattle.jls_interval.specs.Events.{Event, regular, run_to_end, interrupted_ru
 use Rattle.jls_interval.specs.Lines.{IsLine, AreLines}
 use Rattle.jls_interval.specs.Stepwise.{StepwiseCode, Leads}
 use Rattle.jls_interval.specs.Growth.{Fits, added, Position, IsNext, grown, moved, interval_steps, start, finish}
-use Rattle.jls_interval.proofs.Stretches.{regroup}
-use Rattle.jls_interval.proofs.GrowthEnds.{tail, Small, tail_last, tail_next, grown_full, grown_part, added_fits, m}
+use Rattle.jls_interval.proofs.Parting.{regroup}
+use Rattle.jls_interval.proofs.Whole.{tail, Small, tail_last, tail_next, grown_full, grown_part, added_fits, m}
 
 abbrev Stops : ℕ → List ℕ → Type 0
 Stops v [] = Unit {0}

@@ -15,11 +15,11 @@ use Rattle.jls_interval.specs.Cells.{regular_prediction, is_same, interruption_e
 use Rattle.jls_interval.specs.Code.{regular_bits}
 use Rattle.jls_interval.specs.Reading.{NoSample, NoInterruption}
 use Rattle.jls_interval.specs.Code.{interrupting_bits}
-use Rattle.jls_interval.proofs.GolombCodes.{golomb_same}
+use Rattle.jls_interval.proofs.Golomb.{golomb_same}
 use Rattle.jls_context.proofs.Samples.{error_range, sample_same}
 use Rattle.jls_context.proofs.Sizes.{maxval_small, range-le-pow, error_mapped_at_most, interruption_mapped_at_most}
-use Rattle.jls_interval.proofs.MappedErrors.{em_same}
-use Rattle.jls_interval.proofs.EventsApart.{has_from, limit_room, predicted_small, run_map_is, no_zero}
+use Rattle.jls_interval.proofs.Errors.{em_same}
+use Rattle.jls_interval.proofs.StepLaw.{has_from, limit_room, predicted_small, run_map_is, no_zero}
 
 pub wide : (p : CodingParameters) → AreCodingParameters p → range p ≤ 2 ^ qbpp p
 wide p ok = range-le-pow p (maxval_small p ok)

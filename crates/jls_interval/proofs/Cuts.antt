@@ -17,11 +17,11 @@ use Rattle.jls_bits.specs.Golomb.{golomb}
 use Rattle.jls_interval.specs.Stepwise.{bits_of_steps}
 use Rattle.jls_interval.specs.Growth.{added, Position, here, IsNext, moved, interval_steps, start}
 use Rattle.std.proofs.lemmas.Nat.{pow_pos}
-use Rattle.jls_interval.proofs.GolombCodes.{golomb_short, golomb_long}
-use Rattle.jls_interval.proofs.RunsApart.{run_index_before_small}
-use Rattle.jls_interval.proofs.RunsRead.{end_cases}
-use Rattle.jls_interval.proofs.GrowthEnds.{some_fits, added_fits, grown_full, grown_part}
-use Rattle.jls_interval.proofs.Decoding.{Decoded, decoded_more, decoded_end, decoded_refused}
+use Rattle.jls_interval.proofs.Golomb.{golomb_short, golomb_long}
+use Rattle.jls_interval.proofs.Runs.{run_index_before_small}
+use Rattle.jls_interval.proofs.Taken.{end_cases}
+use Rattle.jls_interval.proofs.Whole.{some_fits, added_fits, grown_full, grown_part}
+use Rattle.jls_interval.proofs.Decode.{Decoded, decoded_more, decoded_end, decoded_refused}
 
 module _ (p : CodingParameters) (w c n : ℕ) (some : 0 < w) where
   -- bits that come later

@@ -26,12 +26,12 @@ use Rattle.jls_interval.specs.Growth.{Fits, interval_steps}
 use Rattle.jls_interval.specs.Stepwise.{IsPrefixFree}
 use Rattle.jls_interval.specs.Code.{interrupted_run_bits}
 use Rattle.std.proofs.Math.Pow.{pow_mono}
-use Rattle.jls_interval.proofs.GolombCodes.{golomb_same}
+use Rattle.jls_interval.proofs.Golomb.{golomb_same}
 use Rattle.jls_context.proofs.Samples.{error_range, sample_same}
 use Rattle.jls_context.proofs.Remainders.{modulo_reduced_is, modulo_reduced_near}
 use Rattle.jls_context.proofs.Sizes.{maxval_small, range-le-pow, error_mapped_at_most, interruption_mapped_at_most}
-use Rattle.jls_interval.proofs.MappedErrors.{mapped_same, em_same}
-use Rattle.jls_interval.proofs.RunsApart.{run_index_before_small, run_apart, run_same}
+use Rattle.jls_interval.proofs.Errors.{mapped_same, em_same}
+use Rattle.jls_interval.proofs.Runs.{run_index_before_small, run_apart, run_same}
 
 -- a number up to 2^q has a code where the escape isn't empty
 pub has_from : (k g q m : ℕ) → q + 2 ≤ g → m ≤ 2 ^ q → has_golomb k g q m ≡ true

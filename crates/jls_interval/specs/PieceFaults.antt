@@ -1,0 +1,19 @@
+-- Why a piece gives no lines.
+use Rattle.std.specs.Prelude.{◌≡◌, ℕ, Bool, List, ◌++◌}
+use Rattle.jls_values.specs.Params.{CodingParameters}
+use Rattle.jls_interval.specs.Lines.{AreLines}
+use Rattle.jls_interval.specs.Code.{code}
+use Rattle.jls_interval.specs.Reads.{IsLong, IsBroken}
+use Rattle.jls_interval.specs.declared.decode_piece.PieceFault.{PieceFault}
+use Rattle.jls_interval.specs.declared.decode_piece.PieceFault.TheVariants.{Long, Broken, OutOfMemory}
+
+-- the fault is the piece's; that memory is refused says nothing of the piece
+abbrev pub FaultIs : PieceFault → CodingParameters → ℕ → ℕ → ℕ → List ℕ → Type 0
+FaultIs Long p width components count piece = IsLong p width components count piece
+FaultIs Broken p width components count piece = IsBroken p width components count piece
+FaultIs OutOfMemory p width components count piece = Unit {0}
+
+-- no lines' code stands at the front of the bits
+abbrev pub NoLines : CodingParameters → ℕ → ℕ → ℕ → List Bool → Type 0
+NoLines p width components count given =
+    (lines : List (List ℕ)) (rest : List Bool) → AreLines p width count lines → given ≡ code p width components lines ++ rest → ⊥

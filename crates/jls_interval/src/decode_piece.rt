@@ -1,0 +1,131 @@
+//! Reading the lines of an interval.
+
+ghost use Rattle.std.specs.Prelude.{◌≡◌, ◌+◌, ◌*◌, ◌^◌, ◌<◌, ◌≤◌, ◌++◌, ℕ, List, Bool, map, IfOk, IfErr, IfSome, IfNone, MatchResult};
+ghost use Rattle.jls_values.specs.Params.{AreCodingParameters};
+ghost use Rattle.jls_interval.specs.Code.{code};
+ghost use Rattle.jls_interval.specs.Lines.{AreLines};
+ghost use Rattle.jls_interval.specs.Reads.{Reads};
+ghost use Rattle.jls_interval.specs.PieceFaults.{FaultIs, NoLines};
+
+use crate::decode_event::read_event;
+use crate::neighbours::line_back;
+use jls_bits::BitReader;
+use jls_context::Cells;
+use jls_values::Params;
+use std::alloc::{AllocError, Global};
+use thiserror::Error;
+
+/// Why bytes gave no lines.
+#[derive(Clone, Copy, Debug, PartialEq, Eq, Error)]
+pub enum PieceFault {
+    /// More than seven bits follow the code of some lines.
+    #[error("more than seven bits follow the code of the lines")]
+    Long,
+    /// The bytes are no lines' code with at most seven bits behind it, nor are they `Long`.
+    #[error("the bytes are no code of lines")]
+    Broken,
+    /// Memory was refused. Nothing is said of the bytes.
+    #[error("out of memory")]
+    OutOfMemory,
+}
+
+/// A law: parameters are in their ranges.
+fn are_in_range(params: &Params)
+    ensures { AreCodingParameters params.now }
+{
+    let _maxval = params.maxval();
+}
+
+/// Reads the lines whose code stands at the front of what is left. None where none stands there.
+fn read_lines(
+    alloc: Global,
+    reader: &mut BitReader<'_>,
+    params: &Params,
+    width: usize,
+    components: usize,
+    count: usize,
+) -> Result<Option<Vec<Vec<u16>>>, AllocError>
+    requires ranges { AreCodingParameters params.now }
+    requires width { (1 ≤ width) × (width < 2 ^ 16) }
+    requires components { (1 ≤ components) × (components ≤ 4) }
+    requires count { (1 ≤ count) × (count ≤ 2 ^ 28) }
+    ensures lines { IfOk result (λ o. IfSome o (λ v. AreLines params.now width count (map (λ v. v.items) v.items))) }
+    ensures code { IfOk result (λ o. IfSome o (λ v. reader.old.left ≡ code params.now width components (map (λ v. v.items) v.items) ++ reader.new.left)) }
+    ensures none { IfOk result (λ o. IfNone o (NoLines params.now width components count reader.old.left)) }
+    ensures whole { reader.new.whole ≡ reader.old.whole }
+{
+    let mut cells = Cells::new(params);
+    let mut run_indices = [0u8; 4];
+    let mut lines: Vec<Vec<u16>> = Vec::new(alloc);
+    let mut line: Vec<u16> = Vec::new(alloc);
+    'events: while lines.len() < count {
+        line.reserve(width - line.len())?;
+        let component = lines.len() % components;
+        let line_above = line_back(&lines, components);
+        let line_two_above = line_back(&lines, 2 * components);
+        match read_event(
+            reader,
+            params,
+            &mut cells,
+            run_indices[component],
+            line_above,
+            line_two_above,
+            &mut line,
+            width,
+        )? {
+            None => return Ok(None),
+            Some(run_index) => run_indices[component] = run_index,
+        }
+        if line.len() == width {
+            let full = line;
+            line = Vec::new(alloc);
+            lines.push(full)?;
+        }
+    }
+    Ok(Some(lines))
+}
+
+/// Reads the bytes of an interval as its lines: row by row, and in a row by component, each of
+/// `width` samples of at most MAXVAL. `rows` counts those of one component. The whole piece is
+/// looked at, also behind its last line: at most seven bits may follow the code, of any value
+/// (ITU-T T.87, annex A).
+pub fn decode_interval(
+    alloc: Global,
+    params: &Params,
+    width: u16,
+    components: u8,
+    rows: u32,
+    piece: &[u8],
+) -> Result<Vec<Vec<u16>>, PieceFault>
+    requires width { 1 ≤ width }
+    requires components_at_least { 1 ≤ components }
+    requires components_at_most { components ≤ 4 }
+    requires rows { 1 ≤ rows }
+    requires samples { width * components * rows ≤ 2 ^ 28 }
+    ensures lines { IfOk result (λ v. Reads params.now width components (rows * components) piece.now (map (λ v. v.items) v.items)) }
+    ensures fault { IfErr result (λ fault. FaultIs fault params.now width components (rows * components) piece.now) }
+    ensures read { (lines : List (List ℕ)) → Reads params.now width components (rows * components) piece.now lines → MatchResult result (λ v. map (λ v. v.items) v.items ≡ lines) (λ fault. fault ≡ PieceFault.OutOfMemory) }
+{
+    are_in_range(params);
+    let count = rows as usize * usize::from(components);
+    let mut reader = BitReader::over(piece);
+    let lines = match read_lines(
+        alloc,
+        &mut reader,
+        params,
+        usize::from(width),
+        usize::from(components),
+        count,
+    ) {
+        Err(AllocError) => return Err(PieceFault::OutOfMemory),
+        Ok(None) => return Err(PieceFault::Broken),
+        Ok(Some(lines)) => lines,
+    };
+    if !reader.is_whole() {
+        return Err(PieceFault::Broken);
+    }
+    if reader.left() > 7 {
+        return Err(PieceFault::Long);
+    }
+    Ok(lines)
+}

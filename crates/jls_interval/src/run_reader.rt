@@ -1,0 +1,163 @@
+//! Reading a run, as a machine that is told one bit after another (ITU-T T.87, A.7.1).
+
+ghost use Rattle.std.specs.Prelude.{◌≡◌, ℕ, ◌^◌, ◌<◌, ◌≤◌, Bool, true, List, [], ◌∷◌, ◌++◌, IfSome, IfNone};
+ghost use Rattle.jls_interval.specs.Reading.{NoRun};
+ghost use Rattle.jls_interval.specs.RunState.{IsRun, IsRunState, IsRunStep, RunIs, RunAt, RunStepIs};
+ghost use Rattle.jls_interval.specs.declared.run_reader.RunState.TheVariants.{Blocks, Count};
+
+use crate::run_index::{block_columns, raised, run_order};
+use jls_bits::BitReader;
+
+/// A run that was read, without the sample that interrupts it, and RUNindex after its full blocks.
+#[derive(Clone, Copy)]
+pub(crate) enum Run {
+    /// It goes to the end of its line.
+    ToEnd { run_index: u8 },
+    /// It has so many columns, and another sample follows.
+    Interrupted { count: u32, run_index: u8 },
+}
+
+/// Where the bits of a run that isn't whole have come to.
+#[derive(Clone, Copy)]
+pub(crate) enum RunState {
+    /// Full blocks and nothing else: RUNindex after them, and the columns of the line behind them.
+    Blocks {
+        run_index: u8,
+        columns: u32,
+    },
+    /// Behind the blocks the zero, and the first bits of the count of columns that remain.
+    Count {
+        run_index: u8,
+        columns: u32,
+        bits: u8,
+        value: u32,
+    },
+}
+
+/// What one more bit makes of a run.
+#[derive(Clone, Copy)]
+pub(crate) enum RunStep {
+    /// The bits are no whole run.
+    More(RunState),
+    /// The bits are this run's.
+    Done(Run),
+    /// The bits begin with no run, however they go on.
+    Refused,
+}
+
+impl RunState {
+    /// Takes the next bit, where the line had `width` columns left when the run began.
+    pub(crate) fn push(self, width: u32, bit: bool) -> RunStep
+        requires { IsRunState width self }
+        ensures state { IsRunStep width result }
+        ensures step { (r0 : ℕ) (given : List Bool) → RunAt r0 width given self → RunStepIs r0 width (given ++ bit ∷ []) result }
+    {
+        match self {
+            RunState::Blocks { run_index, columns } => {
+                push_to_blocks(run_index, columns, width, bit)
+            }
+            RunState::Count {
+                run_index,
+                columns,
+                bits,
+                value,
+            } => push_to_count(run_index, columns, bits, value, width, bit),
+        }
+    }
+}
+
+/// Takes a bit behind full blocks.
+fn push_to_blocks(run_index: u8, columns: u32, width: u32, bit: bool) -> RunStep
+    requires { IsRunState width (Blocks run_index columns) }
+    ensures state { IsRunStep width result }
+    ensures step { (r0 : ℕ) (given : List Bool) → RunAt r0 width given (Blocks run_index columns) → RunStepIs r0 width (given ++ bit ∷ []) result }
+{
+    if bit {
+        push_one(run_index, columns, width)
+    } else if run_order(run_index) == 0 {
+        let count = width - columns;
+        RunStep::Done(Run::Interrupted { count, run_index })
+    } else {
+        RunStep::More(RunState::Count {
+            run_index,
+            columns,
+            bits: 0,
+            value: 0,
+        })
+    }
+}
+
+/// Takes a one behind full blocks: one block more, or the end of the line.
+fn push_one(run_index: u8, columns: u32, width: u32) -> RunStep
+    requires { IsRunState width (Blocks run_index columns) }
+    ensures state { IsRunStep width result }
+    ensures step { (r0 : ℕ) (given : List Bool) → RunAt r0 width given (Blocks run_index columns) → RunStepIs r0 width (given ++ true ∷ []) result }
+{
+    let block = block_columns(run_index);
+    if columns < block {
+        return RunStep::Done(Run::ToEnd { run_index });
+    }
+    let run_index = raised(run_index);
+    if columns == block {
+        RunStep::Done(Run::ToEnd { run_index })
+    } else {
+        RunStep::More(RunState::Blocks {
+            run_index,
+            columns: columns - block,
+        })
+    }
+}
+
+/// Takes a bit of the count.
+fn push_to_count(
+    run_index: u8,
+    columns: u32,
+    bits: u8,
+    value: u32,
+    width: u32,
+    bit: bool,
+) -> RunStep
+    requires { IsRunState width (Count run_index columns bits value) }
+    ensures state { IsRunStep width result }
+    ensures step { (r0 : ℕ) (given : List Bool) → RunAt r0 width given (Count run_index columns bits value) → RunStepIs r0 width (given ++ bit ∷ []) result }
+{
+    let value = 2 * value + bit as u32;
+    let bits = bits + 1;
+    if bits < run_order(run_index) {
+        RunStep::More(RunState::Count {
+            run_index,
+            columns,
+            bits,
+            value,
+        })
+    } else if value < columns {
+        let count = width - columns + value;
+        RunStep::Done(Run::Interrupted { count, run_index })
+    } else {
+        RunStep::Refused
+    }
+}
+
+/// Reads the run that stands at the front of what is left, from this RUNindex on, where the line has
+/// `width` columns left. None where no run stands there; the reader has then gone past some bits.
+pub(crate) fn read_run(reader: &mut BitReader<'_>, run_index: u8, width: u32) -> Option<Run>
+    requires run_index { run_index ≤ 31 }
+    requires width { 0 < width }
+    ensures some { IfSome result (λ run. RunIs run_index width reader.old.left reader.new.left run) }
+    ensures run { IfSome result (λ run. IsRun width run) }
+    ensures none { IfNone result (NoRun run_index width reader.old.left) }
+    ensures whole { reader.new.whole ≡ reader.old.whole }
+{
+    let mut state = RunState::Blocks {
+        run_index,
+        columns: width,
+    };
+    while let Some(bit) = reader.read_bit() {
+        match state.push(width, bit) {
+            RunStep::More(next) => state = next,
+            RunStep::Done(run) => return Some(run),
+            RunStep::Refused => return None,
+        }
+    }
+    None
+}

@@ -1,0 +1,183 @@
+//! Pieces of scan data, and the lines that they read as.
+
+ghost use Rattle.std.specs.Prelude.{◌*◌, ◌^◌, ◌≤◌};
+
+use crate::*;
+use jls_values::Params;
+use std::alloc::Global;
+use std::test::Fail;
+
+fn reads_as(
+    alloc: Global,
+    params: &Params,
+    width: u16,
+    components: u8,
+    rows: u32,
+    piece: &[u8],
+    lines: &[&[u16]],
+) -> bool
+    requires width { 1 ≤ width }
+    requires components_at_least { 1 ≤ components }
+    requires components_at_most { components ≤ 4 }
+    requires rows { 1 ≤ rows }
+    requires samples { width * components * rows ≤ 2 ^ 28 }
+{
+    match decode_interval(alloc, params, width, components, rows, piece) {
+        Err(_) => false,
+        Ok(read) => {
+            if read.len() != lines.len() {
+                return false;
+            }
+            for (line, wanted) in read.iter().zip(lines.iter()) {
+                if line.as_slice() != *wanted {
+                    return false;
+                }
+            }
+            true
+        }
+    }
+}
+
+/// The fault of a piece of one component.
+fn fault(alloc: Global, params: &Params, width: u16, rows: u32, piece: &[u8]) -> Option<PieceFault>
+    requires width { 1 ≤ width }
+    requires rows { 1 ≤ rows }
+    requires samples { width * 1 * rows ≤ 2 ^ 28 }
+{
+    decode_interval(alloc, params, width, 1, rows, piece).err()
+}
+
+#[test]
+fn single_samples(rt: HostRuntime) -> Result<(), Fail> {
+    let alloc = rt.alloc();
+    let params = Params::new(8, 0, 0, 0, 0, 0)?;
+    assert!(rt; reads_as(alloc, &params, 1, 1, 1, &[0x80], &[&[0]]));
+    assert!(rt; reads_as(alloc, &params, 1, 1, 1, &[0x40], &[&[255]]));
+    assert!(rt; reads_as(alloc, &params, 1, 1, 1, &[0x50], &[&[1]]));
+    assert!(rt; reads_as(alloc, &params, 1, 1, 1, &[0x60], &[&[254]]));
+    assert!(rt; reads_as(alloc, &params, 1, 1, 1, &[0x28], &[&[3]]));
+    assert!(rt; reads_as(alloc, &params, 1, 1, 1, &[0x38], &[&[4]]));
+    assert!(rt; reads_as(alloc, &params, 1, 1, 1, &[0x05], &[&[9]]));
+    Ok(())
+}
+
+#[test]
+fn other_precisions(rt: HostRuntime) -> Result<(), Fail> {
+    let alloc = rt.alloc();
+    let params = Params::new(2, 0, 0, 0, 0, 0)?;
+    assert!(rt; reads_as(alloc, &params, 1, 1, 1, &[0x40], &[&[3]]));
+    assert!(rt; reads_as(alloc, &params, 1, 1, 1, &[0x60], &[&[1]]));
+    assert!(rt; reads_as(alloc, &params, 1, 1, 1, &[0x20], &[&[2]]));
+    let params = Params::new(16, 0, 0, 0, 0, 0)?;
+    assert!(rt; reads_as(alloc, &params, 1, 1, 1, &[0x40, 0x00], &[&[65535]]));
+    Ok(())
+}
+
+#[test]
+fn runs(rt: HostRuntime) -> Result<(), Fail> {
+    let alloc = rt.alloc();
+    let params = Params::new(8, 0, 0, 0, 0, 0)?;
+    assert!(rt; reads_as(alloc, &params, 12, 1, 1, &[0xFF, 0x00], &[&[0; 12]]));
+    assert!(rt; reads_as(alloc, &params, 13, 1, 1, &[0xFF, 0x40], &[&[0; 13]]));
+    assert!(rt; reads_as(alloc, &params, 16, 1, 1, &[0xFF, 0x40], &[&[0; 16]]));
+    assert!(rt; reads_as(alloc, &params, 5, 1, 1, &[0xF8], &[&[0; 5]]));
+    let piece = [0xF0, 0x00, 0x00, 0x1B, 0x20];
+    assert!(rt; reads_as(alloc, &params, 5, 1, 1, &piece, &[&[0, 0, 0, 0, 90]]));
+    assert!(rt; reads_as(alloc, &params, 1, 1, 2, &[0xC0], &[&[0], &[0]]));
+    Ok(())
+}
+
+#[test]
+fn several_lines(rt: HostRuntime) -> Result<(), Fail> {
+    let alloc = rt.alloc();
+    let params = Params::new(8, 0, 0, 0, 0, 0)?;
+    let piece = [
+        0xC0, 0x00, 0x00, 0x6C, 0x80, 0x20, 0x8E, 0x01, 0xC0, 0x00, 0x00, 0x57, 0x40, 0x00, 0x00,
+        0x6E, 0xE6, 0x00, 0x00, 0x01, 0xBC, 0x18, 0x00, 0x00, 0x05, 0xD8, 0x00, 0x00, 0x91, 0x60,
+    ];
+    let lines: [&[u16]; 4] = [
+        &[0, 0, 90, 74],
+        &[68, 50, 43, 205],
+        &[64, 145, 145, 145],
+        &[100, 145, 145, 145],
+    ];
+    assert!(rt; reads_as(alloc, &params, 4, 1, 4, &piece, &lines));
+    assert!(rt;
+        reads_as(
+            alloc,
+            &params,
+            3,
+            1,
+            2,
+            &[0xC5, 0xD0],
+            &[&[0, 0, 5], &[0, 0, 5]]
+        )
+    );
+    assert!(rt;
+        reads_as(
+            alloc,
+            &params,
+            3,
+            1,
+            2,
+            &[0xC5, 0xE0],
+            &[&[0, 0, 5], &[0, 0, 0]]
+        )
+    );
+    Ok(())
+}
+
+#[test]
+fn several_components(rt: HostRuntime) -> Result<(), Fail> {
+    let alloc = rt.alloc();
+    let params = Params::new(8, 0, 0, 0, 0, 0)?;
+    assert!(rt; reads_as(alloc, &params, 1, 2, 1, &[0x07, 0x16], &[&[10], &[10]]));
+    let zeros: &[u16] = &[0; 4];
+    assert!(rt;
+        reads_as(
+            alloc,
+            &params,
+            4,
+            3,
+            1,
+            &[0xFF, 0x78],
+            &[zeros, zeros, zeros]
+        )
+    );
+    Ok(())
+}
+
+#[test]
+fn broken_pieces(rt: HostRuntime) -> Result<(), Fail> {
+    let alloc = rt.alloc();
+    let params = Params::new(8, 0, 0, 0, 0, 0)?;
+    let broken = Some(PieceFault::Broken);
+    assert_eq!(rt; fault(alloc, &params, 1, 1, &[]), broken);
+    // An escape for 1, which has a short code, and one for 256, to which no error is mapped.
+    assert_eq!(rt;
+        fault(alloc, &params, 1, 1, &[0x00, 0x00, 0x01, 0x00]),
+        broken
+    );
+    assert_eq!(rt;
+        fault(alloc, &params, 1, 1, &[0x00, 0x00, 0x01, 0xFF, 0x00]),
+        broken
+    );
+    // A zero, and a count that reaches the end of the line.
+    assert_eq!(rt; fault(alloc, &params, 5, 1, &[0xF4]), broken);
+    // A run that is interrupted by its own value.
+    assert_eq!(rt; fault(alloc, &params, 3, 2, &[0xC5, 0xC5]), broken);
+    // A marker behind the last line.
+    assert_eq!(rt; fault(alloc, &params, 1, 1, &[0x70, 0xFF, 0xA3]), broken);
+    Ok(())
+}
+
+#[test]
+fn long_pieces(rt: HostRuntime) -> Result<(), Fail> {
+    let alloc = rt.alloc();
+    let params = Params::new(8, 0, 0, 0, 0, 0)?;
+    let long = Some(PieceFault::Long);
+    assert!(rt; reads_as(alloc, &params, 1, 1, 1, &[0xC0], &[&[0]]));
+    assert_eq!(rt; fault(alloc, &params, 1, 1, &[0x80, 0x00]), long);
+    assert_eq!(rt; fault(alloc, &params, 1, 1, &[0x28, 0x38]), long);
+    Ok(())
+}
