@@ -1,5 +1,5 @@
 -- One event more: what a decoder keeps is what the earlier events and that one leave.
-use Rattle.std.proofs.Common.{◌≡◌, ℕ, zero, suc, replicate, append_assoc, ◌+◌, ◌<◌, ◌≤◌, Bool, true, false, cond, not, List, [], ◌∷◌, ◌++◌, length, refl, sym, ap, ◌∙◌, subst, arith, inl, inr}
+use Rattle.std.proofs.Common.{◌≡◌, ℕ, zero, suc, replicate, append_assoc, ◌+◌, ◌≤◌, Bool, true, false, cond, not, List, [], ◌∷◌, ◌++◌, length, refl, sym, ap, ◌∙◌, subst, arith, inl, inr}
 use Rattle.std.specs.Prelude.{ℤ, get_or}
 use Rattle.std.proofs.lemmas.List.{length-append, length-replicate}
 use Rattle.std.proofs.lemmas.Bool.{cases_eq, eq-eqb, ne_eqb}
@@ -11,7 +11,7 @@ use Rattle.jls_context.specs.Regular.{updated, initial_cell}
 use Rattle.jls_context.specs.Interruption.{run_updated}
 use Rattle.jls_context.specs.Variables.{Variables, cell_at, run_cell_at}
 use Rattle.jls_interval.specs.Events.{Event, regular, run_to_end, interrupted_run, Above, neighbours}
-use Rattle.jls_interval.specs.Cells.{regular_error, cell_before, cell_after, run_cell_before, is_same, interruption_error, equal}
+use Rattle.jls_interval.specs.Cells.{regular_error, cell_before, is_same, interruption_error, equal}
 use Rattle.jls_interval.specs.Runs.{blocks, run_index_lowered}
 use Rattle.jls_interval.specs.Code.{regular_bits, event_bits}
 use Rattle.jls_interval.specs.Reading.{NoSample}

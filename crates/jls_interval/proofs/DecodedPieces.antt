@@ -1,14 +1,13 @@
 -- From the bits that were read to what is said of a piece.
-use Rattle.std.proofs.Common.{◌≡◌, ℕ, zero, suc, ◌+◌, ◌*◌, ◌^◌, ◌<◌, ◌≤◌, Bool, true, false, List, [], ◌∷◌, ◌++◌, length, get_or, sym, ap, ◌∙◌, subst, arith}
+use Rattle.std.proofs.Common.{◌≡◌, ℕ, suc, ◌*◌, ◌^◌, ◌<◌, ◌≤◌, Bool, true, false, List, [], ◌∷◌, ◌++◌, length, get_or, sym, ◌∙◌, arith}
 use Rattle.std.specs.List.{AllByRecursion}
 use Rattle.std.proofs.Math.Nat.{mul-le-mul_right}
-use Rattle.jls_values.specs.Params.{CodingParameters, AreCodingParameters}
+use Rattle.jls_values.specs.Params.{CodingParameters}
 use Rattle.jls_bits.specs.Bits.{bits_read, is_whole}
 use Rattle.jls_interval.specs.Lines.{AreLines}
 use Rattle.jls_interval.specs.Code.{code}
 use Rattle.jls_interval.specs.Reads.{BeginsWithCode, Reads, IsLong, IsBroken}
 use Rattle.jls_interval.specs.PieceFaults.{NoLines}
-use Rattle.jls_interval.proofs.PiecesLaw.{reads_once, read_not_long}
 
 -- elements of a type of bytes
 pub all_bytes : (xs : List ℕ) → ((i : ℕ) → get_or xs i 0 < 256) → AllByRecursion (λ x. x < 256) xs

@@ -7,7 +7,7 @@ use Rattle.jls_bits.proofs.NumberBits.{bits_none, length-bits, bits_push_bool}
 use Rattle.jls_interval.specs.Runs.{run_order, blocks}
 use Rattle.jls_interval.specs.Code.{run_to_end_bits, interrupted_run_bits}
 use Rattle.jls_interval.specs.Reading.{NoRun, Taken}
-use Rattle.jls_interval.specs.RunState.{RunIs, IsRunState, RunAt, RunStepIs}
+use Rattle.jls_interval.specs.RunState.{RunIs, IsRunState, RunAt}
 use Rattle.jls_interval.specs.declared.run_reader.Run.{Run}
 use Rattle.jls_interval.specs.declared.run_reader.Run.TheVariants.{ToEnd, Interrupted}
 use Rattle.jls_interval.specs.declared.run_reader.RunState.{RunState}

@@ -1,4 +1,4 @@
-use Rattle.std.proofs.Common.{◌≡◌, ℕ, ◌*◌, ◌<◌, ◌≤◌, true, List, Vec, Global, IfSome, map, get_or, ◌++◌, length, sym, ap, ◌∙◌, subst, arith}
+use Rattle.std.proofs.Common.{◌≡◌, ℕ, ◌*◌, ◌<◌, true, List, Vec, Global, IfSome, map, get_or, ◌++◌, sym, ap, ◌∙◌, subst, arith}
 use Rattle.jls_bits.specs.Bits.{bits_read, is_whole}
 use Rattle.jls_interval.specs.Lines.{AreLines}
 use Rattle.jls_interval.specs.Code.{code}

@@ -8,7 +8,7 @@ use Rattle.jls_interval.specs.Code.{code}
 use Rattle.jls_interval.specs.Events.{Above, above, line_back}
 use Rattle.jls_interval.specs.DecodedEvent.{EventRead, ReadsEvent, RefusesEvent}
 use Rattle.jls_interval.proofs.StepLaw.{small_back}
-use Rattle.jls_interval.proofs.DecodedLines.{AreDecoded, decoded_none, none_decoded, line_grows, decoded_part, decoded_full, decoded_all, event_read, no_event, above_is, falls_part, falls_full, index_kept, four_zeros}
+use Rattle.jls_interval.proofs.DecodedLines.{AreDecoded, decoded_none, none_decoded, line_grows, decoded_part, decoded_full, decoded_all, event_read, no_event, above_is, falls_part, index_kept, four_zeros}
 use Rattle.jls_interval.proofs.decode_piece.read_lines.Goals as goal
 
 ne_lt : (a b : ℕ) → a ≤ b → (a ≡ b → ⊥) → a < b

@@ -1,4 +1,4 @@
-use Rattle.std.proofs.Common.{◌≡◌, ◌-◌, ℕ, w32, to_z, of_z, arith, ap, ◌∙◌}
+use Rattle.std.proofs.Common.{◌≡◌, ◌-◌, w32, to_z, of_z, arith, ap, ◌∙◌}
 use Rattle.std.specs.Prelude.{ℤ}
 use Rattle.std.proofs.lemmas.Int.{ints}
 use Rattle.jls_values.specs.Params.{CodingParameters, limit, qbpp}
@@ -6,7 +6,6 @@ use Rattle.jls_context.specs.declared.interruption.RunCell.{RunCell}
 use Rattle.jls_context.specs.Interruption.{run_k}
 use Rattle.jls_context.specs.Variables.{run_cell_at}
 use Rattle.jls_interval.specs.Cells.{is_same}
-use Rattle.jls_interval.proofs.StepLaw.{limit_room}
 use Rattle.jls_interval.proofs.Samples.{interruption_none, interruption_wrong, interruption_own, interruption_right, NoCode, Code, along}
 use Rattle.jls_interval.proofs.decode_sample.read_interruption.Goals as goal
 

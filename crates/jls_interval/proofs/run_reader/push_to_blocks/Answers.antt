@@ -1,4 +1,4 @@
-use Rattle.std.proofs.Common.{◌≡◌, ◌+◌, ◌-◌, ◌<◌, [], ◌∷◌, ◌++◌, arith, sym, subst}
+use Rattle.std.proofs.Common.{◌≡◌, ◌+◌, ◌-◌, ◌<◌, [], ◌∷◌, ◌++◌, arith, subst}
 use Rattle.jls_interval.specs.Runs.{blocks}
 use Rattle.jls_interval.specs.Code.{interrupted_run_bits}
 use Rattle.jls_interval.proofs.RunSteps.{zero_taken, counted}

@@ -1,5 +1,5 @@
 use Rattle.std.proofs.Common.{◌∙◌}
-use Rattle.jls_interval.proofs.RunSteps.{told_none, told_more, told_done, told_refused, told_all}
+use Rattle.jls_interval.proofs.RunSteps.{told_more, told_done, told_refused, told_all}
 use Rattle.jls_interval.proofs.run_reader.read_run.Goals as goal
 
 pub loop-bit-preserved : goal.loop-bit-preserved
