@@ -1,8 +1,7 @@
--- Cells that are kept in a list hold the folds over the earlier events.
-use Rattle.std.proofs.Common.{◌≡◌, ℕ, ◌<◌, Bool, true, false, cond, List, [], ◌∷◌, ◌++◌, get_or, set, refl, sym, ap, ◌∙◌, subst, arith, inl, inr}
+-- What one more event does to the folds over the earlier events.
+use Rattle.std.proofs.Common.{◌≡◌, ℕ, Bool, true, false, cond, List, [], ◌∷◌, ◌++◌, refl, sym, ap, ◌∙◌, inl, inr}
 use Rattle.std.specs.List.{filter, fold}
-use Rattle.std.proofs.lemmas.List.{get_or-set_same, get_or-set_other, length-set}
-use Rattle.std.proofs.lemmas.Bool.{cases_Bool, cases_eq, eq-eqb, ne_eqb}
+use Rattle.std.proofs.lemmas.Bool.{cases_Bool, eq-eqb}
 use Rattle.jls_values.specs.Params.{CodingParameters}
 use Rattle.jls_context.specs.Mode.{context}
 use Rattle.jls_context.specs.Regular.{updated, initial_cell}
@@ -11,7 +10,6 @@ use Rattle.jls_context.specs.declared.mode.Neighbours.{Neighbours}
 use Rattle.jls_context.specs.declared.regular.Cell.{Cell}
 use Rattle.jls_context.specs.declared.interruption.RunCell.{RunCell}
 use Rattle.jls_interval.specs.Events.{Event, regular, run_to_end, interrupted_run}
-use Rattle.jls_interval.specs.Reading.{Holds}
 use Rattle.jls_interval.specs.Cells.{uses_cell, cell_after, cell_before, regular_error, uses_run_cell, run_cell_after, run_cell_before, is_same, interruption_error, equal}
 use Rattle.jls_interval.specs.Runs.{is_run_of, run_index_after, run_index_before, blocks, run_index_lowered}
 
@@ -39,21 +37,6 @@ pub index_before_more : (earlier : List Event) (e : Event) (k : ℕ)
     → run_index_before (earlier ++ e ∷ []) k ≡ cond (is_run_of k e) (run_index_after (run_index_before earlier k) e) (run_index_before earlier k)
 unfolding run_index_before
 index_before_more earlier e k = fold_passing run_index_after (is_run_of k) 0 earlier e
-
--- one write keeps it, at a regular event
-pub holds_regular : (p : CodingParameters) (cells : List Cell) (earlier : List Event) (near : Neighbours) (sample : ℕ) → context p near < 365 → Holds p cells earlier
-    → (x : Cell) → x ≡ updated p.reset (cell_before p earlier (context p near)) (regular_error p (cell_before p earlier (context p near)) near sample)
-    → Holds p (set cells (context p near) x) (earlier ++ regular near sample ∷ [])
-holds_regular p cells earlier near sample l h x e =
-    let i = context p near in let n = h.number in let le = length-set cells i x in
-    record {
-      number = omega arith;
-      each = λ q d j. elim (cases_eq i q) [ inl s ↦ subst (λ z. get_or (set cells i x) z d ≡ cell_before p (earlier ++ regular near sample ∷ []) z) s (get_or-set_same cells i x d (omega arith) ∙ e ∙ sym (cell_used p earlier (regular near sample) i (eq-eqb i i refl))) | inr s ↦ get_or-set_other cells i q x d (λ o. s (sym o)) ∙ h.each q d j ∙ sym (cell_unused p earlier (regular near sample) q (ne_eqb i q s)) ];
-    }
-
--- the other events leave the cells of regular mode
-pub holds_run : (p : CodingParameters) (cells : List Cell) (earlier : List Event) (e : Event) → ((q : ℕ) → uses_cell p q e ≡ false) → Holds p cells earlier → Holds p cells (earlier ++ e ∷ [])
-holds_run p cells earlier e none h = record { number = h.number; each = λ q d j. h.each q d j ∙ sym (cell_unused p earlier e q (none q)) }
 
 -- The cells of run interruption -----------------------------------------------------
 

@@ -51,6 +51,7 @@ is_same near = near.ra == near.rb
 abbrev pub interruption_error : CodingParameters → Neighbours → ℕ → ℤ
 interruption_error p near sample = prediction_error p (nat_lt near.rb near.ra) sample near.rb
 
+-- whether two tests have one outcome
 abbrev pub equal : Bool → Bool → Bool
 equal true y = y
 equal false y = not y

@@ -5,6 +5,7 @@ use Rattle.jls_context.specs.declared.mode.Neighbours.{Neighbours}
 use Rattle.jls_context.specs.Mode.{is_run_mode}
 use Rattle.jls_interval.specs.Lines.{sample_at, neighbours_at}
 
+-- what is coded as a whole: a column, or a run
 pub data Event : Type 0 where
   -- one column in regular mode: its neighbours and its sample
   regular : Neighbours → ℕ → Event
@@ -17,9 +18,11 @@ pub data Event : Type 0 where
 
 -- Line y of a component, in the finished lines of an interval
 module _ (width components : ℕ) (lines : List (List ℕ)) (component y : ℕ) where
+  -- its sample in column x
   abbrev pub sample_in : ℕ → ℕ
   sample_in x = sample_at components lines component (pos y) x
 
+  -- the neighbours of that column
   abbrev pub neighbours_in : ℕ → Neighbours
   neighbours_in x = neighbours_at width components lines component y x
 
@@ -111,6 +114,7 @@ events_from width component up line (suc fuel) x =
     let first = stretch width component up line x in
     let later = events_from width component up line fuel first.next in if (nat_lt x width) then first.event ∷ later else []
 
+-- the events of a whole line
 abbrev pub line_events : ℕ → ℕ → Above → List ℕ → List Event
 line_events width component up line = events_from width component up line width 0
 

@@ -1,11 +1,11 @@
 -- The laws of an interval's code.
-use Rattle.std.specs.Prelude.{◌≡◌, ℕ, ◌+◌, ◌≤◌, ◌<◌, ◌↔◌, Bool, List, [], ◌∷◌, ◌++◌}
+use Rattle.std.specs.Prelude.{◌≡◌, ℕ, ◌/◌, ◌%◌, length, take, get_or, ◌+◌, ◌≤◌, ◌<◌, ◌↔◌, Bool, List, [], ◌∷◌, ◌++◌}
 use Rattle.jls_values.specs.Params.{CodingParameters, AreCodingParameters}
-use Rattle.jls_interval.specs.Lines.{AreLines}
-use Rattle.jls_interval.specs.Events.{Event, AreEvents, events}
+use Rattle.jls_interval.specs.Lines.{AreLines, neighbours_at}
+use Rattle.jls_interval.specs.Events.{Event, AreEvents, neighbours, above, events}
 use Rattle.jls_interval.specs.Runs.{block_columns, full_blocks}
 use Rattle.jls_interval.specs.Code.{event_bits, code}
-use Rattle.jls_interval.specs.Reads.{Reads, IsLong, packed}
+use Rattle.jls_interval.specs.Reads.{BeginsWithCode, Reads, IsLong, IsBroken, packed}
 use Rattle.jls_interval.specs.Stepwise.{Leads, bits_of_steps, IsEnd, IsPrefixFree}
 use Rattle.jls_interval.specs.Growth.{Position, IsNext, interval_steps, start, finish}
 
@@ -14,6 +14,12 @@ abbrev pub PartedOnce : Type 0
 PartedOnce =
     (p : CodingParameters) (width components count : ℕ) (lines : List (List ℕ)) → 0 < components → AreLines p width count lines
     → (es : List Event) → AreEvents width components lines es ↔ (es ≡ events width components lines)
+
+-- the neighbours by L(y, x) in finished lines are those that follow from the lines above and the samples before
+abbrev pub NeighboursAgree : Type 0
+NeighboursAgree =
+    (width components : ℕ) (lines : List (List ℕ)) (j x : ℕ) → 0 < components → j ≤ length lines
+    → neighbours_at width components lines (j % components) (j / components) x ≡ neighbours width (above components (take j lines)) (get_or lines j []) x
 
 -- the full blocks are as many as fit, and one more does not
 abbrev pub FullBlocksFit : Type 0
@@ -57,6 +63,12 @@ PiecesReadOnce =
     (p : CodingParameters) (width components count : ℕ) → AreCodingParameters p → 0 < width
     → (piece : List ℕ) (xs : List (List ℕ)) → Reads p width components count piece xs
     → ((ys : List (List ℕ)) → Reads p width components count piece ys → xs ≡ ys) × (IsLong p width components count piece → ⊥)
+
+-- a piece is broken exactly where it doesn't begin with the code of any lines
+abbrev pub BrokenBeginsWithNone : Type 0
+BrokenBeginsWithNone =
+    (p : CodingParameters) (width components count : ℕ) (piece : List ℕ)
+    → IsBroken p width components count piece ↔ ((lines : List (List ℕ)) (unread : List Bool) → BeginsWithCode p width components count piece lines unread → ⊥)
 
 -- bits that are a proper prefix of the code of some lines
 pub record IsCutCode (p : CodingParameters) (width components count : ℕ) (given : List Bool) : Type 0 where

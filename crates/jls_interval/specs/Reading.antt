@@ -1,11 +1,9 @@
 -- What stands at the front of bits that are read: a run, a sample of regular mode, a sample that interrupts a run.
-use Rattle.std.specs.Prelude.{◌≡◌, length, get_or, ℕ, ◌+◌, ◌<◌, ◌≤◌, Bool, true, List, ◌++◌, replicate}
+use Rattle.std.specs.Prelude.{◌≡◌, ℕ, ◌+◌, ◌<◌, ◌≤◌, Bool, true, List, ◌++◌, replicate}
 use Rattle.jls_values.specs.Params.{CodingParameters}
 use Rattle.jls_context.specs.declared.mode.Neighbours.{Neighbours}
 use Rattle.jls_context.specs.declared.regular.Cell.{Cell}
 use Rattle.jls_context.specs.declared.interruption.RunCell.{RunCell}
-use Rattle.jls_interval.specs.Events.{Event}
-use Rattle.jls_interval.specs.Cells.{cell_before}
 use Rattle.jls_interval.specs.Runs.{Blocks, blocks}
 use Rattle.jls_interval.specs.Code.{regular_bits, run_to_end_bits, interrupted_run_bits, interrupting_bits}
 
@@ -23,11 +21,6 @@ NoSample p cell near given =
 abbrev pub NoInterruption : CodingParameters → RunCell → Neighbours → ℕ → List Bool → Type 0
 NoInterruption p cell near order given =
     (sample : ℕ) (rest : List Bool) → sample ≤ p.maxval → (sample ≡ near.ra → ⊥) → given ≡ interrupting_bits p cell near order sample ++ rest → ⊥
-
--- the list of cells 0 to 364 holds what the earlier events left
-pub record Holds (p : CodingParameters) (cells : List Cell) (earlier : List Event) : Type 0 where
-  pub number : length cells ≡ 365
-  pub each : (q : ℕ) (d : Cell) → q < 365 → get_or cells q d ≡ cell_before p earlier q
 
 -- so many more full blocks before these
 abbrev pub after_blocks : ℕ → Blocks → Blocks

@@ -35,6 +35,7 @@ pub record Blocks : Type 0 where
   pub run_index : ℕ
   pub remaining : ℕ
 
+-- the blocks of a run of so many columns, which begins at this RUNindex
 unfoldable pub blocks : ℕ → ℕ → Blocks
 blocks run_index count =
     let full = full_blocks run_index count in

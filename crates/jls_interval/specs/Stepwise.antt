@@ -1,6 +1,7 @@
 -- Codes that are read step by step: at a state some events can come next, each with its bits, and each leads to a state.
 use Rattle.std.specs.Prelude.{◌≡◌, Bool, List, [], ◌∷◌, ◌++◌}
 
+-- such a code
 pub record StepwiseCode : Type 1 where
   pub State : Type 0
   pub Event : Type 0

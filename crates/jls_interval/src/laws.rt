@@ -1,10 +1,16 @@
 //! The laws of an interval's code. Each is a function that does nothing and whose contract is the law.
 
-ghost use Rattle.jls_interval.specs.Laws.{PartedOnce, FullBlocksFit, GrowthEndsInLines, LinesGrow, EventsAreApart, EventsHaveBits, CodesAreApart, PiecesReadOnce, PackedLinesRead, CutsAreExact};
+ghost use Rattle.jls_interval.specs.Laws.{PartedOnce, NeighboursAgree, FullBlocksFit, GrowthEndsInLines, LinesGrow, EventsAreApart, EventsHaveBits, CodesAreApart, PiecesReadOnce, PackedLinesRead, BrokenBeginsWithNone, CutsAreExact};
 
 /// The columns of finished lines are parted into events in exactly one way.
 pub fn lines_are_parted_once()
     ensures { PartedOnce }
+{}
+
+/// The neighbours of a place in finished lines, by L(y, x), are those that a coder finds from the two
+/// lines of the component above and the samples of the line so far.
+pub fn neighbours_agree()
+    ensures { NeighboursAgree }
 {}
 
 /// A run has as many full blocks as fit into its columns, and one more would not fit.
@@ -46,6 +52,11 @@ pub fn pieces_read_once()
 /// What lines are written as reads as them.
 pub fn packed_lines_read()
     ensures { PackedLinesRead }
+{}
+
+/// A piece is broken exactly where it does not begin with the code of any lines.
+pub fn broken_pieces_begin_with_no_code()
+    ensures { BrokenBeginsWithNone }
 {}
 
 /// Bits are a proper prefix of the code of some lines exactly where they are the bits of whole first
