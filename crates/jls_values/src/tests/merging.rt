@@ -38,19 +38,19 @@ impl Merge for Numbers {
     }
 }
 
-fn numbers(zero: bool, one: bool) -> Numbers {
+fn set_of(zero: bool, one: bool) -> Numbers {
     Numbers { zero, one }
 }
 
 #[test]
 fn a_list_is_merged_whole_and_repeats_change_nothing(rt: HostRuntime) -> Result<(), Fail> {
-    let mut held = numbers(false, false);
-    let list = [numbers(true, false), held, numbers(false, true)];
+    let mut held = set_of(false, false);
+    let list = [set_of(true, false), held, set_of(false, true)];
     merge_all(&mut held, &list[..2])?;
-    assert_eq!(rt; held, numbers(true, false));
+    assert_eq!(rt; held, set_of(true, false));
     merge_all(&mut held, &list)?;
-    assert_eq!(rt; held, numbers(true, true));
+    assert_eq!(rt; held, set_of(true, true));
     merge_all(&mut held, &list)?;
-    assert_eq!(rt; held, numbers(true, true));
+    assert_eq!(rt; held, set_of(true, true));
     Ok(())
 }
