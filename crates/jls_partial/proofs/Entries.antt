@@ -25,6 +25,7 @@ use Rattle.jls_partial.specs.Place.{place, place_cmp, place_of}
 use Rattle.jls_partial.specs.Reading.{Reading, reading_cmp}
 use Rattle.jls_partial.specs.ReadingOrder.{place_total, reading_total, reading_exact, eq_reading, same_place, same_samples, same_reading}
 
+-- the order of sample lists
 abbrev pub S : List ℕ → List ℕ → Ordering
 S = slice_cmp nat_cmp
 

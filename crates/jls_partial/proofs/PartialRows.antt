@@ -15,6 +15,7 @@ use Rattle.jls_partial.specs.Status.{status_of}
 
 -- ---- faults, the first of several
 
+-- two lines of one sample of 8 bits
 abbrev one_sample : PictureShape
 one_sample = record { precision = 8; width = 1; height = 2; ids = 1 ∷ [] }
 
@@ -41,15 +42,19 @@ sample_too_large = refl
 
 -- ---- the readings 5 and then 3 of one line
 
+-- nothing is known of it
 abbrev nothing : PartialPicture
 nothing = record { shape = one_sample; readings = set.empty }
 
+-- line 0 was read as 5
 abbrev five : PartialPicture
 five = with_reading nothing 0 0 (5 ∷ [])
 
+-- and as 3
 abbrev both : PartialPicture
 both = with_reading five 0 0 (3 ∷ [])
 
+-- the readings in their order
 abbrev in_order : List Reading
 in_order = reading_of 0 0 (3 ∷ []) ∷ reading_of 0 0 (5 ∷ []) ∷ []
 

@@ -69,6 +69,7 @@ sorted-entries shape (e ∷ es) h k =
 
 -- ---- the readings of one line
 
+-- whether a reading is of this line
 abbrev pub is_there : ℕ → ℕ → Reading → Bool
 is_there c l r = r.component == c && r.line == l
 

@@ -35,6 +35,7 @@ some-map : {X Y : Type 0} (f : X → Y) (xs : List X) → some_of (map f xs) ≡
 some-map f [] = refl
 some-map f (x ∷ xs) = refl
 
+-- where the entries stand
 abbrev places : List Entry → List Place
 places es = map (λ e. e.0) es
 
@@ -130,6 +131,7 @@ all-map : (P Q : Place → Type 0) (xs : List Place) → ((q : Place) → P q �
 all-map P Q [] f a = tt
 all-map P Q (x ∷ xs) f a = (f x a.0, all-map P Q xs f a.1)
 
+-- a place is that of the line
 abbrev IsAtLine : ℕ → ℕ → Place → Type 0
 IsAtLine c l q = (q.component ≡ c) × (q.line ≡ l)
 
@@ -197,6 +199,7 @@ components_sorted p (suc n) =
 
 -- ---- an entry is its place with the readings there
 
+-- the entry of a place
 abbrev entry_at : PartialPicture → Place → Entry
 entry_at p q = (q, readings_at p q.component q.line)
 

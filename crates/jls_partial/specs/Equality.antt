@@ -20,6 +20,7 @@ is_same p q = has_same_shape p q && pointwise (eq_by_cmp reading_cmp) (set.items
 
 -- ---- the test is true exactly where the two are one
 
+-- lists of readings that the test finds equal are one
 same_items : (xs ys : List Reading) → pointwise (eq_by_cmp reading_cmp) xs ys ≡ true → xs ≡ ys
 same_items [] [] e = refl
 same_items [] (y ∷ ys) e = absurd cc
@@ -28,13 +29,16 @@ same_items (x ∷ xs) (y ∷ ys) e =
     let p = and_parts (eq_by_cmp reading_cmp x y) (pointwise (eq_by_cmp reading_cmp) xs ys) e in
     λ i. same_reading x y p.0 i ∷ same_items xs ys p.1 i
 
+-- a list of readings passes the test with itself
 items_themselves : (xs : List Reading) → pointwise (eq_by_cmp reading_cmp) xs xs ≡ true
 items_themselves [] = refl
 items_themselves (x ∷ xs) = rw (ap is_eq (tied_itself reading_total x)) (items_themselves xs)
 
+-- a partial picture passes the test with itself
 pub is_same-itself : (p : PartialPicture) → is_same p p ≡ true
 is_same-itself p = rw (shape_itself p.shape) (items_themselves (set.items p.readings))
 
+-- partial pictures that pass the test are one
 pub one_partial : (p q : PartialPicture) → is_same p q ≡ true → p ≡ q
 one_partial p q e =
     let parts = and_parts (has_same_shape p q) (pointwise (eq_by_cmp reading_cmp) (set.items p.readings) (set.items q.readings)) e in
@@ -42,9 +46,11 @@ one_partial p q e =
     let readings = same_set reading_total reading_exact p.readings q.readings (λ r. contains-items p.readings r ∙ ap (list_any (eq_by_cmp reading_cmp r)) items ∙ sym (contains-items q.readings r)) in
     λ i. record { shape = one_shape p.shape q.shape parts.0 i; readings = readings i }
 
+-- the test does not depend on the order
 same_turned : (p q : PartialPicture) → is_same p q ≡ true → is_same q p ≡ true
 same_turned p q e = subst (λ (z : PartialPicture). is_same z p ≡ true) (one_partial p q e) (is_same-itself p)
 
+-- the laws of `==`
 pub is_same_equivalence : IsEquivalence is_same
 is_same_equivalence = equiv (record {
   symm = λ x y. both_ways (is_same x y) (is_same y x) (same_turned x y) (same_turned y x);

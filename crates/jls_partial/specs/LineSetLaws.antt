@@ -12,12 +12,15 @@ use Rattle.jls_values.specs.OrderedSetLaws.{union-idempotent, union-commutative,
 use Rattle.jls_partial.specs.LineSet.{PictureLines, has_same_line_shape, union_of_lines}
 use Rattle.jls_partial.specs.PartialLaws.{eqb_itself}
 
+-- the order of lines, by their samples from the first one on
 pub lines_total : IsTotalOrder (slice_cmp nat_cmp)
 lines_total = nat_list_cmp_total
 
+-- lines that tie are one
 pub lines_exact : CmpEqualImpliesEq (slice_cmp nat_cmp)
 lines_exact = exact_bytes
 
+-- a line set passes the test with itself
 itself : (s : PictureLines) → has_same_line_shape s s ≡ true
 itself s = rw (eqb_itself s.precision, eqb_itself s.width) refl
 
@@ -27,16 +30,19 @@ agree s t e =
     let p = and_parts (s.precision == t.precision) (s.width == t.width) e in
     (eqb-true s.precision t.precision p.0, eqb-true s.width t.width p.1)
 
+-- the test does not depend on the order
 test_turned : (s t : PictureLines) → has_same_line_shape s t ≡ true → has_same_line_shape t s ≡ true
 test_turned s t e =
     let p = agree s t e in
     rw (p.0, p.1, eqb_itself t.precision, eqb_itself t.width) refl
 
+-- and it goes from one to the next
 test_along : (s t u : PictureLines) → has_same_line_shape s t ≡ true → has_same_line_shape t u ≡ true → has_same_line_shape s u ≡ true
 test_along s t u e f =
     let p = agree s t e in
     rw (p.0, p.1) f
 
+-- the laws of the join
 pub line_set_laws : JoinLaws has_same_line_shape union_of_lines
 line_set_laws = record {
   reflexive = itself;

@@ -13,11 +13,12 @@ pub record PartialPicture : Type 0 where
   pub shape : PictureShape
   pub readings : set.OrderedSet reading_cmp
 
--- a shape is stored as its four parts, a partial picture as its two
+-- a shape is stored as its four parts
 abbrev pub coded_shape : Coded PictureShape
 coded_shape = code_by (ℕ × (ℕ × (ℕ × List ℕ))) (coded× coded_ℕ (coded× coded_ℕ (coded× coded_ℕ (coded_list coded_ℕ))))
     (λ s. (s.precision, (s.width, (s.height, s.ids)))) (λ p. record { precision = p.0; width = p.1.0; height = p.1.1.0; ids = p.1.1.1 }) (λ _. refl)
 
+-- a partial picture is stored as its two parts
 abbrev pub coded_partial : Coded PartialPicture
 coded_partial = code_by (PictureShape × set.OrderedSet reading_cmp) (coded× coded_shape (set.code coded_reading))
     (λ p. (p.shape, p.readings)) (λ q. record { shape = q.0; readings = q.1 }) (λ _. refl)
@@ -34,6 +35,7 @@ with_reading p component line samples = record { shape = p.shape; readings = set
 abbrev pub union : PartialPicture → PartialPicture → PartialPicture
 union p q = record { shape = p.shape; readings = set.union p.readings q.readings }
 
+-- whether two are of one shape, and so can be joined
 abbrev pub has_same_shape : PartialPicture → PartialPicture → Bool
 has_same_shape p q = same_shape p.shape q.shape
 

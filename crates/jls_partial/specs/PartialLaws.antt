@@ -11,7 +11,7 @@ use Rattle.jls_partial.specs.Partial.{has_same_shape, union}
 use Rattle.jls_partial.specs.ReadingOrder.{reading_total, reading_exact}
 use Rattle.jls_values.specs.OrderedSetLaws.{union-idempotent, union-commutative, union-associative}
 
--- a number is itself, and so is a list
+-- a number passes the test with itself
 pub eqb_itself : (n : ℕ) → (n == n) ≡ true
 eqb_itself n = nat_eq_equiv.refl n
 
@@ -22,6 +22,7 @@ same_list [] (y ∷ ys) e = absurd cc
 same_list (x ∷ xs) [] e = absurd cc
 same_list (x ∷ xs) (y ∷ ys) e = let p = and_parts (nat_eq x y) (pointwise nat_eq xs ys) e in (λ i. eqb-true x y p.0 i ∷ same_list xs ys p.1 i)
 
+-- a list passes the test with itself
 pub itself_list : (xs : List ℕ) → pointwise nat_eq xs xs ≡ true
 itself_list [] = refl
 itself_list (x ∷ xs) = rw (eqb_itself x) (itself_list xs)
@@ -38,9 +39,11 @@ one_shape s t e =
 pub shape_itself : (s : PictureShape) → same_shape s s ≡ true
 shape_itself s = rw (eqb_itself s.precision, eqb_itself s.width, eqb_itself s.height) (itself_list s.ids)
 
+-- the test does not depend on the order
 shape_turned : (s t : PictureShape) → same_shape s t ≡ true → same_shape t s ≡ true
 shape_turned s t e = subst (λ (z : PictureShape). same_shape z s ≡ true) (one_shape s t e) (shape_itself s)
 
+-- the laws of the join
 pub partial_laws : JoinLaws has_same_shape union
 partial_laws = record {
   reflexive = λ x. shape_itself x.shape;

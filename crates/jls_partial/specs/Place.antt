@@ -5,6 +5,7 @@ use Rattle.std.specs.Ordering.{nat_cmp, ordering_then}
 use Rattle.jls_partial.specs.declared.place.Place.{Place}
 use Rattle.jls_partial.specs.Reading.{Reading}
 
+-- the place of a line of a component
 abbrev pub place : ℕ → ℕ → Place
 place component line = record { component = component; line = line }
 

@@ -11,6 +11,7 @@ pub record Reading : Type 0 where
   pub line : ℕ
   pub samples : List ℕ
 
+-- the reading of these parts
 abbrev pub reading_of : ℕ → ℕ → List ℕ → Reading
 reading_of component line samples = record { component = component; line = line; samples = samples }
 
