@@ -3,14 +3,12 @@ use Rattle.std.proofs.Common.{◌≡◌, ℕ, Bool, true, false, cond, List, [],
 use Rattle.std.specs.List.{filter, fold}
 use Rattle.std.proofs.lemmas.Bool.{cases_Bool, eq-eqb}
 use Rattle.jls_values.specs.Params.{CodingParameters}
-use Rattle.jls_context.specs.Mode.{context}
-use Rattle.jls_context.specs.Regular.{updated, initial_cell}
+use Rattle.jls_context.specs.Regular.{initial_cell}
 use Rattle.jls_context.specs.Interruption.{run_updated, initial_run_cell}
 use Rattle.jls_context.specs.declared.mode.Neighbours.{Neighbours}
-use Rattle.jls_context.specs.declared.regular.Cell.{Cell}
 use Rattle.jls_context.specs.declared.interruption.RunCell.{RunCell}
-use Rattle.jls_interval.specs.Events.{Event, regular, run_to_end, interrupted_run}
-use Rattle.jls_interval.specs.Cells.{uses_cell, cell_after, cell_before, regular_error, uses_run_cell, run_cell_after, run_cell_before, is_same, interruption_error, equal}
+use Rattle.jls_interval.specs.Events.{Event, run_to_end, interrupted_run}
+use Rattle.jls_interval.specs.Cells.{uses_cell, cell_after, cell_before, uses_run_cell, run_cell_after, run_cell_before, is_same, interruption_error, equal}
 use Rattle.jls_interval.specs.Runs.{is_run_of, run_index_after, run_index_before, blocks, run_index_lowered}
 
 -- a fold over the elements that pass, and one element more

@@ -1,5 +1,5 @@
 -- Lines in a list of vectors.
-use Rattle.std.proofs.Common.{◌≡◌, ℕ, zero, suc, ◌*◌, ◌/◌, ◌<◌, ◌≤◌, List, [], ◌∷◌, length, get_or, map, arith}
+use Rattle.std.proofs.Common.{ℕ, zero, suc, ◌<◌, List, [], ◌∷◌, length, get_or, map, arith}
 use Rattle.std.specs.List.{AllByRecursion}
 
 -- what holds of each line holds of the one at an index

@@ -4,8 +4,8 @@ use Rattle.std.specs.List.{AllByRecursion}
 use Rattle.std.proofs.lemmas.List.{append-nil, length-replicate}
 use Rattle.std.proofs.lemmas.Bool.{cases_lt}
 use Rattle.jls_values.specs.Params.{CodingParameters}
-use Rattle.jls_bits.specs.Bits.{bits, width_after, ends_data, bits_read_after, is_whole_after, AreDataBits}
-use Rattle.jls_bits.specs.Pad.{Carries, IsPad, pad}
+use Rattle.jls_bits.specs.Bits.{bits, width_after, bits_read_after, is_whole_after}
+use Rattle.jls_bits.specs.Pad.{IsPad}
 use Rattle.jls_bits.specs.Appending.{last_after}
 use Rattle.jls_bits.proofs.NumberBits.{length-bits, bits_split}
 use Rattle.jls_bits.proofs.DataBits.{width_bounds, data_end, data_more}

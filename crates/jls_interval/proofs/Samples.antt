@@ -1,6 +1,6 @@
 -- What stands at the front, where a Golomb code does or doesn't.
-use Rattle.std.proofs.Common.{◌≡◌, ℕ, zero, suc, ◌-◌, ◌*◌, ◌^◌, ◌≤◌, Bool, true, false, cond, not, ◌&&◌, ltb, List, ◌++◌, sym, ap, ◌∙◌, subst, arith}
-use Rattle.std.specs.Prelude.{◌==◌, ℤ, pos, int_lt, unsigned_abs}
+use Rattle.std.proofs.Common.{◌≡◌, ℕ, zero, suc, ◌-◌, ◌*◌, ◌^◌, ◌≤◌, Bool, true, ltb, List, ◌++◌, sym, ap, ◌∙◌, subst, arith}
+use Rattle.std.specs.Prelude.{ℤ, pos, unsigned_abs}
 use Rattle.jls_values.specs.Params.{CodingParameters}
 use Rattle.jls_context.specs.declared.mode.Neighbours.{Neighbours}
 use Rattle.jls_context.specs.declared.regular.Cell.{Cell}
@@ -9,7 +9,7 @@ use Rattle.jls_values.specs.Params.{AreCodingParameters, range, qbpp, limit}
 use Rattle.jls_context.specs.Errors.{IsError, error_mapped}
 use Rattle.jls_context.specs.Mode.{is_negative}
 use Rattle.jls_context.specs.Regular.{uses_special_mapping, regular_k, regular_mapped}
-use Rattle.jls_context.specs.Interruption.{run_k, interruption_map, interruption_mapped, one_if, maps_positive, mapped_by_sign}
+use Rattle.jls_context.specs.Interruption.{run_k, interruption_mapped, one_if, maps_positive, mapped_by_sign}
 use Rattle.jls_bits.specs.Golomb.{golomb, has_golomb}
 use Rattle.jls_interval.specs.Cells.{regular_prediction, is_same, interruption_error, regular_error}
 use Rattle.jls_interval.specs.Code.{regular_bits}
@@ -19,7 +19,7 @@ use Rattle.jls_interval.proofs.Golomb.{golomb_same}
 use Rattle.jls_context.proofs.Samples.{error_range, sample_same}
 use Rattle.jls_context.proofs.Sizes.{maxval_small, range-le-pow, error_mapped_at_most, interruption_mapped_at_most}
 use Rattle.jls_interval.proofs.Errors.{em_same}
-use Rattle.jls_interval.proofs.StepLaw.{has_from, limit_room, predicted_small, run_map_is, no_zero}
+use Rattle.jls_interval.proofs.StepLaw.{has_from, limit_room, run_map_is, no_zero}
 
 pub wide : (p : CodingParameters) → AreCodingParameters p → range p ≤ 2 ^ qbpp p
 wide p ok = range-le-pow p (maxval_small p ok)

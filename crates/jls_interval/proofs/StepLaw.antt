@@ -5,7 +5,7 @@ use Rattle.std.specs.List.{AllByRecursion}
 use Rattle.std.proofs.lemmas.Int.{ints}
 use Rattle.std.proofs.lemmas.Nat.{shr_le}
 use Rattle.std.proofs.lemmas.List.{get_or-append-add, get_or-replicate, append-nil}
-use Rattle.std.proofs.lemmas.Bool.{cases_Bool, ltb-false, le-leb, and_from, cases_lt, eqb-true, leb-true, le-ltb, lt-ltb, lt-leb}
+use Rattle.std.proofs.lemmas.Bool.{cases_Bool, ltb-false, le-leb, and_from, cases_lt, eqb-true, le-ltb, lt-ltb, lt-leb}
 use Rattle.jls_values.specs.Params.{AreCodingParameters, range, qbpp, limit}
 use Rattle.jls_values.specs.Params.{CodingParameters}
 use Rattle.jls_context.specs.Errors.{IsError, modulo_reduced, prediction_error, error_mapped}
@@ -25,7 +25,6 @@ use Rattle.jls_interval.specs.Code.{regular_bits, event_bits, interrupting_bits}
 use Rattle.jls_interval.specs.Growth.{Fits, interval_steps}
 use Rattle.jls_interval.specs.Stepwise.{IsPrefixFree}
 use Rattle.jls_interval.specs.Code.{interrupted_run_bits}
-use Rattle.std.proofs.Math.Pow.{pow_mono}
 use Rattle.jls_interval.proofs.Golomb.{golomb_same}
 use Rattle.jls_context.proofs.Samples.{error_range, sample_same}
 use Rattle.jls_context.proofs.Remainders.{modulo_reduced_is, modulo_reduced_near}

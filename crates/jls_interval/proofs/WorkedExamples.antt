@@ -1,6 +1,5 @@
 -- Worked examples: what lines are written as, and what bytes read as, computed from the definitions alone.
-use Rattle.std.proofs.Common.{◌≡◌, ℕ, Bool, true, false, List, [], ◌∷◌, replicate, refl, lit<, lit≤}
-use Rattle.std.specs.Prelude.{pos, negsuc}
+use Rattle.std.proofs.Common.{◌≡◌, true, false, [], ◌∷◌, replicate, refl, lit<, lit≤}
 use Rattle.jls_values.specs.Params.{CodingParameters, least_from}
 use Rattle.jls_bits.specs.Bits.{bits, value_of_bits, width_after, bits_read_after, ends_data, is_whole_after}
 use Rattle.jls_bits.specs.Golomb.{golomb}

@@ -1,4 +1,4 @@
-use Rattle.std.proofs.Common.{ap, sym, ◌∙◌, subst, List}
+use Rattle.std.proofs.Common.{ap, sym, ◌∙◌, subst}
 use Rattle.jls_interval.specs.Lines.{IsLine}
 use Rattle.jls_interval.proofs.LineLists.{mapped_at}
 use Rattle.jls_interval.proofs.lines.are_lines.Goals as goal
