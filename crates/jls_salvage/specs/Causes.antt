@@ -8,7 +8,7 @@ use Rattle.jls_salvage.specs.History.{History}
 use Rattle.jls_salvage.specs.Joining.{Refuses, whole_input}
 use Rattle.jls_salvage.specs.Failures.{HasFailed}
 
--- 3: an input is refused, or shapes differ; 4: a device failed; 5: out of memory
+-- 3: an input is no text, or shapes differ; 4: a device failed, or the reads of an input were used up; 5: out of memory
 abbrev pub status_of : Cause → ℕ
 status_of (cause.Input (fault.Text f)) = 3
 status_of (cause.Input (fault.Read stop offset)) = 4
@@ -19,8 +19,8 @@ status_of cause.NotCreated = 4
 status_of (cause.NotWritten count) = 4
 status_of cause.OutOfMemory = 5
 
--- what holds of the desk where inputs of these names were to be joined: an input was refused, or a device failed, or
--- memory ran out before anything was created
+-- what holds of the desk where inputs of these names were to be joined: an input was no text or of another shape; or a
+-- device failed, and then nothing is said of the outputs; or memory ran out before anything was created
 abbrev pub StopsFor : Cause → History → List (List ℕ) → History → Type 0
 StopsFor (cause.Input (fault.Text f)) old names new = Refuses old names new
 StopsFor (cause.Input (fault.Read stop offset)) old names new = HasFailed old new
@@ -31,7 +31,8 @@ StopsFor cause.NotCreated old names new = HasFailed old new
 StopsFor (cause.NotWritten count) old names new = HasFailed old new
 StopsFor cause.OutOfMemory old names new = new.outputs ≡ old.outputs
 
--- what holds where one input was to be taken: it was read to its end and is no text, or a device failed
+-- what holds where one input was to be taken: it was read to its end and is no text, or a device failed; of want of
+-- memory nothing is said, and no other cause comes
 abbrev pub RefusesFor : Cause → History → List ℕ → History → Type 0
 RefusesFor (cause.Input (fault.Text f)) old name new = (bytes : List ℕ) × (new.inputs ≡ old.inputs ++ whole_input name bytes ∷ []) × (read_text bytes ≡ Err f)
 RefusesFor (cause.Input (fault.Read stop offset)) old name new = HasFailed old new

@@ -1,4 +1,5 @@
--- The history of a device: what it was asked and what it gave, from its start on.
+-- The history of a device: what it was asked and what it gave, from its start on. It has the inputs in their order, the
+-- outputs in theirs, and counts; it does not say how reads and writes, or inputs and outputs, lay between each other.
 use Rattle.std.specs.Prelude.{ℕ, ◌+◌, ◌-◌, ◌^◌, ◌==◌, Bool, false, nat_lt, length, List, [], ◌∷◌, ◌++◌, if◌then◌else◌}
 
 -- an input by its name, the bytes that it gave, and whether its last read with room gave none
@@ -12,7 +13,8 @@ pub record Output : Type 0 where
   pub name : List ℕ
   pub bytes : List ℕ
 
--- inputs and outputs in the order in which they were opened, of which the last are current, and counts of calls
+-- inputs and outputs in the order in which they were opened, of which the last are current; how many reads were made,
+-- with those that failed; how many reads and how many writes failed; and how many openings, of inputs and outputs
 pub record History : Type 0 where
   pub inputs : List Input
   pub outputs : List Output
@@ -25,11 +27,11 @@ pub record History : Type 0 where
 abbrev pub blank : History
 blank = record { inputs = []; outputs = []; reads = 0; read_failures = 0; write_failures = 0; open_failures = 0 }
 
--- one more, where a count of 64 bits has room
+-- one more, where a count of 64 bits has room for it
 abbrev pub saturating_increment : ℕ → ℕ
 saturating_increment n = if nat_lt n (2 ^ 64 - 1) then n + 1 else n
 
--- the list with its last element changed
+-- the list with its last element changed; a list without elements stays
 abbrev pub on_last : {X : Type 0} → (X → X) → List X → List X
 on_last change [] = []
 on_last change (x ∷ []) = change x ∷ []

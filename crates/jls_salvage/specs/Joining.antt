@@ -29,7 +29,7 @@ pub record Takes (old : History) (names : List (List ℕ)) (partials : List Part
   pub are_partial : All IsPartial partials
   pub one_shape : AreOfOneShape partials
 
--- inputs of these names were taken, and this is the join of all that they gave
+-- inputs of these names, of which there is one at least, were taken, and this is the join of all that they gave
 pub record TakesJoin (old : History) (names : List (List ℕ)) (joined : PartialPicture) (new : History) : Type 0 where
   pub first : PartialPicture
   pub others : List PartialPicture
@@ -42,11 +42,11 @@ pub record Joins (old : History) (out : List ℕ) (names : List (List ℕ)) (joi
   pub inputs : TakesJoin old names joined new
   pub outputs : new.outputs ≡ old.outputs ++ record { name = out; bytes = text joined } ∷ []
 
--- the bytes are no text of a partial, and so have a first fault
+-- the bytes are no text of a partial: they have a first fault
 abbrev pub IsNoText : List ℕ → Type 0
 IsNoText bytes = (fault : TextFault) × (read_text bytes ≡ Err fault)
 
--- the bytes are the text of a partial that has another shape than the first of those taken
+-- the bytes are the text of a partial that has another shape than the first of those taken, of which there is one
 abbrev pub IsOfOtherShape : List PartialPicture → List ℕ → Type 0
 IsOfOtherShape [] bytes = ⊥
 IsOfOtherShape (first ∷ others) bytes = (p : PartialPicture) × IsPartial p × (bytes ≡ text p) × (has_same_shape first p ≡ false)

@@ -6,7 +6,7 @@ use Rattle.jls_salvage.specs.declared.input.InputFault.TheVariants as fault
 use Rattle.jls_salvage.specs.declared.input.ReadStop.TheVariants as stop
 use Rattle.jls_salvage.specs.History.{History, Input, on_last}
 
--- a count of 64 bits rose by n, or as far as it can
+-- a count of 64 bits rose by n or more, or stands at its end, 2^64 - 1, from which it does not rise
 abbrev pub RoseBy : ℕ → ℕ → ℕ → Type 0
 RoseBy n old new = min (old + n) (2 ^ 64 - 1) ≤ new
 
@@ -21,7 +21,8 @@ pub record KeepsCounts (old new : History) : Type 0 where
 abbrev pub given : List ℕ → Bool → Input → Input
 given bytes ended input = record input { bytes = input.bytes ++ bytes; ended = ended }
 
--- the current input gave these bytes, by no more than 4294967295 reads, and nothing else was done
+-- the current input gave these bytes, by no more than 4294967295 reads, of which some may have failed, and nothing else
+-- was done. Where no input is open this says nothing of the bytes.
 pub record Reads (old : History) (bytes : List ℕ) (ended : Bool) (new : History) : Type 0 where
   pub inputs : new.inputs ≡ on_last (given bytes ended) old.inputs
   pub outputs : new.outputs ≡ old.outputs
@@ -31,7 +32,7 @@ pub record Reads (old : History) (bytes : List ℕ) (ended : Bool) (new : Histor
   pub write_failures : new.write_failures ≡ old.write_failures
   pub open_failures : new.open_failures ≡ old.open_failures
 
--- the bytes that a source gave before it stopped, and whether it was then at its end
+-- a source gave so many bytes before it stopped; they are told, and whether it was then at its end
 pub record GaveBeforeStop (old : History) (count : ℕ) (new : History) : Type 0 where
   pub bytes : List ℕ
   pub ended : Bool

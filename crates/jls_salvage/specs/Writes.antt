@@ -2,7 +2,8 @@
 use Rattle.std.specs.Prelude.{◌≡◌, ℕ, ◌≤◌, List}
 use Rattle.jls_salvage.specs.History.{History, on_last, output_after}
 
--- the current output took these bytes, and nothing else was done but writes
+-- the current output took these bytes, and nothing else was done but writes, of which some may have failed. Where no
+-- output is open this says nothing of the bytes.
 pub record Writes (old : History) (bytes : List ℕ) (new : History) : Type 0 where
   pub outputs : new.outputs ≡ on_last (output_after bytes) old.outputs
   pub inputs : new.inputs ≡ old.inputs

@@ -9,7 +9,7 @@ use crate::input::InputFault;
 pub enum Cause {
     /// An input can't be opened.
     NotOpened,
-    /// An input is refused.
+    /// An input could not be read to its end, or is no text.
     Input(InputFault),
     /// An input has another shape than the first.
     ShapeDiffers,
@@ -31,7 +31,8 @@ pub struct Refusal<'a> {
 impl Cause {
     ghost use Rattle.jls_salvage.specs.Causes.{status_of};
 
-    /// The exit status: 3 where an input is refused or shapes differ, 4 where a device failed, 5 for want of memory.
+    /// The exit status: 3 where an input is no text or shapes differ, 4 where a device failed or the reads of an input
+    /// were used up, 5 for want of memory.
     pub fn status(self) -> u8
         ensures { result ≡ status_of self }
     {

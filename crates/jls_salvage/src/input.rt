@@ -58,7 +58,7 @@ fn read_all<S: Source>(alloc: Global, source: &mut S) -> Result<Vec<u8>, InputFa
 
 /// The partial picture whose text a source gives, from where it stands to its end. At this stage every input is such
 /// a text: one that begins with another byte than 4A is refused as `Text(Magic(0))`, and an empty one as
-/// `Text(Truncated(0))`.
+/// `Text(Truncated(0))`. Where the source fails, or its last read is made before its end, the input is refused as `Read`.
 pub fn read_input<S: Source>(alloc: Global, source: &mut S) -> Result<Partial, InputFault>
     ensures text { IfOk result (λ p. Reads (S.history source.old) (text p) true (S.history source.new)) }
     ensures partial { IfOk result (λ p. IsPartial p) }

@@ -1,4 +1,5 @@
--- The shape of four values, or why there is none: the first range that they break.
+-- The shape of four values, or why there is none: the first range that they break. The values are those that the
+-- fields of a frame header hold: width and height in two bytes, each identifier in one. So these have no upper bound here.
 use Rattle.std.specs.Prelude.{ℕ, ◌||◌, ◌==◌, nat_lt, List, length, Option, Some, None, Result, Ok, Err, if◌then◌else◌}
 use Rattle.jls_values.specs.declared.shape.ShapeFault.{ShapeFault}
 use Rattle.jls_values.specs.declared.shape.ShapeFault.TheVariants.{Precision, Width, Height, Count, RepeatedId}
