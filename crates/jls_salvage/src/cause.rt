@@ -9,7 +9,7 @@ use crate::input::InputFault;
 pub enum Cause {
     /// An input can't be opened.
     NotOpened,
-    /// An input could not be read to its end, or is no text.
+    /// An input could not be read to its end, is no text, or there was no memory for it.
     Input(InputFault),
     /// An input has another shape than the first.
     ShapeDiffers,
