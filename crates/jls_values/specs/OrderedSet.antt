@@ -1,5 +1,5 @@
--- A finite set of items in a total order: a finite map with nothing at its keys, which are known to rise.
--- Where only equal items tie, two sets that contain the same are equal (`same_set` of OrderedSetLaws): a set has one spelling.
+-- A finite set of items in a total order: a finite map with nothing at its keys, which are known to rise. Where only
+-- equal items tie, two sets that contain the same are equal (`same_set` of OrderedSetLaws), so a set has one spelling.
 use Rattle.std.specs.Prelude.{Bool, List, [], ◌∷◌}
 use Rattle.std.specs.declared.cmp.Ordering.{Ordering}
 use Rattle.std.specs.Coded.{Coded}
