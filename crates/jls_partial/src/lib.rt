@@ -20,6 +20,7 @@ pub use line_set::LineSet;
 pub use partial::Partial;
 pub use status::Status;
 pub use text_fault::TextFault;
+pub use text_reading::texts_are_apart;
 
 #[cfg(test)]
 mod tests;

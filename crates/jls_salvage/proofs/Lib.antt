@@ -1,3 +1,4 @@
+pub mod AgreeingRuns
 pub mod CellMade
 pub mod Counting
 pub mod Histories

@@ -1,4 +1,5 @@
 -- What the contracts of this crate cite.
+pub mod Agreement
 pub mod Causes
 pub mod Counts
 pub mod Event

@@ -1,6 +1,7 @@
 //! Salvages JPEG-LS pictures: the program `jls-salvage` and the stations behind it.
 #![tactic(auto)]
 
+mod agreement;
 mod cause;
 mod command;
 mod counted;

@@ -1,6 +1,6 @@
 -- Coding parameters: the preset values in force for a scan (T.87, C.2.4.1.1), and the numbers that follow
 -- from MAXVAL in lossless coding (T.87, A.2.1, with NEAR 0).
-use Rattle.std.specs.Prelude.{ℕ, zero, suc, ◌+◌, ◌*◌, ◌^◌, ◌≤◌, ◌<◌, min, max, Bool, nat_le, if◌then◌else◌}
+use Rattle.std.specs.Prelude.{ℕ, zero, suc, ◌+◌, ◌*◌, ◌^◌, ◌≤◌, ◌<◌, max, Bool, nat_le, if◌then◌else◌}
 
 -- bits per sample, MAXVAL, the thresholds of the gradients, and RESET
 pub record CodingParameters : Type 0 where
