@@ -174,11 +174,5 @@ impl Partial {
     }
 }
 
-/// A law: each text of a partial picture reads as that picture, and so pictures that have one text are one.
-pub fn texts_are_apart()
-    ensures read { (p : PartialPicture) → IsPartial p → read_text (text p) ≡ Ok p }
-    ensures apart { (p q : PartialPicture) → IsPartial p → IsPartial q → text p ≡ text q → p ≡ q }
-{}
-
 #[cfg(test)]
 mod tests;

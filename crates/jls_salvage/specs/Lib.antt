@@ -1,5 +1,4 @@
 -- What the contracts of this crate cite.
-pub mod Agreement
 pub mod Causes
 pub mod Counts
 pub mod Event
@@ -7,6 +6,7 @@ pub mod Failures
 pub mod History
 pub mod HistoryCode
 pub mod Joining
+pub mod Laws
 pub mod Reads
 pub mod Words
 pub mod Writes

@@ -1,7 +1,6 @@
 //! Salvages JPEG-LS pictures: the program `jls-salvage` and the stations behind it.
 #![tactic(auto)]
 
-mod agreement;
 mod cause;
 mod command;
 mod counted;
@@ -10,6 +9,7 @@ mod history;
 mod host;
 mod input;
 mod joining;
+mod laws;
 mod ledger;
 mod printing;
 mod program;

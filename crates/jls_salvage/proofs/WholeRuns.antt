@@ -1,14 +1,16 @@
--- Two runs whose inputs gave the same texts.
+-- What whole runs of `join` hand out.
 use Rattle.std.proofs.Common.{◌≡◌, ℕ, zero, suc, ◌<◌, true, List, [], ◌∷◌, ◌++◌, length, get_or, map, drop, All, refl, sym, ap, ◌∙◌, subst, arith}
 use Rattle.std.specs.Prelude.{◌↔◌, Contains}
 use Rattle.std.proofs.Math.Seq.{drop-append_seam}
 use Rattle.std.proofs.lemmas.List.Elements.{All-contains}
 use Rattle.jls_values.specs.Join.{join_all, AllOfShape}
+use Rattle.jls_partial.specs.Parts.{IsPartOf, EachLineSurvives, PartsGiveThePicture}
 use Rattle.jls_partial.specs.Partial.{PartialPicture, has_same_shape, union}
+use Rattle.jls_partial.specs.Status.{IsSettled}
 use Rattle.jls_partial.specs.Text.{text, IsPartial}
 use Rattle.jls_salvage.specs.History.{History, Input, Output}
 use Rattle.jls_salvage.specs.Joining.{whole_texts, Takes, TakesJoin, Joins}
-use Rattle.jls_salvage.specs.Agreement.{bytes_given, bytes_handed_out, HaveSameMembers, SameInputsSameOutput}
+use Rattle.jls_salvage.specs.Laws.{bytes_given, bytes_handed_out, HaveSameMembers, SameInputsSameOutput, SurvivingLinesGiveThePicture}
 
 -- what whole inputs gave
 texts_given : (names : List (List ℕ)) (ps : List PartialPicture) → length names ≡ length ps → map (λ (input : Input). input.bytes) (whole_texts names ps) ≡ map text ps
@@ -68,3 +70,30 @@ module _ (apart : (p q : PartialPicture) → IsPartial p → IsPartial q → tex
     runs_agree old new out names joined h old' new' out' names' joined' h' same =
         let e = joins_agree old new old' new' names names' joined joined' h.inputs h'.inputs same in
         (e, handed_text old new out names joined h ∙ (ap (λ (p : PartialPicture). text p ∷ []) e ∙ sym (handed_text old' new' out' names' joined' h')))
+
+  -- pictures that have one list of texts are one list
+  same_pictures : (ps qs : List PartialPicture) → ((p : PartialPicture) → Contains ps p → IsPartial p) → ((q : PartialPicture) → Contains qs q → IsPartial q) → map text ps ≡ map text qs → ps ≡ qs
+  same_pictures [] [] are others e = refl
+  same_pictures [] (q ∷ qs) are others e = absurd cc
+  same_pictures (p ∷ ps) [] are others e = absurd cc
+  same_pictures (p ∷ ps) (q ∷ qs) are others e =
+      let first : p ≡ q = apart p q (are p (0, omega arith, refl)) (others q (0, omega arith, refl)) (cons_first e) in
+      let rest : ps ≡ qs = same_pictures ps qs (λ x c. are x (suc c.0, omega (arith, c.1), c.2)) (λ x c. others x (suc c.0, omega (arith, c.1), c.2)) (cons_rest e) in
+      (λ i. first i ∷ rest i)
+    where
+      cons_first : {x y : List ℕ} {xs ys : List (List ℕ)} → x ∷ xs ≡ y ∷ ys → x ≡ y
+      cons_first e = cc
+
+      cons_rest : {x y : List ℕ} {xs ys : List (List ℕ)} → x ∷ xs ≡ y ∷ ys → xs ≡ ys
+      cons_rest e = cc
+
+  pub picture_written : PartsGiveThePicture → SurvivingLinesGiveThePicture
+  picture_written join old new out names joined h picture is settled parts are_partial are survives given =
+      let t = h.inputs.takes in
+      let ps = h.inputs.first ∷ h.inputs.others in
+      let same : ps ≡ parts =
+      same_pictures ps parts (λ p c. All-contains IsPartial ps p t.are_partial c) (λ p c. All-contains IsPartial parts p are_partial c) (sym (given_texts old new names ps t) ∙ given) in
+      let joined_is : joined ≡ picture =
+      h.inputs.is_join ∙ join picture is.fitting settled h.inputs.first h.inputs.others
+      (subst (λ (qs : List PartialPicture). All (IsPartOf picture) qs) (sym same) are) (subst (λ (qs : List PartialPicture). EachLineSurvives picture.shape qs) (sym same) survives) in
+      (joined_is, handed_text old new out names joined h ∙ ap (λ (p : PartialPicture). text p ∷ []) joined_is)

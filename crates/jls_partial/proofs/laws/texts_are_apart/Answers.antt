@@ -1,5 +1,5 @@
 use Rattle.jls_partial.proofs.TextLaws.{read_again, one_text}
-use Rattle.jls_partial.proofs.text_reading.texts_are_apart.Goals as goal
+use Rattle.jls_partial.proofs.laws.texts_are_apart.Goals as goal
 
 pub returns-clause-read : goal.returns-clause-read
 returns-clause-read c = λ p is. read_again p is
