@@ -11,7 +11,7 @@ pub record CodingParameters : Type 0 where
   pub t3 : ℕ
   pub reset : ℕ
 
--- the ranges of T.87, table C.3, at the precisions of this profile
+-- the ranges of T.87, table C.1, at NEAR 0 and at the precisions of this profile
 pub record AreCodingParameters (p : CodingParameters) : Type 0 where
   pub precision_at_least : 2 ≤ p.precision
   pub precision_at_most : p.precision ≤ 16
@@ -41,6 +41,6 @@ qbpp p = least_from (λ bits. nat_le (range p) (2 ^ bits)) 16 0
 abbrev pub bpp : CodingParameters → ℕ
 bpp p = max 2 (qbpp p)
 
--- LIMIT: the longest Golomb code of a regular sample, in bits
+-- LIMIT: how long the Golomb code of a regular sample may be, in bits
 abbrev pub limit : CodingParameters → ℕ
 limit p = 2 * (bpp p + max 8 (bpp p))
