@@ -2,18 +2,12 @@
 
 mod memory;
 
-use crate::counted::Counted;
-use crate::device::{Sink, Source};
-use crate::history::HistoryCell;
-use crate::input::{InputFault, ReadStop, read_input};
 use crate::program::run;
-use crate::station::Station;
-use jls_partial::Partial;
-use jls_values::MergeFault;
+use jls_device::Counted;
 use memory::{File, GOOD, Manners, MemoryDesk};
 use std::alloc::{AllocError, Global};
 use std::io;
-use std::io::{Read, Write};
+use std::io::Write;
 use std::process::Abort;
 use std::test::Fail;
 
@@ -367,12 +361,6 @@ fn answers_other_words(rt: HostRuntime) -> Result<(), Fail> {
 #[derive(Drop)]
 struct Broken;
 
-impl Read for Broken {
-    fn read(&mut self, _buf: &mut [u8]) -> io::Result<usize> {
-        Err(io::Error::from(io::ErrorKind::Interrupted))
-    }
-}
-
 impl Write for Broken {
     fn write(&mut self, _buf: &[u8]) -> io::Result<usize> {
         Ok(0)
@@ -402,73 +390,5 @@ fn says_where_help_stopped(rt: HostRuntime) -> Result<(), Fail> {
         faults.as_slice(),
         b"jls-salvage: -: write failed after 0 bytes\n".as_slice()
     );
-    Ok(())
-}
-
-#[test]
-fn counts_calls_and_failures(rt: HostRuntime) -> Result<(), Fail> {
-    let mut buffer = [0u8; 4];
-    let mut good = Counted::new(DISPUTED);
-    assert_eq!(rt; good.read_some(&mut buffer), Ok(4));
-    assert_eq!(rt; good.read_some(&mut buffer), Ok(4));
-    assert_eq!(rt; (good.reads(), good.read_failures()), (2, 0));
-    let mut broken = Counted::new(Broken);
-    assert!(rt; broken.read_some(&mut buffer).is_err());
-    assert_eq!(rt; (broken.reads(), broken.read_failures()), (1, 1));
-    assert!(rt; broken.write_some(b"x").is_err());
-    assert_eq!(rt; broken.write_some(b""), Ok(0));
-    assert_eq!(rt; broken.write_failures(), 1);
-    assert_eq!(rt; size_of::<HistoryCell>(), 0);
-    Ok(())
-}
-
-#[test]
-fn reads_one_input(rt: HostRuntime) -> Result<(), Fail> {
-    let alloc = rt.alloc();
-    let partial = match read_input(alloc, &mut Counted::new(DISPUTED)) {
-        Ok(partial) => partial,
-        Err(_) => return Err(Fail::from("refused")),
-    };
-    assert_eq!(rt; partial.to_bytes(alloc)?.as_slice(), DISPUTED);
-    match read_input(alloc, &mut Counted::new(Broken)) {
-        Ok(_) => return Err(Fail::from("read")),
-        Err(fault) => assert_eq!(rt; fault, InputFault::Read(ReadStop::Failed, 0)),
-    }
-    let mut desk = MemoryDesk::new(
-        alloc,
-        &FILES,
-        Manners {
-            reads_fail_at: Some(20),
-            ..GOOD
-        },
-    );
-    assert!(rt; crate::device::Desk::open_input(&mut desk, "T").is_ok());
-    match read_input(alloc, &mut desk) {
-        Ok(_) => return Err(Fail::from("read")),
-        Err(fault) => assert_eq!(rt; fault, InputFault::Read(ReadStop::Failed, 20)),
-    }
-    Ok(())
-}
-
-fn partial_of(alloc: Global, text: &[u8]) -> Result<Partial, Fail> {
-    match Partial::from_bytes(alloc, text) {
-        Ok(partial) => Ok(partial),
-        Err(_) => Err(Fail::from("no text")),
-    }
-}
-
-#[test]
-fn takes_what_fits(rt: HostRuntime) -> Result<(), Fail> {
-    let alloc = rt.alloc();
-    let disputed = partial_of(alloc, DISPUTED)?;
-    let mut station = Station::new(alloc, disputed.shape().to_owned());
-    assert_eq!(rt; station.partial().to_bytes(alloc)?.as_slice(), BARE);
-    assert_eq!(rt; station.take(&disputed), Ok(()));
-    assert_eq!(rt; station.take(&partial_of(alloc, SETTLED)?), Ok(()));
-    assert_eq!(rt;
-        station.take(&partial_of(alloc, OTHER)?),
-        Err(MergeFault::ShapeDiffers)
-    );
-    assert_eq!(rt; station.partial().to_bytes(alloc)?.as_slice(), BOTH);
     Ok(())
 }
