@@ -70,7 +70,8 @@ impl<'a> MemoryDesk<'a> {
     }
 }
 
-fn find<'a>(files: &'a [File<'a>], name: &str) -> Option<&'a [u8]> {
+/// What the file of this name has.
+pub(super) fn find<'a>(files: &'a [File<'a>], name: &str) -> Option<&'a [u8]> {
     for file in files {
         if file.0 == name {
             return Some(file.1);
