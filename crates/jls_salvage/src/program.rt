@@ -5,19 +5,18 @@ ghost use Rattle.std.specs.String.{string_bytes};
 ghost use Rattle.clap.specs.Words.{kind_of};
 ghost use Rattle.jls_partial.specs.Partial.{PartialPicture};
 ghost use Rattle.jls_partial.specs.Status.{IsSettled};
-ghost use Rattle.jls_salvage.specs.Failures.{HasFailed};
-ghost use Rattle.jls_salvage.specs.Joining.{Joins, Refuses};
-ghost use Rattle.jls_salvage.specs.Reads.{KeepsCounts, RoseBy};
+ghost use Rattle.jls_device.specs.Failures.{HasFailed};
+ghost use Rattle.jls_station.specs.Joining.{Joins, Refuses};
+ghost use Rattle.jls_device.specs.Reads.{KeepsCounts, RoseBy};
 ghost use Rattle.jls_salvage.specs.Words.{ReadsAsJoin};
 
-use crate::cause::{Cause, Refusal};
 use crate::command::{join_words, matches};
-use crate::device::{Desk, Sink};
 use crate::joining::join;
 use crate::printing::{print_out_of_memory, print_refusal};
-use crate::writing::write_all;
 use clap::Error;
 use clap::error::ErrorKind;
+use jls_device::{Desk, Sink, write_all};
+use jls_station::{Cause, Refusal};
 use std::alloc::Global;
 
 /// Prints the help that was asked for to the report output, with status 0.
