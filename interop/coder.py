@@ -15,6 +15,7 @@ import tempfile
 from typing import NamedTuple
 
 TOP = os.path.dirname(os.path.dirname(os.path.realpath(__file__)))
+CRATES_FOLDER = os.path.join(TOP, "crates")
 KEPT = os.path.join(TOP, "interop", "out")
 NAME = "interval_coder"
 CRATES = ("jls_values", "jls_bits", "jls_context", "jls_interval")
@@ -259,23 +260,21 @@ def built():
 
 
 def key():
-    """A hash of all that the program is made of."""
+    """A hash of all that the program is made of: its text, and the crates' sources without their tests."""
     made = hashlib.sha256(PROGRAM.encode())
-    for crate in CRATES:
-        for source in SOURCES:
-            for place, folders, files in os.walk(os.path.join(TOP, "crates", crate, source)):
-                folders.sort()
-                for name in sorted(files):
-                    made.update(os.path.join(os.path.relpath(place, TOP), name).encode() + b"\0")
-                    with open(os.path.join(place, name), "rb") as file:
-                        made.update(hashlib.sha256(file.read()).digest())
+    files = (file for crate in CRATES for source in SOURCES for file in glob.iglob(f"{crate}/{source}/**", root_dir=CRATES_FOLDER, recursive=True))
+    for name in sorted(files):
+        path = os.path.join(CRATES_FOLDER, name)
+        if os.path.isfile(path) and "/tests" not in name:
+            with open(path, "rb") as file:
+                made.update(name.encode() + b"\0" + hashlib.sha256(file.read()).digest())
     return made.hexdigest()[:16]
 
 
 def build(folder):
     """The program, built in a copy of the crates with one crate more. What was checked before, in `out`, is copied too."""
     for crate in CRATES:
-        shutil.copytree(os.path.join(TOP, "crates", crate), os.path.join(folder, "crates", crate), symlinks=True)
+        shutil.copytree(os.path.join(CRATES_FOLDER, crate), os.path.join(folder, "crates", crate), symlinks=True)
     with open(os.path.join(TOP, "crates.txt")) as file:
         lines = [line for line in file if line.split(":")[0] in CRATES]
     with open(os.path.join(folder, "crates.txt"), "w") as file:
@@ -286,6 +285,7 @@ def build(folder):
     open(os.path.join(crate, "specs", "Lib.antt"), "w").close()
     with open(os.path.join(crate, "src", "main.rt"), "w") as file:
         file.write(PROGRAM)
-    if subprocess.run(["rt", "run"], cwd=crate, stdin=subprocess.DEVNULL, stdout=sys.stderr).returncode != 0:
-        sys.exit("the coder's program could not be built")
+    done = subprocess.run(["rt", "run"], cwd=crate, stdin=subprocess.DEVNULL, stdout=subprocess.PIPE, stderr=subprocess.STDOUT)
+    if done.returncode != 0:
+        sys.exit(f"{done.stdout.decode()}the coder's program could not be built")
     return os.path.join(crate, "out", NAME)

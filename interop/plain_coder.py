@@ -4,6 +4,7 @@
 what a piece of scan data is: a list of lines, LONG or BROKEN. It looks for lines as a decoder that believes its bits, and
 then judges by `code` alone: a piece reads as lines exactly if its data bits are their code and at most seven bits more.
 """
+import sys
 from dataclasses import dataclass
 
 LONG, BROKEN = "long", "broken"
@@ -373,3 +374,32 @@ def read_run(interval, left):
     so_far += [value] * count
     read_sample(interval, left, *interval.interruption(), interval.params.limit - order - 1)
     interval.run_index[component] = max(0, interval.run_index[component] - 1)
+
+
+# Tables ----------------------------------------------------------------------------------------------
+
+
+def one_bit_changes(piece):
+    """The piece with one bit changed, each in turn, from the most significant bit of the first byte on."""
+    for at in range(8 * len(piece)):
+        changed = bytearray(piece)
+        changed[at // 8] ^= 0x80 >> at % 8
+        yield bytes(changed)
+
+
+def main():
+    """WIDTH ROWS BYTE..: what each one-bit change makes of a piece of 8 bits and one component, and then its prefixes.
+
+    A line of letters: r where it reads, L where it is too long, B where it is broken; and the lines of those that read.
+    """
+    width, rows, piece = int(sys.argv[1]), int(sys.argv[2]), bytes.fromhex("".join(sys.argv[3:]))
+    for pieces in (list(one_bit_changes(piece)), [piece[:n] for n in range(len(piece))]):
+        found = [read(Params(8), width, 1, rows, piece) for piece in pieces]
+        print("".join("r" if isinstance(answer, list) else {LONG: "L", BROKEN: "B"}[answer] for answer in found))
+        for answer in found:
+            if isinstance(answer, list):
+                print(answer)
+
+
+if __name__ == "__main__":
+    main()
