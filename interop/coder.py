@@ -1,7 +1,7 @@
 """The coder of intervals as a program that other programs can ask: `Coder` starts it and hands it requests.
 
 The program is proved and built by `rt run`, once for each state of its sources, in a copy of the crates below the temp
-folder, since the repository itself has no code outside its crates. What is built is kept in `interop/out`, which git ignores.
+folder: the repository has no Rattle outside its crates. What is built is kept in `interop/out`, which git ignores.
 """
 import array
 import glob
@@ -262,8 +262,8 @@ def built():
 def key():
     """A hash of all that the program is made of: its text, and the crates' sources without their tests."""
     made = hashlib.sha256(PROGRAM.encode())
-    files = (file for crate in CRATES for source in SOURCES for file in glob.iglob(f"{crate}/{source}/**", root_dir=CRATES_FOLDER, recursive=True))
-    for name in sorted(files):
+    parts = [f"{crate}/{source}/**" for crate in CRATES for source in SOURCES]
+    for name in sorted(name for part in parts for name in glob.glob(part, root_dir=CRATES_FOLDER, recursive=True)):
         path = os.path.join(CRATES_FOLDER, name)
         if os.path.isfile(path) and "/tests" not in name:
             with open(path, "rb") as file:
