@@ -5,6 +5,7 @@ pub mod Opening
 pub mod ReadingWhole
 pub mod Stopping
 pub mod TakingInputs
+pub mod WholeRuns
 pub mod WordsRead
 pub mod WordsTaken
 pub mod WritingWhole

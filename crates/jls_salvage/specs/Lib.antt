@@ -6,6 +6,7 @@ pub mod Failures
 pub mod History
 pub mod HistoryCode
 pub mod Joining
+pub mod Laws
 pub mod Reads
 pub mod Words
 pub mod Writes

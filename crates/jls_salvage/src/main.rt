@@ -9,6 +9,7 @@ mod history;
 mod host;
 mod input;
 mod joining;
+mod laws;
 mod ledger;
 mod printing;
 mod program;
