@@ -1,4 +1,5 @@
 //! What no clause says: that the calls succeed, and examples worked out by hand from the standard.
 
+mod damaged;
 mod decoding;
 mod encoding;
