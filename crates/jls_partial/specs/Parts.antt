@@ -19,14 +19,14 @@ abbrev pub EachLineSurvives : PictureShape → List PartialPicture → Type 0
 EachLineSurvives shape parts =
     (component : ℕ) → component < length shape.ids → (line : ℕ) → line < shape.height → Survives parts component line
 
--- a join holds what one of its members holds, and nothing else
+-- a join holds what any of its members holds, and nothing else
 abbrev pub JoinsHoldExactly : Type 0
 JoinsHoldExactly =
     (first : PartialPicture) (others : List PartialPicture) (component line : ℕ) (samples : List ℕ)
     → (holds (join_all union first others) component line samples ≡ true)
     ↔ ((member : PartialPicture) × Contains (first ∷ others) member × (holds member component line samples ≡ true))
 
--- where each line of a settled picture survives in some part of it, the parts join to that picture
+-- where each line of a settled picture, whose readings fit it, survives in some part of it, the parts join to that picture
 abbrev pub PartsGiveThePicture : Type 0
 PartsGiveThePicture =
     (picture : PartialPicture) → IsFitting picture → IsSettled picture

@@ -12,7 +12,7 @@ pub fn texts_are_apart()
     ensures apart { (p q : PartialPicture) → IsPartial p → IsPartial q → text p ≡ text q → p ≡ q }
 {}
 
-/// A join holds the readings that one of its members holds, and no others: none is lost, and none is made up.
+/// A join holds the readings that any of its members holds, and no others: none is lost, and none is made up.
 pub fn joins_hold_exactly()
     ensures { JoinsHoldExactly }
 {}

@@ -12,7 +12,7 @@ pub enum MergeFault {
     /// The two have different shapes. Nothing was changed.
     #[error("the shapes differ")]
     ShapeDiffers,
-    /// Some of the other was merged, and nothing was lost: the same merge can be tried again.
+    /// Nothing, a part or all of the other was merged, and nothing was lost: the same merge can be tried again.
     #[error("out of memory")]
     OutOfMemory,
 }
@@ -23,7 +23,7 @@ pub trait Merge {
     /// Whether two have one shape, and so can be joined.
     ghost same_shape: { Self → Self → Bool };
 
-    /// What holds all that two of one shape hold, and nothing else.
+    /// What holds all that either of two of one shape holds, and nothing else.
     ghost join: { Self → Self → Self };
 
     ghost laws: { JoinLaws same_shape join };
