@@ -3,6 +3,7 @@ pub mod Events
 pub mod Cells
 pub mod Runs
 pub mod Code
+pub mod CodeLengths
 pub mod Reading
 pub mod Reads
 pub mod Stepwise

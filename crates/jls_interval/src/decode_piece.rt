@@ -7,6 +7,7 @@ ghost use Rattle.jls_interval.specs.Lines.{AreLines};
 ghost use Rattle.jls_interval.specs.Reads.{Reads};
 ghost use Rattle.jls_interval.specs.PieceFaults.{FaultIs, NoLines};
 
+use crate::code_lengths::CodeLengths;
 use crate::decode_event::read_event;
 use crate::neighbours::line_back;
 use jls_bits::BitReader;
@@ -54,6 +55,7 @@ fn read_lines(
     ensures none { IfOk result (λ o. IfNone o (NoLines params.now width components count reader.old.left)) }
     ensures whole { reader.new.whole ≡ reader.old.whole }
 {
+    let lengths = CodeLengths::of(params);
     let mut cells = Cells::new(params);
     let mut run_indices = [0u8; 4];
     let mut lines: Vec<Vec<u16>> = Vec::new(alloc);
@@ -65,8 +67,8 @@ fn read_lines(
         let line_two_above = line_back(&lines, 2 * components);
         match read_event(
             reader,
-            params,
             &mut cells,
+            lengths,
             run_indices[component],
             line_above,
             line_two_above,

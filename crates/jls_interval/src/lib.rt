@@ -1,6 +1,7 @@
 //! One interval of scan data: the code of its lines, what reads as it, and the laws of both.
 #![tactic(auto)]
 
+mod code_lengths;
 mod decode_event;
 mod decode_piece;
 mod decode_sample;
