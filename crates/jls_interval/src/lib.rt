@@ -20,7 +20,7 @@ pub use encode::{encode_interval, packed_lines_read_back};
 pub use laws::{
     broken_pieces_begin_with_no_code, codes_are_apart, cuts_are_exact, events_are_apart,
     events_have_bits, full_blocks_fit, growth_ends_in_lines, lines_are_parted_once, lines_grow,
-    neighbours_agree, packed_lines_read, pieces_read_once,
+    neighbours_agree, pieces_read_once,
 };
 pub use lines::fits;
 
