@@ -25,7 +25,7 @@ lines_append p (y ∷ ys) x h j = (h.0, lines_append p ys x h.1 j)
 grown_samples : (p : CodingParameters) (w : ℕ) (lines : List (List ℕ)) (line : List ℕ) (earlier : List Event) → AllByRecursion (λ l. Small p l) lines → Small p line → HasSamples p (grown w lines line earlier)
 grown_samples p w lines line earlier h j = elim (cases_Bool (eqb (length line) w)) [ inl e ↦ rw e (lines_append p lines line h j, tt) | inr e ↦ rw e (h, j) ]
 
-a_small : (p : CodingParameters) (w : ℕ) (up : Above) (line : List ℕ) (x : ℕ) → Small p up.line_above → Small p line → (neighbours w up line x).ra ≤ p.maxval
+pub a_small : (p : CodingParameters) (w : ℕ) (up : Above) (line : List ℕ) (x : ℕ) → Small p up.line_above → Small p line → (neighbours w up line x).ra ≤ p.maxval
 a_small p w up line zero h j = small_get up.line_above 0 p.maxval h
 a_small p w up line (suc x) h j = small_get line x p.maxval j
 

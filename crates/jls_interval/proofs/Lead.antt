@@ -28,17 +28,17 @@ split v [] = record { n = 0; rest = []; is = refl; stops = tt }
 split v (x ∷ xs) =
     elim (cases_eq x v) [ inl e ↦ (let r = split v xs in record { n = suc r.n; rest = r.rest; is = (let i = r.is in cc); stops = r.stops }) | inr ne ↦ record { n = 0; rest = x ∷ xs; is = refl; stops = ne } ]
 
-all_of_append : (P : ℕ → Type 0) (xs ys : List ℕ) → AllByRecursion P (xs ++ ys) → AllByRecursion P ys
+pub all_of_append : (P : ℕ → Type 0) (xs ys : List ℕ) → AllByRecursion P (xs ++ ys) → AllByRecursion P ys
 all_of_append P [] ys h = h
 all_of_append P (x ∷ xs) ys h = all_of_append P xs ys h.1
 
 module _ (p : CodingParameters) (w k : ℕ) (up : Above) where
   -- the first event of what is left of a line
-  record First (line whole : List ℕ) : Type 0 where
-    event : Event
-    fits : Fits p w k up line (neighbours w up line (length line)) event
-    rest : List ℕ
-    is : whole ≡ (line ++ added (neighbours w up line (length line)).ra event) ++ rest
+  pub record First (line whole : List ℕ) : Type 0 where
+    pub event : Event
+    pub fits : Fits p w k up line (neighbours w up line (length line)) event
+    pub rest : List ℕ
+    pub is : whole ≡ (line ++ added (neighbours w up line (length line)).ra event) ++ rest
 
   run_first : (line left : List ℕ) → length line < w → length line + length left ≡ w → Small p left
       → is_run_mode (neighbours w up line (length line)) ≡ true → Split (neighbours w up line (length line)).ra left → First line (line ++ left)
@@ -61,7 +61,7 @@ module _ (p : CodingParameters) (w k : ℕ) (up : Above) where
           shape : (a b : List ℕ) (x : ℕ) (c : List ℕ) → (a ++ (b ++ x ∷ [])) ++ c ≡ (a ++ b) ++ x ∷ c
           shape a b x c = append_assoc a (b ++ x ∷ []) c ∙ regroup a b x c
 
-  first : (line left : List ℕ) → length line < w → length line + length left ≡ w → Small p left → First line (line ++ left)
+  pub first : (line left : List ℕ) → length line < w → length line + length left ≡ w → Small p left → First line (line ++ left)
   first line [] l h small = absurd (omega arith)
   first line (x ∷ xs) l h small =
       elim (cases_Bool (is_run_mode (neighbours w up line (length line)))) [ inl r ↦ run_first line (x ∷ xs) l h small r (split (neighbours w up line (length line)).ra (x ∷ xs)) | inr r ↦ record { event = regular (neighbours w up line (length line)) x; fits = (r, refl, small.0); rest = xs; is = sym (append_assoc line (x ∷ []) xs) } ]

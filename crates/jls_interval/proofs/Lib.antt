@@ -23,6 +23,8 @@ pub mod WorkedExamples
 pub mod RunSteps
 pub mod LineLists
 pub mod DecodedEvents
+pub mod LineSteps
+pub mod DecodedLine
 pub mod DecodedLines
 pub mod DecodedPieces
 pub mod PackedLines

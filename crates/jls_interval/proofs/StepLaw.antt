@@ -199,7 +199,7 @@ module _ (p : CodingParameters) (wide : range p ≤ 2 ^ qbpp p) (w k : ℕ) (up 
       let other : interrupting_bits p (run_cell_before p earlier (is_same n')) n' (run_order (blocks (run_index_before earlier k) c').run_index) s' ++ u ≡ interrupting_bits p (run_cell_before p earlier (is_same n)) n (run_order run.run_index) s' ++ u = ap (λ (z : Neighbours). interrupting_bits p (run_cell_before p earlier (is_same z)) z (run_order (blocks (run_index_before earlier k) c').run_index) s' ++ u) nn ∙ ap (λ (z : Blocks). interrupting_bits p (run_cell_before p earlier (is_same n)) n (run_order z.run_index) s' ++ u) run_is in
       (r.0, (interrupting_same p run (run_cell_before p earlier (is_same n)) n (limit p - run_order run.run_index - 1) s s' t u wide (limit_room p (run_order run.run_index) (j_small run.run_index)) bs h.4 j.4 (λ q. h.5 (q ∙ na)) (λ q. j.5 (q ∙ na)) (r.1 ∙ other)).0)
 
-  cases : (e f : Event) (t u : List Bool) → Possible e → Possible f → event_bits p earlier e ++ t ≡ event_bits p earlier f ++ u → e ≡ f
+  pub cases : (e f : Event) (t u : List Bool) → Possible e → Possible f → event_bits p earlier e ++ t ≡ event_bits p earlier f ++ u → e ≡ f
   cases (regular n s) (regular n' s') t u h j e =
       regular_event n n' s s' (h.1 ∙ sym j.1) (regular_case s s' t u h.2 j.2 (subst (λ z. event_bits p earlier (regular z s) ++ t ≡ event_bits p earlier (regular now s') ++ u) h.1 (subst (λ z. event_bits p earlier (regular n s) ++ t ≡ event_bits p earlier (regular z s') ++ u) j.1 e)))
   cases (regular n s) (run_to_end k' c) t u h j e = absurd (true_false (is_run_mode now) j.0 h.0)

@@ -12,6 +12,7 @@ pub mod Growth
 pub mod Laws
 pub mod RunState
 pub mod DecodedEvent
+pub mod DecodedLine
 pub mod PieceFaults
 pub mod Encoding
 pub mod ReadBack

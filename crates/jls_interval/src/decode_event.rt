@@ -77,6 +77,7 @@ fn read_run_event(
     requires value { value ≡ (neighbours width (record { line_above = line_above.now; line_two_above = line_two_above.now }) line.old.items (length line.old.items)).ra }
     ensures read { IfOk result (λ o. IfSome o (λ next. ReadsEvent cells.old.parameters width (record { line_above = line_above.now; line_two_above = line_two_above.now }) line.old.items line.new.items cells.old cells.new run_index next reader.old.left reader.new.left)) }
     ensures refused { IfOk result (λ o. IfNone o (RefusesEvent cells.old.parameters width (record { line_above = line_above.now; line_two_above = line_two_above.now }) line.old.items cells.old run_index reader.old.left)) }
+    ensures columns { IfOk result (λ o. IfSome o (λ _. (length line.old.items < length line.new.items) × (length line.new.items ≤ width))) }
     ensures run_index { IfOk result (λ o. IfSome o (λ next. next ≤ 31)) }
     ensures parameters { cells.new.parameters ≡ cells.old.parameters }
     ensures whole { reader.new.whole ≡ reader.old.whole }
@@ -125,6 +126,7 @@ pub(crate) fn read_event(
     requires columns { length line.old.items < width }
     ensures read { IfOk result (λ o. IfSome o (λ next. ReadsEvent cells.old.parameters width (record { line_above = line_above.now; line_two_above = line_two_above.now }) line.old.items line.new.items cells.old cells.new run_index next reader.old.left reader.new.left)) }
     ensures refused { IfOk result (λ o. IfNone o (RefusesEvent cells.old.parameters width (record { line_above = line_above.now; line_two_above = line_two_above.now }) line.old.items cells.old run_index reader.old.left)) }
+    ensures columns { IfOk result (λ o. IfSome o (λ _. (length line.old.items < length line.new.items) × (length line.new.items ≤ width))) }
     ensures run_index { IfOk result (λ o. IfSome o (λ next. next ≤ 31)) }
     ensures parameters { cells.new.parameters ≡ cells.old.parameters }
     ensures whole { reader.new.whole ≡ reader.old.whole }

@@ -3,6 +3,7 @@
 
 mod code_lengths;
 mod decode_event;
+mod decode_line;
 mod decode_piece;
 mod decode_sample;
 mod encode;
