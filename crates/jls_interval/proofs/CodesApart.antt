@@ -1,19 +1,18 @@
 -- No code of lines begins another's of the same number and width.
-use Rattle.std.proofs.Common.{◌≡◌, ℕ, zero, suc, ◌%◌, ◌<◌, ◌≤◌, Bool, eqb, List, [], ◌∷◌, ◌++◌, length, refl, sym, ap, ◌∙◌, subst, arith, inl, inr, append_assoc}
+use Rattle.std.proofs.Common.{◌≡◌, ℕ, zero, suc, ◌%◌, ◌<◌, ◌≤◌, Bool, eqb, List, [], ◌∷◌, ◌++◌, length, refl, sym, ap, ◌∙◌, subst, arith, inl, inr}
 use Rattle.std.specs.List.{AllByRecursion}
-use Rattle.std.proofs.lemmas.List.{append-nil}
 use Rattle.std.proofs.lemmas.Bool.{cases_Bool}
 use Rattle.jls_values.specs.Params.{AreCodingParameters}
 use Rattle.jls_values.specs.Params.{CodingParameters}
 use Rattle.jls_interval.specs.Events.{Event, Above, neighbours, above, events}
 use Rattle.jls_interval.specs.Code.{event_bits, bits_of_events, code}
 use Rattle.jls_interval.specs.Stepwise.{Leads, bits_of_steps, IsEnd, IsKept}
-use Rattle.jls_interval.specs.Growth.{added, Position, HasSamples, here, IsNext, grown, moved, interval_steps, start, finish}
+use Rattle.jls_interval.specs.Growth.{added, Position, HasSamples, here, grown, moved, interval_steps, start, finish}
 use Rattle.jls_interval.specs.Lines.{AreLines}
-use Rattle.jls_interval.proofs.Tree.{one_code, begins, one_begins}
-use Rattle.jls_interval.proofs.Whole.{added_small, all_append, Small}
-use Rattle.jls_interval.proofs.Lead.{lines_lead}
-use Rattle.jls_interval.proofs.StepLaw.{step_law, small_back, small_get}
+use Rattle.jls_interval.proofs.StepwiseCodes.{one_code}
+use Rattle.jls_interval.proofs.GrownLines.{added_small, all_append, Small}
+use Rattle.jls_interval.proofs.LinesGrow.{lines_grow}
+use Rattle.jls_interval.proofs.EventsApart.{events_apart, small_back, small_get}
 
 pub grown_earlier : (w : ℕ) (lines : List (List ℕ)) (line : List ℕ) (earlier : List Event) → (grown w lines line earlier).earlier ≡ earlier
 grown_earlier w lines line earlier = elim (cases_Bool (eqb (length line) w)) [ inl h ↦ rw h refl | inr h ↦ rw h refl ]
@@ -50,11 +49,11 @@ module _ (p : CodingParameters) (w c n : ℕ) where
   pub finished : (lines : List (List ℕ)) → length lines ≡ n → IsEnd (interval_steps p w c n) (finish w c lines)
   finished lines h e next = let l : length lines < n = next.0 in omega arith
 
-pub code_law : (p : CodingParameters) (w c n : ℕ) → AreCodingParameters p → 0 < w → (xs ys : List (List ℕ)) (s t : List Bool) → AreLines p w n xs → AreLines p w n ys
+pub codes_apart : (p : CodingParameters) (w c n : ℕ) → AreCodingParameters p → 0 < w → (xs ys : List (List ℕ)) (s t : List Bool) → AreLines p w n xs → AreLines p w n ys
     → code p w c xs ++ s ≡ code p w c ys ++ t → (xs ≡ ys) × (s ≡ t)
-code_law p w c n ok some xs ys s t a b e =
-    let free = step_law p w c n ok in
-    let r = one_code (interval_steps p w c n) free (kept p w c n) start (finish w c xs) (finish w c ys) (events w c xs) (events w c ys) s t (tt, tt) (lines_lead p w c n some xs a) (lines_lead p w c n some ys b) (finished p w c n xs a.count_is) (finished p w c n ys b.count_is) (ap (λ z. z ++ s) (sym (code_is p w c n xs)) ∙ e ∙ ap (λ z. z ++ t) (code_is p w c n ys)) in
+codes_apart p w c n ok some xs ys s t a b e =
+    let free = events_apart p w c n ok in
+    let r = one_code (interval_steps p w c n) free (kept p w c n) start (finish w c xs) (finish w c ys) (events w c xs) (events w c ys) s t (tt, tt) (lines_grow p w c n some xs a) (lines_grow p w c n some ys b) (finished p w c n xs a.count_is) (finished p w c n ys b.count_is) (ap (λ z. z ++ s) (sym (code_is p w c n xs)) ∙ e ∙ ap (λ z. z ++ t) (code_is p w c n ys)) in
     (same_lines r.0, r.1)
   where
     -- the events lead to one place
@@ -64,25 +63,4 @@ code_law p w c n ok some xs ys s t a b e =
 
     same_lines : events w c xs ≡ events w c ys → xs ≡ ys
     same_lines h =
-        ap (λ (z : Position). z.lines) (one_place (events w c ys) start (finish w c xs) (finish w c ys) (subst (λ z. Leads (interval_steps p w c n) start z (finish w c xs)) h (lines_lead p w c n some xs a)) (lines_lead p w c n some ys b))
-
--- where no event stands in what follows some first events, a code that goes on has these first events and cuts the next one
-pub cut_law : (p : CodingParameters) (w c n : ℕ) → AreCodingParameters p → 0 < w → (es : List Event) (z : Position) (left : List Bool) → Leads (interval_steps p w c n) start es z
-    → ((e : Event) (rest : List Bool) → IsNext p w c n z e → left ≡ event_bits p z.earlier e ++ rest → ⊥)
-    → (lines : List (List ℕ)) (b : Bool) (more : List Bool) → AreLines p w n lines
-    → (bits_of_steps (interval_steps p w c n) start es ++ left) ++ (b ∷ more) ≡ code p w c lines
-    → (rest : List Event) × (e : Event) × (x : Bool) × (xs : List Bool) × (events w c lines ≡ es ++ e ∷ rest) × IsNext p w c n z e × (event_bits p z.earlier e ≡ left ++ x ∷ xs)
-cut_law p w c n ok some es z left l stuck lines b more are e =
-    let free = step_law p w c n ok in
-    let r = begins (interval_steps p w c n) free (kept p w c n) start z (finish w c lines) es (events w c lines) (left ++ b ∷ more) [] (tt, tt) l (lines_lead p w c n some lines are) (finished p w c n lines are.count_is) (sym (append_assoc (bits_of_steps (interval_steps p w c n) start es) left (b ∷ more)) ∙ e ∙ code_is p w c n lines ∙ sym (append-nil _)) refl in
-    go r.0 r.1 r.2 r.3
-  where
-    nothing_is : (xs : List Bool) (y : Bool) (ys : List Bool) → xs ++ y ∷ ys ≡ [] → ⊥
-    nothing_is [] y ys h = cc
-    nothing_is (x ∷ xs) y ys h = cc
-
-    go : (gs : List Event) → events w c lines ≡ es ++ gs → Leads (interval_steps p w c n) z gs (finish w c lines) → left ++ b ∷ more ≡ bits_of_steps (interval_steps p w c n) z gs
-        → (rest : List Event) × (e : Event) × (x : Bool) × (xs : List Bool) × (events w c lines ≡ es ++ e ∷ rest) × IsNext p w c n z e × (event_bits p z.earlier e ≡ left ++ x ∷ xs)
-    go [] a l h = absurd (nothing_is left b more h)
-    go (e ∷ gs) a l h =
-        elim (one_begins left (b ∷ more) (event_bits p z.earlier e) (bits_of_steps (interval_steps p w c n) (moved w c z e) gs) h) [ inl q ↦ absurd (stuck e q.0 l.0 q.1) | inr q ↦ (gs, e, q.1, q.0, a, l.0, q.2) ]
+        ap (λ (z : Position). z.lines) (one_place (events w c ys) start (finish w c xs) (finish w c ys) (subst (λ z. Leads (interval_steps p w c n) start z (finish w c xs)) h (lines_grow p w c n some xs a)) (lines_grow p w c n some ys b))
