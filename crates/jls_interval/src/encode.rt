@@ -6,8 +6,8 @@ ghost use Rattle.jls_interval.specs.Code.{code};
 ghost use Rattle.jls_interval.specs.Reads.{packed};
 ghost use Rattle.jls_interval.specs.ReadBack.{PackedLinesReadBack};
 
+use crate::code_lengths::CodeLengths;
 use crate::encode_line::write_line;
-use crate::encode_sample::CodeLengths;
 use crate::neighbours::line_back;
 use jls_bits::BitWriter;
 use jls_context::Cells;

@@ -1,20 +1,17 @@
 -- What a decoder that goes event by event keeps, and what follows at its ends.
 use Rattle.std.proofs.Common.{◌≡◌, ℕ, ◌%◌, ◌<◌, ◌≤◌, Bool, List, [], ◌∷◌, ◌++◌, length, sym, ap, ◌∙◌, subst, arith, inl, inr, append_assoc}
 use Rattle.std.specs.List.{AllByRecursion}
-use Rattle.std.proofs.lemmas.List.{append-nil, append_cancel_left}
+use Rattle.std.proofs.lemmas.List.{append-nil}
 use Rattle.std.proofs.lemmas.Bool.{cases_lt}
-use Rattle.jls_values.specs.Params.{AreCodingParameters}
 use Rattle.jls_values.specs.Params.{CodingParameters}
 use Rattle.jls_interval.specs.Events.{Event, above, events, events_after}
 use Rattle.jls_interval.specs.Code.{event_bits, code}
 use Rattle.jls_interval.specs.Lines.{IsLine, AreLines}
-use Rattle.jls_interval.specs.Stepwise.{StepwiseCode, Leads, bits_of_steps, IsEnd, IsPrefixFree}
-use Rattle.jls_interval.specs.Growth.{added, Position, HasSamples, here, IsNext, moved, interval_steps, start, finish}
-use Rattle.jls_interval.proofs.Tree.{regroup}
-use Rattle.jls_interval.proofs.Whole.{ends, some_fits, Small, added_fits, grown_full, grown_part}
-use Rattle.jls_interval.proofs.Lead.{lines_lead}
-use Rattle.jls_interval.proofs.StepLaw.{step_law}
-use Rattle.jls_interval.proofs.CodeLaw.{kept, code_is, finished, grown_earlier}
+use Rattle.jls_interval.specs.Stepwise.{StepwiseCode, Leads, bits_of_steps, IsEnd}
+use Rattle.jls_interval.specs.Growth.{added, Position, HasSamples, here, IsNext, moved, interval_steps, start}
+use Rattle.jls_interval.proofs.StepwiseCodes.{leads_more}
+use Rattle.jls_interval.proofs.GrownLines.{ends, Small, added_fits, grown_full, grown_part}
+use Rattle.jls_interval.proofs.CodesApart.{kept, code_is, grown_earlier}
 
 -- What was read of the given bits: the events so far lead to a position inside a line, and these bits are unread.
 pub record Decoded (p : CodingParameters) (w c n : ℕ) (given : List Bool) (z : Position) (left : List Bool) : Type 0 where
@@ -22,10 +19,6 @@ pub record Decoded (p : CodingParameters) (w c n : ℕ) (given : List Bool) (z :
   pub bits_are : given ≡ bits_of_steps (interval_steps p w c n) start z.earlier ++ left
   pub samples : HasSamples p z
   pub unfinished : length z.line < w
-
-leads_more : (m : StepwiseCode) (s z : m.State) (es : List m.Event) (e : m.Event) → Leads m s es z → m.Next z e → Leads m s (es ++ e ∷ []) (m.after z e)
-leads_more m s z [] e l a = (subst (λ v. m.Next v e) (sym l) a, ap (λ v. m.after v e) l)
-leads_more m s z (f ∷ es) e l a = (l.0, leads_more m (m.after s f) z es e l.1 a)
 
 bits_more : (m : StepwiseCode) (s z : m.State) (es : List m.Event) (e : m.Event) → Leads m s es z → bits_of_steps m s (es ++ e ∷ []) ≡ bits_of_steps m s es ++ m.step_bits z e
 bits_more m s z [] e l = append-nil (m.step_bits s e) ∙ ap (λ v. m.step_bits v e) l
@@ -65,25 +58,3 @@ module _ (p : CodingParameters) (w c n : ℕ) (some : 0 < w) where
       let wide : AllByRecursion (λ l. length l ≡ w) z.lines = subst (λ v. AllByRecursion (λ l. length l ≡ w) v) (sym r.lines_are) (r.wide, r.others_wide) in
       let es : z.earlier ≡ events w c z.lines = r.events_are ∙ ap (λ v. events w c v) (sym r.lines_are) in
       (record { count_is = r.number; each = all_lines z.lines wide d.samples.0 }, d.bits_are ∙ ap (λ v. bits_of_steps m start v ++ left) es ∙ ap (λ v. v ++ left) (sym (code_is p w c n z.lines)))
-
-  -- where no event's bits stand, the given begin with no code
-  refuses : (free : IsPrefixFree (interval_steps p w c n)) (s z y : Position) (es fs : List Event) (left rest : List Bool) → HasSamples p s → Leads (interval_steps p w c n) s es z → Leads (interval_steps p w c n) s fs y → IsEnd (interval_steps p w c n) y
-      → (x : Event) → IsNext p w c n z x → ((e : Event) (more : List Bool) → IsNext p w c n z e → left ≡ event_bits p z.earlier e ++ more → ⊥)
-      → bits_of_steps (interval_steps p w c n) s es ++ left ≡ bits_of_steps (interval_steps p w c n) s fs ++ rest → ⊥
-  refuses free s z y [] [] left rest ok l k end x a stuck e = end x (subst (λ v. IsNext p w c n v x) (sym l ∙ k) a)
-  refuses free s z y [] (f ∷ fs) left rest ok l k end x a stuck e =
-      let m = interval_steps p w c n in stuck f (bits_of_steps m (m.after s f) fs ++ rest) (subst (λ v. IsNext p w c n v f) l k.0) (e ∙ append_assoc (m.step_bits s f) (bits_of_steps m (m.after s f) fs) rest ∙ ap (λ (v : Position). event_bits p v.earlier f ++ (bits_of_steps m (m.after s f) fs ++ rest)) l)
-  refuses free s z y (g ∷ es) [] left rest ok l k end x a stuck e = end g (subst (λ v. IsNext p w c n v g) k l.0)
-  refuses free s z y (g ∷ es) (f ∷ fs) left rest ok l k end x a stuck e =
-      let m = interval_steps p w c n in
-      let flat = regroup (m.step_bits s g) (bits_of_steps m (m.after s g) es) left (m.step_bits s f) (bits_of_steps m (m.after s f) fs) rest e in
-      let h : g ≡ f = free s g f (bits_of_steps m (m.after s g) es ++ left) (bits_of_steps m (m.after s f) fs ++ rest) ok l.0 k.0 flat in
-      let onto : m.step_bits s f ++ (bits_of_steps m (m.after s f) es ++ left) ≡ m.step_bits s f ++ (bits_of_steps m (m.after s f) fs ++ rest) = subst (λ v. m.step_bits s v ++ (bits_of_steps m (m.after s v) es ++ left) ≡ m.step_bits s f ++ (bits_of_steps m (m.after s f) fs ++ rest)) h flat in
-      refuses free (m.after s f) z y es fs left rest (kept p w c n s f ok k.0) (subst (λ v. Leads m (m.after s v) es z) h l.1) k.1 end x a stuck (append_cancel_left (m.step_bits s f) (bits_of_steps m (m.after s f) es ++ left) (bits_of_steps m (m.after s f) fs ++ rest) onto)
-
-  pub decoded_refused : AreCodingParameters p → (given : List Bool) (z : Position) (left : List Bool) → Decoded p w c n given z left → length z.lines < n
-      → ((e : Event) (more : List Bool) → IsNext p w c n z e → left ≡ event_bits p z.earlier e ++ more → ⊥)
-      → (lines : List (List ℕ)) (rest : List Bool) → AreLines p w n lines → given ≡ code p w c lines ++ rest → ⊥
-  decoded_refused ok given z left d h stuck lines rest are e =
-      let x = some_fits p w (length z.lines % c) (above c z.lines) z.line d.unfinished in
-      refuses (step_law p w c n ok) start z (finish w c lines) z.earlier (events w c lines) left rest (tt, tt) d.leads (lines_lead p w c n some lines are) (finished p w c n lines are.count_is) x.0 (h, x.1) stuck (sym d.bits_are ∙ e ∙ ap (λ v. v ++ rest) (code_is p w c n lines))
