@@ -14,7 +14,7 @@ use Rattle.jls_interval.specs.Code.{bits_of_events, code}
 use Rattle.jls_interval.specs.DecodedEvent.{IsLeft}
 use Rattle.jls_interval.specs.DecodedLine.{LineRead, NoLine, ReadsLine, RefusesLine}
 use Rattle.jls_interval.specs.PieceFaults.{NoLines}
-use Rattle.jls_interval.proofs.CodeLaw.{code_law}
+use Rattle.jls_interval.proofs.CodesApart.{codes_apart}
 use Rattle.jls_interval.proofs.EncodedEvents.{bits_append}
 use Rattle.jls_interval.proofs.EncodedLines.{get_same, no_events, code_is, events_line, index_kept}
 
@@ -112,7 +112,7 @@ module _ (p : CodingParameters) (w c : ℕ) (given : List Bool) (lines : List (L
       let count = are.count_is in let s = split_at (IsLine p w) (length lines) ls (omega arith) are.each in let xs = s.0 in let l = s.1 in
       let g = code_begins p w c xs l s.2 in
       let whole : code p w c lines ++ left ≡ code p w c xs ++ (line_code p w c xs l ++ (g.0 ++ rest)) = sym a.bits_are ∙ e ∙ ap (λ z. code p w c z ++ rest) s.3 ∙ ap (λ z. z ++ rest) g.1 ∙ append_assoc (code p w c xs ++ line_code p w c xs l) g.0 rest ∙ append_assoc (code p w c xs) (line_code p w c xs l) (g.0 ++ rest) in
-      let law = code_law p w c (length lines) ok some lines xs left (line_code p w c xs l ++ (g.0 ++ rest)) (record { count_is = refl; each = a.each }) (record { count_is = s.4; each = s.5 }) whole in
+      let law = codes_apart p w c (length lines) ok some lines xs left (line_code p w c xs l ++ (g.0 ++ rest)) (record { count_is = refl; each = a.each }) (record { count_is = s.4; each = s.5 }) whole in
       none l (g.0 ++ rest) s.6 (law.1 ∙ ap (λ (z : List (List ℕ)). line_code p w c z l ++ (g.0 ++ rest)) (sym law.0) ∙ ap (λ z. bits_of_events p earlier (line_events w z (above c lines) l) ++ (g.0 ++ rest)) (sym k_is))
 
 -- the samples of lines are at most MAXVAL

@@ -13,9 +13,9 @@ use Rattle.jls_interval.specs.Cells.{cell_before, run_cell_before}
 use Rattle.jls_interval.specs.Runs.{is_run_of, run_index_before}
 use Rattle.jls_interval.specs.Code.{bits_of_events, code}
 use Rattle.jls_interval.specs.Encoding.{AreCellsAfter, Encoder, IsAfter, Writes, IsBegun, AreWritten}
-use Rattle.jls_interval.proofs.Holds.{index_other}
-use Rattle.jls_interval.proofs.Parting.{past, more, at_regular, at_end, at_stop}
-use Rattle.jls_interval.proofs.Whole.{fuel_same}
+use Rattle.jls_interval.proofs.FoldedEvents.{index_other}
+use Rattle.jls_interval.proofs.Stretches.{past, more, at_regular, at_end, at_stop}
+use Rattle.jls_interval.proofs.GrownLines.{fuel_same}
 use Rattle.jls_interval.proofs.EncodedEvents.{bits_append, bits_none, writes_none, writes_then}
 
 -- The columns of a line ------------------------------------------------------------------

@@ -8,11 +8,11 @@ use Rattle.jls_interval.specs.Events.{Event, Above, neighbours}
 use Rattle.jls_interval.specs.Code.{event_bits, bits_of_events}
 use Rattle.jls_interval.specs.Stepwise.{StepwiseCode, Leads, bits_of_steps, IsPrefixFree, IsKept}
 use Rattle.jls_interval.specs.Growth.{Fits, added}
-use Rattle.jls_interval.proofs.CodeLaw.{a_small}
-use Rattle.jls_interval.proofs.Lead.{First, first, all_of_append}
-use Rattle.jls_interval.proofs.Parting.{past}
-use Rattle.jls_interval.proofs.StepLaw.{cases}
-use Rattle.jls_interval.proofs.Whole.{Small, tail, tail_next, added_fits, added_small, all_append}
+use Rattle.jls_interval.proofs.CodesApart.{a_small}
+use Rattle.jls_interval.proofs.LinesGrow.{First, first, all_of_append}
+use Rattle.jls_interval.proofs.Stretches.{past}
+use Rattle.jls_interval.proofs.EventsApart.{cases}
+use Rattle.jls_interval.proofs.GrownLines.{Small, line_events_from, events_from_next, added_fits, added_small, all_append}
 
 -- the samples so far of a line, and all events so far
 pub record LineSoFar : Type 0 where
@@ -59,15 +59,15 @@ module _ (p : CodingParameters) (w k : ℕ) (up : Above) where
   -- from these samples on the events of a whole line lead to it
   abbrev LeadsTo : List ℕ → List ℕ → List Event → Type 0
   LeadsTo line whole earlier =
-      Leads line_steps (so_far line earlier) (tail p w k up whole (length line)) (so_far whole (earlier ++ tail p w k up whole (length line)))
+      Leads line_steps (so_far line earlier) (line_events_from p w k up whole (length line)) (so_far whole (earlier ++ line_events_from p w k up whole (length line)))
 
   -- an event that can come next, and then what leads on
   leads_on : (line rest whole : List ℕ) (earlier : List Event) (e : Event) → length line < w → Fits p w k up line (near line) e → whole ≡ (line ++ added (near line).ra e) ++ rest → length whole ≡ w
       → LeadsTo (line ++ added (near line).ra e) whole (earlier ++ e ∷ []) → LeadsTo line whole earlier
   leads_on line rest whole earlier e short fits is lw on =
-      let next = so_far (line ++ added (near line).ra e) (earlier ++ e ∷ []) in let later = tail p w k up whole (length (line ++ added (near line).ra e)) in
+      let next = so_far (line ++ added (near line).ra e) (earlier ++ e ∷ []) in let later = line_events_from p w k up whole (length (line ++ added (near line).ra e)) in
       let on' : Leads line_steps next later (so_far whole (earlier ++ e ∷ later)) = subst (λ z. Leads line_steps next later (so_far whole z)) (append_assoc earlier (e ∷ []) later) on in
-      subst (λ z. Leads line_steps (so_far line earlier) z (so_far whole (earlier ++ z))) (sym (tail_next p w k up line rest whole e short is lw fits)) ((short, fits), on')
+      subst (λ z. Leads line_steps (so_far line earlier) z (so_far whole (earlier ++ z))) (sym (events_from_next p w k up line rest whole e short is lw fits)) ((short, fits), on')
 
   -- the first event, where shorter rests of the line are led to
   leads_first : (line left whole : List ℕ) (earlier : List Event) → whole ≡ line ++ left → length whole ≡ w → Small p left → length line < w → First p w k up line (line ++ left)
@@ -98,9 +98,9 @@ module _ (p : CodingParameters) (w k : ℕ) (up : Above) where
       (new ++ r.0, r.1 ∙ append_assoc s.line new r.0)
 
   -- events that lead to a whole line are its events
-  pub events_led : (es : List Event) (s z : LineSoFar) → Leads line_steps s es z → length z.line ≡ w → es ≡ tail p w k up z.line (length s.line)
+  pub events_led : (es : List Event) (s z : LineSoFar) → Leads line_steps s es z → length z.line ≡ w → es ≡ line_events_from p w k up z.line (length s.line)
   events_led [] s z l h =
       let same = ap (λ (v : LineSoFar). length v.line) l in sym (past w k up w z.line (length s.line) (omega arith))
   events_led (e ∷ es) s z l h =
       let next = so_far (s.line ++ added (near s.line).ra e) (s.earlier ++ e ∷ []) in let r = begins_so es next z l.1 in
-      ap (λ y. e ∷ y) (events_led es next z l.1 h) ∙ sym (tail_next p w k up s.line r.0 z.line e l.0.0 r.1 h l.0.1)
+      ap (λ y. e ∷ y) (events_led es next z l.1 h) ∙ sym (events_from_next p w k up s.line r.0 z.line e l.0.0 r.1 h l.0.1)

@@ -5,7 +5,7 @@ use Rattle.jls_context.specs.Variables.{Variables}
 use Rattle.jls_interval.specs.CodeLengths.{AreLengths}
 use Rattle.jls_interval.specs.Events.{Above}
 use Rattle.jls_interval.specs.DecodedEvent.{ReadsEvent, RefusesEvent}
-use Rattle.jls_interval.proofs.DecodedLine.{IsBegun, begun_none, begun_more, begun_whole, begun_refused}
+use Rattle.jls_interval.proofs.DecodedLine.{LineBegun, begun_none, begun_more, begun_whole, begun_refused}
 use Rattle.jls_interval.proofs.decode_line.read_line.Goals as goal
 
 pub events-init : goal.events-init
@@ -13,7 +13,7 @@ events-init c =
     let p = c.args.cells.now.parameters in let up : Above = record { line_above = c.args.line_above.now; line_two_above = c.args.line_two_above.now } in
     let given = c.args.reader.now.left in let empty : c.reserve.new.self.items ≡ [] = c.reserve.ensures.items ∙ c.requires.none in let none = ap length empty in
     record {
-      begun = λ k earlier t. subst (λ z. IsBegun p k c.args.width up z c.args.cells.now c.args.run_index given given earlier) (sym empty) (begun_none p k c.args.width up given earlier c.args.cells.now c.args.run_index t);
+      begun = λ k earlier t. subst (λ z. LineBegun p k c.args.width up z c.args.cells.now c.args.run_index given given earlier) (sym empty) (begun_none p k c.args.width up given earlier c.args.cells.now c.args.run_index t);
       columns = omega arith;
       lengths = c.requires.lengths;
       parameters = refl;

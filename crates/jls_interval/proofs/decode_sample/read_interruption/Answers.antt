@@ -6,7 +6,7 @@ use Rattle.jls_context.specs.declared.interruption.RunCell.{RunCell}
 use Rattle.jls_context.specs.Interruption.{run_k}
 use Rattle.jls_context.specs.Variables.{run_cell_at}
 use Rattle.jls_interval.specs.Cells.{is_same}
-use Rattle.jls_interval.proofs.Samples.{interruption_none, interruption_wrong, interruption_own, interruption_right, NoCode, Code, along}
+use Rattle.jls_interval.proofs.SamplesRead.{interruption_none, interruption_wrong, interruption_own, interruption_right, NoCode, Code, along}
 use Rattle.jls_interval.proofs.decode_sample.read_interruption.Goals as goal
 
 pub returns-in-None-clause-none : goal.returns-in-None-clause-none

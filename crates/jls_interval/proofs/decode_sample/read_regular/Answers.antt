@@ -8,7 +8,7 @@ use Rattle.jls_context.specs.Errors.{prediction_error}
 use Rattle.jls_context.specs.Regular.{regular_k}
 use Rattle.jls_context.specs.Variables.{cell_at}
 use Rattle.jls_interval.specs.Cells.{regular_error}
-use Rattle.jls_interval.proofs.Samples.{regular_none, regular_wrong, regular_right, NoCode, Code, along}
+use Rattle.jls_interval.proofs.SamplesRead.{regular_none, regular_wrong, regular_right, NoCode, Code, along}
 use Rattle.jls_interval.proofs.decode_sample.read_regular.Goals as goal
 
 pub returns-in-None-clause-none : goal.returns-in-None-clause-none

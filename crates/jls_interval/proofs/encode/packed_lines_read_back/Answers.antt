@@ -1,6 +1,6 @@
 use Rattle.jls_interval.specs.Reads.{packed}
 use Rattle.jls_interval.proofs.PackedLines.{packed_reads}
-use Rattle.jls_interval.proofs.PiecesLaw.{reads_once}
+use Rattle.jls_interval.proofs.PiecesReadOnce.{reads_once}
 use Rattle.jls_interval.proofs.encode.packed_lines_read_back.Goals as goal
 
 pub returns : goal.returns

@@ -29,7 +29,7 @@ use Rattle.jls_interval.proofs.Golomb.{golomb_same}
 use Rattle.jls_context.proofs.Samples.{error_range, sample_same}
 use Rattle.jls_context.proofs.Remainders.{modulo_reduced_is, modulo_reduced_near}
 use Rattle.jls_context.proofs.Sizes.{maxval_small, range-le-pow, error_mapped_at_most, interruption_mapped_at_most}
-use Rattle.jls_interval.proofs.Errors.{mapped_same, em_same}
+use Rattle.jls_interval.proofs.MappedErrors.{mapped_same, interruption_mapped_same}
 use Rattle.jls_interval.proofs.Runs.{run_index_before_small, run_apart, run_same}
 
 -- a number up to 2^q has a code where the escape isn't empty
@@ -136,7 +136,7 @@ interrupting_same p run cell near g s s' t u r room x a b na nb e =
     let m' : interruption_mapped same cell v' ≡ mapped_by_sign same turn v' = ap (λ z. 2 * unsigned_abs v' - one_if same - one_if z) (run_map_is same cell v') in
     let l = interruption_mapped_at_most p same cell v (error_range p neg s near.rb) in let l' = interruption_mapped_at_most p same cell v' (error_range p neg s' near.rb) in
     let h = golomb_same (run_k same cell) g (qbpp p) (interruption_mapped same cell v) (interruption_mapped same cell v') t u (has_from (run_k same cell) g (qbpp p) (interruption_mapped same cell v) room (omega arith)) (has_from (run_k same cell) g (qbpp p) (interruption_mapped same cell v') room (omega arith)) e in
-    (sample_same p neg s s' near.rb a b x (em_same same turn v v' (λ i. (no_zero p near x s a na i, no_zero p near x s' b nb i)) (sym m ∙ h.0 ∙ m')), h.1)
+    (sample_same p neg s s' near.rb a b x (interruption_mapped_same same turn v v' (λ i. (no_zero p near x s a na i, no_zero p near x s' b nb i)) (sym m ∙ h.0 ∙ m')), h.1)
 
 -- the line above has small samples
 small_lines : (p : CodingParameters) (lines : List (List ℕ)) (i : ℕ) → AllByRecursion (λ l. AllByRecursion (λ s. s ≤ p.maxval) l) lines → AllByRecursion (λ s. s ≤ p.maxval) (get_or lines i [])
@@ -216,6 +216,6 @@ module _ (p : CodingParameters) (wide : range p ≤ 2 ^ qbpp p) (w k : ℕ) (up 
       let b = broken_case c c' n n' s s' t u h' j' (subst (λ z. event_bits p earlier (interrupted_run z c n s) ++ t ≡ event_bits p earlier (interrupted_run k c' n' s') ++ u) h.1 (subst (λ z. event_bits p earlier (interrupted_run k' c n s) ++ t ≡ event_bits p earlier (interrupted_run z c' n' s') ++ u) j.1 e)) in
       interrupted_event k' k'' c c' n n' s s' (h.1 ∙ sym j.1) b.0 (h.3 ∙ ap (λ z. neighbours w up (line ++ replicate z now.ra) (length line + z)) b.0 ∙ sym j.3) b.1
 
-pub step_law : (p : CodingParameters) (width components count : ℕ) → AreCodingParameters p → IsPrefixFree (interval_steps p width components count)
-step_law p width components count ok s e f t u sound a b eq =
+pub events_apart : (p : CodingParameters) (width components count : ℕ) → AreCodingParameters p → IsPrefixFree (interval_steps p width components count)
+events_apart p width components count ok s e f t u sound a b eq =
     cases p (range-le-pow p (maxval_small p ok)) width (length s.lines % components) (above components s.lines) (small_back p s.lines components sound.0) s.line s.earlier e f t u a.1 b.1 eq

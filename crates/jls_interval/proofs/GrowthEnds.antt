@@ -9,10 +9,10 @@ use Rattle.jls_interval.specs.Events.{Event, events, events_after}
 use Rattle.jls_interval.specs.Code.{event_bits}
 use Rattle.jls_interval.specs.Stepwise.{Leads, bits_of_steps, IsEnd}
 use Rattle.jls_interval.specs.Growth.{Position, added, here, IsNext, moved, interval_steps, start, finish}
-use Rattle.jls_interval.proofs.Whole.{ends, no_more}
-use Rattle.jls_interval.proofs.CodeLaw.{grown_earlier}
-use Rattle.jls_interval.proofs.Decode.{Decoded, decoded_more, all_lines}
-use Rattle.jls_interval.proofs.Cuts.{event_some}
+use Rattle.jls_interval.proofs.GrownLines.{ends, no_more}
+use Rattle.jls_interval.proofs.CodesApart.{grown_earlier}
+use Rattle.jls_interval.proofs.DecodedBits.{Decoded, decoded_more, all_lines}
+use Rattle.jls_interval.proofs.CutEvents.{event_some}
 
 module _ (p : CodingParameters) (w c n : ℕ) (some : 0 < w) where
   -- events that are read one after another

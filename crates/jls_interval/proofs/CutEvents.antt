@@ -4,7 +4,6 @@ use Rattle.std.proofs.lemmas.List.{append-nil}
 use Rattle.std.proofs.lemmas.Bool.{cases_lt, cases_Bool}
 use Rattle.std.proofs.Math.Nat.{suc-mul}
 use Rattle.jls_values.specs.Params.{CodingParameters}
-use Rattle.jls_values.specs.Params.{AreCodingParameters}
 use Rattle.jls_interval.specs.Events.{Event, regular, run_to_end, interrupted_run, above}
 use Rattle.jls_interval.specs.Code.{event_bits, code}
 use Rattle.jls_interval.specs.Lines.{AreLines}
@@ -19,9 +18,9 @@ use Rattle.jls_interval.specs.Growth.{added, Position, here, IsNext, moved, inte
 use Rattle.std.proofs.lemmas.Nat.{pow_pos}
 use Rattle.jls_interval.proofs.Golomb.{golomb_short, golomb_long}
 use Rattle.jls_interval.proofs.Runs.{run_index_before_small}
-use Rattle.jls_interval.proofs.Taken.{end_cases}
-use Rattle.jls_interval.proofs.Whole.{some_fits, added_fits, grown_full, grown_part}
-use Rattle.jls_interval.proofs.Decode.{Decoded, decoded_more, decoded_end, decoded_refused}
+use Rattle.jls_interval.proofs.BlocksTaken.{end_cases}
+use Rattle.jls_interval.proofs.GrownLines.{some_fits, added_fits, grown_full, grown_part}
+use Rattle.jls_interval.proofs.DecodedBits.{Decoded, decoded_more, decoded_end}
 
 module _ (p : CodingParameters) (w c n : ℕ) (some : 0 < w) where
   -- bits that come later
@@ -32,16 +31,6 @@ module _ (p : CodingParameters) (w c n : ℕ) (some : 0 < w) where
     samples = d.samples;
     unfinished = d.unfinished;
   }
-
-  -- no event can begin with these bits
-  abbrev pub Dead : Position → List Bool → Type 0
-  Dead z left = (e : Event) (more rest : List Bool) → IsNext p w c n z e → left ++ more ≡ event_bits p z.earlier e ++ rest → ⊥
-
-  -- then no bits that come later make a code
-  pub decoded_dead : AreCodingParameters p → (given : List Bool) (z : Position) (left : List Bool) → Decoded p w c n given z left → length z.lines < n → Dead z left
-      → (more : List Bool) (lines : List (List ℕ)) (rest : List Bool) → AreLines p w n lines → given ++ more ≡ code p w c lines ++ rest → ⊥
-  decoded_dead ok given z left d few dead more =
-      decoded_refused p w c n some ok (given ++ more) z (left ++ more) (decoded_with given z left more d) few (λ e rest a h. dead e more rest a h)
 
   -- an event that can come next, appended
   next_event : (given : List Bool) (z : Position) (e : Event) → Decoded p w c n given z [] → IsNext p w c n z e → Decoded p w c n (given ++ event_bits p z.earlier e) (moved w c z e) []

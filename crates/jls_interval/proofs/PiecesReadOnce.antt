@@ -3,12 +3,12 @@ use Rattle.std.proofs.Common.{◌≡◌, ℕ, ◌<◌, Bool, List, length, sym, 
 use Rattle.std.proofs.lemmas.Bool.{cases_lt}
 use Rattle.jls_values.specs.Params.{CodingParameters, AreCodingParameters}
 use Rattle.jls_interval.specs.Reads.{BeginsWithCode, Reads, IsLong, IsBroken}
-use Rattle.jls_interval.proofs.CodeLaw.{code_law}
+use Rattle.jls_interval.proofs.CodesApart.{codes_apart}
 
 module _ (p : CodingParameters) (ok : AreCodingParameters p) (w c n : ℕ) (some : 0 < w) (piece : List ℕ) where
   -- what follows the code of lines is determined too
   pub begins_once : (xs ys : List (List ℕ)) (s t : List Bool) → BeginsWithCode p w c n piece xs s → BeginsWithCode p w c n piece ys t → (xs ≡ ys) × (s ≡ t)
-  begins_once xs ys s t a b = code_law p w c n ok some xs ys s t a.are_lines b.are_lines (sym a.data_bits.read ∙ b.data_bits.read)
+  begins_once xs ys s t a b = codes_apart p w c n ok some xs ys s t a.are_lines b.are_lines (sym a.data_bits.read ∙ b.data_bits.read)
 
   pub reads_once : (xs ys : List (List ℕ)) → Reads p w c n piece xs → Reads p w c n piece ys → xs ≡ ys
   reads_once xs ys a b = (begins_once xs ys a.unread b.unread a.begins b.begins).0

@@ -9,7 +9,7 @@ use Rattle.jls_context.specs.Mode.{is_run_mode}
 use Rattle.jls_interval.specs.Events.{Event, regular, run_to_end, interrupted_run, Above, neighbours, above, events_from, run_stop, Stretch, stretch, events_after}
 use Rattle.jls_interval.specs.Stepwise.{StepwiseCode, Leads, IsEnd}
 use Rattle.jls_interval.specs.Growth.{Fits, added, Position, here, IsNext, grown, interval_steps}
-use Rattle.jls_interval.proofs.Parting.{past, more, fits_stretch}
+use Rattle.jls_interval.proofs.Stretches.{past, more, fits_stretch}
 
 module _ (w k : ℕ) (up : Above) where
   pub stretch_moves : (line : List ℕ) (x : ℕ) → x < w → x < (stretch w k up line x).next
@@ -60,40 +60,40 @@ module _ (p : CodingParameters) (w k : ℕ) (up : Above) where
       elim (cases_Bool (is_run_mode (neighbours w up line (length line)))) [ inl r ↦ (run_to_end k (w - length line), (r, refl, omega arith)) | inr r ↦ (regular (neighbours w up line (length line)) 0, (r, refl, omega arith)) ]
 
   -- the events of a line, with enough fuel
-  abbrev pub tail : List ℕ → ℕ → List Event
-  tail line x = events_from w k up line w x
+  abbrev pub line_events_from : List ℕ → ℕ → List Event
+  line_events_from line x = events_from w k up line w x
 
   -- an event that fits is the first of each finished line that begins so
-  pub tail_more : (line rest : List ℕ) (e : Event) → length line < w → length line + length (added (neighbours w up line (length line)).ra e) + length rest ≡ w
+  pub events_from_first : (line rest : List ℕ) (e : Event) → length line < w → length line + length (added (neighbours w up line (length line)).ra e) + length rest ≡ w
       → Fits p w k up line (neighbours w up line (length line)) e
-      → tail (line ++ (added (neighbours w up line (length line)).ra e ++ rest)) (length line) ≡ e ∷ tail (line ++ (added (neighbours w up line (length line)).ra e ++ rest)) (length line + length (added (neighbours w up line (length line)).ra e))
-  tail_more line rest e l h fits =
+      → line_events_from (line ++ (added (neighbours w up line (length line)).ra e ++ rest)) (length line) ≡ e ∷ line_events_from (line ++ (added (neighbours w up line (length line)).ra e ++ rest)) (length line + length (added (neighbours w up line (length line)).ra e))
+  events_from_first line rest e l h fits =
       let whole = line ++ (added (neighbours w up line (length line)).ra e ++ rest) in let x = length line in
       let s = fits_stretch w k up p line rest e h fits in
       fuel_same w k up w (suc w) whole x (omega arith) (omega arith) ∙ more w k up w whole x l ∙ ap (λ (z : Stretch). z.event ∷ events_from w k up whole w z.next) s
 
 module _ (p : CodingParameters) (w k : ℕ) (up : Above) where
   -- the last event of a line
-  pub tail_last : (line : List ℕ) (e : Event) → length line < w → length (line ++ added (neighbours w up line (length line)).ra e) ≡ w
+  pub events_from_last : (line : List ℕ) (e : Event) → length line < w → length (line ++ added (neighbours w up line (length line)).ra e) ≡ w
       → Fits p w k up line (neighbours w up line (length line)) e
-      → tail p w k up (line ++ added (neighbours w up line (length line)).ra e) (length line) ≡ e ∷ []
-  tail_last line e l h fits =
+      → line_events_from p w k up (line ++ added (neighbours w up line (length line)).ra e) (length line) ≡ e ∷ []
+  events_from_last line e l h fits =
       let a = added (neighbours w up line (length line)).ra e in let la = length-append line a in
-      let t = tail_more p w k up line [] e l (omega (arith, la)) fits in
-      let u : tail p w k up (line ++ a) (length line) ≡ e ∷ tail p w k up (line ++ a) (length line + length a) = subst (λ z. tail p w k up (line ++ z) (length line) ≡ e ∷ tail p w k up (line ++ z) (length line + length a)) (append-nil a) t in
+      let t = events_from_first p w k up line [] e l (omega (arith, la)) fits in
+      let u : line_events_from p w k up (line ++ a) (length line) ≡ e ∷ line_events_from p w k up (line ++ a) (length line + length a) = subst (λ z. line_events_from p w k up (line ++ z) (length line) ≡ e ∷ line_events_from p w k up (line ++ z) (length line + length a)) (append-nil a) t in
       u ∙ ap (λ z. e ∷ z) (past w k up w (line ++ a) (length line + length a) (omega (arith, la)))
 
   -- an event that isn't the last one
-  pub tail_next : (line rest whole : List ℕ) (e : Event) → length line < w → whole ≡ (line ++ added (neighbours w up line (length line)).ra e) ++ rest → length whole ≡ w
+  pub events_from_next : (line rest whole : List ℕ) (e : Event) → length line < w → whole ≡ (line ++ added (neighbours w up line (length line)).ra e) ++ rest → length whole ≡ w
       → Fits p w k up line (neighbours w up line (length line)) e
-      → tail p w k up whole (length line) ≡ e ∷ tail p w k up whole (length (line ++ added (neighbours w up line (length line)).ra e))
-  tail_next line rest whole e l b h fits =
+      → line_events_from p w k up whole (length line) ≡ e ∷ line_events_from p w k up whole (length (line ++ added (neighbours w up line (length line)).ra e))
+  events_from_next line rest whole e l b h fits =
       let a = added (neighbours w up line (length line)).ra e in let la = length-append line a in
       let shape : line ++ (a ++ rest) ≡ whole = sym (append_assoc line a rest) ∙ sym b in
       let lw = length-append (line ++ a) rest in let lb = ap length b in
-      let t = tail_more p w k up line rest e l (omega (arith, la, lw, lb)) fits in
-      let u : tail p w k up whole (length line) ≡ e ∷ tail p w k up whole (length line + length a) = subst (λ z. tail p w k up z (length line) ≡ e ∷ tail p w k up z (length line + length a)) shape t in
-      u ∙ ap (λ z. e ∷ tail p w k up whole z) (sym la)
+      let t = events_from_first p w k up line rest e l (omega (arith, la, lw, lb)) fits in
+      let u : line_events_from p w k up whole (length line) ≡ e ∷ line_events_from p w k up whole (length line + length a) = subst (λ z. line_events_from p w k up z (length line) ≡ e ∷ line_events_from p w k up z (length line + length a)) shape t in
+      u ∙ ap (λ z. e ∷ line_events_from p w k up whole z) (sym la)
 
 module _ (p : CodingParameters) (w c n : ℕ) (some : 0 < w) where
   abbrev pub m : StepwiseCode
@@ -110,7 +110,7 @@ module _ (p : CodingParameters) (w c n : ℕ) (some : 0 < w) where
     pub wide : length first ≡ w
     pub others_wide : AllByRecursion (λ l. length l ≡ w) others
     pub number : length z.lines ≡ n
-    pub events_are : es ≡ tail p w (length lines % c) (above c lines) first (length line) ++ events_after w c (lines ++ first ∷ []) others
+    pub events_are : es ≡ line_events_from p w (length lines % c) (above c lines) first (length line) ++ events_after w c (lines ++ first ∷ []) others
 
   pub grown_full : (lines : List (List ℕ)) (line : List ℕ) (earlier : List Event) → length line ≡ w → grown w lines line earlier ≡ record { lines = lines ++ line ∷ []; line = []; earlier = earlier }
   grown_full lines line earlier h = let t : eqb (length line) w ≡ true = eq-eqb (length line) w h in rw t
@@ -133,7 +133,7 @@ module _ (p : CodingParameters) (w c n : ℕ) (some : 0 < w) where
         wide = r.wide;
         others_wide = r.others_wide;
         number = r.number;
-        events_are = ap (λ z. e ∷ z) r.events_are ∙ ap (λ z. z ++ events_after w c (s.lines ++ r.first ∷ []) r.others) (sym (tail_next p w k up s.line r.rest r.first e b r.begins r.wide fits));
+        events_are = ap (λ z. e ∷ z) r.events_are ∙ ap (λ z. z ++ events_after w c (s.lines ++ r.first ∷ []) r.others) (sym (events_from_next p w k up s.line r.rest r.first e b r.begins r.wide fits));
       }
 
   -- the event ends the line, and another line follows
@@ -152,7 +152,7 @@ module _ (p : CodingParameters) (w c n : ℕ) (some : 0 < w) where
         wide = h;
         others_wide = (r.wide, r.others_wide);
         number = r.number;
-        events_are = ap (λ z. e ∷ z) r.events_are ∙ ap (λ z. z ++ events_after w c (s.lines ++ line' ∷ []) (r.first ∷ r.others)) (sym (tail_last p w k up s.line e b h fits));
+        events_are = ap (λ z. e ∷ z) r.events_are ∙ ap (λ z. z ++ events_after w c (s.lines ++ line' ∷ []) (r.first ∷ r.others)) (sym (events_from_last p w k up s.line e b h fits));
       }
 
   pub no_more : (es : List Event) (s z : Position) → n ≤ length s.lines → Leads m s es z → (es ≡ []) × (s ≡ z)
@@ -178,7 +178,7 @@ module _ (p : CodingParameters) (w c n : ℕ) (some : 0 < w) where
         wide = h;
         others_wide = tt;
         number = ap length zl ∙ (let g : length (s.lines ++ line' ∷ []) ≡ n = omega (arith, la) in g);
-        events_are = ap (λ z. e ∷ z) q.0 ∙ ap (λ z. z ++ events_after w c (s.lines ++ line' ∷ []) []) (sym (tail_last p w k up s.line e b h fits));
+        events_are = ap (λ z. e ∷ z) q.0 ∙ ap (λ z. z ++ events_after w c (s.lines ++ line' ∷ []) []) (sym (events_from_last p w k up s.line e b h fits));
       }
 
   pub ends : (es : List Event) (s z : Position) → length s.lines < n → length s.line < w → Leads m s es z → IsEnd m z → Ends s.lines s.line es z

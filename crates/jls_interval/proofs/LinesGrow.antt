@@ -10,8 +10,8 @@ use Rattle.jls_interval.specs.Events.{Event, regular, run_to_end, interrupted_ru
 use Rattle.jls_interval.specs.Lines.{IsLine, AreLines}
 use Rattle.jls_interval.specs.Stepwise.{StepwiseCode, Leads}
 use Rattle.jls_interval.specs.Growth.{Fits, added, Position, IsNext, grown, moved, interval_steps, start, finish}
-use Rattle.jls_interval.proofs.Parting.{regroup}
-use Rattle.jls_interval.proofs.Whole.{tail, Small, tail_last, tail_next, grown_full, grown_part, added_fits, m}
+use Rattle.jls_interval.proofs.Stretches.{regroup}
+use Rattle.jls_interval.proofs.GrownLines.{line_events_from, Small, events_from_last, events_from_next, grown_full, grown_part, added_fits, m}
 
 abbrev Stops : ℕ → List ℕ → Type 0
 Stops v [] = Unit {0}
@@ -72,14 +72,11 @@ leads_append m s z y [] fs p q = subst (λ v. Leads m v fs y) (sym p) q
 leads_append m s z y (e ∷ es) fs p q = (p.0, leads_append m (m.after s e) z y es fs p.1 q)
 
 module _ (p : CodingParameters) (w c n : ℕ) (some : 0 < w) where
-  whole_position : List (List ℕ) → List Event → Position
-  whole_position lines earlier = record { lines = lines; line = []; earlier = earlier }
-
   abbrev at_line : List (List ℕ) → List ℕ → List Event → Position
   at_line lines line earlier = record { lines = lines; line = line; earlier = earlier }
 
   abbrev line_tail : List (List ℕ) → List ℕ → ℕ → List Event
-  line_tail lines whole x = tail p w (length lines % c) (above c lines) whole x
+  line_tail lines whole x = line_events_from p w (length lines % c) (above c lines) whole x
 
   abbrev Goal : List (List ℕ) → List ℕ → List ℕ → List Event → Type 0
   Goal lines line whole earlier =
@@ -100,7 +97,7 @@ module _ (p : CodingParameters) (w c n : ℕ) (some : 0 < w) where
       let is : whole ≡ line' ++ t.rest = e ∙ t.is in
       let af = added_fits p w k up line t.event l t.fits in
       let lt' = length-append line' t.rest in let lis = ap length is in
-      elim (cases_lt (length line') w) [ inl h ↦ (let nx = tail_next p w k up line t.rest whole t.event l is lw t.fits in let small' = all_of_append (λ s. s ≤ p.maxval) (added (neighbours w up line (length line)).ra t.event) t.rest (subst (λ z. Small p z) (same_front line left (added (neighbours w up line (length line)).ra t.event ++ t.rest) (sym e ∙ is ∙ append_assoc line (added (neighbours w up line (length line)).ra t.event) t.rest)) small) in let r = leads_line fuel lines line' t.rest whole (earlier ++ t.event ∷ []) is lw h small' (omega arith) a in let r' = subst (λ v. Leads (interval_steps p w c n) v (line_tail lines whole (length line')) (at_line (lines ++ whole ∷ []) [] ((earlier ++ t.event ∷ []) ++ line_tail lines whole (length line')))) (sym (grown_part p w c n some lines line' (earlier ++ t.event ∷ []) h)) r in finish_step lines line whole earlier t.event (line_tail lines whole (length line')) nx (leads_cons (at_line lines line earlier) (at_line (lines ++ whole ∷ []) [] ((earlier ++ t.event ∷ []) ++ line_tail lines whole (length line'))) t.event (line_tail lines whole (length line')) (a, t.fits) r')) | inr h ↦ (let le = le_antisymm af.1 h in let none = nil_from_length t.rest (omega arith) in let is' : whole ≡ line' = is ∙ ap (λ z. line' ++ z) none ∙ append-nil line' in let la = tail_last p w k up line t.event l le t.fits in let la' : line_tail lines whole (length line) ≡ t.event ∷ [] = ap (λ z. line_tail lines z (length line)) is' ∙ la in let gf = grown_full p w c n some lines line' (earlier ++ t.event ∷ []) le in let gf' : grown w lines line' (earlier ++ t.event ∷ []) ≡ at_line (lines ++ whole ∷ []) [] (earlier ++ t.event ∷ []) = gf ∙ ap (λ z. at_line (lines ++ z ∷ []) [] (earlier ++ t.event ∷ [])) (sym is') in subst (λ z. Leads (interval_steps p w c n) (at_line lines line earlier) z (at_line (lines ++ whole ∷ []) [] (earlier ++ z))) (sym la') (leads_cons (at_line lines line earlier) (at_line (lines ++ whole ∷ []) [] (earlier ++ t.event ∷ [])) t.event [] (a, t.fits) gf')) ]
+      elim (cases_lt (length line') w) [ inl h ↦ (let nx = events_from_next p w k up line t.rest whole t.event l is lw t.fits in let small' = all_of_append (λ s. s ≤ p.maxval) (added (neighbours w up line (length line)).ra t.event) t.rest (subst (λ z. Small p z) (same_front line left (added (neighbours w up line (length line)).ra t.event ++ t.rest) (sym e ∙ is ∙ append_assoc line (added (neighbours w up line (length line)).ra t.event) t.rest)) small) in let r = leads_line fuel lines line' t.rest whole (earlier ++ t.event ∷ []) is lw h small' (omega arith) a in let r' = subst (λ v. Leads (interval_steps p w c n) v (line_tail lines whole (length line')) (at_line (lines ++ whole ∷ []) [] ((earlier ++ t.event ∷ []) ++ line_tail lines whole (length line')))) (sym (grown_part p w c n some lines line' (earlier ++ t.event ∷ []) h)) r in finish_step lines line whole earlier t.event (line_tail lines whole (length line')) nx (leads_cons (at_line lines line earlier) (at_line (lines ++ whole ∷ []) [] ((earlier ++ t.event ∷ []) ++ line_tail lines whole (length line'))) t.event (line_tail lines whole (length line')) (a, t.fits) r')) | inr h ↦ (let le = le_antisymm af.1 h in let none = nil_from_length t.rest (omega arith) in let is' : whole ≡ line' = is ∙ ap (λ z. line' ++ z) none ∙ append-nil line' in let la = events_from_last p w k up line t.event l le t.fits in let la' : line_tail lines whole (length line) ≡ t.event ∷ [] = ap (λ z. line_tail lines z (length line)) is' ∙ la in let gf = grown_full p w c n some lines line' (earlier ++ t.event ∷ []) le in let gf' : grown w lines line' (earlier ++ t.event ∷ []) ≡ at_line (lines ++ whole ∷ []) [] (earlier ++ t.event ∷ []) = gf ∙ ap (λ z. at_line (lines ++ z ∷ []) [] (earlier ++ t.event ∷ [])) (sym is') in subst (λ z. Leads (interval_steps p w c n) (at_line lines line earlier) z (at_line (lines ++ whole ∷ []) [] (earlier ++ z))) (sym la') (leads_cons (at_line lines line earlier) (at_line (lines ++ whole ∷ []) [] (earlier ++ t.event ∷ [])) t.event [] (a, t.fits) gf')) ]
     where
       same_front : (a b c : List ℕ) → a ++ b ≡ a ++ c → b ≡ c
       same_front a b c e = append_cancel_left a b c e
@@ -125,5 +122,5 @@ module _ (p : CodingParameters) (w c n : ℕ) (some : 0 < w) where
       place_same a b x y e f = cc
 
   -- all lines grow from the start, event by event
-  pub lines_lead : (lines : List (List ℕ)) → AreLines p w n lines → Leads (interval_steps p w c n) start (events w c lines) (finish w c lines)
-  lines_lead lines are = let h = are.count_is in leads_lines lines [] [] (omega arith) are.each
+  pub lines_grow : (lines : List (List ℕ)) → AreLines p w n lines → Leads (interval_steps p w c n) start (events w c lines) (finish w c lines)
+  lines_grow lines are = let h = are.count_is in leads_lines lines [] [] (omega arith) are.each

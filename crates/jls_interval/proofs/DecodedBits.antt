@@ -3,18 +3,15 @@ use Rattle.std.proofs.Common.{◌≡◌, ℕ, ◌%◌, ◌<◌, ◌≤◌, Bool,
 use Rattle.std.specs.List.{AllByRecursion}
 use Rattle.std.proofs.lemmas.List.{append-nil}
 use Rattle.std.proofs.lemmas.Bool.{cases_lt}
-use Rattle.jls_values.specs.Params.{AreCodingParameters}
 use Rattle.jls_values.specs.Params.{CodingParameters}
 use Rattle.jls_interval.specs.Events.{Event, above, events, events_after}
 use Rattle.jls_interval.specs.Code.{event_bits, code}
 use Rattle.jls_interval.specs.Lines.{IsLine, AreLines}
 use Rattle.jls_interval.specs.Stepwise.{StepwiseCode, Leads, bits_of_steps, IsEnd}
-use Rattle.jls_interval.specs.Growth.{added, Position, HasSamples, here, IsNext, moved, interval_steps, start, finish}
-use Rattle.jls_interval.proofs.Tree.{leads_more, refused}
-use Rattle.jls_interval.proofs.Whole.{ends, some_fits, Small, added_fits, grown_full, grown_part}
-use Rattle.jls_interval.proofs.Lead.{lines_lead}
-use Rattle.jls_interval.proofs.StepLaw.{step_law}
-use Rattle.jls_interval.proofs.CodeLaw.{kept, code_is, finished, grown_earlier}
+use Rattle.jls_interval.specs.Growth.{added, Position, HasSamples, here, IsNext, moved, interval_steps, start}
+use Rattle.jls_interval.proofs.StepwiseCodes.{leads_more}
+use Rattle.jls_interval.proofs.GrownLines.{ends, Small, added_fits, grown_full, grown_part}
+use Rattle.jls_interval.proofs.CodesApart.{kept, code_is, grown_earlier}
 
 -- What was read of the given bits: the events so far lead to a position inside a line, and these bits are unread.
 pub record Decoded (p : CodingParameters) (w c n : ℕ) (given : List Bool) (z : Position) (left : List Bool) : Type 0 where
@@ -61,10 +58,3 @@ module _ (p : CodingParameters) (w c n : ℕ) (some : 0 < w) where
       let wide : AllByRecursion (λ l. length l ≡ w) z.lines = subst (λ v. AllByRecursion (λ l. length l ≡ w) v) (sym r.lines_are) (r.wide, r.others_wide) in
       let es : z.earlier ≡ events w c z.lines = r.events_are ∙ ap (λ v. events w c v) (sym r.lines_are) in
       (record { count_is = r.number; each = all_lines z.lines wide d.samples.0 }, d.bits_are ∙ ap (λ v. bits_of_steps m start v ++ left) es ∙ ap (λ v. v ++ left) (sym (code_is p w c n z.lines)))
-
-  pub decoded_refused : AreCodingParameters p → (given : List Bool) (z : Position) (left : List Bool) → Decoded p w c n given z left → length z.lines < n
-      → ((e : Event) (more : List Bool) → IsNext p w c n z e → left ≡ event_bits p z.earlier e ++ more → ⊥)
-      → (lines : List (List ℕ)) (rest : List Bool) → AreLines p w n lines → given ≡ code p w c lines ++ rest → ⊥
-  decoded_refused ok given z left d h stuck lines rest are e =
-      let x = some_fits p w (length z.lines % c) (above c z.lines) z.line d.unfinished in
-      refused (interval_steps p w c n) (step_law p w c n ok) (kept p w c n) start z (finish w c lines) z.earlier (events w c lines) left rest (tt, tt) d.leads (lines_lead p w c n some lines are) (finished p w c n lines are.count_is) x.0 (h, x.1) stuck (sym d.bits_are ∙ e ∙ ap (λ v. v ++ rest) (code_is p w c n lines))

@@ -1,11 +1,7 @@
 -- The first number that passes.
-use Rattle.std.proofs.Common.{◌≡◌, ℕ, zero, suc, ◌+◌, ◌-◌, ◌<◌, ◌≤◌, Bool, true, false, refl, ap, ◌∙◌, subst, arith, inl, inr}
+use Rattle.std.proofs.Common.{◌≡◌, ℕ, zero, suc, ◌+◌, ◌<◌, ◌≤◌, Bool, true, false, refl, subst, arith, inl, inr}
 use Rattle.std.proofs.lemmas.Bool.{cases_Bool, cases_eq}
 use Rattle.jls_values.specs.Params.{least_from}
-
-pub least_zero : (passes : ℕ → Bool) (from : ℕ) → least_from passes 0 from ≡ from
-unfolding least_from
-least_zero passes from = refl
 
 pub least_here : (passes : ℕ → Bool) (fuel from : ℕ) → passes from ≡ true → least_from passes fuel from ≡ from
 unfolding least_from
@@ -15,12 +11,6 @@ least_here passes (suc fuel) from h = rw h
 pub least_next : (passes : ℕ → Bool) (fuel from : ℕ) → passes from ≡ false → least_from passes (suc fuel) from ≡ least_from passes fuel (suc from)
 unfolding least_from
 least_next passes fuel from h = rw h
-
--- as a loop counts
-pub least_more : (passes : ℕ → Bool) (top k : ℕ) → k < top → passes k ≡ false → least_from passes (top - k) k ≡ least_from passes (top - (k + 1)) (k + 1)
-least_more passes top k h e =
-    let a : top - k ≡ suc (top - (k + 1)) = omega arith in let b : suc k ≡ k + 1 = omega arith in
-    ap (λ z. least_from passes z k) a ∙ least_next passes (top - (k + 1)) k e ∙ ap (λ z. least_from passes (top - (k + 1)) z) b
 
 -- the number passes if the one after all of them does
 pub least_passes : (passes : ℕ → Bool) (fuel from : ℕ) → passes (from + fuel) ≡ true → passes (least_from passes fuel from) ≡ true

@@ -10,9 +10,9 @@ use Rattle.jls_context.specs.declared.mode.Neighbours.{Neighbours}
 use Rattle.jls_context.specs.Mode.{is_run_mode}
 use Rattle.jls_interval.specs.Lines.{IsLine, sample_at, neighbours_at}
 use Rattle.jls_interval.specs.Events.{Event, regular, run_to_end, interrupted_run, HoldRun, StandsIn, IsParted, AreParted, AreEvents, Above, neighbours, above, run_stop, Stretch, stretch, events_from, line_events, events_after, events}
-use Rattle.jls_interval.proofs.Parting.{to, stretch_same, past, more, at_regular, at_end, at_stop}
-use Rattle.jls_interval.proofs.Whole.{stretch_moves, fuel_same}
-use Rattle.jls_interval.proofs.Places.{sample_is, neighbours_are}
+use Rattle.jls_interval.proofs.Stretches.{to, stretch_same, past, more, at_regular, at_end, at_stop}
+use Rattle.jls_interval.proofs.GrownLines.{stretch_moves, fuel_same}
+use Rattle.jls_interval.proofs.NeighboursAgree.{sample_is, neighbours_are}
 
 -- Line j of the lines, which has the width w
 module _ (w c : ℕ) (lines : List (List ℕ)) (j : ℕ) (some : 0 < c) (within : j < length lines) (wide : length (get_or lines j []) ≡ w) where

@@ -1,5 +1,5 @@
 -- What stands at the front, where a Golomb code does or doesn't.
-use Rattle.std.proofs.Common.{◌≡◌, ℕ, zero, suc, ◌-◌, ◌*◌, ◌^◌, ◌≤◌, Bool, true, ltb, List, ◌++◌, sym, ap, ◌∙◌, subst, arith}
+use Rattle.std.proofs.Common.{◌≡◌, ℕ, ◌-◌, ◌*◌, ◌^◌, ◌≤◌, Bool, true, ltb, List, ◌++◌, sym, ap, ◌∙◌, subst, arith}
 use Rattle.std.specs.Prelude.{ℤ, pos, unsigned_abs}
 use Rattle.jls_values.specs.Params.{CodingParameters}
 use Rattle.jls_context.specs.declared.mode.Neighbours.{Neighbours}
@@ -18,18 +18,11 @@ use Rattle.jls_interval.specs.Code.{interrupting_bits}
 use Rattle.jls_interval.proofs.Golomb.{golomb_same}
 use Rattle.jls_context.proofs.Samples.{error_range, sample_same}
 use Rattle.jls_context.proofs.Sizes.{maxval_small, range-le-pow, error_mapped_at_most, interruption_mapped_at_most}
-use Rattle.jls_interval.proofs.Errors.{em_same}
-use Rattle.jls_interval.proofs.StepLaw.{has_from, limit_room, run_map_is, no_zero}
+use Rattle.jls_interval.proofs.MappedErrors.{interruption_mapped_same}
+use Rattle.jls_interval.proofs.EventsApart.{has_from, limit_room, run_map_is, no_zero}
 
 pub wide : (p : CodingParameters) → AreCodingParameters p → range p ≤ 2 ^ qbpp p
 wide p ok = range-le-pow p (maxval_small p ok)
-
-pub qbpp_some : (p : CodingParameters) → AreCodingParameters p → 1 ≤ qbpp p
-qbpp_some p ok = let w = wide p ok in let r = ok.maxval_at_least in go (qbpp p) w
-  where
-    go : (q : ℕ) → range p ≤ 2 ^ q → 1 ≤ q
-    go zero w = let r = ok.maxval_at_least in absurd (omega arith)
-    go (suc q) w = omega arith
 
 pub regular_has : (p : CodingParameters) → AreCodingParameters p → (cell : Cell) (near : Neighbours) (s : ℕ) → s ≤ p.maxval → has_golomb (regular_k cell) (limit p) (qbpp p) (regular_mapped cell (regular_error p cell near s)) ≡ true
 regular_has p ok cell near s l =
@@ -87,7 +80,7 @@ module _ (p : CodingParameters) (ok : AreCodingParameters p) (cell : RunCell) (n
         let v' = interruption_error p near s' in
         let x : interruption_mapped same cell v ≡ mapped_by_sign same turn v = ap (λ z. 2 * unsigned_abs v - one_if same - one_if z) (run_map_is same cell v) in
         let x' : interruption_mapped same cell v' ≡ mapped_by_sign same turn v' = ap (λ z. 2 * unsigned_abs v' - one_if same - one_if z) (run_map_is same cell v') in
-        let same_error = em_same same turn v' v (λ i. (no_zero p near b_small s' l n i, some i)) (sym x' ∙ number_is s' rest l e ∙ sym map ∙ x) in
+        let same_error = interruption_mapped_same same turn v' v (λ i. (no_zero p near b_small s' l n i, some i)) (sym x' ∙ number_is s' rest l e ∙ sym map ∙ x) in
         n (sample_same p (ltb near.rb near.ra) s' s near.rb l a b_small (same_error ∙ sym err) ∙ own)
 
     pub interruption_right : (s : ℕ) (v : ℤ) → interruption_mapped (is_same near) cell v ≡ m → interruption_error p near s ≡ v → given ≡ interrupting_bits p cell near j s ++ t

@@ -1,6 +1,6 @@
 -- The laws of codes that are read step by step.
 use Rattle.std.proofs.Common.{◌≡◌, Bool, List, [], ◌∷◌, ◌++◌, refl, sym, ap, ◌∙◌, subst, append_assoc, ◌⊎◌, inl, inr}
-use Rattle.std.proofs.lemmas.List.{append_cancel_left, append-nil}
+use Rattle.std.proofs.lemmas.List.{append_cancel_left}
 use Rattle.jls_interval.specs.Stepwise.{StepwiseCode, Leads, bits_of_steps, IsEnd, IsPrefixFree, IsKept}
 
 -- of two fronts of one list, one begins the other
@@ -42,19 +42,6 @@ module _ (m : StepwiseCode) (free : IsPrefixFree m) (kept : IsKept m) where
       let rest : bits_of_steps m (m.after s f) es ++ t ≡ bits_of_steps m (m.after s f) fs ++ u = append_cancel_left (m.step_bits s f) _ _ onto in
       let r : (es ≡ fs) × (t ≡ u) = one_code (m.after s f) z y es fs t u (kept s f ok q.0) (subst (λ k. Leads m (m.after s k) es z) h p.1) q.1 a b rest in
       (cons_same g f es fs h r.0, r.1)
-
-  -- where a whole code begins with the bits of some events, it begins with these events
-  pub begins : (s z y : m.State) (es fs : List m.Event) (t u : List Bool) → m.Sound s → Leads m s es z → Leads m s fs y → IsEnd m y
-      → bits_of_steps m s es ++ t ≡ bits_of_steps m s fs ++ u → (u ≡ []) → (gs : List m.Event) × (fs ≡ es ++ gs) × Leads m z gs y × (t ≡ bits_of_steps m z gs)
-  begins s z y [] fs t u ok p q b e n = (fs, refl, subst (λ v. Leads m v fs y) p q, (e ∙ ap (λ v. bits_of_steps m s fs ++ v) n ∙ append-nil _) ∙ ap (λ v. bits_of_steps m v fs) p)
-  begins s z y (g ∷ es) [] t u ok p q b e n = absurd (b g (subst (λ v. m.Next v g) q p.0))
-  begins s z y (g ∷ es) (f ∷ fs) t u ok p q b e n =
-      let flat : m.step_bits s g ++ (bits_of_steps m (m.after s g) es ++ t) ≡ m.step_bits s f ++ (bits_of_steps m (m.after s f) fs ++ u) = regroup (m.step_bits s g) (bits_of_steps m (m.after s g) es) t (m.step_bits s f) (bits_of_steps m (m.after s f) fs) u e in
-      let h : g ≡ f = free s g f (bits_of_steps m (m.after s g) es ++ t) (bits_of_steps m (m.after s f) fs ++ u) ok p.0 q.0 flat in
-      let onto : m.step_bits s f ++ (bits_of_steps m (m.after s f) es ++ t) ≡ m.step_bits s f ++ (bits_of_steps m (m.after s f) fs ++ u) = subst (λ k. m.step_bits s k ++ (bits_of_steps m (m.after s k) es ++ t) ≡ m.step_bits s f ++ (bits_of_steps m (m.after s f) fs ++ u)) h flat in
-      let rest : bits_of_steps m (m.after s f) es ++ t ≡ bits_of_steps m (m.after s f) fs ++ u = append_cancel_left (m.step_bits s f) _ _ onto in
-      let r = begins (m.after s f) z y es fs t u (kept s f ok q.0) (subst (λ k. Leads m (m.after s k) es z) h p.1) q.1 b rest n in
-      (r.0, cons_same f g fs (es ++ r.0) (sym h) r.1, r.2, r.3)
 
   -- where no event's bits stand behind those of some first events, no whole code does
   pub refused : (s z y : m.State) (es fs : List m.Event) (left rest : List Bool) → m.Sound s → Leads m s es z → Leads m s fs y → IsEnd m y
