@@ -1,4 +1,4 @@
--- A Golomb code that is read bit by bit: which bits a state stands for, and what one more bit makes of them.
+-- A Golomb code (T.87 A.5.3) that is read bit by bit: which bits a state stands for, and what one more bit makes of them.
 use Rattle.std.specs.Prelude.{◌≡◌, ℕ, ◌+◌, ◌-◌, ◌*◌, ◌^◌, ◌≤◌, ◌<◌, Bool, true, false, List, ◌∷◌, ◌++◌, replicate}
 use Rattle.jls_bits.specs.Bits.{bits}
 use Rattle.jls_bits.specs.Golomb.{escape_zeros, golomb, has_golomb}
@@ -13,8 +13,8 @@ bits_told g qbpp (Zeros zeros) = replicate zeros false
 bits_told g qbpp (Remainder quotient count value) = replicate quotient false ++ true ∷ bits count value
 bits_told g qbpp (Escape count value) = replicate (escape_zeros g qbpp) false ++ true ∷ bits count value
 
--- Some code can go on from the state. An escape is open as long as the largest number that its bits can still give has no
--- short code
+-- The bits of the state begin some code and are not all of it. An escape is open as long as the largest number that its bits can
+-- still give has no short code
 abbrev pub IsOpen : ℕ → ℕ → ℕ → CodeState → Type 0
 IsOpen k g qbpp (Zeros zeros) =
     (zeros ≤ escape_zeros g qbpp) × (zeros ≡ escape_zeros g qbpp → escape_zeros g qbpp * 2 ^ k ≤ 2 ^ qbpp)

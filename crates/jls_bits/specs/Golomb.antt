@@ -2,7 +2,7 @@
 use Rattle.std.specs.Prelude.{◌≡◌, ℕ, ◌-◌, ◌/◌, ◌^◌, Bool, true, false, ◌&&◌, nat_lt, nat_le, if◌then◌else◌, List, ◌∷◌, ◌++◌, replicate}
 use Rattle.jls_bits.specs.Bits.{bits}
 
--- so many zeros announce an escape
+-- how many zeros announce an escape
 abbrev pub escape_zeros : ℕ → ℕ → ℕ
 escape_zeros g qbpp = g - qbpp - 1
 

@@ -4,7 +4,7 @@ use Rattle.jls_bits.specs.Bits.{bits, width_after, bits_read}
 use Rattle.jls_bits.specs.Appending.{last_after, AreFilled}
 use Rattle.jls_bits.specs.declared.packing.Packing.{Packing}
 
--- all bits that were appended
+-- all bits that were appended: those of the whole bytes, and those behind them
 unfoldable pub bits_put : Packing → List Bool
 bits_put p = bits_read p.bytes.items ++ bits p.count p.partial
 

@@ -1,4 +1,5 @@
--- The bytes in which an interval's bits are written: filled up with zeros, and never with 0xFF last.
+-- The bytes in which an interval's bits are written (T.87 A.1): filled up with zeros, and never with 0xFF last, which is this
+-- profile's choice.
 use Rattle.std.specs.Prelude.{◌≡◌, ℕ, ◌+◌, ◌<◌, ◌-◌, ◌≤◌, Bool, false, ◌==◌, if◌then◌else◌, List, [], ◌∷◌, ◌++◌, length, replicate}
 use Rattle.std.specs.List.{AllByRecursion}
 use Rattle.jls_bits.specs.Bits.{value_of_bits, width_after, AreDataBits}
@@ -15,8 +16,8 @@ pub record IsPad (given : List Bool) (bytes : List ℕ) : Type 0 where
   pub carries : Carries given bytes
   pub shortest : (others : List ℕ) → Carries given others → length bytes ≤ length others
 
--- the bytes for the last bits, fewer than a byte carries behind `before`: zeros fill the byte up, and no bits need a byte
--- only behind 0xFF
+-- the bytes for the last bits, fewer than a byte carries behind `before`: zeros fill the byte up. Where no bit is left, a byte is
+-- needed behind 0xFF alone
 abbrev pub last_bytes : ℕ → List Bool → List ℕ
 last_bytes before [] = if (before == 0xFF) then 0 ∷ [] else []
 last_bytes before (p ∷ ps) =
@@ -29,6 +30,6 @@ pad_after before pending (b ∷ bs) =
     let full = length pending + 1 == width_after before in let byte = value_of_bits (pending ++ b ∷ []) in
     let rest = pad_after (if full then byte else before) (if full then [] else pending ++ b ∷ []) bs in if full then byte ∷ rest else rest
 
--- the one pad of the bits, computed
+-- the one pad of the bits, computed: the only bytes that `IsPad` holds of
 abbrev pub pad : List Bool → List ℕ
 pad given = pad_after 0 [] given

@@ -6,7 +6,7 @@ use Rattle.jls_context.specs.Variables.{Variables}
 use Rattle.jls_context.specs.declared.regular.Cell.{Cell}
 use Rattle.jls_context.specs.declared.interruption.RunCell.{RunCell}
 
--- A is small enough that k is at most 16
+-- The ranges of a cell: N from 1 to RESET, A so small that k is at most 16, B above -N and at most 0, C from -128 to 127
 pub record IsCell (reset : ℕ) (cell : Cell) : Type 0 where
   pub occurrences_at_least : 1 ≤ cell.occurrences
   pub occurrences_at_most : cell.occurrences ≤ reset
@@ -16,14 +16,14 @@ pub record IsCell (reset : ℕ) (cell : Cell) : Type 0 where
   pub correction_at_least : negsuc 127 ≤ℤ cell.correction
   pub correction_at_most : cell.correction ≤ℤ pos 127
 
--- the same, of a cell of run interruption
+-- the ranges of a cell of run interruption: N, A and Nn
 pub record IsRunCell (reset : ℕ) (cell : RunCell) : Type 0 where
   pub occurrences_at_least : 1 ≤ cell.occurrences
   pub occurrences_at_most : cell.occurrences ≤ reset
   pub magnitudes_at_most : cell.magnitudes ≤ 2 ^ 15 * (cell.occurrences + 1)
   pub negative_errors_at_most : cell.negative_errors ≤ cell.occurrences
 
--- what is true of all of them
+-- the ranges of the parameters and of all cells
 pub record AreVariables (v : Variables) : Type 0 where
   pub ranges : AreCodingParameters v.parameters
   pub maxval_below : v.parameters.maxval < 2 ^ 16

@@ -55,13 +55,14 @@ is_negative p near = let q = quantized_gradients p near in is_first_negative (q.
 abbrev pub weighed : ℤ → ℤ → ℤ → ℤ
 weighed q1 q2 q3 = pos 81 *ℤ q1 +ℤ pos 9 *ℤ q2 +ℤ q3
 
--- the number of the context: the quantized gradients, each with SIGN, weighed. It is not negative (A.3.4)
+-- the number of the context: the quantized gradients, each with SIGN, weighed (A.3.4). The sum is never negative, so that
+-- `unsigned_abs` changes nothing
 unfoldable pub context : CodingParameters → Neighbours → ℕ
 context p near =
     let q = quantized_gradients p near in let negative = is_negative p near in
     unsigned_abs (weighed (with_sign negative q.q1) (with_sign negative q.q2) (with_sign negative q.q3))
 
--- a sample with these neighbours is in regular mode, with this context and SIGN
+-- a sample with these neighbours is in regular mode, with this context (`cell`) and this SIGN
 pub record IsRegularMode (p : CodingParameters) (near : Neighbours) (cell : ℕ) (negative : Bool) : Type 0 where
   pub not_run : is_run_mode near ≡ false
   pub context_is : cell ≡ context p near

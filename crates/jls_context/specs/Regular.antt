@@ -14,11 +14,11 @@ abbrev pub initial_cell : CodingParameters → Cell
 initial_cell p =
     record { magnitudes = initial_magnitudes p; occurrences = 1; bias = pos 0; correction = pos 0 }
 
--- the least k with N * 2^k >= A (A.5.1). A itself is large enough, for N above 0
+-- the least k with N * 2^k >= A (A.5.1). It is at most A, since N is above 0
 unfoldable pub golomb_k : ℕ → ℕ → ℕ
 golomb_k occurrences magnitudes = least_from (λ k. nat_le magnitudes (occurrences * 2 ^ k)) magnitudes 0
 
--- it is the least (A.5.1)
+-- the same, said of a number k (A.5.1)
 pub record IsGolombK (occurrences magnitudes k : ℕ) : Type 0 where
   pub enough : magnitudes ≤ occurrences * 2 ^ k
   pub least : (below : ℕ) → below < k → occurrences * 2 ^ below < magnitudes
@@ -41,7 +41,7 @@ abbrev pub added : Cell → ℤ → Cell
 added cell e =
     record cell { magnitudes = cell.magnitudes + unsigned_abs e; bias = cell.bias +ℤ e }
 
--- A, B and N halved, each to its floor (A.6.1)
+-- A, B and N halved, each to its floor: for B below 0 this is the standard's -((1 - B) >> 1) (A.6.1)
 abbrev pub halved : Cell → Cell
 halved cell =
     record cell { magnitudes = cell.magnitudes / 2; occurrences = cell.occurrences / 2; bias = int_div_euclid cell.bias (pos 2) }
@@ -50,14 +50,15 @@ halved cell =
 abbrev pub counted : Cell → Cell
 counted cell = record cell { occurrences = cell.occurrences + 1 }
 
--- B brought nearer to -N < B <= 0 by N, and at least to its bound (A.6.2)
+-- B brought into -N < B <= 0: N is added to a B of at most -N, and taken from a B above 0; what is still outside becomes the
+-- bound that is nearer (A.6.2)
 abbrev pub computed_bias : ℕ → ℤ → ℤ
 computed_bias n b =
     if int_le b (neg_ℤ (pos n)) then int_max (b +ℤ pos n) (pos 1 -ℤ pos n)
     else if int_lt (pos 0) b then int_min (b -ℤ pos n) (pos 0)
     else b
 
--- C one lower or one higher where B is below or above that range, but from -128 to 127 (A.6.2)
+-- C one lower where B was below that range and one higher where it was above, but kept from -128 to 127 (A.6.2)
 abbrev pub computed_correction : ℕ → ℤ → ℤ → ℤ
 computed_correction n b c =
     if int_le b (neg_ℤ (pos n)) then int_max (c -ℤ pos 1) (negsuc 127)

@@ -13,7 +13,7 @@ pub record Variables : Type 0 where
   pub run_other : RunCell
   pub run_same : RunCell
 
--- the variables at the start of an interval
+-- the variables at the start of an interval: contexts 0 to 364, of which 0 is never used
 abbrev pub initial_variables : CodingParameters → Variables
 initial_variables p =
     record { parameters = p; regular = replicate 365 (initial_cell p); run_other = initial_run_cell p; run_same = initial_run_cell p }

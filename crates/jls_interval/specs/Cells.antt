@@ -30,7 +30,7 @@ abbrev pub regular_error : CodingParameters → Cell → Neighbours → ℕ → 
 regular_error p cell near sample =
     prediction_error p (is_negative p near) sample (regular_prediction p cell near)
 
--- a cell after an event that uses it
+-- a cell after an event that uses it: updated by the error of the event's sample, which rests on the C of the cell itself
 abbrev pub cell_after : CodingParameters → Cell → Event → Cell
 cell_after p cell (regular near sample) = updated p.reset cell (regular_error p cell near sample)
 cell_after p cell (run_to_end component count) = cell
@@ -42,16 +42,16 @@ cell_before p earlier q = fold (cell_after p) (initial_cell p) (filter (uses_cel
 
 -- Run interruption -----------------------------------------------------------------------------------
 
--- whether the RItype of an interrupting sample is 1, and so its cell 366: a and b round that sample itself are equal
+-- whether the RItype of an interrupting sample is 1, and so its cell 366: Ra and Rb of that sample itself are equal
 abbrev pub is_same : Neighbours → Bool
 is_same near = near.ra == near.rb
 
--- The prediction error of an interrupting sample. Its prediction is b, which for RItype 1 is also a; where a is above b, as it
+-- The prediction error of an interrupting sample. Its prediction is Rb, which for RItype 1 is also Ra; where Ra is above Rb, as it
 -- can be for RItype 0 alone, the sign is turned
 abbrev pub interruption_error : CodingParameters → Neighbours → ℕ → ℤ
 interruption_error p near sample = prediction_error p (nat_lt near.rb near.ra) sample near.rb
 
--- whether two tests have one outcome
+-- whether two truth values are the same
 abbrev pub equal : Bool → Bool → Bool
 equal true y = y
 equal false y = not y

@@ -13,7 +13,7 @@ use Rattle.jls_interval.specs.Events.{Event, regular, run_to_end, interrupted_ru
 use Rattle.jls_interval.specs.Cells.{regular_error, cell_before, is_same, interruption_error, run_cell_before}
 use Rattle.jls_interval.specs.Runs.{run_order, Blocks, blocks, run_index_before}
 
--- the bits of a sample in regular mode: the Golomb code, of at most LIMIT bits, of its error_mapped error
+-- the bits of a sample in regular mode: the Golomb code, of at most LIMIT bits, of its mapped error
 abbrev pub regular_bits : CodingParameters → Cell → Neighbours → ℕ → List Bool
 regular_bits p cell near sample =
     golomb (regular_k cell) (limit p) (qbpp p) (regular_mapped cell (regular_error p cell near sample))
@@ -23,14 +23,14 @@ abbrev pub run_to_end_bits : Blocks → List Bool
 run_to_end_bits run =
     replicate run.full_blocks true ++ (if (run.remaining == 0) then [] else true ∷ [])
 
--- the bits of an interrupted run, before those of its last sample: a one for each full block, a zero, and the columns that remain
--- in J bits
+-- the bits of an interrupted run: a one for each full block, a zero, the columns that remain in J bits, and then `rest`, the bits of
+-- the sample that interrupts it
 abbrev pub interrupted_run_bits : Blocks → List Bool → List Bool
 interrupted_run_bits run rest =
     replicate run.full_blocks true ++ false ∷ bits (run_order run.run_index) run.remaining ++ rest
 
--- the bits of the sample that interrupts a run, behind J bits: the Golomb code, of at most LIMIT - J - 1 bits, of EM, which is
--- its error_mapped error
+-- the bits of the sample that interrupts a run: the Golomb code, of at most LIMIT - J - 1 bits, of EM, which is its mapped error. J is
+-- `order`
 abbrev pub interrupting_bits : CodingParameters → RunCell → Neighbours → ℕ → ℕ → List Bool
 interrupting_bits p cell near order sample =
     golomb (run_k (is_same near) cell) (limit p - order - 1) (qbpp p) (interruption_mapped (is_same near) cell (interruption_error p near sample))

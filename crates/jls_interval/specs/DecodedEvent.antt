@@ -33,11 +33,12 @@ abbrev pub NoEvent : CodingParameters → ℕ → ℕ → Above → List ℕ →
 NoEvent p component width up line given earlier =
     (event : Event) (rest : List Bool) → Fits p width component up line (neighbours width up line (length line)) event → given ≡ event_bits p earlier event ++ rest → ⊥
 
--- the same after whatever earlier events, in whichever component
+-- an event was read, after whatever earlier events leave what the decoder keeps, and in whichever component
 abbrev pub ReadsEvent : CodingParameters → ℕ → Above → List ℕ → List ℕ → Variables → Variables → ℕ → ℕ → List Bool → List Bool → Type 0
 ReadsEvent p width up line line' cells cells' run_index run_index' given unread =
     (component : ℕ) (earlier : List Event) → IsLeft p component cells run_index earlier → EventRead p component width up line line' cells' run_index' given unread earlier
 
+-- no event can be read, after whatever earlier events leave what the decoder keeps
 abbrev pub RefusesEvent : CodingParameters → ℕ → Above → List ℕ → Variables → ℕ → List Bool → Type 0
 RefusesEvent p width up line cells run_index given =
     (component : ℕ) (earlier : List Event) → IsLeft p component cells run_index earlier → NoEvent p component width up line given earlier

@@ -74,7 +74,7 @@ AreParted width components lines j zero events = events ≡ []
 AreParted width components lines j (suc more) events =
     (first : List Event) × (later : List Event) × (events ≡ first ++ later) × IsParted width components lines (j % components) (j / components) 0 first × AreParted width components lines (j + 1) more later
 
--- the events of the interval with these lines. For lines as `AreLines` has them there is exactly one list of them
+-- these are the events of the interval with these lines. For lines as `AreLines` has them there is exactly one such list
 abbrev pub AreEvents : ℕ → ℕ → List (List ℕ) → List Event → Type 0
 AreEvents width components lines events = AreParted width components lines 0 (length lines) events
 
@@ -92,7 +92,7 @@ neighbours width up line zero =
 neighbours width up line (suc x) =
     record { ra = get_or line x 0; rb = get_or up.line_above (suc x) 0; rc = get_or up.line_above x 0; rd = if (nat_lt (x + 2) width) then get_or up.line_above (x + 2) 0 else get_or up.line_above (suc x) 0 }
 
--- the first column from x on whose sample isn't v, or the width
+-- the first column from x on whose sample isn't v, or the column after the line
 abbrev pub run_stop : List ℕ → ℕ → ℕ → ℕ
 run_stop line v x = x + prefix_len (λ sample. sample == v) (drop x line)
 

@@ -24,7 +24,8 @@ added v (regular near sample) = sample ∷ []
 added v (run_to_end component count) = replicate count v
 added v (interrupted_run component count near sample) = replicate count v ++ sample ∷ []
 
--- an event can come next in a line of a component, where the next column has the neighbours `near`
+-- an event can come next in a line of a component, where the next column has the neighbours `near`: these are `IsRegular`, `IsRunToEnd`
+-- and `IsInterruptedRun` of a line that is not finished yet
 abbrev pub Fits : CodingParameters → ℕ → ℕ → Above → List ℕ → Neighbours → Event → Type 0
 Fits p width component up line near (regular n sample) =
     (is_run_mode near ≡ false) × (n ≡ near) × (sample ≤ p.maxval)

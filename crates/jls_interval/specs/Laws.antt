@@ -39,7 +39,7 @@ LinesGrow =
     (p : CodingParameters) (width components count : ℕ) → 0 < width → (lines : List (List ℕ)) → AreLines p width count lines
     → Leads (interval_steps p width components count) start (events width components lines) (finish width components lines)
 
--- after the same earlier events, of two events that can come next neither's bits begin the other's
+-- after the same earlier events, of two different events that can come next neither's bits begin the other's
 abbrev pub EventsAreApart : Type 0
 EventsAreApart =
     (p : CodingParameters) (width components count : ℕ) → AreCodingParameters p → IsPrefixFree (interval_steps p width components count)
@@ -50,7 +50,7 @@ EventsHaveBits =
     (p : CodingParameters) (width components count : ℕ) → 0 < width
     → (es : List Event) (z : Position) (e : Event) → Leads (interval_steps p width components count) start es z → IsNext p width components count z e → event_bits p z.earlier e ≡ [] → ⊥
 
--- of the codes of two lists of lines, of one width and number, neither begins the other
+-- of the codes of two different lists of lines, of one width and number, neither begins the other
 abbrev pub CodesAreApart : Type 0
 CodesAreApart =
     (p : CodingParameters) (width components count : ℕ) → AreCodingParameters p → 0 < width
@@ -78,7 +78,7 @@ pub record IsCutCode (p : CodingParameters) (width components count : ℕ) (give
   pub more_missing : List Bool
   pub code_is : given ++ missing ∷ more_missing ≡ code p width components lines
 
--- bits that are those of whole first events, and then a proper prefix of the bits of one event that can come next
+-- bits that are those of whole first events, and then a proper prefix, which may be empty, of the bits of one event that can come next
 pub record IsCutEvent (p : CodingParameters) (width components count : ℕ) (given : List Bool) : Type 0 where
   pub whole : List Event
   pub position : Position

@@ -7,7 +7,8 @@ use Rattle.jls_context.specs.declared.interruption.RunCell.{RunCell}
 use Rattle.jls_interval.specs.Runs.{Blocks, blocks}
 use Rattle.jls_interval.specs.Code.{regular_bits, run_to_end_bits, interrupted_run_bits, interrupting_bits}
 
--- neither a run to the end of w0 columns, nor one that is interrupted before, stands at the front, from RUNindex r0 on
+-- no run stands at the front, neither one of w0 columns to the end of the line nor one that is interrupted before, which begins at
+-- RUNindex r0
 abbrev pub NoRun : ℕ → ℕ → List Bool → Type 0
 NoRun r0 w0 given =
     ((rest : List Bool) → given ≡ run_to_end_bits (blocks r0 w0) ++ rest → ⊥) × ((c : ℕ) (rest : List Bool) → c < w0 → given ≡ interrupted_run_bits (blocks r0 c) rest → ⊥)

@@ -1,4 +1,4 @@
--- A run that is read bit by bit: which bits a state stands for, and what one more bit makes of them.
+-- A run (T.87 A.7.1) that is read bit by bit: which bits a state stands for, and what one more bit makes of them.
 use Rattle.std.specs.Prelude.{◌≡◌, ℕ, ◌^◌, ◌<◌, ◌≤◌, Bool, false, List, [], ◌∷◌, ◌++◌}
 use Rattle.jls_bits.specs.Bits.{bits}
 use Rattle.jls_interval.specs.Runs.{run_order, blocks}
@@ -23,12 +23,14 @@ abbrev pub IsRun : ℕ → Run → Type 0
 IsRun w0 (ToEnd run_index) = run_index ≤ 31
 IsRun w0 (Interrupted count run_index) = (count < w0) × (run_index ≤ 31)
 
--- the numbers of a state
+-- The numbers of a state. Behind the zero of an interrupted run, `count` bits of the columns that remain were read, and `value` is their
+-- number
 abbrev pub IsRunState : ℕ → RunState → Type 0
 IsRunState w0 (Blocks run_index columns) = (run_index ≤ 31) × (0 < columns) × (columns ≤ w0)
 IsRunState w0 (Count run_index columns count value) =
     (run_index ≤ 31) × (0 < columns) × (columns ≤ w0) × (count < run_order run_index) × (count ≤ 14) × (value < 2 ^ count)
 
+-- the numbers of what a step answers
 abbrev pub IsRunStep : ℕ → RunStep → Type 0
 IsRunStep w0 (More state) = IsRunState w0 state
 IsRunStep w0 (Done run) = IsRun w0 run

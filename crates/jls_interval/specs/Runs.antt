@@ -4,7 +4,7 @@ use Rattle.std.specs.List.{filter, fold}
 use Rattle.jls_values.specs.Params.{least_from}
 use Rattle.jls_interval.specs.Events.{Event, regular, run_to_end, interrupted_run}
 
--- J, by RUNindex from 0 to 31: a full block has 2^J columns
+-- J, by RUNindex from 0 to 31 (the table of T.87 A.7.1): a full block has 2^J columns
 abbrev pub run_order : ℕ → ℕ
 run_order run_index =
     get_or (0 ∷ 0 ∷ 0 ∷ 0 ∷ 1 ∷ 1 ∷ 1 ∷ 1 ∷ 2 ∷ 2 ∷ 2 ∷ 2 ∷ 3 ∷ 3 ∷ 3 ∷ 3 ∷ 4 ∷ 4 ∷ 5 ∷ 5 ∷ 6 ∷ 6 ∷ 7 ∷ 7 ∷ 8 ∷ 9 ∷ 10 ∷ 11 ∷ 12 ∷ 13 ∷ 14 ∷ 15 ∷ []) run_index 0
@@ -47,7 +47,7 @@ is_run_of of_component (regular near sample) = false
 is_run_of of_component (run_to_end component count) = component == of_component
 is_run_of of_component (interrupted_run component count near sample) = component == of_component
 
--- RUNindex after a run
+-- RUNindex after a run: risen by its full blocks, and then fallen where it is interrupted
 abbrev pub run_index_after : ℕ → Event → ℕ
 run_index_after run_index (regular near sample) = run_index
 run_index_after run_index (run_to_end component count) = (blocks run_index count).run_index

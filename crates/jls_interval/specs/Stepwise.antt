@@ -26,7 +26,7 @@ bits_of_steps m s (e ∷ es) = m.step_bits s e ++ bits_of_steps m (m.after s e) 
 abbrev pub IsEnd : (m : StepwiseCode) → m.State → Type 0
 IsEnd m s = (e : m.Event) → m.Next s e → ⊥
 
--- of two events that can come next at one state, neither's bits begin the other's
+-- of two different events that can come next at one sound state, neither's bits begin the other's
 abbrev pub IsPrefixFree : StepwiseCode → Type 0
 IsPrefixFree m =
     (s : m.State) (e f : m.Event) (t u : List Bool) → m.Sound s → m.Next s e → m.Next s f → m.step_bits s e ++ t ≡ m.step_bits s f ++ u → e ≡ f

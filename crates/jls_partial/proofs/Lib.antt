@@ -2,6 +2,7 @@ pub mod Entries
 pub mod Growth
 pub mod LineSets
 pub mod PartialRows
+pub mod Parts
 pub mod ReadBack
 pub mod SameReadings
 pub mod TextEntries

@@ -273,6 +273,10 @@ unfolding read_text
 read_again p is =
     rw (text_again (length (text p)) p.shape (entries p) is.shape (entries_are p is)) (ap (λ (q : PartialPicture). Ok q) (partial_again p))
 
+-- partial pictures that have one text are one
+pub one_text : (p q : PartialPicture) → IsPartial p → IsPartial q → text p ≡ text q → p ≡ q
+one_text p q p_is q_is e = ok_is p q (sym (read_again p p_is) ∙ (ap read_text e ∙ read_again q q_is))
+
 pub is_found : (bytes : List ℕ) (r : Result PartialPicture TextFault) → IsBytes bytes → Gives (λ p. p) r (read_text bytes) → IfOk r (λ p. IsPartial p × (bytes ≡ text p))
 is_found bytes (Ok p) fits given = read_takes bytes p fits given
 is_found bytes (Err e) fits given = tt

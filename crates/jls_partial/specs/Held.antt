@@ -29,7 +29,7 @@ pub record IsStore (shape : PictureShape) (entries : List Entry) : Type 0 where
 abbrev pub samples_at : List Entry → Place → List (List ℕ)
 samples_at entries at = unwrap_or (lookup (is_at (place_cmp at)) entries) []
 
--- at one place there is one sample list more, and elsewhere nothing has changed
+-- at one place this sample list is kept too, as the only change there, and elsewhere nothing has changed
 abbrev pub PutsAt : List Entry → Place → List ℕ → List Entry → Type 0
 PutsAt old at samples new = (q : Place) → lookup (is_at (place_cmp q)) new
     ≡ (if is_at (place_cmp at) q then Some (insert_key (slice_cmp nat_cmp) (samples_at old at) samples) else lookup (is_at (place_cmp q)) old)

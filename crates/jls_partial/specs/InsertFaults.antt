@@ -1,4 +1,4 @@
--- Which readings fit a picture's shape, and why the others are not taken.
+-- Which readings fit a picture's shape: those that have no fault. The others are not taken.
 use Rattle.std.specs.Prelude.{◌≡◌, ℕ, ◌^◌, not, ◌==◌, nat_le, List, length, Option, Some, None, Result, Err, IfErr, if◌then◌else◌}
 use Rattle.std.specs.List.{list_any}
 use Rattle.jls_values.specs.Shape.{PictureShape}
@@ -19,7 +19,7 @@ reading_fault shape component line samples =
     else if nat_le shape.height line then Some Line
     else samples_fault shape.precision shape.width samples
 
--- the result is that fault, and without a fault none but want of memory
+-- where there is a fault, the result is that one; where there is none, it is a value or want of memory
 abbrev pub Refuses : {X : Type 0} → Option InsertFault → Result X InsertFault → Type 0
 Refuses (Some fault) result = result ≡ Err fault
 Refuses None result = IfErr result (λ e. e ≡ OutOfMemory)

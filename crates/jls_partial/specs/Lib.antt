@@ -6,6 +6,7 @@ pub mod LineSet
 pub mod LineSetLaws
 pub mod Merging
 pub mod Partial
+pub mod Parts
 pub mod PartialLaws
 pub mod Place
 pub mod Reading

@@ -15,7 +15,7 @@ pub record PictureLines : Type 0 where
   pub width : ℕ
   pub lines : set.OrderedSet (slice_cmp nat_cmp)
 
--- a set of lines is stored as its three parts
+-- the checker's logic stores a set of lines as its three parts
 abbrev pub coded_lines : Coded PictureLines
 coded_lines = code_by (ℕ × (ℕ × set.OrderedSet (slice_cmp nat_cmp))) (coded× coded_ℕ (coded× coded_ℕ (set.code (coded_list coded_ℕ))))
     (λ s. (s.precision, (s.width, s.lines))) (λ p. record { precision = p.0; width = p.1.0; lines = p.1.1 }) (λ _. refl)
@@ -28,15 +28,15 @@ with_line s samples = record { precision = s.precision; width = s.width; lines =
 abbrev pub with_lines : PictureLines → List (List ℕ) → PictureLines
 with_lines s lists = record { precision = s.precision; width = s.width; lines = set.insert_all s.lines lists }
 
--- what either of two holds
+-- what either of two of one precision and width holds
 abbrev pub union_of_lines : PictureLines → PictureLines → PictureLines
 union_of_lines s t = record { precision = s.precision; width = s.width; lines = set.union s.lines t.lines }
 
--- whether the lines of both are of one kind
+-- whether both have one precision and one width, and so can be joined
 abbrev pub has_same_line_shape : PictureLines → PictureLines → Bool
 has_same_line_shape s t = s.precision == t.precision && s.width == t.width
 
--- what the program keeps for it: the lines in ascending order, each of which fits
+-- what the program keeps for it: the lines in ascending order, each once, and each fits the precision and the width
 pub record IsLineSet (precision width : ℕ) (lists : List (List ℕ)) : Type 0 where
   pub precision_at_most : precision ≤ 16
   pub sorted : IsStrictlySortedBy (slice_cmp nat_cmp) lists

@@ -13,12 +13,12 @@ pub record PartialPicture : Type 0 where
   pub shape : PictureShape
   pub readings : set.OrderedSet reading_cmp
 
--- a shape is stored as its four parts
+-- the checker's logic stores a shape as its four parts
 abbrev pub coded_shape : Coded PictureShape
 coded_shape = code_by (ℕ × (ℕ × (ℕ × List ℕ))) (coded× coded_ℕ (coded× coded_ℕ (coded× coded_ℕ (coded_list coded_ℕ))))
     (λ s. (s.precision, (s.width, (s.height, s.ids)))) (λ p. record { precision = p.0; width = p.1.0; height = p.1.1.0; ids = p.1.1.1 }) (λ _. refl)
 
--- a partial picture is stored as its two parts
+-- and a partial picture as its two parts
 abbrev pub coded_partial : Coded PartialPicture
 coded_partial = code_by (PictureShape × set.OrderedSet reading_cmp) (coded× coded_shape (set.code coded_reading))
     (λ p. (p.shape, p.readings)) (λ q. record { shape = q.0; readings = q.1 }) (λ _. refl)
@@ -47,6 +47,6 @@ readings_at p component line = map (λ r. r.samples) (filter (λ r. r.component 
 abbrev pub IsFitting : PartialPicture → Type 0
 IsFitting p = (component line : ℕ) (samples : List ℕ) → holds p component line samples ≡ true → reading_fault p.shape component line samples ≡ None
 
--- the number of readings of a line has eight bytes at most
+-- each line has fewer than 2^64 readings, so that their number fits into eight bytes
 abbrev pub IsCountable : PartialPicture → Type 0
 IsCountable p = (component line : ℕ) → length (readings_at p component line) < 2 ^ 64

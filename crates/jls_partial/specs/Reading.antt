@@ -20,7 +20,7 @@ abbrev pub reading_cmp : Reading → Reading → Ordering
 reading_cmp a b = ordering_then (nat_cmp a.component b.component)
     (ordering_then (nat_cmp a.line b.line) (slice_cmp nat_cmp a.samples b.samples))
 
--- a reading is stored as its parts
+-- the checker's logic stores a reading as its parts
 abbrev pub coded_reading : Coded Reading
 coded_reading = code_by (ℕ × (ℕ × List ℕ)) (coded× coded_ℕ (coded× coded_ℕ (coded_list coded_ℕ)))
     (λ r. (r.component, (r.line, r.samples))) (λ p. reading_of p.0 p.1.0 p.1.1) (λ _. refl)

@@ -1,4 +1,4 @@
--- The status of a line: how much its readings say.
+-- The status of a line: how many readings it has.
 use Rattle.std.specs.Prelude.{◌≡◌, ℕ, ◌<◌, List, [], ◌∷◌, length}
 use Rattle.jls_partial.specs.declared.status.Status.{Status}
 use Rattle.jls_partial.specs.declared.status.Status.TheVariants.{Missing, Settled, Disputed}

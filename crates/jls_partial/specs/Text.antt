@@ -33,11 +33,11 @@ samples_text samples = flat_map (to_be_bytes w16) samples
 abbrev pub entry_text : Entry → List ℕ
 entry_text e = e.0.component ∷ to_be_bytes w16 e.0.line ++ to_be_bytes w64 (length e.1) ++ flat_map samples_text e.1
 
--- all but the entries
+-- all that stands before the number of entries
 abbrev pub head_text : PictureShape → List ℕ
 head_text shape = magic ++ shape_text shape
 
--- the text of a shape and entries
+-- the text of a shape and entries, with the number of these between
 abbrev pub text_of : PictureShape → List Entry → List ℕ
 text_of shape es = head_text shape ++ to_be_bytes w32 (length es) ++ flat_map entry_text es
 

@@ -1,6 +1,6 @@
 -- Reading a text from the front, with the first fault that is met and its offset.
--- Each reader answers a value and the bytes after it. `size` is the length of the whole text, so that the offset of
--- what is next is the size less the length of what is left.
+-- Each reader answers a value and the bytes after it, or a fault; the magic has no value. `size` is the length of the
+-- whole text, so that the offset of what is next is the size less the length of what is left.
 use Rattle.std.specs.Prelude.{◌≡◌, ℕ, zero, suc, ◌-◌, ◌^◌, Bool, true, ◌&&◌, ◌==◌, nat_lt, nat_le, List, [], ◌∷◌, length, take, drop, Option, Some, None, Result, Ok, Err, if◌then◌else◌}
 use Rattle.std.specs.Int.{Width, w16, w32, w64, byte_len, from_be_bytes}
 use Rattle.std.specs.Ordering.{nat_cmp, is_lt}
@@ -21,11 +21,12 @@ abbrev pub ◌>>=◌ : {A B : Type 0} → Result A TextFault → (A → Result B
 (Ok x) >>= f = f x
 (Err e) >>= f = Err e
 
--- What a function returned, seen by view, is what reading gives, unless memory ran out.
+-- Reading gives this fault. Want of memory says nothing of what reading gives.
 abbrev pub Fails : {Y : Type 0} → TextFault → Result Y TextFault → Type 0
 Fails fault.OutOfMemory read = Unit {0}
 Fails f read = read ≡ Err f
 
+-- What a function returned, seen by view, is what reading gives, unless memory ran out.
 abbrev pub Gives : {X Y : Type 0} → (X → Y) → Result X TextFault → Result Y TextFault → Type 0
 Gives view (Ok x) read = read ≡ Ok (view x)
 Gives view (Err e) read = Fails e read
@@ -34,12 +35,14 @@ Gives view (Err e) read = Fails e read
 abbrev pub offset : ℕ → List ℕ → ℕ
 offset size rest = size - length rest
 
--- ---- fields
+-- ---- fields: each is Truncated where fewer bytes are left than it has
 
+-- one byte
 unfoldable pub byte_field : ℕ → List ℕ → Result (ℕ × List ℕ) TextFault
 byte_field size [] = Err (fault.Truncated size)
 byte_field size (b ∷ rest) = Ok (b, rest)
 
+-- n bytes
 unfoldable pub bytes_field : ℕ → ℕ → List ℕ → Result (List ℕ × List ℕ) TextFault
 bytes_field size n bytes = if nat_lt (length bytes) n then Err (fault.Truncated size) else Ok (take n bytes, drop n bytes)
 
@@ -49,7 +52,7 @@ number_field size w bytes =
     if nat_lt (length bytes) (byte_len w) then Err (fault.Truncated size)
     else Ok (from_be_bytes w (take (byte_len w) bytes), drop (byte_len w) bytes)
 
--- the bytes of the magic, each a field of its own
+-- the bytes of the magic, each a field of its own, and the fault is at the first that differs; what follows them
 unfoldable pub magic_field : ℕ → List ℕ → List ℕ → Result (List ℕ) TextFault
 magic_field size [] bytes = Ok bytes
 magic_field size (wanted ∷ others) bytes = do
@@ -62,16 +65,17 @@ magic_field size (wanted ∷ others) bytes = do
 abbrev pub shape_offset : ℕ
 shape_offset = length magic
 
--- no fault, or the fault at the first field of the shape
+-- the value, or where there is a fault BadShape at the first field of the shape
 abbrev pub unless_bad_shape : {A E : Type 0} → Option E → A → Result A TextFault
 unless_bad_shape None x = Ok x
 unless_bad_shape (Some e) x = Err (fault.BadShape shape_offset)
 
--- the shape that the fields make, or the fault at the first of them
+-- the shape that the fields make, or where they make none BadShape at the first of them
 abbrev pub shape_or_fault : {E : Type 0} → Result PictureShape E → Result PictureShape TextFault
 shape_or_fault (Ok shape) = Ok shape
 shape_or_fault (Err e) = Err (fault.BadShape shape_offset)
 
+-- the shape, which is judged after the number of components and again after the identifiers
 unfoldable pub shape_fields : ℕ → List ℕ → Result (PictureShape × List ℕ) TextFault
 shape_fields size bytes = do
   precision ← byte_field size bytes
@@ -85,7 +89,7 @@ shape_fields size bytes = do
 
 -- ---- readings
 
--- a sample below the limit
+-- a sample, which has to be below the limit
 unfoldable pub sample_field : ℕ → ℕ → List ℕ → Result (ℕ × List ℕ) TextFault
 sample_field size limit bytes = do
   sample ← number_field size w16 bytes
@@ -104,7 +108,7 @@ abbrev pub is_above : Option (List ℕ) → List ℕ → Bool
 is_above None samples = true
 is_above (Some before) samples = is_lt (slice_cmp nat_cmp before samples)
 
--- one reading, which is above the one before
+-- one reading, which has to be above the one before
 unfoldable pub reading_fields : ℕ → PictureShape → Option (List ℕ) → List ℕ → Result (List ℕ × List ℕ) TextFault
 reading_fields size shape before bytes = do
   samples ← samples_fields size (2 ^ shape.precision) shape.width bytes
@@ -140,6 +144,7 @@ count_field size bytes = do
   count ← number_field size w64 bytes
   if count.0 == 0 then Err (fault.Count (offset size bytes)) else Ok count
 
+-- a place, and as many readings as the count says
 unfoldable pub entry_fields : ℕ → PictureShape → Option Place → List ℕ → Result (Entry × List ℕ) TextFault
 entry_fields size shape before bytes = do
   place ← place_fields size shape before bytes
@@ -161,6 +166,7 @@ entries_fields size shape before (suc n) bytes = do
 abbrev pub partial_of : PictureShape → List Entry → PartialPicture
 partial_of shape es = record { shape = shape; readings = set.from_list (readings_of_entries es) }
 
+-- the shape, the entries, and the bytes after the last of these
 unfoldable pub text_fields : ℕ → List ℕ → Result (PictureShape × List Entry × List ℕ) TextFault
 text_fields size bytes = do
   shape_bytes ← magic_field size magic bytes
@@ -169,7 +175,7 @@ text_fields size bytes = do
   entries ← entries_fields size shape.0 None count.0 count.1
   Ok (shape.0, entries.0, entries.1)
 
--- the partial whose text the bytes are, or the first fault
+-- the partial picture whose text the bytes are, or the first fault; after the last entry nothing may stand
 unfoldable pub read_text : List ℕ → Result PartialPicture TextFault
 read_text bytes = do
   fields ← text_fields (length bytes) bytes

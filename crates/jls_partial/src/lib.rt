@@ -3,6 +3,7 @@
 
 mod equality;
 mod insert_fault;
+mod laws;
 mod line_set;
 mod merging;
 mod partial;
@@ -16,6 +17,7 @@ mod text_reading;
 mod writing;
 
 pub use insert_fault::InsertFault;
+pub use laws::{joins_hold_exactly, parts_give_the_picture, texts_are_apart};
 pub use line_set::LineSet;
 pub use partial::Partial;
 pub use status::Status;

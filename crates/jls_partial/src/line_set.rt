@@ -55,7 +55,7 @@ impl LineSet {
     }
 
     /// Takes one line. True where it is new. The refusals are `Width`, `Sample` and `OutOfMemory`, in
-    /// this order, and change nothing; a line that is held already takes no memory.
+    /// this order, and change nothing; a line that is held already needs no memory.
     pub fn add(&mut self, samples: &[u16]) -> Result<bool, InsertFault>
         ensures refused { Refuses (samples_fault self.old.precision self.old.width samples.now) result }
         ensures unchanged { OnErr result (self.new ≡ self.old) }

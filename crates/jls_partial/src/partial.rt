@@ -134,7 +134,7 @@ impl Partial {
 
     /// Takes one reading of a line: `samples` from left to right, in the component of index `component`.
     /// True where it is new. The refusals come in the order of `InsertFault`, and change nothing; a
-    /// reading that is held already takes no memory.
+    /// reading that is held already needs no memory.
     pub fn insert(&mut self, component: u8, line: u16, samples: &[u16]) -> Result<bool, InsertFault>
         ensures refused { Refuses (reading_fault self.old.shape component line samples.now) result }
         ensures unchanged { OnErr result (self.new ≡ self.old) }

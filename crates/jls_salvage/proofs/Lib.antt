@@ -1,10 +1,2 @@
-pub mod CellMade
-pub mod Counting
-pub mod Histories
-pub mod Opening
-pub mod ReadingWhole
-pub mod Stopping
-pub mod TakingInputs
 pub mod WordsRead
 pub mod WordsTaken
-pub mod WritingWhole

@@ -1,49 +1,16 @@
 //! The command `join`.
 
-ghost use Rattle.std.specs.Prelude.{◌≡◌, ◌≢◌, ◌≤◌, ◌↔◌, IfOk, IfErr, IsTrue, map, ◌∷◌};
+ghost use Rattle.std.specs.Prelude.{◌≡◌, ◌≢◌, ◌≤◌, ◌↔◌, map, ◌∷◌};
+ghost use Rattle.jls_device.specs.Failures.{HasFailed};
+ghost use Rattle.jls_device.specs.Reads.{KeepsCounts};
 ghost use Rattle.jls_partial.specs.Partial.{PartialPicture};
 ghost use Rattle.jls_partial.specs.Status.{IsSettled};
-ghost use Rattle.jls_salvage.specs.Causes.{StopsFor};
-ghost use Rattle.jls_salvage.specs.Failures.{HasFailed};
-ghost use Rattle.jls_salvage.specs.Joining.{Joins, Refuses};
-ghost use Rattle.jls_salvage.specs.Reads.{KeepsCounts};
+ghost use Rattle.jls_station.specs.Joining.{Joins, Refuses};
 
-use crate::cause::{Cause, Refusal};
-use crate::device::{Desk, Sink};
 use crate::printing::print_refusal;
-use crate::taking::take_inputs;
-use crate::writing::write_output;
+use jls_device::{Desk, Sink};
+use jls_station::join_inputs;
 use std::alloc::Global;
-
-/// Joins the inputs of these names and writes their join to the output. The answer says whether each line is settled.
-/// The output is created once all inputs are taken and the text is made.
-fn join_inputs<'a, D: Desk>(
-    alloc: Global,
-    desk: &mut D,
-    out: &'a str,
-    first: &'a str,
-    others: &[&'a str],
-) -> Result<bool, Refusal<'a>>
-    ensures joined { IfOk result (λ settled. (joined : PartialPicture)
-        × Joins (D.history desk.old) out.now (first.now ∷ map (λ f. f.now) others.now) joined (D.history desk.new)
-        × (IsTrue settled ↔ IsSettled joined)) }
-    ensures counts { KeepsCounts (D.history desk.old) (D.history desk.new) }
-    ensures stopped { IfErr result (λ r. StopsFor r.cause (D.history desk.old) (first.now ∷ map (λ f. f.now) others.now) (D.history desk.new)) }
-{
-    let station = take_inputs(alloc, desk, first, others)?;
-    let joined = station.partial();
-    let text = match joined.to_bytes(alloc) {
-        Ok(text) => text,
-        Err(_) => {
-            let cause = Cause::OutOfMemory;
-            return Err(Refusal { name: out, cause });
-        }
-    };
-    match write_output(desk, out, &text) {
-        Ok(()) => Ok(joined.is_settled()),
-        Err(cause) => Err(Refusal { name: out, cause }),
-    }
-}
 
 /// The command `join`, with the exit status as its answer: 0 where each line of the join is settled, else 1; a refusal
 /// is printed, and has the status of its cause.

@@ -1,25 +1,14 @@
-//! Salvages JPEG-LS pictures: the program `jls-salvage` and the stations behind it.
+//! Salvages JPEG-LS pictures: the program `jls-salvage`.
 #![tactic(auto)]
 
-mod cause;
 mod command;
-mod counted;
-mod device;
-mod history;
-mod host;
-mod input;
 mod joining;
-mod ledger;
 mod printing;
 mod program;
-mod station;
-mod taking;
 #[cfg(test)]
 mod tests;
-mod writing;
 
-use counted::Counted;
-use host::HostDesk;
+use jls_device::{Counted, HostDesk};
 use std::process::ExitCode;
 
 /// Hands the program its words, a desk over files and standard streams, standard output as its report and standard

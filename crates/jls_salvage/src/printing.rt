@@ -1,11 +1,9 @@
 //! The lines on the fault output. A write that fails there is ignored: there is nowhere left to say so.
 
-use crate::cause::{Cause, Refusal};
-use crate::device::Sink;
-use crate::input::InputFault;
-use crate::writing::write_all;
 use itoa::Buffer;
+use jls_device::{Sink, write_all};
 use jls_partial::TextFault;
+use jls_station::{Cause, InputFault, Refusal};
 
 /// Prints why the program stopped, as one line.
 pub fn print_refusal<E: Sink>(faults: &mut E, refusal: &Refusal<'_>) {

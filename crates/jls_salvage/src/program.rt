@@ -5,19 +5,18 @@ ghost use Rattle.std.specs.String.{string_bytes};
 ghost use Rattle.clap.specs.Words.{kind_of};
 ghost use Rattle.jls_partial.specs.Partial.{PartialPicture};
 ghost use Rattle.jls_partial.specs.Status.{IsSettled};
-ghost use Rattle.jls_salvage.specs.Failures.{HasFailed};
-ghost use Rattle.jls_salvage.specs.Joining.{Joins, Refuses};
-ghost use Rattle.jls_salvage.specs.Reads.{KeepsCounts, RoseBy};
+ghost use Rattle.jls_device.specs.Failures.{HasFailed};
+ghost use Rattle.jls_station.specs.Joining.{Joins, Refuses};
+ghost use Rattle.jls_device.specs.Reads.{KeepsCounts, RoseBy};
 ghost use Rattle.jls_salvage.specs.Words.{ReadsAsJoin};
 
-use crate::cause::{Cause, Refusal};
 use crate::command::{join_words, matches};
-use crate::device::{Desk, Sink};
 use crate::joining::join;
 use crate::printing::{print_out_of_memory, print_refusal};
-use crate::writing::write_all;
 use clap::Error;
 use clap::error::ErrorKind;
+use jls_device::{Desk, Sink, write_all};
+use jls_station::{Cause, Refusal};
 use std::alloc::Global;
 
 /// Prints the help that was asked for to the report output, with status 0.
@@ -87,7 +86,7 @@ fn answer_error<W: Sink, E: Sink>(
 /// - 0: done, and each line of what was written is settled, or help was asked for;
 /// - 1: done, with lines that are missing or disputed;
 /// - 2: the words were not understood;
-/// - 3: an input is refused, or shapes differ;
+/// - 3: an input is not the text of a partial picture, or shapes differ;
 /// - 4: an input can't be opened or read, the output can't be created, or a write failed;
 /// - 5: out of memory.
 ///
@@ -114,7 +113,8 @@ pub fn run<D: Desk, W: Sink, E: Sink>(
         → Refuses (D.history desk.old) (first ∷ others) (D.history desk.new) }
     // Whatever the words are, status 3 comes only so.
     ensures refused_only { result ≡ 3 → (names : List (List ℕ)) × Refuses (D.history desk.old) names (D.history desk.new) }
-    // Status 4 comes only where a device failed, or the reads of an input were used up.
+    // Status 4 comes only where a device failed, or as many reads were made as one input may have. What was created by
+    // then is not said.
     ensures failed { result ≡ 4 → HasFailed (D.history desk.old) (D.history desk.new)
         ⊎ RoseBy 1 (W.history report.old).write_failures (W.history report.new).write_failures }
     // Out of memory: nothing was created.

@@ -1,6 +1,6 @@
 -- What the laws of a join give: lists with the same members have the same join.
 use Rattle.std.proofs.Common.{◌≡◌, ℕ, Option, zero, suc, ◌+◌, ◌<◌, Bool, true, false, List, [], ◌∷◌, ◌++◌, length, take, get_or, refl, sym, ap, ◌∙◌, subst, arith}
-use Rattle.std.specs.Prelude.{Contains, IfSome, slice_get}
+use Rattle.std.specs.Prelude.{Contains, IfSome}
 use Rattle.std.proofs.lemmas.Option.{slice_get_read}
 use Rattle.std.proofs.lemmas.List.{take_more}
 use Rattle.jls_values.specs.Join.{JoinLaws, IsBelow, IsBetween, join_all, AllOfShape, StopsAtShape, StopsInside}
@@ -85,21 +85,50 @@ module _ {V : Type 0} {same_shape : V → V → Bool} {join : V → V → V} (la
       (join_least x y z h.0 g p (each 0 z (omega arith)))
       (λ k d lt. each (suc k) d (omega arith))
 
-  half : (x : V) (xs ys : List V) → AllOfShape same_shape x xs → AllOfShape same_shape x ys → ((y : V) → Contains xs y → Contains ys y) → IsBelow join (join_all join x xs) (join_all join x ys)
-  half x xs ys h g inside =
-      all_least x (join_all join x ys) xs h (fits_all x ys g) (below_all x ys g)
-      (λ k d lt. contained_below x ys (get_or xs k d) g (inside (get_or xs k d) (k, lt, same_place xs k d (get_or xs k d) lt)))
-    where
-      same_place : (xs : List V) (k : ℕ) (d e : V) → k < length xs → get_or xs k e ≡ get_or xs k d
-      same_place [] k d e lt = absurd (omega arith)
-      same_place (x ∷ xs) zero d e lt = refl
-      same_place (x ∷ xs) (suc k) d e lt = same_place xs k d e (omega arith)
+  -- what is read at a place of a list does not depend on what stands for a place outside
+  same_place : (xs : List V) (k : ℕ) (d e : V) → k < length xs → get_or xs k e ≡ get_or xs k d
+  same_place [] k d e lt = absurd (omega arith)
+  same_place (x ∷ xs) zero d e lt = refl
+  same_place (x ∷ xs) (suc k) d e lt = same_place xs k d e (omega arith)
 
+  -- each member of a list is below its join
+  pub whole_below : (x : V) (xs : List V) (y : V) → AllOfShape same_shape x xs → Contains (x ∷ xs) y → IsBelow join y (join_all join x xs)
+  whole_below x xs y h (zero, lt, e) = subst (λ (z : V). IsBelow join z (join_all join x xs)) e (below_all x xs h)
+  whole_below x xs y h (suc k, lt, e) = contained_below x xs y h (k, omega (arith, lt), e)
+
+  member_fits : (x : V) (xs : List V) (k : ℕ) (d : V) → k < length xs → AllOfShape same_shape x xs → same_shape x (get_or xs k d) ≡ true
+  member_fits x [] k d lt h = absurd (omega arith)
+  member_fits x (y ∷ ys) zero d lt h = h.0
+  member_fits x (y ∷ ys) (suc k) d lt h = member_fits x ys k d (omega arith) h.1
+
+  -- each member of a list has the shape of the first
+  contained_fits : (x : V) (xs : List V) (y : V) → AllOfShape same_shape x xs → Contains (x ∷ xs) y → same_shape x y ≡ true
+  contained_fits x xs y h (zero, lt, e) = subst (λ (z : V). same_shape x z ≡ true) e (laws.reflexive x)
+  contained_fits x xs y h (suc k, lt, e) = subst (λ (z : V). same_shape x z ≡ true) e (member_fits x xs k y (omega (arith, lt)) h)
+
+  half : (x : V) (xs : List V) (y : V) (ys : List V) → AllOfShape same_shape x xs → AllOfShape same_shape y ys → ((z : V) → Contains (x ∷ xs) z → Contains (y ∷ ys) z) → IsBelow join (join_all join x xs) (join_all join y ys)
+  half x xs y ys h g inside =
+      let first = inside x (0, omega arith, refl) in
+      all_least x (join_all join y ys) xs h
+      (laws.transitive x y (join_all join y ys) (turned y x (contained_fits y ys x g first)) (fits_all y ys g))
+      (whole_below y ys x g first)
+      (λ k d lt. whole_below y ys (get_or xs k d) g (inside (get_or xs k d) (suc k, omega (arith, lt), same_place xs k d (get_or xs k d) lt)))
+
+  -- lists with the same members have the same join, whichever member is the first
+  pub same_lists : (x : V) (xs : List V) (y : V) (ys : List V) → AllOfShape same_shape x xs → AllOfShape same_shape y ys → ((z : V) → Contains (x ∷ xs) z → Contains (y ∷ ys) z) → ((z : V) → Contains (y ∷ ys) z → Contains (x ∷ xs) z) → join_all join x xs ≡ join_all join y ys
+  same_lists x xs y ys h g there back =
+      let f = turned y x (contained_fits y ys x g (there x (0, omega arith, refl))) in
+      below_both (join_all join x xs) (join_all join y ys)
+      (laws.transitive (join_all join x xs) x (join_all join y ys) (turned x (join_all join x xs) (fits_all x xs h)) (laws.transitive x y (join_all join y ys) f (fits_all y ys g)))
+      (half x xs y ys h g there) (half y ys x xs g h back)
+
+  behind : (x : V) (xs ys : List V) → ((z : V) → Contains xs z → Contains ys z) → (z : V) → Contains (x ∷ xs) z → Contains (x ∷ ys) z
+  behind x xs ys inside z (zero, lt, e) = (0, omega arith, e)
+  behind x xs ys inside z (suc k, lt, e) = let c = inside z (k, omega (arith, lt), e) in (suc c.0, omega (arith, c.1), c.2)
+
+  -- lists with the same members have the same join with a value
   pub same_members : (x : V) (xs ys : List V) → AllOfShape same_shape x xs → AllOfShape same_shape x ys → ((y : V) → Contains xs y → Contains ys y) → ((y : V) → Contains ys y → Contains xs y) → join_all join x xs ≡ join_all join x ys
-  same_members x xs ys h g there back =
-      below_both (join_all join x xs) (join_all join x ys)
-      (laws.transitive (join_all join x xs) x (join_all join x ys) (turned x (join_all join x xs) (fits_all x xs h)) (fits_all x ys g))
-      (half x xs ys h g there) (half x ys xs g h back)
+  same_members x xs ys h g there back = same_lists x xs x ys h g (behind x xs ys there) (behind x ys xs back)
 
 module _ {V : Type 0} (join : V → V → V) where
   pub join_all-push : (x : V) (ys : List V) (y : V) → join_all join x (ys ++ y ∷ []) ≡ join (join_all join x ys) y

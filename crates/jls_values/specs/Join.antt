@@ -40,7 +40,8 @@ module _ {V : Type 0} where
   abbrev pub StopsAtShape : (V → V → Bool) → (V → V → V) → V → List V → V → Type 0
   StopsAtShape same_shape join old list new = (k : ℕ) × StopsAtShapeAt same_shape join old list new k
 
-  -- memory ran out inside the member at k: those up to it have the shape, those before it are merged whole, and of it some part
+  -- memory ran out inside the member at k: those up to it have the shape, those before it are merged whole, and of it
+  -- nothing, a part or all
   pub record StopsInsideAt (same_shape : V → V → Bool) (join : V → V → V) (old : V) (list : List V) (new : V) (k : ℕ) : Type 0 where
     pub within : k < length list
     pub upto : AllOfShape same_shape old (take (k + 1) list)

@@ -1,5 +1,5 @@
--- A finite set over a total order, whose items are known to rise: a finite map with nothing at its keys.
--- Two sets that contain the same are equal (`same_set` of OrderedSetLaws), so a set has one spelling.
+-- A finite set of items in a total order: a finite map with nothing at its keys, which are known to rise. Where only
+-- equal items tie, two sets that contain the same are equal (`same_set` of OrderedSetLaws), so a set has one spelling.
 use Rattle.std.specs.Prelude.{Bool, List, [], ◌∷◌}
 use Rattle.std.specs.declared.cmp.Ordering.{Ordering}
 use Rattle.std.specs.Coded.{Coded}
@@ -11,7 +11,7 @@ abbrev pub OrderedSet : {K : Type 0} → (K → K → Ordering) → Type 0
 OrderedSet R = map.FinMap R (Unit {0})
 
 module _ {K : Type 0} {R : K → K → Ordering} where
-  -- how a set is stored, given how an item is
+  -- how the checker's logic stores a set, given how it stores an item
   abbrev pub code : Coded K → Coded (OrderedSet R)
   code k = map.code k coded_unit
 

@@ -1,6 +1,6 @@
 -- Coding parameters: the preset values in force for a scan (T.87, C.2.4.1.1), and the numbers that follow
 -- from MAXVAL in lossless coding (T.87, A.2.1, with NEAR 0).
-use Rattle.std.specs.Prelude.{ℕ, zero, suc, ◌+◌, ◌*◌, ◌^◌, ◌≤◌, ◌<◌, min, max, Bool, nat_le, if◌then◌else◌}
+use Rattle.std.specs.Prelude.{ℕ, zero, suc, ◌+◌, ◌*◌, ◌^◌, ◌≤◌, ◌<◌, max, Bool, nat_le, if◌then◌else◌}
 
 -- bits per sample, MAXVAL, the thresholds of the gradients, and RESET
 pub record CodingParameters : Type 0 where
@@ -11,7 +11,7 @@ pub record CodingParameters : Type 0 where
   pub t3 : ℕ
   pub reset : ℕ
 
--- the ranges of T.87, table C.3, at the precisions of this profile
+-- the ranges of T.87, table C.1, at NEAR 0 and at the precisions of this profile
 pub record AreCodingParameters (p : CodingParameters) : Type 0 where
   pub precision_at_least : 2 ≤ p.precision
   pub precision_at_most : p.precision ≤ 16
@@ -41,6 +41,6 @@ qbpp p = least_from (λ bits. nat_le (range p) (2 ^ bits)) 16 0
 abbrev pub bpp : CodingParameters → ℕ
 bpp p = max 2 (qbpp p)
 
--- LIMIT: the longest Golomb code of a regular sample, in bits
+-- LIMIT: how long the Golomb code of a regular sample may be, in bits
 abbrev pub limit : CodingParameters → ℕ
 limit p = 2 * (bpp p + max 8 (bpp p))

@@ -9,10 +9,11 @@ use Rattle.jls_values.specs.Params.{CodingParameters}
 abbrev pub or_default : ℕ → ℕ → ℕ
 or_default given default = if given == 0 then default else given
 
+-- whether a value is outside the range from `low` to `high`
 abbrev pub is_outside : ℕ → ℕ → ℕ → Bool
 is_outside low high value = nat_lt value low || nat_lt high value
 
--- CLAMP: the value where it lies from `low` to MAXVAL, else `low`
+-- CLAMP: the value where it lies from `low` to MAXVAL, else `low`, above MAXVAL too
 abbrev pub clamped : ℕ → ℕ → ℕ → ℕ
 clamped maxval low value = if is_outside low maxval value then low else value
 
@@ -20,16 +21,17 @@ clamped maxval low value = if is_outside low maxval value then low else value
 abbrev pub factor : ℕ → ℕ
 factor maxval = if nat_le 128 maxval then (min maxval 4095 + 128) / 256 else 256 / (maxval + 1)
 
+-- the default of T1
 abbrev pub default_t1 : ℕ → ℕ
 default_t1 maxval =
     clamped maxval 1 (if nat_le 128 maxval then factor maxval + 2 else max 2 (3 / factor maxval))
 
--- for the T1 in force
+-- the default of T2, for the T1 in force
 abbrev pub default_t2 : ℕ → ℕ → ℕ
 default_t2 maxval t1 =
     clamped maxval t1 (if nat_le 128 maxval then 4 * factor maxval + 3 else max 3 (7 / factor maxval))
 
--- for the T2 in force
+-- the default of T3, for the T2 in force
 abbrev pub default_t3 : ℕ → ℕ → ℕ
 default_t3 maxval t2 =
     clamped maxval t2 (if nat_le 128 maxval then 17 * factor maxval + 4 else max 4 (21 / factor maxval))
@@ -43,7 +45,7 @@ in_force precision given_maxval given_t1 given_t2 given_t3 given_reset =
     let t3 = or_default given_t3 (default_t3 maxval t2) in
     record { precision = precision; maxval = maxval; t1 = t1; t2 = t2; t3 = t3; reset = or_default given_reset 64 }
 
--- the first value outside its range
+-- the first value outside its range, in the order of the record
 abbrev pub param_fault : CodingParameters → Option ParamFault
 param_fault p =
     if is_outside 2 16 p.precision then Some Precision
@@ -59,6 +61,7 @@ abbrev pub params_in_range : CodingParameters → Option ParamFault → Result C
 params_in_range p (Some fault) = Err fault
 params_in_range p None = Ok p
 
+-- the parameters in force for these six values, or the first that is outside its range
 abbrev pub params_of : ℕ → ℕ → ℕ → ℕ → ℕ → ℕ → Result CodingParameters ParamFault
 params_of precision maxval t1 t2 t3 reset =
     let p = in_force precision maxval t1 t2 t3 reset in params_in_range p (param_fault p)

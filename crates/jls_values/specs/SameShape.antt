@@ -1,4 +1,4 @@
--- Whether two shapes are one, as a test that computes.
+-- Whether two shapes are one, as a test that computes: their identifiers too, in the same order.
 use Rattle.std.specs.Prelude.{Bool, ◌&&◌, ◌==◌, nat_eq}
 use Rattle.std.specs.Cmp.Lexicographic.{pointwise}
 use Rattle.jls_values.specs.Shape.{PictureShape}

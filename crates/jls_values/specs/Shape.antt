@@ -9,12 +9,12 @@ pub record PictureShape : Type 0 where
   pub height : ℕ
   pub ids : List ℕ
 
--- an identifier stands twice
+-- whether an identifier stands twice
 abbrev pub has_repeat : List ℕ → Bool
 has_repeat [] = false
 has_repeat (id ∷ ids) = list_any (λ other. other == id) ids || has_repeat ids
 
--- the ranges of this profile
+-- the ranges of this profile; the identifiers are bytes, and differ
 pub record IsShape (s : PictureShape) : Type 0 where
   pub precision_at_least : 2 ≤ s.precision
   pub precision_at_most : s.precision ≤ 16

@@ -1,6 +1,6 @@
 //! Values that are merged.
 
-ghost use Rattle.std.specs.Prelude.{◌≡◌, Bool, true, false, ◌↔◌, OnOk, IsErrOf, List, Contains};
+ghost use Rattle.std.specs.Prelude.{◌≡◌, Bool, true, false, ◌↔◌, OnOk, IsErrOf, List, ◌∷◌, Contains};
 ghost use Rattle.jls_values.specs.Join.{JoinLaws, IsBetween, join_all, AllOfShape, StopsAtShape, StopsInside};
 ghost use Rattle.jls_values.specs.declared.merge.MergeFault.TheVariants.{ShapeDiffers, OutOfMemory};
 
@@ -12,7 +12,7 @@ pub enum MergeFault {
     /// The two have different shapes. Nothing was changed.
     #[error("the shapes differ")]
     ShapeDiffers,
-    /// Some of the other was merged, and nothing was lost: the same merge can be tried again.
+    /// Nothing, a part or all of the other was merged, and nothing was lost: the same merge can be tried again.
     #[error("out of memory")]
     OutOfMemory,
 }
@@ -23,7 +23,7 @@ pub trait Merge {
     /// Whether two have one shape, and so can be joined.
     ghost same_shape: { Self → Self → Bool };
 
-    /// What holds all that two of one shape hold, and nothing else.
+    /// What holds all that either of two of one shape holds, and nothing else.
     ghost join: { Self → Self → Self };
 
     ghost laws: { JoinLaws same_shape join };
@@ -52,8 +52,11 @@ pub fn merge_all<M: Merge>(into: &mut M, list: &[M]) -> Result<(), MergeFault>
     Ok(())
 }
 
-/// A law: lists with the same members have the same join, whatever their order and repeats.
+/// A law: lists with the same members have the same join, whatever their order and repeats. It holds of what a value
+/// has taken in, and of a list of which any member is the first.
 pub fn same_members_same_join<M: Merge>(_one: &M)
-    ensures { (x : M) (xs ys : List M) → AllOfShape M.same_shape x xs → AllOfShape M.same_shape x ys
-        → ((y : M) → Contains xs y ↔ Contains ys y) → join_all M.join x xs ≡ join_all M.join x ys }
+    ensures taken { (x : M) (xs ys : List M) → AllOfShape M.same_shape x xs → AllOfShape M.same_shape x ys
+        → ((z : M) → Contains xs z ↔ Contains ys z) → join_all M.join x xs ≡ join_all M.join x ys }
+    ensures whole { (x y : M) (xs ys : List M) → AllOfShape M.same_shape x xs → AllOfShape M.same_shape y ys
+        → ((z : M) → Contains (x ∷ xs) z ↔ Contains (y ∷ ys) z) → join_all M.join x xs ≡ join_all M.join y ys }
 {}

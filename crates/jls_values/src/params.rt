@@ -235,7 +235,7 @@ impl Params {
         self.reset
     }
 
-    /// RANGE, how many values a sample can have: MAXVAL and 1, from 2 to 65,536 (ITU-T T.87, A.2.1).
+    /// RANGE, how many values a sample can have: MAXVAL + 1, from 2 to 65,536 (ITU-T T.87, A.2.1).
     pub fn range(&self) -> u32
         ensures value { result ≡ Rattle.jls_values.specs.Params.range self.now }
         ensures ranges { AreCodingParameters self.now }
@@ -243,7 +243,7 @@ impl Params {
         u32::from(self.maxval) + 1
     }
 
-    /// The bits that hold RANGE values, from 1 to 16 (ITU-T T.87, A.2.1).
+    /// The least number of bits that hold RANGE values, from 1 to 16 (ITU-T T.87, A.2.1).
     pub fn qbpp(&self) -> u8
         ensures value { result ≡ Rattle.jls_values.specs.Params.qbpp self.now }
         ensures at_least { 1 ≤ result }

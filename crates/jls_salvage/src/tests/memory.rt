@@ -2,8 +2,7 @@
 
 ghost use Rattle.std.specs.Prelude.{◌≡◌, is_some, nat_lt, length, true, IsTrue};
 
-use crate::device::{Desk, DeskFault, Device, Sink, SinkFault, Source, SourceFault};
-use crate::ledger::Ledger;
+use jls_device::{Desk, DeskFault, Device, Ledger, Sink, SinkFault, Source, SourceFault};
 use std::alloc::Global;
 
 /// An input by its name.
@@ -71,7 +70,8 @@ impl<'a> MemoryDesk<'a> {
     }
 }
 
-fn find<'a>(files: &'a [File<'a>], name: &str) -> Option<&'a [u8]> {
+/// What the file of this name has.
+pub(super) fn find<'a>(files: &'a [File<'a>], name: &str) -> Option<&'a [u8]> {
     for file in files {
         if file.0 == name {
             return Some(file.1);
@@ -96,7 +96,7 @@ impl<'a> Device for MemoryDesk<'a> {
 }
 
 impl<'a> Source for MemoryDesk<'a> {
-    #[tactic(auto, using(crate::proofs::Histories::length_on_last))]
+    #[tactic(auto, using(jls_device::proofs::Histories::length_on_last))]
     fn read_some(&mut self, into: &mut [u8]) -> Result<usize, SourceFault> {
         let Some(rest) = self.rest else {
             self.ledger.read(into.len(), &[]);
@@ -128,7 +128,7 @@ impl<'a> Source for MemoryDesk<'a> {
 }
 
 impl<'a> Sink for MemoryDesk<'a> {
-    #[tactic(auto, using(crate::proofs::Histories::length_on_last))]
+    #[tactic(auto, using(jls_device::proofs::Histories::length_on_last))]
     fn write_some(&mut self, bytes: &[u8]) -> Result<usize, SinkFault> {
         let taken = match &self.output {
             Some(all) => all.len(),
@@ -153,7 +153,7 @@ impl<'a> Sink for MemoryDesk<'a> {
 }
 
 impl<'a> Desk for MemoryDesk<'a> {
-    #[tactic(auto, using(crate::proofs::Histories::above_after_append))]
+    #[tactic(auto, using(jls_device::proofs::Histories::above_after_append))]
     fn open_input(&mut self, name: &str) -> Result<(), DeskFault> {
         match find(self.files, name) {
             Some(bytes) => {
@@ -169,7 +169,7 @@ impl<'a> Desk for MemoryDesk<'a> {
         }
     }
 
-    #[tactic(auto, using(crate::proofs::Histories::above_after_append))]
+    #[tactic(auto, using(jls_device::proofs::Histories::above_after_append))]
     fn create_output(&mut self, name: &str) -> Result<(), DeskFault> {
         let noted = self.created.push_str(name).is_ok() && self.created.push_str(" ").is_ok();
         if noted && self.manners.can_create {

@@ -1,5 +1,5 @@
 use Rattle.std.proofs.Common.{◌∙◌}
-use Rattle.jls_salvage.proofs.Stopping.{joins_by, refuses_by}
+use Rattle.jls_station.proofs.Stopping.{joins_by, refuses_by}
 use Rattle.jls_salvage.proofs.program.run.Goals as goal
 
 pub returns-in-Some-clause-join : goal.returns-in-Some-clause-join

@@ -1,4 +1,4 @@
-use Rattle.std.proofs.Common.{◌≡◌, sym, ap, ◌∙◌, subst}
+use Rattle.std.proofs.Common.{sym, ap, ◌∙◌}
 use Rattle.std.proofs.lemmas.Result.{err_from_is_err_and}
 use Rattle.jls_values.proofs.Joins.{join_all-take_more, AllOfShape-take_more, stops_at_shape, stops_inside, not_false-true}
 use Rattle.jls_values.proofs.merge.merge_all.Goals as goal

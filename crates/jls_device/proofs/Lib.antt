@@ -1,0 +1,4 @@
+pub mod CellMade
+pub mod Counting
+pub mod Histories
+pub mod WritingWhole

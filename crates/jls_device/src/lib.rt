@@ -1,0 +1,18 @@
+//! Devices that keep a history: sources, sinks, and the desk of a program.
+#![tactic(auto)]
+
+mod counted;
+mod device;
+mod history;
+mod host;
+mod ledger;
+mod writing;
+
+pub use counted::Counted;
+pub use device::{Desk, DeskFault, Device, Sink, SinkFault, Source, SourceFault};
+pub use host::HostDesk;
+pub use ledger::Ledger;
+pub use writing::write_all;
+
+#[cfg(test)]
+mod tests;

@@ -1,0 +1,34 @@
+-- Partial pictures of one picture: what damaged copies of it give, and what their join then is.
+use Rattle.std.specs.Prelude.{◌≡◌, ℕ, ◌<◌, ◌↔◌, true, List, [], ◌∷◌, length, All, Contains}
+use Rattle.jls_values.specs.Shape.{PictureShape}
+use Rattle.jls_values.specs.Join.{join_all}
+use Rattle.jls_partial.specs.Partial.{PartialPicture, holds, readings_at, union, IsFitting}
+use Rattle.jls_partial.specs.Status.{IsSettled}
+
+-- it has the picture's shape, and says of a line nothing that the picture does not say
+pub record IsPartOf (picture part : PartialPicture) : Type 0 where
+  pub shape : part.shape ≡ picture.shape
+  pub readings : (component line : ℕ) (samples : List ℕ) → holds part component line samples ≡ true → holds picture component line samples ≡ true
+
+-- one of these partial pictures has a reading of the line
+abbrev pub Survives : List PartialPicture → ℕ → ℕ → Type 0
+Survives parts component line = (part : PartialPicture) × Contains parts part × (readings_at part component line ≡ [] → ⊥)
+
+-- each line of a picture of this shape survives somewhere
+abbrev pub EachLineSurvives : PictureShape → List PartialPicture → Type 0
+EachLineSurvives shape parts =
+    (component : ℕ) → component < length shape.ids → (line : ℕ) → line < shape.height → Survives parts component line
+
+-- a join holds what any of its members holds, and nothing else
+abbrev pub JoinsHoldExactly : Type 0
+JoinsHoldExactly =
+    (first : PartialPicture) (others : List PartialPicture) (component line : ℕ) (samples : List ℕ)
+    → (holds (join_all union first others) component line samples ≡ true)
+    ↔ ((member : PartialPicture) × Contains (first ∷ others) member × (holds member component line samples ≡ true))
+
+-- where each line of a settled picture, whose readings fit it, survives in some part of it, the parts join to that picture
+abbrev pub PartsGiveThePicture : Type 0
+PartsGiveThePicture =
+    (picture : PartialPicture) → IsFitting picture → IsSettled picture
+    → (first : PartialPicture) (others : List PartialPicture) → All (IsPartOf picture) (first ∷ others) → EachLineSurvives picture.shape (first ∷ others)
+    → join_all union first others ≡ picture

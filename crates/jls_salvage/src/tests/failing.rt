@@ -1,0 +1,61 @@
+//! Devices that fail.
+
+use super::memory::{GOOD, Manners};
+use super::pictures::DISPUTED;
+use super::run_words;
+use std::test::Fail;
+
+#[test]
+fn stops_where_a_read_fails(rt: HostRuntime) -> Result<(), Fail> {
+    for n in 0..32 {
+        let manners = Manners {
+            reads_fail_at: Some(n),
+            ..GOOD
+        };
+        let found = run_words(rt.alloc(), "join OUT T", manners)?;
+        assert_eq!(rt; found.status, 4);
+        assert_eq!(rt;
+            found.faults.as_slice(),
+            b"jls-salvage: T: read failed\n".as_slice()
+        );
+        assert!(rt; found.output.is_none());
+    }
+    Ok(())
+}
+
+#[test]
+fn stops_where_a_write_fails(rt: HostRuntime) -> Result<(), Fail> {
+    let alloc = rt.alloc();
+    for n in 0..31 {
+        for most in [1, 7, usize::MAX] {
+            let manners = Manners {
+                most,
+                writes_fail_at: Some(n),
+                ..GOOD
+            };
+            let found = run_words(alloc, "join OUT T", manners)?;
+            let line = format!(in alloc; "jls-salvage: OUT: write failed after {n} bytes\n")?;
+            assert_eq!(rt; found.status, 4);
+            assert_eq!(rt; found.faults.as_slice(), line.as_bytes());
+            let output = found.output.ok_or("no output")?;
+            assert_eq!(rt; output.as_slice(), &DISPUTED[..n]);
+        }
+    }
+    Ok(())
+}
+
+#[test]
+fn names_an_output_that_cannot_be_created(rt: HostRuntime) -> Result<(), Fail> {
+    let manners = Manners {
+        can_create: false,
+        ..GOOD
+    };
+    let found = run_words(rt.alloc(), "join OUT T", manners)?;
+    assert_eq!(rt; found.status, 4);
+    assert_eq!(rt;
+        found.faults.as_slice(),
+        b"jls-salvage: OUT: cannot be created\n".as_slice()
+    );
+    assert!(rt; found.output.is_none());
+    Ok(())
+}

@@ -1,0 +1,90 @@
+//! Inputs joined and inputs refused.
+
+use super::memory::{GOOD, Manners, find};
+use super::pictures::FILES;
+use super::{Ending, run_words};
+use std::alloc::{AllocError, Global};
+use std::process::Abort;
+use std::test::Fail;
+
+/// The words, the status, and the file that OUT is the same as, or the line on the fault output.
+const ROWS: &str = "\
+join OUT T => 1 T
+join OUT S => 0 S
+join - - => 0 S
+join OUT N => 1 N
+join OUT T T => 1 T
+join OUT T S => 1 both
+join OUT S T => 1 both
+join OUT S T S => 1 both
+join OUT N S N => 0 S
+join OUT T U => 3 U: shape differs
+join OUT T A => 4 A: cannot be opened
+join OUT swapped => 3 swapped: bad text, order at 29
+join OUT twice => 3 twice: bad text, order at 29
+join OUT longer => 3 longer: bad text, trailing at 31
+join OUT large => 3 large: bad text, sample at 29
+join OUT cut => 3 cut: bad text, truncated at 30
+join OUT version => 3 version: bad text, magic at 4
+join OUT precision => 3 precision: bad text, shape at 5
+join OUT none => 3 none: bad text, count at 19
+join OUT below => 3 below: bad text, place at 16
+join OUT empty => 3 empty: bad text, truncated at 0
+join OUT copy => 3 copy: bad text, magic at 0
+join OUT T dot A => 3 dot: bad text, magic at 0
+join OUT A dot => 4 A: cannot be opened
+join OUT T S U => 3 U: shape differs";
+
+/// Whether OUT was created once and is the same as this file, and nothing was printed.
+fn is_joined(found: &Ending, file: &str) -> bool {
+    let created = found.created.as_str();
+    let is_same = match (&found.output, find(&FILES, file)) {
+        (Some(output), Some(want)) => output.as_slice() == want,
+        _ => false,
+    };
+    is_same
+        && (created == "OUT " || created == "- ")
+        && found.report.is_empty()
+        && found.faults.is_empty()
+}
+
+/// Whether this line was printed on the fault output, and nothing else, and nothing was created.
+fn is_refused(alloc: Global, found: &Ending, line: &str) -> Result<bool, AllocError> {
+    let printed = format!(in alloc; "jls-salvage: {line}\n")?;
+    Ok(
+        found.faults.as_slice() == printed.as_bytes()
+            && found.report.is_empty()
+            && found.created.is_empty()
+            && found.output.is_none(),
+    )
+}
+
+fn check_row(rt: &impl Abort, alloc: Global, row: &str, manners: Manners) -> Result<(), Fail> {
+    let (words, end) = row.split_once(" => ").ok_or("no end")?;
+    let (status, told) = end.split_once(' ').ok_or("no status")?;
+    let found = run_words(alloc, words, manners)?;
+    let is_right = if found.status <= 1 {
+        is_joined(&found, told)
+    } else {
+        is_refused(alloc, &found, told)?
+    };
+    assert!(rt; is_right, "{row}");
+    assert_eq!(rt; Ok(found.status), status.parse::<u8>(), "{row}");
+    Ok(())
+}
+
+#[test]
+fn joins_texts(rt: HostRuntime) -> Result<(), Fail> {
+    for row in ROWS.lines() {
+        check_row(&rt, rt.alloc(), row, GOOD)?;
+    }
+    Ok(())
+}
+
+#[test]
+fn joins_byte_by_byte(rt: HostRuntime) -> Result<(), Fail> {
+    for row in ROWS.lines() {
+        check_row(&rt, rt.alloc(), row, Manners { most: 1, ..GOOD })?;
+    }
+    Ok(())
+}

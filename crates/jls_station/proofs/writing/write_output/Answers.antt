@@ -1,0 +1,12 @@
+use Rattle.jls_station.proofs.CreatedOutputs.{created_and_written, created_not_written}
+use Rattle.jls_station.proofs.writing.write_output.Goals as goal
+
+pub returns-in-Ok-write_all-clause-outputs : goal.returns-in-Ok-write_all-clause-outputs
+returns-in-Ok-write_all-clause-outputs g c =
+    let history = g.D.Device.history in
+    created_and_written (history c.args.desk.now) (history c.create_output.new.self) (history c.write_all.new.sink) c.args.name.now c.args.bytes.now c.in-Ok.ensures.created c.in-Ok-write_all.ensures.written
+
+pub returns-in-Err-write_all-clause-failed : goal.returns-in-Err-write_all-clause-failed
+returns-in-Err-write_all-clause-failed g c =
+    let history = g.D.Device.history in
+    created_not_written (history c.args.desk.now) (history c.create_output.new.self) (history c.write_all.new.sink) c.args.name.now c.in-Ok.ensures.created c.in-Err-write_all.ensures.failed
