@@ -24,19 +24,6 @@ remainder_above r (pos n) a b =
     rw small (omega (arith, ints))
 remainder_above r (negsuc n) a b = absurd (omega (arith, ints))
 
--- the same by a modulus of the integers
-pub near_within : (m z : ℤ) → pos 0 ≤ℤ z → z <ℤ m → int_rem_euclid z m ≡ z
-near_within (pos r) z a b = remainder_within r z a b
-near_within (negsuc r) z a b = absurd (omega (arith, ints))
-
-pub near_below : (m z : ℤ) → neg_ℤ m ≤ℤ z → z <ℤ pos 0 → int_rem_euclid z m ≡ z +ℤ m
-near_below (pos r) z a b = remainder_below r z a b
-near_below (negsuc r) z a b = absurd (omega (arith, ints))
-
-pub near_above : (m z : ℤ) → m ≤ℤ z → z <ℤ (m +ℤ m) → int_rem_euclid z m ≡ z -ℤ m
-near_above (pos r) z a b = remainder_above r z a (omega (arith, ints))
-near_above (negsuc r) z a b = absurd (omega (arith, ints))
-
 pub remainder_cases : (r : ℕ) (z : ℤ) → neg_ℤ (pos r) ≤ℤ z → z <ℤ pos (2 * r)
     → (int_rem_euclid z (pos r) ≡ z) ⊎ ((int_rem_euclid z (pos r) ≡ z +ℤ pos r) ⊎ (int_rem_euclid z (pos r) ≡ z -ℤ pos r))
 remainder_cases r z a b =

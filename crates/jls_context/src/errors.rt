@@ -1,6 +1,6 @@
 //! Errors of predictions, modulo RANGE, and the numbers that they are mapped to.
 
-ghost use Rattle.std.specs.Prelude.{◌≡◌, ℕ, ◌+◌, ◌/◌, ◌^◌, ◌≤◌, IsTrue, ◌↔◌, pos, negsuc, neg_ℤ, ◌+ℤ◌, ◌≤ℤ◌, ◌<ℤ◌};
+ghost use Rattle.std.specs.Prelude.{◌≡◌, ℕ, ◌+◌, ◌/◌, ◌^◌, ◌≤◌, IsTrue, ◌↔◌, pos, negsuc, neg_ℤ, ◌≤ℤ◌, ◌<ℤ◌};
 ghost use Rattle.std.specs.Int.{int_rem_euclid};
 ghost use Rattle.jls_values.specs.Params.{range};
 ghost use Rattle.jls_context.specs.Errors.{IsError, IsModuloReduced, modulo_reduced, prediction_error};
@@ -33,25 +33,6 @@ pub(crate) fn is_error(params: &Params, error: i32) -> bool
     limit - range_of(params) <= error && error < limit
 }
 
-/// The remainder of a number modulo RANGE, for a number that is at most one RANGE away from its
-/// remainder: no division.
-fn remainder_near(value: i32, range: i32) -> u16
-    requires at_least { pos 1 ≤ℤ range }
-    requires at_most { range ≤ℤ pos (2 ^ 16) }
-    requires value_at_least { neg_ℤ range ≤ℤ value }
-    requires value_below { value <ℤ (range +ℤ range) }
-    ensures value { pos result ≡ int_rem_euclid value range }
-    ensures below { pos result <ℤ range }
-{
-    if value < 0 {
-        (value + range) as u16
-    } else if value < range {
-        value as u16
-    } else {
-        (value - range) as u16
-    }
-}
-
 /// The error that is congruent to the difference modulo RANGE.
 pub(crate) fn reduced(params: &Params, difference: i32) -> i32
     requires above { neg_ℤ (pos (range params.now)) <ℤ difference }
@@ -60,12 +41,22 @@ pub(crate) fn reduced(params: &Params, difference: i32) -> i32
     ensures reduced { IsModuloReduced params.now difference result }
 {
     let range = range_of(params);
-    let remainder = i32::from(remainder_near(difference, range));
+    let remainder = difference.rem_euclid(range);
     if remainder < error_limit(params) {
         remainder
     } else {
         remainder - range
     }
+}
+
+/// The remainder of a number modulo RANGE.
+fn remainder(value: i32, range: i32) -> u16
+    requires at_least { pos 1 ≤ℤ range }
+    requires at_most { range ≤ℤ pos (2 ^ 16) }
+    ensures value { pos result ≡ int_rem_euclid value range }
+    ensures below { pos result <ℤ range }
+{
+    value.rem_euclid(range) as u16
 }
 
 /// The sample with this error against its prediction.
@@ -77,7 +68,7 @@ pub(crate) fn restored(params: &Params, prediction: u16, negative: bool, error: 
     ensures only { (other : ℕ) → other ≤ params.now.maxval → prediction_error params.now negative other prediction ≡ error → other ≡ result }
 {
     let range = range_of(params);
-    remainder_near(i32::from(prediction) + with_sign(negative, error), range)
+    remainder(i32::from(prediction) + with_sign(negative, error), range)
 }
 
 /// The number that an error is mapped to.

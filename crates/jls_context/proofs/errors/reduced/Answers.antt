@@ -12,7 +12,7 @@ pub returns-then-remainder-error_limit-clause-value :
 returns-then-remainder-error_limit-clause-value c =
     let d : to_z w32 (of_z w32 c.args.difference) ≡ c.args.difference = omega (arith, ints) in
     let r : to_z w32 (of_z w32 c.range_of-range.result) ≡ pos (range c.args.params.now) = omega (arith, ints) in
-    let is : pos c.remainder_near.result ≡ int_rem_euclid c.args.difference (pos (range c.args.params.now)) = rw (d, r) at c.remainder_near.ensures.value in
+    let is : c.rem_euclid-remainder.result ≡ int_rem_euclid c.args.difference (pos (range c.args.params.now)) = rw (d, r) at c.rem_euclid-remainder.ensures.value in
     let e = reduced_low c.args.params.now c.args.difference (grind (arith, ints)) in omega (arith, ints)
 
 pub returns-then-remainder-error_limit-clause-reduced :
@@ -25,7 +25,7 @@ pub returns-else-remainder-error_limit-clause-value :
 returns-else-remainder-error_limit-clause-value c =
     let d : to_z w32 (of_z w32 c.args.difference) ≡ c.args.difference = omega (arith, ints) in
     let r : to_z w32 (of_z w32 c.range_of-range.result) ≡ pos (range c.args.params.now) = omega (arith, ints) in
-    let is : pos c.remainder_near.result ≡ int_rem_euclid c.args.difference (pos (range c.args.params.now)) = rw (d, r) at c.remainder_near.ensures.value in
+    let is : c.rem_euclid-remainder.result ≡ int_rem_euclid c.args.difference (pos (range c.args.params.now)) = rw (d, r) at c.rem_euclid-remainder.ensures.value in
     let e = reduced_high c.args.params.now c.args.difference (grind (arith, ints)) in omega (arith, ints)
 
 pub returns-else-remainder-error_limit-clause-reduced :

@@ -6,18 +6,12 @@ use Rattle.jls_context.specs.Mode.{with_sign}
 use Rattle.jls_context.proofs.Samples.{restored_remainder, sample_same}
 use Rattle.jls_context.proofs.errors.restored.Goals as goal
 
-pub remainder_near-requires-clause-value_at_least : goal.remainder_near-requires-clause-value_at_least
-remainder_near-requires-clause-value_at_least c = omega (arith, ints, c.with_sign.ensures.size)
-
-pub remainder_near-requires-clause-value_below : goal.remainder_near-requires-clause-value_below
-remainder_near-requires-clause-value_below c = omega (arith, ints, c.with_sign.ensures.size)
-
 pub returns-clause-error : goal.returns-clause-error
 returns-clause-error c =
     let p = c.args.params.now in
     let sign : c.with_sign.result ≡ with_sign c.args.negative c.args.error = c.with_sign.ensures.value ∙ ap (with_sign c.args.negative) (omega (arith, ints)) in
     let modulus : to_z w32 (of_z w32 c.range_of-range.result) ≡ pos (range p) = omega (arith, ints) in
-    restored_remainder p c.args.negative c.remainder_near.result c.args.prediction c.args.error c.with_sign.result _ (omega (arith, ints)) c.requires.prediction c.requires.error sign (omega (arith, ints, c.with_sign.ensures.size)) (rw modulus at c.remainder_near.ensures.value)
+    restored_remainder p c.args.negative c.remainder.result c.args.prediction c.args.error c.with_sign.result _ (omega (arith, ints)) c.requires.prediction c.requires.error sign (omega (arith, ints, c.with_sign.ensures.size)) (rw modulus at c.remainder.ensures.value)
 
 pub returns-clause-only : goal.returns-clause-only
-returns-clause-only c = λ other small e. sample_same c.args.params.now c.args.negative other c.remainder_near.result c.args.prediction small (omega (arith, ints)) c.requires.prediction (e ∙ sym (returns-clause-error c))
+returns-clause-only c = λ other small e. sample_same c.args.params.now c.args.negative other c.remainder.result c.args.prediction small (omega (arith, ints)) c.requires.prediction (e ∙ sym (returns-clause-error c))
