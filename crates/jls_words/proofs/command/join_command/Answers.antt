@@ -3,8 +3,8 @@ use Rattle.std.proofs.lemmas.Result.{IfOk-weaker}
 use Rattle.clap.specs.Words.{App, Rule, app_of, new_app, rule_of, with_rule}
 use Rattle.clap.specs.Simple.{app_of_fields}
 use Rattle.clap.specs.declared.builder.ArgAction.TheVariants.{Append}
-use Rattle.jls_salvage.specs.Words.{out_rule, file_rule, join_app}
-use Rattle.jls_salvage.proofs.command.join_command.Goals as goal
+use Rattle.jls_words.specs.Words.{out_rule, file_rule, join_app}
+use Rattle.jls_words.proofs.command.join_command.Goals as goal
 
 -- `required(true)`
 abbrev must_be : Rule → Rule
