@@ -22,13 +22,16 @@ const WORDS: [(&str, u8); 8] = [
 
 #[test]
 fn answers_other_words(rt: HostRuntime) -> Result<(), Fail> {
-    for (words, status) in WORDS {
+    for &(words, status) in &WORDS {
         let found = run_words(rt.alloc(), words, GOOD)?;
-        assert_eq!(rt; found.status, status, "{words}");
         let is_help = status == 0;
-        assert_eq!(rt; found.faults.is_empty(), is_help, "{words}");
-        assert_eq!(rt; found.report.is_empty(), !is_help, "{words}");
-        assert!(rt; found.output.is_none(), "{words}");
+        let told = (
+            found.status,
+            found.faults.is_empty(),
+            found.report.is_empty(),
+        );
+        assert_eq!(rt; told, (status, is_help, !is_help), "{words}");
+        assert!(rt; found.output.is_none());
     }
     Ok(())
 }
