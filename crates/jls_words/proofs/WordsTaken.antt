@@ -3,7 +3,7 @@ use Rattle.std.proofs.Common.{◌≡◌, true, List, [], ◌∷◌, refl}
 use Rattle.std.specs.Prelude.{codes}
 use Rattle.clap.specs.Words.{Text, is_simple_and_free}
 use Rattle.clap.proofs.OnLiterals.{clap_on_literals}
-use Rattle.jls_salvage.specs.Words.{salvage_app, ReadsAsJoin}
+use Rattle.jls_words.specs.Words.{salvage_app, ReadsAsJoin}
 
 -- `jls-salvage join OUT A B`
 abbrev pub two_files : List Text

@@ -1,8 +1,8 @@
 use Rattle.std.proofs.Common.{◌≡◌, ◌∙◌, ap, sym, List, [], ◌∷◌, ℕ, Some, None, map, codes, length, arith}
 use Rattle.std.specs.Borrow.{Bor}
 use Rattle.clap.specs.Words.{Text, found_of}
-use Rattle.jls_salvage.proofs.WordsRead.{same_rows, first_by_rows, all_by_rows}
-use Rattle.jls_salvage.proofs.command.join_words.Goals as goal
+use Rattle.jls_words.proofs.WordsRead.{same_rows, first_by_rows, all_by_rows}
+use Rattle.jls_words.proofs.command.join_words.Goals as goal
 
 abbrev name_of : Bor (List ℕ) → List ℕ
 name_of f = f.now

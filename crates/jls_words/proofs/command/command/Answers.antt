@@ -2,8 +2,8 @@ use Rattle.std.proofs.Common.{◌≡◌, ◌∙◌, ap, true, codes}
 use Rattle.std.proofs.lemmas.Result.{IfOk-weaker}
 use Rattle.clap.specs.Words.{App, app_of, new_app, with_subcommand}
 use Rattle.clap.specs.Simple.{Shape, app_of_fields, shape_of}
-use Rattle.jls_salvage.specs.Words.{join_app, salvage_app}
-use Rattle.jls_salvage.proofs.command.command.Goals as goal
+use Rattle.jls_words.specs.Words.{join_app, salvage_app}
+use Rattle.jls_words.proofs.command.command.Goals as goal
 
 -- `subcommand_required(true)`
 abbrev must_name : App → App
