@@ -26,6 +26,7 @@ pub fn join<D: Desk, E: Sink>(
         × Joins (D.history desk.old) out.now (first.now ∷ map (λ f. f.now) others.now) joined (D.history desk.new)
         × ((result ≡ 0) ↔ IsSettled joined) }
     ensures no_usage { result ≢ 2 }
+    ensures quiet { result ≤ 1 → E.history faults.new ≡ E.history faults.old }
     ensures refused { result ≡ 3 → Refuses (D.history desk.old) (first.now ∷ map (λ f. f.now) others.now) (D.history desk.new) }
     ensures failed { result ≡ 4 → HasFailed (D.history desk.old) (D.history desk.new) }
     ensures out_of_memory { result ≡ 5 → (D.history desk.new).outputs ≡ (D.history desk.old).outputs }
