@@ -7,6 +7,7 @@ ghost use Rattle.jls_partial.specs.Partial.{PartialPicture};
 ghost use Rattle.jls_partial.specs.Status.{IsSettled};
 ghost use Rattle.jls_device.specs.Failures.{HasFailed};
 ghost use Rattle.jls_station.specs.Joining.{Joins, Refuses};
+ghost use Rattle.jls_station.specs.Stops.{IsStopped};
 ghost use Rattle.jls_device.specs.Reads.{KeepsCounts, RoseBy};
 ghost use Rattle.jls_salvage.specs.Words.{ReadsAsJoin};
 
@@ -121,6 +122,11 @@ pub fn run<D: Desk, W: Sink, E: Sink>(
         → Refuses (D.history desk.old) (first ∷ others) (D.history desk.new) }
     // Whatever the words are, status 3 comes only so.
     ensures refused_only { result ≡ 3 → (names : List (List ℕ)) × Refuses (D.history desk.old) names (D.history desk.new) }
+    // Stopped by a device: at a FILE, and then the FILEs before it were taken and nothing was created; or at OUT, after all
+    // FILEs were taken, and then OUT was not created, or created once, by its name, and handed the front of the text of
+    // the join.
+    ensures stopped { (out first : List ℕ) (others : List (List ℕ)) → ReadsAsJoin (map string_bytes words.now) out first others → result ≡ 4
+        → IsStopped (D.history desk.old) out (first ∷ others) (D.history desk.new) }
     // Whatever the words are, status 4 comes only where a device failed, or as many reads were made as one input may have.
     ensures failed { result ≡ 4 → HasFailed (D.history desk.old) (D.history desk.new)
         ⊎ RoseBy 1 (W.history report.old).write_failures (W.history report.new).write_failures }

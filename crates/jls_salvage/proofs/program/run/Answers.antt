@@ -1,6 +1,6 @@
 use Rattle.std.proofs.Common.{◌∙◌, ℕ, List, inr, map, sym}
 use Rattle.std.specs.Borrow.{Bor}
-use Rattle.jls_station.proofs.Stopping.{joins_by, refuses_by}
+use Rattle.jls_station.proofs.Stopping.{joins_by, refuses_by, stopped_by}
 use Rattle.jls_salvage.proofs.program.run.Goals as goal
 
 pub returns-in-Some-clause-join : goal.returns-in-Some-clause-join
@@ -15,6 +15,12 @@ returns-in-Some-clause-refused g c out first others reads e =
     let history = g.D.Device.history in
     let w = c.in-Some.ensures.found reads.rows out first others (c.in-Ok.ensures.rows ∙ reads.join) reads.out_is reads.files_are in
     refuses_by (history c.args.desk.now) (history c.join.new.desk) _ first _ others w.1 w.2 (c.join.ensures.refused e)
+
+pub returns-in-Some-clause-stopped : goal.returns-in-Some-clause-stopped
+returns-in-Some-clause-stopped g c out first others reads e =
+    let history = g.D.Device.history in
+    let w = c.in-Some.ensures.found reads.rows out first others (c.in-Ok.ensures.rows ∙ reads.join) reads.out_is reads.files_are in
+    stopped_by (history c.args.desk.now) (history c.join.new.desk) _ out _ first _ others w.0 w.1 w.2 (c.join.ensures.stopped e)
 
 pub returns-in-Some-clause-other_words : goal.returns-in-Some-clause-other_words
 returns-in-Some-clause-other_words g c =
