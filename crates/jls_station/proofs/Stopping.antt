@@ -107,8 +107,8 @@ stopped_writing (cause.NotWritten count) old mid new out names joined text_bytes
   joined = joined;
   inputs = takes_join_still old mid new names joined h inputs;
   because = (
-    r.0 ∙ (ap (λ (xs : List Output). xs ++ record { name = out; bytes = take count text_bytes } ∷ []) before
-        ∙ ap (λ (t : List ℕ). old.outputs ++ record { name = out; bytes = take count t } ∷ []) is_text),
+    r.0 ∙ (ap (λ (xs : List Output). xs ++ record { name = out; inputs_before = new.inputs; bytes = take count text_bytes } ∷ []) before
+        ∙ ap (λ (t : List ℕ). old.outputs ++ record { name = out; inputs_before = new.inputs; bytes = take count t } ∷ []) is_text),
     earlier_by_one _ _ _ k.write_failures r.1,
   );
 }
@@ -117,11 +117,11 @@ stopped_writing cause.OutOfMemory old mid new out names joined text_bytes h befo
 -- the inputs were taken, and then the output was written
 pub joins : (old mid new : History) (out : List ℕ) (names : List (List ℕ)) (joined : PartialPicture) (text_bytes : List ℕ)
     → TakesJoin old names joined mid → mid.outputs ≡ old.outputs → new.inputs ≡ mid.inputs
-    → new.outputs ≡ mid.outputs ++ record { name = out; bytes = text_bytes } ∷ [] → text_bytes ≡ text joined → Joins old out names joined new
+    → new.outputs ≡ mid.outputs ++ record { name = out; inputs_before = new.inputs; bytes = text_bytes } ∷ [] → text_bytes ≡ text joined → Joins old out names joined new
 joins old mid new out names joined text_bytes h before inputs outputs is_text = record {
   inputs = takes_join_still old mid new names joined h inputs;
-  outputs = outputs ∙ (ap (λ (xs : List Output). xs ++ record { name = out; bytes = text_bytes } ∷ []) before
-      ∙ ap (λ (t : List ℕ). old.outputs ++ record { name = out; bytes = t } ∷ []) is_text);
+  outputs = outputs ∙ (ap (λ (xs : List Output). xs ++ record { name = out; inputs_before = new.inputs; bytes = text_bytes } ∷ []) before
+      ∙ ap (λ (t : List ℕ). old.outputs ++ record { name = out; inputs_before = new.inputs; bytes = t } ∷ []) is_text);
 }
 
 -- the same under equal names

@@ -21,10 +21,11 @@ pub record IsNotReadWhole (name : List ℕ) (old new : History) : Type 0 where
 abbrev pub IsNotCreated : List ℕ → History → History → Type 0
 IsNotCreated bytes old new = (new.outputs ≡ old.outputs) × RoseBy 1 old.open_failures new.open_failures
 
--- one output was created, by its name, and was handed so many of the bytes, from the front on; then a write failed
+-- one output was created, by its name, no input was read after that, and it was handed so many of the bytes, from the front
+-- on; then a write failed
 abbrev pub IsWrittenInPart : ℕ → List ℕ → List ℕ → History → History → Type 0
 IsWrittenInPart count out bytes old new =
-    (new.outputs ≡ old.outputs ++ record { name = out; bytes = take count bytes } ∷ []) × RoseBy 1 old.write_failures new.write_failures
+    (new.outputs ≡ old.outputs ++ record { name = out; inputs_before = new.inputs; bytes = take count bytes } ∷ []) × RoseBy 1 old.write_failures new.write_failures
 
 -- the inputs of the names before one were taken, and the device failed at that one, in this way; nothing was created, and
 -- no input after it was opened

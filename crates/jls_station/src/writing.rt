@@ -9,7 +9,7 @@ use jls_device::{Desk, write_all};
 
 /// Creates the output of this name and hands it the bytes.
 pub fn write_output<D: Desk>(desk: &mut D, name: &str, bytes: &[u8]) -> Result<(), Cause>
-    ensures outputs { OnOk result ((D.history desk.new).outputs ≡ (D.history desk.old).outputs ++ record { name = name.now; bytes = bytes.now } ∷ []) }
+    ensures outputs { OnOk result ((D.history desk.new).outputs ≡ (D.history desk.old).outputs ++ record { name = name.now; inputs_before = (D.history desk.new).inputs; bytes = bytes.now } ∷ []) }
     ensures inputs { (D.history desk.new).inputs ≡ (D.history desk.old).inputs }
     ensures counts { KeepsCounts (D.history desk.old) (D.history desk.new) }
     ensures stopped { IfErr result (λ cause. WritesInPartFor cause (D.history desk.old) name.now bytes.now (D.history desk.new)) }
