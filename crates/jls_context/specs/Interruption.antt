@@ -32,23 +32,6 @@ abbrev pub interruption_mapped : Bool → RunCell → ℤ → ℕ
 interruption_mapped same cell e =
     2 * unsigned_abs e - one_if same - one_if (interruption_map same cell e)
 
--- map by the sign alone, which is how a coder computes `interruption_map`: `first` says what it is for errors above 0; for
--- those below it is the contrary, and for 0 it is 0
-abbrev pub map_by_sign : Bool → ℤ → Bool
-map_by_sign first e =
-    if int_lt (pos 0) e then first
-    else if int_lt e (pos 0) then not first
-    else false
-
--- whether map is 1 for errors above 0 and 0 for those below; where this is false, it is the other way round
-abbrev pub maps_positive : Bool → RunCell → Bool
-maps_positive same cell =
-    (run_k same cell == 0) && nat_lt (2 * cell.negative_errors) cell.occurrences
-
--- EM with a map by the sign, which is `interruption_mapped` for `first` = `maps_positive`
-abbrev pub mapped_by_sign : Bool → Bool → ℤ → ℕ
-mapped_by_sign same first e = 2 * unsigned_abs e - one_if same - one_if (map_by_sign first e)
-
 -- A += floor((EM + 1 - RItype) / 2), and Nn += 1 where the error is negative
 abbrev pub run_added : Bool → RunCell → ℤ → RunCell
 run_added same cell e =
@@ -68,3 +51,22 @@ unfoldable pub run_updated : ℕ → Bool → RunCell → ℤ → RunCell
 run_updated reset same cell e =
     let now = run_added same cell e in
     run_counted (if (now.occurrences == reset) then run_halved now else now)
+
+-- The same map by the sign of the error, which is how the code computes it. No public contract cites these ----
+
+-- map by the sign alone, which is how a coder computes `interruption_map`: `first` says what it is for errors above 0; for
+-- those below it is the contrary, and for 0 it is 0
+abbrev pub map_by_sign : Bool → ℤ → Bool
+map_by_sign first e =
+    if int_lt (pos 0) e then first
+    else if int_lt e (pos 0) then not first
+    else false
+
+-- whether map is 1 for errors above 0 and 0 for those below; where this is false, it is the other way round
+abbrev pub maps_positive : Bool → RunCell → Bool
+maps_positive same cell =
+    (run_k same cell == 0) && nat_lt (2 * cell.negative_errors) cell.occurrences
+
+-- EM with a map by the sign, which is `interruption_mapped` for `first` = `maps_positive`
+abbrev pub mapped_by_sign : Bool → Bool → ℤ → ℕ
+mapped_by_sign same first e = 2 * unsigned_abs e - one_if same - one_if (map_by_sign first e)

@@ -140,8 +140,7 @@ impl Cells {
         ensures mapped_at_most { result.1 ≤ 2 ^ qbpp self.now.parameters }
     {
         let cell = self.regular_cell(cell);
-        let k = cell.k();
-        (k, error_mapped(cell.uses_special_mapping(k), error))
+        (cell.k(), error_mapped(cell.uses_special_mapping(), error))
     }
 
     /// The error that `regular_code` maps to this number. None where it maps none to it.
@@ -153,7 +152,7 @@ impl Cells {
         ensures none { IfNone result ((e : ℤ) → IsError self.now.parameters e → regular_mapped (cell_at self.now cell) e ≢ mapped) }
     {
         let cell = self.regular_cell(cell);
-        let error = error_unmapped(cell.uses_special_mapping(cell.k()), mapped);
+        let error = error_unmapped(cell.uses_special_mapping(), mapped);
         if is_error(&self.params, error) {
             Some(error)
         } else {
@@ -194,8 +193,7 @@ impl Cells {
         ensures mapped_at_most { result.1 ≤ 2 ^ qbpp self.now.parameters }
     {
         let cell = self.run_cell(same);
-        let k = cell.k(same);
-        (k, cell.error_mapped(same, k, error))
+        (cell.k(same), cell.error_mapped(same, error))
     }
 
     /// The error that `run_code` maps to this number. None where it maps none to it.
@@ -211,7 +209,7 @@ impl Cells {
         if mapped > 65536 {
             return None;
         }
-        let error = cell.error_unmapped(same, cell.k(same), mapped);
+        let error = cell.error_unmapped(same, mapped);
         if is_error(&self.params, error) {
             Some(error)
         } else {

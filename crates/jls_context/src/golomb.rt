@@ -1,6 +1,6 @@
 //! The parameter of Golomb codes.
 
-ghost use Rattle.std.specs.Prelude.{◌≡◌, ◌*◌, ◌^◌, ◌≤◌};
+ghost use Rattle.std.specs.Prelude.{◌≡◌, ◌*◌, ◌^◌, ◌≤◌, ◌==◌};
 ghost use Rattle.jls_context.specs.Regular.{IsGolombK};
 
 /// The least k for which N times 2^k is at least A.
@@ -18,4 +18,11 @@ pub(crate) fn golomb_k(occurrences: u32, magnitudes: u32) -> u8
         product *= 2;
     }
     k
+}
+
+/// Whether k is 0, which is so exactly where N is at least A: then k itself isn't computed.
+pub(crate) fn is_zero_k(occurrences: u32, magnitudes: u32) -> bool
+    ensures { result ≡ (Rattle.jls_context.specs.Regular.golomb_k occurrences magnitudes == 0) }
+{
+    magnitudes <= occurrences
 }

@@ -5,7 +5,7 @@ ghost use Rattle.jls_context.specs.Regular.{IsGolombK};
 ghost use Rattle.jls_context.specs.Interruption.{initial_run_cell, interruption_magnitudes, run_k, interruption_mapped, run_updated};
 ghost use Rattle.jls_context.specs.Bounds.{IsRunCell};
 
-use crate::golomb::golomb_k;
+use crate::golomb::{golomb_k, is_zero_k};
 use crate::regular::initial_magnitudes;
 use jls_values::Params;
 
@@ -62,6 +62,18 @@ impl RunCell {
         }
     }
 
+    /// TEMP, from which k follows, where `same` says that RItype is 1.
+    fn interruption_magnitudes(self, same: bool) -> u32
+        requires cell { (reset : ℕ) × (reset < 2 ^ 16) × IsRunCell reset self }
+        ensures value { result ≡ interruption_magnitudes same self }
+    {
+        if same {
+            self.magnitudes + self.occurrences / 2
+        } else {
+            self.magnitudes
+        }
+    }
+
     /// The k of its codes, where `same` says that RItype is 1.
     pub(crate) fn k(self, same: bool) -> u8
         requires cell { (reset : ℕ) × (reset < 2 ^ 16) × IsRunCell reset self }
@@ -69,40 +81,37 @@ impl RunCell {
         ensures least { IsGolombK self.occurrences (interruption_magnitudes same self) result }
         ensures at_most { result ≤ 16 }
     {
-        let half = if same { self.occurrences / 2 } else { 0 };
-        golomb_k(self.occurrences, self.magnitudes + half)
+        golomb_k(self.occurrences, self.interruption_magnitudes(same))
     }
 
-    /// Whether `map` is 1 for errors above 0, and not for those below, where k is its k.
-    fn maps_positive(self, same: bool, k: u8) -> bool
+    /// Whether `map` is 1 for errors above 0, and not for those below.
+    fn maps_positive(self, same: bool) -> bool
         requires cell { (reset : ℕ) × (reset < 2 ^ 16) × IsRunCell reset self }
-        requires k { k ≡ run_k same self }
         ensures { result ≡ Rattle.jls_context.specs.Interruption.maps_positive same self }
     {
-        k == 0 && 2 * self.negative_errors < self.occurrences
+        is_zero_k(self.occurrences, self.interruption_magnitudes(same))
+            && 2 * self.negative_errors < self.occurrences
     }
 
-    /// The number that an error is mapped to, where k is its k.
-    pub(crate) fn error_mapped(self, same: bool, k: u8, error: i32) -> u32
+    /// The number that an error is mapped to.
+    pub(crate) fn error_mapped(self, same: bool, error: i32) -> u32
         requires cell { (reset : ℕ) × (reset < 2 ^ 16) × IsRunCell reset self }
-        requires k { k ≡ run_k same self }
         requires error_at_least { negsuc (2 ^ 17) ≤ℤ error }
         requires error_at_most { error ≤ℤ pos (2 ^ 17) }
         requires another { same ≡ true → error ≢ pos 0 }
         ensures { result ≡ interruption_mapped same self error }
     {
-        mapped_by_sign(same, self.maps_positive(same, k), error)
+        mapped_by_sign(same, self.maps_positive(same), error)
     }
 
-    /// The error that is mapped to a number, where k is its k.
-    pub(crate) fn error_unmapped(self, same: bool, k: u8, mapped: u32) -> i32
+    /// The error that is mapped to a number.
+    pub(crate) fn error_unmapped(self, same: bool, mapped: u32) -> i32
         requires cell { (reset : ℕ) × (reset < 2 ^ 16) × IsRunCell reset self }
-        requires k { k ≡ run_k same self }
         requires mapped { mapped < 2 ^ 31 }
         ensures value { interruption_mapped same self result ≡ mapped }
         ensures another { same ≡ true → result ≢ pos 0 }
     {
-        unmapped_by_sign(same, self.maps_positive(same, k), mapped)
+        unmapped_by_sign(same, self.maps_positive(same), mapped)
     }
 
     /// The cell after an error.
@@ -117,7 +126,7 @@ impl RunCell {
         ensures value { result ≡ run_updated reset same self error }
         ensures cell { IsRunCell reset result }
     {
-        let mapped = self.error_mapped(same, self.k(same), error);
+        let mapped = self.error_mapped(same, error);
         let magnitudes = self.magnitudes + (mapped + 1 - u32::from(same)) / 2;
         let negative_errors = self.negative_errors + u32::from(error < 0);
         if self.occurrences == reset {

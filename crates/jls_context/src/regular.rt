@@ -5,7 +5,7 @@ ghost use Rattle.jls_values.specs.Params.{AreCodingParameters};
 ghost use Rattle.jls_context.specs.Regular.{initial_cell, regular_k, updated, bias_computed, IsGolombK};
 ghost use Rattle.jls_context.specs.Bounds.{IsCell};
 
-use crate::golomb::golomb_k;
+use crate::golomb::{golomb_k, is_zero_k};
 use jls_values::Params;
 
 /// The variables of one context of regular mode (ITU-T T.87, A.2).
@@ -93,13 +93,12 @@ impl Cell {
         golomb_k(self.occurrences, self.magnitudes)
     }
 
-    /// Whether its errors are mapped by the special mapping, where k is its k.
-    pub(crate) fn uses_special_mapping(self, k: u8) -> bool
+    /// Whether its errors are mapped by the special mapping.
+    pub(crate) fn uses_special_mapping(self) -> bool
         requires cell { (reset : ℕ) × (reset < 2 ^ 16) × IsCell reset self }
-        requires k { k ≡ regular_k self }
         ensures { result ≡ Rattle.jls_context.specs.Regular.uses_special_mapping self }
     {
-        k == 0 && 2 * self.bias <= -(self.occurrences as i32)
+        is_zero_k(self.occurrences, self.magnitudes) && 2 * self.bias <= -(self.occurrences as i32)
     }
 
     /// The cell with its bias brought back into its range.

@@ -5,11 +5,11 @@ use Rattle.jls_interval.specs.Events.{events}
 use Rattle.jls_interval.specs.Stepwise.{StepwiseCode, Leads, bits_of_steps}
 use Rattle.jls_interval.specs.Growth.{interval_steps, start, finish}
 use Rattle.jls_interval.specs.Laws.{IsCutCode, IsCutEvent}
-use Rattle.jls_interval.proofs.Tree.{one_begins}
-use Rattle.jls_interval.proofs.Lead.{lines_lead}
-use Rattle.jls_interval.proofs.CodeLaw.{code_is}
-use Rattle.jls_interval.proofs.Cuts.{cut_converse}
-use Rattle.jls_interval.proofs.Grown.{decoded_from}
+use Rattle.jls_interval.proofs.StepwiseCodes.{one_begins}
+use Rattle.jls_interval.proofs.LinesGrow.{lines_grow}
+use Rattle.jls_interval.proofs.CodesApart.{code_is}
+use Rattle.jls_interval.proofs.CutEvents.{cut_converse}
+use Rattle.jls_interval.proofs.GrowthEnds.{decoded_from}
 
 -- whole first events, and a proper prefix of the bits of the one after them
 record CutSteps (m : StepwiseCode) (s : m.State) (given : List Bool) : Type 0 where
@@ -37,7 +37,7 @@ cut_steps m s y (f ∷ fs) given b more l e =
 module _ (p : CodingParameters) (w c n : ℕ) (some : 0 < w) (given : List Bool) where
   pub cut_code_cuts : IsCutCode p w c n given → IsCutEvent p w c n given
   cut_code_cuts h =
-      let r = cut_steps (interval_steps p w c n) start (finish w c h.lines) (events w c h.lines) given h.missing h.more_missing (lines_lead p w c n some h.lines h.are_lines) (h.code_is ∙ code_is p w c n h.lines) in
+      let r = cut_steps (interval_steps p w c n) start (finish w c h.lines) (events w c h.lines) given h.missing h.more_missing (lines_grow p w c n some h.lines h.are_lines) (h.code_is ∙ code_is p w c n h.lines) in
       record { whole = r.whole; position = r.state; leads = r.leads; cut = r.cut; is_next = r.next; begun = r.begun; given_is = r.given_is; missing = r.missing; more_missing = r.more_missing; bits_are = r.bits_are }
 
   pub cut_event_cuts : IsCutEvent p w c n given → IsCutCode p w c n given

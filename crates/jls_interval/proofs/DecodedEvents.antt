@@ -16,7 +16,7 @@ use Rattle.jls_interval.specs.Runs.{blocks, run_index_lowered}
 use Rattle.jls_interval.specs.Code.{regular_bits, event_bits}
 use Rattle.jls_interval.specs.Reading.{NoSample}
 use Rattle.jls_interval.specs.DecodedEvent.{IsLeft, SampleRead}
-use Rattle.jls_interval.proofs.Holds.{cell_used, cell_unused, run_cell_more, run_cell_learned, index_end, index_interrupted, index_other}
+use Rattle.jls_interval.proofs.FoldedEvents.{cell_used, cell_unused, run_cell_more, run_cell_learned, index_end, index_interrupted, index_other}
 
 -- the other variables leave a cell as it was
 pub cell_kept : (cells cells' : Variables) → cells'.regular ≡ cells.regular → cells'.parameters ≡ cells.parameters → (q : ℕ) → cell_at cells' q ≡ cell_at cells q

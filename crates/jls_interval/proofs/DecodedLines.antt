@@ -1,148 +1,130 @@
--- What the loop over events keeps.
-use Rattle.std.proofs.Common.{◌≡◌, ℕ, zero, suc, ◌+◌, ◌-◌, ◌*◌, ◌%◌, ◌<◌, ◌≤◌, Bool, true, false, List, [], ◌∷◌, ◌++◌, length, get_or, set, replicate, refl, sym, ap, ◌∙◌, subst, arith, inl, inr}
-use Rattle.std.proofs.lemmas.List.{get_or-set_same, get_or-set_other}
-use Rattle.std.proofs.lemmas.Bool.{cases_eq, ne_eqb}
-use Rattle.std.proofs.Math.Nat.{suc-mul}
+-- What the loop over lines keeps.
+use Rattle.std.proofs.Common.{◌≡◌, ℕ, zero, suc, ◌%◌, ◌<◌, ◌≤◌, Bool, true, false, List, [], ◌∷◌, ◌++◌, length, get_or, set, refl, sym, ap, ◌∙◌, subst, arith, inl, inr, append_assoc}
+use Rattle.std.specs.List.{AllByRecursion}
+use Rattle.std.proofs.lemmas.List.{append-nil, get_or-set_same, get_or-set_other}
+use Rattle.std.proofs.lemmas.Bool.{cases_eq}
 use Rattle.jls_values.specs.Params.{CodingParameters, AreCodingParameters}
-use Rattle.jls_context.specs.declared.mode.Neighbours.{Neighbours}
-use Rattle.jls_context.specs.declared.regular.Cell.{Cell}
 use Rattle.jls_context.specs.Regular.{initial_cell}
 use Rattle.jls_context.specs.Variables.{Variables, initial_variables, cell_at, run_cell_at}
-use Rattle.jls_interval.specs.Lines.{AreLines}
-use Rattle.jls_interval.specs.Events.{Event, regular, run_to_end, interrupted_run, Above, neighbours, above, line_back}
+use Rattle.jls_interval.specs.Lines.{IsLine}
+use Rattle.jls_interval.specs.Events.{Event, Above, line_events, above, events_after, events}
 use Rattle.jls_interval.specs.Cells.{cell_before, run_cell_before}
-use Rattle.jls_interval.specs.Runs.{is_run_of, run_index_before}
-use Rattle.jls_interval.specs.Code.{code}
-use Rattle.jls_interval.specs.Growth.{Position, Fits, added, moved, IsNext}
-use Rattle.jls_interval.specs.DecodedEvent.{IsLeft, EventRead, NoEvent, ReadsEvent, RefusesEvent}
-use Rattle.jls_interval.proofs.Holds.{index_other}
-use Rattle.jls_interval.proofs.Whole.{added_fits, grown_full, grown_part}
-use Rattle.jls_interval.proofs.Decode.{Decoded, decoded_more, decoded_end, decoded_refused}
+use Rattle.jls_interval.specs.Runs.{run_index_before}
+use Rattle.jls_interval.specs.Code.{bits_of_events, code}
+use Rattle.jls_interval.specs.DecodedEvent.{IsLeft}
+use Rattle.jls_interval.specs.DecodedLine.{LineRead, NoLine, ReadsLine, RefusesLine}
+use Rattle.jls_interval.specs.PieceFaults.{NoLines}
+use Rattle.jls_interval.proofs.CodesApart.{codes_apart}
+use Rattle.jls_interval.proofs.EncodedEvents.{bits_append}
+use Rattle.jls_interval.proofs.EncodedLines.{get_same, no_events, code_is, events_line, index_kept}
 
-abbrev pub placed : List (List ℕ) → List ℕ → List Event → Position
-placed lines line earlier = record { lines = lines; line = line; earlier = earlier }
+-- These lines were read from the front of the bits, and the variables are those that their events leave. `run_indices` has
+-- RUNindex of each component
+pub record AreRead (p : CodingParameters) (width components : ℕ) (given : List Bool) (lines : List (List ℕ)) (cells : Variables) (run_indices : List ℕ) (unread : List Bool) : Type 0 where
+  pub each : AllByRecursion (IsLine p width) lines
+  pub is_left : (component : ℕ) → component < components → IsLeft p component cells (get_or run_indices component 0) (events width components lines)
+  pub bits_are : given ≡ code p width components lines ++ unread
 
--- The bits given were read as these finished lines and this line begun; the rest is unread, and the variables are those that
--- the events leave
-pub record AreDecoded (p : CodingParameters) (w c n : ℕ) (given : List Bool) (lines : List (List ℕ)) (line : List ℕ) (cells : Variables) (run_indices : List ℕ) (unread : List Bool) : Type 0 where
-  pub earlier : List Event
-  pub decoded : Decoded p w c n given (placed lines line earlier) unread
-  pub is_left : (k : ℕ) → k < c → IsLeft p k cells (get_or run_indices k 0) earlier
+-- Nothing is read ---------------------------------------------------------------------------
 
-all_initial : (n q : ℕ) (x : Cell) → get_or (replicate n x) q x ≡ x
-all_initial zero q x = refl
-all_initial (suc n) zero x = refl
-all_initial (suc n) (suc q) x = all_initial n q x
-
-first_run_cells : (p : CodingParameters) (same : Bool) → run_cell_at (initial_variables p) same ≡ run_cell_before p [] same
-unfolding run_cell_before
-first_run_cells p true = refl
-first_run_cells p false = refl
-
--- nothing is read
-pub decoded_none : (p : CodingParameters) (w c n : ℕ) → 0 < w → (given : List Bool) (cells : Variables) (run_indices : List ℕ) → cells ≡ initial_variables p → ((k : ℕ) → get_or run_indices k 0 ≡ 0) → AreDecoded p w c n given [] [] cells run_indices given
-unfolding cell_at cell_before run_index_before
-decoded_none p w c n some given cells run_indices e zeros = record {
-  earlier = [];
-  decoded = record { leads = refl; bits_are = refl; samples = (tt, tt); unfinished = some };
-  is_left = λ k l. record {
-    regular_cells = λ q. ap (λ (z : Variables). cell_at z q) e ∙ all_initial 365 q (initial_cell p);
-    run_cells = λ same. ap (λ (z : Variables). run_cell_at z same) e ∙ first_run_cells p same;
-    run_index_is = zeros k;
-  };
+left_at_first : (p : CodingParameters) (k r : ℕ) (cells : Variables) → cells ≡ initial_variables p → r ≡ 0 → IsLeft p k cells r []
+unfolding cell_at cell_before run_cell_before run_index_before
+left_at_first p k r cells e zero_is = record {
+  regular_cells = λ q. ap (λ (z : Variables). cell_at z q) e ∙ get_same 365 (initial_cell p) q;
+  run_cells = λ same. ap (λ (z : Variables). run_cell_at z same) e ∙ first_run_cells same;
+  run_index_is = zero_is;
 }
-
--- an event of one component leaves the others' RUNindex
-apart : (p : CodingParameters) (k w : ℕ) (up : Above) (line : List ℕ) (near : Neighbours) (e : Event) → Fits p w k up line near e → (k' : ℕ) → (k ≡ k' → ⊥) → is_run_of k' e ≡ false
-apart p k w up line near (regular n s) f k' ne = refl
-apart p k w up line near (run_to_end j c) f k' ne = ne_eqb j k' (λ h. ne (sym f.1 ∙ h))
-apart p k w up line near (interrupted_run j c n s) f k' ne = ne_eqb j k' (λ h. ne (sym f.1 ∙ h))
-
-module _ (p : CodingParameters) (w c n : ℕ) (some : 0 < w) (given : List Bool) (lines : List (List ℕ)) (line : List ℕ) (cells : Variables) (run_indices : List ℕ) (left : List Bool) (a : AreDecoded p w c n given lines line cells run_indices left) (k : ℕ) (k_is : k ≡ length lines % c) where
-  abbrev here_fits : Event → Type 0
-  here_fits e = Fits p w k (above c lines) line (neighbours w (above c lines) line (length line)) e
-
-  next_is : (e : Event) → length lines < n → here_fits e → IsNext p w c n (placed lines line a.earlier) e
-  next_is e l f = (l, subst (λ z. Fits p w z (above c lines) line (neighbours w (above c lines) line (length line)) e) k_is f)
-
-  -- no event stands at the front, so no lines' code does
-  pub none_decoded : AreCodingParameters p → length lines < n → NoEvent p k w (above c lines) line left a.earlier → (ls : List (List ℕ)) (rest : List Bool) → AreLines p w n ls → given ≡ code p w c ls ++ rest → ⊥
-  none_decoded ok l none =
-      decoded_refused p w c n some ok given (placed lines line a.earlier) left a.decoded l
-      (λ e more f b. none e more (subst (λ z. Fits p w z (above c lines) line (neighbours w (above c lines) line (length line)) e) (sym k_is) f.1) b)
-
-  module _ (few : length lines < n) (within : k < length run_indices) (line' : List ℕ) (cells' : Variables) (r' : ℕ) (left' : List Bool) (m : EventRead p k w (above c lines) line line' cells' r' left left' a.earlier) where
-    -- the event ends within the line
-    pub line_grows : (length line < length line') × (length line' ≤ w)
-    line_grows = let open_line : length line < w = a.decoded.unfinished in let f = added_fits p w k (above c lines) line m.event open_line m.fits in
-        subst (λ z. (length line < length z) × (length z ≤ w)) (sym m.line_is) f
-
-    all_left : (j : ℕ) → j < c → IsLeft p j cells' (get_or (set run_indices k r') j 0) (a.earlier ++ m.event ∷ [])
-    all_left j l =
-        elim (cases_eq j k) [ inl e ↦ subst (λ y. IsLeft p y cells' (get_or (set run_indices k r') y 0) (a.earlier ++ m.event ∷ [])) (sym e) (subst (λ y. IsLeft p k cells' y (a.earlier ++ m.event ∷ [])) (sym (get_or-set_same run_indices k r' 0 within)) m.is_left) | inr ne ↦ record { regular_cells = m.is_left.regular_cells; run_cells = m.is_left.run_cells; run_index_is = get_or-set_other run_indices k j r' 0 ne ∙ index_other a.earlier m.event j (get_or run_indices j 0) (apart p k w (above c lines) line (neighbours w (above c lines) line (length line)) m.event m.fits j (λ o. ne (sym o))) (a.is_left j l).run_index_is } ]
-
-    decoded_moved : Decoded p w c n given (moved w c (placed lines line a.earlier) m.event) left'
-    decoded_moved = decoded_more p w c n some given (placed lines line a.earlier) left left' m.event a.decoded (next_is m.event few m.fits) m.bits_are
-
-    -- the line goes on
-    pub decoded_part : length line' < w → AreDecoded p w c n given lines line' cells' (set run_indices k r') left'
-    decoded_part h = record {
-      earlier = a.earlier ++ m.event ∷ [];
-      decoded = subst (λ y. Decoded p w c n given (placed lines y (a.earlier ++ m.event ∷ [])) left') (sym m.line_is) (subst (λ y. Decoded p w c n given y left') (grown_part p w c n some lines (line ++ added (neighbours w (above c lines) line (length line)).ra m.event) (a.earlier ++ m.event ∷ []) (subst (λ y. length y < w) m.line_is h)) decoded_moved);
-      is_left = all_left;
-    }
-
-    -- the line is whole
-    pub decoded_full : length line' ≡ w → AreDecoded p w c n given (lines ++ line' ∷ []) [] cells' (set run_indices k r') left'
-    decoded_full h = record {
-      earlier = a.earlier ++ m.event ∷ [];
-      decoded = subst (λ y. Decoded p w c n given (placed (lines ++ y ∷ []) [] (a.earlier ++ m.event ∷ [])) left') (sym m.line_is) (subst (λ y. Decoded p w c n given y left') (grown_full p w c n some lines (line ++ added (neighbours w (above c lines) line (length line)).ra m.event) (a.earlier ++ m.event ∷ []) (subst (λ y. length y ≡ w) m.line_is h)) decoded_moved);
-      is_left = all_left;
-    }
-
--- all lines were read
-pub decoded_all : (p : CodingParameters) (w c n : ℕ) → 0 < w → 0 < n → (given : List Bool) (lines : List (List ℕ)) (line : List ℕ) (cells : Variables) (run_indices : List ℕ) (left : List Bool) → AreDecoded p w c n given lines line cells run_indices left → n ≤ length lines
-    → AreLines p w n lines × (given ≡ code p w c lines ++ left)
-decoded_all p w c n some any given lines line cells run_indices left a h = decoded_end p w c n some given (placed lines line a.earlier) left any a.decoded h
-
--- The work that is left ---------------------------------------------------------------
-
-room : (n l w : ℕ) → l < n → w ≤ (n - l) * w
-room n l w h = let m = n - l - 1 in let e : n - l ≡ suc m = omega arith in subst (λ z. w ≤ z * w) (sym e) (more m)
   where
-    more : (m : ℕ) → w ≤ suc m * w
-    more m = let e : suc m * w ≡ m * w + w = suc-mul m w in omega arith
+    first_run_cells : (same : Bool) → run_cell_at (initial_variables p) same ≡ run_cell_before p [] same
+    first_run_cells true = refl
+    first_run_cells false = refl
 
-pub falls_part : (n l w x y : ℕ) → l < n → x < y → y ≤ w → (n - l) * w - y < (n - l) * w - x
-falls_part n l w x y a b c = let r = room n l w a in omega (arith, r)
+pub read_none : (p : CodingParameters) (w c : ℕ) (given : List Bool) (cells : Variables) (run_indices : List ℕ) → cells ≡ initial_variables p → ((k : ℕ) → get_or run_indices k 0 ≡ 0) → AreRead p w c given [] cells run_indices given
+unfolding code bits_of_events
+read_none p w c given cells run_indices e zeros =
+    let none = sym (no_events w c) in
+    record {
+      each = tt;
+      is_left = λ k l. subst (IsLeft p k cells (get_or run_indices k 0)) none (left_at_first p k (get_or run_indices k 0) cells e (zeros k));
+      bits_are = ap (λ z. bits_of_events p [] z ++ given) none;
+    }
 
-pub falls_full : (n l w x : ℕ) → l < n → x < w → (n - (l + 1)) * w - 0 < (n - l) * w - x
-falls_full n l w x a b =
-    let m = n - (l + 1) in let e : n - l ≡ suc m = omega arith in let f : suc m * w ≡ m * w + w = suc-mul m w in
-    subst (λ z. m * w - 0 < z * w - x) (sym e) (omega (arith, f))
+-- One line more -----------------------------------------------------------------------------
 
--- Small facts of the loop -------------------------------------------------------------
+each_append : (P : List ℕ → Type 0) (xs : List (List ℕ)) (x : List ℕ) → AllByRecursion P xs → P x → AllByRecursion P (xs ++ x ∷ [])
+each_append P [] x h j = (j, tt)
+each_append P (y ∷ ys) x h j = (h.0, each_append P ys x h.1 j)
 
-pub index_kept : (xs : List ℕ) (i x m : ℕ) → ((k : ℕ) → get_or xs k 0 ≤ m) → i < length xs → x ≤ m → (k : ℕ) → get_or (set xs i x) k 0 ≤ m
-index_kept xs i x m all h l k =
-    elim (cases_eq k i) [ inl e ↦ subst (λ z. get_or (set xs i x) z 0 ≤ m) (sym e) (subst (λ z. z ≤ m) (sym (get_or-set_same xs i x 0 h)) l) | inr ne ↦ subst (λ z. z ≤ m) (sym (get_or-set_other xs i k x 0 ne)) (all k) ]
+-- the events of lines and of those after them
+events_parts : (w c : ℕ) (before xs ys : List (List ℕ)) → events_after w c before (xs ++ ys) ≡ events_after w c before xs ++ events_after w c (before ++ xs) ys
+unfolding events_after
+events_parts w c before [] ys = ap (λ z. events_after w c z ys) (sym (append-nil before))
+events_parts w c before (x ∷ xs) ys =
+    let own = line_events w (length before % c) (above c before) x in
+    ap (λ z. own ++ z) (events_parts w c (before ++ x ∷ []) xs ys ∙ ap (λ z. events_after w c (before ++ x ∷ []) xs ++ events_after w c z ys) (append_assoc before (x ∷ []) xs)) ∙ sym (append_assoc own (events_after w c (before ++ x ∷ []) xs) (events_after w c (before ++ x ∷ xs) ys))
 
-pub four_zeros : (k : ℕ) → ◌≡◌ {A = ℕ} (get_or (0 ∷ 0 ∷ 0 ∷ 0 ∷ []) k 0) 0
-four_zeros zero = refl
-four_zeros (suc zero) = refl
-four_zeros (suc (suc zero)) = refl
-four_zeros (suc (suc (suc zero))) = refl
-four_zeros (suc (suc (suc (suc k)))) = refl
+-- the bits of the line after these
+abbrev line_code : CodingParameters → ℕ → ℕ → List (List ℕ) → List ℕ → List Bool
+line_code p w c lines line =
+    bits_of_events p (events w c lines) (line_events w (length lines % c) (above c lines) line)
 
-pub above_is : (c : ℕ) (lines : List (List ℕ)) (near far : List ℕ) → near ≡ line_back lines c → far ≡ line_back lines (2 * c) → (let up : Above = record { line_above = near; line_two_above = far } in up) ≡ above c lines
-above_is c lines near far a b =
-    ap (λ z. (let up : Above = record { line_above = z; line_two_above = far } in up)) a ∙ ap (λ z. (let up : Above = record { line_above = line_back lines c; line_two_above = z } in up)) b
+module _ (p : CodingParameters) (w c : ℕ) where
+  code_more : (lines : List (List ℕ)) (line : List ℕ) → code p w c (lines ++ line ∷ []) ≡ code p w c lines ++ line_code p w c lines line
+  code_more lines line =
+      code_is p w c (lines ++ line ∷ []) ∙ ap (bits_of_events p []) (events_line w c [] lines line) ∙ bits_append p [] (events w c lines) (line_events w (length lines % c) (above c lines) line) ∙ ap (λ z. z ++ line_code p w c lines line) (sym (code_is p w c lines))
+
+  -- the code of lines goes on with the next line's bits
+  code_begins : (xs : List (List ℕ)) (l : List ℕ) (more : List (List ℕ)) → (rest : List Bool) × (code p w c (xs ++ l ∷ more) ≡ (code p w c xs ++ line_code p w c xs l) ++ rest)
+  code_begins xs l more =
+      let first = xs ++ l ∷ [] in let later = events_after w c first more in
+      let rest = bits_of_events p (events w c first) later in
+      (rest, ap (code p w c) (sym (append_assoc xs (l ∷ []) more)) ∙ code_is p w c (first ++ more) ∙ ap (bits_of_events p []) (events_parts w c [] first more) ∙ bits_append p [] (events w c first) later ∙ ap (λ z. z ++ rest) (sym (code_is p w c first) ∙ code_more xs l))
+
+-- the lines before one of them, it, and those after it
+split_at : (P : List ℕ → Type 0) (j : ℕ) (ls : List (List ℕ)) → j < length ls → AllByRecursion P ls
+    → (xs : List (List ℕ)) × (l : List ℕ) × (more : List (List ℕ)) × (ls ≡ xs ++ l ∷ more) × (length xs ≡ j) × AllByRecursion P xs × P l
+split_at P j [] h a = absurd (omega arith)
+split_at P zero (l ∷ ls) h a = ([], l, ls, refl, refl, tt, a.0)
+split_at P (suc j) (x ∷ ls) h a =
+    let r = split_at P j ls (omega arith) a.1 in let n = r.4 in
+    (x ∷ r.0, r.1, r.2, ap (λ z. x ∷ z) r.3, omega arith, (a.0, r.5), r.6)
+
+module _ (p : CodingParameters) (w c : ℕ) (given : List Bool) (lines : List (List ℕ)) (cells : Variables) (run_indices : List ℕ) (left : List Bool) (a : AreRead p w c given lines cells run_indices left) (k : ℕ) (k_is : k ≡ length lines % c) where
+  abbrev earlier : List Event
+  earlier = events w c lines
+
+  pub read_more : k < length run_indices → (line : List ℕ) (cells' : Variables) (r' : ℕ) (left' : List Bool) → LineRead p k w (above c lines) line cells' r' left left' (events w c lines)
+      → AreRead p w c given (lines ++ line ∷ []) cells' (set run_indices k r') left'
+  read_more within line cells' r' left' m =
+      let own = line_events w k (above c lines) line in
+      let own_is : own ≡ line_events w (length lines % c) (above c lines) line = ap (λ z. line_events w z (above c lines) line) k_is in
+      let now : earlier ++ own ≡ events w c (lines ++ line ∷ []) = ap (λ z. earlier ++ z) own_is ∙ sym (events_line w c [] lines line) in
+      let its : IsLeft p k cells' r' (events w c (lines ++ line ∷ [])) = subst (IsLeft p k cells' r') now m.is_left in
+      record {
+        each = each_append (IsLine p w) lines line a.each m.is_line;
+        is_left = λ j l. elim (cases_eq j k) [ inl e ↦ subst (λ y. IsLeft p y cells' (get_or (set run_indices k r') y 0) (events w c (lines ++ line ∷ []))) (sym e) (subst (λ y. IsLeft p k cells' y (events w c (lines ++ line ∷ []))) (sym (get_or-set_same run_indices k r' 0 within)) its) | inr ne ↦ record { regular_cells = its.regular_cells; run_cells = its.run_cells; run_index_is = get_or-set_other run_indices k j r' 0 ne ∙ (a.is_left j l).run_index_is ∙ index_kept w k (above c lines) line j ne w 0 earlier ∙ ap (λ z. run_index_before z j) now } ];
+        bits_are = a.bits_are ∙ ap (λ z. code p w c lines ++ z) m.bits_are ∙ ap (λ z. code p w c lines ++ (bits_of_events p earlier z ++ left')) own_is ∙ sym (append_assoc (code p w c lines) (line_code p w c lines line) left') ∙ ap (λ z. z ++ left') (sym (code_more p w c lines line));
+      }
+
+  -- no line stands at the front, so no lines' code does
+  pub read_refused : AreCodingParameters p → 0 < w → (n : ℕ) → length lines < n → NoLine p k w (above c lines) left (events w c lines) → NoLines p w c n given
+  read_refused ok some n few none = λ ls rest are e.
+      let count = are.count_is in let s = split_at (IsLine p w) (length lines) ls (omega arith) are.each in let xs = s.0 in let l = s.1 in
+      let g = code_begins p w c xs l s.2 in
+      let whole : code p w c lines ++ left ≡ code p w c xs ++ (line_code p w c xs l ++ (g.0 ++ rest)) = sym a.bits_are ∙ e ∙ ap (λ z. code p w c z ++ rest) s.3 ∙ ap (λ z. z ++ rest) g.1 ∙ append_assoc (code p w c xs ++ line_code p w c xs l) g.0 rest ∙ append_assoc (code p w c xs) (line_code p w c xs l) (g.0 ++ rest) in
+      let law = codes_apart p w c (length lines) ok some lines xs left (line_code p w c xs l ++ (g.0 ++ rest)) (record { count_is = refl; each = a.each }) (record { count_is = s.4; each = s.5 }) whole in
+      none l (g.0 ++ rest) s.6 (law.1 ∙ ap (λ (z : List (List ℕ)). line_code p w c z l ++ (g.0 ++ rest)) (sym law.0) ∙ ap (λ z. bits_of_events p earlier (line_events w z (above c lines) l) ++ (g.0 ++ rest)) (sym k_is))
+
+-- the samples of lines are at most MAXVAL
+pub small_lines : (p : CodingParameters) (w : ℕ) (lines : List (List ℕ)) → AllByRecursion (IsLine p w) lines → AllByRecursion (λ l. AllByRecursion (λ s. s ≤ p.maxval) l) lines
+small_lines p w [] h = tt
+small_lines p w (l ∷ ls) h = (h.0.1, small_lines p w ls h.1)
 
 -- What a call's answer says of one component after its earlier events, where the call speaks of equal parameters and lines
-module _ (p q : CodingParameters) (q_is : q ≡ p) (w k : ℕ) (up up' : Above) (up_is : up ≡ up') (line : List ℕ) (cells : Variables) (r : ℕ) (given : List Bool) (earlier : List Event) (t : IsLeft p k cells r earlier) where
-  pub event_read : (line' : List ℕ) (cells' : Variables) (r' : ℕ) (unread : List Bool) → ReadsEvent q w up line line' cells cells' r r' given unread → EventRead p k w up' line line' cells' r' given unread earlier
-  event_read line' cells' r' unread e =
-      subst (λ z. EventRead p k w z line line' cells' r' given unread earlier) up_is (subst (λ (z : CodingParameters). ReadsEvent z w up line line' cells cells' r r' given unread) q_is e k earlier t)
+module _ (p q : CodingParameters) (q_is : q ≡ p) (w k : ℕ) (up up' : Above) (up_is : up ≡ up') (cells : Variables) (r : ℕ) (given : List Bool) (earlier : List Event) (t : IsLeft p k cells r earlier) where
+  pub line_read : (line : List ℕ) (cells' : Variables) (r' : ℕ) (unread : List Bool) → ReadsLine q w up line cells cells' r r' given unread → LineRead p k w up' line cells' r' given unread earlier
+  line_read line cells' r' unread e =
+      subst (λ z. LineRead p k w z line cells' r' given unread earlier) up_is (subst (λ (z : CodingParameters). ReadsLine z w up line cells cells' r r' given unread) q_is e k earlier t)
 
-  pub no_event : RefusesEvent q w up line cells r given → NoEvent p k w up' line given earlier
-  no_event e = subst (λ z. NoEvent p k w z line given earlier) up_is (subst (λ (z : CodingParameters). RefusesEvent z w up line cells r given) q_is e k earlier t)
+  pub no_line : RefusesLine q w up cells r given → NoLine p k w up' given earlier
+  no_line e = subst (λ z. NoLine p k w z given earlier) up_is (subst (λ (z : CodingParameters). RefusesLine z w up cells r given) q_is e k earlier t)

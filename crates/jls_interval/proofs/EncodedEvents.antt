@@ -1,5 +1,5 @@
 -- Events that were written, one after another: the variables and RUNindex that they leave, and their bits.
-use Rattle.std.proofs.Common.{◌≡◌, ℕ, ◌+◌, ◌-◌, ◌<◌, ◌≤◌, Bool, true, false, not, cond, List, [], ◌∷◌, ◌++◌, refl, sym, ap, ◌∙◌, subst, arith, inl, inr, append_assoc}
+use Rattle.std.proofs.Common.{◌≡◌, ℕ, ◌+◌, ◌-◌, ◌≤◌, Bool, true, false, not, cond, List, [], ◌∷◌, ◌++◌, refl, sym, ap, ◌∙◌, subst, arith, inl, inr, append_assoc}
 use Rattle.std.specs.Prelude.{ℤ, pos, neg_ℤ, ◌-ℤ◌, ◌<ℤ◌}
 use Rattle.std.proofs.lemmas.Int.{ints}
 use Rattle.std.proofs.lemmas.List.{append-nil}
@@ -20,7 +20,7 @@ use Rattle.jls_interval.specs.Cells.{regular_error, cell_before, uses_cell, is_s
 use Rattle.jls_interval.specs.Runs.{run_order, blocks, run_index_before, run_index_lowered}
 use Rattle.jls_interval.specs.Code.{regular_bits, run_to_end_bits, interrupted_run_bits, interrupting_bits, event_bits, bits_of_events}
 use Rattle.jls_interval.specs.Encoding.{AreCellsAfter, Encoder, IsAfter, Writes}
-use Rattle.jls_interval.proofs.Holds.{cell_used, cell_unused, run_cell_more, index_end, index_interrupted, index_other}
+use Rattle.jls_interval.proofs.FoldedEvents.{cell_used, cell_unused, run_cell_more, index_end, index_interrupted, index_other}
 use Rattle.jls_interval.proofs.WrittenRuns.{interruption_then}
 
 -- One list of events behind another ----------------------------------------------------
@@ -178,8 +178,8 @@ module _ (old new : Variables) (near : Neighbours) (sample : ℕ) where
         → order ≡ run_order raised → after ≡ middle ++ interrupting_bits was (run_cell_at old same) near order sample → index ≡ run_index_lowered raised
         → Writes was component (record { cells = old; run_index = run_index; written = before }) (record { cells = new; run_index = index; written = after }) (interrupted_run component count near sample ∷ [])
     interrupted_writes run_index raised index order before middle after m r o a i =
-        let run = blocks run_index count in let tail = interrupting_bits was (run_cell_at old same) near (run_order run.run_index) sample in
-        let written : after ≡ before ++ interrupted_run_bits run tail = a ∙ ap (λ z. z ++ interrupting_bits was (run_cell_at old same) near order sample) m ∙ ap (λ z. (before ++ interrupted_run_bits run []) ++ interrupting_bits was (run_cell_at old same) near z sample) (o ∙ ap run_order r) ∙ append_assoc before (interrupted_run_bits run []) tail ∙ ap (λ z. before ++ z) (interruption_then run tail) in
+        let run = blocks run_index count in let line_events_from = interrupting_bits was (run_cell_at old same) near (run_order run.run_index) sample in
+        let written : after ≡ before ++ interrupted_run_bits run line_events_from = a ∙ ap (λ z. z ++ interrupting_bits was (run_cell_at old same) near order sample) m ∙ ap (λ z. (before ++ interrupted_run_bits run []) ++ interrupting_bits was (run_cell_at old same) near z sample) (o ∙ ap run_order r) ∙ append_assoc before (interrupted_run_bits run []) line_events_from ∙ ap (λ z. before ++ z) (interruption_then run line_events_from) in
         record {
           is_after = λ earlier h. record { cells_are = interrupted_cells earlier h.cells_are; run_index_is = index_interrupted earlier component count near sample run_index h.run_index_is index (i ∙ ap run_index_lowered r) };
           bits_are = λ earlier h. written ∙ ap (λ (z : RunCell). before ++ interrupted_run_bits run (interrupting_bits was z near (run_order run.run_index) sample)) (h.cells_are.interruption same) ∙ ap (λ z. before ++ interrupted_run_bits (blocks z count) (interrupting_bits was (run_cell_before was earlier same) near (run_order (blocks z count).run_index) sample)) h.run_index_is ∙ ap (λ z. before ++ z) (sym (event_interrupted was earlier component count near sample) ∙ sym (bits_one was earlier (interrupted_run component count near sample)));

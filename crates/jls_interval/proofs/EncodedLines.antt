@@ -8,14 +8,14 @@ use Rattle.jls_context.specs.Mode.{is_run_mode}
 use Rattle.jls_context.specs.Regular.{initial_cell}
 use Rattle.jls_context.specs.Variables.{Variables, cell_at, initial_variables}
 use Rattle.jls_interval.specs.Lines.{IsLine}
-use Rattle.jls_interval.specs.Events.{Event, regular, Above, neighbours, above, line_back, run_stop, Stretch, stretch, events_from, line_events, events_after, events}
+use Rattle.jls_interval.specs.Events.{Event, Above, neighbours, above, line_back, run_stop, Stretch, stretch, events_from, line_events, events_after, events}
 use Rattle.jls_interval.specs.Cells.{cell_before, run_cell_before}
 use Rattle.jls_interval.specs.Runs.{is_run_of, run_index_before}
 use Rattle.jls_interval.specs.Code.{bits_of_events, code}
 use Rattle.jls_interval.specs.Encoding.{AreCellsAfter, Encoder, IsAfter, Writes, IsBegun, AreWritten}
-use Rattle.jls_interval.proofs.Holds.{index_other}
-use Rattle.jls_interval.proofs.Parting.{past, more, at_regular, at_end, at_stop}
-use Rattle.jls_interval.proofs.Whole.{fuel_same}
+use Rattle.jls_interval.proofs.FoldedEvents.{index_other}
+use Rattle.jls_interval.proofs.Stretches.{past, more, at_regular, at_end, at_stop}
+use Rattle.jls_interval.proofs.GrownLines.{fuel_same}
 use Rattle.jls_interval.proofs.EncodedEvents.{bits_append, bits_none, writes_none, writes_then}
 
 -- The columns of a line ------------------------------------------------------------------
@@ -63,7 +63,7 @@ module _ (w k : ℕ) (up : Above) (line : List ℕ) (other : ℕ) (differs : oth
 
 -- The lines of an interval -----------------------------------------------------------------
 
-events_line : (w c : ℕ) (before xs : List (List ℕ)) (line : List ℕ)
+pub events_line : (w c : ℕ) (before xs : List (List ℕ)) (line : List ℕ)
     → events_after w c before (xs ++ line ∷ []) ≡ events_after w c before xs ++ line_events w (length (before ++ xs) % c) (above c (before ++ xs)) line
 unfolding events_after
 events_line w c before [] line =
@@ -78,11 +78,11 @@ module _ (w c : ℕ) (lines : List (List ℕ)) (j : ℕ) (within : j < length li
       let n : length (take j lines) ≡ j = length-take-le j lines (omega arith) in
       ap (events w c) (take_more lines j [] within) ∙ events_line w c [] (take j lines) (get_or lines j []) ∙ ap (λ z. events w c (take j lines) ++ line_events w (z % c) (above c (take j lines)) (get_or lines j [])) n
 
-no_events : (w c : ℕ) → events w c [] ≡ []
+pub no_events : (w c : ℕ) → events w c [] ≡ []
 unfolding events_after
 no_events w c = refl
 
-code_is : (p : CodingParameters) (w c : ℕ) (lines : List (List ℕ)) → code p w c lines ≡ bits_of_events p [] (events w c lines)
+pub code_is : (p : CodingParameters) (w c : ℕ) (lines : List (List ℕ)) → code p w c lines ≡ bits_of_events p [] (events w c lines)
 unfolding code
 code_is p w c lines = refl
 

@@ -6,7 +6,7 @@ use Rattle.std.proofs.lemmas.List.Sums.{prefix_len_passes, prefix_len_stops, pre
 use Rattle.std.proofs.lemmas.Bool.{eqb-true, eqb-false}
 use Rattle.jls_context.specs.Mode.{is_run_mode}
 use Rattle.jls_interval.specs.Events.{run_to_end, interrupted_run, Above, neighbours, run_stop, stretch}
-use Rattle.jls_interval.proofs.Parting.{to, stretch_same, at_end, at_stop}
+use Rattle.jls_interval.proofs.Stretches.{to, stretch_same, at_end, at_stop}
 
 -- the samples from column x on are those of a slice
 pub counted : (line : List ℕ) (x value count : ℕ) → count ≡ prefix_len (λ s. eqb s value) (take (length line - x) (drop x line)) → count ≡ prefix_len (λ s. eqb s value) (drop x line)

@@ -14,7 +14,7 @@ use Rattle.jls_interval.specs.Growth.{Fits}
 use Rattle.jls_interval.specs.Code.{interrupted_run_bits, interrupting_bits}
 use Rattle.jls_interval.specs.Reading.{NoRun, NoInterruption}
 use Rattle.jls_interval.proofs.Runs.{run_index_before_small, run_apart, run_same}
-use Rattle.jls_interval.proofs.StepLaw.{broken_is, run_value, true_false}
+use Rattle.jls_interval.proofs.EventsApart.{broken_is, run_value, true_false}
 
 module _ (p : CodingParameters) (wide : range p ≤ 2 ^ qbpp p) (w k : ℕ) (up : Above) (above_small : AllByRecursion (λ s. s ≤ p.maxval) up.line_above) (line : List ℕ) (earlier : List Event) (r : ℕ) (r_is : r ≡ run_index_before earlier k) (w0 : ℕ) (w0_is : length line + w0 ≡ w) where
   abbrev now : Neighbours

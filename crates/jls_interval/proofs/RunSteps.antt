@@ -13,7 +13,7 @@ use Rattle.jls_interval.specs.declared.run_reader.Run.TheVariants.{ToEnd, Interr
 use Rattle.jls_interval.specs.declared.run_reader.RunState.{RunState}
 use Rattle.jls_interval.specs.declared.run_reader.RunState.TheVariants.{Blocks, Count}
 use Rattle.jls_interval.proofs.Runs.{risen}
-use Rattle.jls_interval.proofs.Taken.{taken_with, taken_more, taken_start, ended, ended_short, broken_here, no_run_empty, no_run_zero, no_run_long}
+use Rattle.jls_interval.proofs.BlocksTaken.{taken_with, taken_more, taken_start, ended, ended_short, broken_here, no_run_empty, no_run_zero, no_run_long}
 
 -- fewer bits than a number has
 bits_short : (i n x m : ℕ) (rest : List Bool) → i < n → bits i x ≡ bits n m ++ rest → ⊥

@@ -10,7 +10,7 @@ use Rattle.jls_interval.specs.Events.{Event, regular, run_to_end, interrupted_ru
 use Rattle.jls_interval.specs.Runs.{run_order, run_index_raised, block_columns, full_blocks, Blocks, blocks, is_run_of, run_index_after, run_index_before}
 use Rattle.jls_interval.specs.Code.{run_to_end_bits, interrupted_run_bits}
 use Rattle.jls_bits.proofs.NumberBits.{bits_same}
-use Rattle.jls_interval.proofs.Least.{least_passes, least_before}
+use Rattle.jls_interval.proofs.LeastPassing.{least_passes, least_before}
 
 -- How many full blocks there are -----------------------------------------------
 

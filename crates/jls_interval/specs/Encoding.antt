@@ -1,21 +1,11 @@
 -- What an encoder keeps and has written between two events, against the earlier events of its interval.
-use Rattle.std.specs.Prelude.{◌≡◌, ℕ, ◌<◌, ◌≤◌, ◌+◌, Bool, List, ◌++◌, length, take, get_or}
-use Rattle.jls_values.specs.Params.{CodingParameters, qbpp, limit}
+use Rattle.std.specs.Prelude.{◌≡◌, ℕ, ◌<◌, Bool, List, ◌++◌, length, take, get_or}
+use Rattle.jls_values.specs.Params.{CodingParameters}
 use Rattle.jls_context.specs.Variables.{Variables, cell_at, run_cell_at}
-use Rattle.jls_interval.specs.declared.encode_sample.CodeLengths.{CodeLengths}
 use Rattle.jls_interval.specs.Events.{Event, Above, events_from, line_events, events}
 use Rattle.jls_interval.specs.Cells.{cell_before, run_cell_before}
 use Rattle.jls_interval.specs.Runs.{run_index_before}
 use Rattle.jls_interval.specs.Code.{bits_of_events, code}
-
--- these are qbpp and LIMIT, and so within these bounds
-pub record AreLengths (p : CodingParameters) (lengths : CodeLengths) : Type 0 where
-  pub qbpp_is : lengths.qbpp ≡ qbpp p
-  pub limit_is : lengths.limit ≡ limit p
-  pub qbpp_at_least : 1 ≤ lengths.qbpp
-  pub qbpp_at_most : lengths.qbpp ≤ 16
-  pub limit_at_least : lengths.qbpp + 18 ≤ lengths.limit
-  pub limit_at_most : lengths.limit ≤ 64
 
 -- the parameters are these, and the variables of the contexts are those that the earlier events leave
 pub record AreCellsAfter (p : CodingParameters) (cells : Variables) (earlier : List Event) : Type 0 where

@@ -5,7 +5,7 @@ use Rattle.jls_interval.specs.Lines.{AreLines, neighbours_at}
 use Rattle.jls_interval.specs.Events.{Event, AreEvents, neighbours, above, events}
 use Rattle.jls_interval.specs.Runs.{block_columns, full_blocks}
 use Rattle.jls_interval.specs.Code.{event_bits, code}
-use Rattle.jls_interval.specs.Reads.{BeginsWithCode, Reads, IsLong, IsBroken, packed}
+use Rattle.jls_interval.specs.Reads.{BeginsWithCode, Reads, IsLong, IsBroken}
 use Rattle.jls_interval.specs.Stepwise.{Leads, bits_of_steps, IsEnd, IsPrefixFree}
 use Rattle.jls_interval.specs.Growth.{Position, IsNext, interval_steps, start, finish}
 
@@ -96,9 +96,3 @@ abbrev pub CutsAreExact : Type 0
 CutsAreExact =
     (p : CodingParameters) (width components count : ℕ) → AreCodingParameters p → 0 < width
     → (given : List Bool) → IsCutCode p width components count given ↔ IsCutEvent p width components count given
-
--- what lines are written as reads as them
-abbrev pub PackedLinesRead : Type 0
-PackedLinesRead =
-    (p : CodingParameters) (width components count : ℕ) (lines : List (List ℕ)) → AreLines p width count lines
-    → Reads p width components count (packed p width components lines) lines

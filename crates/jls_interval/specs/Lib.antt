@@ -3,6 +3,7 @@ pub mod Events
 pub mod Cells
 pub mod Runs
 pub mod Code
+pub mod CodeLengths
 pub mod Reading
 pub mod Reads
 pub mod Stepwise
@@ -11,6 +12,7 @@ pub mod Growth
 pub mod Laws
 pub mod RunState
 pub mod DecodedEvent
+pub mod DecodedLine
 pub mod PieceFaults
 pub mod Encoding
 pub mod ReadBack

@@ -7,5 +7,6 @@ use Rattle.jls_interval.specs.Reads.{Reads, packed}
 -- the bytes that lines are written as read as these lines, and as no others
 abbrev pub PackedLinesReadBack : Type 0
 PackedLinesReadBack =
-    (p : CodingParameters) (width components count : ℕ) → AreCodingParameters p → 0 < width → (lines : List (List ℕ)) → AreLines p width count lines
-    → Reads p width components count (packed p width components lines) lines × ((others : List (List ℕ)) → Reads p width components count (packed p width components lines) others → others ≡ lines)
+    (p : CodingParameters) (width components count : ℕ) (lines : List (List ℕ)) → AreLines p width count lines
+    → Reads p width components count (packed p width components lines) lines
+    × (AreCodingParameters p → 0 < width → (others : List (List ℕ)) → Reads p width components count (packed p width components lines) others → others ≡ lines)

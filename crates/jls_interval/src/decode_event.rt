@@ -5,16 +5,17 @@ ghost use Rattle.std.specs.List.{AllByRecursion};
 ghost use Rattle.jls_values.specs.Params.{AreCodingParameters};
 ghost use Rattle.jls_context.specs.Mode.{is_run_mode, IsRegularMode};
 ghost use Rattle.jls_interval.specs.Events.{Event, regular, neighbours};
+ghost use Rattle.jls_interval.specs.CodeLengths.{AreLengths};
 ghost use Rattle.jls_interval.specs.Code.{event_bits};
 ghost use Rattle.jls_interval.specs.DecodedEvent.{IsLeft, SampleRead, ReadsEvent, RefusesEvent};
 
+use crate::code_lengths::CodeLengths;
 use crate::decode_sample::{read_interruption, read_regular};
 use crate::neighbours::neighbours_at;
 use crate::run_index::{lowered, run_order};
 use crate::run_reader::{Run, read_run};
 use jls_bits::BitReader;
 use jls_context::{Cells, Mode, Neighbours};
-use jls_values::Params;
 use std::alloc::AllocError;
 
 /// Adds the samples of a run to its line.
@@ -30,13 +31,13 @@ fn push_run(line: &mut Vec<u16>, value: u16, count: u32) -> Result<(), AllocErro
 /// Reads a sample of regular mode in this context, and takes in its error.
 fn read_regular_event(
     reader: &mut BitReader<'_>,
-    params: &Params,
     cells: &mut Cells,
+    lengths: CodeLengths,
     near: Neighbours,
     cell: u16,
     negative: bool,
 ) -> Option<u16>
-    requires parameters { params.now ≡ cells.old.parameters }
+    requires lengths { AreLengths cells.old.parameters lengths }
     requires ranges { AreCodingParameters cells.old.parameters }
     requires mode { IsRegularMode cells.old.parameters near cell negative }
     ensures read { IfSome result (λ s. (component run_index : ℕ) (earlier : List Event) → IsLeft cells.old.parameters component cells.old run_index earlier → SampleRead cells.old.parameters near s cells.new reader.old.left reader.new.left component run_index earlier) }
@@ -45,7 +46,7 @@ fn read_regular_event(
     ensures parameters { cells.new.parameters ≡ cells.old.parameters }
     ensures whole { reader.new.whole ≡ reader.old.whole }
 {
-    match read_regular(reader, params, cells, near, cell, negative) {
+    match read_regular(reader, cells, lengths, near, cell, negative) {
         None => None,
         Some(sample) => {
             cells.update_regular(cell, sample.error);
@@ -57,8 +58,8 @@ fn read_regular_event(
 /// Reads a run of this value and what ends it, and gives the new RUNindex.
 fn read_run_event(
     reader: &mut BitReader<'_>,
-    params: &Params,
     cells: &mut Cells,
+    lengths: CodeLengths,
     run_index: u8,
     line_above: &[u16],
     line_two_above: &[u16],
@@ -66,7 +67,7 @@ fn read_run_event(
     width: usize,
     value: u16,
 ) -> Result<Option<u8>, AllocError>
-    requires parameters { params.now ≡ cells.old.parameters }
+    requires lengths { AreLengths cells.old.parameters lengths }
     requires ranges { AreCodingParameters cells.old.parameters }
     requires run_index { run_index ≤ 31 }
     requires above { AllByRecursion (λ s. s ≤ cells.old.parameters.maxval) line_above.now }
@@ -76,6 +77,7 @@ fn read_run_event(
     requires value { value ≡ (neighbours width (record { line_above = line_above.now; line_two_above = line_two_above.now }) line.old.items (length line.old.items)).ra }
     ensures read { IfOk result (λ o. IfSome o (λ next. ReadsEvent cells.old.parameters width (record { line_above = line_above.now; line_two_above = line_two_above.now }) line.old.items line.new.items cells.old cells.new run_index next reader.old.left reader.new.left)) }
     ensures refused { IfOk result (λ o. IfNone o (RefusesEvent cells.old.parameters width (record { line_above = line_above.now; line_two_above = line_two_above.now }) line.old.items cells.old run_index reader.old.left)) }
+    ensures columns { IfOk result (λ o. IfSome o (λ _. (length line.old.items < length line.new.items) × (length line.new.items ≤ width))) }
     ensures run_index { IfOk result (λ o. IfSome o (λ next. next ≤ 31)) }
     ensures parameters { cells.new.parameters ≡ cells.old.parameters }
     ensures whole { reader.new.whole ≡ reader.old.whole }
@@ -91,7 +93,7 @@ fn read_run_event(
             push_run(line, value, count)?;
             let column = line.len();
             let near = neighbours_at(width, line_above, line_two_above, line, column);
-            match read_interruption(reader, params, cells, near, run_order(run_index)) {
+            match read_interruption(reader, cells, lengths, near, run_order(run_index)) {
                 None => Ok(None),
                 Some(sample) => {
                     cells.update_run(near.ra == near.rb, sample.error);
@@ -108,15 +110,15 @@ fn read_run_event(
 /// that can come next.
 pub(crate) fn read_event(
     reader: &mut BitReader<'_>,
-    params: &Params,
     cells: &mut Cells,
+    lengths: CodeLengths,
     run_index: u8,
     line_above: &[u16],
     line_two_above: &[u16],
     line: &mut Vec<u16>,
     width: usize,
 ) -> Result<Option<u8>, AllocError>
-    requires parameters { params.now ≡ cells.old.parameters }
+    requires lengths { AreLengths cells.old.parameters lengths }
     requires ranges { AreCodingParameters cells.old.parameters }
     requires run_index { run_index ≤ 31 }
     requires above { AllByRecursion (λ s. s ≤ cells.old.parameters.maxval) line_above.now }
@@ -124,6 +126,7 @@ pub(crate) fn read_event(
     requires columns { length line.old.items < width }
     ensures read { IfOk result (λ o. IfSome o (λ next. ReadsEvent cells.old.parameters width (record { line_above = line_above.now; line_two_above = line_two_above.now }) line.old.items line.new.items cells.old cells.new run_index next reader.old.left reader.new.left)) }
     ensures refused { IfOk result (λ o. IfNone o (RefusesEvent cells.old.parameters width (record { line_above = line_above.now; line_two_above = line_two_above.now }) line.old.items cells.old run_index reader.old.left)) }
+    ensures columns { IfOk result (λ o. IfSome o (λ _. (length line.old.items < length line.new.items) × (length line.new.items ≤ width))) }
     ensures run_index { IfOk result (λ o. IfSome o (λ next. next ≤ 31)) }
     ensures parameters { cells.new.parameters ≡ cells.old.parameters }
     ensures whole { reader.new.whole ≡ reader.old.whole }
@@ -133,8 +136,8 @@ pub(crate) fn read_event(
     match cells.mode(near.ra, near.rb, near.rc, near.rd) {
         Mode::Run => read_run_event(
             reader,
-            params,
             cells,
+            lengths,
             run_index,
             line_above,
             line_two_above,
@@ -143,7 +146,7 @@ pub(crate) fn read_event(
             near.ra,
         ),
         Mode::Regular { cell, negative } => {
-            match read_regular_event(reader, params, cells, near, cell, negative) {
+            match read_regular_event(reader, cells, lengths, near, cell, negative) {
                 None => Ok(None),
                 Some(sample) => {
                     line.push(sample)?;

@@ -7,7 +7,8 @@ ghost use Rattle.jls_interval.specs.Lines.{AreLines};
 ghost use Rattle.jls_interval.specs.Reads.{Reads};
 ghost use Rattle.jls_interval.specs.PieceFaults.{FaultIs, NoLines};
 
-use crate::decode_event::read_event;
+use crate::code_lengths::CodeLengths;
+use crate::decode_line::read_line;
 use crate::neighbours::line_back;
 use jls_bits::BitReader;
 use jls_context::Cells;
@@ -54,19 +55,19 @@ fn read_lines(
     ensures none { IfOk result (λ o. IfNone o (NoLines params.now width components count reader.old.left)) }
     ensures whole { reader.new.whole ≡ reader.old.whole }
 {
+    let lengths = CodeLengths::of(params);
     let mut cells = Cells::new(params);
     let mut run_indices = [0u8; 4];
     let mut lines: Vec<Vec<u16>> = Vec::new(alloc);
-    let mut line: Vec<u16> = Vec::new(alloc);
-    'events: while lines.len() < count {
-        line.reserve(width - line.len())?;
-        let component = lines.len() % components;
+    for j in 0..count {
+        let component = j % components;
         let line_above = line_back(&lines, components);
         let line_two_above = line_back(&lines, 2 * components);
-        match read_event(
+        let mut line: Vec<u16> = Vec::new(alloc);
+        match read_line(
             reader,
-            params,
             &mut cells,
+            lengths,
             run_indices[component],
             line_above,
             line_two_above,
@@ -74,13 +75,9 @@ fn read_lines(
             width,
         )? {
             None => return Ok(None),
-            Some(run_index) => run_indices[component] = run_index,
+            Some(after) => run_indices[component] = after,
         }
-        if line.len() == width {
-            let full = line;
-            line = Vec::new(alloc);
-            lines.push(full)?;
-        }
+        lines.push(line)?;
     }
     Ok(Some(lines))
 }

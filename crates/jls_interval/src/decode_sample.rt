@@ -6,12 +6,13 @@ ghost use Rattle.jls_context.specs.Mode.{IsRegularMode};
 ghost use Rattle.jls_context.specs.Errors.{IsError};
 ghost use Rattle.jls_context.specs.Variables.{cell_at, run_cell_at};
 ghost use Rattle.jls_interval.specs.Cells.{regular_error, is_same, interruption_error};
+ghost use Rattle.jls_interval.specs.CodeLengths.{AreLengths};
 ghost use Rattle.jls_interval.specs.Code.{regular_bits, interrupting_bits};
 ghost use Rattle.jls_interval.specs.Reading.{NoSample, NoInterruption};
 
+use crate::code_lengths::CodeLengths;
 use jls_bits::{BitReader, read_golomb};
 use jls_context::{Cells, Neighbours};
-use jls_values::Params;
 
 /// A sample that was read, and the error of its prediction.
 #[derive(Clone, Copy)]
@@ -24,13 +25,13 @@ pub(crate) struct Sample {
 /// where none stands there.
 pub(crate) fn read_regular(
     reader: &mut BitReader<'_>,
-    params: &Params,
     cells: &Cells,
+    lengths: CodeLengths,
     near: Neighbours,
     cell: u16,
     negative: bool,
 ) -> Option<Sample>
-    requires parameters { params.now ≡ cells.now.parameters }
+    requires lengths { AreLengths cells.now.parameters lengths }
     requires ranges { AreCodingParameters cells.now.parameters }
     requires mode { IsRegularMode cells.now.parameters near cell negative }
     ensures sample { IfSome result (λ s. s.value ≤ cells.now.parameters.maxval) }
@@ -40,7 +41,7 @@ pub(crate) fn read_regular(
     ensures none { IfNone result (NoSample cells.now.parameters (cell_at cells.now cell) near reader.old.left) }
     ensures whole { reader.new.whole ≡ reader.old.whole }
 {
-    match read_golomb(reader, cells.regular_k(cell), params.limit(), params.qbpp()) {
+    match read_golomb(reader, cells.regular_k(cell), lengths.limit, lengths.qbpp) {
         None => None,
         Some(mapped) => match cells.regular_error(cell, mapped) {
             None => None,
@@ -57,12 +58,12 @@ pub(crate) fn read_regular(
 /// and where the run would be interrupted by its own value.
 pub(crate) fn read_interruption(
     reader: &mut BitReader<'_>,
-    params: &Params,
     cells: &Cells,
+    lengths: CodeLengths,
     near: Neighbours,
     order: u8,
 ) -> Option<Sample>
-    requires parameters { params.now ≡ cells.now.parameters }
+    requires lengths { AreLengths cells.now.parameters lengths }
     requires ranges { AreCodingParameters cells.now.parameters }
     requires order { order ≤ 15 }
     requires above { near.rb ≤ cells.now.parameters.maxval }
@@ -76,8 +77,8 @@ pub(crate) fn read_interruption(
     ensures whole { reader.new.whole ≡ reader.old.whole }
 {
     let same = near.ra == near.rb;
-    let limit = params.limit() - order - 1;
-    match read_golomb(reader, cells.run_k(same), limit, params.qbpp()) {
+    let limit = lengths.limit - order - 1;
+    match read_golomb(reader, cells.run_k(same), limit, lengths.qbpp) {
         None => None,
         Some(mapped) => match cells.run_error(same, mapped) {
             None => None,

@@ -1,13 +1,14 @@
 //! Writing an interval.
 
 ghost use Rattle.std.specs.Prelude.{◌≡◌, [], get_or, map, IfOk, OnOk};
+ghost use Rattle.jls_bits.specs.Pad.{IsPad};
 ghost use Rattle.jls_interval.specs.Fits.{FitsInterval};
 ghost use Rattle.jls_interval.specs.Code.{code};
 ghost use Rattle.jls_interval.specs.Reads.{packed};
 ghost use Rattle.jls_interval.specs.ReadBack.{PackedLinesReadBack};
 
+use crate::code_lengths::CodeLengths;
 use crate::encode_line::write_line;
-use crate::encode_sample::CodeLengths;
 use crate::neighbours::line_back;
 use jls_bits::BitWriter;
 use jls_context::Cells;
@@ -61,8 +62,8 @@ fn write_lines(
 
 /// The bytes that lines are written as, where they fit an interval (`fits`). The width is that of a
 /// line in samples. The lines stand row by row, and in a row by component; the components share the
-/// cells, and each has a RUNindex of its own (ITU-T T.87, A.7 and B.2). The only refusal is out of
-/// memory.
+/// cells, and each has a RUNindex of its own (ITU-T T.87, A.7 and B.2). The bytes are the pad of the
+/// lines' code: as few as there can be without 0xFF at the end. The only refusal is out of memory.
 pub fn encode_interval(
     alloc: Global,
     params: &Params,
@@ -71,7 +72,8 @@ pub fn encode_interval(
     lines: &[Vec<u16>],
 ) -> Result<Vec<u8>, AllocError>
     requires { FitsInterval params.now width components (map (λ v. v.items) lines.now) }
-    ensures { IfOk result (λ bytes. bytes.items ≡ packed params.now width components (map (λ v. v.items) lines.now)) }
+    ensures packed { IfOk result (λ bytes. bytes.items ≡ packed params.now width components (map (λ v. v.items) lines.now)) }
+    ensures pad { IfOk result (λ bytes. IsPad (code params.now width components (map (λ v. v.items) lines.now)) bytes.items) }
 {
     let mut writer = BitWriter::new(alloc);
     write_lines(&mut writer, params, width, components, lines)?;

@@ -4,10 +4,12 @@ ghost use Rattle.std.specs.Prelude.{◌≡◌, ℕ, ◌^◌, ◌<◌, ◌≤◌,
 ghost use Rattle.std.specs.List.{AllByRecursion, prefix_len};
 ghost use Rattle.jls_context.specs.Mode.{is_run_mode};
 ghost use Rattle.jls_interval.specs.Events.{neighbours, stretch, line_events};
-ghost use Rattle.jls_interval.specs.Encoding.{AreLengths, Writes};
+ghost use Rattle.jls_interval.specs.CodeLengths.{AreLengths};
+ghost use Rattle.jls_interval.specs.Encoding.{Writes};
 
+use crate::code_lengths::CodeLengths;
 use crate::encode_run::{write_interrupted_run, write_run_to_end};
-use crate::encode_sample::{CodeLengths, write_interrupting, write_regular};
+use crate::encode_sample::{write_interrupting, write_regular};
 use crate::neighbours::neighbours_at;
 use crate::run_index::{lowered, run_order};
 use jls_bits::BitWriter;

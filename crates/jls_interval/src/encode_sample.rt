@@ -7,33 +7,13 @@ ghost use Rattle.jls_context.specs.Variables.{run_cell_at};
 ghost use Rattle.jls_interval.specs.Events.{regular};
 ghost use Rattle.jls_interval.specs.Cells.{is_same, interruption_error};
 ghost use Rattle.jls_interval.specs.Code.{interrupting_bits};
-ghost use Rattle.jls_interval.specs.Encoding.{AreLengths, Writes};
+ghost use Rattle.jls_interval.specs.CodeLengths.{AreLengths};
+ghost use Rattle.jls_interval.specs.Encoding.{Writes};
 
+use crate::code_lengths::CodeLengths;
 use jls_bits::{BitWriter, write_golomb};
 use jls_context::{Cells, Neighbours};
-use jls_values::Params;
 use std::alloc::AllocError;
-
-/// What bounds the codes of a scan's samples.
-#[derive(Clone, Copy)]
-pub(crate) struct CodeLengths {
-    /// The bits of an escaped number.
-    pub qbpp: u8,
-    /// LIMIT.
-    pub limit: u8,
-}
-
-impl CodeLengths {
-    /// Those of these parameters.
-    pub(crate) fn of(params: &Params) -> CodeLengths
-        ensures { AreLengths params.now result }
-    {
-        CodeLengths {
-            qbpp: params.qbpp(),
-            limit: params.limit(),
-        }
-    }
-}
 
 /// The difference of a sample and its prediction, with SIGN.
 fn signed_difference(negative: bool, sample: u16, prediction: u16) -> i32

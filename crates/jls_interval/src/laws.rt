@@ -1,6 +1,6 @@
 //! The laws of an interval's code. Each is a function that does nothing and whose contract is the law.
 
-ghost use Rattle.jls_interval.specs.Laws.{PartedOnce, NeighboursAgree, FullBlocksFit, GrowthEndsInLines, LinesGrow, EventsAreApart, EventsHaveBits, CodesAreApart, PiecesReadOnce, PackedLinesRead, BrokenBeginsWithNone, CutsAreExact};
+ghost use Rattle.jls_interval.specs.Laws.{PartedOnce, NeighboursAgree, FullBlocksFit, GrowthEndsInLines, LinesGrow, EventsAreApart, EventsHaveBits, CodesAreApart, PiecesReadOnce, BrokenBeginsWithNone, CutsAreExact};
 
 /// The columns of finished lines are parted into events in exactly one way.
 pub fn lines_are_parted_once()
@@ -47,11 +47,6 @@ pub fn codes_are_apart()
 /// A piece reads as at most one list of lines, and no piece that reads is also too long.
 pub fn pieces_read_once()
     ensures { PiecesReadOnce }
-{}
-
-/// What lines are written as reads as them.
-pub fn packed_lines_read()
-    ensures { PackedLinesRead }
 {}
 
 /// A piece is broken exactly where it does not begin with the code of any lines.

@@ -1,7 +1,9 @@
 //! One interval of scan data: the code of its lines, what reads as it, and the laws of both.
 #![tactic(auto)]
 
+mod code_lengths;
 mod decode_event;
+mod decode_line;
 mod decode_piece;
 mod decode_sample;
 mod encode;
@@ -19,7 +21,7 @@ pub use encode::{encode_interval, packed_lines_read_back};
 pub use laws::{
     broken_pieces_begin_with_no_code, codes_are_apart, cuts_are_exact, events_are_apart,
     events_have_bits, full_blocks_fit, growth_ends_in_lines, lines_are_parted_once, lines_grow,
-    neighbours_agree, packed_lines_read, pieces_read_once,
+    neighbours_agree, pieces_read_once,
 };
 pub use lines::fits;
 

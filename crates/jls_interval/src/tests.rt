@@ -1,4 +1,6 @@
-//! What no clause says: that the calls succeed, and examples worked out by hand from the standard.
+//! What no clause says: that the calls succeed, and values from outside: examples worked out by hand from the standard, and what
+//! another coder says of damaged pieces.
 
+mod damaged;
 mod decoding;
 mod encoding;

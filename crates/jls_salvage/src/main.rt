@@ -1,7 +1,6 @@
 //! Salvages JPEG-LS pictures: the program `jls-salvage`.
 #![tactic(auto)]
 
-mod command;
 mod joining;
 mod printing;
 mod program;

@@ -8,16 +8,16 @@ ghost use Rattle.jls_partial.specs.Status.{IsSettled};
 ghost use Rattle.jls_device.specs.Failures.{HasFailed};
 ghost use Rattle.jls_station.specs.Joining.{Joins, Refuses};
 ghost use Rattle.jls_station.specs.Stops.{IsStopped};
+ghost use Rattle.jls_words.specs.Words.{ReadsAsJoin};
 ghost use Rattle.jls_device.specs.Reads.{KeepsCounts, RoseBy};
-ghost use Rattle.jls_salvage.specs.Words.{ReadsAsJoin};
 
-use crate::command::{join_words, matches};
 use crate::joining::join;
 use crate::printing::{print_out_of_memory, print_refusal};
 use clap::Error;
 use clap::error::ErrorKind;
 use jls_device::{Desk, Sink, write_all};
 use jls_station::{Cause, Refusal};
+use jls_words::{join_words, matches};
 use std::alloc::Global;
 
 /// Prints the help that was asked for to the report output, with status 0.

@@ -1,12 +1,11 @@
 -- What whole runs of `join` hand out.
-use Rattle.std.proofs.Common.{◌≡◌, ℕ, zero, suc, ◌<◌, true, List, [], ◌∷◌, ◌++◌, length, get_or, map, drop, All, refl, sym, ap, ◌∙◌, subst, arith}
+use Rattle.std.proofs.Common.{◌≡◌, ℕ, zero, suc, List, [], ◌∷◌, length, map, drop, All, refl, sym, ap, ◌∙◌, subst, arith}
 use Rattle.std.specs.Prelude.{◌↔◌, Contains}
 use Rattle.std.proofs.Math.Seq.{drop-append_seam}
 use Rattle.std.proofs.lemmas.List.Elements.{All-contains}
 use Rattle.jls_values.specs.Join.{join_all, AllOfShape}
 use Rattle.jls_partial.specs.Parts.{IsPartOf, EachLineSurvives, PartsGiveThePicture}
 use Rattle.jls_partial.specs.Partial.{PartialPicture, has_same_shape, union}
-use Rattle.jls_partial.specs.Status.{IsSettled}
 use Rattle.jls_partial.specs.Text.{text, IsPartial}
 use Rattle.jls_device.specs.History.{History, Input, Output}
 use Rattle.jls_station.specs.Joining.{whole_texts, Takes, TakesJoin, Joins}

@@ -47,22 +47,38 @@ fn fault(alloc: Global, params: &Params, width: u16, rows: u32, piece: &[u8]) ->
     decode_interval(alloc, params, width, 1, rows, piece).err()
 }
 
+/// Samples of 8 bits, and the pieces of intervals that have nothing else.
+pub const SINGLE_SAMPLES: [(u16, u8); 13] = [
+    (0, 0x80),
+    (1, 0x50),
+    (2, 0x70),
+    (3, 0x28),
+    (4, 0x38),
+    (5, 0x14),
+    (6, 0x1C),
+    (7, 0x0A),
+    (8, 0x0E),
+    (9, 0x05),
+    (10, 0x07),
+    (254, 0x60),
+    (255, 0x40),
+];
+
 #[test]
 fn single_samples(rt: HostRuntime) -> Result<(), Fail> {
     let alloc = rt.alloc();
     let params = Params::new(8, 0, 0, 0, 0, 0)?;
-    assert!(rt; reads_as(alloc, &params, 1, 1, 1, &[0x80], &[&[0]]));
-    assert!(rt; reads_as(alloc, &params, 1, 1, 1, &[0x40], &[&[255]]));
-    assert!(rt; reads_as(alloc, &params, 1, 1, 1, &[0x50], &[&[1]]));
-    assert!(rt; reads_as(alloc, &params, 1, 1, 1, &[0x60], &[&[254]]));
-    assert!(rt; reads_as(alloc, &params, 1, 1, 1, &[0x28], &[&[3]]));
-    assert!(rt; reads_as(alloc, &params, 1, 1, 1, &[0x38], &[&[4]]));
-    assert!(rt; reads_as(alloc, &params, 1, 1, 1, &[0x05], &[&[9]]));
+    for (sample, byte) in SINGLE_SAMPLES {
+        assert!(rt;
+            reads_as(alloc, &params, 1, 1, 1, &[byte], &[&[sample]]),
+            "{sample}"
+        );
+    }
     Ok(())
 }
 
 #[test]
-fn other_precisions(rt: HostRuntime) -> Result<(), Fail> {
+fn other_parameters(rt: HostRuntime) -> Result<(), Fail> {
     let alloc = rt.alloc();
     let params = Params::new(2, 0, 0, 0, 0, 0)?;
     assert!(rt; reads_as(alloc, &params, 1, 1, 1, &[0x40], &[&[3]]));
@@ -70,6 +86,9 @@ fn other_precisions(rt: HostRuntime) -> Result<(), Fail> {
     assert!(rt; reads_as(alloc, &params, 1, 1, 1, &[0x20], &[&[2]]));
     let params = Params::new(16, 0, 0, 0, 0, 0)?;
     assert!(rt; reads_as(alloc, &params, 1, 1, 1, &[0x40, 0x00], &[&[65535]]));
+    // A MAXVAL of 15.
+    let params = Params::new(8, 15, 0, 0, 0, 0)?;
+    assert!(rt; reads_as(alloc, &params, 1, 1, 1, &[0x40], &[&[15]]));
     Ok(())
 }
 
@@ -128,6 +147,30 @@ fn several_lines(rt: HostRuntime) -> Result<(), Fail> {
 }
 
 #[test]
+fn an_escape(rt: HostRuntime) -> Result<(), Fail> {
+    let alloc = rt.alloc();
+    let params = Params::new(8, 0, 0, 0, 0, 0)?;
+    assert!(rt; reads_as(alloc, &params, 1, 1, 2, &[0x50, 0x00, 0x0C], &[&[1], &[34]]));
+    let broken = Some(PieceFault::Broken);
+    // Cut in front of the escape and inside it; escapes of a number with a short code, and with too many zeros.
+    assert_eq!(rt; fault(alloc, &params, 1, 2, &[0x50]), broken);
+    assert_eq!(rt; fault(alloc, &params, 1, 2, &[0x50, 0x00]), broken);
+    assert_eq!(rt;
+        fault(alloc, &params, 1, 2, &[0x50, 0x00, 0x00, 0x15]),
+        broken
+    );
+    assert_eq!(rt;
+        fault(alloc, &params, 1, 2, &[0x50, 0x00, 0x00, 0x10]),
+        broken
+    );
+    assert_eq!(rt;
+        fault(alloc, &params, 1, 2, &[0x50, 0x00, 0x00, 0x00, 0x00]),
+        broken
+    );
+    Ok(())
+}
+
+#[test]
 fn several_components(rt: HostRuntime) -> Result<(), Fail> {
     let alloc = rt.alloc();
     let params = Params::new(8, 0, 0, 0, 0, 0)?;
@@ -166,8 +209,12 @@ fn broken_pieces(rt: HostRuntime) -> Result<(), Fail> {
     assert_eq!(rt; fault(alloc, &params, 5, 1, &[0xF4]), broken);
     // A run that is interrupted by its own value.
     assert_eq!(rt; fault(alloc, &params, 3, 2, &[0xC5, 0xC5]), broken);
-    // A marker behind the last line.
+    // A marker behind the last line, and behind more bits than may follow it.
     assert_eq!(rt; fault(alloc, &params, 1, 1, &[0x70, 0xFF, 0xA3]), broken);
+    assert_eq!(rt;
+        fault(alloc, &params, 1, 1, &[0x80, 0x00, 0xFF, 0x90]),
+        broken
+    );
     Ok(())
 }
 
@@ -178,6 +225,10 @@ fn long_pieces(rt: HostRuntime) -> Result<(), Fail> {
     let long = Some(PieceFault::Long);
     assert!(rt; reads_as(alloc, &params, 1, 1, 1, &[0xC0], &[&[0]]));
     assert_eq!(rt; fault(alloc, &params, 1, 1, &[0x80, 0x00]), long);
+    assert_eq!(rt;
+        fault(alloc, &params, 1, 1, &[0x80, 0x00, 0xFF, 0x00]),
+        long
+    );
     assert_eq!(rt; fault(alloc, &params, 1, 1, &[0x28, 0x38]), long);
     Ok(())
 }

@@ -1,5 +1,6 @@
 //! Lines, and the bytes that they are written as.
 
+use super::decoding::SINGLE_SAMPLES;
 use crate::*;
 use jls_values::Params;
 use std::alloc::{AllocError, Global};
@@ -30,16 +31,17 @@ fn written_as(
 fn single_samples(rt: HostRuntime) -> Result<(), Fail> {
     let alloc = rt.alloc();
     let params = Params::new(8, 0, 0, 0, 0, 0)?;
-    assert!(rt; written_as(alloc, &params, 1, 1, &[&[0]], &[0x80])?);
-    assert!(rt; written_as(alloc, &params, 1, 1, &[&[255]], &[0x40])?);
-    assert!(rt; written_as(alloc, &params, 1, 1, &[&[1]], &[0x50])?);
-    assert!(rt; written_as(alloc, &params, 1, 1, &[&[254]], &[0x60])?);
-    assert!(rt; written_as(alloc, &params, 1, 1, &[&[3]], &[0x28])?);
+    for (sample, byte) in SINGLE_SAMPLES {
+        assert!(rt;
+            written_as(alloc, &params, 1, 1, &[&[sample]], &[byte])?,
+            "{sample}"
+        );
+    }
     Ok(())
 }
 
 #[test]
-fn other_precisions(rt: HostRuntime) -> Result<(), Fail> {
+fn other_parameters(rt: HostRuntime) -> Result<(), Fail> {
     let alloc = rt.alloc();
     let params = Params::new(2, 0, 0, 0, 0, 0)?;
     assert!(rt; written_as(alloc, &params, 1, 1, &[&[3]], &[0x40])?);
@@ -47,6 +49,9 @@ fn other_precisions(rt: HostRuntime) -> Result<(), Fail> {
     assert!(rt; written_as(alloc, &params, 1, 1, &[&[2]], &[0x20])?);
     let params = Params::new(16, 0, 0, 0, 0, 0)?;
     assert!(rt; written_as(alloc, &params, 1, 1, &[&[65535]], &[0x40, 0x00])?);
+    // A MAXVAL of 15.
+    let params = Params::new(8, 15, 0, 0, 0, 0)?;
+    assert!(rt; written_as(alloc, &params, 1, 1, &[&[15]], &[0x40])?);
     Ok(())
 }
 
@@ -83,6 +88,7 @@ fn several_lines(rt: HostRuntime) -> Result<(), Fail> {
     assert!(rt; written_as(alloc, &params, 3, 1, &lines, &[0xC5, 0xD0])?);
     let lines: [&[u16]; 2] = [&[0, 0, 5], &[0, 0, 0]];
     assert!(rt; written_as(alloc, &params, 3, 1, &lines, &[0xC5, 0xE0])?);
+    assert!(rt; written_as(alloc, &params, 1, 1, &[&[1], &[34]], &[0x50, 0x00, 0x0C])?);
     Ok(())
 }
 

@@ -3,6 +3,8 @@
 use super::memory::{GOOD, Manners};
 use super::pictures::DISPUTED;
 use super::run_words;
+use std::alloc::Global;
+use std::process::Abort;
 use std::test::Fail;
 
 #[test]
@@ -23,22 +25,33 @@ fn stops_where_a_read_fails(rt: HostRuntime) -> Result<(), Fail> {
     Ok(())
 }
 
+/// OUT takes so many bytes, and the line says how many.
+fn check_write_failure(
+    rt: &impl Abort,
+    alloc: Global,
+    most: usize,
+    taken: &[u8],
+) -> Result<(), Fail> {
+    let manners = Manners {
+        most,
+        writes_fail_at: Some(taken.len()),
+        ..GOOD
+    };
+    let found = run_words(alloc, "join OUT T", manners)?;
+    let count = taken.len();
+    let line = format!(in alloc; "jls-salvage: OUT: write failed after {count} bytes\n")?;
+    assert_eq!(rt; found.status, 4);
+    assert_eq!(rt; found.faults.as_slice(), line.as_bytes());
+    let output = found.output.ok_or("no output")?;
+    assert_eq!(rt; output.as_slice(), taken);
+    Ok(())
+}
+
 #[test]
 fn stops_where_a_write_fails(rt: HostRuntime) -> Result<(), Fail> {
-    let alloc = rt.alloc();
     for n in 0..31 {
         for most in [1, 7, usize::MAX] {
-            let manners = Manners {
-                most,
-                writes_fail_at: Some(n),
-                ..GOOD
-            };
-            let found = run_words(alloc, "join OUT T", manners)?;
-            let line = format!(in alloc; "jls-salvage: OUT: write failed after {n} bytes\n")?;
-            assert_eq!(rt; found.status, 4);
-            assert_eq!(rt; found.faults.as_slice(), line.as_bytes());
-            let output = found.output.ok_or("no output")?;
-            assert_eq!(rt; output.as_slice(), &DISPUTED[..n]);
+            check_write_failure(&rt, rt.alloc(), most, &DISPUTED[..n])?;
         }
     }
     Ok(())

@@ -73,18 +73,19 @@ fn check_row(rt: &impl Abort, alloc: Global, row: &str, manners: Manners) -> Res
     Ok(())
 }
 
-#[test]
-fn joins_texts(rt: HostRuntime) -> Result<(), Fail> {
+fn check_rows(rt: &impl Abort, alloc: Global, manners: Manners) -> Result<(), Fail> {
     for row in ROWS.lines() {
-        check_row(&rt, rt.alloc(), row, GOOD)?;
+        check_row(rt, alloc, row, manners)?;
     }
     Ok(())
 }
 
 #[test]
+fn joins_texts(rt: HostRuntime) -> Result<(), Fail> {
+    check_rows(&rt, rt.alloc(), GOOD)
+}
+
+#[test]
 fn joins_byte_by_byte(rt: HostRuntime) -> Result<(), Fail> {
-    for row in ROWS.lines() {
-        check_row(&rt, rt.alloc(), row, Manners { most: 1, ..GOOD })?;
-    }
-    Ok(())
+    check_rows(&rt, rt.alloc(), Manners { most: 1, ..GOOD })
 }

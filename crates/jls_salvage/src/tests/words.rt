@@ -8,19 +8,30 @@ use std::io;
 use std::io::Write;
 use std::test::Fail;
 
+/// Words and the status: 2 with a line on the fault output, or 0 with help on the report output.
+const WORDS: [(&str, u8); 8] = [
+    ("", 2),
+    ("join", 2),
+    ("join OUT", 2),
+    ("show T", 2),
+    ("join --loud OUT T", 2),
+    ("--help", 0),
+    ("join --help", 0),
+    ("help join", 0),
+];
+
 #[test]
 fn answers_other_words(rt: HostRuntime) -> Result<(), Fail> {
-    let alloc = rt.alloc();
-    for words in ["", "join", "join OUT", "show T", "join --loud OUT T"] {
-        let found = run_words(alloc, words, GOOD)?;
-        assert_eq!(rt; found.status, 2);
-        assert!(rt; found.report.is_empty() && !found.faults.is_empty());
+    for &(words, status) in &WORDS {
+        let found = run_words(rt.alloc(), words, GOOD)?;
+        let is_help = status == 0;
+        let told = (
+            found.status,
+            found.faults.is_empty(),
+            found.report.is_empty(),
+        );
+        assert_eq!(rt; told, (status, is_help, !is_help), "{words}");
         assert!(rt; found.output.is_none());
-    }
-    for words in ["--help", "join --help", "help join"] {
-        let found = run_words(alloc, words, GOOD)?;
-        assert_eq!(rt; found.status, 0);
-        assert!(rt; found.faults.is_empty() && !found.report.is_empty());
     }
     Ok(())
 }

@@ -13,7 +13,7 @@ use Rattle.jls_interval.specs.Code.{interrupting_bits}
 use Rattle.jls_interval.specs.Reading.{NoInterruption}
 use Rattle.jls_interval.specs.RunState.{RunIs}
 use Rattle.jls_interval.specs.declared.run_reader.Run.TheVariants.{ToEnd, Interrupted}
-use Rattle.jls_interval.proofs.Samples.{wide}
+use Rattle.jls_interval.proofs.SamplesRead.{wide}
 use Rattle.jls_interval.proofs.RunEvents.{run_none, run_end, run_alone, run_broken, run_fits}
 use Rattle.jls_interval.proofs.DecodedEvents.{left_by_end, left_by_interruption, behind_run}
 use Rattle.jls_interval.proofs.decode_event.read_run_event.Goals as goal

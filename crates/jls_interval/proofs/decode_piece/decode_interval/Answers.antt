@@ -3,7 +3,7 @@ use Rattle.jls_bits.specs.Bits.{bits_read, is_whole}
 use Rattle.jls_interval.specs.Lines.{AreLines}
 use Rattle.jls_interval.specs.Code.{code}
 use Rattle.jls_interval.specs.Reads.{Reads, IsLong}
-use Rattle.jls_interval.proofs.PiecesLaw.{reads_once, read_not_long}
+use Rattle.jls_interval.proofs.PiecesReadOnce.{reads_once, read_not_long}
 use Rattle.jls_interval.proofs.DecodedPieces.{piece_reads, piece_is_long}
 use Rattle.jls_interval.proofs.decode_piece.decode_interval.Goals as goal
 

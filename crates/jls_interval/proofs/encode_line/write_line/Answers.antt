@@ -1,9 +1,10 @@
-use Rattle.std.proofs.Common.{ℕ, ◌-◌, ◌≤◌, List, [], ◌∷◌, length, refl, sym, ◌∙◌, subst, arith}
+use Rattle.std.proofs.Common.{ℕ, ◌≤◌, List, [], ◌∷◌, length, refl, sym, ◌∙◌, subst, arith}
 use Rattle.std.specs.List.{AllByRecursion}
 use Rattle.jls_values.specs.Params.{CodingParameters}
 use Rattle.jls_interval.specs.Events.{Above, stretch}
-use Rattle.jls_interval.specs.Encoding.{AreLengths, Encoder, Writes}
-use Rattle.jls_interval.proofs.Whole.{stretch_moves}
+use Rattle.jls_interval.specs.CodeLengths.{AreLengths}
+use Rattle.jls_interval.specs.Encoding.{Encoder, Writes}
+use Rattle.jls_interval.proofs.GrownLines.{stretch_moves}
 use Rattle.jls_interval.proofs.EncodedLines.{begun_start, begun_more, begun_end}
 use Rattle.jls_interval.proofs.encode_line.write_line.Goals as goal
 

@@ -1,5 +1,6 @@
 use Rattle.std.proofs.Common.{◌≡◌, ℕ, ◌-◌, ◌≤◌, length}
-use Rattle.jls_interval.specs.Encoding.{AreLengths, IsBegun}
+use Rattle.jls_interval.specs.CodeLengths.{AreLengths}
+use Rattle.jls_interval.specs.Encoding.{IsBegun}
 use Rattle.jls_interval.proofs.encode_line.write_line.Given as goal
 
 abbrev pub invariant-loop-x : goal.invariant-loop-x

@@ -3,7 +3,7 @@ use Rattle.jls_context.specs.declared.mode.Neighbours.{Neighbours}
 use Rattle.jls_context.specs.Variables.{Variables}
 use Rattle.jls_interval.specs.Events.{Above, Stretch, interrupted_run}
 use Rattle.jls_interval.specs.Encoding.{Encoder, Writes}
-use Rattle.jls_interval.proofs.StepLaw.{b_small}
+use Rattle.jls_interval.proofs.EventsApart.{b_small}
 use Rattle.jls_interval.proofs.EncodedEvents.{to_end_writes, interrupted_writes}
 use Rattle.jls_interval.proofs.EncodedStretches.{counted, stop_within, stop_differs, stop_value, stretch_to_end, stretch_interrupted}
 use Rattle.jls_interval.proofs.encode_line.write_run.Goals as goal

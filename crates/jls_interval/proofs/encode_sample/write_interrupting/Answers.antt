@@ -1,7 +1,7 @@
 use Rattle.std.proofs.Common.{◌≡◌, sym, ap, ◌∙◌, arith, to_z, of_z, w32}
 use Rattle.std.proofs.lemmas.Int.{ints}
 use Rattle.jls_context.specs.Errors.{modulo_reduced}
-use Rattle.jls_interval.proofs.StepLaw.{no_zero}
+use Rattle.jls_interval.proofs.EventsApart.{no_zero}
 use Rattle.jls_interval.proofs.encode_sample.write_interrupting.Goals as goal
 
 pub run_code-k-requires-clause-another : goal.run_code-k-requires-clause-another

@@ -1,4 +1,4 @@
-use Rattle.jls_interval.proofs.PiecesLaw.{broken_begins_with_none, none_is_broken}
+use Rattle.jls_interval.proofs.PiecesReadOnce.{broken_begins_with_none, none_is_broken}
 use Rattle.jls_interval.proofs.laws.broken_pieces_begin_with_no_code.Goals as goal
 
 pub returns : goal.returns

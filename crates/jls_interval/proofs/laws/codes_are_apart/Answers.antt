@@ -1,5 +1,5 @@
-use Rattle.jls_interval.proofs.CodeLaw.{code_law}
+use Rattle.jls_interval.proofs.CodesApart.{codes_apart}
 use Rattle.jls_interval.proofs.laws.codes_are_apart.Goals as goal
 
 pub returns : goal.returns
-returns c = code_law
+returns c = codes_apart

@@ -1,5 +1,5 @@
-use Rattle.jls_interval.proofs.StepLaw.{step_law}
+use Rattle.jls_interval.proofs.EventsApart.{events_apart}
 use Rattle.jls_interval.proofs.laws.events_are_apart.Goals as goal
 
 pub returns : goal.returns
-returns c = step_law
+returns c = events_apart

@@ -1,6 +1,6 @@
 use Rattle.std.proofs.Common.{sym, subst}
 use Rattle.jls_interval.specs.Events.{AreEvents}
-use Rattle.jls_interval.proofs.OneParting.{only_events, events_part}
+use Rattle.jls_interval.proofs.PartedOnce.{only_events, events_part}
 use Rattle.jls_interval.proofs.laws.lines_are_parted_once.Goals as goal
 
 pub returns : goal.returns

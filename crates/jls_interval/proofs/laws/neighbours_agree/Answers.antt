@@ -1,4 +1,4 @@
-use Rattle.jls_interval.proofs.Places.{neighbours_are}
+use Rattle.jls_interval.proofs.NeighboursAgree.{neighbours_are}
 use Rattle.jls_interval.proofs.laws.neighbours_agree.Goals as goal
 
 pub returns : goal.returns

@@ -1,4 +1,4 @@
-use Rattle.jls_interval.proofs.PiecesLaw.{reads_once, read_not_long}
+use Rattle.jls_interval.proofs.PiecesReadOnce.{reads_once, read_not_long}
 use Rattle.jls_interval.proofs.laws.pieces_read_once.Goals as goal
 
 pub returns : goal.returns

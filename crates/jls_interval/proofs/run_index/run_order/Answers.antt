@@ -1,4 +1,4 @@
-use Rattle.jls_interval.proofs.StepLaw.{j_small}
+use Rattle.jls_interval.proofs.EventsApart.{j_small}
 use Rattle.jls_interval.proofs.run_index.run_order.Goals as goal
 
 pub returns-clause-at_most : goal.returns-clause-at_most
