@@ -8,12 +8,12 @@ use Rattle.jls_device.proofs.Histories.{on_last_twice, increment_rises, rises_mo
 
 written_nothing : (xs : List Output) → on_last (output_after []) xs ≡ xs
 written_nothing [] = refl
-written_nothing (x ∷ []) = ap (λ (b : List ℕ). record { name = x.name; bytes = b } ∷ []) (append-nil x.bytes)
+written_nothing (x ∷ []) = ap (λ (b : List ℕ). record { name = x.name; inputs_before = x.inputs_before; bytes = b } ∷ []) (append-nil x.bytes)
 written_nothing (x ∷ y ∷ xs) = ap (λ zs. x ∷ zs) (written_nothing (y ∷ xs))
 
 written_twice : (a b : List ℕ) (xs : List Output) → on_last (output_after b) (on_last (output_after a) xs) ≡ on_last (output_after (a ++ b)) xs
 written_twice a b xs = on_last_twice (output_after b) (output_after a) (output_after (a ++ b)) xs
-    (λ x. ap (λ (t : List ℕ). record { name = x.name; bytes = t }) (append_assoc x.bytes a b))
+    (λ x. ap (λ (t : List ℕ). record { name = x.name; inputs_before = x.inputs_before; bytes = t }) (append_assoc x.bytes a b))
 
 pub nothing_written : (s : History) → Writes s [] s
 nothing_written s = record { outputs = sym (written_nothing s.outputs); inputs = refl; reads = refl; read_failures = refl; write_failures = omega arith; open_failures = refl }

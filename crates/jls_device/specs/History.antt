@@ -1,5 +1,6 @@
 -- The history of a device: what it was asked and what it gave, from its start on. It has the inputs in their order, the
--- outputs in theirs, and counts; it does not say how reads and writes, or inputs and outputs, lay between each other.
+-- outputs in theirs, each with the inputs as they stood when it was created, and counts; it does not say how reads and
+-- writes lay between each other.
 use Rattle.std.specs.Prelude.{ℕ, ◌+◌, ◌-◌, ◌^◌, ◌==◌, Bool, false, nat_lt, length, List, [], ◌∷◌, ◌++◌, if◌then◌else◌}
 
 -- an input by its name, the bytes that it gave, and whether its last read with room gave none
@@ -8,9 +9,10 @@ pub record Input : Type 0 where
   pub bytes : List ℕ
   pub ended : Bool
 
--- an output by its name, and the bytes that were handed to it
+-- an output by its name, the inputs as they stood when it was created, and the bytes that were handed to it
 pub record Output : Type 0 where
   pub name : List ℕ
+  pub inputs_before : List Input
   pub bytes : List ℕ
 
 -- inputs and outputs in the order in which they were opened, of which the last are current; how many reads were made,
@@ -72,7 +74,7 @@ after_open h name = record h { inputs = h.inputs ++ record { name = name; bytes 
 
 -- an output was created
 abbrev pub after_create : History → List ℕ → History
-after_create h name = record h { outputs = h.outputs ++ record { name = name; bytes = [] } ∷ [] }
+after_create h name = record h { outputs = h.outputs ++ record { name = name; inputs_before = h.inputs; bytes = [] } ∷ [] }
 
 -- an input could not be opened, or an output could not be created
 abbrev pub after_failed_open : History → History

@@ -8,8 +8,8 @@ coded_input = code_by (List ℕ × (List ℕ × Bool)) (coded× (coded_list code
     (λ i. (i.name, (i.bytes, i.ended))) (λ p. record { name = p.0; bytes = p.1.0; ended = p.1.1 }) (λ _. refl)
 
 abbrev pub coded_output : Coded Output
-coded_output = code_by (List ℕ × List ℕ) (coded× (coded_list coded_ℕ) (coded_list coded_ℕ))
-    (λ o. (o.name, o.bytes)) (λ p. record { name = p.0; bytes = p.1 }) (λ _. refl)
+coded_output = code_by (List ℕ × (List Input × List ℕ)) (coded× (coded_list coded_ℕ) (coded× (coded_list coded_input) (coded_list coded_ℕ)))
+    (λ o. (o.name, (o.inputs_before, o.bytes))) (λ p. record { name = p.0; inputs_before = p.1.0; bytes = p.1.1 }) (λ _. refl)
 
 abbrev pub coded_history : Coded History
 coded_history = code_by (List Input × (List Output × (ℕ × (ℕ × (ℕ × ℕ)))))

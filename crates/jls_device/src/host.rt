@@ -1,6 +1,7 @@
 //! The real desk: files and the standard streams.
 
 ghost use Rattle.std.specs.Prelude.{◌≡◌, ◌≤◌, is_some, nat_lt, length, false, IfOk};
+ghost use Rattle.jls_device.specs.History.{blank};
 
 use crate::device::{Desk, DeskFault, Device, Sink, SinkFault, Source, SourceFault};
 use crate::ledger::Ledger;
@@ -37,7 +38,9 @@ pub struct HostDesk<'a> {
 
 impl<'a> HostDesk<'a> {
     /// The desk at the program's start: nothing is open.
-    pub fn new(rt: &'a HostRuntime) -> HostDesk<'a> {
+    pub fn new(rt: &'a HostRuntime) -> HostDesk<'a>
+        ensures { ⟦<HostDesk<'a> as Device>⟧.history result ≡ blank }
+    {
         HostDesk {
             rt,
             input: None,

@@ -6,6 +6,7 @@ ghost use Rattle.jls_device.specs.Reads.{KeepsCounts};
 ghost use Rattle.jls_partial.specs.Partial.{PartialPicture};
 ghost use Rattle.jls_partial.specs.Status.{IsSettled};
 ghost use Rattle.jls_station.specs.Joining.{Joins, Refuses};
+ghost use Rattle.jls_station.specs.Stops.{IsStopped};
 
 use crate::printing::print_refusal;
 use jls_device::{Desk, Sink};
@@ -26,8 +27,10 @@ pub fn join<D: Desk, E: Sink>(
         × Joins (D.history desk.old) out.now (first.now ∷ map (λ f. f.now) others.now) joined (D.history desk.new)
         × ((result ≡ 0) ↔ IsSettled joined) }
     ensures no_usage { result ≢ 2 }
+    ensures quiet { result ≤ 1 → E.history faults.new ≡ E.history faults.old }
     ensures refused { result ≡ 3 → Refuses (D.history desk.old) (first.now ∷ map (λ f. f.now) others.now) (D.history desk.new) }
     ensures failed { result ≡ 4 → HasFailed (D.history desk.old) (D.history desk.new) }
+    ensures stopped { result ≡ 4 → IsStopped (D.history desk.old) out.now (first.now ∷ map (λ f. f.now) others.now) (D.history desk.new) }
     ensures out_of_memory { result ≡ 5 → (D.history desk.new).outputs ≡ (D.history desk.old).outputs }
     ensures at_most { result ≤ 5 }
     ensures counts { KeepsCounts (D.history desk.old) (D.history desk.new) }

@@ -7,6 +7,7 @@ ghost use Rattle.jls_partial.specs.Partial.{PartialPicture};
 ghost use Rattle.jls_partial.specs.Status.{IsSettled};
 ghost use Rattle.jls_device.specs.Failures.{HasFailed};
 ghost use Rattle.jls_station.specs.Joining.{Joins, Refuses};
+ghost use Rattle.jls_station.specs.Stops.{IsStopped};
 ghost use Rattle.jls_words.specs.Words.{ReadsAsJoin};
 ghost use Rattle.jls_device.specs.Reads.{KeepsCounts, RoseBy};
 
@@ -107,14 +108,26 @@ pub fn run<D: Desk, W: Sink, E: Sink>(
         × ((result ≡ 0) ↔ IsSettled joined) }
     // Such words are understood.
     ensures understood { (out first : List ℕ) (others : List (List ℕ)) → ReadsAsJoin (map string_bytes words.now) out first others → result ≢ 2 }
+    // Words that are not understood leave the desk as it was.
+    ensures usage { result ≡ 2 → D.history desk.new ≡ D.history desk.old }
+    // All other words than such do, whatever the status is.
+    ensures other_words { (D.history desk.new ≡ D.history desk.old)
+        ⊎ ((out first : List ℕ) × (others : List (List ℕ)) × ReadsAsJoin (map string_bytes words.now) out first others) }
+    // Where such words are done, nothing is printed as a fault.
+    ensures quiet { (out first : List ℕ) (others : List (List ℕ)) → ReadsAsJoin (map string_bytes words.now) out first others → result ≤ 1
+        → E.history faults.new ≡ E.history faults.old }
     // Refused: the FILEs before one were taken; that one was read to its end, and its bytes are no text or their shape
     // differs. Nothing was created.
     ensures refused { (out first : List ℕ) (others : List (List ℕ)) → ReadsAsJoin (map string_bytes words.now) out first others → result ≡ 3
         → Refuses (D.history desk.old) (first ∷ others) (D.history desk.new) }
     // Whatever the words are, status 3 comes only so.
     ensures refused_only { result ≡ 3 → (names : List (List ℕ)) × Refuses (D.history desk.old) names (D.history desk.new) }
-    // Status 4 comes only where a device failed, or as many reads were made as one input may have. What was created by
-    // then is not said.
+    // Stopped by a device: at a FILE, and then the FILEs before it were taken and nothing was created; or at OUT, after all
+    // FILEs were taken, and then OUT was not created, or created once, by its name, and handed the front of the text of
+    // the join.
+    ensures stopped { (out first : List ℕ) (others : List (List ℕ)) → ReadsAsJoin (map string_bytes words.now) out first others → result ≡ 4
+        → IsStopped (D.history desk.old) out (first ∷ others) (D.history desk.new) }
+    // Whatever the words are, status 4 comes only where a device failed, or as many reads were made as one input may have.
     ensures failed { result ≡ 4 → HasFailed (D.history desk.old) (D.history desk.new)
         ⊎ RoseBy 1 (W.history report.old).write_failures (W.history report.new).write_failures }
     // Out of memory: nothing was created.

@@ -18,7 +18,8 @@ use Rattle.jls_device.specs.History.{History, Input}
 use Rattle.jls_device.specs.Reads.{KeepsCounts}
 use Rattle.jls_station.specs.Joining.{whole_input, whole_texts, Takes, TakesJoin, Refuses}
 use Rattle.jls_station.specs.Causes.{RefusesFor, StopsFor}
-use Rattle.jls_device.proofs.Counting.{counts_kept, counts_kept_on, failed_after}
+use Rattle.jls_station.specs.Stops.{IsNotOpened, IsNotReadWhole, StopsAtInput}
+use Rattle.jls_device.proofs.Counting.{counts_kept, counts_kept_on}
 
 -- ---- what is held
 
@@ -83,10 +84,26 @@ takes_still old mid new names ps h e = record { inputs = e ∙ h.inputs; number 
 
 -- ---- an input that is refused
 
+-- the device failed at an input, after others were taken
+stopped_there : (Fails : List ℕ → History → History → Type 0) (old mid new : History) (before after : List (List ℕ)) (name : List ℕ) (ps : List PartialPicture)
+    → Takes old before ps mid → KeepsCounts old mid → new.outputs ≡ old.outputs → Fails name mid new → StopsAtInput Fails old (before ++ name ∷ after) new
+stopped_there Fails old mid new before after name ps h k e r = record {
+  before = before;
+  name = name;
+  after = after;
+  among = refl;
+  partials = ps;
+  until = mid;
+  takes = h;
+  counts = k;
+  because = r;
+  outputs = e;
+}
+
 -- after others were taken
 pub stops_later : (c : Cause) (old mid new : History) (before after : List (List ℕ)) (name : List ℕ) (ps : List PartialPicture)
-    → Takes old before ps mid → KeepsCounts old mid → new.outputs ≡ old.outputs → RefusesFor c mid name new → StopsFor c old (before ++ name ∷ after) new
-stops_later (cause.Input (fault.Text f)) old mid new before after name ps h k e r = record {
+    → Takes old before ps mid → KeepsCounts old mid → new.outputs ≡ old.outputs → RefusesFor c mid name new → (out : List ℕ) → StopsFor c old out (before ++ name ∷ after) new
+stops_later (cause.Input (fault.Text f)) old mid new before after name ps h k e r out = record {
   before = before;
   name = name;
   after = after;
@@ -99,17 +116,18 @@ stops_later (cause.Input (fault.Text f)) old mid new before after name ps h k e 
   because = inl (f, r.2);
   outputs = e;
 }
-stops_later (cause.Input (fault.Read stop offset)) old mid new before after name ps h k e r = failed_after old mid new k r
-stops_later (cause.Input fault.OutOfMemory) old mid new before after name ps h k e r = e
-stops_later cause.ShapeDiffers old mid new before after name ps h k e r = absurd r
-stops_later cause.NotOpened old mid new before after name ps h k e r = failed_after old mid new k r
-stops_later cause.NotCreated old mid new before after name ps h k e r = absurd r
-stops_later (cause.NotWritten count) old mid new before after name ps h k e r = absurd r
-stops_later cause.OutOfMemory old mid new before after name ps h k e r = e
+stops_later (cause.Input (fault.Read stop offset)) old mid new before after name ps h k e r out = stopped_there IsNotReadWhole old mid new before after name ps h k e r
+stops_later (cause.Input fault.OutOfMemory) old mid new before after name ps h k e r out = e
+stops_later cause.ShapeDiffers old mid new before after name ps h k e r out = absurd r
+stops_later cause.NotOpened old mid new before after name ps h k e r out = stopped_there IsNotOpened old mid new before after name ps h k e r
+stops_later cause.NotCreated old mid new before after name ps h k e r out = absurd r
+stops_later (cause.NotWritten count) old mid new before after name ps h k e r out = absurd r
+stops_later cause.OutOfMemory old mid new before after name ps h k e r out = e
 
 -- as the first
-pub stops_first : (c : Cause) (old new : History) (name : List ℕ) (after : List (List ℕ)) → new.outputs ≡ old.outputs → RefusesFor c old name new → StopsFor c old (name ∷ after) new
-stops_first c old new name after e r = stops_later c old old new [] after name [] (takes_none old) (counts_kept old) e r
+pub stops_first : (c : Cause) (old new : History) (name : List ℕ) (after : List (List ℕ)) → new.outputs ≡ old.outputs → RefusesFor c old name new
+    → (out : List ℕ) → StopsFor c old out (name ∷ after) new
+stops_first c old new name after e r out = stops_later c old old new [] after name [] (takes_none old) (counts_kept old) e r out
 
 -- an input of another shape
 pub refuses_shape : (old mid new : History) (before after : List (List ℕ)) (name : List ℕ) (first : PartialPicture) (others : List PartialPicture) (p : PartialPicture)
@@ -159,10 +177,11 @@ taken_one_more old mid new names name station next p h is inputs outputs k same 
 
 -- the next input is refused
 pub stops_next : (c : Cause) (old mid new : History) (before after all : List (List ℕ)) (name : List ℕ) (station : PartialPicture)
-    → TakenSoFar old before station mid → all ≡ before ++ name ∷ after → new.outputs ≡ mid.outputs → RefusesFor c mid name new → StopsFor c old all new
-stops_next c old mid new before after all name station h e outputs r =
-    subst (λ (names : List (List ℕ)). StopsFor c old names new) (sym e)
-    (stops_later c old mid new before after name (h.taken.first ∷ h.taken.others) h.taken.takes h.counts (outputs ∙ h.outputs) r)
+    → TakenSoFar old before station mid → all ≡ before ++ name ∷ after → new.outputs ≡ mid.outputs → RefusesFor c mid name new
+    → (out : List ℕ) → StopsFor c old out all new
+stops_next c old mid new before after all name station h e outputs r out =
+    subst (λ (names : List (List ℕ)). StopsFor c old out names new) (sym e)
+    (stops_later c old mid new before after name (h.taken.first ∷ h.taken.others) h.taken.takes h.counts (outputs ∙ h.outputs) r out)
 
 -- the next input has another shape
 pub differs_next : (old mid new : History) (before after all : List (List ℕ)) (name : List ℕ) (station p : PartialPicture)

@@ -26,7 +26,7 @@ given_texts old new names ps h =
 handed_text : (old new : History) (out : List ℕ) (names : List (List ℕ)) (joined : PartialPicture) → Joins old out names joined new → bytes_handed_out old new ≡ text joined ∷ []
 handed_text old new out names joined h =
     ap (λ (outputs : List Output). map (λ (output : Output). output.bytes) (drop (length old.outputs) outputs)) h.outputs
-    ∙ ap (map (λ (output : Output). output.bytes)) (drop-append_seam old.outputs (record { name = out; bytes = text joined } ∷ []))
+    ∙ ap (map (λ (output : Output). output.bytes)) (drop-append_seam old.outputs (record { name = out; inputs_before = new.inputs; bytes = text joined } ∷ []))
 
 -- a member's text is among the texts
 contained_text : (ps : List PartialPicture) (p : PartialPicture) → Contains ps p → Contains (map text ps) (text p)

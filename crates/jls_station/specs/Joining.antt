@@ -36,11 +36,11 @@ pub record TakesJoin (old : History) (names : List (List ℕ)) (joined : Partial
   pub takes : Takes old names (first ∷ others) new
   pub is_join : joined ≡ join_all union first others
 
--- the inputs of these names were taken, one output was created, by its name, and was handed exactly the text of the
+-- the inputs of these names were taken; then one output was created, by its name, and was handed exactly the text of the
 -- join of all that they gave
 pub record Joins (old : History) (out : List ℕ) (names : List (List ℕ)) (joined : PartialPicture) (new : History) : Type 0 where
   pub inputs : TakesJoin old names joined new
-  pub outputs : new.outputs ≡ old.outputs ++ record { name = out; bytes = text joined } ∷ []
+  pub outputs : new.outputs ≡ old.outputs ++ record { name = out; inputs_before = new.inputs; bytes = text joined } ∷ []
 
 -- the bytes are no text of a partial: they have a first fault
 abbrev pub IsNoText : List ℕ → Type 0

@@ -3,3 +3,4 @@ pub mod Causes
 pub mod InputFaults
 pub mod Joining
 pub mod Laws
+pub mod Stops

@@ -26,7 +26,7 @@ pub fn join_inputs<'a, D: Desk>(
         × Joins (D.history desk.old) out.now (first.now ∷ map (λ f. f.now) others.now) joined (D.history desk.new)
         × (IsTrue settled ↔ IsSettled joined)) }
     ensures counts { KeepsCounts (D.history desk.old) (D.history desk.new) }
-    ensures stopped { IfErr result (λ r. StopsFor r.cause (D.history desk.old) (first.now ∷ map (λ f. f.now) others.now) (D.history desk.new)) }
+    ensures stopped { IfErr result (λ r. StopsFor r.cause (D.history desk.old) out.now (first.now ∷ map (λ f. f.now) others.now) (D.history desk.new)) }
 {
     let station = take_inputs(alloc, desk, first, others)?;
     let joined = station.partial();

@@ -1,6 +1,6 @@
 //! The inputs of `join`, taken into a station.
 
-ghost use Rattle.std.specs.Prelude.{◌≡◌, IfOk, IfErr, true, map, [], ◌∷◌, ◌++◌};
+ghost use Rattle.std.specs.Prelude.{◌≡◌, ℕ, List, IfOk, IfErr, true, map, [], ◌∷◌, ◌++◌};
 ghost use Rattle.jls_partial.specs.Text.{text, IsPartial};
 ghost use Rattle.jls_station.specs.Causes.{RefusesFor, StopsFor};
 ghost use Rattle.jls_station.specs.Joining.{whole_input, Takes, TakesJoin};
@@ -59,7 +59,8 @@ pub fn take_inputs<'a, D: Desk>(
     ensures taken { IfOk result (λ station. TakesJoin (D.history desk.old) (first.now ∷ map (λ f. f.now) others.now) station (D.history desk.new)) }
     ensures outputs { (D.history desk.new).outputs ≡ (D.history desk.old).outputs }
     ensures counts { KeepsCounts (D.history desk.old) (D.history desk.new) }
-    ensures stopped { IfErr result (λ r. StopsFor r.cause (D.history desk.old) (first.now ∷ map (λ f. f.now) others.now) (D.history desk.new)) }
+    // Whatever the output is to be.
+    ensures stopped { (out : List ℕ) → IfErr result (λ r. StopsFor r.cause (D.history desk.old) out (first.now ∷ map (λ f. f.now) others.now) (D.history desk.new)) }
 {
     let mut station = match first_station(alloc, desk, first) {
         Ok(station) => station,

@@ -1,15 +1,39 @@
--- What a caller of clap reads of the rows of `join`.
-use Rattle.std.proofs.Common.{◌≡◌, ◌∙◌, ap, sym, List, Option, Some}
+-- What a caller of clap reads of the rows of `join`, and of the kinds of error.
+use Rattle.std.proofs.Common.{◌≡◌, ◌∙◌, ap, sym, subst, true, inl, inr, List, [], Option, None, Some, Result, Ok, Err}
 use Rattle.std.specs.Prelude.{option_map}
-use Rattle.clap.specs.Words.{Row, Text, all_of, first_of, first_value, matched_of, raw_values, rows_of}
+use Rattle.std.specs.Prelude.{IfOk, IfErr}
+use Rattle.clap.specs.Words.{App, FailsBy, HasKind, Kinds, Row, Text, all_of, fault_of, first_of, first_value, is_simple_and_free, kind_of, matched_of, raw_values, rows_of, takes}
+use Rattle.clap.specs.Matches.{subcommand_name_of}
+use Rattle.clap.specs.Simple.{subcommand_rows, subcommand_rows_of}
+use Rattle.clap.specs.declared.parser.matches.ArgMatches.{ArgMatches}
+use Rattle.clap.specs.declared.parser.matches.ArgMatches.TheViews.{out-ArgMatches}
+use Rattle.clap.specs.declared.error.Error.{Error}
+use Rattle.clap.specs.declared.error.kind.ErrorKind.TheVariants as kind
 use Rattle.clap.specs.declared.parser.matches.Found.{Found}
 use Rattle.clap.proofs.WalkLemmas.{first_value-rows, raw_values-rows}
+use Rattle.jls_words.specs.Words.{AreTaken, salvage_app}
+use Rattle.jls_words.proofs.WordsTaken.{is_simple_command}
 
 -- the rows of the subcommand that was entered
 pub same_rows : (o : Option (Text × List Row)) (n : Text) (rows mine : List Row) → option_map (λ p. p.1) o ≡ Some mine → o ≡ Some (n, rows) → mine ≡ rows
 same_rows o n rows mine h e =
     let k : Some rows ≡ Some mine = sym (ap (option_map (λ (p : Text × List Row). p.1)) e) ∙ h in
     cc
+
+-- the name and the rows, from both
+both_parts : {X : Type 0} (name_of : X → Text) (rows_in : X → List Row) (o : Option X) (name : Text) (rows : List Row)
+    → option_map name_of o ≡ Some name → option_map (λ (p : Text × List Row). p.1) (option_map {U = Text × List Row} (λ x. (name_of x, rows_in x)) o) ≡ Some rows
+    → option_map {U = Text × List Row} (λ x. (name_of x, rows_in x)) o ≡ Some (name, rows)
+both_parts name_of rows_in None name rows e h = absurd cc
+both_parts name_of rows_in (Some x) name rows e h =
+    let a : name_of x ≡ name = cc in
+    let b : rows_in x ≡ rows = cc in
+    (λ i. Some (a i, b i))
+
+-- the subcommand that was entered, with its rows
+pub entered_rows : (m : ArgMatches) (name : Text) (rows : List Row) → subcommand_name_of m ≡ Some name
+    → option_map (λ p. p.1) (subcommand_rows (out-ArgMatches m).subcommand) ≡ Some rows → subcommand_rows_of m ≡ Some (name, rows)
+entered_rows m name rows e h = both_parts _ _ (out-ArgMatches m).subcommand name rows e h
 
 -- the first value of an id, by the rows
 pub first_by_rows : (f : Found) (rows : List Row) (id : Text) (read : Option Text) (value : Text) → read ≡ first_value f id → rows_of f ≡ rows → first_of id rows ≡ Some value → read ≡ Some value
@@ -18,3 +42,26 @@ first_by_rows f rows id read value h e is = h ∙ (first_value-rows f id ∙ (ap
 -- all values of an id, by the rows
 pub all_by_rows : (f : Found) (rows : List Row) (id : Text) (read : Option (List Text)) (values : List Text) → read ≡ option_map raw_values (matched_of f id) → rows_of f ≡ rows → all_of id rows ≡ Some values → read ≡ Some values
 all_by_rows f rows id read values h e is = h ∙ (raw_values-rows f id ∙ (ap (all_of id) e ∙ is))
+
+-- ---- the kinds of error
+
+only_memory : (e : Error) → HasKind [] e → kind_of e ≡ kind.OutOfMemory
+only_memory e (inl h) = h
+only_memory e (inr h) = absurd h
+
+module _ {T : Type 0} (app : App) (words : List Text) (is_app : app ≡ salvage_app) where
+  -- words that are read have no fault
+  pub no_fault_where_read : (r : Result T Error) → (is_simple_and_free app ≡ true → FailsBy (fault_of app words) r) → IfOk r (λ _. fault_of salvage_app words ≡ [])
+  no_fault_where_read (Ok x) h = ap (λ (a : App). fault_of a words) (sym is_app) ∙ h (ap is_simple_and_free is_app ∙ is_simple_command)
+  no_fault_where_read (Err e) h = tt
+
+  -- words that are taken are refused for want of memory alone
+  pub refused_for_memory : (r : Result T Error) → IfErr r (λ e. takes app words ≡ true → kind_of e ≡ kind.OutOfMemory) → (is_simple_and_free app ≡ true → FailsBy (fault_of app words) r)
+      → IfErr r (λ e. AreTaken words → kind_of e ≡ kind.OutOfMemory)
+  refused_for_memory (Ok x) passes h = tt
+  refused_for_memory (Err e) passes h = λ (taken : AreTaken words). by_case taken
+    where
+      by_case : AreTaken words → kind_of e ≡ kind.OutOfMemory
+      by_case (inl t) = passes (ap (λ (a : App). takes a words) is_app ∙ t)
+      by_case (inr none) =
+          only_memory e (subst (λ (kinds : Kinds). HasKind kinds e) (ap (λ (a : App). fault_of a words) is_app ∙ none) (h (ap is_simple_and_free is_app ∙ is_simple_command)))

@@ -1,5 +1,5 @@
 -- Words that clap does read as `join`: the premise of the theorem on `run` holds of them.
-use Rattle.std.proofs.Common.{◌≡◌, true, List, [], ◌∷◌, refl}
+use Rattle.std.proofs.Common.{◌≡◌, true, List, [], ◌∷◌, refl, inl}
 use Rattle.std.specs.Prelude.{codes}
 use Rattle.clap.specs.Words.{Text, is_simple_and_free}
 use Rattle.clap.proofs.OnLiterals.{clap_on_literals}
@@ -20,8 +20,8 @@ is_simple_command = refl
 
 pub two_files-join : ReadsAsJoin two_files (codes "OUT") (codes "A") (codes "B" ∷ [])
 unfolding clap_on_literals
-two_files-join = record { taken = refl; rows = _; join = refl; out_is = refl; files_are = refl }
+two_files-join = record { taken = inl refl; rows = _; join = refl; out_is = refl; files_are = refl }
 
 pub dashes-join : ReadsAsJoin dashes (codes "-") (codes "-") []
 unfolding clap_on_literals
-dashes-join = record { taken = refl; rows = _; join = refl; out_is = refl; files_are = refl }
+dashes-join = record { taken = inl refl; rows = _; join = refl; out_is = refl; files_are = refl }

@@ -1,6 +1,6 @@
 -- What the words of a command line ask for, by clap's own definition of what a simple command takes.
-use Rattle.std.specs.Prelude.{◌≡◌, true, List, ◌∷◌, Some, codes}
-use Rattle.clap.specs.Words.{App, Row, Rule, Text, all_of, first_of, new_app, new_rule, subcommand_of, takes, with_rule, with_subcommand}
+use Rattle.std.specs.Prelude.{◌≡◌, ◌⊎◌, true, List, [], ◌∷◌, Some, codes}
+use Rattle.clap.specs.Words.{App, Row, Rule, Text, all_of, fault_of, first_of, new_app, new_rule, subcommand_of, takes, with_rule, with_subcommand}
 use Rattle.clap.specs.declared.builder.ArgAction.TheVariants.{Append}
 
 -- OUT: one word
@@ -20,9 +20,13 @@ salvage_app =
     let app = with_subcommand (new_app (codes "jls-salvage")) join_app.top in
     record app { top = record app.top { subcommand_required = true } }
 
+-- by clap's own definitions the program takes the words, or there is no fault in them
+abbrev pub AreTaken : List Text → Type 0
+AreTaken words = (takes salvage_app words ≡ true) ⊎ (fault_of salvage_app words ≡ [])
+
 -- clap takes the words, and reads them as `join` with this output and these inputs, of which there is a first
 pub record ReadsAsJoin (words : List Text) (out first : Text) (others : List Text) : Type 0 where
-  pub taken : takes salvage_app words ≡ true
+  pub taken : AreTaken words
   pub rows : List Row
   pub join : subcommand_of salvage_app words ≡ Some (codes "join", rows)
   pub out_is : first_of (codes "OUT") rows ≡ Some out

@@ -1,10 +1,10 @@
 //! The command line.
 
-ghost use Rattle.std.specs.Prelude.{◌≡◌, ℕ, true, false, List, ◌∷◌, Some, IsSomeAnd, IfOk, IfErr, map, codes};
+ghost use Rattle.std.specs.Prelude.{◌≡◌, ℕ, false, List, [], ◌∷◌, Some, IfSome, IsSomeAnd, IfOk, IfErr, map, codes};
 ghost use Rattle.std.specs.String.{string_bytes};
-ghost use Rattle.clap.specs.Words.{Row, all_of, app_of, first_of, kind_of, subcommand_of, subcommand_rows_of, takes};
+ghost use Rattle.clap.specs.Words.{Row, all_of, app_of, fault_of, first_of, kind_of, subcommand_of, subcommand_rows_of};
 ghost use Rattle.clap.specs.declared.builder.command.Command.TheViews.{out-Command};
-ghost use Rattle.jls_words.specs.Words.{join_app, salvage_app};
+ghost use Rattle.jls_words.specs.Words.{AreTaken, join_app, salvage_app};
 
 use clap::error::ErrorKind;
 use clap::{Arg, ArgAction, ArgMatches, Command, Error};
@@ -71,21 +71,27 @@ fn command<'a>(alloc: Global) -> Result<Command<'a>, AllocError>
 }
 
 /// What clap reads in the words, of which the first is the program's name. The rows of the subcommand are those of
-/// clap's own definition, and words that this definition takes are refused for want of memory alone.
+/// clap's own definition, which has no fault in words that are read; words that this definition takes are refused for
+/// want of memory alone.
 pub fn matches<'a>(alloc: Global, words: &'a [String]) -> Result<ArgMatches<'a>, Error>
     ensures rows { IfOk result (λ m. subcommand_rows_of m ≡ subcommand_of salvage_app (map string_bytes words.entry.now)) }
-    ensures passes { IfErr result (λ e. takes salvage_app (map string_bytes words.entry.now) ≡ true → kind_of e ≡ ErrorKind.OutOfMemory) }
+    ensures no_fault { IfOk result (λ m. fault_of salvage_app (map string_bytes words.entry.now) ≡ []) }
+    ensures passes { IfErr result (λ e. AreTaken (map string_bytes words.entry.now) → kind_of e ≡ ErrorKind.OutOfMemory) }
 {
     command(alloc)?.try_get_matches_from(words)
 }
 
 /// OUT, the first FILE and the other FILEs, where clap read the words as `join`.
 pub fn join_words<'m, 'a>(matches: &'m ArgMatches<'a>) -> Option<(&'a str, &'a str, &'m [&'a str])>
-    ensures { (rows : List Row) (out first : List ℕ) (others : List (List ℕ))
+    ensures found { (rows : List Row) (out first : List ℕ) (others : List (List ℕ))
         → subcommand_rows_of matches.now ≡ Some (codes "join", rows)
         → first_of (codes "OUT") rows ≡ Some out
         → all_of (codes "FILE") rows ≡ Some (first ∷ others)
         → IsSomeAnd result (λ w. (w.0.now ≡ out) × (w.1.now ≡ first) × (map (λ f. f.now) w.2.now ≡ others)) }
+    ensures found_only { IfSome result (λ w. (rows : List Row)
+        × (subcommand_rows_of matches.now ≡ Some (codes "join", rows))
+        × (first_of (codes "OUT") rows ≡ Some w.0.now)
+        × (all_of (codes "FILE") rows ≡ Some (w.1.now ∷ map (λ f. f.now) w.2.now))) }
 {
     let join = match matches.subcommand_matches("join") {
         Some(join) => join,

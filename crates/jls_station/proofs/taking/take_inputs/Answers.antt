@@ -7,21 +7,21 @@ abbrev name_of : Bor (List ℕ) → List ℕ
 name_of f = f.now
 
 pub returns-in-Err-clause-stopped : goal.returns-in-Err-clause-stopped
-returns-in-Err-clause-stopped g c =
+returns-in-Err-clause-stopped g c out =
     let history = g.D.Device.history in
-    stops_first c.in-Err.cause (history c.args.desk.now) (history c.first_station.new.desk) c.args.first.now (map name_of c.args.others.now) c.first_station.ensures.outputs c.in-Err.ensures.refused
+    stops_first c.in-Err.cause (history c.args.desk.now) (history c.first_station.new.desk) c.args.first.now (map name_of c.args.others.now) c.first_station.ensures.outputs c.in-Err.ensures.refused out
 
 pub returns-in-Err-open_and_read-clause-stopped : goal.returns-in-Err-open_and_read-clause-stopped
-returns-in-Err-open_and_read-clause-stopped g c =
+returns-in-Err-open_and_read-clause-stopped g c out =
     let history = g.D.Device.history in
     stops_next c.in-Err-open_and_read.cause (history c.args.desk.now) (history c.loop-name.desk) (history c.open_and_read.new.desk)
     (c.args.first.now ∷ map name_of (take c.loop-name.name-index c.args.others.now)) (map name_of (drop (c.loop-name.name-index + 1) c.args.others.now))
     (c.args.first.now ∷ map name_of c.args.others.now) _ c.loop-name.station c.loop-name.invariant.so_far
     (ap (λ (xs : List (List ℕ)). c.args.first.now ∷ xs) (names_split name_of c.args.others.now c.loop-name.name-index _ (omega arith)))
-    c.open_and_read.ensures.outputs c.in-Err-open_and_read.ensures.refused
+    c.open_and_read.ensures.outputs c.in-Err-open_and_read.ensures.refused out
 
 pub returns-in-Err-ShapeDiffers-clause-stopped : goal.returns-in-Err-ShapeDiffers-clause-stopped
-returns-in-Err-ShapeDiffers-clause-stopped g c =
+returns-in-Err-ShapeDiffers-clause-stopped g c out =
     let history = g.D.Device.history in
     differs_next (history c.args.desk.now) (history c.loop-name.desk) (history c.open_and_read.new.desk)
     (c.args.first.now ∷ map name_of (take c.loop-name.name-index c.args.others.now)) (map name_of (drop (c.loop-name.name-index + 1) c.args.others.now))

@@ -6,7 +6,8 @@ returns-in-Ok-write_all-clause-outputs g c =
     let history = g.D.Device.history in
     created_and_written (history c.args.desk.now) (history c.create_output.new.self) (history c.write_all.new.sink) c.args.name.now c.args.bytes.now c.in-Ok.ensures.created c.in-Ok-write_all.ensures.written
 
-pub returns-in-Err-write_all-clause-failed : goal.returns-in-Err-write_all-clause-failed
-returns-in-Err-write_all-clause-failed g c =
+pub returns-in-Err-write_all-clause-stopped : goal.returns-in-Err-write_all-clause-stopped
+returns-in-Err-write_all-clause-stopped g c =
     let history = g.D.Device.history in
-    created_not_written (history c.args.desk.now) (history c.create_output.new.self) (history c.write_all.new.sink) c.args.name.now c.in-Ok.ensures.created c.in-Err-write_all.ensures.failed
+    created_not_written (history c.args.desk.now) (history c.create_output.new.self) (history c.write_all.new.sink) c.args.name.now c.args.bytes.now c.in-Err-write_all.count
+    c.in-Ok.ensures.created c.in-Err-write_all.ensures.stopped c.in-Err-write_all.ensures.failed
