@@ -101,8 +101,8 @@ pub fn run<D: Desk, W: Sink, E: Sink>(
     faults: &mut E,
 ) -> u8
     // Done: the FILEs were opened by their names, in order, each was read to its end and was the text of a partial, all
-    // of one shape; OUT was created once, by its name, and handed exactly the text of the join of all of them. The
-    // status is 0 exactly if every line is settled.
+    // of one shape; after that OUT was created once, by its name, and handed exactly the text of the join of all of them.
+    // The status is 0 exactly if every line is settled.
     ensures join { (out first : List ℕ) (others : List (List ℕ)) → ReadsAsJoin (map string_bytes words.now) out first others → result ≤ 1
         → (joined : PartialPicture) × Joins (D.history desk.old) out (first ∷ others) joined (D.history desk.new)
         × ((result ≡ 0) ↔ IsSettled joined) }
