@@ -1,9 +1,9 @@
 -- Counts that rise, from one call to the next.
-use Rattle.std.proofs.Common.{◌≡◌, ℕ, ◌≤◌, Bool, List, inl, inr, arith}
-use Rattle.jls_device.specs.History.{History, after_open, after_create, after_failed_open}
+use Rattle.std.proofs.Common.{◌≡◌, ℕ, ◌≤◌, Bool, List, refl, ap, ◌∙◌, inl, inr, arith}
+use Rattle.jls_device.specs.History.{History, after_write, after_open, after_create, after_failed_open}
 use Rattle.jls_device.specs.Reads.{RoseBy, Reads, KeepsCounts}
 use Rattle.jls_device.specs.Writes.{Writes}
-use Rattle.jls_device.specs.Failures.{HasFailed}
+use Rattle.jls_device.specs.Failures.{HasFailed, NoneFailed}
 use Rattle.jls_device.proofs.Histories.{increment_rises}
 
 pub counts_kept : (s : History) → KeepsCounts s s
@@ -55,3 +55,25 @@ failed_before old mid new (inl (inl h)) k = inl (inl (later 1 _ _ _ h k.read_fai
 failed_before old mid new (inl (inr h)) k = inl (inr (later 1 _ _ _ h k.write_failures))
 failed_before old mid new (inr (inl h)) k = inr (inl (later 1 _ _ _ h k.open_failures))
 failed_before old mid new (inr (inr h)) k = inr (inr (later 4294967295 _ _ _ h k.reads))
+
+-- ---- no failure
+
+pub none_failed_yet : (s : History) → NoneFailed s s
+none_failed_yet s = record { reads = refl; writes = refl; openings = refl }
+
+pub none_failed_on : (old mid new : History) → NoneFailed old mid → NoneFailed mid new → NoneFailed old new
+none_failed_on old mid new h k = record { reads = k.reads ∙ h.reads; writes = k.writes ∙ h.writes; openings = k.openings ∙ h.openings }
+
+pub none_failed_by_write : (old mid new : History) (bytes : List ℕ) → NoneFailed old mid → new ≡ after_write mid bytes → NoneFailed old new
+none_failed_by_write old mid new bytes h e =
+    record { reads = ap (λ s. s.read_failures) e ∙ h.reads; writes = ap (λ s. s.write_failures) e ∙ h.writes; openings = ap (λ s. s.open_failures) e ∙ h.openings }
+
+-- after an opening
+pub none_failed_opened : (old mid new : History) (name : List ℕ) → mid ≡ after_open old name → NoneFailed mid new → NoneFailed old new
+none_failed_opened old mid new name e h =
+    record { reads = h.reads ∙ ap (λ s. s.read_failures) e; writes = h.writes ∙ ap (λ s. s.write_failures) e; openings = h.openings ∙ ap (λ s. s.open_failures) e }
+
+-- after a creation
+pub none_failed_created : (old mid new : History) (name : List ℕ) → mid ≡ after_create old name → NoneFailed mid new → NoneFailed old new
+none_failed_created old mid new name e h =
+    record { reads = h.reads ∙ ap (λ s. s.read_failures) e; writes = h.writes ∙ ap (λ s. s.write_failures) e; openings = h.openings ∙ ap (λ s. s.open_failures) e }

@@ -1,7 +1,7 @@
 //! The command `join`.
 
 ghost use Rattle.std.specs.Prelude.{◌≡◌, ◌≢◌, ◌≤◌, ◌↔◌, map, ◌∷◌};
-ghost use Rattle.jls_device.specs.Failures.{HasFailed};
+ghost use Rattle.jls_device.specs.Failures.{HasFailed, NoneFailed};
 ghost use Rattle.jls_device.specs.Reads.{KeepsCounts};
 ghost use Rattle.jls_partial.specs.Partial.{PartialPicture};
 ghost use Rattle.jls_partial.specs.Status.{IsSettled};
@@ -26,6 +26,7 @@ pub fn join<D: Desk, E: Sink>(
     ensures joined { result ≤ 1 → (joined : PartialPicture)
         × Joins (D.history desk.old) out.now (first.now ∷ map (λ f. f.now) others.now) joined (D.history desk.new)
         × ((result ≡ 0) ↔ IsSettled joined) }
+    ensures none_failed { result ≤ 1 → NoneFailed (D.history desk.old) (D.history desk.new) }
     ensures no_usage { result ≢ 2 }
     ensures quiet { result ≤ 1 → E.history faults.new ≡ E.history faults.old }
     ensures refused { result ≡ 3 → Refuses (D.history desk.old) (first.now ∷ map (λ f. f.now) others.now) (D.history desk.new) }

@@ -5,7 +5,7 @@ ghost use Rattle.std.specs.String.{string_bytes};
 ghost use Rattle.clap.specs.Words.{kind_of};
 ghost use Rattle.jls_partial.specs.Partial.{PartialPicture};
 ghost use Rattle.jls_partial.specs.Status.{IsSettled};
-ghost use Rattle.jls_device.specs.Failures.{HasFailed};
+ghost use Rattle.jls_device.specs.Failures.{HasFailed, NoneFailed};
 ghost use Rattle.jls_station.specs.Joining.{Joins, Refuses};
 ghost use Rattle.jls_station.specs.Stops.{IsStopped};
 ghost use Rattle.jls_words.specs.Words.{ReadsAsJoin};
@@ -101,11 +101,13 @@ pub fn run<D: Desk, W: Sink, E: Sink>(
     faults: &mut E,
 ) -> u8
     // Done: the FILEs were opened by their names, in order, each was read to its end and was the text of a partial, all
-    // of one shape; OUT was created once, by its name, and handed exactly the text of the join of all of them. The
-    // status is 0 exactly if every line is settled.
+    // of one shape; after that OUT was created once, by its name, and handed exactly the text of the join of all of them.
+    // The status is 0 exactly if every line is settled.
     ensures join { (out first : List ℕ) (others : List (List ℕ)) → ReadsAsJoin (map string_bytes words.now) out first others → result ≤ 1
         → (joined : PartialPicture) × Joins (D.history desk.old) out (first ∷ others) joined (D.history desk.new)
         × ((result ≡ 0) ↔ IsSettled joined) }
+    // Whatever the words are, status 0 and 1 come only where no read, write or opening of the desk failed.
+    ensures none_failed { result ≤ 1 → NoneFailed (D.history desk.old) (D.history desk.new) }
     // Such words are understood.
     ensures understood { (out first : List ℕ) (others : List (List ℕ)) → ReadsAsJoin (map string_bytes words.now) out first others → result ≢ 2 }
     // Words that are not understood leave the desk as it was.

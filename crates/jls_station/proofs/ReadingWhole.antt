@@ -2,6 +2,7 @@
 use Rattle.std.proofs.Common.{◌≡◌, ℕ, ◌+◌, ◌<◌, ◌≤◌, ◌==◌, Bool, true, List, [], ◌++◌, length, refl, sym, subst, ap, ◌∙◌, arith}
 use Rattle.std.proofs.lemmas.List.{append-nil}
 use Rattle.jls_device.specs.History.{History, on_last, after_read, after_failed_read}
+use Rattle.jls_device.specs.Failures.{NoneFailed}
 use Rattle.jls_device.specs.Reads.{RoseBy, Reads, GaveBeforeStop, given}
 use Rattle.jls_device.proofs.Histories.{last_ended, given_nothing, given_twice, increment_rises, increment_by_one, rises_more, rises_by_none, rises_by_one}
 
@@ -63,6 +64,10 @@ read_to_end n old mid new a b lt h e nothing =
     let more : ReadSoFar (n + 1) old (a ++ []) new = one_read_more n old mid new a [] h (e ∙ ap (after_read mid 4096) nothing) in
     let all : Reads old (a ++ []) true new = read_so_far (n + 1) old new (a ++ []) (omega arith) more in
     subst (λ (t : List ℕ). Reads old t true new) (append-nil a) all
+
+pub none_failed_to_end : (n : ℕ) (old mid new : History) (a b : List ℕ) → ReadSoFar n old a mid → new ≡ after_read mid 4096 b → NoneFailed old new
+none_failed_to_end n old mid new a b h e =
+    record { reads = ap (λ s. s.read_failures) e ∙ h.read_failures; writes = ap (λ s. s.write_failures) e ∙ h.write_failures; openings = ap (λ s. s.open_failures) e ∙ h.open_failures }
 
 -- a read that failed
 pub read_stopped : (n : ℕ) (old mid new : History) (a : List ℕ) → n < 4294967295 → ReadSoFar n old a mid → new ≡ after_failed_read mid

@@ -15,11 +15,12 @@ use Rattle.jls_station.specs.declared.cause.Cause.{Cause}
 use Rattle.jls_station.specs.declared.cause.Cause.TheVariants as cause
 use Rattle.jls_station.specs.declared.input.InputFault.TheVariants as fault
 use Rattle.jls_device.specs.History.{History, Input}
+use Rattle.jls_device.specs.Failures.{NoneFailed}
 use Rattle.jls_device.specs.Reads.{KeepsCounts}
 use Rattle.jls_station.specs.Joining.{whole_input, whole_texts, Takes, TakesJoin, Refuses}
 use Rattle.jls_station.specs.Causes.{RefusesFor, StopsFor}
 use Rattle.jls_station.specs.Stops.{IsNotOpened, IsNotReadWhole, StopsAtInput}
-use Rattle.jls_device.proofs.Counting.{counts_kept, counts_kept_on}
+use Rattle.jls_device.proofs.Counting.{counts_kept, counts_kept_on, none_failed_on}
 
 -- ---- what is held
 
@@ -154,14 +155,16 @@ pub record TakenSoFar (old : History) (names : List (List ℕ)) (station : Parti
   pub taken : TakesJoin old names station new
   pub outputs : new.outputs ≡ old.outputs
   pub counts : KeepsCounts old new
+  pub none_failed : NoneFailed old new
 
-pub taken_first : (old new : History) (name : List ℕ) (p : PartialPicture) → Takes old (name ∷ []) (p ∷ []) new → new.outputs ≡ old.outputs → KeepsCounts old new → TakenSoFar old (name ∷ []) p new
-taken_first old new name p h e k = record { taken = record { first = p; others = []; takes = h; is_join = refl }; outputs = e; counts = k }
+pub taken_first : (old new : History) (name : List ℕ) (p : PartialPicture) → Takes old (name ∷ []) (p ∷ []) new → new.outputs ≡ old.outputs → KeepsCounts old new → NoneFailed old new
+    → TakenSoFar old (name ∷ []) p new
+taken_first old new name p h e k n = record { taken = record { first = p; others = []; takes = h; is_join = refl }; outputs = e; counts = k; none_failed = n }
 
 pub taken_one_more : (old mid new : History) (names : List (List ℕ)) (name : List ℕ) (station next p : PartialPicture)
-    → TakenSoFar old names station mid → IsPartial p → new.inputs ≡ mid.inputs ++ whole_input name (text p) ∷ [] → new.outputs ≡ mid.outputs → KeepsCounts mid new
+    → TakenSoFar old names station mid → IsPartial p → new.inputs ≡ mid.inputs ++ whole_input name (text p) ∷ [] → new.outputs ≡ mid.outputs → KeepsCounts mid new → NoneFailed mid new
     → has_same_shape station p ≡ true → next ≡ union station p → TakenSoFar old (names ++ name ∷ []) next new
-taken_one_more old mid new names name station next p h is inputs outputs k same joined =
+taken_one_more old mid new names name station next p h is inputs outputs k n same joined =
     let t = h.taken in
     let as_first : has_same_shape t.first p ≡ true = sym (same_shape_as_join t.first t.others p) ∙ (ap (λ (q : PartialPicture). has_same_shape q p) (sym t.is_join) ∙ same) in
     record {
@@ -173,6 +176,7 @@ taken_one_more old mid new names name station next p h is inputs outputs k same 
       };
       outputs = outputs ∙ h.outputs;
       counts = counts_kept_on old mid new h.counts k;
+      none_failed = none_failed_on old mid new h.none_failed n;
     }
 
 -- the next input is refused

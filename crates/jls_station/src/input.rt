@@ -1,7 +1,8 @@
 //! Inputs of the program, read whole.
 
-ghost use Rattle.std.specs.Prelude.{◌≡◌, IfOk, IfErr, true};
+ghost use Rattle.std.specs.Prelude.{◌≡◌, IfOk, IfErr, OnOk, true};
 ghost use Rattle.jls_partial.specs.Text.{text, IsPartial};
+ghost use Rattle.jls_device.specs.Failures.{NoneFailed};
 ghost use Rattle.jls_device.specs.Reads.{Reads};
 ghost use Rattle.jls_station.specs.InputFaults.{RefusedFor};
 
@@ -37,6 +38,7 @@ const READS: u64 = 4_294_967_295;
 /// All bytes of a source, from where it stands to its end.
 fn read_all<S: Source>(alloc: Global, source: &mut S) -> Result<Vec<u8>, InputFault>
     ensures ok { IfOk result (λ v. Reads (S.history source.old) v.items true (S.history source.new)) }
+    ensures none_failed { OnOk result (NoneFailed (S.history source.old) (S.history source.new)) }
     ensures err { IfErr result (λ e. RefusedFor e (S.history source.old) (S.history source.new)) }
 {
     let mut bytes = Vec::new(alloc);
@@ -62,6 +64,7 @@ fn read_all<S: Source>(alloc: Global, source: &mut S) -> Result<Vec<u8>, InputFa
 /// `Text(Truncated(0))`. Where the source fails, or its last read is made before its end, the input is refused as `Read`.
 pub fn read_input<S: Source>(alloc: Global, source: &mut S) -> Result<Partial, InputFault>
     ensures text { IfOk result (λ p. Reads (S.history source.old) (text p) true (S.history source.new)) }
+    ensures none_failed { OnOk result (NoneFailed (S.history source.old) (S.history source.new)) }
     ensures partial { IfOk result (λ p. IsPartial p) }
     ensures refused { IfErr result (λ e. RefusedFor e (S.history source.old) (S.history source.new)) }
 {

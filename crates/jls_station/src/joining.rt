@@ -1,6 +1,7 @@
 //! Inputs joined into an output.
 
-ghost use Rattle.std.specs.Prelude.{◌↔◌, IfOk, IfErr, IsTrue, map, ◌∷◌};
+ghost use Rattle.std.specs.Prelude.{◌↔◌, IfOk, IfErr, OnOk, IsTrue, map, ◌∷◌};
+ghost use Rattle.jls_device.specs.Failures.{NoneFailed};
 ghost use Rattle.jls_device.specs.Reads.{KeepsCounts};
 ghost use Rattle.jls_partial.specs.Partial.{PartialPicture};
 ghost use Rattle.jls_partial.specs.Status.{IsSettled};
@@ -25,6 +26,7 @@ pub fn join_inputs<'a, D: Desk>(
     ensures joined { IfOk result (λ settled. (joined : PartialPicture)
         × Joins (D.history desk.old) out.now (first.now ∷ map (λ f. f.now) others.now) joined (D.history desk.new)
         × (IsTrue settled ↔ IsSettled joined)) }
+    ensures none_failed { OnOk result (NoneFailed (D.history desk.old) (D.history desk.new)) }
     ensures counts { KeepsCounts (D.history desk.old) (D.history desk.new) }
     ensures stopped { IfErr result (λ r. StopsFor r.cause (D.history desk.old) out.now (first.now ∷ map (λ f. f.now) others.now) (D.history desk.new)) }
 {

@@ -1,9 +1,10 @@
 //! The inputs of `join`, taken into a station.
 
-ghost use Rattle.std.specs.Prelude.{◌≡◌, ℕ, List, IfOk, IfErr, true, map, [], ◌∷◌, ◌++◌};
+ghost use Rattle.std.specs.Prelude.{◌≡◌, ℕ, List, IfOk, IfErr, OnOk, true, map, [], ◌∷◌, ◌++◌};
 ghost use Rattle.jls_partial.specs.Text.{text, IsPartial};
 ghost use Rattle.jls_station.specs.Causes.{RefusesFor, StopsFor};
 ghost use Rattle.jls_station.specs.Joining.{whole_input, Takes, TakesJoin};
+ghost use Rattle.jls_device.specs.Failures.{NoneFailed};
 ghost use Rattle.jls_device.specs.Reads.{KeepsCounts};
 
 use crate::cause::{Cause, Refusal};
@@ -19,6 +20,7 @@ fn open_and_read<D: Desk>(alloc: Global, desk: &mut D, name: &str) -> Result<Par
     ensures partial { IfOk result (λ p. IsPartial p) }
     ensures inputs { IfOk result (λ p. (D.history desk.new).inputs ≡ (D.history desk.old).inputs ++ whole_input name.now (text p) ∷ []) }
     ensures outputs { (D.history desk.new).outputs ≡ (D.history desk.old).outputs }
+    ensures none_failed { OnOk result (NoneFailed (D.history desk.old) (D.history desk.new)) }
     ensures counts { KeepsCounts (D.history desk.old) (D.history desk.new) }
     ensures refused { IfErr result (λ cause. RefusesFor cause (D.history desk.old) name.now (D.history desk.new)) }
 {
@@ -36,6 +38,7 @@ fn open_and_read<D: Desk>(alloc: Global, desk: &mut D, name: &str) -> Result<Par
 fn first_station<D: Desk>(alloc: Global, desk: &mut D, name: &str) -> Result<Station, Cause>
     ensures taken { IfOk result (λ station. Takes (D.history desk.old) (name.now ∷ []) (station ∷ []) (D.history desk.new)) }
     ensures outputs { (D.history desk.new).outputs ≡ (D.history desk.old).outputs }
+    ensures none_failed { OnOk result (NoneFailed (D.history desk.old) (D.history desk.new)) }
     ensures counts { KeepsCounts (D.history desk.old) (D.history desk.new) }
     ensures refused { IfErr result (λ cause. RefusesFor cause (D.history desk.old) name.now (D.history desk.new)) }
 {
@@ -58,6 +61,7 @@ pub fn take_inputs<'a, D: Desk>(
 ) -> Result<Station, Refusal<'a>>
     ensures taken { IfOk result (λ station. TakesJoin (D.history desk.old) (first.now ∷ map (λ f. f.now) others.now) station (D.history desk.new)) }
     ensures outputs { (D.history desk.new).outputs ≡ (D.history desk.old).outputs }
+    ensures none_failed { OnOk result (NoneFailed (D.history desk.old) (D.history desk.new)) }
     ensures counts { KeepsCounts (D.history desk.old) (D.history desk.new) }
     // Whatever the output is to be.
     ensures stopped { (out : List ℕ) → IfErr result (λ r. StopsFor r.cause (D.history desk.old) out (first.now ∷ map (λ f. f.now) others.now) (D.history desk.new)) }

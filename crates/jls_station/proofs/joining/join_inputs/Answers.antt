@@ -3,6 +3,7 @@ use Rattle.std.specs.Borrow.{Bor}
 use Rattle.jls_partial.specs.Partial.{PartialPicture}
 use Rattle.jls_station.specs.Joining.{TakesJoin}
 use Rattle.jls_station.proofs.Stopping.{joins, stopped_writing}
+use Rattle.jls_device.proofs.Counting.{none_failed_on}
 use Rattle.jls_station.proofs.joining.join_inputs.Goals as goal
 
 pub returns-in-Ok-write_output-clause-joined : goal.returns-in-Ok-write_output-clause-joined
@@ -29,3 +30,8 @@ returns-clause-stopped g c =
     let taken = subst (λ (q : PartialPicture). TakesJoin old names q mid) (sym c.partial-joined.ensures) c.in_ok-station.ensures.taken in
     stopped_writing c.in-Err-write_output.cause old mid (history c.write_output.new.desk) c.args.out.now names p c.deref.result.now
     taken c.take_inputs.ensures.outputs c.take_inputs.ensures.counts c.write_output.ensures.inputs (c.deref.ensures.value ∙ c.in-Ok.ensures) c.in-Err-write_output.ensures.stopped
+
+pub returns-in-Ok-write_output-clause-none_failed : goal.returns-in-Ok-write_output-clause-none_failed
+returns-in-Ok-write_output-clause-none_failed g c =
+    let history = g.D.Device.history in
+    none_failed_on (history c.args.desk.now) (history c.take_inputs.new.desk) (history c.write_output.new.desk) c.in_ok-station.ensures.none_failed c.in-Ok-write_output.ensures.none_failed

@@ -39,6 +39,6 @@ loop-name-preserved g c =
       so_far = subst (λ (names : List (List ℕ)). TakenSoFar old (c.args.first.now ∷ names) c.take.new.self new)
           (sym (names_one_more name_of c.args.others.now c.loop-name.name-index _ (omega arith)))
           (taken_one_more old (history c.loop-name.desk) new (c.args.first.now ∷ map name_of (take c.loop-name.name-index c.args.others.now)) _ c.loop-name.station c.take.new.self c.in-Ok-open_and_read.partial
-          c.loop-name.invariant.so_far c.in-Ok-open_and_read.ensures.partial c.in-Ok-open_and_read.ensures.inputs c.open_and_read.ensures.outputs c.open_and_read.ensures.counts
+          c.loop-name.invariant.so_far c.in-Ok-open_and_read.ensures.partial c.in-Ok-open_and_read.ensures.inputs c.open_and_read.ensures.outputs c.open_and_read.ensures.counts c.in-Ok-open_and_read.ensures.none_failed
           c.in-Ok-take.ensures.ok_same_shape c.in-Ok-take.ensures.ok);
     }
