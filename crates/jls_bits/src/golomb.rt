@@ -30,9 +30,10 @@ fn read_code(reader: &mut BitReader<'_>, k: u8, g: u8, qbpp: u8) -> Option<u32>
 }
 
 /// Reads the code LG(k, g) that stands at the front of what is left, with `qbpp` bits in an escape, and gives its
-/// number. The number may be above 2^qbpp where k is large. None where no code stands there: the bits end before the
-/// code does, or they are no number's, as an escape for a number that has a short code. The reader then stands where
-/// it stood.
+/// number (ITU-T T.87, A.5.3): k is the number of bits of the remainder, and g the length of an escape in bits. The
+/// number may be above 2^qbpp, since a short code has no such bound. None where no code stands there: the bits end
+/// before the code does, or they are no number's, as an escape for a number that has a short code. The reader then
+/// stands where it stood.
 pub fn read_golomb(reader: &mut BitReader<'_>, k: u8, g: u8, qbpp: u8) -> Option<u32>
     requires k { k ≤ 16 }
     requires qbpp { (1 ≤ qbpp) × (qbpp ≤ 16) }
@@ -118,7 +119,7 @@ pub fn no_golomb_code_begins_another()
         → golomb k g qbpp m ++ s ≡ golomb k g qbpp n ++ t → (m ≡ n) × (s ≡ t) }
 {}
 
-/// A law: no code is longer than g where k is at most qbpp. With a larger k a short code can be.
+/// A law: no code is longer than g where k is at most qbpp. Where k is above qbpp + 1 a short code can be longer.
 pub fn golomb_codes_are_limited()
     ensures { (k g qbpp m : ℕ) → k ≤ qbpp → qbpp + 2 ≤ g → length (golomb k g qbpp m) ≤ g }
 {}

@@ -7,7 +7,7 @@ use crate::stuffing::{ends_data, width_after};
 use std::marker::Model;
 
 /// Reads the data bits of bytes in their order, the most significant bit of each byte first. They end before a byte
-/// of 0x80 or more that follows 0xFF (ITU-T T.87, annex A).
+/// of 0x80 or more that follows 0xFF (ITU-T T.87, A.1).
 #[derive(Drop)]
 pub struct BitReader<'a> {
     /// The bytes behind `byte`.
@@ -84,7 +84,7 @@ fn is_whole_from(before: u8, bytes: &[u8]) -> bool
 }
 
 impl<'a> BitReader<'a> {
-    /// A reader of all data bits of these bytes.
+    /// A reader of the bits of these bytes, up to the first byte of 0x80 or more that follows 0xFF.
     #[tactic(auto, using(crate::proofs::DataBits::data_laws))]
     pub fn over(bytes: &'a [u8]) -> BitReader<'a>
         ensures left { result.left ≡ bits_read bytes.now }
@@ -147,8 +147,8 @@ impl<'a> BitReader<'a> {
     }
 }
 
-/// A law: bytes are whole exactly where each byte behind 0xFF is below 0x80, and what can be read of bytes that aren't
-/// are the data bits in front of the first byte of 0x80 or more that follows 0xFF.
+/// A law: bytes are whole exactly where each byte behind 0xFF is below 0x80. What can be read of other bytes is the data
+/// bits in front of the first byte of 0x80 or more that follows 0xFF.
 pub fn data_bits_end_at_a_marker()
     ensures whole { (bytes : List ℕ) → (is_whole bytes ≡ true) ↔ BelowMarkers bytes }
     ensures read { (front back : List ℕ) (x : ℕ) → is_whole (front ++ 0xFF ∷ []) ≡ true → 0x80 ≤ x

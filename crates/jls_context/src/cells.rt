@@ -143,7 +143,7 @@ impl Cells {
         (cell.k(), error_mapped(cell.uses_special_mapping(), error))
     }
 
-    /// The error that `regular_code` maps to this number. None where it maps none to it.
+    /// The error that `regular_code` maps to this number (A.5.2). None where it maps none to it.
     pub fn regular_error(&self, cell: u16, mapped: u32) -> Option<i32>
         requires { cell ≤ 364 }
         ensures error { IfSome result (IsError self.now.parameters) }
@@ -196,7 +196,7 @@ impl Cells {
         (cell.k(same), cell.error_mapped(same, error))
     }
 
-    /// The error that `run_code` maps to this number. None where it maps none to it.
+    /// The error that `run_code` maps to this number (A.7.2). None where it maps none to it.
     pub fn run_error(&self, same: bool, mapped: u32) -> Option<i32>
         ensures error { IfSome result (IsError self.now.parameters) }
         ensures another { IfSome result (λ e. same ≡ true → e ≢ pos 0) }

@@ -5,7 +5,7 @@ ghost use Rattle.jls_context.specs.Mode.{IsMode, quantized_gradients, weighed};
 
 use jls_values::Params;
 
-/// The samples round the one that is coded, as far as they are known (ITU-T T.87, figure A.2).
+/// The samples round the one that is coded, as far as they are known (ITU-T T.87, A.3).
 #[derive(Clone, Copy, Debug, PartialEq, Eq)]
 pub struct Neighbours {
     /// To the left.

@@ -13,7 +13,7 @@ use Rattle.jls_interval.specs.Events.{Event, regular, run_to_end, interrupted_ru
 use Rattle.jls_interval.specs.Cells.{regular_error, cell_before, is_same, interruption_error, run_cell_before}
 use Rattle.jls_interval.specs.Runs.{run_order, Blocks, blocks, run_index_before}
 
--- the bits of a sample in regular mode: the Golomb code, of at most LIMIT bits, of its mapped error
+-- the bits of a sample in regular mode: the Golomb code, with the limit LIMIT, of its mapped error
 abbrev pub regular_bits : CodingParameters → Cell → Neighbours → ℕ → List Bool
 regular_bits p cell near sample =
     golomb (regular_k cell) (limit p) (qbpp p) (regular_mapped cell (regular_error p cell near sample))
@@ -29,7 +29,7 @@ abbrev pub interrupted_run_bits : Blocks → List Bool → List Bool
 interrupted_run_bits run rest =
     replicate run.full_blocks true ++ false ∷ bits (run_order run.run_index) run.remaining ++ rest
 
--- the bits of the sample that interrupts a run: the Golomb code, of at most LIMIT - J - 1 bits, of EM, which is its mapped error. J is
+-- the bits of the sample that interrupts a run: the Golomb code, with the limit LIMIT - J - 1, of EM, which is its mapped error. J is
 -- `order`
 abbrev pub interrupting_bits : CodingParameters → RunCell → Neighbours → ℕ → ℕ → List Bool
 interrupting_bits p cell near order sample =

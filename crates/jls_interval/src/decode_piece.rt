@@ -19,7 +19,7 @@ use thiserror::Error;
 /// Why bytes gave no lines.
 #[derive(Clone, Copy, Debug, PartialEq, Eq, Error)]
 pub enum PieceFault {
-    /// More than seven bits follow the code of some lines.
+    /// The whole piece has data bits, and more than seven of them follow the code of some lines.
     #[error("more than seven bits follow the code of the lines")]
     Long,
     /// The bytes are no lines' code with at most seven bits behind it, nor are they `Long`.
@@ -83,9 +83,10 @@ fn read_lines(
 }
 
 /// Reads the bytes of an interval as its lines: row by row, and in a row by component, each of
-/// `width` samples of at most MAXVAL. `rows` counts those of one component. The whole piece is
-/// looked at, also behind its last line: at most seven bits may follow the code, of any value
-/// (ITU-T T.87, annex A).
+/// `width` samples of at most MAXVAL. `rows` is the number of lines of each component. The whole piece
+/// is looked at, also behind its last line: at most seven bits may follow the code, of any value,
+/// which is this profile's choice. A byte of 0x80 or more behind 0xFF makes the piece broken wherever
+/// it stands (ITU-T T.87, A.1).
 pub fn decode_interval(
     alloc: Global,
     params: &Params,

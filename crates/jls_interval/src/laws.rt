@@ -24,22 +24,23 @@ pub fn growth_ends_in_lines()
     ensures { GrowthEndsInLines }
 {}
 
-/// All lines grow so, from their events.
+/// The events of any lines lead, one after another, from the start to these lines.
 pub fn lines_grow()
     ensures { LinesGrow }
 {}
 
-/// After the same earlier events, of two events that can come next neither's bits begin the other's.
+/// After the same earlier events, of two different events that can come next neither's bits begin the
+/// other's.
 pub fn events_are_apart()
     ensures { EventsAreApart }
 {}
 
-/// Every event has at least one bit.
+/// Every event that can come next in a line that isn't whole has at least one bit.
 pub fn events_have_bits()
     ensures { EventsHaveBits }
 {}
 
-/// Of the codes of two lists of lines of the same number and width, neither begins the other.
+/// Of the codes of two different lists of lines, of the same number and width, neither begins the other.
 pub fn codes_are_apart()
     ensures { CodesAreApart }
 {}
