@@ -80,7 +80,7 @@ not_below_zero : (z : ℤ) → false ≡ int_lt z (pos 0) → pos 0 ≤ℤ z
 not_below_zero z e = grind (arith, ints)
 
 -- where SIGN is that of the sum, the sum with SIGN is its size
-size_is : (negative : Bool) (q1 q2 q3 : ℤ) → negative ≡ int_lt (weighed q1 q2 q3) (pos 0)
+pub size_is : (negative : Bool) (q1 q2 q3 : ℤ) → negative ≡ int_lt (weighed q1 q2 q3) (pos 0)
     → pos (unsigned_abs (weighed q1 q2 q3)) ≡ weighed (with_sign negative q1) (with_sign negative q2) (with_sign negative q3)
 size_is true q1 q2 q3 e = let h = below_zero (weighed q1 q2 q3) e in omega (arith, ints)
 size_is false q1 q2 q3 e = let h = not_below_zero (weighed q1 q2 q3) e in omega (arith, ints)

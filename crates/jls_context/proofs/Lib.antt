@@ -1,3 +1,4 @@
+pub mod Contexts
 pub mod GolombLaws
 pub mod Gradients
 pub mod Remainders

@@ -51,7 +51,7 @@ is_first_negative (negsuc n ∷ later) = true
 unfoldable pub is_negative : CodingParameters → Neighbours → Bool
 is_negative p near = let q = quantized_gradients p near in is_first_negative (q.q1 ∷ q.q2 ∷ q.q3 ∷ [])
 
--- 81*Q1 + 9*Q2 + Q3, which is another number for any other three from -4 to 4
+-- 81*Q1 + 9*Q2 + Q3, which is another number for any other three from -4 to 4 (`ContextsAreApart`)
 abbrev pub weighed : ℤ → ℤ → ℤ → ℤ
 weighed q1 q2 q3 = pos 81 *ℤ q1 +ℤ pos 9 *ℤ q2 +ℤ q3
 
@@ -61,6 +61,17 @@ unfoldable pub context : CodingParameters → Neighbours → ℕ
 context p near =
     let q = quantized_gradients p near in let negative = is_negative p near in
     unsigned_abs (weighed (with_sign negative q.q1) (with_sign negative q.q2) (with_sign negative q.q3))
+
+-- the quantized gradients, each with SIGN: what the number of a context stands for
+abbrev pub signed_gradients : CodingParameters → Neighbours → QuantizedGradients
+signed_gradients p near =
+    let q = quantized_gradients p near in let negative = is_negative p near in
+    record { q1 = with_sign negative q.q1; q2 = with_sign negative q.q2; q3 = with_sign negative q.q3 }
+
+-- samples whose contexts have one number have the same quantized gradients with SIGN
+abbrev pub ContextsAreApart : Type 0
+ContextsAreApart =
+    (p : CodingParameters) (near other : Neighbours) → context p near ≡ context p other → signed_gradients p near ≡ signed_gradients p other
 
 -- a sample with these neighbours is in regular mode, with this context (`cell`) and this SIGN
 pub record IsRegularMode (p : CodingParameters) (near : Neighbours) (cell : ℕ) (negative : Bool) : Type 0 where

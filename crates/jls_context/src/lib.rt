@@ -5,11 +5,13 @@ mod cells;
 mod errors;
 mod golomb;
 mod interruption;
+mod laws;
 mod mode;
 mod prediction;
 mod regular;
 
 pub use cells::Cells;
+pub use laws::contexts_are_apart;
 pub use mode::{Mode, Neighbours};
 
 #[cfg(test)]
