@@ -1,5 +1,5 @@
 -- Which codes the bits of a state begin, and that bits begin a code, are one or begin none.
-use Rattle.std.proofs.Common.{◌≡◌, ◌↔◌, ℕ, ◌+◌, ◌-◌, ◌*◌, ◌/◌, ◌%◌, ◌^◌, ◌<◌, ◌≤◌, Bool, true, false, List, [], ◌∷◌, ◌++◌, replicate, refl, sym, ap, ◌∙◌, subst, Decides, eqb, leb, arith, inl, inr, append_assoc}
+use Rattle.std.proofs.Common.{◌≡◌, ◌↔◌, ℕ, ◌+◌, ◌-◌, ◌*◌, ◌/◌, ◌%◌, ◌^◌, ◌<◌, ◌≤◌, Bool, true, false, List, [], ◌∷◌, ◌++◌, replicate, refl, sym, ap, ◌∙◌, Decides, eqb, leb, arith, inl, inr, append_assoc}
 use Rattle.std.proofs.lemmas.List.{append-nil, replicate-append-replicate}
 use Rattle.std.proofs.lemmas.Nat.{pow_pos, shr_high, mod_low, shr-shr, div-add-mod', shr_below}
 use Rattle.std.proofs.Math.Nat.{mod-eq_of_lt}
@@ -10,7 +10,7 @@ use Rattle.jls_bits.specs.CodeState.{BeginsCode, RefusesCode}
 use Rattle.jls_bits.specs.declared.golomb_reader.GolombStep.{GolombStep}
 use Rattle.jls_bits.specs.declared.golomb_reader.GolombStep.TheVariants.{More, Done, Refused}
 use Rattle.jls_bits.proofs.NumberBits.{bits_split, bits_same, bits_cong}
-use Rattle.jls_bits.proofs.Codes.{golomb_same, zeros_then_one, zeros_differ, escape_above_0, small_has_code}
+use Rattle.jls_bits.proofs.Codes.{golomb_same, zeros_then_one, zeros_differ, small_has_code}
 use Rattle.jls_bits.proofs.CodeSteps.{code_of_short, code_of_long, joined, none_whole}
 
 -- the first of many zeros

@@ -1,5 +1,6 @@
 -- The bits of numbers, and the data bits that bytes carry where a bit 0 is stuffed after each byte 0xFF (T.87 A.1).
-use Rattle.std.specs.Prelude.{◌≡◌, ℕ, zero, suc, ◌+◌, ◌/◌, ◌%◌, ◌^◌, ◌<◌, Bool, true, not, ◌&&◌, nat_le, ◌==◌, if◌then◌else◌, List, [], ◌∷◌, ◌++◌, length}
+use Rattle.std.specs.Prelude.{◌≡◌, ℕ, zero, suc, ◌+◌, ◌/◌, ◌%◌, ◌^◌, ◌<◌, Bool, true, not, ◌&&◌, nat_le, ◌==◌, if◌then◌else◌}
+use Rattle.std.specs.Prelude.{List, [], ◌∷◌, ◌++◌, length}
 
 -- the low `count` bits of a number, the most significant first
 unfoldable pub bits : ℕ → ℕ → List Bool

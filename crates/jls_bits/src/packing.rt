@@ -1,6 +1,7 @@
 //! Whole bytes, and the bits of the next one.
 
-ghost use Rattle.std.specs.Prelude.{◌≡◌, ◌+◌, ◌*◌, ◌^◌, ◌<◌, ◌≤◌, false, [], ◌∷◌, ◌++◌, replicate, vec_len, vec_capacity, IfOk, OnOk, OnErr};
+ghost use Rattle.std.specs.Prelude.{◌≡◌, ◌+◌, ◌*◌, ◌^◌, ◌<◌, ◌≤◌, false, [], ◌∷◌, ◌++◌, replicate};
+ghost use Rattle.std.specs.Prelude.{vec_len, vec_capacity, IfOk, OnOk, OnErr};
 ghost use Rattle.jls_bits.specs.Bits.{bits};
 ghost use Rattle.jls_bits.specs.Pad.{IsPad};
 ghost use Rattle.jls_bits.specs.Packing.{IsPacking, bits_put};

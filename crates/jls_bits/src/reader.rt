@@ -25,7 +25,10 @@ impl<'a> Model for BitReader<'a> {
 
     ghost Value = { Unread };
 
-    ghost view = { λ r. record { left = bits r.count r.byte ++ bits_read_after r.byte r.rest.now; whole = is_whole_after r.byte r.rest.now } };
+    ghost view = { λ r. record {
+      left = bits r.count r.byte ++ bits_read_after r.byte r.rest.now;
+      whole = is_whole_after r.byte r.rest.now;
+    } };
 
     ghost invariant = { λ r. r.count ≤ 8 };
 }

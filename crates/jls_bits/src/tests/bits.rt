@@ -111,10 +111,47 @@ fn numbers_are_pushed_with_their_top_bit_first(rt: HostRuntime) -> Result<(), Fa
     );
 
     let mut writer = BitWriter::new(rt.alloc());
+    writer.push_bits(0, 32)?;
+    assert_eq!(rt; writer.finish()?.as_slice(), [0, 0, 0, 0].as_slice());
+
+    let mut writer = BitWriter::new(rt.alloc());
     writer.push_bits(5, 3)?;
     writer.push_bit(false)?;
     writer.push_bits(0x1FF, 9)?;
     writer.push_bits(0x7F, 7)?;
     assert_eq!(rt; writer.finish()?.as_slice(), [0xAF, 0xFF, 0x78].as_slice());
     Ok(())
+}
+
+#[test]
+fn more_than_64_kib_are_written_and_read(rt: HostRuntime) -> Result<(), Fail> {
+    let mut writer = BitWriter::new(rt.alloc());
+    for _ in 0..20_000 {
+        writer.push_bits(0xFFFF_FFFF, 32)?;
+    }
+    let bytes = writer.finish()?;
+    // 42,666 pairs of bytes have 15 ones each, and ten ones are left.
+    assert_eq!(rt; bytes.len(), 85_334);
+    assert_eq!(rt; bytes.last().copied(), Some(0x60));
+    let reader = BitReader::over(&bytes);
+    assert!(rt; reader.is_whole());
+    assert_eq!(rt; reader.left(), 640_005);
+    Ok(())
+}
+
+#[test]
+fn bytes_are_unstuffed_one_after_another(rt: HostRuntime) {
+    let mut unstuffer = Unstuffer::new();
+    let table = [
+        (0xFF, Some((255, 8))),
+        (0x7F, Some((127, 7))),
+        (0xFF, Some((255, 8))),
+        (0x80, None),
+        (0x00, None),
+        (0xFF, None),
+        (0x00, None),
+    ];
+    for (byte, bits) in table {
+        assert_eq!(rt; unstuffer.push(byte), bits, "{byte:x}");
+    }
 }

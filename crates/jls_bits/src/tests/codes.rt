@@ -1,8 +1,7 @@
 //! Golomb codes written and read, cut and damaged.
 
-ghost use Rattle.std.specs.Prelude.{◌+◌, ◌^◌, ◌≤◌};
+ghost use Rattle.std.specs.Prelude.{◌≡◌, ◌+◌, ◌^◌, ◌≤◌, length};
 
-use crate::code_state::{CodeState, CodeStep};
 use crate::*;
 use std::alloc::{AllocError, Global};
 use std::test::Fail;
@@ -169,43 +168,95 @@ fn a_reader_stays_where_no_code_stands(rt: HostRuntime) -> Result<(), Fail> {
     Ok(())
 }
 
-/// How many of the bits a machine takes, and the number if they are a code. None of it where it asks for more.
-fn told(bits: &[u8], k: u8, g: u8, qbpp: u8) -> Option<(usize, Option<u32>)>
+/// A reader that was pushed these bits up to the first that decides, how many it took, and its last answer.
+fn told(bits: &[u8], k: u8, g: u8, qbpp: u8) -> (GolombReader, usize, GolombStep)
     requires k { k ≤ 16 }
     requires qbpp { (1 ≤ qbpp) × (qbpp ≤ 16) }
     requires g { (qbpp + 2 ≤ g) × (g ≤ 64) }
+    ensures { result.0.qbpp ≡ qbpp }
 {
-    let mut state = CodeState::START;
+    let mut reader = GolombReader::new(k, g, qbpp);
     for (index, digit) in bits.iter().enumerate() {
-        match state.push(k, g, qbpp, *digit == b'1') {
-            CodeStep::More(next) => state = next,
-            CodeStep::Done(number) => return Some((index, Some(number))),
-            CodeStep::Refused => return Some((index, None)),
+        match reader.push(*digit == b'1') {
+            GolombStep::More => {}
+            step => return (reader, index + 1, step),
         }
     }
-    None
+    (reader, bits.len(), GolombStep::More)
 }
 
 #[test]
-fn a_machine_answers_at_the_first_bit_that_decides(rt: HostRuntime) {
-    assert_eq!(rt; told(b"0000000010", 2, 32, 8), None);
-    assert_eq!(rt; told(b"00000000100", 2, 32, 8), Some((10, Some(32))));
-    assert_eq!(rt; told(b"00000000000000000000000", 2, 32, 8), None);
-    assert_eq!(rt;
-        told(b"000000000000000000000000", 2, 32, 8),
-        Some((23, None))
-    );
-    // The last number of an escape that begins 00 is 64, which has a short code at k 2.
-    assert_eq!(rt; told(b"0000000000000000000000010", 2, 32, 8), None);
-    assert_eq!(rt;
-        told(b"00000000000000000000000100", 2, 32, 8),
-        Some((25, None))
-    );
-    // At k 4 there is no escape: the zeros that would announce it are refused.
-    assert_eq!(rt; told(b"0000000000000000000000", 4, 32, 8), None);
-    assert_eq!(rt;
-        told(b"00000000000000000000000", 4, 32, 8),
-        Some((22, None))
-    );
-    assert_eq!(rt; told(b"1", 0, 32, 8), Some((0, Some(0))));
+fn a_reader_answers_at_the_first_bit_that_decides(rt: HostRuntime) {
+    // At k 2 the least escape is 92; at k 4 there is none, since 256 has a short code.
+    let table: [(&[u8], u8, usize, GolombStep); 9] = [
+        (b"0000000010", 2, 10, GolombStep::More),
+        (b"00000000100", 2, 11, GolombStep::Done(32)),
+        (b"00000000000000000000000", 2, 23, GolombStep::More),
+        (b"000000000000000000000000", 2, 24, GolombStep::Refused),
+        (b"0000000000000000000000010", 2, 25, GolombStep::More),
+        (b"00000000000000000000000100", 2, 26, GolombStep::Refused),
+        (b"0000000000000000000000", 4, 22, GolombStep::More),
+        (b"00000000000000000000000", 4, 23, GolombStep::Refused),
+        (b"1", 0, 1, GolombStep::Done(0)),
+    ];
+    for (bits, k, count, step) in table {
+        let k = k.min(16);
+        let (_, taken, answer) = told(bits, k, 32, 8);
+        assert_eq!(rt; (taken, answer), (count, step), "{bits:?}");
+    }
+}
+
+#[test]
+fn a_cut_code_allows_the_numbers_whose_codes_it_begins(rt: HostRuntime) {
+    // The bits so far, and the first and the last number that they allow: 32 to 35 have eight zeros, an escape that
+    // begins 0101 is a number from 81 to 96, of which 92 and more have no short code.
+    let table: [(&[u8], u32, u32); 7] = [
+        (b"", 0, 256),
+        (b"00000000", 32, 256),
+        (b"000000001", 32, 35),
+        (b"0000000010", 32, 33),
+        (b"00000000100", 32, 32),
+        (b"000000000000000000000001", 92, 256),
+        (b"0000000000000000000000010101", 92, 96),
+    ];
+    for (bits, first, last) in table {
+        let (reader, _, _) = told(bits, 2, 32, 8);
+        for number in 0..257 {
+            let allowed = first <= number && number <= last;
+            assert_eq!(rt; reader.allows(number), allowed, "{bits:?} {number}");
+        }
+    }
+    let (refused, _, _) = told(b"000000000000000000000000", 2, 32, 8);
+    assert!(rt; !refused.allows(256));
+}
+
+/// A chunk of up to 50 bits, given as ones and zeros.
+fn chunk_of(bits: &[u8]) -> Chunk
+    ensures { length result ≤ 50 }
+{
+    let mut chunk = Chunk::new();
+    for digit in bits {
+        if chunk.len() < 50 {
+            chunk.append((*digit == b'1') as u8, 1);
+        }
+    }
+    chunk
+}
+
+#[test]
+fn a_chunk_gives_a_code_its_bits(rt: HostRuntime) {
+    let code = b"00000000101";
+    for cut in 0..11 {
+        let mut first = chunk_of(&code[..cut]);
+        let CodeStep::More(state) = CodeState::START.push_chunk(2, 32, 8, &mut first) else {
+            panic!(rt; "a code is whole at {cut}")
+        };
+        assert!(rt; first.is_empty());
+        let mut second = chunk_of(&code[cut..]);
+        second.append(0b101, 3);
+        let CodeStep::Done(number) = state.push_chunk(2, 32, 8, &mut second) else {
+            panic!(rt; "no code is whole behind {cut}")
+        };
+        assert_eq!(rt; (number, second.len()), (33, 3));
+    }
 }

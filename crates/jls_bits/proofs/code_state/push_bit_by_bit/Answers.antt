@@ -1,8 +1,6 @@
-use Rattle.std.proofs.Common.{◌≡◌, List, Bool, [], refl, ◌∙◌}
-use Rattle.jls_bits.specs.CodeState.{bits_told, IsOpen, StepIs}
-use Rattle.jls_bits.specs.Chunk.{ChunkStep}
-use Rattle.jls_bits.specs.declared.code_state.CodeStep.TheVariants.{More}
-use Rattle.jls_bits.proofs.ChunkSteps.{Taking, taking_none, taking_more, whole_chunk, step_of, not_more}
+use Rattle.std.proofs.Common.{refl}
+use Rattle.jls_bits.specs.CodeState.{bits_told}
+use Rattle.jls_bits.proofs.ChunkSteps.{taking_none, taking_more, whole_chunk, step_of, not_more}
 use Rattle.jls_bits.proofs.code_state.push_bit_by_bit.Goals as goal
 
 pub loop-bit-init : goal.loop-bit-init

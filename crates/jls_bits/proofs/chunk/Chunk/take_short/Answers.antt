@@ -1,4 +1,4 @@
-use Rattle.std.proofs.Common.{◌≡◌, ℕ, ◌+◌, ◌-◌, ◌*◌, ◌^◌, ◌%◌, ◌/◌, ◌<◌, ◌≤◌, false, true, ◌++◌, replicate, [], ◌∷◌, sym, ap, subst, ◌∙◌, arith}
+use Rattle.std.proofs.Common.{◌≡◌, ℕ, ◌-◌, ◌*◌, ◌^◌, ◌%◌, ◌/◌, false, true, ◌++◌, replicate, ◌∷◌, sym, ap, ◌∙◌, arith}
 use Rattle.jls_bits.specs.Bits.{bits}
 use Rattle.jls_bits.proofs.ChunkBits.{short_front, one_of_64, below_place}
 use Rattle.jls_bits.proofs.chunk.Chunk.take_short.Goals as goal

@@ -1,4 +1,4 @@
-use Rattle.std.proofs.Common.{◌≡◌, ℕ, ◌+◌, ◌-◌, ◌*◌, ◌/◌, ◌%◌, ◌^◌, Bool, Decides, eqb, leb, sym, ap, subst, arith}
+use Rattle.std.proofs.Common.{◌≡◌, ◌+◌, ◌-◌, ◌*◌, ◌/◌, ◌%◌, ◌^◌, Decides, eqb, leb, sym, ap, subst, arith}
 use Rattle.std.proofs.lemmas.Nat.{shl_whole}
 use Rattle.jls_bits.specs.Golomb.{BeginsCodeOf}
 use Rattle.jls_bits.specs.CodeState.{bits_told, IsOpen}

@@ -1,4 +1,4 @@
-use Rattle.std.proofs.Common.{Decides, eqb, false, sym, subst}
+use Rattle.std.proofs.Common.{Decides, eqb, false, subst}
 use Rattle.jls_bits.specs.Golomb.{BeginsCodeOf}
 use Rattle.jls_bits.proofs.GolombReading.{done_allows, refused_allows}
 use Rattle.jls_bits.proofs.golomb_reader.GolombReader.allows.Goals as goal

@@ -1,4 +1,4 @@
-use Rattle.std.proofs.Common.{refl, arith}
+use Rattle.std.proofs.Common.{arith}
 use Rattle.jls_bits.specs.declared.code_state.CodeState.TheVariants.{Zeros}
 use Rattle.jls_bits.proofs.CodeSteps.{begins}
 use Rattle.jls_bits.proofs.golomb_reader.GolombReader.new.Goals as goal

@@ -1,5 +1,5 @@
-use Rattle.std.proofs.Common.{◌≡◌, ℕ, ◌^◌, ◌<◌, true, false, [], ◌∷◌, ◌++◌, List, sym, ap, subst, ◌∙◌, arith}
-use Rattle.jls_bits.specs.Bits.{bits, width_after, bits_read, is_whole, ends_data}
+use Rattle.std.proofs.Common.{◌≡◌, ◌^◌, ◌<◌, true, false, [], ◌∷◌, ◌++◌, sym, ap, subst, ◌∙◌, arith}
+use Rattle.jls_bits.specs.Bits.{bits, width_after, bits_read, is_whole}
 use Rattle.jls_bits.specs.Unstuffing.{IsUnstuffing}
 use Rattle.jls_bits.proofs.Unstuffing.{byte_ends, byte_whole, byte_bits, byte_fits, byte_kept, stays_ended, ended_kept}
 use Rattle.jls_bits.proofs.unstuffer.Unstuffer.push.Goals as goal
