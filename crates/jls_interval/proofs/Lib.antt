@@ -20,6 +20,7 @@ pub mod PiecesReadOnce
 pub mod NeighboursAgree
 pub mod PartedOnce
 pub mod WorkedExamples
+pub mod CutEventCases
 pub mod HeadLines
 pub mod RunSteps
 pub mod LineLists

@@ -10,6 +10,7 @@ pub mod Stepwise
 pub mod Fits
 pub mod Growth
 pub mod Laws
+pub mod CutEvents
 pub mod Heads
 pub mod RunState
 pub mod DecodedEvent

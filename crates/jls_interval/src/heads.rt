@@ -1,6 +1,7 @@
 //! The laws of heads: the lines that stand whole where bits break off. Each is a function that does nothing and whose
 //! contract is the law.
 
+ghost use Rattle.jls_interval.specs.CutEvents.{CutEventsGoOn};
 ghost use Rattle.jls_interval.specs.Heads.{HeadsAreOne, HeadsAreFinishedLines, ReadPiecesHaveNone};
 
 /// Bits have at most one head: it doesn't depend on the lines in whose code they break off.
@@ -16,4 +17,12 @@ pub fn heads_are_finished_lines()
 /// A piece that reads as an interval's lines has an empty head.
 pub fn read_pieces_have_no_head()
     ensures { ReadPiecesHaveNone }
+{}
+
+/// Behind whole events, bits cut an event that can come next if and only if lines are still to come and the bits are one of
+/// these: in regular mode, a proper prefix of the code of some error; in run mode, ones for full blocks with columns left
+/// behind them, or a count of columns whose least continuation is below the columns left, or a whole count and a proper
+/// prefix of the code of some error other than that of the run's own value.
+pub fn cut_events_go_on()
+    ensures { CutEventsGoOn }
 {}

@@ -22,7 +22,9 @@ mod run_reader;
 
 pub use decode_piece::{PieceFault, decode_interval};
 pub use encode::{encode_interval, packed_lines_read_back};
-pub use heads::{heads_are_finished_lines, heads_are_one, read_pieces_have_no_head};
+pub use heads::{
+    cut_events_go_on, heads_are_finished_lines, heads_are_one, read_pieces_have_no_head,
+};
 pub use laws::{
     broken_pieces_begin_with_no_code, codes_are_apart, cuts_are_exact, events_are_apart,
     events_have_bits, full_blocks_fit, growth_ends_in_lines, lines_are_parted_once, lines_grow,
