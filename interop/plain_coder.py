@@ -3,7 +3,9 @@
 `code` gives the bits that lines are written as, column by column as the standard's procedures say, and `write` packs them. `read` says
 what a piece of scan data is: a list of lines, LONG or BROKEN. It looks for lines as a decoder that believes its bits, and
 then judges by `code` alone: a piece reads as lines exactly if its data bits are their code and at most seven bits more.
+`head` says which lines stand whole in a piece that breaks off: it tries each event that can come next, and judges by `code` alone.
 """
+import copy
 import sys
 from dataclasses import dataclass
 
@@ -374,6 +376,58 @@ def read_run(interval, left):
     so_far += [value] * count
     read_sample(interval, left, *interval.interruption(), interval.params.limit - order - 1)
     interval.run_index[component] = max(0, interval.run_index[component] - 1)
+
+
+# Heads -----------------------------------------------------------------------------------------------
+
+
+def head(params, width, components, rows, piece):
+    """The head of a piece: the longest list of first lines with whose code its data bits begin, where these are a proper prefix of
+    the code of some lines; else no line."""
+    bits = data_bits(piece)
+    lines = None if bits is None else continued(params, width, components, rows * components, bits)
+    if lines is None:
+        return []
+    wanted = code(params, width, components, lines)
+    assert len(bits) < len(wanted) and wanted[: len(bits)] == bits
+    codes = [code(params, width, components, lines[:number]) for number in range(len(lines))]
+    return lines[: max(number for number, first in enumerate(codes) if bits[: len(first)] == first)]
+
+
+def continued(params, width, components, count, bits):
+    """So many lines of whose code the bits are a proper prefix; None where there are no such lines."""
+    interval, at = Interval(params, width, components), 0
+    while at <= len(bits):
+        if not interval.lines or len(interval.lines[-1]) == width:
+            if len(interval.lines) == count:
+                return None
+            interval.lines.append([])
+        for interval, event in next_events(interval):
+            if all(bit == wanted for bit, wanted in zip(bits[at:], event)):
+                at += len(event)
+                break
+        else:
+            return None
+    lines = [line + [0] * (width - len(line)) for line in interval.lines]
+    return lines + [[0] * width for _ in range(count - len(lines))]
+
+
+def next_events(interval):
+    """Each event that can come next, as the interval after it and its bits: a column with each sample, or a run of each length."""
+    samples = range(interval.params.maxval + 1)
+    so_far, value = interval.lines[-1], interval.neighbours()[0]
+    if interval.context() is not None:
+        for sample in samples:
+            after = copy.deepcopy(interval)
+            yield after, regular_code(after, *after.context(), sample)
+        return
+    for count in range(interval.width - len(so_far)):
+        for sample in samples:
+            if sample != value:
+                after = copy.deepcopy(interval)
+                yield after, run_code(after, so_far + [value] * count + [sample])
+    after = copy.deepcopy(interval)
+    yield after, run_code(after, so_far + [value] * (interval.width - len(so_far)))
 
 
 # Tables ----------------------------------------------------------------------------------------------

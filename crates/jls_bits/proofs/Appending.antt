@@ -1,6 +1,5 @@
 -- Bytes that bits are appended to: whole bytes, and then the bits that fill no byte yet.
 use Rattle.std.proofs.Common.{◌≡◌, ℕ, ◌+◌, ◌-◌, ◌*◌, ◌/◌, ◌%◌, ◌^◌, ◌<◌, ◌≤◌, Bool, true, false, not, eqb, leb, List, [], ◌∷◌, ◌++◌, length, refl, sym, ap, ◌∙◌, subst, arith, inl, inr, append_assoc}
-use mir.Val.{bool_byte}
 use Rattle.std.specs.List.{AllByRecursion}
 use Rattle.std.proofs.lemmas.List.{append-nil}
 use Rattle.std.proofs.lemmas.Bool.{cases_Bool, and_parts, not-true, leb-false, lt-leb}
@@ -8,7 +7,7 @@ use Rattle.std.proofs.Math.Pow.{pow_mono}
 use Rattle.std.proofs.Math.Nat.{mod-eq_of_lt}
 use Rattle.jls_bits.specs.Bits.{bits, width_after, ends_data, bits_read_after, is_whole_after}
 use Rattle.jls_bits.specs.Appending.{last_after, AreFilled}
-use Rattle.jls_bits.proofs.NumberBits.{bits_same, bits_push_bool, bits_more}
+use Rattle.jls_bits.proofs.NumberBits.{bits_same}
 use Rattle.jls_bits.proofs.DataBits.{width_bounds, data_end, data_more, whole_more, whole_end, length_more}
 
 abbrev AreBytes : List ℕ → Type 0
@@ -94,31 +93,3 @@ pub filled_more : (bytes : List ℕ) (x : ℕ) → AreFilled bytes → x < 2 ^ w
 filled_more bytes x f l =
     let last = last_after 0 bytes in let e = goes_on last x l in
     (record { are_bytes = bytes_append bytes (x ∷ []) f.are_bytes (below_256 last x l, tt); whole = whole_append 0 bytes (x ∷ []) f.whole (whole_more last x [] e ∙ whole_end x) }, data_append 0 bytes (x ∷ []) f.whole ∙ ap (λ z. bits_read_after 0 bytes ++ z) (data_more last x [] e ∙ ap (λ z. bits (width_after last) x ++ z) (data_end x) ∙ append-nil (bits (width_after last) x)))
-
--- a bit that fills the next byte
-pub bit_fills : (bytes : List ℕ) (last count partial : ℕ) (bit : Bool) → AreFilled bytes → last ≡ last_after 0 bytes → count + 1 ≡ width_after last → partial < 2 ^ count
-    → AreFilled (bytes ++ (2 * partial + bool_byte bit) ∷ []) × (bits_read_after 0 (bytes ++ (2 * partial + bool_byte bit) ∷ []) ≡ (bits_read_after 0 bytes ++ bits count partial) ++ bit ∷ [])
-bit_fills bytes last count partial bit f e w l =
-    let x = 2 * partial + bool_byte bit in let p = bits_push_bool bit count partial l in
-    let v : count + 1 ≡ width_after (last_after 0 bytes) = w ∙ ap width_after e in
-    let r = filled_more bytes x f (subst (λ z. x < 2 ^ z) v p.1) in
-    (r.0, r.1 ∙ ap (λ z. bits_read_after 0 bytes ++ bits z x) (sym v) ∙ ap (λ z. bits_read_after 0 bytes ++ z) p.0 ∙ sym (append_assoc (bits_read_after 0 bytes) (bits count partial) (bit ∷ [])))
-
--- a bit that doesn't
-pub bit_adds : (done : List Bool) (count partial : ℕ) (bit : Bool) → partial < 2 ^ count
-    → (done ++ bits (count + 1) (2 * partial + bool_byte bit) ≡ (done ++ bits count partial) ++ bit ∷ []) × (2 * partial + bool_byte bit < 2 ^ (count + 1))
-bit_adds done count partial bit l = let p = bits_push_bool bit count partial l in (ap (λ z. done ++ z) p.0 ∙ sym (append_assoc done (bits count partial) (bit ∷ [])), p.1)
-
--- the bits of a byte that isn't full, and one more
-pub byte_of_bits : (last count partial : ℕ) (bit : Bool) → count < width_after last → partial < 2 ^ count → (2 * partial + bool_byte bit < 256) × (2 * partial ≤ 2 * partial + bool_byte bit)
-byte_of_bits last count partial bit l b =
-    let w = width_bounds last in let p = bits_push_bool bit count partial b in
-    let m : 2 ^ (count + 1) ≤ 2 ^ 8 = pow_mono {i = count + 1} {j = 8} (omega arith) in (omega arith, omega arith)
-
--- one more of a number's bits
-pub next_bit : (done after : List Bool) (count place value : ℕ) (bit : Bool) → place < count → after ≡ done ++ bit ∷ [] → bit ≡ eqb (value / 2 ^ (count - 1 - place) % 2) 1
-    → after ++ bits (count - (place + 1)) value ≡ done ++ bits (count - place) value
-next_bit done after count place value bit l e b =
-    let n = count - place in let m : count - (place + 1) ≡ n - 1 = omega arith in let k : count - 1 - place ≡ n - 1 = omega arith in
-    let d : bit ∷ bits (count - (place + 1)) value ≡ bits n value = ap (λ z. z ∷ bits (count - (place + 1)) value) (b ∙ ap (λ z. eqb (value / 2 ^ z % 2) 1) k) ∙ ap (λ z. eqb (value / 2 ^ (n - 1) % 2) 1 ∷ bits z value) m ∙ sym (bits_more n value (omega arith)) in
-    ap (λ z. z ++ bits (count - (place + 1)) value) e ∙ append_assoc done (bit ∷ []) (bits (count - (place + 1)) value) ∙ ap (λ z. done ++ z) d

@@ -9,6 +9,7 @@ pub mod DataBits
 pub mod GolombReading
 pub mod Markers
 pub mod NumberBits
+pub mod PackedBits
 pub mod Padding
 pub mod Unstuffing
 mod WorkedExamples

@@ -1,6 +1,6 @@
 //! Whole bytes, and the bits of the next one.
 
-ghost use Rattle.std.specs.Prelude.{◌≡◌, ◌+◌, ◌*◌, ◌^◌, ◌<◌, ◌≤◌, false, [], ◌∷◌, ◌++◌, replicate};
+ghost use Rattle.std.specs.Prelude.{◌≡◌, ◌+◌, ◌*◌, ◌^◌, ◌<◌, ◌≤◌, false, [], ◌++◌, replicate};
 ghost use Rattle.std.specs.Prelude.{vec_len, vec_capacity, IfOk, OnOk, OnErr};
 ghost use Rattle.jls_bits.specs.Bits.{bits};
 ghost use Rattle.jls_bits.specs.Pad.{IsPad};
@@ -47,27 +47,6 @@ impl Packing {
         self.bytes.reserve(bytes)
     }
 
-    /// Appends a bit, for which there is room.
-    pub(crate) fn put_bit(&mut self, bit: bool)
-        requires packing { IsPacking self.old }
-        requires room { vec_len self.old.bytes < vec_capacity self.old.bytes }
-        ensures packing { IsPacking self.new }
-        ensures bits { bits_put self.new ≡ bits_put self.old ++ bit ∷ [] }
-        ensures capacity { vec_capacity self.new.bytes ≡ vec_capacity self.old.bytes }
-        ensures growth { 7 * vec_len self.new.bytes + self.new.count ≤ 7 * vec_len self.old.bytes + self.old.count + 1 }
-    {
-        let byte = 2 * self.partial + bit as u8;
-        if self.count + 1 == width_after(self.last) {
-            self.bytes.push_reserved(byte);
-            self.last = byte;
-            self.count = 0;
-            self.partial = 0;
-        } else {
-            self.count += 1;
-            self.partial = byte;
-        }
-    }
-
     /// Appends zeros, for which there is room.
     pub(crate) fn put_zeros(&mut self, count: u8)
         requires packing { IsPacking self.old }
@@ -77,9 +56,12 @@ impl Packing {
         ensures capacity { vec_capacity self.new.bytes ≡ vec_capacity self.old.bytes }
         ensures growth { 7 * vec_len self.new.bytes + self.new.count ≤ 7 * vec_len self.old.bytes + self.old.count + count }
     {
-        for _zero in 0..count {
-            self.put_bit(false);
+        let mut left = count;
+        while left > 32 {
+            self.put_bits(0, 32);
+            left -= 32;
         }
+        self.put_bits(0, left);
     }
 
     /// Appends the low `count` bits of `value`, for which there is room, the most significant first.
@@ -89,10 +71,23 @@ impl Packing {
         requires room { 7 * vec_len self.old.bytes + self.old.count + count ≤ 7 * vec_capacity self.old.bytes }
         ensures packing { IsPacking self.new }
         ensures bits { bits_put self.new ≡ bits_put self.old ++ bits count value }
+        ensures capacity { vec_capacity self.new.bytes ≡ vec_capacity self.old.bytes }
+        ensures growth { 7 * vec_len self.new.bytes + self.new.count ≤ 7 * vec_len self.old.bytes + self.old.count + count }
     {
-        for place in 0..count {
-            self.put_bit((value >> (count - 1 - place)) % 2 == 1);
+        let low = value as u64 % (1 << count);
+        let mut waiting = ((self.partial as u64) << count) + low;
+        let mut left = self.count + count;
+        let mut width = width_after(self.last);
+        while left >= width {
+            left -= width;
+            let byte = (waiting >> left) as u8;
+            waiting %= 1 << left;
+            self.bytes.push_reserved(byte);
+            self.last = byte;
+            width = width_after(byte);
         }
+        self.count = left;
+        self.partial = waiting as u8;
     }
 
     /// The bytes of the bits, filled up with zeros, and without 0xFF at the end.

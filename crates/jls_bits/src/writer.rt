@@ -42,9 +42,7 @@ impl BitWriter {
         ensures ok { OnOk result (self.new ≡ self.old ++ bit ∷ []) }
         ensures err { OnErr result (self.new ≡ self.old) }
     {
-        self.packing.reserve(1)?;
-        self.packing.put_bit(bit);
-        Ok(())
+        self.push_zeros_then_bits(0, bit as u32, 1)
     }
 
     /// Appends the low `n` bits of `value`, the most significant first. The only refusal is out of memory.

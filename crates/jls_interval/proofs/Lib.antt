@@ -21,6 +21,7 @@ pub mod NeighboursAgree
 pub mod PartedOnce
 pub mod WorkedExamples
 pub mod CutEventCases
+mod HeadExamples
 pub mod HeadLines
 pub mod RunSteps
 pub mod LineLists
