@@ -35,7 +35,8 @@ cons_is : (x y : Bool) (xs ys : List Bool) → x ∷ xs ≡ y ∷ ys → (x ≡ 
 cons_is x y xs ys e = (cc, cc)
 
 -- the first of some ones
-front_of_ones : (xs : List Bool) (y : Bool) (ys : List Bool) (n : ℕ) → xs ++ y ∷ ys ≡ replicate n true → (xs ≡ replicate (length xs) true) × (length xs < n)
+front_of_ones : (xs : List Bool) (y : Bool) (ys : List Bool) (n : ℕ) → xs ++ y ∷ ys ≡ replicate n true
+    → (xs ≡ replicate (length xs) true) × (length xs < n)
 front_of_ones [] y ys zero e = cc
 front_of_ones [] y ys (suc n) e = (refl, omega arith)
 front_of_ones (x ∷ xs) y ys zero e = cc
@@ -44,7 +45,8 @@ front_of_ones (x ∷ xs) y ys (suc n) e =
     (let q = r.0 in cc, omega (arith, r.1))
 
 -- the first of a number's bits
-front_of_bits : (xs : List Bool) (y : Bool) (ys : List Bool) (n v : ℕ) → xs ++ y ∷ ys ≡ bits n v → (length xs < n) × (xs ≡ bits (length xs) (v / 2 ^ (n - length xs)))
+front_of_bits : (xs : List Bool) (y : Bool) (ys : List Bool) (n v : ℕ) → xs ++ y ∷ ys ≡ bits n v
+    → (length xs < n) × (xs ≡ bits (length xs) (v / 2 ^ (n - length xs)))
 front_of_bits xs y ys n v e =
     let l = ap length e in let a = length-append xs (y ∷ ys) in let b = length-bits n v in
     let few : length xs < n = omega (arith, l, a, b) in
@@ -75,7 +77,8 @@ module _ (r : ℕ) where
       ]
 
   -- the blocks of a count of columns
-  pub blocks_are : (full rest : ℕ) → rest < 2 ^ run_order (run_index_raised r full) → blocks r (block_columns r full + rest) ≡ record { full_blocks = full; run_index = run_index_raised r full; remaining = rest }
+  pub blocks_are : (full rest : ℕ) → rest < 2 ^ run_order (run_index_raised r full)
+      → blocks r (block_columns r full + rest) ≡ record { full_blocks = full; run_index = run_index_raised r full; remaining = rest }
   unfolding blocks block_columns
   blocks_are full rest h =
       let n = block_columns r full + rest in
@@ -129,8 +132,10 @@ module _ (r : ℕ) where
   InCode full rest code begun =
       (code_begun : List Bool) × (begun ≡ interrupted_bits full rest code_begun) × IsProperPrefix code_begun code
 
-  pub interrupted_cut : (full rest columns : ℕ) (code begun : List Bool) → rest < 2 ^ run_order (run_index_raised r full) → block_columns r full + rest < columns
-      → IsProperPrefix begun (interrupted_bits full rest code) → CutsBlocks r columns begun ⊎ (CutsCount r columns begun ⊎ InCode full rest code begun)
+  pub interrupted_cut : (full rest columns : ℕ) (code begun : List Bool) → rest < 2 ^ run_order (run_index_raised r full)
+      → block_columns r full + rest < columns
+      → IsProperPrefix begun (interrupted_bits full rest code)
+      → CutsBlocks r columns begun ⊎ (CutsCount r columns begun ⊎ InCode full rest code begun)
   interrupted_cut full rest columns code begun fits within c =
       let front = replicate full true ++ false ∷ bits (run_order (run_index_raised r full)) rest in
       elim (one_begins begun (c.missing ∷ c.more_missing) front code (sym c.whole_is)) [
@@ -138,7 +143,8 @@ module _ (r : ℕ) where
         | inr q ↦ in_front q.1 q.0 (sym q.2)
       ]
     where
-      in_count : (xs : List Bool) (y : Bool) (ys : List Bool) → begun ≡ replicate full true ++ xs → xs ++ y ∷ ys ≡ false ∷ bits (run_order (run_index_raised r full)) rest
+      in_count : (xs : List Bool) (y : Bool) (ys : List Bool) → begun ≡ replicate full true ++ xs
+          → xs ++ y ∷ ys ≡ false ∷ bits (run_order (run_index_raised r full)) rest
           → CutsBlocks r columns begun ⊎ (CutsCount r columns begun ⊎ InCode full rest code begun)
       in_count [] y ys a e = inl (record { full = full; columns_left = omega arith; begun_is = a ∙ append-nil (replicate full true) })
       in_count (x ∷ xs) y ys a e =
@@ -158,7 +164,8 @@ module _ (r : ℕ) where
             begun_is = a ∙ ap (λ z. replicate full true ++ z ∷ xs) h.0 ∙ ap (λ z. replicate full true ++ false ∷ z) f.1;
           }))
 
-      in_front : (y : Bool) (ys : List Bool) → begun ++ y ∷ ys ≡ replicate full true ++ false ∷ bits (run_order (run_index_raised r full)) rest
+      in_front : (y : Bool) (ys : List Bool)
+          → begun ++ y ∷ ys ≡ replicate full true ++ false ∷ bits (run_order (run_index_raised r full)) rest
           → CutsBlocks r columns begun ⊎ (CutsCount r columns begun ⊎ InCode full rest code begun)
       in_front y ys e =
           elim (one_begins begun (y ∷ ys) (replicate full true) (false ∷ bits (run_order (run_index_raised r full)) rest) e) [
@@ -225,7 +232,8 @@ module _ (p : CodingParameters) (ok : AreCodingParameters p) (w c n : ℕ) (z : 
   prediction_small count = b_small p w up (z.line ++ replicate count near.ra) (length z.line + count) above_small
 
   -- the bits of an interrupted run
-  run_bits_are : (full rest count : ℕ) (i : Neighbours) (s : ℕ) → blocks r count ≡ record { full_blocks = full; run_index = run_index_raised r full; remaining = rest }
+  run_bits_are : (full rest count : ℕ) (i : Neighbours) (s : ℕ)
+      → blocks r count ≡ record { full_blocks = full; run_index = run_index_raised r full; remaining = rest }
       → event_bits p z.earlier (interrupted_run k count i s) ≡ interrupted_bits r full rest (interrupting_bits p (run_cell_before p z.earlier (is_same i)) i (run_order (run_index_raised r full)) s)
   unfolding event_bits
   run_bits_are full rest count i s e =
@@ -294,7 +302,8 @@ module _ (p : CodingParameters) (ok : AreCodingParameters p) (w c n : ℕ) (z : 
 
     module _ (mode : is_run_mode near ≡ true) where
       -- a run that is interrupted by a sample
-      interrupted : (full rest count s : ℕ) → rest < 2 ^ run_order (run_index_raised r full) → count ≡ block_columns r full + rest → length z.line + count < w → s ≤ p.maxval → (s ≡ near.ra → ⊥)
+      interrupted : (full rest count s : ℕ) → rest < 2 ^ run_order (run_index_raised r full) → count ≡ block_columns r full + rest
+          → length z.line + count < w → s ≤ p.maxval → (s ≡ near.ra → ⊥)
           → IsProperPrefix begun (interrupted_bits r full rest (interrupting_bits p (run_cell_before p z.earlier (is_same (there count))) (there count) (run_order (run_index_raised r full)) s)) → Next begun
       interrupted full rest count s fits count_is within s_small other h =
           record {
@@ -336,7 +345,8 @@ module _ (p : CodingParameters) (ok : AreCodingParameters p) (w c n : ℕ) (z : 
             whole_is = ap (λ v. (ones ++ false ∷ v) ++ code) (parts ∙ ap (λ v. bits h.read h.value ++ v) first) ∙ regrouped ones (bits h.read h.value) (eqb (rest / 2 ^ (d - 1) % 2) 1) (bits (d - 1) rest) code ∙ ap (λ v. v ++ eqb (rest / 2 ^ (d - 1) % 2) 1 ∷ (bits (d - 1) rest ++ code)) (sym h.begun_is);
           })
         where
-          regrouped : (ones a : List Bool) (x : Bool) (b code : List Bool) → (ones ++ false ∷ (a ++ x ∷ b)) ++ code ≡ (ones ++ false ∷ a) ++ x ∷ (b ++ code)
+          regrouped : (ones a : List Bool) (x : Bool) (b code : List Bool)
+              → (ones ++ false ∷ (a ++ x ∷ b)) ++ code ≡ (ones ++ false ∷ a) ++ x ∷ (b ++ code)
           regrouped ones a x b code = append_assoc ones (false ∷ (a ++ x ∷ b)) code ∙ ap (λ v. ones ++ false ∷ v) (append_assoc a (x ∷ b) code) ∙ sym (append_assoc ones (false ∷ a) (x ∷ (b ++ code)))
 
       from_interruption : CutsInterruption p w up z.line z.earlier r begun → Next begun

@@ -81,7 +81,8 @@ abbrev near : Neighbours
 near = record { ra = 1; rb = 1; rc = 0; rd = 1 }
 
 -- bits that cut the second event
-abbrev cut_second : (piece : List ℕ) (sample : ℕ) (begun : List Bool) (missing : Bool) (more : List Bool) → IsNext bits_8 1 1 2 behind_first (regular near sample)
+abbrev cut_second : (piece : List ℕ) (sample : ℕ) (begun : List Bool) (missing : Bool) (more : List Bool)
+    → IsNext bits_8 1 1 2 behind_first (regular near sample)
     → bits_read piece ≡ bits_of_steps (interval_steps bits_8 1 1 2) start (first_event ∷ []) ++ begun
     → event_bits bits_8 (first_event ∷ []) (regular near sample) ≡ begun ++ missing ∷ more → Cut piece
 cut_second piece sample begun missing more a b e = record {
@@ -98,7 +99,8 @@ cut_second piece sample begun missing more a b e = record {
 }
 
 -- a code that is refused behind the first event
-none_behind_first : (given begun : List Bool) → given ≡ bits_of_steps (interval_steps bits_8 1 1 2) start (first_event ∷ []) ++ begun → RefusesCode 2 32 8 begun
+none_behind_first : (given begun : List Bool) → given ≡ bits_of_steps (interval_steps bits_8 1 1 2) start (first_event ∷ []) ++ begun
+    → RefusesCode 2 32 8 begun
     → IsCutCode bits_8 1 1 2 given → ⊥
 unfolding least_from quantized_gradient is_negative context modulo_reduced corrected_prediction golomb_k updated cell_before event_bits
 none_behind_first given begun e dead cut =
@@ -108,7 +110,8 @@ none_behind_first given begun e dead cut =
     let flat : first ++ left ≡ bits_of_steps m start (events 1 1 cut.lines) ++ [] = sym (append_assoc first begun (cut.missing ∷ cut.more_missing)) ∙ ap (λ v. v ++ cut.missing ∷ cut.more_missing) (sym e) ∙ cut.code_is ∙ code_is bits_8 1 1 2 cut.lines ∙ sym (append-nil (bits_of_steps m start (events 1 1 cut.lines))) in
     refused m (events_apart bits_8 1 1 2 are_parameters) (kept bits_8 1 1 2) start behind_first (finish 1 1 cut.lines) (first_event ∷ []) (events 1 1 cut.lines) left [] (tt, tt) ((lit< tt, (refl, refl, lit< tt, refl, lit≤ tt, λ (q : 1 ≡ 0). cc)), refl) (lines_grow bits_8 1 1 2 (lit< tt) cut.lines cut.are_lines) (finished bits_8 1 1 2 cut.lines cut.are_lines.count_is) (regular near 34) second stuck flat
   where
-    stuck : (x : Event) (rest : List Bool) → IsNext bits_8 1 1 2 behind_first x → begun ++ cut.missing ∷ cut.more_missing ≡ event_bits bits_8 (first_event ∷ []) x ++ rest → ⊥
+    stuck : (x : Event) (rest : List Bool) → IsNext bits_8 1 1 2 behind_first x
+        → begun ++ cut.missing ∷ cut.more_missing ≡ event_bits bits_8 (first_event ∷ []) x ++ rest → ⊥
     stuck (regular n s) rest a q =
         let q' : begun ++ cut.missing ∷ cut.more_missing ≡ event_bits bits_8 (first_event ∷ []) (regular near s) ++ rest = subst (λ v. begun ++ cut.missing ∷ cut.more_missing ≡ event_bits bits_8 (first_event ∷ []) (regular v s) ++ rest) a.1.1 q in
         dead _ (cut.missing ∷ cut.more_missing) rest (regular_has bits_8 are_parameters (cell_before bits_8 (first_event ∷ []) (context bits_8 near)) near s a.1.2) q'

@@ -27,12 +27,14 @@ pub all_front : (P : List ℕ → Type 0) (xs ys : List (List ℕ)) → AllByRec
 all_front P [] ys h = tt
 all_front P (x ∷ xs) ys h = (h.0, all_front P xs ys h.1)
 
-pub front_lines : (p : CodingParameters) (w n : ℕ) (lines xs ys : List (List ℕ)) → AreLines p w n lines → lines ≡ xs ++ ys → AreLines p w (length xs) xs
+pub front_lines : (p : CodingParameters) (w n : ℕ) (lines xs ys : List (List ℕ)) → AreLines p w n lines → lines ≡ xs ++ ys
+    → AreLines p w (length xs) xs
 front_lines p w n lines xs ys a e =
     record { count_is = refl; each = all_front (IsLine p w) xs ys (subst (AllByRecursion (IsLine p w)) e a.each) }
 
 -- the events of lines, and of those after them
-events_append : (w c : ℕ) (before xs ys : List (List ℕ)) → events_after w c before (xs ++ ys) ≡ events_after w c before xs ++ events_after w c (before ++ xs) ys
+events_append : (w c : ℕ) (before xs ys : List (List ℕ))
+    → events_after w c before (xs ++ ys) ≡ events_after w c before xs ++ events_after w c (before ++ xs) ys
 unfolding events_after
 events_append w c before [] ys = ap (λ z. events_after w c z ys) (sym (append-nil before))
 events_append w c before (x ∷ xs) ys =
@@ -41,7 +43,8 @@ events_append w c before (x ∷ xs) ys =
     ∙ sym (append_assoc own (events_after w c on xs) (events_after w c (before ++ x ∷ xs) ys))
 
 -- the code of first lines begins the code
-pub code_parts : (p : CodingParameters) (w c : ℕ) (xs ys : List (List ℕ)) → (tail : List Bool) × (code p w c (xs ++ ys) ≡ code p w c xs ++ tail)
+pub code_parts : (p : CodingParameters) (w c : ℕ) (xs ys : List (List ℕ))
+    → (tail : List Bool) × (code p w c (xs ++ ys) ≡ code p w c xs ++ tail)
 unfolding code
 code_parts p w c xs ys =
     let later = events_after w c xs ys in
@@ -49,7 +52,8 @@ code_parts p w c xs ys =
 
 -- Steps one after another -------------------------------------------------------------------------
 
-leads_apart : (m : StepwiseCode) (a b : List m.Event) (s z : m.State) → Leads m s (a ++ b) z → (y : m.State) × (Leads m s a y × Leads m y b z)
+leads_apart : (m : StepwiseCode) (a b : List m.Event) (s z : m.State) → Leads m s (a ++ b) z
+    → (y : m.State) × (Leads m s a y × Leads m y b z)
 leads_apart m [] b s z l = (s, (refl, l))
 leads_apart m (e ∷ a) b s z l =
     let r = leads_apart m a b (m.after s e) z l.1 in (r.0, ((l.0, r.1.0), r.1.1))
@@ -62,7 +66,8 @@ one_place : (m : StepwiseCode) (a : List m.Event) (s y z : m.State) → Leads m 
 one_place m [] s y z l k = sym l ∙ k
 one_place m (e ∷ a) s y z l k = one_place m a (m.after s e) y z l.1 k.1
 
-bits_join : (m : StepwiseCode) (a b : List m.Event) (s y : m.State) → Leads m s a y → bits_of_steps m s (a ++ b) ≡ bits_of_steps m s a ++ bits_of_steps m y b
+bits_join : (m : StepwiseCode) (a b : List m.Event) (s y : m.State) → Leads m s a y
+    → bits_of_steps m s (a ++ b) ≡ bits_of_steps m s a ++ bits_of_steps m y b
 bits_join m [] b s y l = ap (λ v. bits_of_steps m v b) l
 bits_join m (e ∷ a) b s y l =
     ap (λ v. m.step_bits s e ++ v) (bits_join m a b (m.after s e) y l.1) ∙ sym (append_assoc (m.step_bits s e) (bits_of_steps m (m.after s e) a) (bits_of_steps m y b))
@@ -104,7 +109,8 @@ module _ (p : CodingParameters) (w c : ℕ) (some : 0 < w) where
               subst (λ (v : Position). Grows z v) (sym (grown_full p w c n some z.lines line es q)) (omega (arith, f, q, more), some, (line ∷ [], refl)))
         ]
 
-    steps_grow : (es : List Event) (s z : Position) → length s.line < w → Leads m s es z → (size s ≤ size z) × (length z.line < w) × ((ext : List (List ℕ)) × (z.lines ≡ s.lines ++ ext))
+    steps_grow : (es : List Event) (s z : Position) → length s.line < w → Leads m s es z
+        → (size s ≤ size z) × (length z.line < w) × ((ext : List (List ℕ)) × (z.lines ≡ s.lines ++ ext))
     unfolding Grows
     steps_grow [] s z o l =
         subst (λ (v : Position). (size s ≤ size v) × (length v.line < w) × ((ext : List (List ℕ)) × (v.lines ≡ s.lines ++ ext))) l (omega arith, o, ([], sym (append-nil s.lines)))
@@ -113,7 +119,8 @@ module _ (p : CodingParameters) (w c : ℕ) (some : 0 < w) where
         (omega (arith, g.0, r.0), r.1, (g.2.0 ++ r.2.0, r.2.1 ∙ ap (λ v. v ++ r.2.0) g.2.1 ∙ append_assoc s.lines g.2.0 r.2.0))
 
     -- every place leads to an end
-    to_end : (fuel : ℕ) (s : Position) → length s.line < w → n * w ≤ fuel + size s → (es : List Event) × (z : Position) × (Leads m s es z × IsEnd m z)
+    to_end : (fuel : ℕ) (s : Position) → length s.line < w → n * w ≤ fuel + size s
+        → (es : List Event) × (z : Position) × (Leads m s es z × IsEnd m z)
     unfolding Grows
     to_end zero s o h =
         elim (cases_lt (length s.lines) n) [
@@ -131,7 +138,8 @@ module _ (p : CodingParameters) (w c : ℕ) (some : 0 < w) where
         ]
 
   -- with more lines to come
-  leads_wider : (k n : ℕ) (es : List Event) (s z : Position) → k ≤ n → Leads (interval_steps p w c k) s es z → Leads (interval_steps p w c n) s es z
+  leads_wider : (k n : ℕ) (es : List Event) (s z : Position) → k ≤ n → Leads (interval_steps p w c k) s es z
+      → Leads (interval_steps p w c n) s es z
   leads_wider k n [] s z h l = l
   leads_wider k n (e ∷ es) s z h l =
       let a : length s.lines < k = l.0.0 in ((omega arith, l.0.1), leads_wider k n es (moved w c s e) z h l.1)
@@ -266,14 +274,16 @@ module _ (p : CodingParameters) (w c : ℕ) (some : 0 < w) where
 
 -- One head ------------------------------------------------------------------------------------------
 
-take_drop : (n : ℕ) (xs : List (List ℕ)) → n ≤ length xs → (front : List (List ℕ)) × (back : List (List ℕ)) × (xs ≡ front ++ back) × (length front ≡ n)
+take_drop : (n : ℕ) (xs : List (List ℕ)) → n ≤ length xs
+    → (front : List (List ℕ)) × (back : List (List ℕ)) × (xs ≡ front ++ back) × (length front ≡ n)
 take_drop zero xs h = ([], xs, refl, refl)
 take_drop (suc n) [] h = absurd (omega arith)
 take_drop (suc n) (x ∷ xs) h = let r = take_drop n xs (omega arith) in (x ∷ r.0, r.1, ap (λ z. x ∷ z) r.2, ap suc r.3)
 
 module _ (p : CodingParameters) (w c n : ℕ) (ok : AreCodingParameters p) (some : 0 < w) (given : List Bool) where
   -- the lines that stand whole are the first of all lines in whose code the bits are cut
-  first_of_others : (a b : IsCutCode p w c n given) (xs : List (List ℕ)) → BeginsWithFirst p w c given b.lines xs → BeginsWithFirst p w c given a.lines xs
+  first_of_others : (a b : IsCutCode p w c n given) (xs : List (List ℕ)) → BeginsWithFirst p w c given b.lines xs
+      → BeginsWithFirst p w c given a.lines xs
   first_of_others a b xs f =
       let l = length-append xs f.others in let l1 = ap length f.lines_are in let l2 = b.are_lines.count_is in let l3 = a.are_lines.count_is in
       let t = take_drop (length xs) a.lines (omega (arith, l, l1, l2, l3)) in
