@@ -23,6 +23,8 @@ pub mod WorkedExamples
 pub mod RunSteps
 pub mod LineLists
 pub mod AfterEvents
+pub mod RunChunks
+pub mod HandBits
 pub mod DecodedEvents
 pub mod LineSteps
 pub mod DecodedLine

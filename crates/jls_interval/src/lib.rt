@@ -13,9 +13,12 @@ mod encode_run;
 mod encode_sample;
 mod encoder;
 mod laws;
+mod line_reader;
 mod lines;
 mod neighbours;
 mod place;
+mod push_event;
+mod push_sample;
 mod run_index;
 mod run_reader;
 
