@@ -106,3 +106,8 @@ module _ (p : CodingParameters) (cells : Variables) (run_indices : List ℕ) (ea
       run_cells = λ x. run_cell_learned p earlier k count near s x (run_cell_at cells x) (t.run_cells x) (run_cell_at cells' x) (run_cell_new cells cells' p.reset error same x changed other ∙ ap (λ z. cond (equal x z) (run_updated p.reset x (run_cell_at cells x) error) (run_cell_at cells x)) same_is ∙ ap (λ z. cond (equal x (is_same near)) (run_updated p.reset x (run_cell_at cells x) z) (run_cell_at cells x)) error_is);
       run_indices_are = indices_after (interrupted_run k count near s) k r within (λ j ne. ne_eqb k j (λ o. ne (sym o))) (index_interrupted earlier k count near s (get_or run_indices k 0) (t.run_indices_are k) r r_is);
     }
+
+-- the same variables and RUNindices
+pub after_same : (p : CodingParameters) (cells cells' : Variables) (run_indices run_indices' : List ℕ) (earlier : List Event) → cells' ≡ cells → run_indices' ≡ run_indices → IsAfter p cells run_indices earlier → IsAfter p cells' run_indices' earlier
+after_same p cells cells' run_indices run_indices' earlier a b h =
+    subst (λ (z : Variables). IsAfter p z run_indices' earlier) (sym a) (subst (λ z. IsAfter p cells z earlier) (sym b) h)

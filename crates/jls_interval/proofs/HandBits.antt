@@ -23,7 +23,9 @@ use Rattle.jls_interval.specs.declared.run_reader.RunState.TheVariants.{Blocks a
 use Rattle.jls_bits.specs.declared.code_state.CodeState.{CodeState}
 use Rattle.jls_bits.specs.declared.code_state.CodeState.TheVariants.{Zeros}
 use Rattle.jls_interval.specs.After.{IsAfter}
-use Rattle.jls_interval.specs.Hands.{now_at, behind, HandAt}
+use Rattle.jls_interval.specs.Hands.{now_at, behind, HandAt, EventStepIs, EventPushed}
+use Rattle.jls_interval.specs.declared.line_reader.LineReader.{LineReader}
+use Rattle.jls_interval.specs.declared.line_reader.EventStep.{EventStep}
 use Rattle.jls_interval.specs.declared.line_reader.Hand.{Hand}
 use Rattle.jls_interval.specs.declared.line_reader.Hand.TheVariants.{Fresh, Sample, InRun, Interruption}
 use Rattle.jls_interval.proofs.SamplesRead.{wide, regular_none, interruption_none}
@@ -91,3 +93,13 @@ module _ (p : CodingParameters) (ok : AreCodingParameters p) (w k : ℕ) (up : A
       let kk = run_k (is_same near) cell in let g = limit p - j - 1 in let s = h.3 in
       let none : NoInterruption p cell near j (bits_told g (qbpp p) code) = interruption_none p ok cell near (rb_small p w up above_small (length line + count) (line ++ replicate count (now_at w up line).ra)) j few (bits_told g (qbpp p) code) (λ m rest has e. none_whole kk g (qbpp p) room (bits_told g (qbpp p) code) (begins kk g (qbpp p) room code h.2) m rest has e) in
       run_alone p (wide p ok) w k up above_small line earlier r (t.run_indices_are k) (w - length line) w0_is told h.0 count s.0 (bits_told g (qbpp p) code) s.1 cell (t.run_cells (is_same near)) j (ap run_order (sym s.2)) none
+
+-- bits taken in two parts
+pub run_then : (k : ℕ) (up : Above) (old new : LineReader) (told first chunk middle unread : List Bool) (earlier : List Event) (step : EventStep) → chunk ≡ first ++ middle
+    → EventPushed k up old new (told ++ first) middle unread earlier step → EventPushed k up old new told chunk unread earlier step
+run_then k up old new told first chunk middle unread earlier step e h = record {
+  taken = first ++ h.taken;
+  chunk_is = e ∙ ap (λ z. first ++ z) h.chunk_is ∙ sym (append_assoc first h.taken unread);
+  step_is = subst (λ z. EventStepIs k up old new z earlier step) (append_assoc told first h.taken) h.step_is;
+  all = h.all;
+}

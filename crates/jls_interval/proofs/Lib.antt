@@ -25,6 +25,8 @@ pub mod LineLists
 pub mod AfterEvents
 pub mod RunChunks
 pub mod HandBits
+pub mod Decoding
+pub mod IntervalReading
 pub mod DecodedEvents
 pub mod LineSteps
 pub mod DecodedLine

@@ -21,3 +21,4 @@ pub mod ReadBack
 pub mod RunChunks
 pub mod SampleSteps
 pub mod Hands
+pub mod Decoding

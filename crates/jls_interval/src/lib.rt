@@ -12,6 +12,7 @@ mod encode_line;
 mod encode_run;
 mod encode_sample;
 mod encoder;
+mod interval_reader;
 mod laws;
 mod line_reader;
 mod lines;
