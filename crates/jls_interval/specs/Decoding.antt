@@ -62,16 +62,17 @@ abbrev pub TakesAll : IntervalReader → IntervalReader → List Bool → Type 0
 TakesAll old new chunk =
     (p : CodingParameters) (given : List Bool) → IsReading p given old → IsReading p (given ++ chunk) new
 
--- the first bits of a chunk were taken
-pub record Takes (old new : IntervalReader) (chunk unread : List Bool) : Type 0 where
+-- the first bits of a chunk were taken, some of them
+pub record Takes (p : CodingParameters) (given : List Bool) (new : IntervalReader) (chunk unread : List Bool) : Type 0 where
   pub taken : List Bool
   pub chunk_is : chunk ≡ taken ++ unread
   pub some : 0 < length taken
-  pub keeps : TakesAll old new taken
+  pub reading : IsReading p (given ++ taken) new
 
 -- a whole event was taken, or all that the bits say
 abbrev pub TakesEvent : IntervalReader → IntervalReader → List Bool → List Bool → Bool → Type 0
-TakesEvent old new chunk unread true = Takes old new chunk unread
+TakesEvent old new chunk unread true =
+    (p : CodingParameters) (given : List Bool) → IsReading p given old → Takes p given new chunk unread
 TakesEvent old new chunk unread false = TakesAll old new chunk
 
 -- the shape of an interval stays

@@ -60,7 +60,7 @@ EventStepIs component up old new told earlier More =
 EventStepIs component up old new told earlier Moved =
     EventDone old.coder.cells.parameters old.width component up old.line.items new.line.items new.coder.cells new.coder.run_indices told earlier × (new.hand ≡ Fresh)
 EventStepIs component up old new told earlier Refused =
-    (more : List Bool) → NoEvent old.coder.cells.parameters component old.width up old.line.items (told ++ more) earlier
+    (new.line.items ≡ old.line.items) × ((more : List Bool) → NoEvent old.coder.cells.parameters component old.width up old.line.items (told ++ more) earlier)
 
 -- an event that isn't whole has taken all bits
 abbrev pub HasTakenAll : EventStep → List Bool → Type 0

@@ -92,7 +92,7 @@ returns-in-Refused-clause-step c = λ told earlier t s.
     record {
       taken = x;
       chunk_is = q.chunk_is;
-      step_is = λ more. (let a : NoInterruption p cell there j (unread ++ more) = q.step_is more in run_alone p (wide p old.coder.in_range) w k up c.requires.above line earlier r r_is (w - length line) w0_is ((told ++ x) ++ more) c.requires.run count s.0 (unread ++ more) (ap (λ z. z ++ more) given_is ∙ broken_with (blocks r count) unread more) cell cell_is j order_is (subst (λ (z : Neighbours). NoInterruption p cell z j (unread ++ more)) there_is a));
+      step_is = (refl, λ more. (let a : NoInterruption p cell there j (unread ++ more) = q.step_is more in run_alone p (wide p old.coder.in_range) w k up c.requires.above line earlier r r_is (w - length line) w0_is ((told ++ x) ++ more) c.requires.run count s.0 (unread ++ more) (ap (λ z. z ++ more) given_is ∙ broken_with (blocks r count) unread more) cell cell_is j order_is (subst (λ (z : Neighbours). NoInterruption p cell z j (unread ++ more)) there_is a)));
       all = tt;
     }
 

@@ -22,7 +22,7 @@ returns-in-Refused-clause-step c = λ k up told earlier near_is t told_is.
     record {
       taken = s.taken;
       chunk_is = s.chunk_is;
-      step_is = λ more. (let a : NoSample p (cell_at cells c.args.mode.context) near ((before ++ s.taken) ++ more) = s.step_is more in let b : NoSample p (cell_at cells (context p near)) near ((before ++ s.taken) ++ more) = subst (λ z. NoSample p (cell_at cells z) near ((before ++ s.taken) ++ more)) c.requires.mode.context_is a in let d : NoSample p (cell_at cells (context p (now_at w up line))) (now_at w up line) ((before ++ s.taken) ++ more) = subst (λ (z : Neighbours). NoSample p (cell_at cells (context p z)) z ((before ++ s.taken) ++ more)) near_is b in no_sample_no_event p w k up line cells old.coder.run_indices earlier t ((told ++ s.taken) ++ more) (subst (λ (z : Neighbours). is_run_mode z ≡ false) near_is c.requires.mode.not_run) (subst (λ z. NoSample p (cell_at cells (context p (now_at w up line))) (now_at w up line) ((z ++ s.taken) ++ more)) (sym told_is) d));
+      step_is = (refl, λ more. (let a : NoSample p (cell_at cells c.args.mode.context) near ((before ++ s.taken) ++ more) = s.step_is more in let b : NoSample p (cell_at cells (context p near)) near ((before ++ s.taken) ++ more) = subst (λ z. NoSample p (cell_at cells z) near ((before ++ s.taken) ++ more)) c.requires.mode.context_is a in let d : NoSample p (cell_at cells (context p (now_at w up line))) (now_at w up line) ((before ++ s.taken) ++ more) = subst (λ (z : Neighbours). NoSample p (cell_at cells (context p z)) z ((before ++ s.taken) ++ more)) near_is b in no_sample_no_event p w k up line cells old.coder.run_indices earlier t ((told ++ s.taken) ++ more) (subst (λ (z : Neighbours). is_run_mode z ≡ false) near_is c.requires.mode.not_run) (subst (λ z. NoSample p (cell_at cells (context p (now_at w up line))) (now_at w up line) ((z ++ s.taken) ++ more)) (sym told_is) d)));
       all = tt;
     }
 

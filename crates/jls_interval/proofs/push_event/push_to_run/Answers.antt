@@ -49,7 +49,7 @@ returns-in-Refused-clause-step c = λ told earlier t h.
     record {
       taken = s.taken;
       chunk_is = s.chunk_is;
-      step_is = λ more. run_none p (wide p old.coder.in_range) w k up c.requires.above line earlier r (t.run_indices_are k) (w - length line) w0_is ((told ++ s.taken) ++ more) c.requires.run (step more);
+      step_is = (refl, λ more. run_none p (wide p old.coder.in_range) w k up c.requires.above line earlier r (t.run_indices_are k) (w - length line) w0_is ((told ++ s.taken) ++ more) c.requires.run (step more));
       all = tt;
     }
 
