@@ -27,6 +27,7 @@ pub mod RunChunks
 pub mod HandBits
 pub mod Decoding
 pub mod IntervalReading
+pub mod Finishing
 pub mod DecodedEvents
 pub mod LineSteps
 pub mod DecodedLine

@@ -22,3 +22,4 @@ pub mod RunChunks
 pub mod SampleSteps
 pub mod Hands
 pub mod Decoding
+pub mod IntervalBytes

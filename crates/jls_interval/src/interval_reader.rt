@@ -1,6 +1,6 @@
 //! The lines of an interval, from a few bits at a time.
 
-ghost use Rattle.std.specs.Prelude.{◌≡◌, ◌++◌, List, Bool, IfOk, OnOk};
+ghost use Rattle.std.specs.Prelude.{◌≡◌, ◌↔◌, List, Bool, IsTrue, IfOk, OnOk};
 ghost use Rattle.jls_values.specs.Params.{CodingParameters};
 
 use crate::line_reader::{EventStep, LineReader};
@@ -76,14 +76,22 @@ impl IntervalReader {
         }
     }
 
+    /// Whether lines are still to come.
+    fn is_working(&self) -> bool
+        ensures { IsTrue result ↔ (self.now.state ≡ State.Working) }
+    {
+        matches!(self.state, State::Working)
+    }
+
     /// Takes the bits of a chunk.
     pub(crate) fn push_chunk(&mut self, chunk: &mut Chunk) -> Result<(), AllocError>
         requires { (p : CodingParameters) × (given : List Bool) × IsReading p given self.old }
         ensures shape { HasShape self.old self.new }
         ensures bits { OnOk result (TakesAll self.old self.new chunk.old) }
     {
-        'events: while matches!(self.state, State::Working) {
-            if !self.push_event(chunk)? {
+        'events: while self.is_working() {
+            let goes_on = self.push_event(chunk)?;
+            if !goes_on {
                 return Ok(());
             }
         }
