@@ -26,11 +26,11 @@ pub mod HeadLines
 pub mod RunSteps
 pub mod LineLists
 pub mod AfterEvents
-pub mod DecodedEvents
-pub mod LineSteps
-pub mod DecodedLine
-pub mod DecodedLines
-pub mod DecodedPieces
+pub mod RunChunks
+pub mod HandBits
+pub mod Decoding
+pub mod IntervalReading
+pub mod Finishing
 pub mod PackedLines
 pub mod WrittenRuns
 pub mod EncodedEvents

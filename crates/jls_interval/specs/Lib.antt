@@ -13,10 +13,13 @@ pub mod Laws
 pub mod CutEvents
 pub mod Heads
 pub mod RunState
-pub mod DecodedEvent
-pub mod DecodedLine
 pub mod PieceFaults
 pub mod After
 pub mod Place
 pub mod Encoding
 pub mod ReadBack
+pub mod RunChunks
+pub mod SampleSteps
+pub mod Hands
+pub mod Decoding
+pub mod IntervalBytes
