@@ -59,7 +59,8 @@ behind_run width up line count =
 
 -- ones, the zero, the columns that remain, and the first bits of the code of some error of the sample that interrupts the run; the
 -- error that the run's own value would have doesn't count
-pub record CutsInterruption (p : CodingParameters) (width : ℕ) (up : Above) (line : List ℕ) (earlier : List Event) (run_index : ℕ) (begun : List Bool) : Type 0 where
+pub record CutsInterruption (p : CodingParameters) (width : ℕ) (up : Above) (line : List ℕ)
+    (earlier : List Event) (run_index : ℕ) (begun : List Bool) : Type 0 where
   pub full : ℕ
   pub remaining : ℕ
   pub remaining_fits : remaining < 2 ^ run_order (run_index_raised run_index full)
@@ -71,8 +72,9 @@ pub record CutsInterruption (p : CodingParameters) (width : ℕ) (up : Above) (l
   pub not_own : error ≡ interruption_error p (behind_run width up line count) (neighbours width up line (length line)).ra → ⊥
   pub code_begun : List Bool
   pub begun_is : begun ≡ (replicate full true ++ false ∷ bits (run_order (run_index_raised run_index full)) remaining) ++ code_begun
-  pub cut : let near = behind_run width up line count in let cell = run_cell_before p earlier (is_same near) in
-      IsProperPrefix code_begun (golomb (run_k (is_same near) cell) (limit p - run_order (run_index_raised run_index full) - 1) (qbpp p) (interruption_mapped (is_same near) cell error))
+  pub cut : let near = behind_run width up line count in let same = is_same near in let cell = run_cell_before p earlier same in
+      let g = limit p - run_order (run_index_raised run_index full) - 1 in
+      IsProperPrefix code_begun (golomb (run_k same cell) g (qbpp p) (interruption_mapped same cell error))
 
 -- the bits are cut in one of these ways
 abbrev pub CutsRun : CodingParameters → ℕ → Above → List ℕ → List Event → ℕ → List Bool → Type 0
@@ -84,11 +86,14 @@ abbrev pub CutsByCases : CodingParameters → ℕ → ℕ → Position → List 
 CutsByCases p width components position begun =
     let near = here width components position in let earlier = position.earlier in
     ((is_run_mode near ≡ false) × CutsSample p (cell_before p earlier (context p near)) begun)
-    ⊎ ((is_run_mode near ≡ true) × CutsRun p width (above components position.lines) position.line earlier (run_index_before earlier (length position.lines % components)) begun)
+    ⊎ ((is_run_mode near ≡ true)
+    × CutsRun p width (above components position.lines) position.line earlier
+    (run_index_before earlier (length position.lines % components)) begun)
 
 -- behind whole events, bits cut an event that can come next exactly where lines are still to come and they are cut in one of these ways
 abbrev pub CutEventsGoOn : Type 0
 CutEventsGoOn =
     (p : CodingParameters) (width components count : ℕ) → AreCodingParameters p → 0 < width
     → (whole : List Event) (position : Position) (begun : List Bool) → Leads (interval_steps p width components count) start whole position
-    → CutsNextEvent p width components count position begun ↔ ((length position.lines < count) × CutsByCases p width components position begun)
+    → CutsNextEvent p width components count position begun
+    ↔ ((length position.lines < count) × CutsByCases p width components position begun)
