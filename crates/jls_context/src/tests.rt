@@ -1,7 +1,7 @@
 //! What no clause says: that the calls succeed, and values of the formulas that were found by hand or by a
 //! program of another language.
 
-ghost use Rattle.std.specs.Prelude.{◌≡◌, ◌≤◌, pos, negsuc, ◌≤ℤ◌, IfOk};
+ghost use Rattle.std.specs.Prelude.{◌≡◌, ◌≢◌, ◌≤◌, true, pos, negsuc, ◌≤ℤ◌, IfOk};
 
 use crate::*;
 use jls_values::{ParamFault, Params};
@@ -357,23 +357,52 @@ fn interruptions_with_ritype_1(rt: HostRuntime) -> Result<(), Fail> {
     Ok(())
 }
 
+/// Takes in an error that interrupts runs so many times.
+fn interrupt_often(cells: &mut Cells, same: bool, error: i32, times: u8)
+    requires maxval { cells.old.parameters.maxval ≡ 255 }
+    requires at_least { negsuc 127 ≤ℤ error }
+    requires at_most { error ≤ℤ pos 127 }
+    requires another { same ≡ true → error ≢ pos 0 }
+    ensures { cells.new.parameters.maxval ≡ 255 }
+{
+    for turn in 0..times {
+        cells.update_run(same, error);
+    }
+}
+
+/// The numbers of -2, -1, 1 and 2.
+fn numbers(cells: &Cells, same: bool) -> [u32; 4]
+    requires maxval { cells.now.parameters.maxval ≡ 255 }
+{
+    [
+        cells.run_code(same, -2).1,
+        cells.run_code(same, -1).1,
+        cells.run_code(same, 1).1,
+        cells.run_code(same, 2).1,
+    ]
+}
+
 #[test]
 fn interruptions_at_k_0(rt: HostRuntime) -> Result<(), Fail> {
-    let mut cells = eight_bits(&rt, 3)?;
-    interrupt(&mut cells, -1);
-    assert_eq!(rt; cells.run_code(false, 0), (2, 0));
-    interrupt(&mut cells, 0);
-    assert_eq!(rt; cells.run_code(false, -5), (1, 9));
-    interrupt(&mut cells, -5);
-    assert_eq!(rt; cells.run_code(false, 4), (2, 8));
-    interrupt(&mut cells, 4);
-    interrupt(&mut cells, 0);
-    interrupt(&mut cells, 0);
-    interrupt(&mut cells, 0);
-    interrupt(&mut cells, 0);
-    interrupt(&mut cells, 0);
-    // N is 2 and Nn is 0: an error above 0 has the smaller number.
-    assert_eq!(rt; cells.run_code(false, 1), (0, 1));
-    assert_eq!(rt; cells.run_code(false, -1), (0, 2));
+    // N is 8 or 9, and 2 * Nn is below N, N or above N. The numbers are those of a coder in another language.
+    for (same, [minus, plus, none], wanted) in [
+        (false, [3, 1, 3], [4, 2, 1, 3]),
+        (false, [4, 0, 3], [3, 1, 2, 4]),
+        (false, [5, 0, 3], [3, 1, 2, 4]),
+        (true, [3, 4, 0], [3, 1, 0, 2]),
+        (true, [4, 3, 0], [2, 0, 1, 3]),
+        (true, [5, 2, 0], [2, 0, 1, 3]),
+    ] {
+        let mut cells = eight_bits(&rt, 0)?;
+        interrupt_often(&mut cells, same, -1, minus);
+        interrupt_often(&mut cells, same, 1, plus);
+        interrupt_often(&mut cells, false, 0, none);
+        assert_eq!(rt; cells.run_k(same), 0, "RItype 1: {same}, Nn is {minus}");
+        assert_eq!(rt;
+            numbers(&cells, same),
+            wanted,
+            "RItype 1: {same}, Nn is {minus}"
+        );
+    }
     Ok(())
 }
