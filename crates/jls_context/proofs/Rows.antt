@@ -1,6 +1,6 @@
 -- The definitions computed on single values, which were found by hand or by another program.
 use Rattle.std.proofs.Common.{◌≡◌, ℕ, Bool, true, false, List, [], ◌∷◌, map, refl}
-use Rattle.std.specs.Prelude.{ℤ, pos, negsuc}
+use Rattle.std.specs.Prelude.{pos, negsuc}
 use Rattle.jls_values.specs.Params.{CodingParameters, least_from}
 use Rattle.jls_context.specs.declared.mode.Neighbours.{Neighbours}
 use Rattle.jls_context.specs.declared.regular.Cell.{Cell}
@@ -335,6 +335,23 @@ other_at_k_0 = refl
 other_halved : (run_updated 3 false (run_updated 3 false (run_updated 3 false (run_updated 3 false (run_updated 3 false (run_updated 3 false (run_updated 3 false (run_updated 3 false (run_updated 3 false (initial_run_cell p) (negsuc 0)) (pos 0)) (negsuc 4)) (pos 4)) (pos 0)) (pos 0)) (pos 0)) (pos 0)) (pos 0)) ≡ (let cell : RunCell = record { magnitudes = 1; occurrences = 2; negative_errors = 0 } in cell)
 unfolding run_updated golomb_k least_from
 other_halved = refl
+
+-- One bit ------------------------------------------------------------------
+
+abbrev one_bit : CodingParameters
+one_bit = record { precision = 2; maxval = 1; t1 = 1; t2 = 1; t3 = 1; reset = 64 }
+
+one_bit_mapped : regular_mapped (initial_cell one_bit) (negsuc 0) ≡ 1
+unfolding golomb_k least_from
+one_bit_mapped = refl
+
+one_bit_other : interruption_mapped false (initial_run_cell one_bit) (negsuc 0) ≡ 1
+unfolding golomb_k least_from
+one_bit_other = refl
+
+one_bit_same : interruption_mapped true (initial_run_cell one_bit) (negsuc 0) ≡ 0
+unfolding golomb_k least_from
+one_bit_same = refl
 
 -- Interruptions with 2 * Nn below N, at N and above N, for errors of both signs. The numbers are those of a coder that was
 -- written from the standard in another language
