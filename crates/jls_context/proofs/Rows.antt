@@ -1,5 +1,5 @@
 -- The definitions computed on single values, which were found by hand or by another program.
-use Rattle.std.proofs.Common.{◌≡◌, ℕ, true, false, refl}
+use Rattle.std.proofs.Common.{◌≡◌, ℕ, Bool, true, false, List, [], ◌∷◌, map, refl}
 use Rattle.std.specs.Prelude.{pos, negsuc}
 use Rattle.jls_values.specs.Params.{CodingParameters, least_from}
 use Rattle.jls_context.specs.declared.mode.Neighbours.{Neighbours}
@@ -335,3 +335,109 @@ other_at_k_0 = refl
 other_halved : (run_updated 3 false (run_updated 3 false (run_updated 3 false (run_updated 3 false (run_updated 3 false (run_updated 3 false (run_updated 3 false (run_updated 3 false (run_updated 3 false (initial_run_cell p) (negsuc 0)) (pos 0)) (negsuc 4)) (pos 4)) (pos 0)) (pos 0)) (pos 0)) (pos 0)) (pos 0)) ≡ (let cell : RunCell = record { magnitudes = 1; occurrences = 2; negative_errors = 0 } in cell)
 unfolding run_updated golomb_k least_from
 other_halved = refl
+
+-- One bit ------------------------------------------------------------------
+
+abbrev one_bit : CodingParameters
+one_bit = record { precision = 2; maxval = 1; t1 = 1; t2 = 1; t3 = 1; reset = 64 }
+
+one_bit_mapped : regular_mapped (initial_cell one_bit) (negsuc 0) ≡ 1
+unfolding golomb_k least_from
+one_bit_mapped = refl
+
+one_bit_other : interruption_mapped false (initial_run_cell one_bit) (negsuc 0) ≡ 1
+unfolding golomb_k least_from
+one_bit_other = refl
+
+one_bit_same : interruption_mapped true (initial_run_cell one_bit) (negsuc 0) ≡ 0
+unfolding golomb_k least_from
+one_bit_same = refl
+
+-- Interruptions with 2 * Nn below N, at N and above N, for errors of both signs. The numbers are those of a coder that was
+-- written from the standard in another language
+
+-- N is 4
+abbrev of_four : ℕ → ℕ → RunCell
+of_four magnitudes negative_errors = record { magnitudes = magnitudes; occurrences = 4; negative_errors = negative_errors }
+
+-- EM of -2, -1, 1 and 2
+abbrev numbers : Bool → RunCell → List ℕ
+numbers same cell = map (interruption_mapped same cell) (negsuc 1 ∷ negsuc 0 ∷ pos 1 ∷ pos 2 ∷ [])
+
+-- the cells after -2 and after 2
+abbrev later : Bool → RunCell → List RunCell
+later same cell = run_updated 64 same cell (negsuc 1) ∷ run_updated 64 same cell (pos 2) ∷ []
+
+abbrev cell : ℕ → ℕ → ℕ → RunCell
+cell magnitudes occurrences negative_errors =
+    record { magnitudes = magnitudes; occurrences = occurrences; negative_errors = negative_errors }
+
+-- A is 2, so that k is 0 for both RItypes
+k_0_of_both : map (λ same. run_k same (of_four 2 1)) (false ∷ true ∷ []) ≡ 0 ∷ 0 ∷ []
+unfolding golomb_k least_from
+k_0_of_both = refl
+
+other_below_half : numbers false (of_four 2 1) ≡ 4 ∷ 2 ∷ 1 ∷ 3 ∷ []
+unfolding golomb_k least_from
+other_below_half = refl
+
+other_below_half_later : later false (of_four 2 1) ≡ cell 4 5 2 ∷ cell 4 5 1 ∷ []
+unfolding run_updated golomb_k least_from
+other_below_half_later = refl
+
+other_at_half : numbers false (of_four 2 2) ≡ 3 ∷ 1 ∷ 2 ∷ 4 ∷ []
+unfolding golomb_k least_from
+other_at_half = refl
+
+other_at_half_later : later false (of_four 2 2) ≡ cell 4 5 3 ∷ cell 4 5 2 ∷ []
+unfolding run_updated golomb_k least_from
+other_at_half_later = refl
+
+other_above_half : numbers false (of_four 2 3) ≡ 3 ∷ 1 ∷ 2 ∷ 4 ∷ []
+unfolding golomb_k least_from
+other_above_half = refl
+
+other_above_half_later : later false (of_four 2 3) ≡ cell 4 5 4 ∷ cell 4 5 3 ∷ []
+unfolding run_updated golomb_k least_from
+other_above_half_later = refl
+
+same_below_half : numbers true (of_four 2 1) ≡ 3 ∷ 1 ∷ 0 ∷ 2 ∷ []
+unfolding golomb_k least_from
+same_below_half = refl
+
+same_below_half_later : later true (of_four 2 1) ≡ cell 3 5 2 ∷ cell 3 5 1 ∷ []
+unfolding run_updated golomb_k least_from
+same_below_half_later = refl
+
+same_at_half : numbers true (of_four 2 2) ≡ 2 ∷ 0 ∷ 1 ∷ 3 ∷ []
+unfolding golomb_k least_from
+same_at_half = refl
+
+same_at_half_later : later true (of_four 2 2) ≡ cell 3 5 3 ∷ cell 3 5 2 ∷ []
+unfolding run_updated golomb_k least_from
+same_at_half_later = refl
+
+same_above_half : numbers true (of_four 2 3) ≡ 2 ∷ 0 ∷ 1 ∷ 3 ∷ []
+unfolding golomb_k least_from
+same_above_half = refl
+
+same_above_half_later : later true (of_four 2 3) ≡ cell 3 5 4 ∷ cell 3 5 3 ∷ []
+unfolding run_updated golomb_k least_from
+same_above_half_later = refl
+
+-- A is 9, so that k is 2: errors below 0 have the smaller number, however many there were
+other_below_half_at_k_2 : numbers false (of_four 9 1) ≡ 3 ∷ 1 ∷ 2 ∷ 4 ∷ []
+unfolding golomb_k least_from
+other_below_half_at_k_2 = refl
+
+other_above_half_at_k_2 : numbers false (of_four 9 3) ≡ 3 ∷ 1 ∷ 2 ∷ 4 ∷ []
+unfolding golomb_k least_from
+other_above_half_at_k_2 = refl
+
+same_below_half_at_k_2 : numbers true (of_four 9 1) ≡ 2 ∷ 0 ∷ 1 ∷ 3 ∷ []
+unfolding golomb_k least_from
+same_below_half_at_k_2 = refl
+
+same_above_half_at_k_2 : numbers true (of_four 9 3) ≡ 2 ∷ 0 ∷ 1 ∷ 3 ∷ []
+unfolding golomb_k least_from
+same_above_half_at_k_2 = refl

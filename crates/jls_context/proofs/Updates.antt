@@ -1,25 +1,33 @@
 -- What an error changes in a cell.
-use Rattle.std.proofs.Common.{◌≡◌, ℕ, ◌+◌, ◌/◌, refl, true, false, eqb, arith}
-use Rattle.std.specs.Prelude.{ℤ, pos, negsuc, neg_ℤ, ◌+ℤ◌, ◌-ℤ◌, ◌<ℤ◌, ◌≤ℤ◌, int_lt, int_le, unsigned_abs}
+use Rattle.std.proofs.Common.{◌≡◌, ℕ, ◌+◌, ◌/◌, refl, Bool, true, false, eqb, subst}
+use Rattle.std.specs.Prelude.{T, ℤ, pos, negsuc, neg_ℤ, ◌+ℤ◌, ◌-ℤ◌, ◌<ℤ◌, ◌≤ℤ◌, int_lt, int_le, unsigned_abs}
 use Rattle.std.specs.Int.{int_div_euclid, int_max, int_min}
-use Rattle.std.proofs.lemmas.Int.{ints}
+use Rattle.std.specs.Int.Signed.{le_z_yes, clash_ℤ}
 use Rattle.std.proofs.lemmas.Bool.{eq-eqb, ne_eqb}
 use Rattle.jls_context.specs.declared.regular.Cell.{Cell}
 use Rattle.jls_context.specs.Regular.{computed_bias, computed_correction, bias_computed, updated}
 
+holds : (b : Bool) → T b → b ≡ true
+holds true h = refl
+holds false h = absurd h
+
+fails : (a b : ℤ) (t : Bool) → t ≡ int_le a b → b <ℤ a → t ≡ false
+fails a b true is h = clash_ℤ h (le_z_yes (subst T is tt))
+fails a b false is h = refl
+
 pub bias_low : (n : ℕ) (b : ℤ) → b ≤ℤ neg_ℤ (pos n) → computed_bias n b ≡ int_max (b +ℤ pos n) (pos 1 -ℤ pos n)
-bias_low n b h = let low : int_le b (neg_ℤ (pos n)) ≡ true = grind (arith, ints) in rw low refl
+bias_low n b h = let low : int_le b (neg_ℤ (pos n)) ≡ true = holds _ h.le in rw low refl
 
 pub bias_high : (n : ℕ) (b : ℤ) → neg_ℤ (pos n) <ℤ b → pos 0 <ℤ b → computed_bias n b ≡ int_min (b -ℤ pos n) (pos 0)
 bias_high n b h i =
-    let low : int_le b (neg_ℤ (pos n)) ≡ false = grind (arith, ints) in let high : int_lt (pos 0) b ≡ true = grind (arith, ints) in rw (low, high) refl
+    let low : int_le b (neg_ℤ (pos n)) ≡ false = fails b (neg_ℤ (pos n)) _ refl h in let high : int_lt (pos 0) b ≡ true = holds _ i.lt in rw (low, high) refl
 
 pub correction_low : (n : ℕ) (b c : ℤ) → b ≤ℤ neg_ℤ (pos n) → computed_correction n b c ≡ int_max (c -ℤ pos 1) (negsuc 127)
-correction_low n b c h = let low : int_le b (neg_ℤ (pos n)) ≡ true = grind (arith, ints) in rw low refl
+correction_low n b c h = let low : int_le b (neg_ℤ (pos n)) ≡ true = holds _ h.le in rw low refl
 
 pub correction_high : (n : ℕ) (b c : ℤ) → neg_ℤ (pos n) <ℤ b → pos 0 <ℤ b → computed_correction n b c ≡ int_min (c +ℤ pos 1) (pos 127)
 correction_high n b c h i =
-    let low : int_le b (neg_ℤ (pos n)) ≡ false = grind (arith, ints) in let high : int_lt (pos 0) b ≡ true = grind (arith, ints) in rw (low, high) refl
+    let low : int_le b (neg_ℤ (pos n)) ≡ false = fails b (neg_ℤ (pos n)) _ refl h in let high : int_lt (pos 0) b ≡ true = holds _ i.lt in rw (low, high) refl
 
 -- before RESET
 pub updated-grown : (reset : ℕ) (cell : Cell) (e : ℤ) (grown : Cell) → (cell.occurrences ≡ reset → ⊥)

@@ -6,8 +6,8 @@ mod params;
 mod shape;
 
 pub use merge::{Merge, MergeFault, merge_all, same_members_same_join};
-pub use params::{ParamFault, Params};
-pub use shape::{Shape, ShapeFault};
+pub use params::{ParamFault, Params, equal_params_are_one};
+pub use shape::{Shape, ShapeFault, equal_shapes_are_one};
 
 #[cfg(test)]
 mod tests;

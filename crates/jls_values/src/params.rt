@@ -1,6 +1,6 @@
 //! Coding parameters.
 
-ghost use Rattle.std.specs.Prelude.{◌≡◌, ◌+◌, ◌≤◌, ◌<◌, ◌^◌, ◌-◌, IfNone};
+ghost use Rattle.std.specs.Prelude.{◌≡◌, ◌+◌, ◌≤◌, ◌<◌, ◌^◌, ◌-◌, IfNone, IsTrue, ◌↔◌};
 ghost use Rattle.jls_values.specs.Params.{AreCodingParameters};
 ghost use Rattle.jls_values.specs.ParamsOf.{param_fault, params_of};
 
@@ -261,4 +261,11 @@ impl Params {
         let bpp = self.qbpp().max(2);
         2 * (bpp + bpp.max(8))
     }
+}
+
+/// A law: `==` of parameters is equality.
+pub fn equal_params_are_one(params: &Params, other: &Params) -> bool
+    ensures { IsTrue result ↔ (params.now ≡ other.now) }
+{
+    params == other
 }

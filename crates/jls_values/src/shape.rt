@@ -1,6 +1,6 @@
 //! The shape of a picture.
 
-ghost use Rattle.std.specs.Prelude.{◌≡◌};
+ghost use Rattle.std.specs.Prelude.{◌≡◌, IsTrue, ◌↔◌};
 ghost use Rattle.jls_values.specs.Shape.{IsShape};
 ghost use Rattle.jls_values.specs.ShapeOf.{size_fault, shape_of};
 
@@ -146,4 +146,11 @@ impl Shape {
             ids: ArrayVec::try_from(self.ids.as_slice()).unwrap(),
         }
     }
+}
+
+/// A law: `==` of shapes is equality, of the identifiers in the order of the frame too.
+pub fn equal_shapes_are_one(shape: &Shape, other: &Shape) -> bool
+    ensures { IsTrue result ↔ (shape.now ≡ other.now) }
+{
+    shape == other
 }

@@ -49,25 +49,27 @@ fn join_command<'a>(alloc: Global) -> Result<Command<'a>, AllocError>
     ensures local { IfOk result (λ c. (out-Command c).has_globals ≡ false) }
 {
     let out = Arg::new(alloc, "OUT").required(true).help(OUT_HELP);
+    let join = Command::new(alloc, "join")
+        .about(JOIN_ABOUT)
+        .after_help(JOIN_NOTES)
+        .arg(out)?;
     let file = Arg::new(alloc, "FILE")
         .required(true)
         .action(ArgAction::Append)
         .help(FILE_HELP);
-    let join = Command::new(alloc, "join")
-        .about(JOIN_ABOUT)
-        .after_help(JOIN_NOTES);
-    join.arg(out)?.arg(file)
+    join.arg(file)
 }
 
 /// The command of the program.
 fn command<'a>(alloc: Global) -> Result<Command<'a>, AllocError>
     ensures { IfOk result (λ c. app_of c ≡ salvage_app) }
 {
+    let join = join_command(alloc)?;
     Command::new(alloc, "jls-salvage")
         .about(ABOUT)
         .after_help(EXAMPLES)
         .subcommand_required(true)
-        .subcommand(join_command(alloc)?)
+        .subcommand(join)
 }
 
 /// What clap reads in the words, of which the first is the program's name. The rows of the subcommand are those of

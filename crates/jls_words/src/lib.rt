@@ -4,3 +4,6 @@
 mod command;
 
 pub use command::{join_words, matches};
+
+#[cfg(test)]
+mod tests;

@@ -10,8 +10,9 @@ fn a_shape_keeps_its_values(rt: HostRuntime) -> Result<(), Fail> {
     assert_eq!(rt; shape.width(), 12);
     assert_eq!(rt; shape.height(), 10);
     assert_eq!(rt; shape.ids(), [1, 2, 9].as_slice());
-    assert!(rt; shape == shape.to_owned());
-    assert!(rt; shape != Shape::new(8, 12, 10, &[1, 9, 2])?);
+    assert!(rt; equal_shapes_are_one(&shape, &shape.to_owned()));
+    let other = Shape::new(8, 12, 10, &[1, 9, 2])?;
+    assert!(rt; !equal_shapes_are_one(&shape, &other));
     Ok(())
 }
 
@@ -47,6 +48,16 @@ fn values(params: &Params) -> [u16; 5] {
         params.t3(),
         params.reset(),
     ]
+}
+
+#[test]
+fn defaults_can_be_given(rt: HostRuntime) -> Result<(), Fail> {
+    let params = Params::new(8, 0, 0, 0, 0, 0)?;
+    let given = Params::new(8, 255, 3, 7, 21, 64)?;
+    assert!(rt; equal_params_are_one(&params, &given));
+    let other = Params::new(8, 255, 3, 7, 21, 63)?;
+    assert!(rt; !equal_params_are_one(&params, &other));
+    Ok(())
 }
 
 #[test]

@@ -19,5 +19,5 @@ pub returns : goal.returns
 returns c =
     let plain : app_of c.after_help.result ≡ new_app (codes "jls-salvage") = ap app_of_fields c.after_help.ensures ∙ (ap app_of_fields c.about.ensures ∙ c.new.ensures.app) in
     let above : app_of c.subcommand_required.result ≡ bare_app = ap app_of_fields c.subcommand_required.ensures ∙ ap must_name plain in
-    let below : shape_of c.in_ok-join_command.field-0 ≡ join_app.top = ap (λ (a : App). a.top) c.in_ok-join_command.ensures.app in
-    IfOk-weaker c.subcommand.result _ _ (λ r added. added.shape c.in_ok-join_command.ensures.local ∙ with_join _ _ above below) c.subcommand.ensures
+    let below : shape_of c.in_ok-join.join ≡ join_app.top = ap (λ (a : App). a.top) c.in_ok-join.ensures.app in
+    IfOk-weaker c.subcommand.result _ _ (λ r added. added.shape c.in_ok-join.ensures.local ∙ with_join _ _ above below) c.subcommand.ensures

@@ -22,9 +22,9 @@ pub returns-clause-app : goal.returns-clause-app
 returns-clause-app c =
     let out : rule_of c.help-out.result ≡ out_rule = ap rule_of c.help-out.ensures ∙ (ap rule_of c.required.ensures ∙ ap must_be c.new.ensures.rule) in
     let file : rule_of c.help-file.result ≡ file_rule =
-    ap rule_of c.help-file.ensures ∙ (ap rule_of c.action.ensures ∙ ap appending (ap rule_of c.required-2.ensures ∙ ap must_be c.new-2.ensures.rule)) in
-    let bare : app_of c.after_help-join.result ≡ new_app (codes "join") = ap app_of_fields c.after_help-join.ensures ∙ (ap app_of_fields c.about.ensures ∙ c.new-3.ensures.app) in
+    ap rule_of c.help-file.ensures ∙ (ap rule_of c.action.ensures ∙ ap appending (ap rule_of c.required-2.ensures ∙ ap must_be c.new-3.ensures.rule)) in
+    let bare : app_of c.after_help.result ≡ new_app (codes "join") = ap app_of_fields c.after_help.ensures ∙ (ap app_of_fields c.about.ensures ∙ c.new-2.ensures.app) in
     let out_local : c.help-out.result.global ≡ false = ap (λ a. a.global) c.help-out.ensures ∙ (ap (λ a. a.global) c.required.ensures ∙ c.new.ensures.optional.1) in
     let file_local : c.help-file.result.global ≡ false =
-    ap (λ a. a.global) c.help-file.ensures ∙ (ap (λ a. a.global) c.action.ensures ∙ (ap (λ a. a.global) c.required-2.ensures ∙ c.new-2.ensures.optional.1)) in
-    IfOk-weaker c.arg-2.result _ _ (λ r added. added.shape file_local ∙ with_both _ _ _ _ bare out file (c.in_ok-arg.ensures.shape out_local)) c.arg-2.ensures
+    ap (λ a. a.global) c.help-file.ensures ∙ (ap (λ a. a.global) c.action.ensures ∙ (ap (λ a. a.global) c.required-2.ensures ∙ c.new-3.ensures.optional.1)) in
+    IfOk-weaker c.arg-2.result _ _ (λ r added. added.shape file_local ∙ with_both _ _ _ _ bare out file (c.in_ok-join.ensures.shape out_local)) c.arg-2.ensures
