@@ -3,12 +3,14 @@
 #![tactic(auto)]
 
 mod codes;
+mod component_index;
 mod fault;
 mod headers;
 mod read;
 mod scan_head;
 mod scan_plan;
 mod segment;
+mod write;
 
 pub use codes::has_segment;
 pub use fault::MarkerFault;
@@ -17,3 +19,4 @@ pub use read::read_segment;
 pub use scan_head::ScanHead;
 pub use scan_plan::ScanPlan;
 pub use segment::Segment;
+pub use write::write_segment;
