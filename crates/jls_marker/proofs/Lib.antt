@@ -4,5 +4,6 @@ pub mod Intervals
 pub mod Layouts
 pub mod ParamRanges
 pub mod ReadsBack
+pub mod SegmentsRead
 pub mod Shapes
 pub mod WorkedRows
