@@ -1,15 +1,19 @@
 -- Each layout and what reads it agree.
-use Rattle.std.proofs.Common.{◌≡◌, ℕ, zero, suc, ◌+◌, ◌-◌, ◌*◌, ◌/◌, ◌%◌, ◌<◌, ◌≤◌, ◌^◌, Bool, true, false, cond, eqb, List, [], ◌∷◌, ◌++◌, length, take, drop, get_or, Option, Some, None, refl, sym, ap, subst, ◌∙◌, arith, length-append, length-drop}
-use Rattle.std.specs.Prelude.{◌&&◌, nat_le}
+use Rattle.std.proofs.Common.{◌≡◌, ℕ, zero, suc, ◌+◌, ◌-◌, ◌*◌, ◌/◌, ◌%◌, ◌<◌, ◌≤◌, ◌^◌, Bool, true, false, cond, eqb, List, [], ◌∷◌, ◌++◌, length, take, drop, get_or, Option, Some, None, Ok, inl, inr, refl, sym, ap, subst, ◌∙◌, arith, length-append, length-drop}
+use Rattle.std.specs.Prelude.{◌&&◌, nat_le, nat_lt}
 use Rattle.std.specs.List.{flat_map, AllByRecursion}
 use Rattle.std.specs.Int.{w16, w32, to_be_bytes, from_be_bytes}
 use Rattle.std.proofs.Math.Seq.{take-append_seam}
-use Rattle.std.proofs.lemmas.Bool.{eqb-true, eq-eqb, leb-true, le-leb, and_parts, and_from}
+use Rattle.std.proofs.lemmas.Bool.{eqb-true, eq-eqb, leb-true, le-leb, le-ltb, lt-ltb, cases_lt, and_parts, and_from}
 use Rattle.std.proofs.lemmas.List.{get_or-append-add, get_or-drop, take-append-drop, length-take}
 use Rattle.std.proofs.lemmas.Nat.{be_bytes_2, be_bytes_4, from_be_bytes-to_be_bytes_2, from_be_bytes-to_be_bytes_4}
 use Rattle.jls_marker.specs.PresetParameters.{PresetParameters, ArePresetParameters}
 use Rattle.jls_marker.specs.Layouts.{FrameComponent, FrameHeader, frame_component_bytes, frame_header_bytes, HasFrameLayout, frame_components, frame_header, ScanComponent, ScanHeader, scan_component_bytes, scan_header_bytes, HasScanLayout, scan_components, scan_header, preset_bytes, HasPresetLayout, preset_parameters, HasRestartLayout, restart_interval}
+use Rattle.jls_marker.specs.MarkerCodes.{lse, dri}
 use Rattle.jls_marker.specs.SegmentLaws.{AreBytes}
+use Rattle.jls_marker.specs.Segments.{preset_of, restart_of, segment_of}
+use Rattle.jls_marker.specs.Written.{payload_of, restart_payload}
+use Rattle.jls_marker.specs.declared.segment.Segment.TheVariants.{Preset, Restart}
 
 abbrev some : {A : Type 0} → A → Option A
 some x = Some x
@@ -327,3 +331,33 @@ restart_of_layout (a ∷ b ∷ c ∷ d ∷ []) n l =
     let below : n < 4294967296 = l.below in
     ap (λ (t : List ℕ). some (from_be_bytes w32 t)) l.bytes ∙ ap (λ (k : ℕ). some k) (from_be_bytes-to_be_bytes_4 n below)
 restart_of_layout (a ∷ b ∷ c ∷ d ∷ x ∷ more) n l = absurd (let e = l.length_at_most in omega arith)
+
+-- ---- what is written of them
+
+pub preset_reads_back : (maxval t1 t2 t3 reset : ℕ) → ArePresetParameters (record { maxval = maxval; t1 = t1; t2 = t2; t3 = t3; reset = reset }) → segment_of lse (payload_of (Preset maxval t1 t2 t3 reset)) ≡ Ok (Preset maxval t1 t2 t3 reset)
+preset_reads_back maxval t1 t2 t3 reset is =
+    let p : PresetParameters = record { maxval = maxval; t1 = t1; t2 = t2; t3 = t3; reset = reset } in ap preset_of (preset_again p is)
+
+restart_layout : (n : ℕ) → n < 2 ^ 32 → HasRestartLayout (restart_payload n) n
+restart_layout n lt =
+    elim (cases_lt n 65536) [
+      | inl a ↦
+          let t : nat_lt n 65536 ≡ true = lt-ltb n 65536 a in
+          let e : restart_payload n ≡ drop 2 (to_be_bytes w32 n) = rw t refl in
+          subst (λ (xs : List ℕ). HasRestartLayout xs n) (sym e) (record { length_at_least = omega arith; length_at_most = omega arith; bytes = refl; below = a })
+      | inr b ↦
+          let f : nat_lt n 65536 ≡ false = le-ltb n 65536 b in
+          elim (cases_lt n 16777216) [
+            | inl a ↦
+                let t : nat_lt n 16777216 ≡ true = lt-ltb n 16777216 a in
+                let e : restart_payload n ≡ drop 1 (to_be_bytes w32 n) = rw (f, t) refl in
+                subst (λ (xs : List ℕ). HasRestartLayout xs n) (sym e) (record { length_at_least = omega arith; length_at_most = omega arith; bytes = refl; below = a })
+            | inr c ↦
+                let t : nat_lt n 16777216 ≡ false = le-ltb n 16777216 c in
+                let e : restart_payload n ≡ to_be_bytes w32 n = rw (f, t) refl in
+                subst (λ (xs : List ℕ). HasRestartLayout xs n) (sym e) (record { length_at_least = omega arith; length_at_most = omega arith; bytes = refl; below = lt })
+          ]
+    ]
+
+pub restart_reads_back : (n : ℕ) → n < 2 ^ 32 → segment_of dri (payload_of (Restart n)) ≡ Ok (Restart n)
+restart_reads_back n lt = ap restart_of (restart_of_layout (restart_payload n) n (restart_layout n lt))
