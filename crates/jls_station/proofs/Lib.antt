@@ -1,6 +1,4 @@
-pub mod CreatedOutputs
-pub mod Opening
-pub mod ReadingWhole
-pub mod Stopping
-pub mod TakingInputs
+pub mod InTurn
+pub mod JoinSteps
+pub mod OneInput
 pub mod WholeRuns

@@ -1,39 +1,58 @@
--- The laws of whole runs of `join`, over the histories that its contract speaks of.
-use Rattle.std.specs.Prelude.{◌≡◌, ℕ, ◌↔◌, List, [], ◌∷◌, length, map, drop, All, Contains}
+-- The laws of whole runs of `join`.
+use Rattle.std.specs.Prelude.{◌≡◌, ℕ, ◌↔◌, Bool, List, [], ◌∷◌, if◌then◌else◌, All, Contains, Option}
 use Rattle.jls_partial.specs.Parts.{IsPartOf, EachLineSurvives}
 use Rattle.jls_partial.specs.Partial.{PartialPicture}
 use Rattle.jls_partial.specs.Status.{IsSettled}
 use Rattle.jls_partial.specs.Text.{text, IsPartial}
-use Rattle.jls_device.specs.History.{History}
-use Rattle.jls_station.specs.Joining.{Joins}
+use Rattle.jls_device.specs.Event.{Event, opened, created, is_opening, is_creation, bytes_given, bytes_taken}
+use Rattle.jls_station.specs.Joining.{JoinIsDone}
+use Rattle.jls_station.specs.Texts.{IsTextOf}
 
--- what each input gave that was opened in between, in their order
-abbrev pub bytes_given : History → History → List (List ℕ)
-bytes_given old new = map (λ input. input.bytes) (drop (length old.inputs) new.inputs)
+-- what comes before the next event of a kind
+abbrev pub before_next : (Event → Bool) → List Event → List Event
+before_next test [] = []
+before_next test (e ∷ more) = if test e then [] else e ∷ before_next test more
 
--- what each output was handed that was created in between, in their order
-abbrev pub bytes_handed_out : History → History → List (List ℕ)
-bytes_handed_out old new = map (λ output. output.bytes) (drop (length old.outputs) new.outputs)
+-- what each input gave that was opened, in their order: the bytes of the reads from its opening to the next
+abbrev pub input_bytes : List Event → List (List ℕ)
+input_bytes [] = []
+input_bytes (opened name ∷ more) = bytes_given (before_next is_opening more) ∷ input_bytes more
+input_bytes (_ ∷ more) = input_bytes more
+
+-- what each output was handed that was created, in their order: the bytes of the writes from its creation to the next
+abbrev pub output_bytes : List Event → List (List ℕ)
+output_bytes [] = []
+output_bytes (created name ∷ more) = bytes_taken (before_next is_creation more) ∷ output_bytes more
+output_bytes (_ ∷ more) = output_bytes more
 
 -- the same texts stand in both, whatever their order, and however often each does
 abbrev pub HaveSameMembers : List (List ℕ) → List (List ℕ) → Type 0
 HaveSameMembers texts others = (bytes : List ℕ) → Contains texts bytes ↔ Contains others bytes
 
--- Two runs of `join` whose inputs gave the same texts, in whatever order, however often and under whatever names: what they
--- join is one picture, and their outputs are handed the same bytes
+-- at each place stands a text of the partial picture there
+abbrev pub AreTextsOf : List (List ℕ) → List PartialPicture → Type 0
+AreTextsOf [] [] = Unit {0}
+AreTextsOf (bytes ∷ texts) (p ∷ ps) = IsTextOf bytes p × AreTextsOf texts ps
+AreTextsOf _ _ = ⊥
+
+-- Two runs of `join` that are done and whose inputs gave the same texts, in whatever order, however often and under whatever
+-- names: what they join is one picture, and their outputs are handed the same bytes
 abbrev pub SameInputsSameOutput : Type 0
 SameInputsSameOutput =
-    (old new : History) (out : List ℕ) (names : List (List ℕ)) (joined : PartialPicture) → Joins old out names joined new
-    → (old' new' : History) (out' : List ℕ) (names' : List (List ℕ)) (joined' : PartialPicture) → Joins old' out' names' joined' new'
-    → HaveSameMembers (bytes_given old new) (bytes_given old' new')
-    → (joined ≡ joined') × (bytes_handed_out old new ≡ bytes_handed_out old' new')
+    (source : Option ℕ) (out : List ℕ) (names : List (List ℕ)) (joined : PartialPicture) (settled whole : Bool) (events : List Event)
+    → JoinIsDone source out names joined settled whole events
+    → (out' : List ℕ) (names' : List (List ℕ)) (joined' : PartialPicture) (settled' whole' : Bool) (events' : List Event)
+    → JoinIsDone source out' names' joined' settled' whole' events'
+    → HaveSameMembers (input_bytes events) (input_bytes events')
+    → (joined ≡ joined') × (output_bytes events ≡ output_bytes events')
 
--- A run of `join` whose inputs gave the texts of parts of one picture, in which each line of it survives somewhere: what it
--- joins is that picture, and its output is handed the picture's text
+-- A run of `join` that is done and whose inputs gave the texts of parts of one picture, in which each line of it survives
+-- somewhere: what it joins is that picture, and its output is handed the picture's text
 abbrev pub SurvivingLinesGiveThePicture : Type 0
 SurvivingLinesGiveThePicture =
-    (old new : History) (out : List ℕ) (names : List (List ℕ)) (joined : PartialPicture) → Joins old out names joined new
+    (source : Option ℕ) (out : List ℕ) (names : List (List ℕ)) (joined : PartialPicture) (settled whole : Bool) (events : List Event)
+    → JoinIsDone source out names joined settled whole events
     → (picture : PartialPicture) → IsPartial picture → IsSettled picture
-    → (parts : List PartialPicture) → All IsPartial parts → All (IsPartOf picture) parts → EachLineSurvives picture.shape parts
-    → bytes_given old new ≡ map text parts
-    → (joined ≡ picture) × (bytes_handed_out old new ≡ text picture ∷ [])
+    → (parts : List PartialPicture) → All (IsPartOf picture) parts → EachLineSurvives picture.shape parts
+    → AreTextsOf (input_bytes events) parts
+    → (joined ≡ picture) × (output_bytes events ≡ text picture ∷ [])

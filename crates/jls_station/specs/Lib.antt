@@ -1,6 +1,9 @@
 -- What the contracts of this crate cite.
-pub mod Causes
 pub mod InputFaults
+pub mod Inputs
 pub mod Joining
 pub mod Laws
-pub mod Stops
+pub mod Outcomes
+pub mod Outputs
+pub mod Reading
+pub mod Texts

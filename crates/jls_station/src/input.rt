@@ -1,10 +1,13 @@
 //! Inputs of the program, read whole.
 
-ghost use Rattle.std.specs.Prelude.{◌≡◌, IfOk, IfErr, OnOk, true};
-ghost use Rattle.jls_partial.specs.Text.{text, IsPartial};
-ghost use Rattle.jls_device.specs.Failures.{NoneFailed};
-ghost use Rattle.jls_device.specs.Reads.{Reads};
-ghost use Rattle.jls_station.specs.InputFaults.{RefusedFor};
+ghost use Rattle.std.specs.Prelude.{◌≡◌, IfOk, IfErr, IfSome, None};
+ghost use Rattle.std.specs.Io.KnownBytes.{Consumes, IsAtEnd};
+ghost use Rattle.jls_device.specs.Event.{GrewBy};
+ghost use Rattle.jls_station.specs.Reading.{IsRead};
+ghost use Rattle.jls_station.specs.InputFaults.{input_fault_of};
+ghost use Rattle.jls_station.specs.Texts.{IsTextOf};
+ghost use Rattle.jls_station.specs.Inputs.{IsEnough, whole, ReadsGive, ReadsRefuse};
+ghost use Rattle.jls_station.specs.declared.input.ReadStop.TheVariants.{Whole};
 
 use jls_device::Source;
 use jls_partial::{Partial, TextFault};
@@ -28,18 +31,19 @@ pub enum InputFault {
     Text(TextFault),
     /// The source stopped before its end, when it had given so many bytes.
     Read(ReadStop, u64),
-    /// There was no memory for it.
+    /// Memory ran out for it.
     OutOfMemory,
 }
 
 /// The most reads of one input.
 const READS: u64 = 4_294_967_295;
 
-/// All bytes of a source, from where it stands to its end.
+/// All bytes of a source, from its current position to its end.
 fn read_all<S: Source>(alloc: Global, source: &mut S) -> Result<Vec<u8>, InputFault>
-    ensures ok { IfOk result (λ v. Reads (S.history source.old) v.items true (S.history source.new)) }
-    ensures none_failed { OnOk result (NoneFailed (S.history source.old) (S.history source.new)) }
-    ensures err { IfErr result (λ e. RefusedFor e (S.history source.old) (S.history source.new)) }
+    ensures ok { IfOk result (λ v. GrewBy (λ reads. IsRead IsEnough reads v.items Whole) (S.history source.old) (S.history source.new)) }
+    ensures err { IfErr result (λ fault. GrewBy (ReadsRefuse fault) (S.history source.old) (S.history source.new)) }
+    ensures known { IfOk result (λ v. Consumes (S.remaining source.old) (S.remaining source.new) v.items) }
+    ensures end { IfOk result (λ v. IsAtEnd (S.remaining source.new)) }
 {
     let mut bytes = Vec::new(alloc);
     let mut chunk = [0u8; 4096];
@@ -59,19 +63,28 @@ fn read_all<S: Source>(alloc: Global, source: &mut S) -> Result<Vec<u8>, InputFa
     Err(InputFault::Read(ReadStop::Turns, bytes.len() as u64))
 }
 
-/// The partial picture whose text a source gives, from where it stands to its end. At this stage every input is such
+#[tactic(auto, using(crate::proofs::OneInput::other_input_fault))]
+fn input_fault(fault: TextFault) -> InputFault
+    ensures { result ≡ input_fault_of fault }
+{
+    match fault {
+        TextFault::OutOfMemory => InputFault::OutOfMemory,
+        fault => InputFault::Text(fault),
+    }
+}
+
+/// The partial picture whose text a source gives, from its current position to its end. At this stage every input is such
 /// a text: one that begins with another byte than 4A is refused as `Text(Magic(0))`, and an empty one as
-/// `Text(Truncated(0))`. Where the source fails, or its last read is made before its end, the input is refused as `Read`.
+/// `Text(Truncated(0))`. The input is refused as `Read` if and only if a read failed or the last of 4,294,967,295 reads was
+/// made before its end, whatever the bytes are.
 pub fn read_input<S: Source>(alloc: Global, source: &mut S) -> Result<Partial, InputFault>
-    ensures text { IfOk result (λ p. Reads (S.history source.old) (text p) true (S.history source.new)) }
-    ensures none_failed { OnOk result (NoneFailed (S.history source.old) (S.history source.new)) }
-    ensures partial { IfOk result (λ p. IsPartial p) }
-    ensures refused { IfErr result (λ e. RefusedFor e (S.history source.old) (S.history source.new)) }
+    ensures given { IfOk result (λ p. GrewBy (ReadsGive None (whole p)) (S.history source.old) (S.history source.new)) }
+    ensures refused { IfErr result (λ fault. GrewBy (ReadsRefuse fault) (S.history source.old) (S.history source.new)) }
+    ensures known { IfOk result (λ p. IfSome (S.remaining source.old) (λ bytes. IsTextOf bytes p)) }
 {
     let bytes = read_all(alloc, source)?;
     match Partial::from_bytes(alloc, &bytes) {
         Ok(partial) => Ok(partial),
-        Err(TextFault::OutOfMemory) => Err(InputFault::OutOfMemory),
-        Err(fault) => Err(InputFault::Text(fault)),
+        Err(fault) => Err(input_fault(fault)),
     }
 }

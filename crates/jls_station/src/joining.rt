@@ -1,46 +1,46 @@
-//! Inputs joined into an output.
+//! The command `join`.
 
-ghost use Rattle.std.specs.Prelude.{◌↔◌, IfOk, IfErr, OnOk, IsTrue, map, ◌∷◌};
-ghost use Rattle.jls_device.specs.Failures.{NoneFailed};
-ghost use Rattle.jls_device.specs.Reads.{KeepsCounts};
-ghost use Rattle.jls_partial.specs.Partial.{PartialPicture};
-ghost use Rattle.jls_partial.specs.Status.{IsSettled};
-ghost use Rattle.jls_station.specs.Causes.{StopsFor};
+ghost use Rattle.std.specs.Prelude.{None, map, ◌∷◌};
+ghost use Rattle.jls_device.specs.Event.{GrewBy};
 ghost use Rattle.jls_station.specs.Joining.{Joins};
 
-use crate::cause::{Cause, Refusal};
+use crate::outcome::{Cause, Outcome, Refusal};
 use crate::taking::take_inputs;
 use crate::writing::write_output;
 use jls_device::Desk;
 use std::alloc::Global;
 
-/// Joins the inputs of these names and writes their join to the output. The answer says whether each line is settled.
-/// The output is created once all inputs are taken and the text is made.
-pub fn join_inputs<'a, D: Desk>(
+/// The command `join`: takes the inputs of these names, in turn, and then creates the output and writes the text of their
+/// union to it.
+pub fn join<'a, D: Desk>(
     alloc: Global,
     desk: &mut D,
     out: &'a str,
     first: &'a str,
     others: &[&'a str],
-) -> Result<bool, Refusal<'a>>
-    ensures joined { IfOk result (λ settled. (joined : PartialPicture)
-        × Joins (D.history desk.old) out.now (first.now ∷ map (λ f. f.now) others.now) joined (D.history desk.new)
-        × (IsTrue settled ↔ IsSettled joined)) }
-    ensures none_failed { OnOk result (NoneFailed (D.history desk.old) (D.history desk.new)) }
-    ensures counts { KeepsCounts (D.history desk.old) (D.history desk.new) }
-    ensures stopped { IfErr result (λ r. StopsFor r.cause (D.history desk.old) out.now (first.now ∷ map (λ f. f.now) others.now) (D.history desk.new)) }
+) -> Outcome<'a>
+    ensures { GrewBy (Joins None out.now (first.now ∷ map (λ f. f.now) others.now) result) (D.history desk.old) (D.history desk.new) }
 {
-    let station = take_inputs(alloc, desk, first, others)?;
+    let station = match take_inputs(alloc, desk, first, others) {
+        Ok(station) => station,
+        Err(refusal) => return Outcome::Refused(refusal),
+    };
     let joined = station.partial();
     let text = match joined.to_bytes(alloc) {
         Ok(text) => text,
         Err(_) => {
             let cause = Cause::OutOfMemory;
-            return Err(Refusal { name: out, cause });
+            return Outcome::Refused(Refusal { name: out, cause });
         }
     };
     match write_output(desk, out, &text) {
-        Ok(()) => Ok(joined.is_settled()),
-        Err(cause) => Err(Refusal { name: out, cause }),
+        Ok(()) => {
+            let settled = joined.is_settled();
+            Outcome::Done {
+                settled,
+                whole: true,
+            }
+        }
+        Err(cause) => Outcome::Refused(Refusal { name: out, cause }),
     }
 }

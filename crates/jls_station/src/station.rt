@@ -37,8 +37,15 @@ impl Station {
         }
     }
 
-    /// Takes in the readings of a partial picture. At `ShapeDiffers` nothing has changed; after want of memory all
-    /// that was held is still held, with some of the other's readings, and the same call can be made again.
+    /// A station that holds this partial picture. It takes no memory.
+    pub fn holding(partial: Partial) -> Station
+        ensures { result ≡ partial }
+    {
+        Station { held: partial }
+    }
+
+    /// Takes in the readings of a partial picture. At `ShapeDiffers` nothing has changed; after `OutOfMemory` all that was
+    /// held is still held, with some or all of the other's readings, and the same call can be made again.
     pub fn take(&mut self, other: &Partial) -> Result<(), MergeFault>
         ensures ok { OnOk result (self.new ≡ union self.old other.now) }
         ensures ok_same_shape { OnOk result (has_same_shape self.old other.now ≡ true) }

@@ -1,14 +1,11 @@
 //! The inputs of `join`, taken into a station.
 
-ghost use Rattle.std.specs.Prelude.{◌≡◌, ℕ, List, IfOk, IfErr, OnOk, true, map, [], ◌∷◌, ◌++◌};
-ghost use Rattle.jls_partial.specs.Text.{text, IsPartial};
-ghost use Rattle.jls_station.specs.Causes.{RefusesFor, StopsFor};
-ghost use Rattle.jls_station.specs.Joining.{whole_input, Takes, TakesJoin};
-ghost use Rattle.jls_device.specs.Failures.{NoneFailed};
-ghost use Rattle.jls_device.specs.Reads.{KeepsCounts};
+ghost use Rattle.std.specs.Prelude.{List, ℕ, IfOk, IfErr, None, true, map, ◌∷◌};
+ghost use Rattle.jls_device.specs.Event.{GrewBy};
+ghost use Rattle.jls_station.specs.Inputs.{Given, whole, IsTaken, TakesUnion, StopsAt, StopsAtInput};
 
-use crate::cause::{Cause, Refusal};
 use crate::input::read_input;
+use crate::outcome::{Cause, Refusal};
 use crate::station::Station;
 use jls_device::Desk;
 use jls_partial::Partial;
@@ -17,12 +14,9 @@ use std::alloc::Global;
 
 /// Opens one input and reads it whole.
 fn open_and_read<D: Desk>(alloc: Global, desk: &mut D, name: &str) -> Result<Partial, Cause>
-    ensures partial { IfOk result (λ p. IsPartial p) }
-    ensures inputs { IfOk result (λ p. (D.history desk.new).inputs ≡ (D.history desk.old).inputs ++ whole_input name.now (text p) ∷ []) }
-    ensures outputs { (D.history desk.new).outputs ≡ (D.history desk.old).outputs }
-    ensures none_failed { OnOk result (NoneFailed (D.history desk.old) (D.history desk.new)) }
-    ensures counts { KeepsCounts (D.history desk.old) (D.history desk.new) }
-    ensures refused { IfErr result (λ cause. RefusesFor cause (D.history desk.old) name.now (D.history desk.new)) }
+    ensures taken { IfOk result (λ p. GrewBy (IsTaken None name.now (whole p)) (D.history desk.old) (D.history desk.new)) }
+    // Whatever the inputs before it gave.
+    ensures stopped { (before : List Given) → IfErr result (λ cause. GrewBy (StopsAt None before name.now cause) (D.history desk.old) (D.history desk.new)) }
 {
     match desk.open_input(name) {
         Ok(()) => {}
@@ -34,40 +28,18 @@ fn open_and_read<D: Desk>(alloc: Global, desk: &mut D, name: &str) -> Result<Par
     }
 }
 
-/// A station of the shape of the first input, which holds what that input gave.
-fn first_station<D: Desk>(alloc: Global, desk: &mut D, name: &str) -> Result<Station, Cause>
-    ensures taken { IfOk result (λ station. Takes (D.history desk.old) (name.now ∷ []) (station ∷ []) (D.history desk.new)) }
-    ensures outputs { (D.history desk.new).outputs ≡ (D.history desk.old).outputs }
-    ensures none_failed { OnOk result (NoneFailed (D.history desk.old) (D.history desk.new)) }
-    ensures counts { KeepsCounts (D.history desk.old) (D.history desk.new) }
-    ensures refused { IfErr result (λ cause. RefusesFor cause (D.history desk.old) name.now (D.history desk.new)) }
-{
-    let first = open_and_read(alloc, desk, name)?;
-    let mut station = Station::new(alloc, first.shape().to_owned());
-    match station.take(&first) {
-        Ok(()) => Ok(station),
-        // The shape is the station's own, so it was memory.
-        Err(_) => Err(Cause::OutOfMemory),
-    }
-}
-
-/// Takes the inputs of these names in turn into a station of the shape of the first. It stops at the first that is
-/// refused.
+/// Takes the inputs of these names, in turn, into a station. It stops at the first that is refused.
 pub fn take_inputs<'a, D: Desk>(
     alloc: Global,
     desk: &mut D,
     first: &'a str,
     others: &[&'a str],
 ) -> Result<Station, Refusal<'a>>
-    ensures taken { IfOk result (λ station. TakesJoin (D.history desk.old) (first.now ∷ map (λ f. f.now) others.now) station (D.history desk.new)) }
-    ensures outputs { (D.history desk.new).outputs ≡ (D.history desk.old).outputs }
-    ensures none_failed { OnOk result (NoneFailed (D.history desk.old) (D.history desk.new)) }
-    ensures counts { KeepsCounts (D.history desk.old) (D.history desk.new) }
-    // Whatever the output is to be.
-    ensures stopped { (out : List ℕ) → IfErr result (λ r. StopsFor r.cause (D.history desk.old) out (first.now ∷ map (λ f. f.now) others.now) (D.history desk.new)) }
+    ensures taken { IfOk result (λ station. GrewBy (TakesUnion None (first.now ∷ map (λ f. f.now) others.now) station true) (D.history desk.old) (D.history desk.new)) }
+    ensures stopped { IfErr result (λ refusal. GrewBy (StopsAtInput None (first.now ∷ map (λ f. f.now) others.now) refusal) (D.history desk.old) (D.history desk.new)) }
 {
-    let mut station = match first_station(alloc, desk, first) {
-        Ok(station) => station,
+    let mut station = match open_and_read(alloc, desk, first) {
+        Ok(partial) => Station::holding(partial),
         Err(cause) => return Err(Refusal { name: first, cause }),
     };
     for name in others {

@@ -1,8 +1,9 @@
 -- What a caller of clap reads of the rows of `join`, and of the kinds of error.
-use Rattle.std.proofs.Common.{◌≡◌, ◌∙◌, ap, sym, subst, true, inl, inr, List, [], Option, None, Some, Result, Ok, Err}
-use Rattle.std.specs.Prelude.{option_map}
+use Rattle.std.proofs.Common.{◌≡◌, ◌∙◌, ap, sym, subst, true, inl, inr, refl, List, [], Option, None, Some, Result, Ok, Err}
+use Rattle.std.specs.Prelude.{◌⊎◌, option_map}
+use Rattle.clap.specs.declared.error.kind.ErrorKind.{ErrorKind}
 use Rattle.std.specs.Prelude.{IfOk, IfErr}
-use Rattle.clap.specs.Words.{App, FailsBy, HasKind, Kinds, Row, Text, all_of, fault_of, first_of, first_value, is_simple_and_free, kind_of, matched_of, raw_values, rows_of, takes}
+use Rattle.clap.specs.Words.{App, FailsBy, HasKind, IsAmong, Kinds, Row, Text, all_of, fault_of, first_of, first_value, is_simple_and_free, kind_of, matched_of, raw_values, rows_of, takes}
 use Rattle.clap.specs.Matches.{subcommand_name_of}
 use Rattle.clap.specs.Simple.{subcommand_rows, subcommand_rows_of}
 use Rattle.clap.specs.declared.parser.matches.ArgMatches.{ArgMatches}
@@ -11,7 +12,7 @@ use Rattle.clap.specs.declared.error.Error.{Error}
 use Rattle.clap.specs.declared.error.kind.ErrorKind.TheVariants as kind
 use Rattle.clap.specs.declared.parser.matches.Found.{Found}
 use Rattle.clap.proofs.WalkLemmas.{first_value-rows, raw_values-rows}
-use Rattle.jls_words.specs.Words.{AreTaken, salvage_app}
+use Rattle.jls_words.specs.Words.{AreRefused, AreTaken, salvage_app}
 use Rattle.jls_words.proofs.WordsTaken.{is_simple_command}
 
 -- the rows of the subcommand that was entered
@@ -49,6 +50,25 @@ only_memory : (e : Error) → HasKind [] e → kind_of e ≡ kind.OutOfMemory
 only_memory e (inl h) = h
 only_memory e (inr h) = absurd h
 
+memory_or_not : (k : ErrorKind) → (k ≡ kind.OutOfMemory) ⊎ (k ≡ kind.OutOfMemory → ⊥)
+memory_or_not kind.InvalidValue = inr (λ e. absurd cc)
+memory_or_not kind.UnknownArgument = inr (λ e. absurd cc)
+memory_or_not kind.InvalidSubcommand = inr (λ e. absurd cc)
+memory_or_not kind.NoEquals = inr (λ e. absurd cc)
+memory_or_not kind.ValueValidation = inr (λ e. absurd cc)
+memory_or_not kind.TooManyValues = inr (λ e. absurd cc)
+memory_or_not kind.TooFewValues = inr (λ e. absurd cc)
+memory_or_not kind.WrongNumberOfValues = inr (λ e. absurd cc)
+memory_or_not kind.ArgumentConflict = inr (λ e. absurd cc)
+memory_or_not kind.MissingRequiredArgument = inr (λ e. absurd cc)
+memory_or_not kind.MissingSubcommand = inr (λ e. absurd cc)
+memory_or_not kind.DisplayHelp = inr (λ e. absurd cc)
+memory_or_not kind.DisplayHelpOnMissingArgumentOrSubcommand = inr (λ e. absurd cc)
+memory_or_not kind.DisplayVersion = inr (λ e. absurd cc)
+memory_or_not kind.Io = inr (λ e. absurd cc)
+memory_or_not kind.Format = inr (λ e. absurd cc)
+memory_or_not kind.OutOfMemory = inl refl
+
 module _ {T : Type 0} (app : App) (words : List Text) (is_app : app ≡ salvage_app) where
   -- words that are read have no fault
   pub no_fault_where_read : (r : Result T Error) → (is_simple_and_free app ≡ true → FailsBy (fault_of app words) r) → IfOk r (λ _. fault_of salvage_app words ≡ [])
@@ -65,3 +85,20 @@ module _ {T : Type 0} (app : App) (words : List Text) (is_app : app ≡ salvage_
       by_case (inl t) = passes (ap (λ (a : App). takes a words) is_app ∙ t)
       by_case (inr none) =
           only_memory e (subst (λ (kinds : Kinds). HasKind kinds e) (ap (λ (a : App). fault_of a words) is_app ∙ none) (h (ap is_simple_and_free is_app ∙ is_simple_command)))
+
+  -- words that are refused have a fault of this kind, unless memory ran out
+  pub refused_for_a_kind : (r : Result T Error) → IfErr r (λ e. takes app words ≡ true → kind_of e ≡ kind.OutOfMemory) → (is_simple_and_free app ≡ true → FailsBy (fault_of app words) r)
+      → IfErr r (λ e. (kind_of e ≡ kind.OutOfMemory) ⊎ AreRefused words (kind_of e))
+  refused_for_a_kind (Ok x) passes h = tt
+  refused_for_a_kind (Err e) passes h = by_kind (memory_or_not (kind_of e))
+    where
+      among : HasKind (fault_of app words) e → (kind_of e ≡ kind.OutOfMemory → ⊥) → IsAmong (kind_of e) (fault_of salvage_app words)
+      among (inl is) other = absurd (other is)
+      among (inr is) other = subst (λ (kinds : Kinds). IsAmong (kind_of e) kinds) (ap (λ (a : App). fault_of a words) is_app) is
+
+      by_kind : (kind_of e ≡ kind.OutOfMemory) ⊎ (kind_of e ≡ kind.OutOfMemory → ⊥) → (kind_of e ≡ kind.OutOfMemory) ⊎ AreRefused words (kind_of e)
+      by_kind (inl is) = inl is
+      by_kind (inr other) = inr (record {
+        not_taken = λ taken. other (refused_for_memory (Err e) passes h taken);
+        found = among (h (ap is_simple_and_free is_app ∙ is_simple_command)) other;
+      })

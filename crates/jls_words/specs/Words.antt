@@ -1,7 +1,9 @@
 -- What the words of a command line ask for, by clap's own definition of what a simple command takes.
-use Rattle.std.specs.Prelude.{◌≡◌, ◌⊎◌, true, List, [], ◌∷◌, Some, codes}
-use Rattle.clap.specs.Words.{App, Row, Rule, Text, all_of, fault_of, first_of, new_app, new_rule, subcommand_of, takes, with_rule, with_subcommand}
+use Rattle.std.specs.Prelude.{◌≡◌, ◌⊎◌, Bool, true, false, List, [], ◌∷◌, Some, codes}
+use Rattle.clap.specs.Words.{App, Row, Rule, Text, all_of, fault_of, first_of, IsAmong, new_app, new_rule, subcommand_of, takes, with_rule, with_subcommand}
 use Rattle.clap.specs.declared.builder.ArgAction.TheVariants.{Append}
+use Rattle.clap.specs.declared.error.kind.ErrorKind.{ErrorKind}
+use Rattle.clap.specs.declared.error.kind.ErrorKind.TheVariants as kind
 
 -- OUT: one word
 abbrev pub out_rule : Rule
@@ -23,6 +25,16 @@ salvage_app =
 -- by clap's own definitions the program takes the words, or there is no fault in them
 abbrev pub AreTaken : List Text → Type 0
 AreTaken words = (takes salvage_app words ≡ true) ⊎ (fault_of salvage_app words ≡ [])
+
+abbrev pub is_help : ErrorKind → Bool
+is_help kind.DisplayHelp = true
+is_help kind.DisplayVersion = true
+is_help _ = false
+
+-- clap does not take the words, and this is one of the kinds of fault that its definition finds in them
+pub record AreRefused (words : List Text) (k : ErrorKind) : Type 0 where
+  pub not_taken : AreTaken words → ⊥
+  pub found : IsAmong k (fault_of salvage_app words)
 
 -- clap takes the words, and reads them as `join` with this output and these inputs, of which there is a first
 pub record ReadsAsJoin (words : List Text) (out first : Text) (others : List Text) : Type 0 where

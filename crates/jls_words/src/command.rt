@@ -1,10 +1,10 @@
 //! The command line.
 
-ghost use Rattle.std.specs.Prelude.{◌≡◌, ℕ, false, List, [], ◌∷◌, Some, IfSome, IsSomeAnd, IfOk, IfErr, map, codes};
+ghost use Rattle.std.specs.Prelude.{◌≡◌, ◌⊎◌, ℕ, false, List, [], ◌∷◌, Some, IfSome, IsSomeAnd, IfOk, IfErr, map, codes};
 ghost use Rattle.std.specs.String.{string_bytes};
 ghost use Rattle.clap.specs.Words.{Row, all_of, app_of, fault_of, first_of, kind_of, subcommand_of, subcommand_rows_of};
 ghost use Rattle.clap.specs.declared.builder.command.Command.TheViews.{out-Command};
-ghost use Rattle.jls_words.specs.Words.{AreTaken, join_app, salvage_app};
+ghost use Rattle.jls_words.specs.Words.{AreRefused, AreTaken, join_app, salvage_app};
 
 use clap::error::ErrorKind;
 use clap::{Arg, ArgAction, ArgMatches, Command, Error};
@@ -72,13 +72,14 @@ fn command<'a>(alloc: Global) -> Result<Command<'a>, AllocError>
         .subcommand(join)
 }
 
-/// What clap reads in the words, of which the first is the program's name. The rows of the subcommand are those of
-/// clap's own definition, which has no fault in words that are read; words that this definition takes are refused for
-/// want of memory alone.
+/// Parses the words with `clap`; the first word is the program's name. If clap's definition accepts the words, the only
+/// error is out of memory. Otherwise the error is out of memory, or of a kind that clap's definition finds in the words. If
+/// they are parsed, the definition finds no fault in them, and the rows of the subcommand are those that it gives.
 pub fn matches<'a>(alloc: Global, words: &'a [String]) -> Result<ArgMatches<'a>, Error>
     ensures rows { IfOk result (λ m. subcommand_rows_of m ≡ subcommand_of salvage_app (map string_bytes words.entry.now)) }
     ensures no_fault { IfOk result (λ m. fault_of salvage_app (map string_bytes words.entry.now) ≡ []) }
     ensures passes { IfErr result (λ e. AreTaken (map string_bytes words.entry.now) → kind_of e ≡ ErrorKind.OutOfMemory) }
+    ensures refused { IfErr result (λ e. (kind_of e ≡ ErrorKind.OutOfMemory) ⊎ AreRefused (map string_bytes words.entry.now) (kind_of e)) }
 {
     command(alloc)?.try_get_matches_from(words)
 }

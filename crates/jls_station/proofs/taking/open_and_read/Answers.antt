@@ -1,18 +1,17 @@
-use Rattle.jls_station.proofs.Opening.{opened_and_read, refused_for}
-use Rattle.jls_device.proofs.Counting.{none_failed_opened}
+use Rattle.jls_station.proofs.InTurn.{opened_and_given, opened_and_refused, not_opened_at_all}
 use Rattle.jls_station.proofs.taking.open_and_read.Goals as goal
 
-pub returns-in-Ok-read_input-clause-inputs : goal.returns-in-Ok-read_input-clause-inputs
-returns-in-Ok-read_input-clause-inputs g c =
+pub returns-in-Err-clause-stopped : goal.returns-in-Err-clause-stopped
+returns-in-Err-clause-stopped g c before =
     let history = g.D.Device.history in
-    opened_and_read (history c.args.desk.now) (history c.open_input.new.self) (history c.read_input.new.source) c.args.name.now _ c.in-Ok.ensures.opened c.in-Ok-read_input.ensures.text
+    not_opened_at_all (history c.args.desk.now) (history c.open_input.new.self) (history c.open_input.new.self) c.args.name.now before c.in-Err.ensures.failed
 
-pub returns-in-Err-read_input-clause-refused : goal.returns-in-Err-read_input-clause-refused
-returns-in-Err-read_input-clause-refused g c =
+pub returns-in-Ok-read_input-clause-taken : goal.returns-in-Ok-read_input-clause-taken
+returns-in-Ok-read_input-clause-taken g c =
     let history = g.D.Device.history in
-    refused_for c.in-Err-read_input.fault (history c.args.desk.now) (history c.open_input.new.self) (history c.read_input.new.source) c.args.name.now c.in-Ok.ensures.opened c.in-Err-read_input.ensures.refused
+    opened_and_given (history c.args.desk.now) (history c.open_input.new.self) (history c.read_input.new.source) c.args.name.now c.in-Ok-read_input.partial c.in-Ok.ensures.opened c.in-Ok-read_input.ensures.given
 
-pub returns-in-Ok-read_input-clause-none_failed : goal.returns-in-Ok-read_input-clause-none_failed
-returns-in-Ok-read_input-clause-none_failed g c =
+pub returns-in-Err-read_input-clause-stopped : goal.returns-in-Err-read_input-clause-stopped
+returns-in-Err-read_input-clause-stopped g c before =
     let history = g.D.Device.history in
-    none_failed_opened (history c.args.desk.now) (history c.open_input.new.self) (history c.read_input.new.source) c.args.name.now c.in-Ok.ensures.opened c.in-Ok-read_input.ensures.none_failed
+    opened_and_refused (history c.args.desk.now) (history c.open_input.new.self) (history c.read_input.new.source) c.args.name.now c.in-Err-read_input.fault before c.in-Ok.ensures.opened c.in-Err-read_input.ensures.refused

@@ -1,0 +1,4 @@
+pub mod Finished
+pub mod Pieces
+pub mod RefusedWords
+pub mod Running

@@ -1,0 +1,40 @@
+-- The line on the fault output.
+use Rattle.std.specs.Prelude.{ℕ, List, [], ◌++◌, codes, decimal}
+use Rattle.jls_partial.specs.declared.text_fault.TextFault.{TextFault}
+use Rattle.jls_partial.specs.declared.text_fault.TextFault.TheVariants as text_fault
+use Rattle.jls_station.specs.declared.input.InputFault.TheVariants as fault
+use Rattle.jls_station.specs.declared.outcome.Cause.{Cause}
+use Rattle.jls_station.specs.declared.outcome.Cause.TheVariants as cause
+use Rattle.jls_station.specs.declared.outcome.Outcome.{Outcome}
+use Rattle.jls_station.specs.declared.outcome.Outcome.TheVariants.{Done, Refused}
+
+abbrev pub out_of_memory_line : List ℕ
+out_of_memory_line = codes "jls-salvage: out of memory\n"
+
+-- the line of a bad text of this name
+abbrev pub text_fault_line : List ℕ → TextFault → List ℕ
+text_fault_line name (text_fault.Magic offset) = codes "jls-salvage: " ++ (name ++ (codes ": bad text, magic at " ++ (decimal offset ++ codes "\n")))
+text_fault_line name (text_fault.BadShape offset) = codes "jls-salvage: " ++ (name ++ (codes ": bad text, shape at " ++ (decimal offset ++ codes "\n")))
+text_fault_line name (text_fault.Truncated offset) = codes "jls-salvage: " ++ (name ++ (codes ": bad text, truncated at " ++ (decimal offset ++ codes "\n")))
+text_fault_line name (text_fault.Place offset) = codes "jls-salvage: " ++ (name ++ (codes ": bad text, place at " ++ (decimal offset ++ codes "\n")))
+text_fault_line name (text_fault.Count offset) = codes "jls-salvage: " ++ (name ++ (codes ": bad text, count at " ++ (decimal offset ++ codes "\n")))
+text_fault_line name (text_fault.Order offset) = codes "jls-salvage: " ++ (name ++ (codes ": bad text, order at " ++ (decimal offset ++ codes "\n")))
+text_fault_line name (text_fault.Sample offset) = codes "jls-salvage: " ++ (name ++ (codes ": bad text, sample at " ++ (decimal offset ++ codes "\n")))
+text_fault_line name (text_fault.Trailing offset) = codes "jls-salvage: " ++ (name ++ (codes ": bad text, trailing at " ++ (decimal offset ++ codes "\n")))
+text_fault_line name text_fault.OutOfMemory = out_of_memory_line
+
+-- the line of a cause at an input or output of this name
+abbrev pub cause_line : List ℕ → Cause → List ℕ
+cause_line name cause.NotOpened = codes "jls-salvage: " ++ (name ++ codes ": cannot be opened\n")
+cause_line name (cause.Input (fault.Text f)) = text_fault_line name f
+cause_line name (cause.Input (fault.Read stop offset)) = codes "jls-salvage: " ++ (name ++ codes ": read failed\n")
+cause_line name (cause.Input fault.OutOfMemory) = out_of_memory_line
+cause_line name cause.ShapeDiffers = codes "jls-salvage: " ++ (name ++ codes ": shape differs\n")
+cause_line name cause.NotCreated = codes "jls-salvage: " ++ (name ++ codes ": cannot be created\n")
+cause_line name (cause.NotWritten count) = codes "jls-salvage: " ++ (name ++ (codes ": write failed after " ++ (decimal count ++ codes " bytes\n")))
+cause_line name cause.OutOfMemory = out_of_memory_line
+
+-- none where the command is done
+abbrev pub fault_line : Outcome → List ℕ
+fault_line (Done settled whole) = []
+fault_line (Refused r) = cause_line r.name.now r.cause

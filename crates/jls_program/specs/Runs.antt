@@ -1,0 +1,43 @@
+-- What a run of the program is.
+use Rattle.std.specs.Prelude.{◌≡◌, ℕ, true, false, List, [], ◌∷◌, ◌++◌, None, codes}
+use Rattle.clap.specs.Words.{Text}
+use Rattle.clap.specs.declared.error.kind.ErrorKind.{ErrorKind}
+use Rattle.jls_device.specs.Event.{Event, History}
+use Rattle.jls_device.specs.Writing.{Wrote, WroteFront, Printed}
+use Rattle.jls_station.specs.Joining.{Joins}
+use Rattle.jls_station.specs.Outcomes.{status_of}
+use Rattle.jls_station.specs.declared.outcome.Cause.TheVariants as cause
+use Rattle.jls_station.specs.declared.outcome.Outcome.{Outcome}
+use Rattle.jls_words.specs.Words.{AreTaken, AreRefused, ReadsAsJoin, is_help}
+use Rattle.jls_program.specs.FaultLines.{cause_line, fault_line, out_of_memory_line}
+
+-- a run over these words ends with this status; the events are those of the desk, of the report output and of the fault output
+pub data Run : List Text → ℕ → List Event → List Event → List Event → Type 0 where
+  -- clap reads the words as `join`: what comes of it has the status and the fault line, and nothing is reported
+  joined : (words : List Text) (out first : Text) (others : List Text) (outcome : Outcome) (desk faults : List Event)
+      → ReadsAsJoin words out first others → Joins None out (first ∷ others) outcome desk → Printed (fault_line outcome) faults
+      → Run words (status_of outcome) desk [] faults
+  -- clap refuses the words, and not to show help: its text goes to the fault output
+  misused : (words : List Text) (k : ErrorKind) (usage : List ℕ) (faults : List Event)
+      → AreRefused words k → is_help k ≡ false → Printed usage faults → Run words 2 [] [] faults
+  -- help or the version was asked for: it goes to the report output
+  helped : (words : List Text) (k : ErrorKind) (help : List ℕ) (report : List Event)
+      → AreRefused words k → is_help k ≡ true → Wrote help report → Run words 0 [] report []
+  -- and a write failed there
+  help_cut : (words : List Text) (k : ErrorKind) (help : List ℕ) (count : ℕ) (report faults : List Event)
+      → AreRefused words k → is_help k ≡ true → WroteFront help count report → Printed (cause_line (codes "-") (cause.NotWritten count)) faults
+      → Run words 4 [] report faults
+  -- memory ran out before a command began
+  nothing_begun : (words : List Text) (faults : List Event) → Printed out_of_memory_line faults → Run words 5 [] [] faults
+  -- clap takes the words, and they ask for nothing that there is
+  nothing_asked : (words : List Text) → AreTaken words → ((out first : Text) (others : List Text) → ReadsAsJoin words out first others → ⊥) → Run words 2 [] [] []
+
+-- the histories of the three devices grew by the events of such a run
+pub record Ran (words : List Text) (status : ℕ) (desk desk' report report' faults faults' : History) : Type 0 where
+  pub desk_events : List Event
+  pub report_events : List Event
+  pub fault_events : List Event
+  pub desk_is : desk' ≡ desk ++ desk_events
+  pub report_is : report' ≡ report ++ report_events
+  pub faults_are : faults' ≡ faults ++ fault_events
+  pub run : Run words status desk_events report_events fault_events

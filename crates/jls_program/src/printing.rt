@@ -1,0 +1,142 @@
+//! The lines on the fault output. A write that fails there is ignored: there is nowhere left to say so.
+
+ghost use Rattle.std.specs.Prelude.{◌≡◌, ◌++◌, codes, map, flat_map};
+ghost use Rattle.jls_device.specs.Event.{GrewBy};
+ghost use Rattle.jls_device.specs.Writing.{Printed};
+ghost use Rattle.jls_station.specs.declared.outcome.Outcome.TheVariants.{Refused};
+ghost use Rattle.jls_program.specs.FaultLines.{cause_line, text_fault_line, fault_line, out_of_memory_line};
+ghost use Rattle.jls_program.specs.Lines.{bytes_of};
+
+use itoa::Buffer;
+use jls_device::{Sink, write_all};
+use jls_partial::TextFault;
+use jls_station::{Cause, InputFault, Outcome, Refusal};
+
+/// A line by its parts: the name of an input or output, a text, a number, and the end. The program's name stands before
+/// them.
+#[derive(Clone, Copy)]
+struct Line<'a> {
+    name: &'a str,
+    text: &'static str,
+    number: Option<u64>,
+    end: &'static str,
+}
+
+/// A line without a number.
+fn plain<'a>(name: &'a str, text: &'static str) -> Line<'a>
+    ensures { bytes_of result ≡ codes "jls-salvage: " ++ (name.now ++ (text.now ++ codes "\n")) }
+{
+    Line {
+        name,
+        text,
+        number: None,
+        end: "\n",
+    }
+}
+
+fn out_of_memory<'a>() -> Line<'a>
+    ensures { bytes_of result ≡ out_of_memory_line }
+{
+    plain("", "out of memory")
+}
+
+fn line_of_text_fault<'a>(name: &'a str, fault: TextFault) -> Line<'a>
+    ensures { bytes_of result ≡ text_fault_line name.now fault }
+{
+    let (text, offset) = match fault {
+        TextFault::Magic(offset) => (": bad text, magic at ", offset),
+        TextFault::BadShape(offset) => (": bad text, shape at ", offset),
+        TextFault::Truncated(offset) => (": bad text, truncated at ", offset),
+        TextFault::Place(offset) => (": bad text, place at ", offset),
+        TextFault::Count(offset) => (": bad text, count at ", offset),
+        TextFault::Order(offset) => (": bad text, order at ", offset),
+        TextFault::Sample(offset) => (": bad text, sample at ", offset),
+        TextFault::Trailing(offset) => (": bad text, trailing at ", offset),
+        TextFault::OutOfMemory => return out_of_memory(),
+    };
+    Line {
+        name,
+        text,
+        number: Some(offset),
+        end: "\n",
+    }
+}
+
+fn line_of_cause<'a>(name: &'a str, cause: Cause) -> Line<'a>
+    ensures { bytes_of result ≡ cause_line name.now cause }
+{
+    match cause {
+        Cause::NotOpened => plain(name, ": cannot be opened"),
+        Cause::Input(InputFault::Text(fault)) => line_of_text_fault(name, fault),
+        Cause::Input(InputFault::Read(_, _)) => plain(name, ": read failed"),
+        Cause::ShapeDiffers => plain(name, ": shape differs"),
+        Cause::NotCreated => plain(name, ": cannot be created"),
+        Cause::NotWritten(count) => Line {
+            name,
+            text: ": write failed after ",
+            number: Some(count),
+            end: " bytes\n",
+        },
+        Cause::Input(InputFault::OutOfMemory) | Cause::OutOfMemory => out_of_memory(),
+    }
+}
+
+/// Prints pieces of a line, one after the other.
+fn print_pieces<E: Sink>(faults: &mut E, pieces: &[&[u8]])
+    ensures { GrewBy (Printed (flat_map (λ p. p.now) pieces.now)) (E.history faults.old) (E.history faults.new) }
+{
+    for piece in pieces {
+        match write_all(faults, piece) {
+            Ok(()) => {}
+            Err(_) => return,
+        }
+    }
+}
+
+fn print_line<E: Sink>(faults: &mut E, line: &Line<'_>)
+    ensures { GrewBy (Printed (bytes_of line.now)) (E.history faults.old) (E.history faults.new) }
+{
+    let program = b"jls-salvage: ".as_slice();
+    let name = line.name.as_bytes();
+    let text = line.text.as_bytes();
+    let end = line.end.as_bytes();
+    match line.number {
+        Some(number) => {
+            let mut buffer = Buffer::new();
+            let digits = buffer.format(number).as_bytes();
+            print_pieces(faults, &[program, name, text, digits, end])
+        }
+        None => print_pieces(faults, &[program, name, text, end]),
+    }
+}
+
+/// Prints a text to the fault output.
+pub(crate) fn print_text<E: Sink>(faults: &mut E, text: &str)
+    ensures { GrewBy (Printed text.now) (E.history faults.old) (E.history faults.new) }
+{
+    print_pieces(faults, &[text.as_bytes()])
+}
+
+/// Prints that memory ran out.
+pub(crate) fn print_out_of_memory<E: Sink>(faults: &mut E)
+    ensures { GrewBy (Printed out_of_memory_line) (E.history faults.old) (E.history faults.new) }
+{
+    print_line(faults, &out_of_memory())
+}
+
+/// Prints why a command stopped, as one line.
+pub(crate) fn print_refusal<E: Sink>(faults: &mut E, refusal: &Refusal<'_>)
+    ensures { GrewBy (Printed (cause_line refusal.now.name.now refusal.now.cause)) (E.history faults.old) (E.history faults.new) }
+{
+    print_line(faults, &line_of_cause(refusal.name, refusal.cause))
+}
+
+/// Prints the line of what came of a command, if it has one.
+pub(crate) fn print_outcome<E: Sink>(faults: &mut E, outcome: &Outcome<'_>)
+    ensures { GrewBy (Printed (fault_line outcome.now)) (E.history faults.old) (E.history faults.new) }
+{
+    match outcome {
+        Outcome::Done { .. } => {}
+        Outcome::Refused(refusal) => print_refusal(faults, refusal),
+    }
+}

@@ -1,0 +1,47 @@
+//! The program without its main.
+
+ghost use Rattle.std.specs.Prelude.{map};
+ghost use Rattle.std.specs.String.{string_bytes};
+ghost use Rattle.jls_program.specs.Runs.{Ran};
+
+use crate::answering::answer;
+use crate::printing::print_outcome;
+use jls_device::{Desk, Sink};
+use jls_station::join;
+use jls_words::{join_words, matches};
+use std::alloc::Global;
+
+/// The program `jls-salvage`. The words begin with the program's own name, and the answer is the exit status:
+///
+/// - 0: done, and each line of what was written is settled, or help was asked for;
+/// - 1: done, with lines that are missing or disputed;
+/// - 2: the words were not understood;
+/// - 3: an input is not the text of a partial picture, or shapes differ;
+/// - 4: an input can't be opened or read, the output can't be created, or a write failed;
+/// - 5: out of memory.
+///
+/// What clap's help and usage texts say is tested, not proved.
+pub fn run<D: Desk, W: Sink, E: Sink>(
+    alloc: Global,
+    words: &[String],
+    desk: &mut D,
+    report: &mut W,
+    faults: &mut E,
+) -> u8
+    ensures { Ran (map string_bytes words.now) result (D.history desk.old) (D.history desk.new)
+        (W.history report.old) (W.history report.new) (E.history faults.old) (E.history faults.new) }
+{
+    let matches = match matches(alloc, words) {
+        Ok(matches) => matches,
+        Err(error) => return answer(alloc, &error, report, faults),
+    };
+    match join_words(&matches) {
+        Some((out, first, others)) => {
+            let outcome = join(alloc, desk, out, first, others);
+            print_outcome(faults, &outcome);
+            outcome.status()
+        }
+        // Not reached: clap asks for a command, and there is no other.
+        None => 2,
+    }
+}

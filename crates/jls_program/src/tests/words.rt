@@ -1,0 +1,64 @@
+//! Words that are not `join`.
+
+use super::memory::{GOOD, MemoryFiles};
+use super::pictures::FILES;
+use super::{run_line, run_words};
+use jls_device::Counted;
+use std::io;
+use std::io::Write;
+use std::test::Fail;
+
+/// Words and the status: 2 with a line on the fault output, or 0 with help on the report output.
+const WORDS: [(&str, u8); 8] = [
+    ("", 2),
+    ("join", 2),
+    ("join OUT", 2),
+    ("show T", 2),
+    ("join --loud OUT T", 2),
+    ("--help", 0),
+    ("join --help", 0),
+    ("help join", 0),
+];
+
+#[test]
+fn answers_other_words(rt: HostRuntime) -> Result<(), Fail> {
+    for &(words, status) in &WORDS {
+        let found = run_words(rt.alloc(), words, GOOD)?;
+        let is_help = status == 0;
+        let told = (
+            found.status,
+            found.faults.is_empty(),
+            found.report.is_empty(),
+        );
+        assert_eq!(rt; told, (status, is_help, !is_help), "{words}");
+        assert!(rt; found.output.is_none());
+    }
+    Ok(())
+}
+
+/// A stream whose writes take nothing.
+#[derive(Drop)]
+struct Broken;
+
+impl Write for Broken {
+    fn write(&mut self, _buf: &[u8]) -> io::Result<usize> {
+        Ok(0)
+    }
+
+    fn flush(&mut self) -> io::Result<()> {
+        Ok(())
+    }
+}
+
+#[test]
+fn says_where_help_stopped(rt: HostRuntime) -> Result<(), Fail> {
+    let alloc = rt.alloc();
+    let mut files = MemoryFiles::new(alloc, &FILES, GOOD);
+    let (status, faults) = run_line(alloc, "--help", &mut files, &mut Counted::new(Broken))?;
+    assert_eq!(rt; status, 4);
+    assert_eq!(rt;
+        faults.as_slice(),
+        b"jls-salvage: -: write failed after 0 bytes\n".as_slice()
+    );
+    Ok(())
+}

@@ -1,0 +1,24 @@
+-- The exit status of what came of a command.
+use Rattle.std.specs.Prelude.{ℕ, true, false}
+use Rattle.jls_station.specs.declared.input.InputFault.TheVariants as fault
+use Rattle.jls_station.specs.declared.outcome.Cause.{Cause}
+use Rattle.jls_station.specs.declared.outcome.Cause.TheVariants as cause
+use Rattle.jls_station.specs.declared.outcome.Outcome.{Outcome}
+use Rattle.jls_station.specs.declared.outcome.Outcome.TheVariants.{Done, Refused}
+
+abbrev pub status_of_cause : Cause → ℕ
+status_of_cause cause.NotOpened = 4
+status_of_cause (cause.Input (fault.Text f)) = 3
+status_of_cause (cause.Input (fault.Read stop offset)) = 4
+status_of_cause (cause.Input fault.OutOfMemory) = 5
+status_of_cause cause.ShapeDiffers = 3
+status_of_cause cause.NotCreated = 4
+status_of_cause (cause.NotWritten count) = 4
+status_of_cause cause.OutOfMemory = 5
+
+-- done: 4 where an input was not read whole, else 0 or 1 as all lines are settled or not
+abbrev pub status_of : Outcome → ℕ
+status_of (Done settled false) = 4
+status_of (Done true true) = 0
+status_of (Done false true) = 1
+status_of (Refused r) = status_of_cause r.cause

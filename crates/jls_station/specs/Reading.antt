@@ -1,0 +1,39 @@
+-- How an input is read: as long as there is reason to, and no longer.
+use Rattle.std.specs.Prelude.{◌≡◌, ℕ, ◌<◌, ◌≤◌, ◌⊎◌, List, [], ◌∷◌, ◌++◌, length}
+use Rattle.jls_device.specs.Event.{Event, gave, read_failed, bytes_given}
+use Rattle.jls_station.specs.declared.input.ReadStop.{ReadStop}
+use Rattle.jls_station.specs.declared.input.ReadStop.TheVariants.{Whole, Failed, Turns}
+
+-- IsEnough says of the bytes that an input gave so far whether any more are wanted
+
+-- reads of at most 4096 bytes, each of which gave some while what was given before, from these bytes on, was not enough
+abbrev pub GoesOn : (List ℕ → Type 0) → List ℕ → List Event → Type 0
+GoesOn IsEnough fed [] = Unit {0}
+GoesOn IsEnough fed (gave room bytes ∷ more) =
+    (room ≤ 4096) × (0 < length bytes) × (IsEnough fed → ⊥) × GoesOn IsEnough (fed ++ bytes) more
+GoesOn IsEnough fed (_ ∷ more) = ⊥
+
+-- why no read follows on these bytes, and the read that says so, where one does: they are enough; or they are not, and a
+-- read with room met the end, or a read failed, or the turns are used up
+abbrev pub StopsWith : (List ℕ → Type 0) → List ℕ → List Event → ReadStop → Type 0
+StopsWith IsEnough bytes [] Whole = IsEnough bytes
+StopsWith IsEnough bytes [] Turns = IsEnough bytes → ⊥
+StopsWith IsEnough bytes (gave room [] ∷ []) Whole = (0 < room) × (room ≤ 4096) × (IsEnough bytes → ⊥)
+StopsWith IsEnough bytes (read_failed ∷ []) Failed = IsEnough bytes → ⊥
+StopsWith IsEnough bytes _ _ = ⊥
+
+-- all reads of one input, the bytes that they gave, and how they stopped
+pub record IsRead (IsEnough : List ℕ → Type 0) (reads : List Event) (bytes : List ℕ) (stop : ReadStop) : Type 0 where
+  pub on : List Event
+  pub last : List Event
+  pub reads_are : reads ≡ on ++ last
+  pub goes_on : GoesOn IsEnough [] on
+  pub bytes_are : bytes ≡ bytes_given on
+  pub stops : StopsWith IsEnough bytes last stop
+  pub at_most : length reads ≤ 4294967295
+  pub used_up : stop ≡ Turns → length reads ≡ 4294967295
+
+-- an input was read so far and no further, whether or not there was reason to go on
+abbrev pub IsReadSoFar : (List ℕ → Type 0) → List Event → Type 0
+IsReadSoFar IsEnough reads =
+    (GoesOn IsEnough [] reads × (length reads ≤ 4294967295)) ⊎ ((bytes : List ℕ) × (stop : ReadStop) × IsRead IsEnough reads bytes stop)

@@ -1,0 +1,73 @@
+//! What comes of a command.
+
+ghost use Rattle.std.specs.Prelude.{◌≡◌};
+
+use crate::input::InputFault;
+
+/// Why a command stopped.
+#[derive(Clone, Copy, Debug, PartialEq, Eq)]
+pub enum Cause {
+    /// An input can't be opened.
+    NotOpened,
+    /// An input could not be read to its end, is no text, or memory ran out for it.
+    Input(InputFault),
+    /// An input has another shape than the first.
+    ShapeDiffers,
+    /// The output can't be created.
+    NotCreated,
+    /// A write failed when so many bytes had gone out.
+    NotWritten(u64),
+    /// Memory ran out.
+    OutOfMemory,
+}
+
+/// Why a command stopped, and the name of the input or output at which it did.
+#[derive(Clone, Copy, Debug, PartialEq, Eq)]
+pub struct Refusal<'a> {
+    pub name: &'a str,
+    pub cause: Cause,
+}
+
+/// What came of a command.
+#[derive(Clone, Copy, Debug, PartialEq, Eq)]
+pub enum Outcome<'a> {
+    /// It is done. `settled` is true if and only if every line of what it made is settled, and `whole` if and only if
+    /// every input was read to its end.
+    Done { settled: bool, whole: bool },
+    /// It stopped before it was done.
+    Refused(Refusal<'a>),
+}
+
+impl Cause {
+    ghost use Rattle.jls_station.specs.Outcomes.{status_of_cause};
+
+    /// The exit status: 3 if an input is no text or shapes differ, 4 if a device failed or the reads of an input were used
+    /// up, 5 if memory ran out.
+    pub fn status(self) -> u8
+        ensures { result ≡ status_of_cause self }
+    {
+        match self {
+            Cause::Input(InputFault::Text(_)) | Cause::ShapeDiffers => 3,
+            Cause::Input(InputFault::OutOfMemory) | Cause::OutOfMemory => 5,
+            Cause::Input(InputFault::Read(_, _)) => 4,
+            Cause::NotOpened | Cause::NotCreated | Cause::NotWritten(_) => 4,
+        }
+    }
+}
+
+impl Outcome<'_> {
+    ghost use Rattle.jls_station.specs.Outcomes.{status_of};
+
+    /// The exit status: for a command that is done 4 if an input was not read to its end, else 0 if every line is settled
+    /// and 1 if not; for a refusal that of its cause.
+    pub fn status(self) -> u8
+        ensures { result ≡ status_of self.entry }
+    {
+        match self {
+            Outcome::Done { whole: false, .. } => 4,
+            Outcome::Done { settled: true, .. } => 0,
+            Outcome::Done { .. } => 1,
+            Outcome::Refused(refusal) => refusal.cause.status(),
+        }
+    }
+}
