@@ -7,7 +7,7 @@ use types.Kit.{Goal, Step, step, Item, ‵, ◌$◌, fjoin, fpack, feq_i}
 use denote.RattleType.{Valss}
 use denote.Steps.{nothing}
 use denote.Struct.Struct.{within}
-use Rattle.jls_device.specs.History.{History}
+use Rattle.jls_device.specs.Event.{History}
 use Rattle.jls_device.specs.contracts.history.HistoryCell.{the_row as Cell}
 
 -- a struct with no field, as the machine has it

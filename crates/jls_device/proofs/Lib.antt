@@ -1,4 +1,5 @@
 pub mod CellMade
 pub mod Counting
-pub mod Histories
-pub mod WritingWhole
+pub mod Growing
+pub mod Known
+pub mod Writes

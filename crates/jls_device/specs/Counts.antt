@@ -1,10 +1,11 @@
--- The counts of a device against its history.
-use Rattle.std.specs.Prelude.{◌≡◌, ℕ}
-use Rattle.jls_device.specs.History.{History}
+-- What a device keeps of its history as it runs.
+use Rattle.std.specs.Prelude.{◌≡◌, ℕ, Bool}
+use Rattle.jls_device.specs.Event.{History, count_of, has_input, has_output, is_read, is_failed_read, is_failed_write, is_failed_opening}
 
--- these numbers are the history's counts
-pub record AreCountsOf (h : History) (reads read_failures write_failures open_failures : ℕ) : Type 0 where
-  pub reads_counted : reads ≡ h.reads
-  pub read_failures_counted : read_failures ≡ h.read_failures
-  pub write_failures_counted : write_failures ≡ h.write_failures
-  pub open_failures_counted : open_failures ≡ h.open_failures
+pub record AreOf (h : History) (reads read_failures write_failures open_failures : ℕ) (input_is_open output_is_open : Bool) : Type 0 where
+  pub reads_are : reads ≡ count_of is_read h
+  pub read_failures_are : read_failures ≡ count_of is_failed_read h
+  pub write_failures_are : write_failures ≡ count_of is_failed_write h
+  pub open_failures_are : open_failures ≡ count_of is_failed_opening h
+  pub input_is : input_is_open ≡ has_input h
+  pub output_is : output_is_open ≡ has_output h

@@ -1,14 +1,82 @@
--- One event in the life of a device, and the history after it.
-use Rattle.jls_device.specs.declared.history.Event.{Event}
-use Rattle.jls_device.specs.declared.history.Event.TheVariants.{Read, FailedRead, Write, FailedWrite, Open, Create, FailedOpen}
-use Rattle.jls_device.specs.History.{History, after_read, after_failed_read, after_write, after_failed_write, after_open, after_create, after_failed_open}
+-- The history of a device: the events of its life, in their order.
+use Rattle.std.specs.Prelude.{◌≡◌, ℕ, ◌-◌, ◌^◌, Bool, true, false, List, [], ◌++◌, length, filter, min}
+use Rattle.std.specs.List.{flat_map, list_any}
 
--- the history after the event
-abbrev pub after : History → Event → History
-after h (Read room bytes) = after_read h room bytes.now
-after h FailedRead = after_failed_read h
-after h (Write bytes) = after_write h bytes.now
-after h FailedWrite = after_failed_write h
-after h (Open name) = after_open h name.now
-after h (Create name) = after_create h name.now
-after h FailedOpen = after_failed_open h
+-- an input was opened by its name, or was not; a read with room for so many bytes gave these, or failed; an output was
+-- created by its name, or was not; a write took these bytes, or failed
+pub data Event : Type 0 where
+  opened : List ℕ → Event
+  not_opened : List ℕ → Event
+  gave : ℕ → List ℕ → Event
+  read_failed : Event
+  created : List ℕ → Event
+  not_created : List ℕ → Event
+  took : List ℕ → Event
+  write_failed : Event
+
+abbrev pub History : Type 0
+History = List Event
+
+-- ---- what kind of event it is
+
+abbrev pub is_opening : Event → Bool
+is_opening (opened name) = true
+is_opening _ = false
+
+abbrev pub is_creation : Event → Bool
+is_creation (created name) = true
+is_creation _ = false
+
+abbrev pub is_read : Event → Bool
+is_read (gave room bytes) = true
+is_read read_failed = true
+is_read _ = false
+
+abbrev pub is_failed_read : Event → Bool
+is_failed_read read_failed = true
+is_failed_read _ = false
+
+abbrev pub is_failed_write : Event → Bool
+is_failed_write write_failed = true
+is_failed_write _ = false
+
+abbrev pub is_failed_opening : Event → Bool
+is_failed_opening (not_opened name) = true
+is_failed_opening (not_created name) = true
+is_failed_opening _ = false
+
+-- ---- what a history tells
+
+-- how many events of a kind there are; the count has 64 bits, and stops at its end
+abbrev pub count_of : (Event → Bool) → History → ℕ
+count_of test h = min (length (filter test h)) (2 ^ 64 - 1)
+
+-- an input was opened, and so reads have one that they go to
+abbrev pub has_input : History → Bool
+has_input h = list_any is_opening h
+
+-- an output was created, and so writes have one that they go to
+abbrev pub has_output : History → Bool
+has_output h = list_any is_creation h
+
+abbrev pub bytes_given_by : Event → List ℕ
+bytes_given_by (gave room bytes) = bytes
+bytes_given_by _ = []
+
+abbrev pub bytes_taken_by : Event → List ℕ
+bytes_taken_by (took bytes) = bytes
+bytes_taken_by _ = []
+
+-- what reads gave
+abbrev pub bytes_given : List Event → List ℕ
+bytes_given events = flat_map bytes_given_by events
+
+-- what writes took
+abbrev pub bytes_taken : List Event → List ℕ
+bytes_taken events = flat_map bytes_taken_by events
+
+-- the history grew by events, and they are such: nothing else was done
+pub record GrewBy (Are : List Event → Type 0) (old new : History) : Type 0 where
+  pub events : List Event
+  pub grew : new ≡ old ++ events
+  pub they_are : Are events

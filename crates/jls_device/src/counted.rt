@@ -1,22 +1,34 @@
 //! Devices made from std's readers and writers.
 
-ghost use Rattle.std.specs.Prelude.{◌≡◌, [], length};
-ghost use Rattle.jls_device.specs.History.{blank, after_open, after_create};
+ghost use Rattle.std.specs.Prelude.{◌≡◌, [], ◌∷◌};
+ghost use Rattle.jls_device.specs.Event.{History, opened, created, has_input};
+ghost use Rattle.jls_device.specs.Remaining.{remaining_behind};
 
-use crate::device::{Device, Sink, SinkFault, Source, SourceFault};
+use crate::device::{Desk, DeskFault, Device, Sink, SinkFault, Source, SourceFault};
+use crate::history::Noted;
 use crate::ledger::Ledger;
+use std::io;
 use std::io::{Read, Write};
 
-/// A reader or a writer of std as a device whose one input or output, without a name, is open from the start.
+/// Inputs and outputs that are opened by their names. Reads go to the input that was opened last, and writes to the
+/// output that was created last.
+pub trait Open {
+    /// Opens the input of this name.
+    fn open_input(&mut self, name: &str) -> io::Result<()>;
+
+    /// Creates the output of this name, or empties it.
+    fn create_output(&mut self, name: &str) -> io::Result<()>;
+}
+
+/// A device over a reader, a writer or files of std: it notes each call, with what the call gave or took.
 ///
-/// Every error counts as a failure, an interrupted call too, and so does a write that took 0 bytes. Nothing is
-/// buffered, so what a write took has gone to the writer.
+/// Every error counts as a failure, an interrupted call too, and so does a write that took 0 of some bytes. Nothing is
+/// buffered, so what a write took has gone to the writer. A read while no input is open gives 0 bytes, and a write while no
+/// output is open fails; the stream behind is not asked.
 #[derive(Drop)]
 pub struct Counted<T> {
     inner: T,
     ledger: Ledger,
-    ghost input_open: { length ledger.inputs ≡ 1 },
-    ghost output_open: { length ledger.outputs ≡ 1 },
 }
 
 impl<T> Device for Counted<T> {
@@ -24,27 +36,42 @@ impl<T> Device for Counted<T> {
 }
 
 impl<T> Counted<T> {
-    /// The device over this reader or writer, with all its counts 0.
+    /// The device over this reader or writer, which is open from the start and has no name.
     pub fn new(inner: T) -> Counted<T>
-        ensures { ⟦<Counted<T> as Device>⟧.history result ≡ after_create (after_open blank []) [] }
+        ensures { ⟦<Counted<T> as Device>⟧.history result ≡ opened [] ∷ created [] ∷ [] }
     {
-        let mut ledger = Ledger::new();
-        ledger.opened("");
-        ledger.created("");
-        Counted { inner, ledger }
+        let mut counted = Counted::closed(inner);
+        counted.ledger.note(Noted::Opened(""));
+        counted.ledger.note(Noted::Created(""));
+        counted
+    }
+
+    /// The desk over these files, of which none is open yet.
+    pub fn closed(inner: T) -> Counted<T>
+        ensures { ⟦<Counted<T> as Device>⟧.history result ≡ [] }
+    {
+        Counted {
+            inner,
+            ledger: Ledger::new(),
+        }
     }
 }
 
 impl<R: Read> Source for Counted<R> {
-    #[tactic(auto, using(crate::proofs::Histories::length_on_last))]
+    ghost remaining = { λ c. remaining_behind (has_input c.ledger) (R.remaining c.inner) };
+
     fn read_some(&mut self, into: &mut [u8]) -> Result<usize, SourceFault> {
+        if !self.ledger.has_input() {
+            self.ledger.note(Noted::Gave(into.len(), &[]));
+            return Ok(0);
+        }
         match self.inner.read(into) {
             Ok(n) => {
-                self.ledger.read(into.len(), &into[..n]);
+                self.ledger.note(Noted::Gave(into.len(), &into[..n]));
                 Ok(n)
             }
             Err(_) => {
-                self.ledger.read_failed();
+                self.ledger.note(Noted::ReadFailed);
                 Err(SourceFault)
             }
         }
@@ -60,21 +87,55 @@ impl<R: Read> Source for Counted<R> {
 }
 
 impl<W: Write> Sink for Counted<W> {
-    #[tactic(auto, using(crate::proofs::Histories::length_on_last))]
+    ghost contents = { λ c. W.contents c.inner };
+
     fn write_some(&mut self, bytes: &[u8]) -> Result<usize, SinkFault> {
-        match self.inner.write(bytes) {
-            Ok(n) if n > 0 || bytes.is_empty() => {
-                self.ledger.written(&bytes[..n]);
-                Ok(n)
-            }
-            _ => {
-                self.ledger.write_failed();
-                Err(SinkFault)
+        if self.ledger.has_output() {
+            match self.inner.write(bytes) {
+                Ok(n) if n > 0 || bytes.is_empty() => {
+                    self.ledger.note(Noted::Took(&bytes[..n]));
+                    return Ok(n);
+                }
+                _ => {}
             }
         }
+        self.ledger.note(Noted::WriteFailed);
+        Err(SinkFault)
     }
 
     fn write_failures(&self) -> u64 {
         self.ledger.write_failures()
+    }
+}
+
+impl<F: Read + Write + Open> Desk for Counted<F> {
+    fn open_input(&mut self, name: &str) -> Result<(), DeskFault> {
+        match self.inner.open_input(name) {
+            Ok(()) => {
+                self.ledger.note(Noted::Opened(name));
+                Ok(())
+            }
+            Err(_) => {
+                self.ledger.note(Noted::NotOpened(name));
+                Err(DeskFault)
+            }
+        }
+    }
+
+    fn create_output(&mut self, name: &str) -> Result<(), DeskFault> {
+        match self.inner.create_output(name) {
+            Ok(()) => {
+                self.ledger.note(Noted::Created(name));
+                Ok(())
+            }
+            Err(_) => {
+                self.ledger.note(Noted::NotCreated(name));
+                Err(DeskFault)
+            }
+        }
+    }
+
+    fn open_failures(&self) -> u64 {
+        self.ledger.open_failures()
     }
 }

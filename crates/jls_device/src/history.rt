@@ -1,30 +1,70 @@
 //! The history of a device as a value that clauses read.
 
-ghost use Rattle.std.specs.Prelude.{◌≡◌};
+ghost use Rattle.std.specs.Prelude.{◌≡◌, [], ◌∷◌, ◌++◌};
 ghost use Rattle.std.specs.Borrow.{ftrue};
-ghost use Rattle.jls_device.specs.History.{History, blank};
-ghost use Rattle.jls_device.specs.HistoryCode.{coded_history};
+ghost use Rattle.jls_device.specs.Event.{History, is_read, is_failed_read, is_failed_write, is_failed_opening, is_opening, is_creation};
+ghost use Rattle.jls_device.specs.EventCode.{coded_history};
 
 use std::marker::Model;
 
-/// An event in the life of a device.
+/// An event that a device notes.
 #[derive(Clone, Copy, Drop)]
-pub(crate) enum Event<'a> {
-    /// A read into a buffer of this length gave these bytes.
-    Read(usize, &'a [u8]),
-    FailedRead,
-    /// A write took these bytes.
-    Write(&'a [u8]),
-    FailedWrite,
+pub(crate) enum Noted<'a> {
     /// The input of this name was opened.
-    Open(&'a str),
+    Opened(&'a str),
+    NotOpened(&'a str),
+    /// A read into a buffer of this length gave these bytes.
+    Gave(usize, &'a [u8]),
+    ReadFailed,
     /// The output of this name was created.
-    Create(&'a str),
-    /// An input wasn't opened, or an output wasn't created.
-    FailedOpen,
+    Created(&'a str),
+    NotCreated(&'a str),
+    /// A write took these bytes.
+    Took(&'a [u8]),
+    WriteFailed,
 }
 
-/// A history that only clauses read. It takes no memory, and its methods do nothing when the program runs.
+impl Noted<'_> {
+    ghost use Rattle.jls_device.specs.Noted.{event_of};
+
+    pub(crate) fn is_opening(&self) -> bool
+        ensures { result ≡ is_opening (event_of self.now) }
+    {
+        matches!(self, Noted::Opened(_))
+    }
+
+    pub(crate) fn is_creation(&self) -> bool
+        ensures { result ≡ is_creation (event_of self.now) }
+    {
+        matches!(self, Noted::Created(_))
+    }
+
+    pub(crate) fn is_read(&self) -> bool
+        ensures { result ≡ is_read (event_of self.now) }
+    {
+        matches!(self, Noted::Gave(_, _) | Noted::ReadFailed)
+    }
+
+    pub(crate) fn is_failed_read(&self) -> bool
+        ensures { result ≡ is_failed_read (event_of self.now) }
+    {
+        matches!(self, Noted::ReadFailed)
+    }
+
+    pub(crate) fn is_failed_write(&self) -> bool
+        ensures { result ≡ is_failed_write (event_of self.now) }
+    {
+        matches!(self, Noted::WriteFailed)
+    }
+
+    pub(crate) fn is_failed_opening(&self) -> bool
+        ensures { result ≡ is_failed_opening (event_of self.now) }
+    {
+        matches!(self, Noted::NotOpened(_) | Noted::NotCreated(_))
+    }
+}
+
+/// A history that only clauses read. It has size 0, and its methods do nothing when the program runs.
 #[derive(Drop)]
 pub(crate) struct HistoryCell {
     pub ghost history: { History } by { coded_history },
@@ -35,27 +75,27 @@ impl Model for HistoryCell {
 }
 
 impl HistoryCell {
-    ghost use Rattle.jls_device.specs.Event.{after};
+    ghost use Rattle.jls_device.specs.Noted.{event_of};
 
-    /// The history of a device at its start.
+    /// The history of a device to which nothing has happened yet.
     pub(crate) fn new() -> HistoryCell
-        ensures { result.history ≡ blank }
+        ensures { result.history ≡ [] }
     {
         HistoryCell {}
     }
 
     /// The history after one event more.
-    fn then(&self, _event: &Event<'_>) -> HistoryCell
-        ensures { result.history ≡ after self.now.history _event.now }
+    fn then(&self, _event: &Noted<'_>) -> HistoryCell
+        ensures { result.history ≡ self.now.history ++ event_of _event.now ∷ [] }
     {
         HistoryCell {}
     }
 
     /// Notes an event.
-    pub(crate) fn note(&mut self, event: Event<'_>)
-        ensures { self.new.history ≡ after self.old.history event.entry }
+    pub(crate) fn note(&mut self, event: &Noted<'_>)
+        ensures { self.new.history ≡ self.old.history ++ event_of event.now ∷ [] }
     {
-        let next = HistoryCell::then(self, &event);
+        let next = HistoryCell::then(self, event);
         *self = next;
     }
 }

@@ -1,45 +1,48 @@
 //! The counts of a device, kept beside its history.
 
-ghost use Rattle.std.specs.Prelude.{◌≡◌};
-ghost use Rattle.jls_device.specs.History;
+ghost use Rattle.std.specs.Prelude.{◌≡◌, Bool, ◌+◌, ◌-◌, ◌^◌, min, [], ◌∷◌, ◌++◌, if◌then◌else◌};
 
-use crate::history::{Event, HistoryCell};
+use crate::history::{HistoryCell, Noted};
 use std::marker::Model;
 
-/// What a device notes of its calls. Clauses see the whole history; the counts alone take memory.
+/// What a device keeps of its history as it runs. Clauses see the whole history.
 #[derive(Drop)]
-pub struct Ledger {
+pub(crate) struct Ledger {
     cell: HistoryCell,
     reads: u64,
     read_failures: u64,
     write_failures: u64,
     open_failures: u64,
+    has_input: bool,
+    has_output: bool,
 }
 
 impl Model for Ledger {
-    ghost use Rattle.jls_device.specs.History.{History};
-    ghost use Rattle.jls_device.specs.Counts.{AreCountsOf};
+    ghost use Rattle.jls_device.specs.Event.{History};
+    ghost use Rattle.jls_device.specs.Counts.{AreOf};
 
     ghost Value = { History };
 
     ghost view = { λ l. l.cell.history };
 
-    ghost invariant = { λ l. AreCountsOf l.cell.history l.reads l.read_failures l.write_failures l.open_failures };
+    ghost invariant = { λ l. AreOf l.cell.history l.reads l.read_failures l.write_failures l.open_failures l.has_input l.has_output };
 }
 
-/// One more, where there is room.
-fn saturating_increment(n: u64) -> u64
-    ensures { result ≡ History.saturating_increment n }
+/// One more where the event is counted. The count stops at 2^64 - 1.
+fn counted(n: u64, is_counted: bool) -> u64
+    ensures { result ≡ (if is_counted then min (n + 1) (2 ^ 64 - 1) else n) }
 {
-    if n < u64::MAX { n + 1 } else { n }
+    if is_counted { n.saturating_add(1) } else { n }
 }
 
 impl Ledger {
-    ghost use Rattle.jls_device.specs.History.{blank, after_read, after_failed_read, after_write, after_failed_write, after_open, after_create, after_failed_open};
+    ghost use Rattle.jls_device.specs.Event.{count_of, is_read, is_failed_read, is_failed_write, is_failed_opening};
+    ghost use Rattle.jls_device.specs.Event as event;
+    ghost use Rattle.jls_device.specs.Noted.{event_of};
 
-    /// The ledger of a device at its start: nothing is open, and each count is 0.
-    pub fn new() -> Ledger
-        ensures { result ≡ blank }
+    /// The ledger of a device to which nothing has happened yet.
+    pub(crate) fn new() -> Ledger
+        ensures { result ≡ [] }
     {
         Ledger {
             cell: HistoryCell::new(),
@@ -47,88 +50,59 @@ impl Ledger {
             read_failures: 0,
             write_failures: 0,
             open_failures: 0,
+            has_input: false,
+            has_output: false,
         }
     }
 
-    /// Notes that a read into a buffer of `room` bytes gave these bytes.
-    pub fn read(&mut self, room: usize, bytes: &[u8])
-        ensures { self.new ≡ after_read self.old room bytes.now }
+    /// Notes an event.
+    pub(crate) fn note(&mut self, event: Noted<'_>)
+        ensures { self.new ≡ self.old ++ event_of event.entry ∷ [] }
     {
-        self.cell.note(Event::Read(room, bytes));
-        self.reads = saturating_increment(self.reads);
+        self.cell.note(&event);
+        self.reads = counted(self.reads, event.is_read());
+        self.read_failures = counted(self.read_failures, event.is_failed_read());
+        self.write_failures = counted(self.write_failures, event.is_failed_write());
+        self.open_failures = counted(self.open_failures, event.is_failed_opening());
+        self.has_input = self.has_input || event.is_opening();
+        self.has_output = self.has_output || event.is_creation();
     }
 
-    /// Notes that a read failed.
-    pub fn read_failed(&mut self)
-        ensures { self.new ≡ after_failed_read self.old }
-    {
-        self.cell.note(Event::FailedRead);
-        self.reads = saturating_increment(self.reads);
-        self.read_failures = saturating_increment(self.read_failures);
-    }
-
-    /// Notes that a write took these bytes.
-    pub fn written(&mut self, bytes: &[u8])
-        ensures { self.new ≡ after_write self.old bytes.now }
-    {
-        self.cell.note(Event::Write(bytes));
-    }
-
-    /// Notes that a write failed.
-    pub fn write_failed(&mut self)
-        ensures { self.new ≡ after_failed_write self.old }
-    {
-        self.cell.note(Event::FailedWrite);
-        self.write_failures = saturating_increment(self.write_failures);
-    }
-
-    /// Notes that the input of this name was opened.
-    pub fn opened(&mut self, name: &str)
-        ensures { self.new ≡ after_open self.old name.now }
-    {
-        self.cell.note(Event::Open(name));
-    }
-
-    /// Notes that the output of this name was created.
-    pub fn created(&mut self, name: &str)
-        ensures { self.new ≡ after_create self.old name.now }
-    {
-        self.cell.note(Event::Create(name));
-    }
-
-    /// Notes that an input could not be opened, or an output not be created.
-    pub fn open_failed(&mut self)
-        ensures { self.new ≡ after_failed_open self.old }
-    {
-        self.cell.note(Event::FailedOpen);
-        self.open_failures = saturating_increment(self.open_failures);
-    }
-
-    /// How many reads were made; at 2^64 - 1 the count stays.
-    pub fn reads(&self) -> u64
-        ensures { result ≡ self.now.reads }
+    pub(crate) fn reads(&self) -> u64
+        ensures { result ≡ count_of is_read self.now }
     {
         self.reads
     }
 
-    /// How many reads failed; at 2^64 - 1 the count stays.
-    pub fn read_failures(&self) -> u64
-        ensures { result ≡ self.now.read_failures }
+    pub(crate) fn read_failures(&self) -> u64
+        ensures { result ≡ count_of is_failed_read self.now }
     {
         self.read_failures
     }
 
-    /// How many writes failed; at 2^64 - 1 the count stays.
-    pub fn write_failures(&self) -> u64
-        ensures { result ≡ self.now.write_failures }
+    pub(crate) fn write_failures(&self) -> u64
+        ensures { result ≡ count_of is_failed_write self.now }
     {
         self.write_failures
     }
 
-    /// How many inputs and outputs could not be opened or created; at 2^64 - 1 the count stays.
-    pub fn open_failures(&self) -> u64
-        ensures { result ≡ self.now.open_failures }
+    pub(crate) fn open_failures(&self) -> u64
+        ensures { result ≡ count_of is_failed_opening self.now }
     {
         self.open_failures
+    }
+
+    /// Whether an input was opened.
+    pub(crate) fn has_input(&self) -> bool
+        ensures { result ≡ event.has_input self.now }
+    {
+        self.has_input
+    }
+
+    /// Whether an output was created.
+    pub(crate) fn has_output(&self) -> bool
+        ensures { result ≡ event.has_output self.now }
+    {
+        self.has_output
     }
 }

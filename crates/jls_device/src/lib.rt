@@ -8,10 +8,9 @@ mod host;
 mod ledger;
 mod writing;
 
-pub use counted::Counted;
+pub use counted::{Counted, Open};
 pub use device::{Desk, DeskFault, Device, Sink, SinkFault, Source, SourceFault};
-pub use host::HostDesk;
-pub use ledger::Ledger;
+pub use host::HostFiles;
 pub use writing::write_all;
 
 #[cfg(test)]

@@ -1,12 +1,14 @@
 //! Calls that succeed and calls that fail, counted.
 
 use crate::counted::Counted;
-use crate::device::{Sink, Source};
+use crate::device::{Sink, SinkFault, Source, SourceFault};
 use crate::history::HistoryCell;
+use crate::writing::write_all;
 use std::io;
 use std::io::{Read, Write};
+use std::test::Fail;
 
-/// A stream whose calls fail, as if they were interrupted, but for writes of nothing, which take nothing.
+/// A stream whose calls fail as if they were interrupted, except that writes of nothing take nothing.
 #[derive(Drop)]
 struct Broken;
 
@@ -33,12 +35,41 @@ fn counts_calls_and_failures(rt: HostRuntime) {
     let mut good = Counted::new(eight);
     assert_eq!(rt; good.read_some(&mut buffer), Ok(4));
     assert_eq!(rt; good.read_some(&mut buffer), Ok(4));
-    assert_eq!(rt; (good.reads(), good.read_failures()), (2, 0));
+    assert_eq!(rt; good.read_some(&mut buffer), Ok(0));
+    assert_eq!(rt; (good.reads(), good.read_failures()), (3, 0));
     let mut broken = Counted::new(Broken);
-    assert!(rt; broken.read_some(&mut buffer).is_err());
+    assert_eq!(rt; broken.read_some(&mut buffer), Err(SourceFault));
     assert_eq!(rt; (broken.reads(), broken.read_failures()), (1, 1));
-    assert!(rt; broken.write_some(b"x").is_err());
+    assert_eq!(rt; broken.write_some(b"x"), Err(SinkFault));
     assert_eq!(rt; broken.write_some(b""), Ok(0));
     assert_eq!(rt; broken.write_failures(), 1);
     assert_eq!(rt; size_of::<HistoryCell>(), 0);
+}
+
+#[test]
+fn asks_no_stream_that_is_not_open(rt: HostRuntime) {
+    let mut closed = Counted::closed(Broken);
+    assert_eq!(rt; closed.read_some(&mut [0]), Ok(0));
+    assert_eq!(rt; closed.write_some(b""), Err(SinkFault));
+    assert_eq!(rt;
+        (
+            closed.reads(),
+            closed.read_failures(),
+            closed.write_failures()
+        ),
+        (1, 0, 1)
+    );
+}
+
+#[test]
+fn writes_whole(rt: HostRuntime) -> Result<(), Fail> {
+    let mut taken = Vec::new(rt.alloc());
+    assert_eq!(rt;
+        write_all(&mut Counted::new(&mut taken), b"12345678"),
+        Ok(())
+    );
+    assert_eq!(rt; taken.as_slice(), b"12345678".as_slice());
+    assert_eq!(rt; write_all(&mut Counted::new(Broken), b"12345678"), Err(0));
+    assert_eq!(rt; write_all(&mut Counted::new(Broken), b""), Ok(()));
+    Ok(())
 }

@@ -1,19 +1,19 @@
 //! Bytes written whole.
 
-ghost use Rattle.std.specs.Prelude.{◌≡◌, ◌≤◌, length, take, IfErr, OnOk};
-ghost use Rattle.jls_device.specs.Failures.{NoneFailed};
-ghost use Rattle.jls_device.specs.Reads.{RoseBy};
-ghost use Rattle.jls_device.specs.Writes.{Writes};
+ghost use Rattle.std.specs.Prelude.{take, IfErr, OnOk, MatchResult};
+ghost use Rattle.std.specs.Io.KnownBytes.{Appends};
+ghost use Rattle.jls_device.specs.Event.{GrewBy};
+ghost use Rattle.jls_device.specs.Writing.{Wrote, WroteFront};
 
 use crate::device::Sink;
 
-/// Hands all of the bytes to a sink. `Err` has the number of bytes that had gone out when a write failed.
+/// Hands all of the bytes to a sink. `Err` has the number of bytes that had gone out when a write failed; no further write
+/// is made then.
 pub fn write_all<W: Sink>(sink: &mut W, bytes: &[u8]) -> Result<(), u64>
-    ensures written { OnOk result (Writes (W.history sink.old) bytes.now (W.history sink.new)) }
-    ensures none_failed { OnOk result (NoneFailed (W.history sink.old) (W.history sink.new)) }
-    ensures within { IfErr result (λ count. count ≤ length bytes.now) }
-    ensures stopped { IfErr result (λ count. Writes (W.history sink.old) (take count bytes.now) (W.history sink.new)) }
-    ensures failed { IfErr result (λ _. RoseBy 1 (W.history sink.old).write_failures (W.history sink.new).write_failures) }
+    ensures written { OnOk result (GrewBy (Wrote bytes.now) (W.history sink.old) (W.history sink.new)) }
+    ensures stopped { IfErr result (λ count. GrewBy (WroteFront bytes.now count) (W.history sink.old) (W.history sink.new)) }
+    ensures holds { MatchResult result (λ _. Appends (W.contents sink.old) (W.contents sink.new) bytes.now)
+        (λ count. Appends (W.contents sink.old) (W.contents sink.new) (take count bytes.now)) }
 {
     let mut done = 0;
     while done < bytes.len() {

@@ -1,4 +1,4 @@
--- `new` makes a cell of the blank history: a walk, since the check does not make a struct with ghost data.
+-- `new` makes a cell of the history without events: a walk, since the check does not make a struct with ghost data.
 use Rattle.std.proofs.Common.{[], ◌∷◌, refl}
 use Rattle.std.proofs.raw_atomic.Walks.{proved}
 use types.Kit.{raw, ‵, ◌$◌, ◌∵◌, !, qed, done, drop, suffices}
@@ -9,7 +9,6 @@ use base.Fml.{ftrue}
 use denote.Steps.{nothing}
 use denote.Triple.Entry.{on_entry}
 use denote.Triple.Walked.{walk_of, says, ends_at}
-use Rattle.jls_device.specs.History.{blank}
 use Rattle.jls_device.specs.contracts.history.HistoryCell.new as f
 use Rattle.jls_device.proofs.CellMade.{fieldless, cell_made}
 use Rattle.jls_device.proofs.history.HistoryCell.new.Statement.{statement}
@@ -27,7 +26,7 @@ new_spec 𝓤 𝓛 𝓜 𝓡 wired =
     drop ! $ drop ! $
     enter ! _ _ _ _ _ $ alloc_all ! (λ l. pass_all ! refl tt $
     sets ! (agg ! (no_more !)) refl (tt, tt) $
-    cell_made blank ! $
+    cell_made [] ! $
     returns ! (look_at ! 0 refl) $ free_all ! refl $
-    suffices ! _ (ends_at 𝓛 f.ended tt c y fieldless (record { history = blank }) tt tt) $ says ! refl $
+    suffices ! _ (ends_at 𝓛 f.ended tt c y fieldless (record { history = [] }) tt tt) $ says ! refl $
     nothing ! $ nothing ! $ done !))
