@@ -5,3 +5,4 @@ pub mod Members
 pub mod OfShape
 pub mod OneMore
 pub mod RangeEnds
+pub mod WorkedRows

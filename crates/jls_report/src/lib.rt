@@ -12,3 +12,6 @@ mod text;
 pub use entry::Entry;
 pub use laws::{counts_are_all_lines, disputed_are_listed, each_line_once, ranges_are_longest};
 pub use report::Report;
+
+#[cfg(test)]
+mod tests;
