@@ -1,5 +1,5 @@
 -- Parts of a file, handed out one after the other.
-use Rattle.std.proofs.Common.{◌≡◌, Result, Ok, Err, ℕ, ◌+◌, ◌<◌, ◌≤◌, List, [], ◌++◌, length, take, Option, refl, ap, sym, subst, ◌∙◌, arith}
+use Rattle.std.proofs.Common.{◌≡◌, Result, Ok, Err, ℕ, ◌+◌, List, [], ◌++◌, length, take, Option, ap, sym, subst, arith}
 use Rattle.std.proofs.Math.Seq.{take-append-add}
 use Rattle.std.proofs.lemmas.List.{take-append-le}
 use Rattle.std.specs.Io.KnownBytes.{Appends}
@@ -7,14 +7,11 @@ use Rattle.std.specs.Result.{IfErr}
 use Rattle.jls_device.specs.Event.{History}
 use Rattle.jls_device.specs.Writing.{WroteFront}
 use Rattle.jls_device.proofs.Growing.{grew_as}
-use Rattle.jls_device.proofs.Known.{appends_nothing, appends_on}
-use Rattle.jls_device.proofs.Writes.{nothing_written, written_on, cut_behind, front_before}
+use Rattle.jls_device.proofs.Known.{appends_on}
+use Rattle.jls_device.proofs.Writes.{written_on, cut_behind, front_before}
 use Rattle.jls_picture.specs.declared.output.OutputFault.{OutputFault}
 use Rattle.jls_picture.specs.declared.output.OutputFault.TheVariants.{Write, OutOfMemory}
 use Rattle.jls_picture.specs.Outcomes.{HandedOut, HandedFront, StoppedBy}
-
-pub handed_nothing : (h : History) (o : Option (List ℕ)) → HandedOut h h o o []
-handed_nothing h o = record { wrote = nothing_written h; holds_them = appends_nothing o }
 
 front_of : (old new : History) (held holds : Option (List ℕ)) (a b : List ℕ) (count : ℕ) → HandedFront old new held holds a count → HandedFront old new held holds (a ++ b) count
 front_of old new held holds a b count h =

@@ -1,17 +1,16 @@
 -- The lines that a picture lends are the readings of its partial picture.
-use Rattle.std.proofs.Common.{◌≡◌, inl, inr, ℕ, zero, suc, ◌+◌, ◌-◌, ◌≤◌, ◌<◌, ◌^◌, Bool, true, false, cond, ◌||◌, eqb, List, [], ◌∷◌, length, map, get_or, Option, Some, None, refl, ap, sym, ◌∙◌, arith, zero-add}
+use Rattle.std.proofs.Common.{◌≡◌, inl, inr, ℕ, zero, ◌-◌, ◌<◌, ◌^◌, Bool, true, false, cond, ◌||◌, eqb, List, [], ◌∷◌, length, map, get_or, Option, Some, None, refl, ap, sym, ◌∙◌, arith, zero-add}
 use Rattle.std.specs.Prelude.{not, nat_le}
 use Rattle.std.specs.List.{range_with_len, list_any, AllByRecursion}
 use Rattle.std.proofs.lemmas.Bool.{eqb-true}
 use Rattle.std.proofs.lemmas.Bool.Decides.{leb_tells}
 use Rattle.std.proofs.lemmas.List.FromFn.{get_or-map-range_with_len}
 use Rattle.jls_values.specs.Shape.{PictureShape}
-use Rattle.jls_partial.specs.declared.status.Status.TheVariants.{Missing, Settled, Disputed}
+use Rattle.jls_partial.specs.declared.status.Status.TheVariants.{Settled}
 use Rattle.jls_partial.specs.InsertFaults.{reading_fault}
 use Rattle.jls_partial.specs.Partial.{PartialPicture}
 use Rattle.jls_partial.specs.Status.{status_of}
 use Rattle.jls_picture.specs.Picture.{line_of, settled_line, picture_of}
-use Rattle.jls_picture.specs.Pnm.{is_wide}
 
 -- ---- settled lines
 
@@ -59,15 +58,3 @@ fits_shape shape component line samples e =
     let in_width = none_first (not (eqb (length samples) shape.width)) _ _ in_lines.1 in
     let in_range = none_first (list_any (λ x. nat_le (2 ^ shape.precision) x) samples) _ _ in_width.1 in
     (eqb-true (length samples) shape.width (not_false (eqb (length samples) shape.width) in_width.0), all_below (2 ^ shape.precision) samples in_range.0)
-
-pub sample_at : (n : ℕ) (xs : List ℕ) (i : ℕ) → AllByRecursion (λ x. x < n) xs → i < length xs → get_or xs i 0 < n
-sample_at n [] i each within = absurd (omega arith)
-sample_at n (x ∷ xs) zero each within = each.0
-sample_at n (x ∷ xs) (suc i) each within = sample_at n xs i each.1 (omega arith)
-
--- a sample that isn't wide fits a byte
-pub narrow : (shape : PictureShape) (xs : List ℕ) (i : ℕ) (wide : Bool) → wide ≡ is_wide shape → AllByRecursion (λ x. x < 2 ^ shape.precision) xs → i < length xs → wide ≡ false → get_or xs i 0 < 256
-narrow shape xs i wide is each within e =
-    let below = sample_at (2 ^ shape.precision) xs i each within in
-    let small : 2 ^ shape.precision - 1 < 256 = above 256 (2 ^ shape.precision - 1) (sym is ∙ e) in
-    omega (arith, below, small)

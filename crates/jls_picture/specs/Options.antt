@@ -1,5 +1,5 @@
 -- How a picture is written as JPEG-LS, and which pictures can be written so.
-use Rattle.std.specs.Prelude.{◌≡◌, ℕ, ◌*◌, ◌^◌, ◌<◌, ◌≤◌, Bool, ◌&&◌, ◌==◌, nat_lt, min, All, length, if◌then◌else◌}
+use Rattle.std.specs.Prelude.{◌≡◌, ℕ, ◌*◌, ◌^◌, ◌<◌, ◌≤◌, Bool, ◌==◌, min, All, length, if◌then◌else◌}
 use Rattle.jls_values.specs.Shape.{PictureShape}
 use Rattle.jls_values.specs.Params.{CodingParameters}
 use Rattle.jls_picture.specs.Picture.{WholePicture, line_of}
@@ -21,5 +21,6 @@ rows_of_interval shape o = if o.restart_interval == 0 then shape.height else min
 -- The parameters are of the picture's precision, no sample is above MAXVAL, and no interval has more than 2^28 samples
 pub record OptionsFit (pic : WholePicture) (o : WriteOptions) : Type 0 where
   pub precision : o.params.precision ≡ pic.shape.precision
-  pub samples : (component : ℕ) → component < length pic.shape.ids → (line : ℕ) → line < pic.shape.height → All (λ sample. sample ≤ o.params.maxval) (line_of pic component line)
+  pub samples : (component : ℕ) → component < length pic.shape.ids → (line : ℕ) → line < pic.shape.height
+      → All (λ sample. sample ≤ o.params.maxval) (line_of pic component line)
   pub interval : pic.shape.width * components_of_scan pic.shape o * rows_of_interval pic.shape o ≤ 2 ^ 28

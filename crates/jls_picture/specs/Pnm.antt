@@ -42,7 +42,9 @@ abbrev pub sample_bytes : Bool → ℕ → List ℕ
 sample_bytes wide sample = if wide then to_be_bytes w16 sample else sample ∷ []
 
 abbrev pub pixel_bytes : WholePicture → ℕ → ℕ → List ℕ
-pixel_bytes pic line column = flat_map (λ component. sample_bytes (is_wide pic.shape) (get_or (line_of pic component line) column 0)) (range_with_len 0 (length pic.shape.ids))
+pixel_bytes pic line column =
+    flat_map (λ component. sample_bytes (is_wide pic.shape) (get_or (line_of pic component line) column 0))
+    (range_with_len 0 (length pic.shape.ids))
 
 abbrev pub row_bytes : WholePicture → ℕ → List ℕ
 row_bytes pic line = flat_map (pixel_bytes pic line) (range_with_len 0 pic.shape.width)

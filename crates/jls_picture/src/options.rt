@@ -40,7 +40,8 @@ fn are_within(samples: &[u16], most: u16) -> bool
 /// Whether no sample of a component is above this value.
 fn is_component_within(picture: &Picture<'_>, component: u8, most: u16) -> bool
     requires { component < length picture.now.shape.ids }
-    ensures { IsTrue result ↔ ((line : ℕ) → line < picture.now.shape.height → All (λ sample. sample ≤ most) (line_of picture.now component line)) }
+    ensures { IsTrue result ↔ ((line : ℕ) → line < picture.now.shape.height
+        → All (λ sample. sample ≤ most) (line_of picture.now component line)) }
 {
     for line in 0..picture.shape().height() {
         let within = are_within(picture.line(component, line), most);
@@ -53,7 +54,8 @@ fn is_component_within(picture: &Picture<'_>, component: u8, most: u16) -> bool
 
 /// Whether no sample of the picture is above this value.
 fn is_within(picture: &Picture<'_>, most: u16) -> bool
-    ensures { IsTrue result ↔ ((component : ℕ) → component < length picture.now.shape.ids → (line : ℕ) → line < picture.now.shape.height → All (λ sample. sample ≤ most) (line_of picture.now component line)) }
+    ensures { IsTrue result ↔ ((component : ℕ) → component < length picture.now.shape.ids
+        → (line : ℕ) → line < picture.now.shape.height → All (λ sample. sample ≤ most) (line_of picture.now component line)) }
 {
     for component in 0..picture.shape().ids().len() as u8 {
         let within = is_component_within(picture, component, most);

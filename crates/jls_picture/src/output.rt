@@ -25,8 +25,10 @@ pub(crate) fn write_part<W: Sink>(
 ) -> Result<u64, OutputFault>
     requires { before + length bytes.now < 2 ^ 64 }
     ensures count { IfOk result (λ count. count ≡ before + length bytes.now) }
-    ensures all { OnOk result (HandedOut (W.history sink.old) (W.history sink.new) (W.contents sink.old) (W.contents sink.new) bytes.now) }
-    ensures front { IfErr result (λ fault. StoppedBy fault before (HandedFront (W.history sink.old) (W.history sink.new) (W.contents sink.old) (W.contents sink.new) bytes.now)) }
+    ensures all { OnOk result (HandedOut (W.history sink.old) (W.history sink.new)
+        (W.contents sink.old) (W.contents sink.new) bytes.now) }
+    ensures front { IfErr result (λ fault. StoppedBy fault before (HandedFront (W.history sink.old) (W.history sink.new)
+        (W.contents sink.old) (W.contents sink.new) bytes.now)) }
 {
     match write_all(sink, bytes) {
         Ok(()) => Ok(before + bytes.len() as u64),

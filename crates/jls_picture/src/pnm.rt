@@ -22,8 +22,10 @@ fn write_row<W: Sink>(
     requires is_wide { wide ≡ is_wide picture.now.shape }
     requires early { before < 2 ^ 60 }
     ensures count { IfOk result (λ count. count ≡ before + length (row_bytes picture.now line)) }
-    ensures all { OnOk result (HandedOut (W.history sink.old) (W.history sink.new) (W.contents sink.old) (W.contents sink.new) (row_bytes picture.now line)) }
-    ensures front { IfErr result (λ fault. StoppedBy fault before (HandedFront (W.history sink.old) (W.history sink.new) (W.contents sink.old) (W.contents sink.new) (row_bytes picture.now line))) }
+    ensures all { OnOk result (HandedOut (W.history sink.old) (W.history sink.new)
+        (W.contents sink.old) (W.contents sink.new) (row_bytes picture.now line)) }
+    ensures front { IfErr result (λ fault. StoppedBy fault before (HandedFront (W.history sink.old) (W.history sink.new)
+        (W.contents sink.old) (W.contents sink.new) (row_bytes picture.now line))) }
 {
     let width = picture.shape().width();
     let mut start = 0;
@@ -44,8 +46,10 @@ fn write_raster<W: Sink>(
     picture: &Picture<'_>,
 ) -> Result<(), OutputFault>
     requires { before ≤ 80 }
-    ensures all { OnOk result (HandedOut (W.history sink.old) (W.history sink.new) (W.contents sink.old) (W.contents sink.new) (raster picture.now)) }
-    ensures front { IfErr result (λ fault. StoppedBy fault before (HandedFront (W.history sink.old) (W.history sink.new) (W.contents sink.old) (W.contents sink.new) (raster picture.now))) }
+    ensures all { OnOk result (HandedOut (W.history sink.old) (W.history sink.new)
+        (W.contents sink.old) (W.contents sink.new) (raster picture.now)) }
+    ensures front { IfErr result (λ fault. StoppedBy fault before (HandedFront (W.history sink.old) (W.history sink.new)
+        (W.contents sink.old) (W.contents sink.new) (raster picture.now))) }
 {
     let wide = largest_sample(picture.shape()) >= 256;
     let mut count = before;
@@ -59,8 +63,10 @@ fn write_raster<W: Sink>(
 /// largest sample of the precision, and a sample has two bytes where that is 256 or more. It takes no memory, and the only
 /// fault is `Write`.
 pub fn write_pnm<W: Sink>(picture: &Picture<'_>, sink: &mut W) -> Result<(), OutputFault>
-    ensures all { OnOk result (HandedOut (W.history sink.old) (W.history sink.new) (W.contents sink.old) (W.contents sink.new) (pnm picture.now)) }
-    ensures front { IfErr result (λ fault. StoppedBy fault 0 (HandedFront (W.history sink.old) (W.history sink.new) (W.contents sink.old) (W.contents sink.new) (pnm picture.now))) }
+    ensures all { OnOk result (HandedOut (W.history sink.old) (W.history sink.new)
+        (W.contents sink.old) (W.contents sink.new) (pnm picture.now)) }
+    ensures front { IfErr result (λ fault. StoppedBy fault 0 (HandedFront (W.history sink.old) (W.history sink.new)
+        (W.contents sink.old) (W.contents sink.new) (pnm picture.now))) }
 {
     let header = pnm_header(picture.shape());
     let count = write_part(sink, 0, &header)?;

@@ -61,7 +61,9 @@ fn check(
     let components = shape.ids().len();
     let mut partial = Partial::empty(alloc, shape);
     for (i, samples) in lines.iter().enumerate() {
-        partial.insert((i % components) as u8, (i / components) as u16, samples)?;
+        let component = u8::try_from(i % components)?;
+        let line = u16::try_from(i / components)?;
+        partial.insert(component, line, samples)?;
     }
     let picture = Picture::of(&partial).expect(rt, "a line is not settled");
     for most in [1, 7, usize::MAX] {

@@ -6,7 +6,8 @@ use Rattle.jls_report.specs.declared.entry.Entry.TheVariants.{Missing, Disputed}
 use Rattle.jls_report.specs.Lines.{line_count, reading_count, is_missing, is_settled, is_disputed}
 use Rattle.jls_report.specs.Report.{entries}
 
--- a longest range of missing lines: its lines are all missing, and the line above it and the line below it, where there are such, are not
+-- a longest range of missing lines: its lines are all missing, and the line above it and the line below it, where there are
+-- such, are not
 pub record IsLongestRange (p : PartialPicture) (component first last : ℕ) : Type 0 where
   pub component_in : component < length p.shape.ids
   pub rising : first ≤ last
@@ -24,11 +25,13 @@ pub record IsDisputedLine (p : PartialPicture) (component line readings : ℕ) :
 
 -- the ranges of a report are the longest ranges of missing lines, and no others
 abbrev pub RangesAreLongest : Type 0
-RangesAreLongest = (p : PartialPicture) (component first last : ℕ) → Contains (entries p) (Missing component first last) ↔ IsLongestRange p component first last
+RangesAreLongest = (p : PartialPicture) (component first last : ℕ)
+    → Contains (entries p) (Missing component first last) ↔ IsLongestRange p component first last
 
 -- its disputed lines are those of the picture, and no others
 abbrev pub DisputedAreListed : Type 0
-DisputedAreListed = (p : PartialPicture) (component line readings : ℕ) → Contains (entries p) (Disputed component line readings) ↔ IsDisputedLine p component line readings
+DisputedAreListed = (p : PartialPicture) (component line readings : ℕ)
+    → Contains (entries p) (Disputed component line readings) ↔ IsDisputedLine p component line readings
 
 -- whether an entry speaks of a line
 abbrev pub speaks_of : ℕ → ℕ → Entry → Bool
@@ -43,4 +46,5 @@ EachLineOnce = (p : PartialPicture) (component line : ℕ) → component < lengt
 -- the three numbers are those of all lines
 abbrev pub CountsAreAllLines : Type 0
 CountsAreAllLines = (p : PartialPicture) →
-    line_count p.shape (is_settled p) + line_count p.shape (is_missing p) + line_count p.shape (is_disputed p) ≡ length p.shape.ids * p.shape.height
+    line_count p.shape (is_settled p) + line_count p.shape (is_missing p) + line_count p.shape (is_disputed p)
+    ≡ length p.shape.ids * p.shape.height

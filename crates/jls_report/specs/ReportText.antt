@@ -1,4 +1,5 @@
--- The text of a report: lines of ASCII, each of which ends with a newline. Numbers are decimal, and components are named by their identifiers.
+-- The text of a report: lines of ASCII, each of which ends with a newline. Numbers are decimal, and components are named by
+-- their identifiers.
 use Rattle.std.specs.Prelude.{ℕ, List, ◌++◌, codes, decimal, get_or}
 use Rattle.std.specs.List.{flat_map, join_by}
 use Rattle.jls_values.specs.Shape.{PictureShape}
@@ -17,11 +18,13 @@ abbrev pub precision_text : PictureShape → List ℕ
 precision_text shape = codes ", " ++ decimal shape.precision ++ codes " bits, components "
 
 abbrev pub shape_line : PictureShape → List ℕ
-shape_line shape = size_text shape ++ precision_text shape ++ join_by decimal (codes ",") shape.ids ++ codes "\n"
+shape_line shape =
+    size_text shape ++ precision_text shape ++ join_by decimal (codes ",") shape.ids ++ codes "\n"
 
 abbrev pub counts_line : PictureReport → List ℕ
 counts_line r =
-    codes "settled " ++ decimal r.settled ++ codes ", missing " ++ decimal r.missing ++ codes ", disputed " ++ decimal r.disputed ++ codes "\n"
+    codes "settled " ++ decimal r.settled ++ codes ", missing " ++ decimal r.missing
+    ++ codes ", disputed " ++ decimal r.disputed ++ codes "\n"
 
 abbrev pub entry_line : List ℕ → Entry → List ℕ
 entry_line ids (Missing component first last) =

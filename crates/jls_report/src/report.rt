@@ -25,7 +25,13 @@ impl Model for Report {
 
     ghost Value = { PictureReport };
 
-    ghost view = { λ r. record { shape = r.shape; settled = r.counts.settled; missing = r.counts.missing; disputed = r.counts.disputed; entries = r.entries.items } };
+    ghost view = { λ r. record {
+      shape = r.shape;
+      settled = r.counts.settled;
+      missing = r.counts.missing;
+      disputed = r.counts.disputed;
+      entries = r.entries.items;
+    } };
 
     ghost invariant = { λ r. AreOfShape r.shape r.entries.items };
 }

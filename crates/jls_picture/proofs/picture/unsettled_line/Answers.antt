@@ -1,4 +1,4 @@
-use Rattle.std.proofs.Common.{◌≡◌, ◌∙◌, ap, sym, arith}
+use Rattle.std.proofs.Common.{◌≡◌, ◌∙◌, ap, arith}
 use Rattle.jls_partial.specs.Partial.{readings_at}
 use Rattle.jls_picture.proofs.Lending.{one_reading, settled_by}
 use Rattle.jls_picture.proofs.picture.unsettled_line.Goals as goal

@@ -1,4 +1,4 @@
-use Rattle.std.proofs.Common.{◌≡◌, ◌≤◌, ◌++◌, ◌∙◌, List, ℕ, ap, sym, arith}
+use Rattle.std.proofs.Common.{◌≤◌, ◌++◌, ◌∙◌, List, ℕ, ap, sym, arith}
 use Rattle.jls_picture.specs.Pnm.{pixel_bytes}
 use Rattle.jls_picture.proofs.OneMore.{flat_map_from_more}
 use Rattle.jls_picture.proofs.pixels.pixels.Goals as goal

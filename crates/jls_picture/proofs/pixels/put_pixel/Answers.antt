@@ -1,4 +1,4 @@
-use Rattle.std.proofs.Common.{◌≡◌, ◌++◌, ◌∙◌, ℕ, List, get_or, ap, sym, append_assoc, arith}
+use Rattle.std.proofs.Common.{◌++◌, ◌∙◌, ℕ, List, get_or, ap, sym, append_assoc, arith}
 use Rattle.std.specs.List.{flat_map, range_with_len}
 use Rattle.jls_picture.specs.Picture.{line_of}
 use Rattle.jls_picture.specs.Pnm.{is_wide, sample_bytes}

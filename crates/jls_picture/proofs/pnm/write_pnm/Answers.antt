@@ -1,7 +1,6 @@
-use Rattle.std.proofs.Common.{◌≡◌, ◌+◌, ◌++◌, ◌∙◌, List, ℕ, [], length, ap, sym, subst}
+use Rattle.std.proofs.Common.{◌≡◌, ◌+◌, ◌++◌, ◌∙◌, List, ℕ, [], ap, sym, subst}
 use Rattle.std.proofs.lemmas.List.{append-nil}
 use Rattle.std.proofs.lemmas.Result.{err_from_is_err_and, on_ok_weaker}
-use Rattle.jls_values.specs.Shape.{PictureShape}
 use Rattle.jls_picture.specs.Outcomes.{HandedOut, HandedFront, StoppedBy}
 use Rattle.jls_picture.specs.Pnm.{pnm_header, raster, pnm}
 use Rattle.jls_picture.proofs.Handing.{handed_on, stopped_on, stopped_first, if_err_weaker}
