@@ -1,0 +1,4 @@
+pub mod Handing
+pub mod Lending
+pub mod OneMore
+pub mod Sizes

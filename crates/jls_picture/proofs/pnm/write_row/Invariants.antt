@@ -1,0 +1,18 @@
+use Rattle.std.proofs.Common.{◌≡◌, ◌≤◌, ◌+◌, ◌-◌, length}
+use Rattle.std.specs.List.{flat_map, range_with_len}
+use Rattle.jls_picture.specs.Outcomes.{HandedOut}
+use Rattle.jls_picture.specs.Pnm.{pixel_bytes}
+use Rattle.jls_picture.proofs.pnm.write_row.Given as goal
+
+abbrev pub invariant-loop-start : goal.invariant-loop-start
+invariant-loop-start g l =
+    let history = g.W.Device.history in
+    let contents = g.W.Sink.contents in
+    record {
+      within : l.start ≤ l.picture.shape.width;
+      counted : l.count ≡ l.fn.before + length (flat_map (pixel_bytes l.picture l.line) (range_with_len 0 l.start));
+      out : HandedOut (history l.fn.sink) (history l.sink) (contents l.fn.sink) (contents l.sink) (flat_map (pixel_bytes l.picture l.line) (range_with_len 0 l.start));
+    }
+
+abbrev pub decreases-loop-start : goal.decreases-loop-start
+decreases-loop-start g l = l.picture.shape.width - l.start

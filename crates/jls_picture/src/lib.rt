@@ -1,0 +1,17 @@
+//! Whole pictures: the lines of a partial picture whose lines are all settled, and the files that they are written as.
+#![tactic(auto)]
+
+mod options;
+mod output;
+mod picture;
+mod pixels;
+mod pnm;
+mod pnm_header;
+
+pub use options::Options;
+pub use output::OutputFault;
+pub use picture::{Picture, PictureFault};
+pub use pnm::write_pnm;
+
+#[cfg(test)]
+mod tests;

@@ -1,0 +1,172 @@
+//! Small pictures and their files, worked out by hand.
+
+use crate::{Options, OutputFault, Picture, PictureFault, write_pnm};
+use jls_device::Counted;
+use jls_partial::Partial;
+use jls_values::{Params, Shape};
+use std::alloc::Global;
+use std::io;
+use std::io::Write;
+use std::process::Abort;
+use std::test::Fail;
+
+/// A writer into memory that takes so many bytes in a call, and so many in all.
+#[derive(Drop)]
+struct Limited {
+    held: Vec<u8>,
+    most: usize,
+    limit: usize,
+}
+
+impl Write for Limited {
+    fn write(&mut self, bytes: &[u8]) -> io::Result<usize> {
+        let room = self.limit.saturating_sub(self.held.len());
+        let n = bytes.len().min(self.most).min(room);
+        if n == 0 {
+            return Err(io::Error::from(io::ErrorKind::WriteZero));
+        }
+        self.held.extend_from_slice(&bytes[..n])?;
+        Ok(n)
+    }
+
+    fn flush(&mut self) -> io::Result<()> {
+        Ok(())
+    }
+}
+
+/// What a sink gets that takes so many bytes in a call and so many in all.
+fn written(
+    alloc: Global,
+    picture: &Picture<'_>,
+    most: usize,
+    limit: usize,
+) -> (Result<(), OutputFault>, Vec<u8>) {
+    let mut sink = Limited {
+        held: Vec::new(alloc),
+        most,
+        limit,
+    };
+    let result = write_pnm(picture, &mut Counted::new(&mut sink));
+    (result, sink.held)
+}
+
+/// The lines are written as this file, and a write that fails after n bytes is told, for each n.
+fn check(
+    rt: &impl Abort,
+    alloc: Global,
+    shape: Shape,
+    lines: &[&[u16]],
+    file: &[u8],
+) -> Result<(), Fail> {
+    let components = shape.ids().len();
+    let mut partial = Partial::empty(alloc, shape);
+    for (i, samples) in lines.iter().enumerate() {
+        let component = u8::try_from(i % components)?;
+        let line = u16::try_from(i / components)?;
+        partial.insert(component, line, samples)?;
+    }
+    let picture = Picture::of(&partial).expect(rt, "a line is not settled");
+    for most in [1, 7, usize::MAX] {
+        let (result, bytes) = written(alloc, &picture, most, usize::MAX);
+        assert_eq!(rt; result, Ok(()));
+        assert_eq!(rt; bytes.as_slice(), file);
+        for n in 0..file.len() {
+            let (result, bytes) = written(alloc, &picture, most, n);
+            assert_eq!(rt; result, Err(OutputFault::Write(n as u64)));
+            assert_eq!(rt; bytes.as_slice(), &file[..n]);
+        }
+    }
+    Ok(())
+}
+
+#[test]
+fn one_component(rt: HostRuntime) -> Result<(), Fail> {
+    let alloc = rt.alloc();
+    check(
+        &rt,
+        alloc,
+        Shape::new(16, 1, 1, &[1])?,
+        &[&[65535]],
+        b"P5\n1 1\n65535\n\xFF\xFF",
+    )?;
+    check(
+        &rt,
+        alloc,
+        Shape::new(9, 2, 1, &[1])?,
+        &[&[258, 3]],
+        b"P5\n2 1\n511\n\x01\x02\x00\x03",
+    )?;
+    check(
+        &rt,
+        alloc,
+        Shape::new(8, 1, 10, &[1])?,
+        &[&[0], &[1], &[2], &[3], &[4], &[5], &[6], &[7], &[8], &[9]],
+        b"P5\n1 10\n255\n\x00\x01\x02\x03\x04\x05\x06\x07\x08\x09",
+    )
+}
+
+#[test]
+fn several_components(rt: HostRuntime) -> Result<(), Fail> {
+    let alloc = rt.alloc();
+    check(
+        &rt,
+        alloc,
+        Shape::new(8, 1, 1, &[1, 2])?,
+        &[&[10], &[10]],
+        b"P7\nWIDTH 1\nHEIGHT 1\nDEPTH 2\nMAXVAL 255\nENDHDR\n\x0A\x0A",
+    )?;
+    check(
+        &rt,
+        alloc,
+        Shape::new(8, 4, 1, &[1, 2, 3])?,
+        &[&[0, 0, 0, 0], &[0, 0, 0, 0], &[0, 0, 0, 0]],
+        b"P6\n4 1\n255\n\x00\x00\x00\x00\x00\x00\x00\x00\x00\x00\x00\x00",
+    )?;
+    check(
+        &rt,
+        alloc,
+        Shape::new(2, 2, 2, &[9, 8, 7, 6])?,
+        &[
+            &[0, 1],
+            &[1, 2],
+            &[2, 3],
+            &[3, 0],
+            &[3, 3],
+            &[2, 2],
+            &[1, 1],
+            &[0, 0],
+        ],
+        b"P7\nWIDTH 2\nHEIGHT 2\nDEPTH 4\nMAXVAL 3\nENDHDR\n\x00\x01\x02\x03\x01\x02\x03\x00\x03\x02\x01\x00\x03\x02\x01\x00",
+    )
+}
+
+#[test]
+fn names_the_first_line_that_is_not_settled(rt: HostRuntime) -> Result<(), Fail> {
+    let mut partial = Partial::empty(rt.alloc(), Shape::new(8, 1, 10, &[1, 2])?);
+    for line in 0..10 {
+        partial.insert(0, line, &[line])?;
+    }
+    assert!(rt; matches!(Picture::of(&partial), Err(PictureFault::Unsettled(1, 0))));
+    partial.insert(0, 6, &[8])?;
+    assert!(rt; matches!(Picture::of(&partial), Err(PictureFault::Unsettled(0, 6))));
+    Ok(())
+}
+
+#[test]
+fn fits(rt: HostRuntime) -> Result<(), Fail> {
+    let mut partial = Partial::empty(rt.alloc(), Shape::new(8, 1, 1, &[1])?);
+    partial.insert(0, 0, &[15])?;
+    let picture = Picture::of(&partial).expect(&rt, "a line is not settled");
+    for (precision, maxval, fits) in [
+        (8, 0, true),
+        (8, 15, true),
+        (8, 14, false),
+        (9, 255, false),
+    ] {
+        let params = Params::new(precision, maxval, 0, 0, 0, 0)?;
+        for (line, ri) in [(false, 0), (true, 1), (true, 65535)] {
+            assert_eq!(rt; Options::new(line, ri, params).fits(&picture), fits);
+        }
+    }
+    Ok(())
+}

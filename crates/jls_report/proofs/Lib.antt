@@ -1,0 +1,8 @@
+pub mod AllLines
+pub mod EachLine
+pub mod LongestRanges
+pub mod Members
+pub mod OfShape
+pub mod OneMore
+pub mod RangeEnds
+pub mod WorkedRows

@@ -1,0 +1,4 @@
+pub mod Lines
+pub mod Ranges
+pub mod Report
+pub mod ReportText

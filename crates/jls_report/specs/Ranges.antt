@@ -1,0 +1,50 @@
+-- What the entries of a report say of each line.
+use Rattle.std.specs.Prelude.{◌≡◌, ℕ, ◌+◌, ◌*◌, ◌<◌, ◌≤◌, ◌↔◌, Bool, true, false, ◌&&◌, ◌==◌, nat_le, length, count_by, Contains, if◌then◌else◌}
+use Rattle.jls_partial.specs.Partial.{PartialPicture}
+use Rattle.jls_report.specs.declared.entry.Entry.{Entry}
+use Rattle.jls_report.specs.declared.entry.Entry.TheVariants.{Missing, Disputed}
+use Rattle.jls_report.specs.Lines.{line_count, reading_count, is_missing, is_settled, is_disputed}
+use Rattle.jls_report.specs.Report.{entries}
+
+-- a longest range of missing lines: its lines are all missing, and the line above it and the line below it, where there are
+-- such, are not
+pub record IsLongestRange (p : PartialPicture) (component first last : ℕ) : Type 0 where
+  pub component_in : component < length p.shape.ids
+  pub rising : first ≤ last
+  pub last_in : last < p.shape.height
+  pub each : (line : ℕ) → first ≤ line → line ≤ last → is_missing p component line ≡ true
+  pub above : (line : ℕ) → line + 1 ≡ first → is_missing p component line ≡ false
+  pub below : last + 1 < p.shape.height → is_missing p component (last + 1) ≡ false
+
+-- a disputed line with the number of its readings, of which there are two or more
+pub record IsDisputedLine (p : PartialPicture) (component line readings : ℕ) : Type 0 where
+  pub component_in : component < length p.shape.ids
+  pub line_in : line < p.shape.height
+  pub several : 2 ≤ readings
+  pub counted : reading_count p component line ≡ readings
+
+-- the ranges of a report are the longest ranges of missing lines, and no others
+abbrev pub RangesAreLongest : Type 0
+RangesAreLongest = (p : PartialPicture) (component first last : ℕ)
+    → Contains (entries p) (Missing component first last) ↔ IsLongestRange p component first last
+
+-- its disputed lines are those of the picture, and no others
+abbrev pub DisputedAreListed : Type 0
+DisputedAreListed = (p : PartialPicture) (component line readings : ℕ)
+    → Contains (entries p) (Disputed component line readings) ↔ IsDisputedLine p component line readings
+
+-- whether an entry speaks of a line
+abbrev pub speaks_of : ℕ → ℕ → Entry → Bool
+speaks_of component line (Missing c first last) = c == component && (nat_le first line && nat_le line last)
+speaks_of component line (Disputed c l readings) = c == component && l == line
+
+-- each line is settled, or an entry speaks of it: one of these holds, and no second entry speaks of it
+abbrev pub EachLineOnce : Type 0
+EachLineOnce = (p : PartialPicture) (component line : ℕ) → component < length p.shape.ids → line < p.shape.height
+    → (if is_settled p component line then 1 else 0) + count_by (speaks_of component line) (entries p) ≡ 1
+
+-- the three numbers are those of all lines
+abbrev pub CountsAreAllLines : Type 0
+CountsAreAllLines = (p : PartialPicture) →
+    line_count p.shape (is_settled p) + line_count p.shape (is_missing p) + line_count p.shape (is_disputed p)
+    ≡ length p.shape.ids * p.shape.height

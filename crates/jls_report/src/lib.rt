@@ -1,0 +1,17 @@
+//! The report of a partial picture: how many of its lines are settled, missing and disputed, and which are missing or
+//! disputed. It is a value, and has one text.
+#![tactic(auto)]
+
+mod counting;
+mod entry;
+mod laws;
+mod ranges;
+mod report;
+mod text;
+
+pub use entry::Entry;
+pub use laws::{counts_are_all_lines, disputed_are_listed, each_line_once, ranges_are_longest};
+pub use report::Report;
+
+#[cfg(test)]
+mod tests;

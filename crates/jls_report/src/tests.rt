@@ -1,0 +1,153 @@
+//! Reports of small pictures, worked out by hand.
+
+use crate::{Entry, Report};
+use jls_partial::Partial;
+use jls_values::Shape;
+use std::alloc::Global;
+use std::process::Abort;
+use std::test::Fail;
+
+/// The partial picture with these readings, each a component, a line and its one sample of 8 bits.
+fn partial_of(
+    alloc: Global,
+    height: u16,
+    ids: &[u8],
+    readings: &[(u8, u16, u16)],
+) -> Result<Partial, Fail> {
+    let mut partial = Partial::empty(alloc, Shape::new(8, 1, height, ids)?);
+    for (component, line, sample) in readings {
+        partial.insert(*component, *line, &[*sample])?;
+    }
+    Ok(partial)
+}
+
+fn check(
+    rt: &impl Abort,
+    alloc: Global,
+    size: (u16, &[u8]),
+    readings: &[(u8, u16, u16)],
+    text: &str,
+) -> Result<(), Fail> {
+    let partial = partial_of(alloc, size.0, size.1, readings)?;
+    let report = Report::of(alloc, &partial)?;
+    assert_eq!(rt; report.to_text(alloc)?.as_slice(), text.as_bytes());
+    Ok(())
+}
+
+/// Lines from 0 to 9, each with its own number as its sample, but for those that are left out, and line 6 perhaps with another.
+fn check_ten(
+    rt: &impl Abort,
+    alloc: Global,
+    left_out: (u16, u16),
+    disputed: bool,
+    text: &str,
+) -> Result<(), Fail> {
+    let mut partial = Partial::empty(alloc, Shape::new(8, 1, 10, &[1])?);
+    for line in 0..10 {
+        if line < left_out.0 || line > left_out.1 {
+            partial.insert(0, line, &[line])?;
+        }
+    }
+    if disputed {
+        partial.insert(0, 6, &[8])?;
+    }
+    let report = Report::of(alloc, &partial)?;
+    assert_eq!(rt; report.to_text(alloc)?.as_slice(), text.as_bytes());
+    Ok(())
+}
+
+#[test]
+fn ten_lines(rt: HostRuntime) -> Result<(), Fail> {
+    for (left_out, disputed, text) in [
+        (
+            (10, 10),
+            false,
+            "picture 1x10, 8 bits, components 1\nsettled 10, missing 0, disputed 0\n",
+        ),
+        (
+            (1, 7),
+            false,
+            "picture 1x10, 8 bits, components 1\nsettled 3, missing 7, disputed 0\nmissing 1 1-7\n",
+        ),
+        (
+            (2, 9),
+            false,
+            "picture 1x10, 8 bits, components 1\nsettled 2, missing 8, disputed 0\nmissing 1 2-9\n",
+        ),
+        (
+            (3, 4),
+            false,
+            "picture 1x10, 8 bits, components 1\nsettled 8, missing 2, disputed 0\nmissing 1 3-4\n",
+        ),
+        (
+            (10, 10),
+            true,
+            "picture 1x10, 8 bits, components 1\nsettled 9, missing 0, disputed 1\ndisputed 1 6 2\n",
+        ),
+    ] {
+        check_ten(&rt, rt.alloc(), left_out, disputed, text)?;
+    }
+    Ok(())
+}
+
+#[test]
+fn one_line(rt: HostRuntime) -> Result<(), Fail> {
+    let alloc = rt.alloc();
+    check(
+        &rt,
+        alloc,
+        (1, &[2]),
+        &[],
+        "picture 1x1, 8 bits, components 2\nsettled 0, missing 1, disputed 0\nmissing 2 0-0\n",
+    )?;
+    for readings in [[(0, 0, 3), (0, 0, 5)], [(0, 0, 1), (0, 0, 255)]] {
+        check(
+            &rt,
+            alloc,
+            (1, &[1]),
+            &readings,
+            "picture 1x1, 8 bits, components 1\nsettled 0, missing 0, disputed 1\ndisputed 1 0 2\n",
+        )?;
+    }
+    Ok(())
+}
+
+/// A range ends with its component, and components are named by their identifiers.
+#[test]
+fn two_components(rt: HostRuntime) -> Result<(), Fail> {
+    let alloc = rt.alloc();
+    let readings = [(0, 1, 4), (1, 1, 9), (1, 1, 8), (1, 1, 7)];
+    check(
+        &rt,
+        alloc,
+        (3, &[9, 1]),
+        &readings,
+        "picture 1x3, 8 bits, components 9,1\nsettled 1, missing 4, disputed 1\nmissing 9 0-0\nmissing 9 2-2\nmissing 1 0-0\ndisputed 1 1 3\nmissing 1 2-2\n",
+    )
+}
+
+#[test]
+fn as_a_value(rt: HostRuntime) -> Result<(), Fail> {
+    let alloc = rt.alloc();
+    let partial = partial_of(alloc, 4, &[5], &[(0, 2, 1), (0, 2, 2), (0, 3, 0)])?;
+    let report = Report::of(alloc, &partial)?;
+    let entries = [
+        Entry::Missing {
+            component: 0,
+            first: 0,
+            last: 1,
+        },
+        Entry::Disputed {
+            component: 0,
+            line: 2,
+            readings: 2,
+        },
+    ];
+    assert_eq!(rt; report.entries(), entries.as_slice());
+    assert_eq!(rt;
+        (report.settled(), report.missing(), report.disputed()),
+        (1, 2, 1)
+    );
+    assert!(rt; *report.shape() == *partial.shape());
+    Ok(())
+}
