@@ -6,3 +6,5 @@ pub mod ParamsOf
 pub mod SameShape
 pub mod Shape
 pub mod ShapeOf
+pub mod SourceList
+pub mod SourceSetLaws
