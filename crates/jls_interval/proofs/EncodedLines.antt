@@ -1,21 +1,17 @@
 -- Lines that were written, column by column and line by line.
-use Rattle.std.proofs.Common.{◌≡◌, ℕ, zero, suc, ◌+◌, ◌-◌, ◌%◌, ◌<◌, ◌≤◌, Bool, true, false, eqb, ltb, List, [], ◌∷◌, ◌++◌, length, take, get_or, set, replicate, refl, sym, ap, ◌∙◌, subst, arith, inl, inr, append_assoc}
+use Rattle.std.proofs.Common.{◌≡◌, ℕ, zero, suc, ◌+◌, ◌-◌, ◌%◌, ◌<◌, ◌≤◌, Bool, true, false, ltb, List, [], ◌∷◌, ◌++◌, length, take, get_or, set, refl, sym, ap, ◌∙◌, subst, arith, inl, inr, append_assoc}
 use Rattle.std.specs.List.{AllByRecursion}
 use Rattle.std.proofs.lemmas.List.{append-nil, take_more, take_all, length-take-le, get_or-take, get_or-set_same, get_or-set_other}
-use Rattle.std.proofs.lemmas.Bool.{cases_Bool, cases_eq, cases_lt, ne_eqb, lt-ltb, le-ltb}
+use Rattle.std.proofs.lemmas.Bool.{cases_eq, cases_lt, lt-ltb, le-ltb}
 use Rattle.jls_values.specs.Params.{CodingParameters}
-use Rattle.jls_context.specs.Mode.{is_run_mode}
-use Rattle.jls_context.specs.Regular.{initial_cell}
-use Rattle.jls_context.specs.Variables.{Variables, cell_at, initial_variables}
+use Rattle.jls_context.specs.Variables.{Variables, initial_variables}
 use Rattle.jls_interval.specs.Lines.{IsLine}
-use Rattle.jls_interval.specs.Events.{Event, Above, neighbours, above, line_back, run_stop, Stretch, stretch, events_from, line_events, events_after, events}
-use Rattle.jls_interval.specs.Cells.{cell_before, run_cell_before}
-use Rattle.jls_interval.specs.Runs.{is_run_of, run_index_before}
+use Rattle.jls_interval.specs.Events.{Above, above, line_back, stretch, events_from, line_events, events_after, events}
 use Rattle.jls_interval.specs.Code.{bits_of_events, code}
 use Rattle.jls_interval.specs.After.{IsAfter}
 use Rattle.jls_interval.specs.Encoding.{Written, Writes, IsBegun, AreWritten}
 use Rattle.jls_interval.proofs.AfterEvents.{after_none}
-use Rattle.jls_interval.proofs.Stretches.{past, more, at_regular, at_end, at_stop}
+use Rattle.jls_interval.proofs.Stretches.{past, more}
 use Rattle.jls_interval.proofs.GrownLines.{fuel_same}
 use Rattle.jls_interval.proofs.EncodedEvents.{bits_append, bits_none, writes_none, writes_then}
 

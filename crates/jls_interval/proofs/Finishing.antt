@@ -1,12 +1,12 @@
 -- What a decoder holds at the end of its bytes.
-use Rattle.std.proofs.Common.{◌≡◌, ℕ, ◌+◌, ◌*◌, ◌<◌, ◌≤◌, Bool, true, false, List, [], ◌∷◌, ◌++◌, length, min, map, Vec, Global, Result, Ok, Err, refl, sym, ap, ◌∙◌, subst, arith, inl, inr, append_assoc}
+use Rattle.std.proofs.Common.{◌≡◌, ℕ, ◌*◌, ◌<◌, ◌≤◌, Bool, true, false, List, [], ◌∷◌, ◌++◌, length, map, Vec, Global, Result, Ok, Err, refl, sym, ap, ◌∙◌, subst, arith, inl, inr, append_assoc}
 use Rattle.std.specs.Prelude.{Option, Some, None, MatchOption, IfSome, MatchResult}
 use Rattle.std.specs.Option.{option_map}
 use Rattle.std.proofs.lemmas.List.{append-nil}
 use Rattle.std.proofs.lemmas.Bool.{cases_Bool}
 use Rattle.std.specs.List.{AllByRecursion}
 use Rattle.jls_values.specs.Params.{CodingParameters, AreCodingParameters}
-use Rattle.jls_bits.specs.Bits.{bits_read, is_whole, ends_data, bits_read_after, width_after}
+use Rattle.jls_bits.specs.Bits.{bits_read, is_whole, ends_data, bits_read_after}
 use Rattle.jls_bits.proofs.DataBits.{data_end, data_stop, length_more, width_bounds}
 use Rattle.jls_bits.proofs.Appending.{whole_front}
 use Rattle.jls_interval.specs.Reads.{Reads, IsLong, IsBroken}

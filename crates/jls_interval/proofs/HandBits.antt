@@ -1,5 +1,5 @@
 -- The machine in hand holds no whole event.
-use Rattle.std.proofs.Common.{◌≡◌, ℕ, zero, suc, replicate, ◌+◌, ◌-◌, ◌^◌, ◌<◌, ◌≤◌, Bool, true, false, List, [], ◌∷◌, ◌++◌, length, get_or, refl, sym, ap, ◌∙◌, subst, arith, inl, inr, append_assoc}
+use Rattle.std.proofs.Common.{◌≡◌, ℕ, zero, suc, replicate, ◌+◌, ◌-◌, ◌<◌, ◌≤◌, Bool, true, false, List, [], ◌∷◌, ◌++◌, length, get_or, refl, sym, ap, ◌∙◌, subst, arith, append_assoc}
 use Rattle.std.specs.List.{AllByRecursion}
 use Rattle.jls_values.specs.Params.{CodingParameters, AreCodingParameters, qbpp, limit}
 use Rattle.jls_context.specs.declared.mode.Neighbours.{Neighbours}
@@ -10,16 +10,12 @@ use Rattle.jls_context.specs.Variables.{Variables, cell_at, run_cell_at}
 use Rattle.jls_bits.specs.CodeState.{IsOpen, bits_told, BeginsCode}
 use Rattle.jls_bits.proofs.CodeSteps.{begins, none_whole}
 use Rattle.jls_interval.specs.Events.{Event, regular, run_to_end, interrupted_run, Above, neighbours}
-use Rattle.jls_interval.specs.Cells.{is_same, run_cell_before}
-use Rattle.jls_interval.specs.Runs.{run_order, Blocks, blocks}
+use Rattle.jls_interval.specs.Cells.{is_same}
+use Rattle.jls_interval.specs.Runs.{run_order, Blocks}
 use Rattle.jls_interval.specs.Code.{event_bits, interrupted_run_bits}
 use Rattle.jls_bits.specs.Bits.{bits}
 use Rattle.jls_interval.specs.Growth.{Fits}
 use Rattle.jls_interval.specs.Reading.{NoSample, NoInterruption}
-use Rattle.jls_interval.specs.RunState.{RunAt}
-use Rattle.jls_interval.specs.declared.run_reader.RunState.{RunState}
-use Rattle.jls_interval.specs.declared.run_reader.RunState.TheVariants.{Blocks as AtBlocks}
-use Rattle.jls_bits.specs.declared.code_state.CodeState.{CodeState}
 use Rattle.jls_bits.specs.declared.code_state.CodeState.TheVariants.{Zeros}
 use Rattle.jls_interval.specs.After.{IsAfter}
 use Rattle.jls_interval.specs.Hands.{NoEvent, now_at, behind, HandAt, EventStepIs, EventPushed}

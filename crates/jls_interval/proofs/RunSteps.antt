@@ -1,5 +1,5 @@
 -- A bit more of a run, and a run read from the front of longer bits.
-use Rattle.std.proofs.Common.{◌≡◌, ℕ, ◌+◌, ◌-◌, ◌*◌, ◌^◌, ◌<◌, ◌≤◌, Bool, true, false, List, [], ◌∷◌, ◌++◌, length, replicate, refl, sym, ap, ◌∙◌, subst, arith, append_assoc, length-append}
+use Rattle.std.proofs.Common.{◌≡◌, ℕ, ◌+◌, ◌-◌, ◌*◌, ◌^◌, ◌<◌, ◌≤◌, Bool, true, false, List, [], ◌∷◌, ◌++◌, length, refl, sym, ap, ◌∙◌, subst, arith, length-append}
 use Rattle.std.proofs.lemmas.List.{append-nil}
 use mir.Val.{bool_byte}
 use Rattle.jls_bits.specs.Bits.{bits}
@@ -7,13 +7,11 @@ use Rattle.jls_bits.proofs.NumberBits.{bits_none, length-bits, bits_push_bool}
 use Rattle.jls_interval.specs.Runs.{run_order, blocks}
 use Rattle.jls_interval.specs.Code.{run_to_end_bits, interrupted_run_bits}
 use Rattle.jls_interval.specs.Reading.{NoRun, Taken}
-use Rattle.jls_interval.specs.RunState.{RunIs, IsRunState, RunAt}
-use Rattle.jls_interval.specs.declared.run_reader.Run.{Run}
-use Rattle.jls_interval.specs.declared.run_reader.Run.TheVariants.{ToEnd, Interrupted}
+use Rattle.jls_interval.specs.RunState.{IsRunState, RunAt}
 use Rattle.jls_interval.specs.declared.run_reader.RunState.{RunState}
 use Rattle.jls_interval.specs.declared.run_reader.RunState.TheVariants.{Blocks, Count}
 use Rattle.jls_interval.proofs.Runs.{risen}
-use Rattle.jls_interval.proofs.BlocksTaken.{taken_with, taken_more, taken_start, ended, ended_short, broken_here, no_run_empty, no_run_zero, no_run_long}
+use Rattle.jls_interval.proofs.BlocksTaken.{taken_with, taken_more, ended, ended_short, broken_here, no_run_empty, no_run_zero, no_run_long}
 
 -- fewer bits than a number has
 bits_short : (i n x m : ℕ) (rest : List Bool) → i < n → bits i x ≡ bits n m ++ rest → ⊥

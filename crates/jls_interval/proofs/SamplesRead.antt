@@ -12,7 +12,6 @@ use Rattle.jls_context.specs.Regular.{uses_special_mapping, regular_k, regular_m
 use Rattle.jls_context.specs.Interruption.{run_k, interruption_mapped, one_if, maps_positive, mapped_by_sign}
 use Rattle.jls_bits.specs.Golomb.{golomb, has_golomb}
 use Rattle.jls_interval.specs.Cells.{regular_prediction, is_same, interruption_error, regular_error}
-use Rattle.jls_interval.specs.Code.{regular_bits}
 use Rattle.jls_interval.specs.Reading.{NoSample, NoInterruption}
 use Rattle.jls_interval.specs.Code.{interrupting_bits}
 use Rattle.jls_interval.proofs.Golomb.{golomb_same}

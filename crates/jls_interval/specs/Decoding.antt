@@ -1,12 +1,12 @@
 -- What a decoder that is given a few bits at a time keeps.
-use Rattle.std.specs.Prelude.{◌≡◌, ℕ, ◌%◌, ◌<◌, ◌≤◌, Bool, true, false, List, [], ◌++◌, length, get_or, map, min}
+use Rattle.std.specs.Prelude.{◌≡◌, ℕ, ◌%◌, ◌<◌, ◌≤◌, Bool, true, false, List, ◌++◌, length, get_or, map, min}
 use Rattle.jls_values.specs.Params.{CodingParameters}
 use Rattle.jls_context.specs.Variables.{Variables}
 use Rattle.jls_interval.specs.Lines.{AreLines}
 use Rattle.jls_interval.specs.Events.{Event, above}
 use Rattle.jls_interval.specs.Code.{code}
 use Rattle.jls_interval.specs.Stepwise.{Leads, bits_of_steps}
-use Rattle.jls_interval.specs.Growth.{Position, HasSamples, interval_steps, start}
+use Rattle.jls_interval.specs.Growth.{HasSamples, interval_steps, start}
 use Rattle.jls_interval.specs.After.{IsAfter}
 use Rattle.jls_interval.specs.Hands.{HandAt}
 use Rattle.jls_interval.specs.PieceFaults.{NoLines}
@@ -55,7 +55,8 @@ pub record IsReading (p : CodingParameters) (given : List Bool) (d : IntervalRea
   pub lines_at_most : length d.lines.items ≤ d.count
   pub lines_paid : length d.lines.items ≤ length given
   pub line_at_most : length d.reader.line.items ≤ d.reader.width
-  pub state_is : StateIs p d.reader.width d.components d.count given (map (λ v. v.items) d.lines.items) d.reader.line.items d.reader.coder.cells d.reader.coder.run_indices d.reader.hand d.state
+  pub state_is : StateIs p d.reader.width d.components d.count given (map
+      (λ v. v.items) d.lines.items) d.reader.line.items d.reader.coder.cells d.reader.coder.run_indices d.reader.hand d.state
 
 -- all bits of a chunk were taken
 abbrev pub TakesAll : IntervalReader → IntervalReader → List Bool → Type 0

@@ -20,8 +20,10 @@ written_by encoder =
 
 -- from one state to the other the bits of these events were written, whatever the earlier events
 pub record Writes (p : CodingParameters) (old new : Written) (later : List Event) : Type 0 where
-  pub is_after : (earlier : List Event) → IsAfter p old.cells old.run_indices earlier → IsAfter p new.cells new.run_indices (earlier ++ later)
-  pub bits_are : (earlier : List Event) → IsAfter p old.cells old.run_indices earlier → new.written ≡ old.written ++ bits_of_events p earlier later
+  pub is_after : (earlier : List Event) → IsAfter p old.cells old.run_indices earlier → IsAfter p new.cells new.run_indices (earlier
+      ++ later)
+  pub bits_are : (earlier : List Event) → IsAfter p old.cells old.run_indices earlier → new.written ≡ old.written
+      ++ bits_of_events p earlier later
 
 -- the columns of a line before column x were written
 pub record IsBegun (p : CodingParameters) (component : ℕ) (up : Above) (line : List ℕ) (x : ℕ) (old new : Written) : Type 0 where

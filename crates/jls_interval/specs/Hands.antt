@@ -33,11 +33,14 @@ behind w up line count = neighbours w up (line ++ replicate count (now_at w up l
 abbrev pub HandAt : CodingParameters → ℕ → Above → List ℕ → Variables → ℕ → Hand → List Bool → Type 0
 HandAt p w up line cells r Fresh told = told ≡ []
 HandAt p w up line cells r (Sample code) told =
-    (is_run_mode (now_at w up line) ≡ false) × IsOpen (regular_k (cell_at cells (context p (now_at w up line)))) (limit p) (qbpp p) code × (told ≡ bits_told (limit p) (qbpp p) code)
+    (is_run_mode (now_at w up line) ≡ false) × IsOpen (regular_k (cell_at cells (context p (now_at w up line)))) (limit p) (qbpp p) code
+    × (told ≡ bits_told (limit p) (qbpp p) code)
 HandAt p w up line cells r (InRun state) told =
     (is_run_mode (now_at w up line) ≡ true) × IsRunState (w - length line) state × RunAt r (w - length line) told state
 HandAt p w up line cells r (Interruption i) told =
-    (is_run_mode (now_at w up line) ≡ true) × (i.run_index ≤ 31) × IsOpen (run_k (is_same (behind w up line i.count)) (run_cell_at cells (is_same (behind w up line i.count)))) (limit p - run_order i.run_index - 1) (qbpp p) i.code × RunIs r (w - length line) told (bits_told (limit p - run_order i.run_index - 1) (qbpp p) i.code) (Interrupted i.count i.run_index)
+    (is_run_mode (now_at w up line) ≡ true) × (i.run_index ≤ 31)
+    × IsOpen (run_k (is_same (behind w up line i.count)) (run_cell_at cells (is_same (behind w up line i.count)))) (limit p - run_order i.run_index - 1) (qbpp p) i.code
+    × RunIs r (w - length line) told (bits_told (limit p - run_order i.run_index - 1) (qbpp p) i.code) (Interrupted i.count i.run_index)
 
 -- the same of what a reader holds, in a line of a component
 abbrev pub Holds : ℕ → Above → LineReader → List Bool → Type 0
@@ -47,7 +50,8 @@ Holds component up reader told =
 -- no event that can come next stands at the front of the bits
 abbrev pub NoEvent : CodingParameters → ℕ → ℕ → Above → List ℕ → List Bool → List Event → Type 0
 NoEvent p w component up line given earlier =
-    (event : Event) (rest : List Bool) → Fits p w component up line (now_at w up line) event → given ≡ event_bits p earlier event ++ rest → ⊥
+    (event : Event) (rest : List Bool) → Fits p w component up line (now_at w up line) event → given ≡ event_bits p earlier event ++ rest
+    → ⊥
 
 -- the bits are an event's that can come next, the line grew by its samples, and these are the variables and RUNindices after it
 pub record EventDone (p : CodingParameters) (w component : ℕ) (up : Above) (line line' : List ℕ) (cells' : Variables) (run_indices' : List ℕ) (told : List Bool) (earlier : List Event) : Type 0 where
@@ -60,11 +64,14 @@ pub record EventDone (p : CodingParameters) (w component : ℕ) (up : Above) (li
 -- what a step says of the bits told: the line stays until the event is whole
 abbrev pub EventStepIs : ℕ → Above → LineReader → LineReader → List Bool → List Event → EventStep → Type 0
 EventStepIs component up old new told earlier More =
-    (new.line.items ≡ old.line.items) × (new.coder.cells ≡ old.coder.cells) × (new.coder.run_indices ≡ old.coder.run_indices) × HandAt old.coder.cells.parameters old.width up old.line.items old.coder.cells (get_or old.coder.run_indices component 0) new.hand told
+    (new.line.items ≡ old.line.items) × (new.coder.cells ≡ old.coder.cells) × (new.coder.run_indices ≡ old.coder.run_indices)
+    × HandAt old.coder.cells.parameters old.width up old.line.items old.coder.cells (get_or old.coder.run_indices component 0) new.hand told
 EventStepIs component up old new told earlier Moved =
-    EventDone old.coder.cells.parameters old.width component up old.line.items new.line.items new.coder.cells new.coder.run_indices told earlier × (new.hand ≡ Fresh)
+    EventDone old.coder.cells.parameters old.width component up old.line.items new.line.items new.coder.cells new.coder.run_indices told earlier
+    × (new.hand ≡ Fresh)
 EventStepIs component up old new told earlier Refused =
-    (new.line.items ≡ old.line.items) × ((more : List Bool) → NoEvent old.coder.cells.parameters old.width component up old.line.items (told ++ more) earlier)
+    (new.line.items ≡ old.line.items) × ((more : List Bool) → NoEvent old.coder.cells.parameters old.width component up old.line.items (told
+    ++ more) earlier)
 
 -- an event that isn't whole has taken all bits
 abbrev pub HasTakenAll : EventStep → List Bool → Type 0

@@ -33,7 +33,8 @@ abbrev pub InterruptionStepIs : CodingParameters → RunCell → Neighbours → 
 InterruptionStepIs p cell near order told (More code) =
     IsOpen (run_k (is_same near) cell) (limit p - order - 1) (qbpp p) code × (told ≡ bits_told (limit p - order - 1) (qbpp p) code)
 InterruptionStepIs p cell near order told (Done s) =
-    (s.value ≤ p.maxval) × (s.value ≢ near.ra) × (s.error ≡ interruption_error p near s.value) × IsError p s.error × (is_same near ≡ true → s.error ≢ pos 0) × (told ≡ interrupting_bits p cell near order s.value)
+    (s.value ≤ p.maxval) × (s.value ≢ near.ra) × (s.error ≡ interruption_error p near s.value) × IsError p s.error × (is_same near ≡ true
+    → s.error ≢ pos 0) × (told ≡ interrupting_bits p cell near order s.value)
 InterruptionStepIs p cell near order told Refused =
     (more : List Bool) → NoInterruption p cell near order (told ++ more)
 

@@ -43,7 +43,8 @@ pub fn decode_interval(
     requires samples { width * components * rows ≤ 2 ^ 28 }
     ensures lines { IfOk result (λ v. Reads params.now width components (rows * components) piece.now (map (λ v. v.items) v.items)) }
     ensures fault { IfErr result (λ fault. FaultIs fault params.now width components (rows * components) piece.now) }
-    ensures read { (lines : List (List ℕ)) → Reads params.now width components (rows * components) piece.now lines → MatchResult result (λ v. map (λ v. v.items) v.items ≡ lines) (λ fault. fault ≡ PieceFault.OutOfMemory) }
+    ensures read { (lines : List (List ℕ)) → Reads params.now width components (rows * components) piece.now lines → MatchResult result
+        (λ v. map (λ v. v.items) v.items ≡ lines) (λ fault. fault ≡ PieceFault.OutOfMemory) }
 {
     let mut decoder = IntervalDecoder::new(alloc, params, width, components, rows);
     match decoder.push_all(piece) {

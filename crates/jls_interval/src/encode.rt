@@ -34,7 +34,8 @@ fn write_lines(
     lines: &[Vec<u16>],
 ) -> Result<(), AllocError>
     requires lines { FitsInterval encoder.old.coder.cells.parameters width components (map (λ v. v.items) lines.now) }
-    requires start { AreWritten encoder.old.coder.cells.parameters width components (map (λ v. v.items) lines.now) 0 (written_by encoder.old) }
+    requires start { AreWritten encoder.old.coder.cells.parameters width components (map
+        (λ v. v.items) lines.now) 0 (written_by encoder.old) }
     ensures { OnOk result (encoder.new.writer ≡ code encoder.old.coder.cells.parameters width components (map (λ v. v.items) lines.now)) }
 {
     for j in 0..lines.len() {

@@ -78,15 +78,19 @@ fn write_stretch(
     ensures written { OnOk result (Writes encoder.old.coder.cells.parameters (written_by encoder.old) (written_by encoder.new) ((stretch (length line.now) place.now.component (above_of place.now) line.now x).event ∷ [])) }
     ensures parameters { encoder.new.coder.cells.parameters ≡ encoder.old.coder.cells.parameters }
 {
-    let near = place.neighbours(line.len(), line, x);
-    match encoder.coder.cells.mode(near.ra, near.rb, near.rc, near.rd) {
-        Mode::Run => write_run(encoder, place, line, x, near.ra),
+    let neighbours = place.neighbours(line.len(), line, x);
+    match encoder
+        .coder
+        .cells
+        .mode(neighbours.ra, neighbours.rb, neighbours.rc, neighbours.rd)
+    {
+        Mode::Run => write_run(encoder, place, line, x, neighbours.ra),
         Mode::Regular { cell, negative } => {
             let mode = RegularMode {
                 context: cell,
                 negative,
             };
-            write_regular(encoder, near, mode, line[x])?;
+            write_regular(encoder, neighbours, mode, line[x])?;
             Ok(x + 1)
         }
     }

@@ -61,7 +61,8 @@ pub(crate) fn write_interrupting(
     requires order { order ≤ 15 }
     requires sample { sample ≤ encoder.old.coder.cells.parameters.maxval }
     requires another { sample ≢ neighbours.ra }
-    ensures written { OnOk result (encoder.new.writer ≡ encoder.old.writer ++ interrupting_bits encoder.old.coder.cells.parameters (run_cell_at encoder.old.coder.cells (is_same neighbours)) neighbours order sample) }
+    ensures written { OnOk result (encoder.new.writer ≡ encoder.old.writer
+        ++ interrupting_bits encoder.old.coder.cells.parameters (run_cell_at encoder.old.coder.cells (is_same neighbours)) neighbours order sample) }
     ensures updated { OnOk result (run_cell_at encoder.new.coder.cells (is_same neighbours) ≡ run_updated encoder.old.coder.cells.parameters.reset (is_same neighbours) (run_cell_at encoder.old.coder.cells (is_same neighbours)) (interruption_error encoder.old.coder.cells.parameters neighbours sample)) }
     ensures other { run_cell_at encoder.new.coder.cells (not (is_same neighbours)) ≡ run_cell_at encoder.old.coder.cells (not (is_same neighbours)) }
     ensures regular { encoder.new.coder.cells.regular ≡ encoder.old.coder.cells.regular }

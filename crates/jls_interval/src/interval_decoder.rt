@@ -129,7 +129,8 @@ impl IntervalDecoder {
     fn outcome(self) -> Result<Vec<Vec<u16>>, PieceFault>
         ensures in_range { AreCodingParameters self.parameters }
         ensures width { 0 < self.width }
-        ensures outcome { MatchOption self.bytes (result ≡ Err PieceFault.OutOfMemory) (λ bytes. OutcomeIs self.parameters self.width self.components (self.rows * self.components) bytes result) }
+        ensures outcome { MatchOption self.bytes (result ≡ Err PieceFault.OutOfMemory)
+            (λ bytes. OutcomeIs self.parameters self.width self.components (self.rows * self.components) bytes result) }
     {
         if self.refused {
             return Err(PieceFault::OutOfMemory);
@@ -157,8 +158,11 @@ impl IntervalDecoder {
     /// bits may follow the code, of any value, which is this profile's choice. A byte of 0x80 or more behind
     /// 0xFF makes the piece broken wherever it stands (ITU-T T.87, A.1).
     pub fn finish(self) -> Result<Vec<Vec<u16>>, PieceFault>
-        ensures outcome { MatchOption self.bytes (result ≡ Err PieceFault.OutOfMemory) (λ bytes. OutcomeIs self.parameters self.width self.components (self.rows * self.components) bytes result) }
-        ensures read { IfSome self.bytes (λ bytes. (lines : List (List ℕ)) → Reads self.parameters self.width self.components (self.rows * self.components) bytes lines → MatchResult result (λ v. map (λ v. v.items) v.items ≡ lines) (λ fault. ⊥)) }
+        ensures outcome { MatchOption self.bytes (result ≡ Err PieceFault.OutOfMemory)
+            (λ bytes. OutcomeIs self.parameters self.width self.components (self.rows * self.components) bytes result) }
+        ensures read { IfSome self.bytes (λ bytes. (lines : List (List ℕ))
+            → Reads self.parameters self.width self.components (self.rows * self.components) bytes lines → MatchResult result (λ v. map
+            (λ v. v.items) v.items ≡ lines) (λ fault. ⊥)) }
     {
         self.outcome()
     }

@@ -37,7 +37,11 @@ fn push_to_regular(
 ) -> Result<EventStep, AllocError>
     requires mode { IsRegularMode reader.old.coder.cells.parameters neighbours mode.context mode.negative }
     requires opened { IsOpen (regular_k (cell_at reader.old.coder.cells mode.context)) (limit reader.old.coder.cells.parameters) (qbpp reader.old.coder.cells.parameters) code }
-    ensures step { IfOk result (λ s. (component : ℕ) (up : Above) (told : List Bool) (earlier : List Event) → neighbours ≡ now_at reader.old.width up reader.old.line.items → IsAfter reader.old.coder.cells.parameters reader.old.coder.cells reader.old.coder.run_indices earlier → told ≡ bits_told (limit reader.old.coder.cells.parameters) (qbpp reader.old.coder.cells.parameters) code → EventPushed component up reader.old reader.new told chunk.old chunk.new earlier s) }
+    ensures step { IfOk result (λ s. (component : ℕ) (up : Above) (told : List Bool) (earlier : List Event)
+        → neighbours ≡ now_at reader.old.width up reader.old.line.items
+        → IsAfter reader.old.coder.cells.parameters reader.old.coder.cells reader.old.coder.run_indices earlier
+        → told ≡ bits_told (limit reader.old.coder.cells.parameters) (qbpp reader.old.coder.cells.parameters) code
+        → EventPushed component up reader.old reader.new told chunk.old chunk.new earlier s) }
     ensures width { reader.new.width ≡ reader.old.width }
     ensures parameters { reader.new.coder.cells.parameters ≡ reader.old.coder.cells.parameters }
 {
@@ -83,7 +87,10 @@ fn push_to_interrupted(
     requires columns { interruption.count < reader.old.width - length reader.old.line.items }
     requires run_index { interruption.run_index ≤ 31 }
     requires opened { let there = behind reader.old.width (above_of place.now) reader.old.line.items interruption.count in IsOpen (run_k (is_same there) (run_cell_at reader.old.coder.cells (is_same there))) (limit reader.old.coder.cells.parameters - Runs.run_order interruption.run_index - 1) (qbpp reader.old.coder.cells.parameters) interruption.code }
-    ensures step { IfOk result (λ s. (told : List Bool) (earlier : List Event) → IsAfter reader.old.coder.cells.parameters reader.old.coder.cells reader.old.coder.run_indices earlier → RunIs (get_or reader.old.coder.run_indices place.now.component 0) (reader.old.width - length reader.old.line.items) told (bits_told (limit reader.old.coder.cells.parameters - Runs.run_order interruption.run_index - 1) (qbpp reader.old.coder.cells.parameters) interruption.code) (Interrupted interruption.count interruption.run_index) → EventPushed place.now.component (above_of place.now) reader.old reader.new told chunk.old chunk.new earlier s) }
+    ensures step { IfOk result (λ s. (told : List Bool) (earlier : List Event)
+        → IsAfter reader.old.coder.cells.parameters reader.old.coder.cells reader.old.coder.run_indices earlier
+        → RunIs (get_or reader.old.coder.run_indices place.now.component 0) (reader.old.width - length reader.old.line.items) told (bits_told (limit reader.old.coder.cells.parameters - Runs.run_order interruption.run_index - 1) (qbpp reader.old.coder.cells.parameters) interruption.code) (Interrupted interruption.count interruption.run_index)
+        → EventPushed place.now.component (above_of place.now) reader.old reader.new told chunk.old chunk.new earlier s) }
     ensures width { reader.new.width ≡ reader.old.width }
     ensures parameters { reader.new.coder.cells.parameters ≡ reader.old.coder.cells.parameters }
 {
@@ -137,7 +144,10 @@ fn push_to_run(
     requires run { is_run_mode (now_at reader.old.width (above_of place.now) reader.old.line.items) ≡ true }
     requires value { value ≡ (now_at reader.old.width (above_of place.now) reader.old.line.items).ra }
     requires state { IsRunState (reader.old.width - length reader.old.line.items) state }
-    ensures step { IfOk result (λ s. (told : List Bool) (earlier : List Event) → IsAfter reader.old.coder.cells.parameters reader.old.coder.cells reader.old.coder.run_indices earlier → RunAt (get_or reader.old.coder.run_indices place.now.component 0) (reader.old.width - length reader.old.line.items) told state → EventPushed place.now.component (above_of place.now) reader.old reader.new told chunk.old chunk.new earlier s) }
+    ensures step { IfOk result (λ s. (told : List Bool) (earlier : List Event)
+        → IsAfter reader.old.coder.cells.parameters reader.old.coder.cells reader.old.coder.run_indices earlier
+        → RunAt (get_or reader.old.coder.run_indices place.now.component 0) (reader.old.width - length reader.old.line.items) told state
+        → EventPushed place.now.component (above_of place.now) reader.old reader.new told chunk.old chunk.new earlier s) }
     ensures width { reader.new.width ≡ reader.old.width }
     ensures parameters { reader.new.coder.cells.parameters ≡ reader.old.coder.cells.parameters }
 {
@@ -175,23 +185,30 @@ pub(crate) fn push_to_event(
     requires above { AllByRecursion (λ s. s ≤ reader.old.coder.cells.parameters.maxval) place.now.line_above.now }
     requires columns { length reader.old.line.items < reader.old.width }
     requires hand { (told : List Bool) × Holds place.now.component (above_of place.now) reader.old told }
-    ensures step { IfOk result (λ s. (told : List Bool) (earlier : List Event) → IsAfter reader.old.coder.cells.parameters reader.old.coder.cells reader.old.coder.run_indices earlier → Holds place.now.component (above_of place.now) reader.old told → EventPushed place.now.component (above_of place.now) reader.old reader.new told chunk.old chunk.new earlier s) }
+    ensures step { IfOk result (λ s. (told : List Bool) (earlier : List Event)
+        → IsAfter reader.old.coder.cells.parameters reader.old.coder.cells reader.old.coder.run_indices earlier
+        → Holds place.now.component (above_of place.now) reader.old told
+        → EventPushed place.now.component (above_of place.now) reader.old reader.new told chunk.old chunk.new earlier s) }
     ensures width { reader.new.width ≡ reader.old.width }
     ensures parameters { reader.new.coder.cells.parameters ≡ reader.old.coder.cells.parameters }
 {
     let column = reader.line.len();
     let columns = (reader.width - column) as u32;
-    let near = place.neighbours(reader.width, &reader.line, column);
-    match reader.coder.cells.mode(near.ra, near.rb, near.rc, near.rd) {
+    let neighbours = place.neighbours(reader.width, &reader.line, column);
+    match reader
+        .coder
+        .cells
+        .mode(neighbours.ra, neighbours.rb, neighbours.rc, neighbours.rd)
+    {
         Mode::Run => match reader.hand {
             Hand::Fresh => {
                 let run_index = reader.coder.run_index(place.component);
                 let state = RunState::Blocks { run_index, columns };
-                push_to_run(reader, place, near.ra, state, chunk)
+                push_to_run(reader, place, neighbours.ra, state, chunk)
             }
-            Hand::InRun(state) => push_to_run(reader, place, near.ra, state, chunk),
+            Hand::InRun(state) => push_to_run(reader, place, neighbours.ra, state, chunk),
             Hand::Interruption(interruption) => {
-                push_to_interrupted(reader, place, near.ra, interruption, chunk)
+                push_to_interrupted(reader, place, neighbours.ra, interruption, chunk)
             }
             Hand::Sample(_) => unreachable!(),
         },
@@ -201,8 +218,8 @@ pub(crate) fn push_to_event(
                 negative,
             };
             match reader.hand {
-                Hand::Fresh => push_to_regular(reader, near, mode, CodeState::START, chunk),
-                Hand::Sample(code) => push_to_regular(reader, near, mode, code, chunk),
+                Hand::Fresh => push_to_regular(reader, neighbours, mode, CodeState::START, chunk),
+                Hand::Sample(code) => push_to_regular(reader, neighbours, mode, code, chunk),
                 Hand::InRun(_) => unreachable!(),
                 Hand::Interruption(_) => unreachable!(),
             }

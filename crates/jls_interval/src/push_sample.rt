@@ -45,10 +45,14 @@ fn sample_of(
     requires mode { IsRegularMode coder.now.cells.parameters neighbours mode.context mode.negative }
     requires code { has_golomb (regular_k (cell_at coder.now.cells mode.context)) (limit coder.now.cells.parameters) (qbpp coder.now.cells.parameters) mapped ≡ true }
     ensures sample { IfSome result (λ s. s.value ≤ coder.now.cells.parameters.maxval) }
-    ensures error { IfSome result (λ s. s.error ≡ regular_error coder.now.cells.parameters (cell_at coder.now.cells mode.context) neighbours s.value) }
+    ensures error { IfSome result
+        (λ s. s.error ≡ regular_error coder.now.cells.parameters (cell_at coder.now.cells mode.context) neighbours s.value) }
     ensures reduced { IfSome result (λ s. IsError coder.now.cells.parameters s.error) }
-    ensures bits { IfSome result (λ s. regular_bits coder.now.cells.parameters (cell_at coder.now.cells mode.context) neighbours s.value ≡ golomb (regular_k (cell_at coder.now.cells mode.context)) (limit coder.now.cells.parameters) (qbpp coder.now.cells.parameters) mapped) }
-    ensures none { IfNone result ((given unread : List Bool) → given ≡ golomb (regular_k (cell_at coder.now.cells mode.context)) (limit coder.now.cells.parameters) (qbpp coder.now.cells.parameters) mapped ++ unread → NoSample coder.now.cells.parameters (cell_at coder.now.cells mode.context) neighbours given) }
+    ensures bits { IfSome result
+        (λ s. regular_bits coder.now.cells.parameters (cell_at coder.now.cells mode.context) neighbours s.value ≡ golomb (regular_k (cell_at coder.now.cells mode.context)) (limit coder.now.cells.parameters) (qbpp coder.now.cells.parameters) mapped) }
+    ensures none { IfNone result ((given unread : List Bool)
+        → given ≡ golomb (regular_k (cell_at coder.now.cells mode.context)) (limit coder.now.cells.parameters) (qbpp coder.now.cells.parameters) mapped
+        ++ unread → NoSample coder.now.cells.parameters (cell_at coder.now.cells mode.context) neighbours given) }
 {
     let RegularMode { context, negative } = mode;
     match coder.cells.regular_error(context, mapped) {
@@ -96,8 +100,11 @@ fn interruption_of(coder: &Coder, neighbours: Neighbours, order: u8, mapped: u32
     ensures error { IfSome result (λ s. s.error ≡ interruption_error coder.now.cells.parameters neighbours s.value) }
     ensures reduced { IfSome result (λ s. IsError coder.now.cells.parameters s.error) }
     ensures another_error { IfSome result (λ s. is_same neighbours ≡ true → s.error ≢ pos 0) }
-    ensures bits { IfSome result (λ s. interrupting_bits coder.now.cells.parameters (run_cell_at coder.now.cells (is_same neighbours)) neighbours order s.value ≡ golomb (run_k (is_same neighbours) (run_cell_at coder.now.cells (is_same neighbours))) (limit coder.now.cells.parameters - order - 1) (qbpp coder.now.cells.parameters) mapped) }
-    ensures none { IfNone result ((given unread : List Bool) → given ≡ golomb (run_k (is_same neighbours) (run_cell_at coder.now.cells (is_same neighbours))) (limit coder.now.cells.parameters - order - 1) (qbpp coder.now.cells.parameters) mapped ++ unread → NoInterruption coder.now.cells.parameters (run_cell_at coder.now.cells (is_same neighbours)) neighbours order given) }
+    ensures bits { IfSome result
+        (λ s. interrupting_bits coder.now.cells.parameters (run_cell_at coder.now.cells (is_same neighbours)) neighbours order s.value ≡ golomb (run_k (is_same neighbours) (run_cell_at coder.now.cells (is_same neighbours))) (limit coder.now.cells.parameters - order - 1) (qbpp coder.now.cells.parameters) mapped) }
+    ensures none { IfNone result ((given unread : List Bool)
+        → given ≡ golomb (run_k (is_same neighbours) (run_cell_at coder.now.cells (is_same neighbours))) (limit coder.now.cells.parameters - order - 1) (qbpp coder.now.cells.parameters) mapped
+        ++ unread → NoInterruption coder.now.cells.parameters (run_cell_at coder.now.cells (is_same neighbours)) neighbours order given) }
 {
     let Neighbours { ra, rb, .. } = neighbours;
     match coder.cells.run_error(ra == rb, mapped) {

@@ -87,7 +87,8 @@ impl RunState {
 fn push_to_blocks(run_index: u8, columns: u32, width: u32, bit: bool) -> RunStep
     requires { IsRunState width (Blocks run_index columns) }
     ensures state { IsRunStep width result }
-    ensures step { (r0 : ℕ) (given : List Bool) → RunAt r0 width given (Blocks run_index columns) → RunStepIs r0 width (given ++ bit ∷ []) result }
+    ensures step { (r0 : ℕ) (given : List Bool) → RunAt r0 width given (Blocks run_index columns) → RunStepIs r0 width (given
+        ++ bit ∷ []) result }
 {
     if bit {
         push_one(run_index, columns, width)
@@ -108,7 +109,8 @@ fn push_to_blocks(run_index: u8, columns: u32, width: u32, bit: bool) -> RunStep
 fn push_one(run_index: u8, columns: u32, width: u32) -> RunStep
     requires { IsRunState width (Blocks run_index columns) }
     ensures state { IsRunStep width result }
-    ensures step { (r0 : ℕ) (given : List Bool) → RunAt r0 width given (Blocks run_index columns) → RunStepIs r0 width (given ++ true ∷ []) result }
+    ensures step { (r0 : ℕ) (given : List Bool) → RunAt r0 width given (Blocks run_index columns) → RunStepIs r0 width (given
+        ++ true ∷ []) result }
 {
     let block = block_columns(run_index);
     if columns < block {
@@ -136,7 +138,8 @@ fn push_to_count(
 ) -> RunStep
     requires { IsRunState width (Count run_index columns bits value) }
     ensures state { IsRunStep width result }
-    ensures step { (r0 : ℕ) (given : List Bool) → RunAt r0 width given (Count run_index columns bits value) → RunStepIs r0 width (given ++ bit ∷ []) result }
+    ensures step { (r0 : ℕ) (given : List Bool) → RunAt r0 width given (Count run_index columns bits value) → RunStepIs r0 width (given
+        ++ bit ∷ []) result }
 {
     let value = 2 * value + bit as u32;
     let bits = bits + 1;

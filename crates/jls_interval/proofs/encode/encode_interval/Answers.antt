@@ -5,7 +5,7 @@ use Rattle.jls_bits.specs.Pad.{IsPad, pad}
 use Rattle.jls_bits.proofs.Padding.{one_pad, pad_is_pad}
 use Rattle.jls_context.specs.Variables.{Variables}
 use Rattle.jls_interval.specs.Code.{code}
-use Rattle.jls_interval.specs.Encoding.{AreWritten, written_by}
+use Rattle.jls_interval.specs.Encoding.{AreWritten}
 use Rattle.jls_interval.proofs.EncodedLines.{written_start}
 use Rattle.jls_interval.proofs.encode.encode_interval.Goals as goal
 

@@ -1,25 +1,20 @@
-use Rattle.std.proofs.Common.{◌≡◌, ℕ, ◌-◌, ◌+◌, ◌<◌, ◌≤◌, replicate, refl, List, Bool, true, [], ◌∷◌, ◌++◌, length, get_or, arith, ap, sym, subst, ◌∙◌, append_assoc}
+use Rattle.std.proofs.Common.{◌≡◌, ℕ, ◌-◌, ◌+◌, replicate, refl, List, Bool, [], ◌∷◌, ◌++◌, length, get_or, arith, ap, sym, subst, ◌∙◌}
 use Rattle.std.proofs.lemmas.List.{append-nil}
 use Rattle.std.proofs.lemmas.Result.{IfOk-weaker}
-use Rattle.jls_values.specs.Params.{limit, qbpp}
-use Rattle.jls_context.specs.Interruption.{run_k}
-use Rattle.jls_context.specs.Variables.{Variables, run_cell_at}
+use Rattle.jls_context.specs.Variables.{Variables}
 use Rattle.jls_interval.specs.Events.{Event, Above, run_to_end}
-use Rattle.jls_interval.specs.Cells.{is_same}
 use Rattle.jls_interval.specs.Runs.{run_order}
-use Rattle.jls_interval.specs.RunState.{RunAt, RunIs, IsRun, IsRunState, RunStepIs}
-use Rattle.jls_interval.specs.RunChunks.{RunPushed}
+use Rattle.jls_interval.specs.RunState.{RunAt, RunIs, IsRunState, RunStepIs}
 use Rattle.jls_interval.specs.After.{IsAfter}
 use Rattle.jls_interval.specs.Place.{above_of}
-use Rattle.jls_interval.specs.Hands.{now_at, behind, EventPushed}
+use Rattle.jls_interval.specs.Hands.{behind, EventPushed}
 use Rattle.jls_interval.specs.declared.line_reader.EventStep.{EventStep}
 use Rattle.jls_interval.specs.declared.run_reader.Run.TheVariants.{ToEnd, Interrupted}
-use Rattle.jls_interval.specs.declared.run_reader.RunStep.TheVariants.{More, Done, Refused}
-use Rattle.jls_interval.proofs.EventsApart.{limit_room, j_small}
+use Rattle.jls_interval.specs.declared.run_reader.RunStep.TheVariants.{Refused}
 use Rattle.jls_interval.proofs.SamplesRead.{wide}
 use Rattle.jls_interval.proofs.RunEvents.{run_none, run_end}
 use Rattle.jls_interval.proofs.AfterEvents.{after_end, after_same}
-use Rattle.jls_interval.proofs.HandBits.{start_open, run_then}
+use Rattle.jls_interval.proofs.HandBits.{run_then}
 use Rattle.jls_interval.proofs.push_event.push_to_run.Goals as goal
 
 pub returns-in-More-clause-step : goal.returns-in-More-clause-step

@@ -1,15 +1,10 @@
-use Rattle.std.proofs.Common.{◌≡◌, ℕ, ◌-◌, [], ◌++◌, w32, to_z, of_z, arith, refl, sym, ◌∙◌}
+use Rattle.std.proofs.Common.{◌≡◌, w32, to_z, of_z, arith, ◌∙◌}
 use Rattle.std.specs.Prelude.{ℤ}
 use Rattle.std.proofs.lemmas.Int.{ints}
-use Rattle.std.proofs.lemmas.List.{append-nil}
-use Rattle.jls_values.specs.Params.{limit, qbpp}
 use Rattle.jls_context.specs.declared.interruption.RunCell.{RunCell}
-use Rattle.jls_context.specs.Interruption.{run_k}
 use Rattle.jls_context.specs.Variables.{run_cell_at}
-use Rattle.jls_bits.specs.Golomb.{golomb}
 use Rattle.jls_interval.specs.Cells.{is_same}
-use Rattle.jls_interval.specs.Code.{interrupting_bits}
-use Rattle.jls_interval.proofs.SamplesRead.{interruption_wrong, interruption_own, interruption_right}
+use Rattle.jls_interval.proofs.SamplesRead.{interruption_wrong, interruption_own}
 use Rattle.jls_interval.proofs.push_sample.interruption_of.Goals as goal
 
 pub returns-in-None-clause-none : goal.returns-in-None-clause-none

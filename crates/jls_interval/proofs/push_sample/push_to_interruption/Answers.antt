@@ -1,4 +1,4 @@
-use Rattle.std.proofs.Common.{◌≡◌, ℕ, ◌-◌, List, Bool, [], ◌++◌, ap, sym}
+use Rattle.std.proofs.Common.{ℕ, ◌-◌, ◌++◌, ap, sym}
 use Rattle.jls_values.specs.Params.{limit, qbpp}
 use Rattle.jls_context.specs.declared.interruption.RunCell.{RunCell}
 use Rattle.jls_context.specs.Interruption.{run_k}

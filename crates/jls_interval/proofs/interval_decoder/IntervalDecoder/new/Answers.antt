@@ -1,10 +1,10 @@
-use Rattle.std.proofs.Common.{◌≡◌, ◌<◌, ◌≤◌, ◌*◌, ℕ, true, false, List, Vec, Global, map, length, [], refl, sym, ap, subst, ◌∙◌, arith}
+use Rattle.std.proofs.Common.{◌≡◌, ◌<◌, ◌≤◌, ◌*◌, ℕ, true, false, length, [], sym, ap, subst, ◌∙◌, arith}
 use Rattle.std.specs.List.{AllByRecursion}
 use Rattle.std.proofs.lemmas.Nat.{mul-le}
 use Rattle.jls_context.specs.Variables.{Variables}
 use Rattle.jls_bits.specs.Bits.{bits_read, is_whole}
 use Rattle.jls_bits.proofs.DataBits.{whole_end}
-use Rattle.jls_interval.specs.Decoding.{IsWorking, IsReading}
+use Rattle.jls_interval.specs.Decoding.{IsWorking}
 use Rattle.jls_interval.specs.declared.line_reader.Hand.TheVariants.{Fresh}
 use Rattle.jls_interval.proofs.Decoding.{working_start}
 use Rattle.jls_interval.proofs.IntervalReading.{items}

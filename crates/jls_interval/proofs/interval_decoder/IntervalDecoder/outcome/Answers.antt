@@ -1,4 +1,4 @@
-use Rattle.std.proofs.Common.{◌≡◌, ℕ, ◌*◌, false, List, map, Vec, Global, Result, Err, sym, subst}
+use Rattle.std.proofs.Common.{◌≡◌, ℕ, ◌*◌, List, map, Vec, Global, Result, Err, sym, subst}
 use Rattle.std.specs.Prelude.{MatchOption}
 use Rattle.jls_bits.specs.Bits.{bits_read}
 use Rattle.jls_interval.specs.Reads.{IsBroken}

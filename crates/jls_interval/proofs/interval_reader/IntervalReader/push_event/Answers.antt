@@ -1,14 +1,11 @@
-use Rattle.std.proofs.Common.{◌≡◌, ℕ, ◌+◌, ◌%◌, ◌<◌, ◌≤◌, List, Bool, Vec, Global, length, [], ◌∷◌, ◌++◌, refl, sym, ap, ◌∙◌, subst, arith}
+use Rattle.std.proofs.Common.{◌≡◌, ℕ, ◌%◌, ◌<◌, ◌≤◌, List, Bool, Vec, Global, length, [], ◌∷◌, ◌++◌, refl, sym, ap, ◌∙◌, subst, arith}
 use Rattle.std.proofs.lemmas.List.{length-map, length-append, map-append}
-use Rattle.jls_values.specs.Params.{CodingParameters}
 use Rattle.jls_interval.specs.Events.{Event, Above, above}
 use Rattle.jls_interval.specs.After.{IsAfter}
-use Rattle.jls_interval.specs.Hands.{Holds, EventPushed, EventDone}
+use Rattle.jls_interval.specs.Hands.{Holds, EventPushed}
 use Rattle.jls_interval.specs.Place.{above_of}
-use Rattle.jls_interval.specs.Decoding.{IsWorking, IsOver, IsDead, IsReading, StateIs}
+use Rattle.jls_interval.specs.Decoding.{IsWorking, IsOver, IsDead, StateIs}
 use Rattle.jls_interval.specs.declared.line_reader.EventStep.{EventStep}
-use Rattle.jls_interval.specs.declared.line_reader.EventStep.TheVariants.{More, Moved, Refused}
-use Rattle.jls_interval.specs.declared.interval_reader.State.TheVariants.{Working}
 use Rattle.jls_interval.proofs.Decoding.{working_takes, working_on, working_line, working_over}
 use Rattle.jls_interval.proofs.IntervalReading.{items, line_fits, state_same, working, in_range, more_state, more_same, refused_same, refused_state, moved_taken}
 use Rattle.jls_interval.proofs.interval_reader.IntervalReader.push_event.Goals as goal
