@@ -20,6 +20,7 @@ pub record JoinRan (out : Text) (names : List Text) (joined : PartialPicture) (s
 -- settled; and nothing is reported or printed
 abbrev pub DoneJoinsRan : Type 0
 DoneJoinsRan =
-    (words : List Text) (status : ℕ) (desk desk' report report' faults faults' : History) → Ran words status desk desk' report report' faults faults'
+    (words : List Text) (status : ℕ) (desk desk' report report' faults faults' : History)
+    → Ran words status desk desk' report report' faults faults'
     → (out first : Text) (others : List Text) → ReadsAsJoin words out first others → status ≤ 1
     → (joined : PartialPicture) × JoinRan out (first ∷ others) joined status desk desk' × (report' ≡ report) × (faults' ≡ faults)
