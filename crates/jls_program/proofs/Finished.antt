@@ -1,15 +1,12 @@
 -- A run that reads as `join` and ends with 0 or 1.
-use Rattle.std.proofs.Common.{◌≡◌, ◌≤◌, ℕ, Bool, true, false, inl, inr, List, [], ◌∷◌, ◌++◌, Option, Some, None, sym, subst, ap, ◌∙◌, refl, arith}
+use Rattle.std.proofs.Common.{◌≡◌, ◌≤◌, ℕ, Bool, true, false, inl, inr, List, [], ◌∷◌, ◌++◌, Some, None, sym, subst, ap, ◌∙◌, refl, arith}
 use Rattle.std.specs.Prelude.{◌↔◌, IsTrue, codes, option_map}
 use Rattle.std.proofs.lemmas.List.{append-nil}
 use Rattle.clap.specs.Words.{Row, Text, all_of, first_of, subcommand_of}
 use Rattle.jls_partial.specs.Partial.{PartialPicture}
 use Rattle.jls_partial.specs.Status.{IsSettled}
 use Rattle.jls_device.specs.Event.{Event, History, opened, not_opened, gave, read_failed, created, not_created, took, write_failed, bytes_taken}
-use Rattle.jls_device.specs.Writing.{Wrote, WroteFront, Printed, AreWrites}
-use Rattle.jls_station.specs.Inputs.{Given, IsRefused, no_text, not_read, ReadsRefuse, for_fault, for_memory, StopsAt, not_there, refused, other_shape, no_memory}
-use Rattle.jls_station.specs.Outputs.{StopsAtOutput, cut}
-use Rattle.jls_station.specs.Outputs as outputs
+use Rattle.jls_device.specs.Writing.{Printed, AreWrites}
 use Rattle.jls_station.specs.Joining as joining
 use Rattle.jls_station.specs.Joining.{JoinIsDone, Joins}
 use Rattle.jls_station.specs.Outcomes.{status_of, status_of_cause}
@@ -17,13 +14,12 @@ use Rattle.jls_station.specs.declared.outcome.Cause.{Cause}
 use Rattle.jls_station.specs.declared.outcome.Cause.TheVariants as cause
 use Rattle.jls_station.specs.declared.input.InputFault.{InputFault}
 use Rattle.jls_station.specs.declared.input.InputFault.TheVariants as fault
-use Rattle.jls_station.specs.declared.outcome.Refusal.{Refusal}
 use Rattle.jls_station.specs.declared.outcome.Outcome.{Outcome}
-use Rattle.jls_station.specs.declared.outcome.Outcome.TheVariants.{Done, Refused}
-use Rattle.jls_words.specs.Words.{AreRefused, ReadsAsJoin, salvage_app}
+use Rattle.jls_station.specs.declared.outcome.Outcome.TheVariants.{Done}
+use Rattle.jls_words.specs.Words.{ReadsAsJoin, salvage_app}
 use Rattle.jls_words.proofs.WordsRead.{same_rows as one_row}
 use Rattle.jls_program.specs.FaultLines.{fault_line}
-use Rattle.jls_program.specs.Runs.{Run, joined, misused, helped, help_cut, nothing_begun, nothing_asked, Ran}
+use Rattle.jls_program.specs.Runs.{Run, joined, misused, helped, help_cut, nothing_begun, nothing_asked}
 use Rattle.jls_program.specs.Laws.{JoinRan, DoneJoinsRan}
 
 -- what stops a command has at least status 3

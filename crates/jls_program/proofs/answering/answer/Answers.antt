@@ -1,4 +1,4 @@
-use Rattle.std.proofs.Common.{◌≡◌, ◌∙◌, true, false, sym, ap}
+use Rattle.std.proofs.Common.{◌∙◌, sym, ap}
 use Rattle.clap.specs.Words.{kind_of}
 use Rattle.jls_words.specs.Words.{is_help}
 use Rattle.jls_program.specs.Answers.{is_want_of_memory}

@@ -1,4 +1,4 @@
-use Rattle.std.proofs.Common.{rules, ◌≡◌, ◌++◌, List, ℕ, true, subst, sym}
+use Rattle.std.proofs.Common.{rules, ◌≡◌, ◌++◌, List, ℕ, true, subst}
 use Rattle.std.specs.Prelude.{codes}
 use Rattle.jls_program.specs.Lines.{PrintsOn, digits_of}
 use Rattle.jls_program.proofs.PrintedLines.{prints_next, printed}
