@@ -1,15 +1,12 @@
 -- A run that reads as `join` and ends with 0 or 1.
-use Rattle.std.proofs.Common.{◌≡◌, ◌≤◌, ℕ, Bool, true, false, inl, inr, List, [], ◌∷◌, ◌++◌, Option, Some, None, sym, subst, ap, ◌∙◌, refl, arith}
-use Rattle.std.specs.Prelude.{◌↔◌, IsTrue, codes}
+use Rattle.std.proofs.Common.{◌≡◌, ◌≤◌, ℕ, Bool, true, false, inl, inr, List, [], ◌∷◌, ◌++◌, Some, None, sym, subst, ap, ◌∙◌, refl, arith}
+use Rattle.std.specs.Prelude.{◌↔◌, IsTrue, codes, option_map}
 use Rattle.std.proofs.lemmas.List.{append-nil}
 use Rattle.clap.specs.Words.{Row, Text, all_of, first_of, subcommand_of}
 use Rattle.jls_partial.specs.Partial.{PartialPicture}
 use Rattle.jls_partial.specs.Status.{IsSettled}
 use Rattle.jls_device.specs.Event.{Event, History, opened, not_opened, gave, read_failed, created, not_created, took, write_failed, bytes_taken}
-use Rattle.jls_device.specs.Writing.{Wrote, WroteFront, Printed, AreWrites}
-use Rattle.jls_station.specs.Inputs.{Given, IsRefused, no_text, not_read, ReadsRefuse, for_fault, for_memory, StopsAt, not_there, refused, other_shape, no_memory}
-use Rattle.jls_station.specs.Outputs.{StopsAtOutput, cut}
-use Rattle.jls_station.specs.Outputs as outputs
+use Rattle.jls_device.specs.Writing.{Printed, AreWrites}
 use Rattle.jls_station.specs.Joining as joining
 use Rattle.jls_station.specs.Joining.{JoinIsDone, Joins}
 use Rattle.jls_station.specs.Outcomes.{status_of, status_of_cause}
@@ -17,12 +14,12 @@ use Rattle.jls_station.specs.declared.outcome.Cause.{Cause}
 use Rattle.jls_station.specs.declared.outcome.Cause.TheVariants as cause
 use Rattle.jls_station.specs.declared.input.InputFault.{InputFault}
 use Rattle.jls_station.specs.declared.input.InputFault.TheVariants as fault
-use Rattle.jls_station.specs.declared.outcome.Refusal.{Refusal}
 use Rattle.jls_station.specs.declared.outcome.Outcome.{Outcome}
-use Rattle.jls_station.specs.declared.outcome.Outcome.TheVariants.{Done, Refused}
-use Rattle.jls_words.specs.Words.{AreRefused, ReadsAsJoin, salvage_app}
+use Rattle.jls_station.specs.declared.outcome.Outcome.TheVariants.{Done}
+use Rattle.jls_words.specs.Words.{ReadsAsJoin, salvage_app}
+use Rattle.jls_words.proofs.WordsRead.{same_rows as one_row}
 use Rattle.jls_program.specs.FaultLines.{fault_line}
-use Rattle.jls_program.specs.Runs.{Run, joined, misused, helped, help_cut, nothing_begun, nothing_asked, Ran}
+use Rattle.jls_program.specs.Runs.{Run, joined, misused, helped, help_cut, nothing_begun, nothing_asked}
 use Rattle.jls_program.specs.Laws.{JoinRan, DoneJoinsRan}
 
 -- what stops a command has at least status 3
@@ -62,10 +59,7 @@ unchanged old new events e is = e ∙ (ap (λ (es : List Event). old ++ es) is �
 -- words read as `join` with one output and one list of inputs
 module _ (words : List Text) (out first out' first' : Text) (others others' : List Text) (h : ReadsAsJoin words out first others) (k : ReadsAsJoin words out' first' others') where
   same_rows : h.rows ≡ k.rows
-  same_rows = let e : Some (codes "join", h.rows) ≡ Some (codes "join", k.rows) = sym h.join ∙ k.join in pair e
-    where
-      pair : {a b : List Row} → Some (codes "join", a) ≡ Some (codes "join", b) → a ≡ b
-      pair e = cc
+  same_rows = one_row (subcommand_of salvage_app words) (codes "join") k.rows h.rows (ap (option_map (λ (p : Text × List Row). p.1)) h.join) k.join
 
   same_out : out ≡ out'
   same_out = let e : Some out ≡ Some out' = sym h.out_is ∙ (ap (first_of (codes "OUT")) same_rows ∙ k.out_is) in cc
@@ -73,32 +67,32 @@ module _ (words : List Text) (out first out' first' : Text) (others others' : Li
   same_files : first ∷ others ≡ first' ∷ others'
   same_files = let e : Some (first ∷ others) ≡ Some (first' ∷ others') = sym h.files_are ∙ (ap (all_of (codes "FILE")) same_rows ∙ k.files_are) in cc
 
-done_status : (settled whole : Bool) (joined : PartialPicture) → (IsTrue settled ↔ IsSettled joined) → status_of (Done settled whole) ≤ 1
-    → ((status_of (Done settled whole) ≡ 0) ↔ IsSettled joined) × (whole ≡ true)
-done_status true true joined s le = ((λ _. s.0 refl, λ _. refl), refl)
-done_status false true joined s le = ((λ e. absurd (omega (arith, e)), λ is. absurd (by_settled (s.1 is))), refl)
+done_status : (settled whole : Bool) (p : PartialPicture) → (IsTrue settled ↔ IsSettled p) → status_of (Done settled whole) ≤ 1
+    → ((status_of (Done settled whole) ≡ 0) ↔ IsSettled p) × (whole ≡ true)
+done_status true true p s le = ((λ _. s.0 refl, λ _. refl), refl)
+done_status false true p s le = ((λ e. absurd (omega (arith, e)), λ is. absurd (by_settled (s.1 is))), refl)
   where
     by_settled : false ≡ true → ⊥
     by_settled e = cc
-done_status settled false joined s le = absurd (omega (arith, le))
+done_status settled false p s le = absurd (omega (arith, le))
 
 join_finished : (out : Text) (names : List Text) (outcome : Outcome) (events : List Event) (desk desk' : History) → Joins None out names outcome events → desk' ≡ desk ++ events → status_of outcome ≤ 1
     → (joined : PartialPicture) × JoinRan out names joined (status_of outcome) desk desk' × (fault_line outcome ≡ [])
-join_finished out names _ events desk desk' (joining.done _ _ _ joined settled whole _ h) e le =
-    let s = done_status settled whole joined h.settled_is le in (
-      joined,
+join_finished out names _ events desk desk' (joining.done _ _ _ p settled whole _ h) e le =
+    let s = done_status settled whole p h.settled_is le in (
+      p,
       record {
         settled = settled;
         events = events;
         grew = e;
-        is_done = subst (λ (w : Bool). JoinIsDone None out names joined settled w events) s.1 h;
+        is_done = subst (λ (w : Bool). JoinIsDone None out names p settled w events) s.1 h;
         status_is = s.0;
       },
       refl,
     )
 join_finished out names _ events desk desk' (joining.at_input _ _ _ r _ h) e le = let k = refusal_status r.cause in absurd (omega (arith, k, le))
-join_finished out names _ events desk desk' (joining.no_memory _ _ _ r joined whole _ named is h) e le = let k = refusal_status r.cause in absurd (omega (arith, k, le))
-join_finished out names _ _ desk desk' (joining.at_output _ _ _ r joined whole reading writing named h stops) e le = let k = refusal_status r.cause in absurd (omega (arith, k, le))
+join_finished out names _ events desk desk' (joining.no_memory _ _ _ r p whole _ named is h) e le = let k = refusal_status r.cause in absurd (omega (arith, k, le))
+join_finished out names _ _ desk desk' (joining.at_output _ _ _ r p whole reading writing named h stops) e le = let k = refusal_status r.cause in absurd (omega (arith, k, le))
 
 run_finished : (words : List Text) (status : ℕ) (events reported printed : List Event) → Run words status events reported printed
     → (out first : Text) (others : List Text) → ReadsAsJoin words out first others → status ≤ 1 → (desk desk' : History) → desk' ≡ desk ++ events

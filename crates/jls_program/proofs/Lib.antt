@@ -1,4 +1,4 @@
 pub mod Finished
-pub mod Pieces
+pub mod PrintedLines
 pub mod RefusedWords
 pub mod Running

@@ -1,12 +1,11 @@
 -- Runs, by what was done.
-use Rattle.std.proofs.Common.{◌≡◌, ℕ, List, [], ◌∷◌, ◌++◌, None, Some, inr, map, sym, subst, ap, ◌∙◌}
-use Rattle.std.specs.Prelude.{◌⊎◌, codes}
-use Rattle.std.specs.Borrow.{Bor}
+use Rattle.std.proofs.Common.{◌≡◌, ℕ, List, [], ◌∷◌, None, sym, subst}
+use Rattle.std.specs.Prelude.{◌⊎◌}
 use Rattle.std.proofs.lemmas.List.{append-nil}
 use Rattle.clap.specs.Words.{Text}
 use Rattle.clap.specs.declared.error.kind.ErrorKind.{ErrorKind}
 use Rattle.clap.specs.declared.error.kind.ErrorKind.TheVariants as kind
-use Rattle.jls_device.specs.Event.{Event, History, GrewBy}
+use Rattle.jls_device.specs.Event.{History, GrewBy}
 use Rattle.jls_device.specs.Writing.{Printed}
 use Rattle.jls_station.specs.Joining.{Joins}
 use Rattle.jls_station.specs.Outcomes.{status_of}

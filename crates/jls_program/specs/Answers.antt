@@ -15,7 +15,8 @@ is_want_of_memory _ = false
 -- an error of this kind is answered with this status; the events are those of the report output and of the fault output
 pub data Answer : ErrorKind → ℕ → List Event → List Event → Type 0 where
   ran_out : (k : ErrorKind) (faults : List Event) → Printed out_of_memory_line faults → Answer k 5 [] faults
-  usage : (k : ErrorKind) (text : List ℕ) (faults : List Event) → is_want_of_memory k ≡ false → is_help k ≡ false → Printed text faults → Answer k 2 [] faults
+  usage : (k : ErrorKind) (text : List ℕ) (faults : List Event)
+      → is_want_of_memory k ≡ false → is_help k ≡ false → Printed text faults → Answer k 2 [] faults
   help : (k : ErrorKind) (text : List ℕ) (report : List Event) → is_help k ≡ true → Wrote text report → Answer k 0 report []
   cut : (k : ErrorKind) (text : List ℕ) (count : ℕ) (report faults : List Event) → is_help k ≡ true → WroteFront text count report
       → Printed (cause_line (codes "-") (cause.NotWritten count)) faults → Answer k 4 report faults

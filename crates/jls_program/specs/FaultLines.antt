@@ -11,16 +11,19 @@ use Rattle.jls_station.specs.declared.outcome.Outcome.TheVariants.{Done, Refused
 abbrev pub out_of_memory_line : List ℕ
 out_of_memory_line = codes "jls-salvage: out of memory\n"
 
--- the line of a bad text of this name
+-- the line of a bad text of this name: the kind of its fault, and the offset
+abbrev pub bad_text_line : List ℕ → List ℕ → ℕ → List ℕ
+bad_text_line name said offset = codes "jls-salvage: " ++ (name ++ (said ++ (decimal offset ++ codes "\n")))
+
 abbrev pub text_fault_line : List ℕ → TextFault → List ℕ
-text_fault_line name (text_fault.Magic offset) = codes "jls-salvage: " ++ (name ++ (codes ": bad text, magic at " ++ (decimal offset ++ codes "\n")))
-text_fault_line name (text_fault.BadShape offset) = codes "jls-salvage: " ++ (name ++ (codes ": bad text, shape at " ++ (decimal offset ++ codes "\n")))
-text_fault_line name (text_fault.Truncated offset) = codes "jls-salvage: " ++ (name ++ (codes ": bad text, truncated at " ++ (decimal offset ++ codes "\n")))
-text_fault_line name (text_fault.Place offset) = codes "jls-salvage: " ++ (name ++ (codes ": bad text, place at " ++ (decimal offset ++ codes "\n")))
-text_fault_line name (text_fault.Count offset) = codes "jls-salvage: " ++ (name ++ (codes ": bad text, count at " ++ (decimal offset ++ codes "\n")))
-text_fault_line name (text_fault.Order offset) = codes "jls-salvage: " ++ (name ++ (codes ": bad text, order at " ++ (decimal offset ++ codes "\n")))
-text_fault_line name (text_fault.Sample offset) = codes "jls-salvage: " ++ (name ++ (codes ": bad text, sample at " ++ (decimal offset ++ codes "\n")))
-text_fault_line name (text_fault.Trailing offset) = codes "jls-salvage: " ++ (name ++ (codes ": bad text, trailing at " ++ (decimal offset ++ codes "\n")))
+text_fault_line name (text_fault.Magic offset) = bad_text_line name (codes ": bad text, magic at ") offset
+text_fault_line name (text_fault.BadShape offset) = bad_text_line name (codes ": bad text, shape at ") offset
+text_fault_line name (text_fault.Truncated offset) = bad_text_line name (codes ": bad text, truncated at ") offset
+text_fault_line name (text_fault.Place offset) = bad_text_line name (codes ": bad text, place at ") offset
+text_fault_line name (text_fault.Count offset) = bad_text_line name (codes ": bad text, count at ") offset
+text_fault_line name (text_fault.Order offset) = bad_text_line name (codes ": bad text, order at ") offset
+text_fault_line name (text_fault.Sample offset) = bad_text_line name (codes ": bad text, sample at ") offset
+text_fault_line name (text_fault.Trailing offset) = bad_text_line name (codes ": bad text, trailing at ") offset
 text_fault_line name text_fault.OutOfMemory = out_of_memory_line
 
 -- the line of a cause at an input or output of this name
@@ -31,7 +34,8 @@ cause_line name (cause.Input (fault.Read stop offset)) = codes "jls-salvage: " +
 cause_line name (cause.Input fault.OutOfMemory) = out_of_memory_line
 cause_line name cause.ShapeDiffers = codes "jls-salvage: " ++ (name ++ codes ": shape differs\n")
 cause_line name cause.NotCreated = codes "jls-salvage: " ++ (name ++ codes ": cannot be created\n")
-cause_line name (cause.NotWritten count) = codes "jls-salvage: " ++ (name ++ (codes ": write failed after " ++ (decimal count ++ codes " bytes\n")))
+cause_line name (cause.NotWritten count) =
+    codes "jls-salvage: " ++ (name ++ (codes ": write failed after " ++ (decimal count ++ codes " bytes\n")))
 cause_line name cause.OutOfMemory = out_of_memory_line
 
 -- none where the command is done

@@ -1,9 +1,9 @@
 -- The laws of whole runs.
-use Rattle.std.specs.Prelude.{◌≡◌, ◌≤◌, ◌+◌, ◌-◌, ◌^◌, ◌↔◌, ◌⊎◌, ℕ, Bool, true, List, ◌∷◌, ◌++◌, None, min}
+use Rattle.std.specs.Prelude.{◌≡◌, ◌≤◌, ◌↔◌, ℕ, Bool, true, List, ◌∷◌, ◌++◌, None}
 use Rattle.clap.specs.Words.{Text}
 use Rattle.jls_partial.specs.Partial.{PartialPicture}
 use Rattle.jls_partial.specs.Status.{IsSettled}
-use Rattle.jls_device.specs.Event.{Event, History, count_of, is_read, is_failed_read, is_failed_write, is_failed_opening}
+use Rattle.jls_device.specs.Event.{Event, History}
 use Rattle.jls_station.specs.Joining.{JoinIsDone}
 use Rattle.jls_words.specs.Words.{ReadsAsJoin}
 use Rattle.jls_program.specs.Runs.{Ran}
@@ -20,6 +20,7 @@ pub record JoinRan (out : Text) (names : List Text) (joined : PartialPicture) (s
 -- settled; and nothing is reported or printed
 abbrev pub DoneJoinsRan : Type 0
 DoneJoinsRan =
-    (words : List Text) (status : ℕ) (desk desk' report report' faults faults' : History) → Ran words status desk desk' report report' faults faults'
+    (words : List Text) (status : ℕ) (desk desk' report report' faults faults' : History)
+    → Ran words status desk desk' report report' faults faults'
     → (out first : Text) (others : List Text) → ReadsAsJoin words out first others → status ≤ 1
     → (joined : PartialPicture) × JoinRan out (first ∷ others) joined status desk desk' × (report' ≡ report) × (faults' ≡ faults)

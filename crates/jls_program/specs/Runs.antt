@@ -25,12 +25,14 @@ pub data Run : List Text → ℕ → List Event → List Event → List Event �
       → AreRefused words k → is_help k ≡ true → Wrote help report → Run words 0 [] report []
   -- and a write failed there
   help_cut : (words : List Text) (k : ErrorKind) (help : List ℕ) (count : ℕ) (report faults : List Event)
-      → AreRefused words k → is_help k ≡ true → WroteFront help count report → Printed (cause_line (codes "-") (cause.NotWritten count)) faults
+      → AreRefused words k → is_help k ≡ true → WroteFront help count report
+      → Printed (cause_line (codes "-") (cause.NotWritten count)) faults
       → Run words 4 [] report faults
   -- memory ran out before a command began
   nothing_begun : (words : List Text) (faults : List Event) → Printed out_of_memory_line faults → Run words 5 [] [] faults
   -- clap takes the words, and they ask for nothing that there is
-  nothing_asked : (words : List Text) → AreTaken words → ((out first : Text) (others : List Text) → ReadsAsJoin words out first others → ⊥) → Run words 2 [] [] []
+  nothing_asked : (words : List Text)
+      → AreTaken words → ((out first : Text) (others : List Text) → ReadsAsJoin words out first others → ⊥) → Run words 2 [] [] []
 
 -- the histories of the three devices grew by the events of such a run
 pub record Ran (words : List Text) (status : ℕ) (desk desk' report report' faults faults' : History) : Type 0 where

@@ -33,7 +33,8 @@ pub(crate) fn answer<W: Sink, E: Sink>(
     report: &mut W,
     faults: &mut E,
 ) -> u8
-    ensures { Answered (kind_of error.now) result (W.history report.old) (W.history report.new) (E.history faults.old) (E.history faults.new) }
+    ensures { Answered (kind_of error.now) result (W.history report.old) (W.history report.new)
+        (E.history faults.old) (E.history faults.new) }
 {
     let kind = error.kind();
     if is_memory(kind) {

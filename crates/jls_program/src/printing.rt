@@ -1,11 +1,11 @@
 //! The lines on the fault output. A write that fails there is ignored: there is nowhere left to say so.
 
-ghost use Rattle.std.specs.Prelude.{◌≡◌, ◌++◌, codes, map, flat_map};
+ghost use Rattle.std.specs.Prelude.{◌≡◌, ◌++◌, codes, decimal};
 ghost use Rattle.jls_device.specs.Event.{GrewBy};
 ghost use Rattle.jls_device.specs.Writing.{Printed};
 ghost use Rattle.jls_station.specs.declared.outcome.Outcome.TheVariants.{Refused};
 ghost use Rattle.jls_program.specs.FaultLines.{cause_line, text_fault_line, fault_line, out_of_memory_line};
-ghost use Rattle.jls_program.specs.Lines.{bytes_of};
+ghost use Rattle.jls_program.specs.Lines.{bytes_of, digits_of, PrintsOn};
 
 use itoa::Buffer;
 use jls_device::{Sink, write_all};
@@ -34,6 +34,18 @@ fn plain<'a>(name: &'a str, text: &'static str) -> Line<'a>
     }
 }
 
+/// A line with a number at its end.
+fn numbered<'a>(name: &'a str, text: &'static str, number: u64) -> Line<'a>
+    ensures { bytes_of result ≡ codes "jls-salvage: " ++ (name.now ++ (text.now ++ (decimal number ++ codes "\n"))) }
+{
+    Line {
+        name,
+        text,
+        number: Some(number),
+        end: "\n",
+    }
+}
+
 fn out_of_memory<'a>() -> Line<'a>
     ensures { bytes_of result ≡ out_of_memory_line }
 {
@@ -43,22 +55,16 @@ fn out_of_memory<'a>() -> Line<'a>
 fn line_of_text_fault<'a>(name: &'a str, fault: TextFault) -> Line<'a>
     ensures { bytes_of result ≡ text_fault_line name.now fault }
 {
-    let (text, offset) = match fault {
-        TextFault::Magic(offset) => (": bad text, magic at ", offset),
-        TextFault::BadShape(offset) => (": bad text, shape at ", offset),
-        TextFault::Truncated(offset) => (": bad text, truncated at ", offset),
-        TextFault::Place(offset) => (": bad text, place at ", offset),
-        TextFault::Count(offset) => (": bad text, count at ", offset),
-        TextFault::Order(offset) => (": bad text, order at ", offset),
-        TextFault::Sample(offset) => (": bad text, sample at ", offset),
-        TextFault::Trailing(offset) => (": bad text, trailing at ", offset),
-        TextFault::OutOfMemory => return out_of_memory(),
-    };
-    Line {
-        name,
-        text,
-        number: Some(offset),
-        end: "\n",
+    match fault {
+        TextFault::Magic(offset) => numbered(name, ": bad text, magic at ", offset),
+        TextFault::BadShape(offset) => numbered(name, ": bad text, shape at ", offset),
+        TextFault::Truncated(offset) => numbered(name, ": bad text, truncated at ", offset),
+        TextFault::Place(offset) => numbered(name, ": bad text, place at ", offset),
+        TextFault::Count(offset) => numbered(name, ": bad text, count at ", offset),
+        TextFault::Order(offset) => numbered(name, ": bad text, order at ", offset),
+        TextFault::Sample(offset) => numbered(name, ": bad text, sample at ", offset),
+        TextFault::Trailing(offset) => numbered(name, ": bad text, trailing at ", offset),
+        TextFault::OutOfMemory => out_of_memory(),
     }
 }
 
@@ -81,40 +87,52 @@ fn line_of_cause<'a>(name: &'a str, cause: Cause) -> Line<'a>
     }
 }
 
-/// Prints pieces of a line, one after the other.
-fn print_pieces<E: Sink>(faults: &mut E, pieces: &[&[u8]])
-    ensures { GrewBy (Printed (flat_map (λ p. p.now) pieces.now)) (E.history faults.old) (E.history faults.new) }
+/// Prints some bytes, unless a write has failed before. The answer is whether all writes went well.
+fn print_more<E: Sink>(faults: &mut E, goes_on: bool, bytes: &[u8]) -> bool
+    ensures { PrintsOn goes_on bytes.now result (E.history faults.old) (E.history faults.new) }
 {
-    for piece in pieces {
-        match write_all(faults, piece) {
-            Ok(()) => {}
-            Err(_) => return,
+    if !goes_on {
+        return false;
+    }
+    match write_all(faults, bytes) {
+        Ok(()) => true,
+        Err(_) => false,
+    }
+}
+
+/// Prints a number in decimal, if there is one.
+fn print_number<E: Sink>(faults: &mut E, goes_on: bool, number: Option<u64>) -> bool
+    ensures { PrintsOn goes_on (digits_of number) result (E.history faults.old) (E.history faults.new) }
+{
+    match number {
+        Some(number) => {
+            let mut buffer = Buffer::new();
+            let digits = buffer.format(number).as_bytes();
+            print_more(faults, goes_on, digits)
         }
+        None => goes_on,
     }
 }
 
 fn print_line<E: Sink>(faults: &mut E, line: &Line<'_>)
     ensures { GrewBy (Printed (bytes_of line.now)) (E.history faults.old) (E.history faults.new) }
 {
-    let program = b"jls-salvage: ".as_slice();
     let name = line.name.as_bytes();
     let text = line.text.as_bytes();
     let end = line.end.as_bytes();
-    match line.number {
-        Some(number) => {
-            let mut buffer = Buffer::new();
-            let digits = buffer.format(number).as_bytes();
-            print_pieces(faults, &[program, name, text, digits, end])
-        }
-        None => print_pieces(faults, &[program, name, text, end]),
-    }
+    let program_went = print_more(faults, true, b"jls-salvage: ");
+    let name_went = print_more(faults, program_went, name);
+    let text_went = print_more(faults, name_went, text);
+    let number_went = print_number(faults, text_went, line.number);
+    let _end_went = print_more(faults, number_went, end);
 }
 
 /// Prints a text to the fault output.
 pub(crate) fn print_text<E: Sink>(faults: &mut E, text: &str)
     ensures { GrewBy (Printed text.now) (E.history faults.old) (E.history faults.new) }
 {
-    print_pieces(faults, &[text.as_bytes()])
+    let bytes = text.as_bytes();
+    let _went = print_more(faults, true, bytes);
 }
 
 /// Prints that memory ran out.

@@ -50,7 +50,8 @@ pub record ReadsGive (source : Option ℕ) (g : Given) (reads : List Event) : Ty
 
 -- these are all reads of an input, and it is refused for this fault; or memory ran out after so many of them
 pub data ReadsRefuse : InputFault → List Event → Type 0 where
-  for_fault : (f : InputFault) (bytes : List ℕ) (stop : ReadStop) (reads : List Event) → IsRead IsEnough reads bytes stop → IsRefused bytes stop f → ReadsRefuse f reads
+  for_fault : (f : InputFault) (bytes : List ℕ) (stop : ReadStop) (reads : List Event)
+      → IsRead IsEnough reads bytes stop → IsRefused bytes stop f → ReadsRefuse f reads
   for_memory : (reads : List Event) → IsReadSoFar IsEnough reads → ReadsRefuse fault.OutOfMemory reads
 
 -- an input of this name was opened and read, and gave this
@@ -92,7 +93,8 @@ pub record TakesAll (source : Option ℕ) (names : List (List ℕ)) (givens : Li
   pub one_shape : AreOfOneShape (partials givens)
 
 -- so all inputs of a command were taken, and this is the union of what they gave; it says whether each was read whole
-pub record TakesUnion (source : Option ℕ) (names : List (List ℕ)) (joined : PartialPicture) (whole : Bool) (events : List Event) : Type 0 where
+pub record TakesUnion (source : Option ℕ) (names : List (List ℕ)) (joined : PartialPicture) (whole : Bool) (events : List Event)
+    : Type 0 where
   pub givens : List Given
   pub taken : TakesAll source names givens events
   pub union_is : IsUnionOf (partials givens) joined
@@ -107,7 +109,8 @@ pub data StopsAt : Option ℕ → List Given → List ℕ → Cause → List Eve
   other_shape : (source : Option ℕ) (before : List Given) (name : List ℕ) (g : Given) (events : List Event)
       → IsTaken source name g events → IsOfOtherShape (partials before) g.partial → StopsAt source before name cause.ShapeDiffers events
   no_memory : (source : Option ℕ) (before : List Given) (name : List ℕ) (g : Given) (events : List Event)
-      → IsTaken source name g events → (IsOfOtherShape (partials before) g.partial → ⊥) → StopsAt source before name cause.OutOfMemory events
+      → IsTaken source name g events → (IsOfOtherShape (partials before) g.partial → ⊥)
+      → StopsAt source before name cause.OutOfMemory events
 
 -- the inputs before one were taken; that one, whose name the refusal has, stops the command for the refusal's cause; and
 -- nothing else was done

@@ -13,7 +13,8 @@ use Rattle.jls_station.specs.declared.outcome.Outcome.TheVariants.{Done, Refused
 
 -- a `join` that is done: the inputs were taken in turn; then the output was created and handed the text of the union of all
 -- that they gave
-pub record JoinIsDone (source : Option ℕ) (out : List ℕ) (names : List (List ℕ)) (joined : PartialPicture) (settled whole : Bool) (events : List Event) : Type 0 where
+pub record JoinIsDone (source : Option ℕ) (out : List ℕ) (names : List (List ℕ)) (joined : PartialPicture)
+    (settled whole : Bool) (events : List Event) : Type 0 where
   pub reading : List Event
   pub writing : List Event
   pub events_are : events ≡ reading ++ writing
@@ -28,8 +29,11 @@ pub data Joins : Option ℕ → List ℕ → List (List ℕ) → Outcome → Lis
       → JoinIsDone source out names joined settled whole events → Joins source out names (Done settled whole) events
   at_input : (source : Option ℕ) (out : List ℕ) (names : List (List ℕ)) (r : Refusal) (events : List Event)
       → StopsAtInput source names r events → Joins source out names (Refused r) events
-  no_memory : (source : Option ℕ) (out : List ℕ) (names : List (List ℕ)) (r : Refusal) (joined : PartialPicture) (whole : Bool) (events : List Event)
-      → r.name.now ≡ out → r.cause ≡ cause.OutOfMemory → TakesUnion source names joined whole events → Joins source out names (Refused r) events
-  at_output : (source : Option ℕ) (out : List ℕ) (names : List (List ℕ)) (r : Refusal) (joined : PartialPicture) (whole : Bool) (reading writing : List Event)
+  no_memory : (source : Option ℕ) (out : List ℕ) (names : List (List ℕ)) (r : Refusal)
+      (joined : PartialPicture) (whole : Bool) (events : List Event)
+      → r.name.now ≡ out → r.cause ≡ cause.OutOfMemory → TakesUnion source names joined whole events
+      → Joins source out names (Refused r) events
+  at_output : (source : Option ℕ) (out : List ℕ) (names : List (List ℕ)) (r : Refusal)
+      (joined : PartialPicture) (whole : Bool) (reading writing : List Event)
       → r.name.now ≡ out → TakesUnion source names joined whole reading → StopsAtOutput out (text joined) r.cause writing
       → Joins source out names (Refused r) (reading ++ writing)

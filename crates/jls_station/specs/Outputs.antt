@@ -15,4 +15,5 @@ pub record HandsOut (name bytes : List ℕ) (events : List Event) : Type 0 where
 -- front on, when a write failed
 pub data StopsAtOutput : List ℕ → List ℕ → Cause → List Event → Type 0 where
   not_there : (name bytes : List ℕ) → StopsAtOutput name bytes cause.NotCreated (not_created name ∷ [])
-  cut : (name bytes : List ℕ) (count : ℕ) (writes : List Event) → WroteFront bytes count writes → StopsAtOutput name bytes (cause.NotWritten count) (created name ∷ writes)
+  cut : (name bytes : List ℕ) (count : ℕ) (writes : List Event) → WroteFront bytes count writes
+      → StopsAtOutput name bytes (cause.NotWritten count) (created name ∷ writes)

@@ -16,7 +16,8 @@ use std::alloc::Global;
 fn open_and_read<D: Desk>(alloc: Global, desk: &mut D, name: &str) -> Result<Partial, Cause>
     ensures taken { IfOk result (λ p. GrewBy (IsTaken None name.now (whole p)) (D.history desk.old) (D.history desk.new)) }
     // Whatever the inputs before it gave.
-    ensures stopped { (before : List Given) → IfErr result (λ cause. GrewBy (StopsAt None before name.now cause) (D.history desk.old) (D.history desk.new)) }
+    ensures stopped { (before : List Given) → IfErr result (λ cause.
+        GrewBy (StopsAt None before name.now cause) (D.history desk.old) (D.history desk.new)) }
 {
     match desk.open_input(name) {
         Ok(()) => {}
@@ -35,8 +36,10 @@ pub fn take_inputs<'a, D: Desk>(
     first: &'a str,
     others: &[&'a str],
 ) -> Result<Station, Refusal<'a>>
-    ensures taken { IfOk result (λ station. GrewBy (TakesUnion None (first.now ∷ map (λ f. f.now) others.now) station true) (D.history desk.old) (D.history desk.new)) }
-    ensures stopped { IfErr result (λ refusal. GrewBy (StopsAtInput None (first.now ∷ map (λ f. f.now) others.now) refusal) (D.history desk.old) (D.history desk.new)) }
+    ensures taken { IfOk result (λ station.
+        GrewBy (TakesUnion None (first.now ∷ map (λ f. f.now) others.now) station true) (D.history desk.old) (D.history desk.new)) }
+    ensures stopped { IfErr result (λ refusal.
+        GrewBy (StopsAtInput None (first.now ∷ map (λ f. f.now) others.now) refusal) (D.history desk.old) (D.history desk.new)) }
 {
     let mut station = match open_and_read(alloc, desk, first) {
         Ok(partial) => Station::holding(partial),

@@ -1,6 +1,7 @@
 -- What the words of a command line ask for, by clap's own definition of what a simple command takes.
 use Rattle.std.specs.Prelude.{◌≡◌, ◌⊎◌, Bool, true, false, List, [], ◌∷◌, Some, codes}
-use Rattle.clap.specs.Words.{App, Row, Rule, Text, all_of, fault_of, first_of, IsAmong, new_app, new_rule, subcommand_of, takes, with_rule, with_subcommand}
+use Rattle.clap.specs.Words.{App, Row, Rule, Text, all_of, fault_of, first_of, IsAmong, new_app, new_rule}
+use Rattle.clap.specs.Words.{subcommand_of, takes, with_rule, with_subcommand}
 use Rattle.clap.specs.declared.builder.ArgAction.TheVariants.{Append}
 use Rattle.clap.specs.declared.error.kind.ErrorKind.{ErrorKind}
 use Rattle.clap.specs.declared.error.kind.ErrorKind.TheVariants as kind

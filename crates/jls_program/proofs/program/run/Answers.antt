@@ -1,4 +1,4 @@
-use Rattle.std.proofs.Common.{◌∙◌, ◌∷◌, ℕ, List, inr, map, sym}
+use Rattle.std.proofs.Common.{◌∙◌, ℕ, List, inr, map, sym}
 use Rattle.std.specs.Borrow.{Bor}
 use Rattle.std.specs.String.{string_bytes}
 use Rattle.jls_program.proofs.Running.{ran_refused, ran_join, ran_nothing}
