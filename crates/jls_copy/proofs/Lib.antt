@@ -1,0 +1,4 @@
+mod OneMoreByte
+mod OneCut
+mod NumbersGiven
+mod CutExamples

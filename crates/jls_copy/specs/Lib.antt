@@ -1,0 +1,3 @@
+pub mod ScanData
+pub mod Numbers
+pub mod CutLaws

@@ -1,0 +1,14 @@
+//! One copy of a picture as a JPEG-LS file, read through damage (ITU-T T.87 with the marker syntax of ITU-T T.81).
+//!
+//! So far: where scan data is cut into pieces, which numbers restart markers give, and the search for places where a cut can be.
+#![tactic(auto)]
+
+mod cut_laws;
+mod cut_search;
+mod lanes;
+
+pub use cut_laws::{lost_marks_are_bridged, numbers_are_least, scan_data_has_one_cut};
+pub use cut_search::next_cut;
+
+#[cfg(test)]
+mod tests;
