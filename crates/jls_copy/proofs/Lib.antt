@@ -2,3 +2,4 @@ mod OneMoreByte
 mod OneCut
 mod NumbersGiven
 mod CutExamples
+mod OneCourse

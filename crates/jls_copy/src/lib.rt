@@ -3,12 +3,16 @@
 //! So far: where scan data is cut into pieces, which numbers restart markers give, and the search for places where a cut can be.
 #![tactic(auto)]
 
+mod course_laws;
 mod cut_laws;
 mod cut_search;
+mod end;
 mod lanes;
 
+pub use course_laws::copies_have_one_course;
 pub use cut_laws::{lost_marks_are_bridged, numbers_are_least, scan_data_has_one_cut};
 pub use cut_search::next_cut;
+pub use end::End;
 
 #[cfg(test)]
 mod tests;
