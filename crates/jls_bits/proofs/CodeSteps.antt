@@ -40,10 +40,10 @@ module _ (k g q : ℕ) (room : q + 2 ≤ g) where
   abbrev esc : ℕ
   esc = g - q - 1
 
-  code_of_short : (m : ℕ) → is_short k g q m ≡ true → golomb k g q m ≡ replicate (m / 2 ^ k) false ++ true ∷ bits k m
+  pub code_of_short : (m : ℕ) → is_short k g q m ≡ true → golomb k g q m ≡ replicate (m / 2 ^ k) false ++ true ∷ bits k m
   code_of_short m h = sym (append-nil (golomb k g q m)) ∙ golomb_short k g q m [] h ∙ ap (λ x. replicate (m / 2 ^ k) false ++ true ∷ x) (append-nil (bits k m))
 
-  code_of_long : (m : ℕ) → is_short k g q m ≡ false → golomb k g q m ≡ replicate esc false ++ true ∷ bits q (m - 1)
+  pub code_of_long : (m : ℕ) → is_short k g q m ≡ false → golomb k g q m ≡ replicate esc false ++ true ∷ bits q (m - 1)
   code_of_long m h = sym (append-nil (golomb k g q m)) ∙ golomb_long k g q m [] h ∙ ap (λ x. replicate esc false ++ true ∷ x) (append-nil (bits q (m - 1)))
 
   has_long : (m : ℕ) → is_short k g q m ≡ false → 1 ≤ m → m ≤ 2 ^ q → has_golomb k g q m ≡ true
@@ -72,7 +72,7 @@ module _ (k g q : ℕ) (room : q + 2 ≤ g) where
       let d = n - c in let s : n ≡ c + d = omega arith in
       (eqb (x / 2 ^ (d - 1) % 2) 1, bits (d - 1) x, ap (λ z. bits z x) s ∙ bits_split c d x ∙ ap (λ z. z ++ bits d x) (bits_cong c (x / 2 ^ d) v e) ∙ ap (λ z. bits c v ++ z) (bits_more d x (omega arith)))
 
-  joined : (s t u : List Bool) (given : List Bool) → t ≡ given ++ u → s ++ true ∷ t ≡ (s ++ true ∷ given) ++ u
+  pub joined : (s t u : List Bool) (given : List Bool) → t ≡ given ++ u → s ++ true ∷ t ≡ (s ++ true ∷ given) ++ u
   joined s t u given e = ap (λ z. s ++ true ∷ z) e ∙ sym (append_assoc s (true ∷ given) u)
 
   remainder_open : (z c v : ℕ) → z < esc → c < k → v < 2 ^ c → BeginsCode k g q (replicate z false ++ true ∷ bits c v)

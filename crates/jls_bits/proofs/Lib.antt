@@ -1,8 +1,14 @@
 pub mod Appending
+pub mod BytesMade
+pub mod ChunkBits
+pub mod ChunkSteps
 pub mod CodeSteps
 pub mod Codes
+pub mod CodesBegun
 pub mod DataBits
+pub mod GolombReading
 pub mod Markers
 pub mod NumberBits
 pub mod Padding
-mod Rows
+pub mod Unstuffing
+mod WorkedExamples

@@ -14,7 +14,8 @@ is_short k g qbpp m = nat_lt (m / 2 ^ k) (escape_zeros g qbpp)
 -- a one, and m - 1 in qbpp bits
 unfoldable pub golomb : ℕ → ℕ → ℕ → ℕ → List Bool
 golomb k g qbpp m =
-    if (is_short k g qbpp m) then replicate (m / 2 ^ k) false ++ true ∷ bits k m else replicate (escape_zeros g qbpp) false ++ true ∷ bits qbpp (m - 1)
+    if (is_short k g qbpp m) then replicate (m / 2 ^ k) false ++ true ∷ bits k m
+    else replicate (escape_zeros g qbpp) false ++ true ∷ bits qbpp (m - 1)
 
 -- whether m has a code: every number with a short one has, and of the others those from 1 to 2^qbpp
 abbrev pub has_golomb : ℕ → ℕ → ℕ → ℕ → Bool
@@ -24,3 +25,17 @@ has_golomb k g qbpp m = if (is_short k g qbpp m) then true else nat_le 1 m && na
 abbrev pub NoCodeBegins : ℕ → ℕ → ℕ → List Bool → Type 0
 NoCodeBegins k g qbpp given =
     (m : ℕ) (rest : List Bool) → has_golomb k g qbpp m ≡ true → given ≡ golomb k g qbpp m ++ rest → ⊥
+
+-- the bits are a prefix of the code of m: its first bits, or all of it
+pub record BeginsCodeOf (k g qbpp : ℕ) (given : List Bool) (m : ℕ) : Type 0 where
+  pub rest : List Bool
+  pub code : golomb k g qbpp m ≡ given ++ rest
+
+-- the bits are the code of m
+pub record IsCodeOf (k g qbpp : ℕ) (given : List Bool) (m : ℕ) : Type 0 where
+  pub has : has_golomb k g qbpp m ≡ true
+  pub code : golomb k g qbpp m ≡ given
+
+-- the bits are a prefix of no number's code
+abbrev pub BeginsNoCode : ℕ → ℕ → ℕ → List Bool → Type 0
+BeginsNoCode k g qbpp given = (m : ℕ) → has_golomb k g qbpp m ≡ true → BeginsCodeOf k g qbpp given m → ⊥

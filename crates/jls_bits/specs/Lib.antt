@@ -1,7 +1,11 @@
 pub mod Appending
 pub mod Bits
+pub mod Chunk
 pub mod CodeState
 pub mod Golomb
+pub mod GolombBits
+pub mod GolombReading
 pub mod Packing
 pub mod Pad
 pub mod Unread
+pub mod Unstuffing

@@ -1,13 +1,16 @@
-//! A Golomb code as a machine that is told one bit after another.
+//! A Golomb code as a machine that is told its bits as they come.
 
-ghost use Rattle.std.specs.Prelude.{ℕ, ◌+◌, ◌^◌, ◌<◌, ◌≤◌, [], ◌∷◌, ◌++◌};
-ghost use Rattle.jls_bits.specs.Golomb.{escape_zeros};
+ghost use Rattle.std.specs.Prelude.{ℕ, ◌↔◌, ◌+◌, ◌^◌, ◌<◌, ◌≤◌, [], ◌∷◌, ◌++◌, IsTrue};
+ghost use Rattle.jls_bits.specs.Golomb.{escape_zeros, BeginsCodeOf};
 ghost use Rattle.jls_bits.specs.CodeState.{bits_told, IsOpen, StepIs};
+ghost use Rattle.jls_bits.specs.Chunk.{ChunkStep};
 ghost use Rattle.jls_bits.specs.declared.code_state.CodeState.TheVariants.{Zeros, Remainder, Escape};
 
-/// Where the bits of a code that isn't whole have come to.
+use crate::chunk::Chunk;
+
+/// Where the bits of a code that isn't whole have come to. A contract sees these bits as `bits_told`.
 #[derive(Clone, Copy)]
-pub(crate) enum CodeState {
+pub enum CodeState {
     /// So many zeros, and nothing else.
     Zeros(u8),
     /// The zeros of a short code's quotient, the one, and the first bits of the remainder.
@@ -18,7 +21,7 @@ pub(crate) enum CodeState {
 
 /// What one more bit makes of a code.
 #[derive(Clone, Copy)]
-pub(crate) enum CodeStep {
+pub enum CodeStep {
     /// The bits begin some code, and none is whole.
     More(CodeState),
     /// The bits are this number's code.
@@ -29,10 +32,10 @@ pub(crate) enum CodeStep {
 
 impl CodeState {
     /// No bit yet.
-    pub(crate) const START: CodeState = CodeState::Zeros(0);
+    pub const START: CodeState = CodeState::Zeros(0);
 
     /// Takes the next bit.
-    pub(crate) fn push(self, k: u8, g: u8, qbpp: u8, bit: bool) -> CodeStep
+    pub fn push(self, k: u8, g: u8, qbpp: u8, bit: bool) -> CodeStep
         requires k { k ≤ 16 }
         requires qbpp { (1 ≤ qbpp) × (qbpp ≤ 16) }
         requires g { (qbpp + 2 ≤ g) × (g ≤ 64) }
@@ -49,6 +52,65 @@ impl CodeState {
             CodeState::Escape { count, value } => push_to_escape(count, value, k, g, qbpp, bit),
         }
     }
+
+    /// Takes bits from the front of a chunk until the code is whole or refused, or no bit is left. Behind a refusal the
+    /// rest of the chunk is of no use.
+    pub fn push_chunk(self, k: u8, g: u8, qbpp: u8, chunk: &mut Chunk) -> CodeStep
+        requires k { k ≤ 16 }
+        requires qbpp { (1 ≤ qbpp) × (qbpp ≤ 16) }
+        requires g { (qbpp + 2 ≤ g) × (g ≤ 64) }
+        requires open { IsOpen k g qbpp self }
+        ensures { ChunkStep k g qbpp (bits_told g qbpp self) chunk.old chunk.new result }
+    {
+        if let CodeState::Zeros(zeros) = self {
+            if let Some((more, low)) = chunk.take_short(g - qbpp - 1 - zeros, k) {
+                let quotient = (zeros + more) as u32;
+                return CodeStep::Done((quotient << k) + low);
+            }
+        }
+        push_bit_by_bit(self, k, g, qbpp, chunk)
+    }
+
+    /// Whether the bits told so far begin the code of a number, or are all of it.
+    pub fn allows(self, k: u8, g: u8, qbpp: u8, mapped: u32) -> bool
+        requires k { k ≤ 16 }
+        requires qbpp { (1 ≤ qbpp) × (qbpp ≤ 16) }
+        requires g { (qbpp + 2 ≤ g) × (g ≤ 64) }
+        requires open { IsOpen k g qbpp self }
+        requires mapped { mapped ≤ 2 ^ qbpp }
+        ensures { IsTrue result ↔ BeginsCodeOf k g qbpp (bits_told g qbpp self) mapped }
+    {
+        let escape = (g - qbpp - 1) as u32;
+        match self {
+            CodeState::Zeros(zeros) => zeros as u32 <= mapped >> k,
+            CodeState::Remainder {
+                quotient,
+                count,
+                value,
+            } => mapped >> (k - count) == ((quotient as u32) << count) + value,
+            CodeState::Escape { count, value } => {
+                escape <= mapped >> k && (mapped - 1) >> (qbpp - count) == value
+            }
+        }
+    }
+}
+
+/// Takes bits from the front of a chunk, one after another.
+fn push_bit_by_bit(state: CodeState, k: u8, g: u8, qbpp: u8, chunk: &mut Chunk) -> CodeStep
+    requires k { k ≤ 16 }
+    requires qbpp { (1 ≤ qbpp) × (qbpp ≤ 16) }
+    requires g { (qbpp + 2 ≤ g) × (g ≤ 64) }
+    requires open { IsOpen k g qbpp state }
+    ensures { ChunkStep k g qbpp (bits_told g qbpp state) chunk.old chunk.new result }
+{
+    let mut now = state;
+    while let Some(bit) = chunk.take_bit() {
+        match now.push(k, g, qbpp, bit) {
+            CodeStep::More(next) => now = next,
+            step => return step,
+        }
+    }
+    CodeStep::More(now)
 }
 
 /// Takes a bit behind zeros alone.

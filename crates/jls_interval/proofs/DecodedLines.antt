@@ -1,22 +1,46 @@
 -- What the loop over lines keeps.
-use Rattle.std.proofs.Common.{◌≡◌, ℕ, zero, suc, ◌%◌, ◌<◌, ◌≤◌, Bool, true, false, List, [], ◌∷◌, ◌++◌, length, get_or, set, refl, sym, ap, ◌∙◌, subst, arith, inl, inr, append_assoc}
+use Rattle.std.proofs.Common.{◌≡◌, ℕ, zero, suc, ◌%◌, ◌<◌, ◌≤◌, Bool, true, false, eqb, List, [], ◌∷◌, ◌++◌, length, get_or, set, refl, sym, ap, ◌∙◌, subst, arith, inl, inr, append_assoc}
 use Rattle.std.specs.List.{AllByRecursion}
 use Rattle.std.proofs.lemmas.List.{append-nil, get_or-set_same, get_or-set_other}
-use Rattle.std.proofs.lemmas.Bool.{cases_eq}
+use Rattle.std.proofs.lemmas.Bool.{cases_eq, cases_Bool, cases_lt, ne_eqb}
+use Rattle.jls_context.specs.Mode.{is_run_mode}
+use Rattle.jls_interval.proofs.FoldedEvents.{index_other}
+use Rattle.jls_interval.proofs.Stretches.{past, more, at_regular, at_end, at_stop}
 use Rattle.jls_values.specs.Params.{CodingParameters, AreCodingParameters}
 use Rattle.jls_context.specs.Regular.{initial_cell}
 use Rattle.jls_context.specs.Variables.{Variables, initial_variables, cell_at, run_cell_at}
 use Rattle.jls_interval.specs.Lines.{IsLine}
-use Rattle.jls_interval.specs.Events.{Event, Above, line_events, above, events_after, events}
+use Rattle.jls_interval.specs.Events.{Event, Above, neighbours, run_stop, Stretch, stretch, events_from, line_events, above, events_after, events}
 use Rattle.jls_interval.specs.Cells.{cell_before, run_cell_before}
-use Rattle.jls_interval.specs.Runs.{run_index_before}
+use Rattle.jls_interval.specs.Runs.{is_run_of, run_index_before}
 use Rattle.jls_interval.specs.Code.{bits_of_events, code}
 use Rattle.jls_interval.specs.DecodedEvent.{IsLeft}
 use Rattle.jls_interval.specs.DecodedLine.{LineRead, NoLine, ReadsLine, RefusesLine}
 use Rattle.jls_interval.specs.PieceFaults.{NoLines}
 use Rattle.jls_interval.proofs.CodesApart.{codes_apart}
 use Rattle.jls_interval.proofs.EncodedEvents.{bits_append}
-use Rattle.jls_interval.proofs.EncodedLines.{get_same, no_events, code_is, events_line, index_kept}
+use Rattle.jls_interval.proofs.EncodedLines.{no_events, code_is, events_line}
+use Rattle.jls_interval.proofs.AfterEvents.{get_same}
+
+-- Runs of a line are its component's
+module _ (w k : ℕ) (up : Above) (line : List ℕ) (other : ℕ) (differs : other ≡ k → ⊥) where
+  not_own : eqb k other ≡ false
+  not_own = ne_eqb k other (λ e. differs (sym e))
+
+  stretch_other : (x : ℕ) → is_run_of other (stretch w k up line x).event ≡ false
+  stretch_other x =
+      let near = neighbours w up line x in let stop = run_stop line near.ra x in
+      elim (cases_Bool (is_run_mode near)) [ inl r ↦ elim (cases_lt stop w) [ inl s ↦ ap (λ (z : Stretch). is_run_of other z.event) (at_stop w k up line x stop r refl s) ∙ not_own | inr s ↦ ap (λ (z : Stretch). is_run_of other z.event) (at_end w k up line x r s) ∙ not_own ] | inr r ↦ ap (λ (z : Stretch). is_run_of other z.event) (at_regular w k up line x r) ]
+
+  no_fuel : (x : ℕ) → events_from w k up line zero x ≡ []
+  unfolding events_from
+  no_fuel x = refl
+
+  pub index_kept : (fuel x : ℕ) (earlier : List Event) → run_index_before earlier other ≡ run_index_before (earlier ++ events_from w k up line fuel x) other
+  index_kept zero x earlier = ap (λ z. run_index_before z other) (sym (append-nil earlier) ∙ ap (λ z. earlier ++ z) (sym (no_fuel x)))
+  index_kept (suc fuel) x earlier =
+      let s = stretch w k up line x in
+      elim (cases_lt x w) [ inl l ↦ index_other earlier s.event other (run_index_before earlier other) (stretch_other x) refl ∙ index_kept fuel s.next (earlier ++ s.event ∷ []) ∙ ap (λ z. run_index_before z other) (append_assoc earlier (s.event ∷ []) (events_from w k up line fuel s.next) ∙ ap (λ z. earlier ++ z) (sym (more w k up fuel line x l))) | inr l ↦ ap (λ z. run_index_before z other) (sym (append-nil earlier) ∙ ap (λ z. earlier ++ z) (sym (past w k up (suc fuel) line x l))) ]
 
 -- These lines were read from the front of the bits, and the variables are those that their events leave. `run_indices` has
 -- RUNindex of each component

@@ -12,8 +12,9 @@ use Rattle.jls_interval.specs.Events.{Event, Above, neighbours, above, line_back
 use Rattle.jls_interval.specs.Cells.{cell_before, run_cell_before}
 use Rattle.jls_interval.specs.Runs.{is_run_of, run_index_before}
 use Rattle.jls_interval.specs.Code.{bits_of_events, code}
-use Rattle.jls_interval.specs.Encoding.{AreCellsAfter, Encoder, IsAfter, Writes, IsBegun, AreWritten}
-use Rattle.jls_interval.proofs.FoldedEvents.{index_other}
+use Rattle.jls_interval.specs.After.{IsAfter}
+use Rattle.jls_interval.specs.Encoding.{Written, Writes, IsBegun, AreWritten}
+use Rattle.jls_interval.proofs.AfterEvents.{after_none}
 use Rattle.jls_interval.proofs.Stretches.{past, more, at_regular, at_end, at_stop}
 use Rattle.jls_interval.proofs.GrownLines.{fuel_same}
 use Rattle.jls_interval.proofs.EncodedEvents.{bits_append, bits_none, writes_none, writes_then}
@@ -24,42 +25,22 @@ module _ (p : CodingParameters) (component : ℕ) (up : Above) (line : List ℕ)
   abbrev width : ℕ
   width = length line
 
-  pub begun_start : (old : Encoder) → IsBegun p component up line 0 old old
-  begun_start old = record { before = []; writes = writes_none p component old; parted = refl }
+  pub begun_start : (old : Written) → IsBegun p component up line 0 old old
+  begun_start old = record { before = []; writes = writes_none p old; parted = refl }
 
-  pub begun_more : (x next : ℕ) (old middle new : Encoder) → x < width → IsBegun p component up line x old middle → Writes p component middle new ((stretch width component up line x).event ∷ []) → next ≡ (stretch width component up line x).next
+  pub begun_more : (x next : ℕ) (old middle new : Written) → x < width → IsBegun p component up line x old middle → Writes p middle new ((stretch width component up line x).event ∷ []) → next ≡ (stretch width component up line x).next
       → IsBegun p component up line next old new
   begun_more x next old middle new l b w e =
       let s = stretch width component up line x in
       record {
         before = b.before ++ s.event ∷ [];
-        writes = writes_then p component old middle new b.before (s.event ∷ []) b.writes w;
+        writes = writes_then p old middle new b.before (s.event ∷ []) b.writes w;
         parted = b.parted ∙ ap (λ z. b.before ++ z) (fuel_same width component up width (suc width) line x (omega arith) (omega arith) ∙ more width component up width line x l ∙ ap (λ z. s.event ∷ events_from width component up line width z) (sym e)) ∙ sym (append_assoc b.before (s.event ∷ []) (events_from width component up line width next));
       }
 
-  pub begun_end : (x : ℕ) (old new : Encoder) → width ≤ x → IsBegun p component up line x old new → Writes p component old new (line_events width component up line)
+  pub begun_end : (x : ℕ) (old new : Written) → width ≤ x → IsBegun p component up line x old new → Writes p old new (line_events width component up line)
   begun_end x old new l b =
-      subst (Writes p component old new) (sym (b.parted ∙ ap (λ z. b.before ++ z) (past width component up width line x l) ∙ append-nil b.before)) b.writes
-
--- Runs of a line are its component's
-module _ (w k : ℕ) (up : Above) (line : List ℕ) (other : ℕ) (differs : other ≡ k → ⊥) where
-  not_own : eqb k other ≡ false
-  not_own = ne_eqb k other (λ e. differs (sym e))
-
-  stretch_other : (x : ℕ) → is_run_of other (stretch w k up line x).event ≡ false
-  stretch_other x =
-      let near = neighbours w up line x in let stop = run_stop line near.ra x in
-      elim (cases_Bool (is_run_mode near)) [ inl r ↦ elim (cases_lt stop w) [ inl s ↦ ap (λ (z : Stretch). is_run_of other z.event) (at_stop w k up line x stop r refl s) ∙ not_own | inr s ↦ ap (λ (z : Stretch). is_run_of other z.event) (at_end w k up line x r s) ∙ not_own ] | inr r ↦ ap (λ (z : Stretch). is_run_of other z.event) (at_regular w k up line x r) ]
-
-  no_fuel : (x : ℕ) → events_from w k up line zero x ≡ []
-  unfolding events_from
-  no_fuel x = refl
-
-  pub index_kept : (fuel x : ℕ) (earlier : List Event) → run_index_before earlier other ≡ run_index_before (earlier ++ events_from w k up line fuel x) other
-  index_kept zero x earlier = ap (λ z. run_index_before z other) (sym (append-nil earlier) ∙ ap (λ z. earlier ++ z) (sym (no_fuel x)))
-  index_kept (suc fuel) x earlier =
-      let s = stretch w k up line x in
-      elim (cases_lt x w) [ inl l ↦ index_other earlier s.event other (run_index_before earlier other) (stretch_other x) refl ∙ index_kept fuel s.next (earlier ++ s.event ∷ []) ∙ ap (λ z. run_index_before z other) (append_assoc earlier (s.event ∷ []) (events_from w k up line fuel s.next) ∙ ap (λ z. earlier ++ z) (sym (more w k up fuel line x l))) | inr l ↦ ap (λ z. run_index_before z other) (sym (append-nil earlier) ∙ ap (λ z. earlier ++ z) (sym (past w k up (suc fuel) line x l))) ]
+      subst (Writes p old new) (sym (b.parted ∙ ap (λ z. b.before ++ z) (past width component up width line x l) ∙ append-nil b.before)) b.writes
 
 -- The lines of an interval -----------------------------------------------------------------
 
@@ -86,47 +67,28 @@ pub code_is : (p : CodingParameters) (w c : ℕ) (lines : List (List ℕ)) → c
 unfolding code
 code_is p w c lines = refl
 
-pub get_same : {X : Type 0} (n : ℕ) (x : X) (i : ℕ) → get_or (replicate n x) i x ≡ x
-get_same zero x i = refl
-get_same (suc n) x zero = refl
-get_same (suc n) x (suc i) = get_same n x i
-
 module _ (p : CodingParameters) where
-  cells_start : AreCellsAfter p (initial_variables p) []
-  unfolding cell_at cell_before run_cell_before
-  cells_start = record { parameters = refl; regular = λ q. get_same 365 (initial_cell p) q; interruption = λ same. elim (cases_Bool same) [ inl e ↦ rw e refl | inr e ↦ rw e refl ] }
-
-  index_start : (component : ℕ) → run_index_before [] component ≡ 0
-  unfolding run_index_before
-  index_start component = refl
-
-  pub written_start : (w c : ℕ) (lines : List (List ℕ)) (cells : Variables) (run_indices : List ℕ) (written : List Bool) → cells ≡ initial_variables p → ((k : ℕ) → get_or run_indices k 0 ≡ 0) → written ≡ [] → AreWritten p w c lines 0 cells run_indices written
+  pub written_start : (w c : ℕ) (lines : List (List ℕ)) (cells : Variables) (run_indices : List ℕ) (written : List Bool) → cells ≡ initial_variables p → ((component : ℕ) → get_or run_indices component 0 ≡ 0) → written ≡ []
+      → AreWritten p w c lines 0 (record { cells = cells; run_indices = run_indices; written = written })
   written_start w c lines cells run_indices written a b e =
       let none : [] ≡ events w c [] = sym (no_events w c) in
       record {
-        cells_are = subst (AreCellsAfter p cells) none (subst (λ z. AreCellsAfter p z []) (sym a) cells_start);
-        run_indices_are = λ k l. b k ∙ sym (index_start k) ∙ ap (λ z. run_index_before z k) none;
+        is_after = subst (IsAfter p cells run_indices) none (after_none p cells run_indices a b);
         bits_are = e ∙ sym (bits_none p []) ∙ ap (bits_of_events p []) none ∙ sym (code_is p w c []);
       }
 
-  module _ (w c : ℕ) (lines : List (List ℕ)) (j : ℕ) (cells : Variables) (run_indices : List ℕ) (written : List Bool) (are : AreWritten p w c lines j cells run_indices written) where
-    pub written_end : length lines ≤ j → written ≡ code p w c lines
+  module _ (w c : ℕ) (lines : List (List ℕ)) (j : ℕ) (old : Written) (are : AreWritten p w c lines j old) where
+    pub written_end : length lines ≤ j → old.written ≡ code p w c lines
     written_end l = are.bits_are ∙ ap (code p w c) (take_all j lines l)
 
-    pub written_more : (k : ℕ) (up : Above) (line : List ℕ) (new : Variables) (index : ℕ) (written' : List Bool) → j < length lines → k ≡ j % c → k < c → c ≤ length run_indices
-        → up ≡ above c (take j lines) → line ≡ get_or lines j [] → length line ≡ w
-        → Writes p k (record { cells = cells; run_index = get_or run_indices k 0; written = written }) (record { cells = new; run_index = index; written = written' }) (line_events (length line) k up line)
-        → AreWritten p w c lines (j + 1) new (set run_indices k index) written'
-    written_more k up line new index written' l k_is kc room up_is line_is wide ws =
+    pub written_more : (k : ℕ) (up : Above) (line : List ℕ) (new : Written) → j < length lines → k ≡ j % c → up ≡ above c (take j lines) → line ≡ get_or lines j [] → length line ≡ w
+        → Writes p old new (line_events (length line) k up line) → AreWritten p w c lines (j + 1) new
+    written_more k up line new l k_is up_is line_is wide ws =
         let earlier = events w c (take j lines) in let own = line_events (length line) k up line in
-        let old : Encoder = record { cells = cells; run_index = get_or run_indices k 0; written = written } in
-        let h : IsAfter p k old earlier = record { cells_are = are.cells_are; run_index_is = are.run_indices_are k kc } in
         let own_is : earlier ++ own ≡ events w c (take (j + 1) lines) = ap (λ z. earlier ++ line_events z k up line) wide ∙ ap (λ z. earlier ++ line_events w z up line) k_is ∙ ap (λ z. earlier ++ line_events w (j % c) z line) up_is ∙ ap (λ z. earlier ++ line_events w (j % c) (above c (take j lines)) z) line_is ∙ sym (events_taken w c lines j l) in
-        let a = ws.is_after earlier h in
         record {
-          cells_are = subst (AreCellsAfter p new) own_is a.cells_are;
-          run_indices_are = λ q ql. elim (cases_eq q k) [ inl e ↦ ap (λ z. get_or (set run_indices k index) z 0) e ∙ get_or-set_same run_indices k index 0 (omega arith) ∙ a.run_index_is ∙ ap (λ z. run_index_before (earlier ++ own) z) (sym e) ∙ ap (λ z. run_index_before z q) own_is | inr n ↦ get_or-set_other run_indices k q index 0 n ∙ are.run_indices_are q ql ∙ index_kept (length line) k up line q n (length line) 0 earlier ∙ ap (λ z. run_index_before z q) own_is ];
-          bits_are = ws.bits_are earlier h ∙ ap (λ z. z ++ bits_of_events p earlier own) (are.bits_are ∙ code_is p w c (take j lines)) ∙ sym (bits_append p [] earlier own) ∙ ap (bits_of_events p []) own_is ∙ sym (code_is p w c (take (j + 1) lines));
+          is_after = subst (IsAfter p new.cells new.run_indices) own_is (ws.is_after earlier are.is_after);
+          bits_are = ws.bits_are earlier are.is_after ∙ ap (λ z. z ++ bits_of_events p earlier own) (are.bits_are ∙ code_is p w c (take j lines)) ∙ sym (bits_append p [] earlier own) ∙ ap (bits_of_events p []) own_is ∙ sym (code_is p w c (take (j + 1) lines));
         }
 
 -- What stands above a line -------------------------------------------------------------------

@@ -22,6 +22,7 @@ pub mod PartedOnce
 pub mod WorkedExamples
 pub mod RunSteps
 pub mod LineLists
+pub mod AfterEvents
 pub mod DecodedEvents
 pub mod LineSteps
 pub mod DecodedLine

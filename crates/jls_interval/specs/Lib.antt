@@ -14,5 +14,7 @@ pub mod RunState
 pub mod DecodedEvent
 pub mod DecodedLine
 pub mod PieceFaults
+pub mod After
+pub mod Place
 pub mod Encoding
 pub mod ReadBack

@@ -4,14 +4,15 @@ ghost use Rattle.std.specs.Prelude.{◌≡◌, [], get_or, map, IfOk, OnOk};
 ghost use Rattle.jls_bits.specs.Pad.{IsPad};
 ghost use Rattle.jls_interval.specs.Fits.{FitsInterval};
 ghost use Rattle.jls_interval.specs.Code.{code};
+ghost use Rattle.jls_interval.specs.Encoding.{AreWritten, written_by};
 ghost use Rattle.jls_interval.specs.Reads.{packed};
 ghost use Rattle.jls_interval.specs.ReadBack.{PackedLinesReadBack};
 
-use crate::code_lengths::CodeLengths;
+use crate::coder::Coder;
 use crate::encode_line::write_line;
-use crate::neighbours::line_back;
+use crate::encoder::Encoder;
+use crate::place::Place;
 use jls_bits::BitWriter;
-use jls_context::Cells;
 use jls_values::Params;
 use std::alloc::{AllocError, Global};
 
@@ -27,35 +28,18 @@ fn line_at(lines: &[Vec<u16>], j: usize) -> &[u16]
 
 /// Writes the bits of the lines, one line after another.
 fn write_lines(
-    writer: &mut BitWriter,
-    params: &Params,
+    encoder: &mut Encoder,
     width: u16,
     components: u8,
     lines: &[Vec<u16>],
 ) -> Result<(), AllocError>
-    requires lines { FitsInterval params.now width components (map (λ v. v.items) lines.now) }
-    requires none { writer.old ≡ [] }
-    ensures { OnOk result (writer.new ≡ code params.now width components (map (λ v. v.items) lines.now)) }
+    requires lines { FitsInterval encoder.old.coder.cells.parameters width components (map (λ v. v.items) lines.now) }
+    requires start { AreWritten encoder.old.coder.cells.parameters width components (map (λ v. v.items) lines.now) 0 (written_by encoder.old) }
+    ensures { OnOk result (encoder.new.writer ≡ code encoder.old.coder.cells.parameters width components (map (λ v. v.items) lines.now)) }
 {
-    let lengths = CodeLengths::of(params);
-    let row_lines = usize::from(components);
-    let mut cells = Cells::new(params);
-    let mut run_indices = [0u8; 4];
     for j in 0..lines.len() {
-        let component = j % row_lines;
-        let line_above = line_back(&lines[..j], row_lines);
-        let line_two_above = line_back(&lines[..j], 2 * row_lines);
-        let line = line_at(lines, j);
-        let after = write_line(
-            writer,
-            &mut cells,
-            lengths,
-            run_indices[component],
-            line_above,
-            line_two_above,
-            line,
-        )?;
-        run_indices[component] = after;
+        let place = Place::after(&lines[..j], usize::from(components));
+        write_line(encoder, &place, line_at(lines, j))?;
     }
     Ok(())
 }
@@ -75,8 +59,12 @@ pub fn encode_interval(
     ensures packed { IfOk result (λ bytes. bytes.items ≡ packed params.now width components (map (λ v. v.items) lines.now)) }
     ensures pad { IfOk result (λ bytes. IsPad (code params.now width components (map (λ v. v.items) lines.now)) bytes.items) }
 {
-    let mut writer = BitWriter::new(alloc);
-    write_lines(&mut writer, params, width, components, lines)?;
+    let mut encoder = Encoder {
+        writer: BitWriter::new(alloc),
+        coder: Coder::new(params),
+    };
+    write_lines(&mut encoder, width, components, lines)?;
+    let Encoder { writer, .. } = encoder;
     writer.finish()
 }
 

@@ -1,18 +1,18 @@
 //! Writing one sample (ITU-T T.87, A.4, A.5 and A.7.2).
 
-ghost use Rattle.std.specs.Prelude.{◌≡◌, ◌≢◌, ℕ, ◌<◌, ◌≤◌, [], ◌∷◌, ◌++◌, not, pos, ◌-ℤ◌, OnOk};
+ghost use Rattle.std.specs.Prelude.{◌≡◌, ◌≢◌, ◌≤◌, [], ◌∷◌, ◌++◌, not, pos, ◌-ℤ◌, OnOk};
 ghost use Rattle.jls_context.specs.Mode.{IsRegularMode, with_sign};
 ghost use Rattle.jls_context.specs.Interruption.{run_updated};
 ghost use Rattle.jls_context.specs.Variables.{run_cell_at};
 ghost use Rattle.jls_interval.specs.Events.{regular};
 ghost use Rattle.jls_interval.specs.Cells.{is_same, interruption_error};
 ghost use Rattle.jls_interval.specs.Code.{interrupting_bits};
-ghost use Rattle.jls_interval.specs.CodeLengths.{AreLengths};
-ghost use Rattle.jls_interval.specs.Encoding.{Writes};
+ghost use Rattle.jls_interval.specs.Encoding.{Writes, written_by};
 
-use crate::code_lengths::CodeLengths;
-use jls_bits::{BitWriter, write_golomb};
-use jls_context::{Cells, Neighbours};
+use crate::coder::RegularMode;
+use crate::encoder::Encoder;
+use jls_bits::write_golomb;
+use jls_context::Neighbours;
 use std::alloc::AllocError;
 
 /// The difference of a sample and its prediction, with SIGN.
@@ -28,52 +28,54 @@ fn signed_difference(negative: bool, sample: u16, prediction: u16) -> i32
 
 /// Writes a sample of regular mode.
 pub(crate) fn write_regular(
-    writer: &mut BitWriter,
-    cells: &mut Cells,
-    lengths: CodeLengths,
-    near: Neighbours,
-    cell: u16,
-    negative: bool,
+    encoder: &mut Encoder,
+    neighbours: Neighbours,
+    mode: RegularMode,
     sample: u16,
 ) -> Result<(), AllocError>
-    requires lengths { AreLengths cells.old.parameters lengths }
-    requires mode { IsRegularMode cells.old.parameters near cell negative }
-    requires sample { sample ≤ cells.old.parameters.maxval }
-    ensures written { OnOk result ((component run_index : ℕ) → Writes cells.old.parameters component (record { cells = cells.old; run_index = run_index; written = writer.old }) (record { cells = cells.new; run_index = run_index; written = writer.new }) (regular near sample ∷ [])) }
-    ensures parameters { cells.new.parameters ≡ cells.old.parameters }
+    requires mode { IsRegularMode encoder.old.coder.cells.parameters neighbours mode.context mode.negative }
+    requires sample { sample ≤ encoder.old.coder.cells.parameters.maxval }
+    ensures written { OnOk result (Writes encoder.old.coder.cells.parameters (written_by encoder.old) (written_by encoder.new) (regular neighbours sample ∷ [])) }
+    ensures parameters { encoder.new.coder.cells.parameters ≡ encoder.old.coder.cells.parameters }
 {
-    let predicted = cells.predict(cell, negative, near.ra, near.rb, near.rc);
+    let RegularMode { context, negative } = mode;
+    let Neighbours { ra, rb, rc, .. } = neighbours;
+    let cells = &mut encoder.coder.cells;
+    let lengths = encoder.coder.lengths;
+    let predicted = cells.predict(context, negative, ra, rb, rc);
     let error = cells.reduce(signed_difference(negative, sample, predicted));
-    let (k, mapped) = cells.regular_code(cell, error);
-    write_golomb(writer, mapped, k, lengths.limit, lengths.qbpp)?;
-    cells.update_regular(cell, error);
+    let (k, mapped) = cells.regular_code(context, error);
+    write_golomb(&mut encoder.writer, mapped, k, lengths.limit, lengths.qbpp)?;
+    cells.update_regular(context, error);
     Ok(())
 }
 
 /// Writes the sample that interrupts a run, behind J bits.
 pub(crate) fn write_interrupting(
-    writer: &mut BitWriter,
-    cells: &mut Cells,
-    lengths: CodeLengths,
-    near: Neighbours,
+    encoder: &mut Encoder,
+    neighbours: Neighbours,
     order: u8,
     sample: u16,
 ) -> Result<(), AllocError>
-    requires lengths { AreLengths cells.old.parameters lengths }
-    requires above { near.rb ≤ cells.old.parameters.maxval }
+    requires above { neighbours.rb ≤ encoder.old.coder.cells.parameters.maxval }
     requires order { order ≤ 15 }
-    requires sample { sample ≤ cells.old.parameters.maxval }
-    requires another { sample ≢ near.ra }
-    ensures written { OnOk result (writer.new ≡ writer.old ++ interrupting_bits cells.old.parameters (run_cell_at cells.old (is_same near)) near order sample) }
-    ensures updated { OnOk result (run_cell_at cells.new (is_same near) ≡ run_updated cells.old.parameters.reset (is_same near) (run_cell_at cells.old (is_same near)) (interruption_error cells.old.parameters near sample)) }
-    ensures other { run_cell_at cells.new (not (is_same near)) ≡ run_cell_at cells.old (not (is_same near)) }
-    ensures regular { cells.new.regular ≡ cells.old.regular }
-    ensures parameters { cells.new.parameters ≡ cells.old.parameters }
+    requires sample { sample ≤ encoder.old.coder.cells.parameters.maxval }
+    requires another { sample ≢ neighbours.ra }
+    ensures written { OnOk result (encoder.new.writer ≡ encoder.old.writer ++ interrupting_bits encoder.old.coder.cells.parameters (run_cell_at encoder.old.coder.cells (is_same neighbours)) neighbours order sample) }
+    ensures updated { OnOk result (run_cell_at encoder.new.coder.cells (is_same neighbours) ≡ run_updated encoder.old.coder.cells.parameters.reset (is_same neighbours) (run_cell_at encoder.old.coder.cells (is_same neighbours)) (interruption_error encoder.old.coder.cells.parameters neighbours sample)) }
+    ensures other { run_cell_at encoder.new.coder.cells (not (is_same neighbours)) ≡ run_cell_at encoder.old.coder.cells (not (is_same neighbours)) }
+    ensures regular { encoder.new.coder.cells.regular ≡ encoder.old.coder.cells.regular }
+    ensures parameters { encoder.new.coder.cells.parameters ≡ encoder.old.coder.cells.parameters }
+    ensures run_indices { encoder.new.coder.run_indices ≡ encoder.old.coder.run_indices }
 {
-    let same = near.ra == near.rb;
-    let error = cells.reduce(signed_difference(near.rb < near.ra, sample, near.rb));
+    let Neighbours { ra, rb, .. } = neighbours;
+    let same = ra == rb;
+    let cells = &mut encoder.coder.cells;
+    let lengths = encoder.coder.lengths;
+    let error = cells.reduce(signed_difference(rb < ra, sample, rb));
     let (k, mapped) = cells.run_code(same, error);
-    write_golomb(writer, mapped, k, lengths.limit - order - 1, lengths.qbpp)?;
+    let limit = lengths.limit - order - 1;
+    write_golomb(&mut encoder.writer, mapped, k, limit, lengths.qbpp)?;
     cells.update_run(same, error);
     Ok(())
 }

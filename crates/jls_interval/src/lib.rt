@@ -2,6 +2,7 @@
 #![tactic(auto)]
 
 mod code_lengths;
+mod coder;
 mod decode_event;
 mod decode_line;
 mod decode_piece;
@@ -10,9 +11,11 @@ mod encode;
 mod encode_line;
 mod encode_run;
 mod encode_sample;
+mod encoder;
 mod laws;
 mod lines;
 mod neighbours;
+mod place;
 mod run_index;
 mod run_reader;
 

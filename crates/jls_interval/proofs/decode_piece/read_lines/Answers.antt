@@ -6,7 +6,8 @@ use Rattle.jls_context.specs.Variables.{Variables}
 use Rattle.jls_interval.specs.Events.{Above, above, line_back, events}
 use Rattle.jls_interval.specs.DecodedLine.{LineRead, NoLine, ReadsLine, RefusesLine}
 use Rattle.jls_interval.proofs.EventsApart.{small_back}
-use Rattle.jls_interval.proofs.EncodedLines.{get_same, indices_within, above_same}
+use Rattle.jls_interval.proofs.EncodedLines.{indices_within, above_same}
+use Rattle.jls_interval.proofs.AfterEvents.{get_same}
 use Rattle.jls_interval.proofs.DecodedLines.{AreRead, read_none, read_more, read_refused, line_read, no_line, small_lines}
 use Rattle.jls_interval.proofs.decode_piece.read_lines.Goals as goal
 

@@ -1,0 +1,97 @@
+//! A few data bits at once.
+
+ghost use Rattle.std.specs.Prelude.{◌≡◌, ◌↔◌, ◌≤◌, ◌<◌, ◌^◌, true, false, [], ◌∷◌, ◌++◌, length, replicate, IsTrue, IfSome, IfNone};
+ghost use Rattle.jls_bits.specs.Bits.{bits};
+
+use std::marker::Model;
+
+/// Up to 64 bits, which are appended at the end and taken at the front. A contract sees the list of the bits.
+#[derive(Drop)]
+pub struct Chunk {
+    /// The bits are its low `count` ones.
+    value: u64,
+    count: u8,
+}
+
+impl Model for Chunk {
+    ghost use Rattle.std.specs.Prelude.{◌≤◌, ◌<◌, ◌^◌, List, Bool};
+    ghost use Rattle.jls_bits.specs.Bits.{bits};
+
+    ghost Value = { List Bool };
+
+    ghost view = { λ c. bits c.count c.value };
+
+    ghost invariant = { λ c. (c.count ≤ 64) × (c.value < 2 ^ c.count) };
+}
+
+impl Chunk {
+    /// No bit.
+    pub fn new() -> Chunk
+        ensures { result ≡ [] }
+    {
+        Chunk { value: 0, count: 0 }
+    }
+
+    /// Appends the low `count` bits of a byte, as `Unstuffer::push` gives them.
+    pub fn append(&mut self, byte: u8, count: u8)
+        requires count { count ≤ 8 }
+        requires byte { byte < 2 ^ count }
+        requires room { length self.old ≤ 56 }
+        ensures { self.new ≡ self.old ++ bits count byte }
+    {
+        self.value = (self.value << count) + byte as u64;
+        self.count += count;
+    }
+
+    /// How many bits there are.
+    pub fn len(&self) -> u8
+        ensures { result ≡ length self.now }
+    {
+        self.count
+    }
+
+    /// Whether there is no bit.
+    pub fn is_empty(&self) -> bool
+        ensures { IsTrue result ↔ (self.now ≡ []) }
+    {
+        self.count == 0
+    }
+
+    /// Takes the first bit. None where there is none.
+    pub fn take_bit(&mut self) -> Option<bool>
+        ensures some { IfSome result (λ b. self.old ≡ b ∷ self.new) }
+        ensures none { IfNone result ((self.old ≡ []) × (self.new ≡ [])) }
+    {
+        if self.count == 0 {
+            return None;
+        }
+        let count = self.count - 1;
+        let bit = (self.value >> count) == 1;
+        self.value %= 1 << count;
+        self.count = count;
+        Some(bit)
+    }
+
+    /// Takes fewer than `limit` zeros, a one, and the k bits behind it, where they stand at the front: how many zeros,
+    /// and the number of the k bits. Else it takes nothing.
+    pub(crate) fn take_short(&mut self, limit: u8, k: u8) -> Option<(u8, u32)>
+        requires k { k ≤ 16 }
+        ensures some { IfSome result (λ x. self.old ≡ replicate x.0 false ++ true ∷ (bits k x.1 ++ self.new)) }
+        ensures small { IfSome result (λ x. (x.0 < limit) × (x.1 < 2 ^ k)) }
+        ensures none { IfNone result (self.new ≡ self.old) }
+    {
+        if self.value == 0 {
+            return None;
+        }
+        let first = self.value.ilog2() as u8;
+        let zeros = self.count - first - 1;
+        if limit <= zeros || first < k {
+            return None;
+        }
+        let count = first - k;
+        let number = (self.value >> count) % (1 << k);
+        self.value %= 1 << count;
+        self.count = count;
+        Some((zeros, number as u32))
+    }
+}

@@ -1,0 +1,43 @@
+//! Where a line stands in its interval.
+
+ghost use Rattle.std.specs.Prelude.{◌≡◌, ◌+◌, ◌*◌, ◌%◌, ◌<◌, ◌≤◌, length, map};
+ghost use Rattle.jls_interval.specs.Events.{above};
+
+use crate::neighbours::{line_back, neighbours_at};
+use jls_context::Neighbours;
+
+/// Where a line stands in its interval: its component, and the two lines of the component above it. One
+/// that isn't there is empty.
+#[derive(Drop)]
+pub(crate) struct Place<'a> {
+    pub component: usize,
+    pub line_above: &'a [u16],
+    pub line_two_above: &'a [u16],
+    ghost component_below: { component < 4 },
+}
+
+impl<'a> Place<'a> {
+    ghost use Rattle.jls_interval.specs.Place.{above_of};
+
+    /// The place of the line that follows these lines, where so many components take turns.
+    pub(crate) fn after(lines: &'a [Vec<u16>], components: usize) -> Place<'a>
+        requires at_least { 1 ≤ components }
+        requires at_most { components ≤ 4 }
+        ensures component { result.component ≡ length lines.now % components }
+        ensures above { above_of result ≡ above components (map (λ v. v.items) lines.now) }
+    {
+        Place {
+            component: lines.len() % components,
+            line_above: line_back(lines, components),
+            line_two_above: line_back(lines, 2 * components),
+        }
+    }
+
+    /// The samples round column x of the line here, which has this width and begins with these samples.
+    pub(crate) fn neighbours(&self, width: usize, line: &[u16], x: usize) -> Neighbours
+        requires { x < width }
+        ensures { result ≡ Rattle.jls_interval.specs.Events.neighbours width (above_of self.now) line.now x }
+    {
+        neighbours_at(width, self.line_above, self.line_two_above, line, x)
+    }
+}
