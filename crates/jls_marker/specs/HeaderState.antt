@@ -1,0 +1,22 @@
+-- What the headers so far have set.
+use Rattle.std.specs.Prelude.{◌≡◌, ℕ, ◌≤◌, ◌<◌, ◌^◌, Option, Some, None}
+use Rattle.jls_values.specs.Shape.{PictureShape, IsShape}
+use Rattle.jls_marker.specs.PresetParameters.{PresetParameters, ArePresetParameters, no_presets}
+
+-- the frame, the values of the last LSE of ID 1, those of the last DRI, and how many scans began
+pub record HeaderState : Type 0 where
+  pub frame : Option PictureShape
+  pub preset : PresetParameters
+  pub restart_interval : ℕ
+  pub scans : ℕ
+
+-- before the first segment
+abbrev pub no_headers : HeaderState
+no_headers = record { frame = None; preset = no_presets; restart_interval = 0; scans = 0 }
+
+-- the ranges that headers keep
+pub record IsHeaderState (h : HeaderState) : Type 0 where
+  pub frame : (f : PictureShape) → h.frame ≡ Some f → IsShape f
+  pub preset : ArePresetParameters h.preset
+  pub restart_below : h.restart_interval < 2 ^ 32
+  pub scans_at_most : h.scans ≤ 16

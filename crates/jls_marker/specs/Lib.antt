@@ -1,0 +1,13 @@
+pub mod Faults
+pub mod HeaderState
+pub mod Headers
+pub mod Layouts
+pub mod MarkerCodes
+pub mod Payloads
+pub mod PresetParameters
+pub mod Scan
+pub mod ScanSelection
+pub mod Segments
+pub mod SegmentLaws
+pub mod HeaderLaws
+pub mod Written

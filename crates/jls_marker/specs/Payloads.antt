@@ -1,0 +1,41 @@
+-- The payloads of a segment, as a relation: what stands in which field, and which fields are free.
+use Rattle.std.specs.Prelude.{◌≡◌, ℕ, ◌%◌, true, List, [], ◌∷◌, map, ◌⊎◌, if◌then◌else◌}
+use Rattle.std.specs.List.{AllByRecursion}
+use Rattle.jls_values.specs.Shape.{PictureShape, IsShape}
+use Rattle.jls_marker.specs.MarkerCodes.{sof55, sos, lse, dri, is_skipped}
+use Rattle.jls_marker.specs.PresetParameters.{PresetParameters}
+use Rattle.jls_marker.specs.ScanSelection.{ScanSelection, IsScanSelection}
+use Rattle.jls_marker.specs.Layouts.{FrameComponent, FrameHeader, HasFrameLayout, ScanComponent, ScanHeader, HasScanLayout, HasPresetLayout, HasRestartLayout}
+use Rattle.jls_marker.specs.declared.segment.Segment.{Segment}
+use Rattle.jls_marker.specs.declared.segment.Segment.TheVariants.{Frame, Scan, Preset, Restart, Skipped}
+
+-- the frame header of a picture of this shape: each component has a sample for each of the picture. Tq is free
+pub record IsFrameHeaderOf (s : PictureShape) (h : FrameHeader) : Type 0 where
+  pub precision : h.precision ≡ s.precision
+  pub height : h.height ≡ s.height
+  pub width : h.width ≡ s.width
+  pub ids : map (λ c. c.id) h.components ≡ s.ids
+  pub sampling : AllByRecursion (λ c. c.sampling ≡ 0x11) h.components
+  pub in_range : IsShape s
+
+-- the scan header of these components: no mapping table, lossless, not shifted. Ah is free
+pub record IsScanHeaderOf (s : ScanSelection) (h : ScanHeader) : Type 0 where
+  pub ids : map (λ c. c.id) h.components ≡ s.ids
+  pub tables : AllByRecursion (λ c. c.table ≡ 0) h.components
+  pub near : h.near ≡ 0
+  pub interleave : h.interleave ≡ (if s.line then 1 else 0)
+  pub point_transform : h.approximation % 16 ≡ 0
+  pub in_range : IsScanSelection s
+
+-- the ID of an LSE segment
+abbrev pub HasLseId : List ℕ → ℕ → Type 0
+HasLseId payload id = (values : List ℕ) × (payload ≡ id ∷ values)
+
+-- these bytes are a payload of the segment
+abbrev pub IsPayload : ℕ → List ℕ → Segment → Type 0
+IsPayload code payload (Frame s) = (code ≡ sof55) × ((h : FrameHeader) × HasFrameLayout payload h × IsFrameHeaderOf s h)
+IsPayload code payload (Scan s) = (code ≡ sos) × ((h : ScanHeader) × HasScanLayout payload h × IsScanHeaderOf s h)
+IsPayload code payload (Preset maxval t1 t2 t3 reset) =
+    (code ≡ lse) × ((values : List ℕ) × (payload ≡ 1 ∷ values) × HasPresetLayout values (record { maxval = maxval; t1 = t1; t2 = t2; t3 = t3; reset = reset }))
+IsPayload code payload (Restart n) = (code ≡ dri) × HasRestartLayout payload n
+IsPayload code payload (Skipped c) = (c ≡ code) × ((is_skipped code ≡ true) ⊎ ((code ≡ lse) × (HasLseId payload 2 ⊎ HasLseId payload 3)))

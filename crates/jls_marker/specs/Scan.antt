@@ -1,0 +1,58 @@
+-- A scan and its restart intervals.
+use Rattle.std.specs.Prelude.{◌≡◌, ℕ, ◌+◌, ◌-◌, ◌*◌, ◌/◌, ◌<◌, ◌≤◌, ◌^◌, min, ◌==◌, List, length, if◌then◌else◌}
+use Rattle.std.specs.List.{AllByRecursion}
+use Rattle.jls_values.specs.Shape.{PictureShape}
+use Rattle.jls_values.specs.Params.{CodingParameters, AreCodingParameters}
+
+-- the indices of its components in the frame, in the order in which they take turns, the parameters in force, how many columns
+-- and lines the frame has, and Ri, the number of rows of an interval, or 0 where there is one interval. A row is a line of each component
+pub record Scan : Type 0 where
+  pub components : List ℕ
+  pub params : CodingParameters
+  pub width : ℕ
+  pub height : ℕ
+  pub restart_interval : ℕ
+
+-- how many intervals a scan has: the height by Ri, rounded up
+abbrev pub intervals : Scan → ℕ
+intervals s = if s.restart_interval == 0 then 1 else (s.height + s.restart_interval - 1) / s.restart_interval
+
+-- the first row of an interval, and how many it has: the last may have fewer than Ri
+abbrev pub first_row : Scan → ℕ → ℕ
+first_row s k = k * s.restart_interval
+
+abbrev pub row_count : Scan → ℕ → ℕ
+row_count s k = if s.restart_interval == 0 then s.height else min s.restart_interval (s.height - k * s.restart_interval)
+
+-- the ranges of a scan: no interval has more than 2^28 samples
+pub record IsScan (s : Scan) : Type 0 where
+  pub params : AreCodingParameters s.params
+  pub width_at_least : 1 ≤ s.width
+  pub width_below : s.width < 2 ^ 16
+  pub height_at_least : 1 ≤ s.height
+  pub height_below : s.height < 2 ^ 16
+  pub components_at_least : 1 ≤ length s.components
+  pub components_at_most : length s.components ≤ 4
+  pub components_are_bytes : AllByRecursion (λ c. c < 256) s.components
+  pub some_interval : 1 ≤ intervals s
+  pub intervals_below : intervals s < 2 ^ 16
+  pub first_rows : (k : ℕ) → k < intervals s → first_row s k < s.height
+  pub rows_at_least : (k : ℕ) → k < intervals s → 1 ≤ row_count s k
+  pub samples_at_most : (k : ℕ) → k < intervals s → s.width * length s.components * row_count s k ≤ 2 ^ 28
+
+-- a scan of this frame
+pub record IsScanOf (f : PictureShape) (s : Scan) : Type 0 where
+  pub precision : s.params.precision ≡ f.precision
+  pub width : s.width ≡ f.width
+  pub height : s.height ≡ f.height
+  pub components_below : AllByRecursion (λ c. c < length f.ids) s.components
+
+-- the interval has this row
+abbrev pub HasRow : Scan → ℕ → ℕ → Type 0
+HasRow s k row = (first_row s k ≤ row) × (row < first_row s k + row_count s k)
+
+-- the intervals part the lines of the frame: each line is a row of exactly one, and each row of one is a line
+pub record PartTheLines (s : Scan) : Type 0 where
+  pub each : (row : ℕ) → row < s.height → (k : ℕ) × (k < intervals s) × HasRow s k row
+  pub once : (row j k : ℕ) → j < intervals s → k < intervals s → HasRow s j row → HasRow s k row → j ≡ k
+  pub within : (row k : ℕ) → k < intervals s → HasRow s k row → row < s.height

@@ -1,0 +1,61 @@
+-- What is written of a segment: the marker, the length, and one payload, with Tq and Ah 0 and Ri in the fewest bytes.
+use Rattle.std.specs.Prelude.{◌≡◌, ℕ, ◌+◌, ◌^◌, ◌<◌, nat_lt, Bool, List, [], ◌∷◌, ◌++◌, length, drop, Result, Ok, if◌then◌else◌}
+use Rattle.std.specs.List.{flat_map}
+use Rattle.std.specs.Int.{w16, w32, to_be_bytes}
+use Rattle.jls_values.specs.Shape.{PictureShape, IsShape}
+use Rattle.jls_marker.specs.MarkerCodes.{sof55, sos, lse, dri}
+use Rattle.jls_marker.specs.PresetParameters.{PresetParameters, ArePresetParameters}
+use Rattle.jls_marker.specs.ScanSelection.{ScanSelection, IsScanSelection}
+use Rattle.jls_marker.specs.Layouts.{preset_bytes}
+use Rattle.jls_marker.specs.declared.segment.Segment.{Segment}
+use Rattle.jls_marker.specs.declared.segment.Segment.TheVariants.{Frame, Scan, Preset, Restart, Skipped}
+
+-- one by one sampling, and no quantization table
+abbrev pub frame_payload : PictureShape → List ℕ
+frame_payload s =
+    s.precision ∷ (to_be_bytes w16 s.height ++ (to_be_bytes w16 s.width ++ (length s.ids ∷ flat_map (λ id. id ∷ 0x11 ∷ 0 ∷ []) s.ids)))
+
+-- no mapping table, NEAR 0, no point transform
+abbrev pub scan_payload : ScanSelection → List ℕ
+scan_payload s = length s.ids ∷ (flat_map (λ id. id ∷ 0 ∷ []) s.ids ++ (0 ∷ (if s.line then 1 else 0) ∷ 0 ∷ []))
+
+-- how many of the four bytes of a number are not written: two, three or four are
+abbrev pub unneeded_bytes : ℕ → ℕ
+unneeded_bytes n = if nat_lt n (2 ^ 16) then 2 else if nat_lt n (2 ^ 24) then 1 else 0
+
+abbrev pub restart_payload : ℕ → List ℕ
+restart_payload n = drop (unneeded_bytes n) (to_be_bytes w32 n)
+
+abbrev pub payload_of : Segment → List ℕ
+payload_of (Frame s) = frame_payload s
+payload_of (Scan s) = scan_payload s
+payload_of (Preset maxval t1 t2 t3 reset) = 1 ∷ preset_bytes (record { maxval = maxval; t1 = t1; t2 = t2; t3 = t3; reset = reset })
+payload_of (Restart n) = restart_payload n
+payload_of (Skipped code) = []
+
+abbrev pub code_of : Segment → ℕ
+code_of (Frame s) = sof55
+code_of (Scan s) = sos
+code_of (Preset maxval t1 t2 t3 reset) = lse
+code_of (Restart n) = dri
+code_of (Skipped code) = code
+
+-- the marker, the length, which counts itself, and the payload
+abbrev pub segment_bytes : ℕ → List ℕ → List ℕ
+segment_bytes code payload = 0xFF ∷ code ∷ (to_be_bytes w16 (length payload + 2) ++ payload)
+
+-- what a segment that was skipped had in it is not kept
+abbrev pub CanBeWritten : Segment → Type 0
+CanBeWritten (Frame s) = Unit {0}
+CanBeWritten (Scan s) = Unit {0}
+CanBeWritten (Preset maxval t1 t2 t3 reset) = Unit {0}
+CanBeWritten (Restart n) = Unit {0}
+CanBeWritten (Skipped code) = ⊥
+
+-- the ranges that every segment keeps
+abbrev pub IsSegment : Segment → Type 0
+IsSegment (Frame s) = IsShape s
+IsSegment (Scan s) = IsScanSelection s
+IsSegment (Preset maxval t1 t2 t3 reset) = ArePresetParameters (record { maxval = maxval; t1 = t1; t2 = t2; t3 = t3; reset = reset })
+IsSegment (Restart n) = n < 2 ^ 32
+IsSegment (Skipped code) = code < 2 ^ 8

@@ -1,0 +1,81 @@
+//! Scan headers.
+
+ghost use Rattle.std.specs.Prelude.{◌≡◌};
+ghost use Rattle.jls_values.specs.Shape;
+
+use crate::fault::MarkerFault;
+use arrayvec::ArrayVec;
+use std::marker::Model;
+
+/// A scan header of lossless coding: the components of the scan, by the identifiers of the frame header and in the order in which
+/// they take turns, and whether they are interleaved by line (ITU-T T.87, C.2.3).
+#[derive(PartialEq, Eq, Drop)]
+pub struct ScanHead {
+    ids: ArrayVec<u8, 4>,
+    line: bool,
+}
+
+impl Model for ScanHead {
+    ghost use Rattle.jls_marker.specs.ScanSelection.{ScanSelection, IsScanSelection};
+
+    ghost Value = { ScanSelection };
+
+    ghost view = { λ h. record { ids = h.ids.items; line = h.line } };
+
+    ghost invariant = { λ h. IsScanSelection (record { ids = h.ids.items; line = h.line }) };
+
+    ghost inverse = { λ s. record { ids = record { items = s.ids }; line = s.line } };
+}
+
+fn has_repeat(ids: &[u8]) -> bool
+    ensures { result ≡ Shape.has_repeat ids.now }
+{
+    let mut rest = ids;
+    while let [first, others @ ..] = rest {
+        if others.contains(first) {
+            return true;
+        }
+        rest = others;
+    }
+    false
+}
+
+impl ScanHead {
+    ghost use Rattle.std.specs.Prelude.{◌≡◌};
+    ghost use Rattle.jls_marker.specs.ScanSelection.{IsScanSelection, selection_of};
+
+    /// The header of a scan of these components. The refusals are, in this order, `Length` where there aren't one to four,
+    /// `RepeatedComponent` where one stands twice, and `Interleave` where there is more than one and they aren't interleaved by line.
+    pub fn new(ids: &[u8], line: bool) -> Result<ScanHead, MarkerFault>
+        ensures { result ≡ selection_of ids.now line }
+    {
+        if ids.is_empty() || ids.len() > 4 {
+            return Err(MarkerFault::Length);
+        }
+        if has_repeat(ids) {
+            return Err(MarkerFault::RepeatedComponent);
+        }
+        if ids.len() > 1 && !line {
+            return Err(MarkerFault::Interleave);
+        }
+        let Ok(ids) = ArrayVec::try_from(ids) else {
+            return Err(MarkerFault::Length);
+        };
+        Ok(ScanHead { ids, line })
+    }
+
+    /// The identifiers of the components, in the order of the scan.
+    pub fn ids(&self) -> &[u8]
+        ensures value { result.now ≡ self.now.ids }
+        ensures ranges { IsScanSelection self.now }
+    {
+        &self.ids
+    }
+
+    /// Whether ILV is 1, interleaved by line. A scan of one component is coded alike with 0.
+    pub fn line(&self) -> bool
+        ensures { result ≡ self.now.line }
+    {
+        self.line
+    }
+}

@@ -1,0 +1,85 @@
+//! Scans and their restart intervals.
+
+use arrayvec::ArrayVec;
+use jls_values::Params;
+use std::marker::Model;
+
+/// A scan that has begun: its components, the parameters in force, and how its rows are parted into restart intervals. A row is
+/// one line of each component.
+#[derive(Drop)]
+pub struct ScanPlan {
+    components: ArrayVec<u8, 4>,
+    params: Params,
+    width: u16,
+    height: u16,
+    restart_interval: u32,
+}
+
+impl Model for ScanPlan {
+    ghost use Rattle.jls_marker.specs.Scan.{Scan, IsScan};
+
+    ghost Value = { Scan };
+
+    ghost view = { λ s. record { components = s.components.items; params = s.params; width = s.width; height = s.height; restart_interval = s.restart_interval } };
+
+    ghost invariant = { λ s. IsScan (record { components = s.components.items; params = s.params; width = s.width; height = s.height; restart_interval = s.restart_interval }) };
+}
+
+impl ScanPlan {
+    ghost use Rattle.std.specs.Prelude.{◌≡◌, ◌<◌};
+    ghost use Rattle.jls_marker.specs.Scan.{IsScan, first_row, row_count, intervals};
+
+    /// The components of the scan in the order in which they take turns, as indices in the frame, from 0.
+    pub fn components(&self) -> &[u8]
+        ensures value { result.now ≡ self.now.components }
+        ensures ranges { IsScan self.now }
+    {
+        &self.components
+    }
+
+    /// The coding parameters in force.
+    pub fn params(&self) -> Params
+        ensures value { result ≡ self.now.params }
+        ensures ranges { IsScan self.now }
+    {
+        self.params
+    }
+
+    /// Samples in a line.
+    pub fn width(&self) -> u16
+        ensures value { result ≡ self.now.width }
+        ensures ranges { IsScan self.now }
+    {
+        self.width
+    }
+
+    /// How many restart intervals the scan has, from 1 to 65,535.
+    pub fn intervals(&self) -> u32
+        ensures value { result ≡ intervals self.now }
+        ensures ranges { IsScan self.now }
+    {
+        let height = u32::from(self.height);
+        if self.restart_interval == 0 {
+            1
+        } else {
+            height.div_ceil(self.restart_interval)
+        }
+    }
+
+    /// The first row of an interval, and how many rows it has. The last interval may have fewer than the others.
+    pub fn rows(&self, interval: u32) -> (u16, u16)
+        requires { interval < intervals self.now }
+        ensures first { result.0 ≡ first_row self.now interval }
+        ensures count { result.1 ≡ row_count self.now interval }
+        ensures ranges { IsScan self.now }
+    {
+        let height = u32::from(self.height);
+        let first = interval * self.restart_interval;
+        let count = if self.restart_interval == 0 {
+            height
+        } else {
+            self.restart_interval.min(height - first)
+        };
+        (first as u16, count as u16)
+    }
+}

@@ -1,0 +1,36 @@
+//! Marker segments.
+
+ghost use Rattle.std.specs.Prelude.{◌≡◌};
+ghost use Rattle.jls_marker.specs.MarkerCodes as codes;
+
+use crate::scan_head::ScanHead;
+use jls_values::Shape;
+
+/// What a marker segment says.
+#[derive(PartialEq, Eq, Drop)]
+pub enum Segment {
+    /// SOF55, the frame header: the shape of the picture (ITU-T T.87, C.2.2).
+    Frame(Shape),
+    /// SOS, the scan header, which scan data follows (ITU-T T.87, C.2.3).
+    Scan(ScanHead),
+    /// LSE of ID 1: the preset coding parameters as they stand there, where 0 asks for the default (ITU-T T.87, C.2.4.1.1).
+    Preset {
+        maxval: u16,
+        t1: u16,
+        t2: u16,
+        t3: u16,
+        reset: u16,
+    },
+    /// DRI: the number of rows of a restart interval, where 0 says that there are no restart markers (ITU-T T.81, B.2.4.4).
+    Restart(u32),
+    /// A segment that says nothing to this reader, by the code of its marker: APP0 to APP15, COM, and LSE of the IDs 2 and 3.
+    Skipped(u8),
+}
+
+/// Whether a segment of this profile follows the marker with this code.
+#[tactic(auto, unfolding(crate::specs::MarkerCodes::has_segment))]
+pub fn has_segment(code: u8) -> bool
+    ensures { result ≡ codes.has_segment code }
+{
+    matches!(code, 0xF7 | 0xDA | 0xF8 | 0xDD | 0xFE | 0xE0..=0xEF)
+}
