@@ -3,3 +3,13 @@ mod OneCut
 mod NumbersGiven
 mod CutExamples
 mod OneCourse
+mod Alike
+mod Kept
+mod Outcomes
+mod TellsMore
+mod TellsScan
+mod TellsSegment
+mod ReadingTells
+mod CourseTold
+mod Gathering
+mod CopyTold

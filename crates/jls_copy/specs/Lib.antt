@@ -3,3 +3,15 @@ pub mod Numbers
 pub mod CutLaws
 pub mod Course
 pub mod CourseLaws
+pub mod Pieces
+pub mod Decoding
+pub mod Findings
+pub mod ReaderState
+pub mod Sound
+pub mod Machine
+pub mod Gathers
+pub mod Reader
+pub mod Tells
+pub mod ReaderLaws
+pub mod Conclusion
+pub mod CopyReads

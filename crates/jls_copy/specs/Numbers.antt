@@ -18,10 +18,13 @@ pub data PieceNumber : Type 0 where
   Interval : ℕ → PieceNumber
   BeyondLast : ℕ → PieceNumber
 
+-- a number in a scan of so many intervals
+abbrev pub numbered : ℕ → ℕ → PieceNumber
+numbered intervals number = if nat_lt number intervals then Interval number else BeyondLast number
+
 -- the number of the piece behind the mark m in a scan of so many intervals, where `last` was given last
 abbrev pub number_behind : ℕ → ℕ → ℕ → PieceNumber
-number_behind intervals last m =
-    let number = next_number last m in if nat_lt number intervals then Interval number else BeyondLast number
+number_behind intervals last m = numbered intervals (next_number last m)
 
 -- the number given last, behind a piece of this number: one beyond the last interval isn't given
 abbrev pub given_last : ℕ → PieceNumber → ℕ

@@ -7,12 +7,21 @@ mod course_laws;
 mod cut_laws;
 mod cut_search;
 mod end;
+mod findings;
+mod interval_decoder;
 mod lanes;
+mod machine;
+mod piece;
+mod place;
+mod reader;
+mod scan;
 
 pub use course_laws::copies_have_one_course;
 pub use cut_laws::{lost_marks_are_bridged, numbers_are_least, scan_data_has_one_cut};
 pub use cut_search::next_cut;
 pub use end::End;
+pub use piece::{PieceKind, PieceRecord};
+pub use reader::{CopyFault, CopyRead, CopyReader};
 
 #[cfg(test)]
 mod tests;

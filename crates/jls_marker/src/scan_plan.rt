@@ -62,7 +62,8 @@ impl ScanPlan {
         if self.restart_interval == 0 {
             1
         } else {
-            height.div_ceil(self.restart_interval)
+            ((u64::from(height) + u64::from(self.restart_interval) - 1)
+                / u64::from(self.restart_interval)) as u32
         }
     }
 
