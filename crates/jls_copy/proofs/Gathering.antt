@@ -21,7 +21,7 @@ use Rattle.jls_marker.specs.HeaderState.{HeaderState}
 use Rattle.jls_marker.specs.Scan.{Scan}
 use Rattle.jls_marker.specs.Headers.{headers_after}
 use Rattle.jls_copy.specs.Pieces.{FoundPiece, Outcome, Lines, Fault, IsOutcome, readings_of, records_of}
-use Rattle.jls_copy.specs.Findings.{Adds, AddsOutcome, with_readings, picture_of, kept_with}
+use Rattle.jls_copy.specs.Findings.{Adds, AddsOutcome, HoldsShape, with_readings, picture_of, kept_with}
 use Rattle.jls_copy.specs.Gathers.{Gathers}
 use Rattle.jls_copy.specs.Pieces.{AreOutcomes, readings, records}
 use Rattle.jls_copy.specs.ReaderState.{ReaderState, Step, Reading, reading, reading_with, reading_from, first_state, after_byte, step_from, closed_at, closed_by, class_of, segment_taken, length_known, payload_grown}
@@ -177,7 +177,7 @@ low_more (x ∷ bytes) b h l = (h.0, low_more bytes b h.1 l)
 
 -- one byte more
 pub reading_more : (m n : Machine) (bytes : List ℕ) (b : ℕ) → IsReading m bytes → state_of n ≡ after_byte (state_of m) b → Adds m.headers.frame (closed_at m.place b) m.findings n.findings
-    → IsPlace n.place n.payload.items → length n.payload.items ≤ 65535 → length bytes + 1 ≤ 2 ^ 63 - 1 → b < 256 → IsReading n (bytes ++ b ∷ [])
+    → IsPlace n.headers.frame n.place n.payload.items → length n.payload.items ≤ 65535 → length bytes + 1 ≤ 2 ^ 63 - 1 → b < 256 → IsReading n (bytes ++ b ∷ [])
 reading_more m n bytes b h e a p small few low =
     let place_is : m.place ≡ (reading bytes).state.place = ap (λ s. s.place) h.state_is in
     let count : n.count ≡ m.count + 1 = ap (λ s. s.count) e in
@@ -246,3 +246,7 @@ saying_none m n bytes e (NoPicture f offset) h end_is same (none, is) =
 pub fed_or_failed : (failed : Bool) (bytes : List ℕ) (v : Option (List ℕ)) (P : List ℕ → Type 0) → cond failed None (Some bytes) ≡ v → (failed ≡ false → P bytes) → IfSome v P
 fed_or_failed true bytes v P e f = subst (λ o. IfSome o P) e tt
 fed_or_failed false bytes v P e f = subst (λ o. IfSome o P) e (f refl)
+
+-- the picture that is held has the frame's shape
+pub held_shape : (frame : Option PictureShape) (ps : List FoundPiece) (f : Findings) → Gathers frame ps f → (shape : PictureShape) → frame ≡ Some shape → HoldsShape f.partial shape
+held_shape frame ps f g shape framed p e = ap (λ q. q.shape) (ap (picture_of shape) (sym e) ∙ g.picture_is shape framed)

@@ -3,6 +3,7 @@ mod OneCut
 mod NumbersGiven
 mod CutExamples
 mod OneCourse
+mod Fitting
 mod Alike
 mod Kept
 mod Outcomes

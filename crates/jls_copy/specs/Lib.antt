@@ -5,6 +5,7 @@ pub mod Course
 pub mod CourseLaws
 pub mod Pieces
 pub mod Decoding
+pub mod Fits
 pub mod Findings
 pub mod ReaderState
 pub mod Sound

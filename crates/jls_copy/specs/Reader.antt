@@ -22,7 +22,7 @@ pub record IsReading (m : Machine) (bytes : List ℕ) : Type 0 where
   pub count_is : m.count ≡ length bytes
   pub few : length bytes < 2 ^ 63
   pub are_bytes : AllByRecursion (λ b. b < 256) bytes
-  pub place_is : IsPlace m.place m.payload.items
+  pub place_is : IsPlace m.headers.frame m.place m.payload.items
   pub behind : IsBehind m.place m.count
   pub records_counted : m.findings.record_count ≤ m.count
   pub records_kept : length m.findings.records.items ≤ 4096

@@ -1,6 +1,7 @@
 -- What a place meets: the last number and that of the open piece are numbers of intervals.
-use Rattle.std.specs.Prelude.{◌≡◌, ℕ, ◌+◌, ◌<◌, ◌≤◌, ◌^◌, List, [], length, Some}
-use Rattle.jls_marker.specs.Scan.{Scan, intervals, row_count}
+use Rattle.std.specs.Prelude.{◌≡◌, ℕ, ◌+◌, ◌<◌, ◌≤◌, ◌^◌, List, [], length, Option, Some}
+use Rattle.jls_values.specs.Shape.{PictureShape}
+use Rattle.jls_marker.specs.Scan.{Scan, IsScanOf, intervals, row_count}
 use Rattle.jls_copy.specs.Decoding.{Decoding}
 use Rattle.jls_copy.specs.declared.piece.OpenPiece.{OpenPiece}
 use Rattle.jls_copy.specs.declared.piece.OpenPiece.TheVariants.{Within, Beyond}
@@ -25,12 +26,16 @@ IsOpenPiece s (Beyond k) = k < 2 ^ 17
 abbrev pub IsOpenScan : OpenScan → Type 0
 IsOpenScan scan = (scan.last < intervals scan.plan) × IsOpenPiece scan.plan scan.piece
 
--- a payload that isn't whole
-abbrev pub IsPlace : Place → List ℕ → Type 0
-IsPlace (Start fill) payload = Unit {0}
-IsPlace (AtMarker fill) payload = Unit {0}
-IsPlace (AtLength marker code) payload = Unit {0}
-IsPlace (InLength marker code high) payload = Unit {0}
-IsPlace (InPayload marker code size) payload = length payload + 2 < size
-IsPlace (InScan scan) payload = IsOpenScan scan
-IsPlace (Done e) payload = Unit {0}
+-- a scan of the frame that was taken
+abbrev pub IsOfFrame : Option PictureShape → Scan → Type 0
+IsOfFrame frame s = (shape : PictureShape) × (frame ≡ Some shape) × IsScanOf shape s
+
+-- a payload that isn't whole, or a scan of the frame
+abbrev pub IsPlace : Option PictureShape → Place → List ℕ → Type 0
+IsPlace frame (Start fill) payload = Unit {0}
+IsPlace frame (AtMarker fill) payload = Unit {0}
+IsPlace frame (AtLength marker code) payload = Unit {0}
+IsPlace frame (InLength marker code high) payload = Unit {0}
+IsPlace frame (InPayload marker code size) payload = length payload + 2 < size
+IsPlace frame (InScan scan) payload = IsOpenScan scan × IsOfFrame frame scan.plan
+IsPlace frame (Done e) payload = Unit {0}

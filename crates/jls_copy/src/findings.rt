@@ -1,16 +1,20 @@
 //! What a copy gives: readings, and records of the pieces that give none.
 
 ghost use Rattle.std.specs.Prelude.{◌≡◌, ◌+◌, ◌*◌, ◌^◌, ◌≤◌, ◌<◌, ◌++◌, ◌∷◌, [], ℕ, OnOk, IfOk, length, map, take, Some, None};
-ghost use Rattle.jls_copy.specs.Findings.{with_readings, picture_of, kept_with, Adds};
+ghost use Rattle.jls_copy.specs.Findings.{with_readings, picture_of, HoldsShape, kept_with, Adds};
+ghost use Rattle.jls_copy.specs.Fits.{FitFrom};
+ghost use Rattle.jls_partial.specs.InsertFaults.{reading_fault};
+ghost use Rattle.jls_partial.specs.Partial.{with_reading};
 ghost use Rattle.jls_copy.specs.Pieces.{placed};
-ghost use Rattle.jls_marker.specs.Scan.{intervals, first_row};
+ghost use Rattle.jls_interval.specs.Lines.{AreLines};
+ghost use Rattle.jls_marker.specs.Scan.{IsScanOf, intervals, first_row, row_count};
 ghost use Rattle.jls_copy.specs.ReaderState.{piece_found};
 ghost use Rattle.jls_copy.specs.Sound.{IsOpenPiece};
 
 use crate::piece::{OpenPiece, PieceKind, PieceRecord};
 use jls_interval::PieceFault;
 use jls_marker::ScanPlan;
-use jls_partial::Partial;
+use jls_partial::{InsertFault, Partial};
 use jls_values::Shape;
 use std::alloc::{AllocError, Global};
 
@@ -22,6 +26,18 @@ pub(crate) struct Findings {
     pub(crate) record_count: u64,
 }
 
+/// Takes a line that fits into the picture.
+fn take_line(partial: &mut Partial, component: u8, row: u16, line: &[u16]) -> Result<(), AllocError>
+    requires { reading_fault partial.old.shape component row line.now ≡ None }
+    ensures { OnOk result (partial.new ≡ with_reading partial.old component row line.now) }
+{
+    match partial.insert(component, row, line) {
+        Ok(_) => Ok(()),
+        Err(InsertFault::OutOfMemory) => Err(AllocError),
+        Err(_) => unreachable!(),
+    }
+}
+
 /// Takes the lines of an interval whose first row this is.
 fn take_lines(
     partial: &mut Partial,
@@ -29,19 +45,13 @@ fn take_lines(
     first_row: u16,
     lines: &[Vec<u16>],
 ) -> Result<(), AllocError>
-    requires { 1 ≤ length components.now }
+    requires { FitFrom partial.old.shape components.now first_row 0 (map (λ line. line.items) lines.now) }
     ensures { OnOk result (partial.new ≡ with_readings partial.old (placed components.now first_row 0 (map (λ line. line.items) lines.now))) }
 {
-    let mut row = u32::from(first_row);
+    let mut row = first_row;
     let mut place = 0;
     for line in lines {
-        let Ok(number) = u16::try_from(row) else {
-            return Err(AllocError);
-        };
-        match partial.insert(components[place], number, line) {
-            Ok(_) => {}
-            Err(_) => return Err(AllocError),
-        }
+        take_line(partial, components[place], row, line)?;
         place += 1;
         if place == components.len() {
             place = 0;
@@ -75,7 +85,10 @@ impl Findings {
         interval: u32,
         lines: &[Vec<u16>],
     ) -> Result<(), AllocError>
-        requires { interval < intervals plan.now }
+        requires interval { interval < intervals plan.now }
+        requires scan { IsScanOf shape.now plan.now }
+        requires lines { AreLines plan.now.params plan.now.width (row_count plan.now interval * length plan.now.components) (map (λ line. line.items) lines.now) }
+        requires held { HoldsShape self.old.partial shape.now }
         ensures picture { OnOk result (self.new.partial ≡ Some (with_readings (picture_of shape.now self.old.partial) (placed plan.now.components (first_row plan.now interval) 0 (map (λ line. line.items) lines.now)))) }
         ensures records { OnOk result (self.new.records.items ≡ self.old.records.items) }
         ensures count { OnOk result (self.new.record_count ≡ self.old.record_count) }
@@ -102,6 +115,8 @@ impl Findings {
     ) -> Result<(), AllocError>
         requires count { self.old.record_count < 2 ^ 63 }
         requires sound { IsOpenPiece plan.now piece }
+        requires scan { IsScanOf shape.now plan.now }
+        requires held { HoldsShape self.old.partial shape.now }
         ensures { OnOk result (Adds (Some shape.now) (piece_found index plan.now offset piece ∷ []) self.old self.new) }
     {
         match piece {

@@ -3,12 +3,13 @@
 ghost use Rattle.std.specs.Prelude.{◌≡◌, ◌+◌, ◌-◌, ◌*◌, ◌^◌, ◌∷◌, ◌++◌, [], ◌<◌, ◌≤◌, ℕ, OnOk, IfOk, true, false, Some, None, is_some, length};
 ghost use Rattle.jls_copy.specs.ReaderState as state;
 ghost use Rattle.jls_copy.specs.Machine.{state_of, IsMachine, IsBehind};
-ghost use Rattle.jls_copy.specs.Findings.{Adds};
+ghost use Rattle.jls_copy.specs.Findings.{Adds, HoldsShape};
 ghost use Rattle.jls_marker.specs.Scan.{intervals};
 ghost use Rattle.jls_marker.specs.Headers.{headers_after};
 ghost use Rattle.std.specs.Prelude.{IfErr, OnErr, Ok, Err};
 ghost use Rattle.jls_copy.specs.Numbers.{number_behind};
-ghost use Rattle.jls_copy.specs.Sound.{IsPlace, IsOpenScan, IsOpenPiece};
+ghost use Rattle.jls_values.specs.Shape.{PictureShape};
+ghost use Rattle.jls_copy.specs.Sound.{IsPlace, IsOpenScan, IsOpenPiece, IsOfFrame};
 
 use crate::end::End;
 use crate::findings::Findings;
@@ -96,7 +97,7 @@ impl Machine {
         ensures count { self.new.count ≡ self.old.count }
         ensures payload { self.new.payload.items ≡ self.old.payload.items }
         ensures findings { self.new.findings ≡ self.old.findings }
-        ensures sound { IfOk result (λ place. IsPlace place []) }
+        ensures sound { IfOk result (λ place. IsPlace self.new.headers.frame place []) }
     {
         let index = self.headers.scans();
         match take_stub(&mut self.headers, code, &self.payload) {
@@ -119,13 +120,15 @@ impl Machine {
     ) -> Result<(), AllocError>
         requires count { self.old.findings.record_count < 2 ^ 63 }
         requires sound { IsOpenPiece plan.now piece }
+        requires scan { IsOfFrame self.old.headers.frame plan.now }
+        requires held { (shape : PictureShape) → self.old.headers.frame ≡ Some shape → HoldsShape self.old.findings.partial shape }
         ensures found { OnOk result (Adds self.old.headers.frame (state.piece_found index plan.now offset piece ∷ []) self.old.findings self.new.findings) }
         ensures count { self.new.count ≡ self.old.count }
         ensures headers { self.new.headers ≡ self.old.headers }
         ensures payload { self.new.payload.items ≡ self.old.payload.items }
     {
         match self.headers.shape() {
-            None => Err(AllocError),
+            None => unreachable!(),
             Some(shape) => self
                 .findings
                 .close(self.alloc, shape, index, plan, offset, piece),
@@ -138,6 +141,8 @@ impl Machine {
         requires count { self.old.count < 2 ^ 63 }
         requires records { self.old.findings.record_count < 2 ^ 63 }
         requires sound { IsOpenScan scan }
+        requires frame { IsOfFrame self.old.headers.frame scan.plan }
+        requires held { (shape : PictureShape) → self.old.headers.frame ≡ Some shape → HoldsShape self.old.findings.partial shape }
         ensures scan { IfOk result (λ next. next ≡ state.scan_behind scan (number_behind (intervals scan.plan) scan.last mark) (self.old.count + 1)) }
         ensures found { OnOk result (Adds self.old.headers.frame (state.found scan ∷ []) self.old.findings self.new.findings) }
         ensures count { self.new.count ≡ self.old.count }
@@ -177,12 +182,14 @@ impl Machine {
         requires some { 1 ≤ self.old.count }
         requires records { self.old.findings.record_count < 2 ^ 63 }
         requires sound { IsOpenScan scan }
+        requires frame { IsOfFrame self.old.headers.frame scan.plan }
+        requires held { (shape : PictureShape) → self.old.headers.frame ≡ Some shape → HoldsShape self.old.findings.partial shape }
         ensures place { IfOk result (λ place. place ≡ state.from_scan (state.class_of scan.held byte) scan self.old.count byte) }
         ensures found { OnOk result (Adds self.old.headers.frame (state.closed_by (state.class_of scan.held byte) scan) self.old.findings self.new.findings) }
         ensures count { self.new.count ≡ self.old.count }
         ensures headers { self.new.headers ≡ self.old.headers }
         ensures payload { self.new.payload.items ≡ self.old.payload.items }
-        ensures sound { IfOk result (λ place. IsPlace place []) }
+        ensures sound { IfOk result (λ place. IsPlace self.new.headers.frame place []) }
     {
         match class_of(scan.held, byte) {
             ByteClass::Fill => {
@@ -222,7 +229,7 @@ impl Machine {
         ensures payload { OnOk result (self.new.payload.items ≡ (state.length_known self.old.count self.old.headers marker code size).payload) }
         ensures header_bytes { length self.new.payload.items ≤ 65535 }
         ensures findings { self.new.findings ≡ self.old.findings }
-        ensures sound { IfOk result (λ place. IsPlace place []) }
+        ensures sound { IfOk result (λ place. IsPlace self.new.headers.frame place []) }
     {
         self.payload.clear();
         if size < 2 {
@@ -251,7 +258,7 @@ impl Machine {
         ensures payload { OnOk result (self.new.payload.items ≡ (state.payload_grown self.old.count self.old.headers (self.old.payload.items ++ byte ∷ []) marker code size).payload) }
         ensures header_bytes { OnOk result (length self.new.payload.items ≤ 65535) }
         ensures findings { self.new.findings ≡ self.old.findings }
-        ensures sound { IfOk result (λ place. IsPlace place self.new.payload.items) }
+        ensures sound { IfOk result (λ place. IsPlace self.new.headers.frame place self.new.payload.items) }
     {
         self.payload.push(byte)?;
         if self.payload.len() + 2 == usize::from(size) {
@@ -266,14 +273,15 @@ impl Machine {
         requires count { self.old.count < 2 ^ 63 }
         requires records { self.old.findings.record_count < 2 ^ 63 }
         requires behind { IsBehind place self.old.count }
-        requires sound { IsPlace place self.old.payload.items }
+        requires sound { IsPlace self.old.headers.frame place self.old.payload.items }
+        requires held { (shape : PictureShape) → self.old.headers.frame ≡ Some shape → HoldsShape self.old.findings.partial shape }
         requires header_bytes { length self.old.payload.items ≤ 65535 }
         ensures place { IfOk result (λ next. next ≡ (state.step_from place self.old.count self.old.headers self.old.payload.items byte).place) }
         ensures headers { OnOk result (self.new.headers ≡ (state.step_from place self.old.count self.old.headers self.old.payload.items byte).headers) }
         ensures payload { OnOk result (self.new.payload.items ≡ (state.step_from place self.old.count self.old.headers self.old.payload.items byte).payload) }
         ensures count { self.new.count ≡ self.old.count }
         ensures found { OnOk result (Adds self.old.headers.frame (state.closed_at place byte) self.old.findings self.new.findings) }
-        ensures sound { IfOk result (λ next. IsPlace next self.new.payload.items) }
+        ensures sound { IfOk result (λ next. IsPlace self.new.headers.frame next self.new.payload.items) }
         ensures header_bytes { OnOk result (length self.new.payload.items ≤ 65535) }
     {
         match place {
@@ -297,7 +305,7 @@ impl Machine {
         requires { IsMachine self.old }
         ensures state { OnOk result (state_of self.new ≡ state.after_byte (state_of self.old) byte) }
         ensures found { OnOk result (Adds self.old.headers.frame (state.closed_at self.old.place byte) self.old.findings self.new.findings) }
-        ensures sound { OnOk result (IsPlace self.new.place self.new.payload.items) }
+        ensures sound { OnOk result (IsPlace self.new.headers.frame self.new.place self.new.payload.items) }
         ensures header_bytes { OnOk result (length self.new.payload.items ≤ 65535) }
     {
         let place = mem::replace(&mut self.place, Place::Start(false));

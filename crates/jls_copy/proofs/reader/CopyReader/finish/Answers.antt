@@ -1,13 +1,13 @@
 use Rattle.std.proofs.Common.{◌≡◌, ◌<◌, ◌^◌, arith}
 use Rattle.jls_copy.specs.CopyReads.{CopyReads, CopyGivesNone}
-use Rattle.jls_copy.proofs.Gathering.{concluding, saying_none, to_fed, if_ok, if_err}
+use Rattle.jls_copy.proofs.Gathering.{held_shape, concluding, saying_none, to_fed, if_ok, if_err}
 use Rattle.jls_copy.proofs.CopyTold.{conclusion_told, none_told}
 use Rattle.jls_copy.proofs.reader.CopyReader.finish.Goals as goal
 
 pub finish-requires : goal.finish-requires
 finish-requires c =
     let h = c.self.invariant c.if-failed.false in
-    record { count_below = omega (arith, h.count_is, h.few); records_below = omega (arith, h.records_counted, h.count_is, h.few); behind = h.behind; place_is = h.place_is; header_bytes = h.header_bytes }
+    record { count_below = omega (arith, h.count_is, h.few); records_below = omega (arith, h.records_counted, h.count_is, h.few); behind = h.behind; place_is = h.place_is; shape_is = held_shape _ _ _ h.gathers; header_bytes = h.header_bytes }
 
 pub returns-in-Ok-clause-read : goal.returns-in-Ok-clause-read
 returns-in-Ok-clause-read c =
