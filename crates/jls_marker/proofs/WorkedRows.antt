@@ -7,6 +7,7 @@ use Rattle.jls_marker.specs.Scan.{Scan, intervals, first_row, row_count}
 use Rattle.jls_marker.specs.Segments.{segment_of}
 use Rattle.jls_marker.specs.Written.{payload_of, segment_bytes, code_of}
 use Rattle.jls_marker.specs.HeaderState.{HeaderState, no_headers}
+use Rattle.jls_marker.specs.ComponentIndex.{index_of}
 use Rattle.jls_marker.specs.Headers.{accepted}
 use Rattle.jls_marker.specs.declared.fault.MarkerFault.{MarkerFault}
 use Rattle.jls_marker.specs.declared.fault.MarkerFault.TheVariants as fault
@@ -125,6 +126,7 @@ abbrev large : ℕ → HeaderState
 large rows = record no_headers { frame = Some (record { precision = 8; width = 65535; height = 65535; ids = 1 ∷ [] }); restart_interval = rows }
 
 too_large : accepted (large 0) (segment.Scan (record { ids = 1 ∷ []; line = false })) ≡ Err fault.IntervalTooLarge
+unfolding index_of
 too_large = refl
 
 abbrev defaults : CodingParameters
@@ -134,6 +136,7 @@ abbrev large_scan : Scan
 large_scan = record { components = 0 ∷ []; params = defaults; width = 65535; height = 65535; restart_interval = 4096 }
 
 not_too_large : accepted (large 4096) (segment.Scan (record { ids = 1 ∷ []; line = false })) ≡ Ok (record (large 4096) { scans = 1 }, Some large_scan)
+unfolding index_of
 not_too_large = refl
 
 its_intervals : intervals large_scan ≡ 16
@@ -150,10 +153,13 @@ second_frame : accepted (large 0) (segment.Frame column) ≡ Err fault.SecondFra
 second_frame = refl
 
 unknown : accepted (large 0) (segment.Scan (record { ids = 2 ∷ []; line = false })) ≡ Err fault.UnknownComponent
+unfolding index_of
 unknown = refl
 
 bad_params : accepted (record (large 0) { preset = record { maxval = 4095; t1 = 0; t2 = 0; t3 = 0; reset = 0 } }) (segment.Scan (record { ids = 1 ∷ []; line = false })) ≡ Err fault.BadParams
+unfolding index_of
 bad_params = refl
 
 seventeenth : accepted (record (large 4096) { scans = 16 }) (segment.Scan (record { ids = 1 ∷ []; line = false })) ≡ Err fault.TooManyScans
+unfolding index_of
 seventeenth = refl

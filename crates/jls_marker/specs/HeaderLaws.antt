@@ -1,14 +1,11 @@
 -- The laws of the state of the headers, for the layer that reads a whole copy.
-use Rattle.std.specs.Prelude.{◌≡◌, ℕ, ◌+◌, ◌≤◌, ◌<◌, ◌^◌, List, Option, Some, None, Result, Ok, Err, IfSome}
-use Rattle.jls_values.specs.Shape.{PictureShape, IsShape}
-use Rattle.jls_marker.specs.PresetParameters.{ArePresetParameters}
+use Rattle.std.specs.Prelude.{◌≡◌, ℕ, ◌+◌, ◌≤◌, List, Option, Some, None, Ok, Err}
+use Rattle.jls_values.specs.Shape.{PictureShape}
 use Rattle.jls_marker.specs.Scan.{Scan, IsScan, IsScanOf, PartTheLines}
 use Rattle.jls_marker.specs.HeaderState.{HeaderState, IsHeaderState}
 use Rattle.jls_marker.specs.Headers.{headers_after}
-use Rattle.jls_marker.specs.Written.{IsSegment}
-use Rattle.jls_marker.specs.declared.fault.MarkerFault.{MarkerFault}
+use Rattle.jls_marker.specs.SegmentLaws.{AreBytes}
 use Rattle.jls_marker.specs.declared.fault.MarkerFault.TheVariants.{Ended}
-use Rattle.jls_marker.specs.declared.segment.Segment.{Segment}
 
 -- a frame that was taken stays
 abbrev pub FrameStays : Type 0
@@ -28,7 +25,7 @@ ScansBegin = (h after : HeaderState) (code : ℕ) (payload : List ℕ) (scan : S
 
 -- its ranges
 abbrev pub ScansAreInRange : Type 0
-ScansAreInRange = (h after : HeaderState) (code : ℕ) (payload : List ℕ) (scan : Scan) → IsHeaderState h → headers_after h code payload ≡ Ok (after, Some scan) → IsScan scan
+ScansAreInRange = (h after : HeaderState) (code : ℕ) (payload : List ℕ) (scan : Scan) → IsHeaderState h → AreBytes payload → headers_after h code payload ≡ Ok (after, Some scan) → IsScan scan
 
 -- other segments count no scan
 abbrev pub OthersCountNone : Type 0

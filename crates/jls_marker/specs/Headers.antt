@@ -1,26 +1,23 @@
 -- What the headers so far have set, and the scan that an SOS begins.
-use Rattle.std.specs.Prelude.{◌≡◌, ℕ, ◌+◌, ◌*◌, ◌^◌, Bool, nat_le, nat_lt, ◌==◌, List, [], ◌∷◌, map, length, is_ok, is_none, Option, Some, None, Result, Ok, Err}
-use Rattle.std.specs.List.{list_all, position_or_len}
+use Rattle.std.specs.Prelude.{◌≡◌, ℕ, ◌+◌, ◌*◌, ◌^◌, Bool, nat_le, nat_lt, List, [], ◌∷◌, map, length, is_ok, is_none, Option, Some, None, Result, Ok, Err}
+use Rattle.std.specs.List.{list_all}
 use Rattle.jls_values.specs.Shape.{PictureShape}
 use Rattle.jls_values.specs.Params.{CodingParameters}
 use Rattle.jls_values.specs.ParamsOf.{in_force, params_of}
 use Rattle.jls_values.specs.declared.params.ParamFault.{ParamFault}
+use Rattle.jls_marker.specs.ComponentIndex.{index_of}
 use Rattle.jls_marker.specs.Faults.{first_failing}
 use Rattle.jls_marker.specs.PresetParameters.{PresetParameters}
 use Rattle.jls_marker.specs.HeaderState.{HeaderState}
 use Rattle.jls_marker.specs.ScanSelection.{ScanSelection}
-use Rattle.jls_marker.specs.Scan.{Scan, row_count}
+use Rattle.jls_marker.specs.Scan.{Scan, scan_with, row_count}
 use Rattle.jls_marker.specs.Segments.{segment_of}
 use Rattle.jls_marker.specs.declared.fault.MarkerFault.{MarkerFault}
 use Rattle.jls_marker.specs.declared.fault.MarkerFault.TheVariants as fault
 use Rattle.jls_marker.specs.declared.segment.Segment.{Segment}
 use Rattle.jls_marker.specs.declared.segment.Segment.TheVariants as segment
 
--- the index of an identifier in the frame, or the number of components where it is not in the frame
-abbrev pub index_of : List ℕ → ℕ → ℕ
-index_of frame_ids id = position_or_len (λ other. other == id) frame_ids
-
--- the parameters that the values of the last LSE put in force at this precision, and why there are none
+-- the parameters that the values of an LSE put in force at the precision of the frame, and why there are none
 abbrev pub params_under : PictureShape → PresetParameters → CodingParameters
 params_under f p = in_force f.precision p.maxval p.t1 p.t2 p.t3 p.reset
 
@@ -28,21 +25,24 @@ abbrev pub params_judged : PictureShape → PresetParameters → Result CodingPa
 params_judged f p = params_of f.precision p.maxval p.t1 p.t2 p.t3 p.reset
 
 -- the scan of these components of the frame
-abbrev pub scan_in : HeaderState → PictureShape → ScanSelection → Scan
-scan_in h f s = record { components = map (index_of f.ids) s.ids; params = params_under f h.preset; width = f.width; height = f.height; restart_interval = h.restart_interval }
+abbrev pub scan_in : PictureShape → PresetParameters → ℕ → ScanSelection → Scan
+scan_in f preset restart_interval s = scan_with f (map (index_of f.ids) s.ids) (params_under f preset) restart_interval
 
--- what is asked of it, in this order. The first interval is the longest, or none is longer
-abbrev pub begin_tests : HeaderState → PictureShape → ScanSelection → List (Bool × MarkerFault)
-begin_tests h f s =
+-- what is asked of it where so many scans began before, in this order. No interval is longer than the first
+abbrev pub begin_tests : PictureShape → PresetParameters → ℕ → ℕ → ScanSelection → List (Bool × MarkerFault)
+begin_tests f preset restart_interval scans s =
     (list_all (λ id. nat_lt (index_of f.ids id) (length f.ids)) s.ids, fault.UnknownComponent)
-    ∷ (is_ok (params_judged f h.preset), fault.BadParams)
-    ∷ (nat_le (f.width * length s.ids * row_count (scan_in h f s) 0) (2 ^ 28), fault.IntervalTooLarge)
-    ∷ (nat_lt h.scans 16, fault.TooManyScans)
+    ∷ (is_ok (params_judged f preset), fault.BadParams)
+    ∷ (nat_le (f.width * length s.ids * row_count (scan_in f preset restart_interval s) 0) (2 ^ 28), fault.IntervalTooLarge)
+    ∷ (nat_lt scans 16, fault.TooManyScans)
     ∷ []
+
+abbrev pub scan_judged : PictureShape → PresetParameters → ℕ → ℕ → ScanSelection → Result Scan MarkerFault
+scan_judged f preset restart_interval scans s = first_failing (begin_tests f preset restart_interval scans s) (scan_in f preset restart_interval s)
 
 abbrev pub scan_under : HeaderState → ScanSelection → Option PictureShape → Result Scan MarkerFault
 scan_under h s None = Err fault.NoFrame
-scan_under h s (Some f) = first_failing (begin_tests h f s) (scan_in h f s)
+scan_under h s (Some f) = scan_judged f h.preset h.restart_interval h.scans s
 
 -- a scan begins
 abbrev pub begun : HeaderState → Result Scan MarkerFault → Result (HeaderState × Option Scan) MarkerFault

@@ -1,3 +1,4 @@
+pub mod ComponentIndex
 pub mod Faults
 pub mod HeaderState
 pub mod Headers

@@ -13,6 +13,11 @@ pub record Scan : Type 0 where
   pub height : ℕ
   pub restart_interval : ℕ
 
+-- a scan of a frame
+abbrev pub scan_with : PictureShape → List ℕ → CodingParameters → ℕ → Scan
+scan_with f components params restart_interval =
+    record { components = components; params = params; width = f.width; height = f.height; restart_interval = restart_interval }
+
 -- how many intervals a scan has: the height by Ri, rounded up
 abbrev pub intervals : Scan → ℕ
 intervals s = if s.restart_interval == 0 then 1 else (s.height + s.restart_interval - 1) / s.restart_interval

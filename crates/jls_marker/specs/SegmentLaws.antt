@@ -1,5 +1,5 @@
 -- The laws of segments: layouts and their readings agree, and what is written reads back.
-use Rattle.std.specs.Prelude.{◌≡◌, ℕ, ◌<◌, true, false, List, Some, Result, Ok, Err, ◌↔◌}
+use Rattle.std.specs.Prelude.{◌≡◌, ℕ, ◌<◌, false, List, Some, Ok, Err, ◌↔◌}
 use Rattle.std.specs.List.{AllByRecursion}
 use Rattle.jls_marker.specs.MarkerCodes.{has_segment}
 use Rattle.jls_marker.specs.PresetParameters.{PresetParameters}
@@ -7,7 +7,7 @@ use Rattle.jls_marker.specs.Layouts.{FrameHeader, HasFrameLayout, frame_header, 
 use Rattle.jls_marker.specs.Segments.{segment_of}
 use Rattle.jls_marker.specs.Payloads.{IsPayload}
 use Rattle.jls_marker.specs.Written.{payload_of, code_of, CanBeWritten, IsSegment}
-use Rattle.jls_marker.specs.declared.fault.MarkerFault.TheVariants.{UnknownMarker, Ended}
+use Rattle.jls_marker.specs.declared.fault.MarkerFault.TheVariants.{UnknownMarker}
 use Rattle.jls_marker.specs.declared.segment.Segment.{Segment}
 
 abbrev pub AreBytes : List ℕ → Type 0

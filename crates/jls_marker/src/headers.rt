@@ -1,7 +1,23 @@
 //! The state of the headers.
 
-use jls_values::Shape;
+ghost use Rattle.std.specs.Prelude.{◌≡◌, ◌-◌, ◌*◌, ◌<◌, ◌==◌, length, min, OnOk, if◌then◌else◌};
+ghost use Rattle.jls_marker.specs.Headers.{scan_judged};
+ghost use Rattle.jls_values.specs.ParamsOf.{params_of};
+
+use crate::component_index::indices_of;
+use crate::fault::MarkerFault;
+use crate::read::read_segment;
+use crate::scan_head::ScanHead;
+use crate::scan_plan::ScanPlan;
+use crate::segment::Segment;
+use jls_values::{ParamFault, Params, Shape};
 use std::marker::Model;
+
+/// How many scans a copy may have.
+const MOST_SCANS: u8 = 16;
+
+/// How many samples a restart interval may have.
+const MOST_SAMPLES: u64 = 1 << 28;
 
 /// The values of an LSE segment of ID 1.
 #[derive(Clone, Copy)]
@@ -11,6 +27,62 @@ struct PresetValues {
     t2: u16,
     t3: u16,
     reset: u16,
+}
+
+impl PresetValues {
+    /// The parameters that these values put in force.
+    fn params(self, precision: u8) -> Result<Params, ParamFault>
+        ensures { result ≡ params_of precision self.maxval self.t1 self.t2 self.t3 self.reset }
+    {
+        Params::new(
+            precision,
+            self.maxval,
+            self.t1,
+            self.t2,
+            self.t3,
+            self.reset,
+        )
+    }
+}
+
+/// How many samples the first restart interval of a scan has, which none of the others passes.
+fn first_samples(frame: &Shape, head: &ScanHead, restart_interval: u32) -> u64
+    ensures { result ≡ frame.now.width * length head.now.ids * (if restart_interval == 0 then frame.now.height else min restart_interval (frame.now.height - 0 * restart_interval)) }
+{
+    let row = u64::from(frame.width()) * head.ids().len() as u64;
+    let height = u32::from(frame.height());
+    if restart_interval == 0 {
+        return row * u64::from(height);
+    }
+    row * u64::from(restart_interval.min(height))
+}
+
+/// The scan that an SOS begins under this frame where so many scans have begun, judged in the order that `accept` tells.
+fn begin(
+    frame: &Shape,
+    preset: PresetValues,
+    restart_interval: u32,
+    scans: u8,
+    head: &ScanHead,
+) -> Result<ScanPlan, MarkerFault>
+    ensures judged { result ≡ scan_judged frame.now (record { maxval = preset.maxval; t1 = preset.t1; t2 = preset.t2; t3 = preset.t3; reset = preset.reset }) restart_interval scans head.now }
+    ensures few { OnOk result (scans < 16) }
+{
+    let components = match indices_of(frame.ids(), head.ids()) {
+        Some(components) => components,
+        None => return Err(MarkerFault::UnknownComponent),
+    };
+    let params = match preset.params(frame.precision()) {
+        Ok(params) => params,
+        Err(_) => return Err(MarkerFault::BadParams),
+    };
+    if first_samples(frame, head, restart_interval) > MOST_SAMPLES {
+        return Err(MarkerFault::IntervalTooLarge);
+    }
+    if scans >= MOST_SCANS {
+        return Err(MarkerFault::TooManyScans);
+    }
+    Ok(ScanPlan::new(frame, components, params, restart_interval))
 }
 
 /// What the segments of a copy have set so far: the frame, the preset parameters and the restart interval in force, and how many scans
@@ -35,8 +107,9 @@ impl Model for Headers {
 }
 
 impl Headers {
-    ghost use Rattle.std.specs.Prelude.{◌≡◌, IfSome, IfNone, ◌≤◌, None};
+    ghost use Rattle.std.specs.Prelude.{◌≡◌, ◌≤◌, IfOk, IfErr, OnErr, IfSome, IfNone, None, Ok, Err};
     ghost use Rattle.jls_marker.specs.HeaderState.{no_headers};
+    ghost use Rattle.jls_marker.specs.Headers as headers;
 
     /// Headers before the first segment.
     pub fn new() -> Headers
@@ -70,5 +143,64 @@ impl Headers {
         ensures at_most { result ≤ 16 }
     {
         self.scans
+    }
+
+    /// Takes a segment, and answers the scan that it begins where it is an SOS. A segment that can't stand here is refused, and leaves
+    /// the headers as they were: `SecondFrame` for a frame after the frame, and for a scan, in this order, `NoFrame`,
+    /// `UnknownComponent` for an identifier that isn't in the frame, `BadParams` where the values of the last LSE of ID 1 are out of
+    /// range at the precision of the frame, `IntervalTooLarge` for a restart interval of more than 2^28 samples, and `TooManyScans` for
+    /// the seventeenth scan. It takes no memory.
+    pub fn accept(&mut self, segment: &Segment) -> Result<Option<ScanPlan>, MarkerFault>
+        ensures accepted { IfOk result (λ scan. headers.accepted self.old segment.now ≡ Ok (self.new, scan)) }
+        ensures refused { IfErr result (λ fault. headers.accepted self.old segment.now ≡ Err fault) }
+        ensures unchanged { OnErr result (self.new ≡ self.old) }
+    {
+        match segment {
+            Segment::Frame(_) if self.frame.is_some() => Err(MarkerFault::SecondFrame),
+            Segment::Frame(shape) => {
+                self.frame = Some(shape.to_owned());
+                Ok(None)
+            }
+            Segment::Scan(head) => {
+                let Some(frame) = &self.frame else {
+                    return Err(MarkerFault::NoFrame);
+                };
+                let plan = begin(frame, self.preset, self.restart_interval, self.scans, head)?;
+                self.scans += 1;
+                Ok(Some(plan))
+            }
+            Segment::Preset {
+                maxval,
+                t1,
+                t2,
+                t3,
+                reset,
+            } => {
+                self.preset = PresetValues {
+                    maxval: *maxval,
+                    t1: *t1,
+                    t2: *t2,
+                    t3: *t3,
+                    reset: *reset,
+                };
+                Ok(None)
+            }
+            Segment::Restart(rows) => {
+                self.restart_interval = *rows;
+                Ok(None)
+            }
+            Segment::Skipped(_) => Ok(None),
+        }
+    }
+
+    /// Takes a whole segment by the code of its marker and its payload: `read_segment`, and then `accept`.
+    #[tactic(auto, unfolding(crate::specs::Headers::headers_after))]
+    pub fn take(&mut self, code: u8, payload: &[u8]) -> Result<Option<ScanPlan>, MarkerFault>
+        ensures accepted { IfOk result (λ scan. headers.headers_after self.old code payload.now ≡ Ok (self.new, scan)) }
+        ensures refused { IfErr result (λ fault. headers.headers_after self.old code payload.now ≡ Err fault) }
+        ensures unchanged { OnErr result (self.new ≡ self.old) }
+    {
+        let segment = read_segment(code, payload)?;
+        self.accept(&segment)
     }
 }

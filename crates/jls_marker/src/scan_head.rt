@@ -27,7 +27,8 @@ impl Model for ScanHead {
     ghost inverse = { λ s. record { ids = record { items = s.ids }; line = s.line } };
 }
 
-fn has_repeat(ids: &[u8]) -> bool
+/// Whether an identifier stands twice.
+pub(crate) fn has_repeat(ids: &[u8]) -> bool
     ensures { result ≡ Shape.has_repeat ids.now }
 {
     let mut rest = ids;
@@ -41,7 +42,8 @@ fn has_repeat(ids: &[u8]) -> bool
 }
 
 impl ScanHead {
-    ghost use Rattle.std.specs.Prelude.{◌≡◌};
+    ghost use Rattle.std.specs.Prelude.{◌≡◌, ◌≤◌, ◌<◌, false, true, length};
+    ghost use Rattle.jls_values.specs.Shape.{has_repeat};
     ghost use Rattle.jls_marker.specs.ScanSelection.{IsScanSelection, selection_of};
 
     /// The header of a scan of these components. The refusals are, in this order, `Length` where there aren't one to four,
@@ -58,10 +60,21 @@ impl ScanHead {
         if ids.len() > 1 && !line {
             return Err(MarkerFault::Interleave);
         }
-        let Ok(ids) = ArrayVec::try_from(ids) else {
-            return Err(MarkerFault::Length);
-        };
-        Ok(ScanHead { ids, line })
+        Ok(ScanHead::of(ids, line))
+    }
+
+    /// The header of a scan of these components.
+    pub(crate) fn of(ids: &[u8], line: bool) -> ScanHead
+        requires at_least { 1 ≤ length ids.now }
+        requires at_most { length ids.now ≤ 4 }
+        requires differ { has_repeat ids.now ≡ false }
+        requires interleaved { 1 < length ids.now → line ≡ true }
+        ensures { result ≡ record { ids = ids.now; line = line } }
+    {
+        ScanHead {
+            ids: ArrayVec::try_from(ids).unwrap(),
+            line,
+        }
     }
 
     /// The identifiers of the components, in the order of the scan.

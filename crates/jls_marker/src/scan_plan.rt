@@ -1,7 +1,7 @@
 //! Scans and their restart intervals.
 
 use arrayvec::ArrayVec;
-use jls_values::Params;
+use jls_values::{Params, Shape};
 use std::marker::Model;
 
 /// A scan that has begun: its components, the parameters in force, and how its rows are parted into restart intervals. A row is
@@ -26,8 +26,33 @@ impl Model for ScanPlan {
 }
 
 impl ScanPlan {
-    ghost use Rattle.std.specs.Prelude.{◌≡◌, ◌<◌};
-    ghost use Rattle.jls_marker.specs.Scan.{IsScan, first_row, row_count, intervals};
+    ghost use Rattle.std.specs.Prelude.{◌≡◌, ◌<◌, ◌≤◌, ◌*◌, ◌^◌, length};
+    ghost use Rattle.std.specs.List.{AllByRecursion};
+    ghost use Rattle.jls_values.specs.Params.{AreCodingParameters};
+    ghost use Rattle.jls_marker.specs.Scan.{IsScan, first_row, row_count, intervals, scan_with};
+
+    /// The scan of these components of a frame, none of whose intervals has more than 2^28 samples.
+    pub(crate) fn new(
+        frame: &Shape,
+        components: ArrayVec<u8, 4>,
+        params: Params,
+        restart_interval: u32,
+    ) -> ScanPlan
+        requires params { AreCodingParameters params }
+        requires at_least { 1 ≤ length components.items }
+        requires at_most { length components.items ≤ 4 }
+        requires bytes { AllByRecursion (λ c. c < 256) components.items }
+        requires samples { frame.now.width * length components.items * row_count (scan_with frame.now components.items params restart_interval) 0 ≤ 2 ^ 28 }
+        ensures { result ≡ scan_with frame.now components.items params restart_interval }
+    {
+        ScanPlan {
+            components,
+            params,
+            width: frame.width(),
+            height: frame.height(),
+            restart_interval,
+        }
+    }
 
     /// The components of the scan in the order in which they take turns, as indices in the frame, from 0.
     pub fn components(&self) -> &[u8]

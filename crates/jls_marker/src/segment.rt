@@ -1,8 +1,5 @@
 //! Marker segments.
 
-ghost use Rattle.std.specs.Prelude.{◌≡◌};
-ghost use Rattle.jls_marker.specs.MarkerCodes as codes;
-
 use crate::scan_head::ScanHead;
 use jls_values::Shape;
 
@@ -25,12 +22,4 @@ pub enum Segment {
     Restart(u32),
     /// A segment that says nothing to this reader, by the code of its marker: APP0 to APP15, COM, and LSE of the IDs 2 and 3.
     Skipped(u8),
-}
-
-/// Whether a segment of this profile follows the marker with this code.
-#[tactic(auto, unfolding(crate::specs::MarkerCodes::has_segment))]
-pub fn has_segment(code: u8) -> bool
-    ensures { result ≡ codes.has_segment code }
-{
-    matches!(code, 0xF7 | 0xDA | 0xF8 | 0xDD | 0xFE | 0xE0..=0xEF)
 }

@@ -1,0 +1,108 @@
+-- What is written of a frame and of a scan is read as the same.
+use Rattle.std.proofs.Common.{◌≡◌, ℕ, ◌+◌, ◌*◌, ◌<◌, ◌≤◌, ◌^◌, Bool, true, false, List, [], ◌∷◌, ◌++◌, length, map, Option, Some, Result, Ok, refl, sym, ap, ◌∙◌, arith, inl, inr}
+use Rattle.std.specs.Prelude.{◌&&◌, ◌||◌, ◌==◌, not, nat_le, is_ok, if◌then◌else◌}
+use Rattle.std.specs.List.{flat_map, list_all}
+use Rattle.std.specs.Int.{w16, to_be_bytes}
+use Rattle.std.proofs.lemmas.Bool.{le-leb, cases_lt}
+use Rattle.std.proofs.Math.Bool.{or-true}
+use Rattle.std.proofs.lemmas.List.{length-map}
+use Rattle.std.proofs.lemmas.List.Folds.{flat_map-map}
+use Rattle.jls_values.specs.Shape.{PictureShape, IsShape, has_repeat}
+use Rattle.jls_values.specs.ShapeOf.{shape_of}
+use Rattle.jls_marker.specs.MarkerCodes.{sof55, sos}
+use Rattle.jls_marker.specs.Layouts.{FrameComponent, FrameHeader, frame_component_bytes, frame_header_bytes, frame_header, ScanComponent, ScanHeader, scan_component_bytes, scan_header_bytes, scan_header}
+use Rattle.jls_marker.specs.ScanSelection.{ScanSelection, IsScanSelection}
+use Rattle.jls_marker.specs.Segments.{frame_tests, frame_of, shape_in, frame_ids, scan_tests, scan_of, selection_in, scan_ids, segment_of}
+use Rattle.jls_marker.specs.Written.{frame_payload, scan_payload}
+use Rattle.jls_marker.specs.declared.fault.MarkerFault.{MarkerFault}
+use Rattle.jls_marker.specs.declared.segment.Segment.{Segment}
+use Rattle.jls_marker.specs.declared.segment.Segment.TheVariants.{Frame, Scan}
+use Rattle.jls_marker.proofs.FirstFailing.{none_fails}
+use Rattle.jls_marker.proofs.Layouts.{frame_header_again, scan_header_again}
+use Rattle.jls_marker.proofs.Shapes.{shape_there}
+
+-- ---- the frame
+
+abbrev frame_component : ℕ → FrameComponent
+frame_component id = record { id = id; sampling = 0x11; table = 0 }
+
+abbrev written_frame : PictureShape → FrameHeader
+written_frame s = record { precision = s.precision; height = s.height; width = s.width; components = map frame_component s.ids }
+
+frame_bytes : (s : PictureShape) → frame_payload s ≡ frame_header_bytes (written_frame s)
+frame_bytes s =
+    ap (λ (t : List ℕ). s.precision ∷ (to_be_bytes w16 s.height ++ (to_be_bytes w16 s.width ++ t)))
+    (ap (λ (n : ℕ). n ∷ flat_map (λ id. id ∷ 0x11 ∷ 0 ∷ []) s.ids) (sym (length-map s.ids frame_component))
+    ∙ ap (λ (t : List ℕ). length (map frame_component s.ids) ∷ t) (sym (flat_map-map frame_component_bytes frame_component s.ids)))
+
+frame_ids_again : (ids : List ℕ) → map (λ c. c.id) (map frame_component ids) ≡ ids
+frame_ids_again [] = refl
+frame_ids_again (id ∷ ids) = ap (λ (t : List ℕ). id ∷ t) (frame_ids_again ids)
+
+sampled : (ids : List ℕ) → list_all (λ c. c.sampling == 0x11) (map frame_component ids) ≡ true
+sampled [] = refl
+sampled (id ∷ ids) = sampled ids
+
+abbrev framed : PictureShape → List ℕ → Result Segment MarkerFault
+framed s ids = Ok (Frame (record { precision = s.precision; width = s.width; height = s.height; ids = ids }))
+
+pub frame_reads_back : (s : PictureShape) → IsShape s → segment_of sof55 (frame_payload s) ≡ Ok (Frame s)
+frame_reads_back s is =
+    let h = written_frame s in
+    let again = frame_ids_again s.ids in
+    let shape : is_ok (shape_of s.precision s.width s.height (frame_ids h)) ≡ true = ap is_ok (ap (shape_of s.precision s.width s.height) again ∙ shape_there s is) in
+    ap (λ (t : List ℕ). frame_of (frame_header t)) (frame_bytes s)
+    ∙ ap frame_of (frame_header_again h is.height_below is.width_below)
+    ∙ none_fails (frame_tests h) (Frame (shape_in h)) (shape, (sampled s.ids, tt))
+    ∙ ap (framed s) again
+
+-- ---- the scan
+
+abbrev scan_component : ℕ → ScanComponent
+scan_component id = record { id = id; table = 0 }
+
+abbrev written_scan : ScanSelection → ScanHeader
+written_scan s = record { components = map scan_component s.ids; near = 0; interleave = if s.line then 1 else 0; approximation = 0 }
+
+scan_bytes : (s : ScanSelection) → scan_payload s ≡ scan_header_bytes (written_scan s)
+scan_bytes s =
+    let tail = 0 ∷ (if s.line then 1 else 0) ∷ 0 ∷ [] in
+    ap (λ (n : ℕ). n ∷ (flat_map (λ id. id ∷ 0 ∷ []) s.ids ++ tail)) (sym (length-map s.ids scan_component))
+    ∙ ap (λ (t : List ℕ). length (map scan_component s.ids) ∷ (t ++ tail)) (sym (flat_map-map scan_component_bytes scan_component s.ids))
+
+scan_ids_again : (ids : List ℕ) → map (λ c. c.id) (map scan_component ids) ≡ ids
+scan_ids_again [] = refl
+scan_ids_again (id ∷ ids) = ap (λ (t : List ℕ). id ∷ t) (scan_ids_again ids)
+
+without_table : (ids : List ℕ) → list_all (λ c. c.table == 0) (map scan_component ids) ≡ true
+without_table [] = refl
+without_table (id ∷ ids) = without_table ids
+
+interleaved : (n : ℕ) (line : Bool) → (1 < n → line ≡ true)
+    → (nat_le (if line then 1 else 0) 1 && (nat_le n 1 || ((if line then 1 else 0) == 1))) ≡ true
+interleaved n true h = or-true (nat_le n 1)
+interleaved n false h =
+    elim (cases_lt 1 n) [
+      | inl lt ↦ let e : false ≡ true = h lt in absurd cc
+      | inr le ↦ let e : nat_le n 1 ≡ true = le-leb n 1 le in rw e refl
+    ]
+
+line_again : (line : Bool) → ((if line then 1 else 0) == 1) ≡ line
+line_again true = refl
+line_again false = refl
+
+abbrev selected : List ℕ → Bool → Result Segment MarkerFault
+selected ids line = Ok (Scan (record { ids = ids; line = line }))
+
+pub scan_reads_back : (s : ScanSelection) → IsScanSelection s → segment_of sos (scan_payload s) ≡ Ok (Scan s)
+scan_reads_back s is =
+    let h = written_scan s in
+    let again = scan_ids_again s.ids in
+    let count : length h.components ≡ length s.ids = length-map s.ids scan_component in
+    let differ : not (has_repeat (scan_ids h)) ≡ true = ap (λ (ids : List ℕ). not (has_repeat ids)) again ∙ ap not is.ids_differ in
+    let by_line = interleaved (length h.components) s.line (λ lt. is.interleaved (let m = lt in omega (arith, count, m))) in
+    ap (λ (t : List ℕ). scan_of (scan_header t)) (scan_bytes s)
+    ∙ ap scan_of (scan_header_again h (let a = is.ids_at_least in omega (arith, count, a)) (let a = is.ids_at_most in omega (arith, count, a)))
+    ∙ none_fails (scan_tests h) (Scan (selection_in h)) (differ, (without_table s.ids, (refl, (by_line, (refl, tt)))))
+    ∙ ap (λ (ids : List ℕ). selected ids ((if s.line then 1 else 0) == 1)) again
+    ∙ ap (selected s.ids) (line_again s.line)

@@ -1,0 +1,7 @@
+-- The components of a frame by their identifiers.
+use Rattle.std.specs.Prelude.{ℕ, ◌==◌, List}
+use Rattle.std.specs.List.{position_or_len}
+
+-- the index of an identifier in the frame, or the number of components where it is not in the frame
+unfoldable pub index_of : List ℕ → ℕ → ℕ
+index_of frame_ids id = position_or_len (λ other. other == id) frame_ids
