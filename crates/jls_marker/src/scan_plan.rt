@@ -87,8 +87,7 @@ impl ScanPlan {
         if self.restart_interval == 0 {
             1
         } else {
-            ((u64::from(height) + u64::from(self.restart_interval) - 1)
-                / u64::from(self.restart_interval)) as u32
+            height.div_ceil(self.restart_interval)
         }
     }
 
