@@ -4,6 +4,7 @@ use Rattle.std.specs.List.{AllByRecursion}
 use Rattle.jls_values.specs.OrderedSet as set
 use Rattle.jls_partial.specs.Reading as partial
 use Rattle.jls_marker.specs.Scan.{Scan}
+use Rattle.jls_copy.proofs.HeaderFacts.{fault_is_final}
 use Rattle.jls_copy.specs.Numbers.{PieceNumber, Interval, BeyondLast}
 use Rattle.jls_copy.specs.Pieces.{FoundPiece, Outcome, Lines, Fault, IsOutcome, IsOutcomeAt, readings_of, records_of}
 use Rattle.jls_copy.specs.Pieces.{AreOutcomes, readings, records}
@@ -85,10 +86,6 @@ conclusion_told bytes low read k =
 pub none_told : (bytes : List ℕ) → AllByRecursion (λ b. b < 256) bytes → (f : CopyFault) → SaysNone (reading bytes) f → CopyGivesNone bytes f
 none_told bytes low OutOfMemory k = tt
 none_told bytes low (NoPicture f offset) k = let told = course_told bytes low in (told.0, told.1, ap (λ h. h.frame) told.2 ∙ k.0, k.1 ∙ ap no_picture (sym told.3))
-
--- From jls_marker: no segment that is whole has the fault of an input that ends too early.
-pub fault_is_final : (h : HeaderState) (code : ℕ) (payload : List ℕ) (f : MarkerFault) (offset : ℕ) → headers_after h code payload ≡ Err f → is_final_end (Header f offset) ≡ true
-fault_is_final h code payload f offset e = ?
 
 stops_final : (h : HeaderState) (at : ℕ) (x : List ℕ) (e : End) → EndsHere h at x e → is_final_end e ≡ true
 stops_final _ _ _ _ (at_eoi h at n more p) = refl

@@ -2,6 +2,7 @@
 use Rattle.std.proofs.Common.{◌≡◌, ℕ, zero, suc, ◌+◌, ◌*◌, ◌/◌, ◌%◌, ◌^◌, ◌<◌, ◌≢◌, Bool, true, false, List, [], ◌∷◌, ◌++◌, length, Option, Some, None, Result, Ok, Err, refl, sym, ◌∙◌, ap, subst, append_assoc, add-zero, arith, length-append, inl, inr}
 use Rattle.std.proofs.lemmas.List.{append-nil}
 use Rattle.std.specs.List.{flat_map, AllByRecursion}
+use Rattle.jls_copy.proofs.HeaderFacts.{scans_none, scans_one}
 use Rattle.jls_copy.specs.ScanData.{fill_bytes, closed_bytes, ends_scan_data, at_marker}
 use Rattle.jls_copy.specs.Numbers.{Interval}
 use Rattle.jls_marker.specs.HeaderState.{HeaderState, no_headers}
@@ -21,13 +22,6 @@ use Rattle.jls_copy.specs.declared.place.Place.TheVariants.{Start, AtMarker, AtL
 use Rattle.jls_copy.proofs.TellsMore.{fill_length}
 use Rattle.jls_copy.proofs.TellsScan.{alike_more, alike_now}
 use Rattle.jls_copy.proofs.ReadingTells.{readings_tell, reading_counts}
-
--- From jls_marker: an SOS counts one scan, and no other segment does.
-pub scans_none : (h after : HeaderState) (code : ℕ) (payload : List ℕ) → headers_after h code payload ≡ Ok (after, None) → after.scans ≡ h.scans
-scans_none h after code payload e = ?
-
-pub scans_one : (h after : HeaderState) (code : ℕ) (payload : List ℕ) (s : Scan) → headers_after h code payload ≡ Ok (after, Some s) → after.scans ≡ h.scans + 1
-scans_one h after code payload s e = ?
 
 alike_append : (ps qs rs ts : List FoundPiece) → AlikePieces ps qs → AlikePieces rs ts → AlikePieces (ps ++ rs) (qs ++ ts)
 alike_append [] [] rs ts h k = k

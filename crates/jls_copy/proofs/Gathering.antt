@@ -4,6 +4,7 @@ use Rattle.std.proofs.lemmas.List.{append-nil, take_all, take-append-le, length-
 use Rattle.std.proofs.lemmas.Bool.{cases_lt}
 use Rattle.std.proofs.lemmas.Bool.Decides.{nat_tests}
 use Rattle.std.specs.Prelude.{nat_lt, ◌==◌, ◌*◌, cond, Result, Ok, Err, IfSome, IfOk, IfErr}
+use Rattle.jls_copy.proofs.HeaderFacts.{frame_kept}
 use Rattle.jls_copy.specs.Conclusion.{Concludes, SaysNone, no_picture}
 use Rattle.jls_copy.specs.ReaderState.{end_at, closed_at_end}
 use Rattle.jls_copy.specs.declared.end.End.{End}
@@ -135,10 +136,6 @@ gathers_frame before now ps f stays g = record {
     none : (b : Option PictureShape) → ((s : PictureShape) → b ≡ Some s → now ≡ Some s) → Gathers b ps f → now ≡ None → (ps ≡ []) × (f.partial ≡ None)
     none None st h e = h.unframed refl
     none (Some t) st h e = absurd (none_some t (sym e ∙ st t refl))
-
--- From jls_marker: a frame that was accepted stays (a second one is a fault).
-pub frame_kept : (h after : HeaderState) (code : ℕ) (payload : List ℕ) (s : Option Scan) (shape : PictureShape) → headers_after h code payload ≡ Ok (after, s) → h.frame ≡ Some shape → after.frame ≡ Some shape
-frame_kept h after code payload s shape e f = ?
 
 taken_frame : (count : ℕ) (h : HeaderState) (payload : List ℕ) (marker code : ℕ) (s : PictureShape) → h.frame ≡ Some s → (r : Result (HeaderState × Option Scan) MarkerFault) → headers_after h code payload ≡ r
     → (segment_taken count h payload marker r).headers.frame ≡ Some s

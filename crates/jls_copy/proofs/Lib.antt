@@ -4,6 +4,7 @@ mod NumbersGiven
 mod CutExamples
 mod OneCourse
 mod Fitting
+mod HeaderFacts
 mod Alike
 mod Kept
 mod Outcomes

@@ -6,6 +6,7 @@ use Rattle.std.proofs.lemmas.Grind.{flat_map-append}
 use Rattle.std.proofs.lemmas.Bool.{cases_eq, cases_Bool}
 use Rattle.std.proofs.lemmas.Bool.Decides.{nat_tests}
 use Rattle.std.specs.List.{flat_map, AllByRecursion}
+use Rattle.jls_copy.proofs.HeaderFacts.{scan_has_frame}
 use Rattle.jls_copy.specs.ScanData.{fill_bytes, ClosedPiece, closed_bytes, IsClosedPiece, IsPiece, ends_scan_data, is_restart_code, closes_piece}
 use Rattle.jls_copy.specs.Numbers.{PieceNumber, Interval, BeyondLast, number_behind, given_last}
 use Rattle.jls_marker.specs.HeaderState.{HeaderState}
@@ -125,10 +126,6 @@ opened_told s (BeyondLast k) = tt
 opened_as : (s : Scan) (number : PieceNumber) → ToldAs (number_of (piece_opened s number)) (bytes_of (piece_opened s number)) []
 opened_as s (Interval k) = inl refl
 opened_as s (BeyondLast k) = tt
-
--- From jls_marker: a scan begins under a frame alone.
-pub scan_has_frame : (h after : HeaderState) (code : ℕ) (payload : List ℕ) (s : Scan) → headers_after h code payload ≡ Ok (after, Some s) → is_some after.frame ≡ true
-scan_has_frame h after code payload s e = ?
 
 module _ (o : OpenScan) (h : HeaderState) (ps : List FoundPiece) (x : List ℕ) (d : InScanData o h ps x) (b : ℕ) where
   start_length : ℕ

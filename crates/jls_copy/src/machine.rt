@@ -5,8 +5,6 @@ ghost use Rattle.jls_copy.specs.ReaderState as state;
 ghost use Rattle.jls_copy.specs.Machine.{state_of, IsMachine, IsBehind};
 ghost use Rattle.jls_copy.specs.Findings.{Adds, HoldsShape};
 ghost use Rattle.jls_marker.specs.Scan.{intervals};
-ghost use Rattle.jls_marker.specs.Headers.{headers_after};
-ghost use Rattle.std.specs.Prelude.{IfErr, OnErr, Ok, Err};
 ghost use Rattle.jls_copy.specs.Numbers.{number_behind};
 ghost use Rattle.jls_values.specs.Shape.{PictureShape};
 ghost use Rattle.jls_copy.specs.Sound.{IsPlace, IsOpenScan, IsOpenPiece, IsOfFrame};
@@ -61,20 +59,6 @@ fn from_marker(fill: bool, has_frame: bool, count: u64, byte: u8) -> Place
     }
 }
 
-fn take_stub(
-    headers: &mut Headers,
-    code: u8,
-    payload: &[u8],
-) -> Result<Option<ScanPlan>, MarkerFault>
-    ensures accepted { IfOk result (λ scan. headers_after headers.old code payload.now ≡ Ok (headers.new, scan)) }
-    ensures refused { IfErr result (λ fault. headers_after headers.old code payload.now ≡ Err fault) }
-    ensures unchanged { OnErr result (headers.new ≡ headers.old) }
-{
-    let _ = code;
-    let _ = payload;
-    Err(MarkerFault::Length)
-}
-
 /// What is kept of a copy between one byte and the next.
 #[derive(Drop)]
 pub(crate) struct Machine {
@@ -100,7 +84,7 @@ impl Machine {
         ensures sound { IfOk result (λ place. IsPlace self.new.headers.frame place []) }
     {
         let index = self.headers.scans();
-        match take_stub(&mut self.headers, code, &self.payload) {
+        match self.headers.take(code, &self.payload) {
             Err(fault) => Ok(Place::Done(End::Header(fault, marker))),
             Ok(None) => Ok(Place::AtMarker(false)),
             Ok(Some(plan)) => {
