@@ -1,5 +1,5 @@
 -- One event more: what a coder carries is what the earlier events and that one leave.
-use Rattle.std.proofs.Common.{◌≡◌, ℕ, ◌<◌, Bool, true, false, cond, not, List, [], ◌∷◌, ◌++◌, length, get_or, set, replicate, zero, suc, refl, sym, ap, ◌∙◌, subst, inl, inr}
+use Rattle.std.proofs.Common.{◌≡◌, ℕ, ◌<◌, ◌≤◌, Bool, true, false, cond, not, List, [], ◌∷◌, ◌++◌, length, get_or, set, replicate, zero, suc, refl, sym, ap, ◌∙◌, subst, inl, inr}
 use Rattle.std.specs.Prelude.{ℤ}
 use Rattle.std.proofs.lemmas.List.{get_or-set_same, get_or-set_other}
 use Rattle.std.proofs.lemmas.Bool.{cases_eq, eq-eqb, ne_eqb}
@@ -13,6 +13,8 @@ use Rattle.jls_context.specs.Variables.{Variables, cell_at, run_cell_at, initial
 use Rattle.jls_interval.specs.Events.{Event, regular, run_to_end, interrupted_run}
 use Rattle.jls_interval.specs.Cells.{regular_error, cell_before, run_cell_before, is_same, interruption_error, equal}
 use Rattle.jls_interval.specs.Runs.{blocks, is_run_of, run_index_before, run_index_lowered}
+use Rattle.jls_interval.specs.Code.{regular_bits, event_bits}
+use Rattle.jls_interval.specs.Reading.{NoSample}
 use Rattle.jls_interval.specs.After.{IsAfter}
 use Rattle.jls_interval.proofs.FoldedEvents.{cell_used, cell_unused, run_cell_more, run_cell_learned, index_end, index_interrupted, index_other}
 
@@ -55,6 +57,16 @@ module _ (p : CodingParameters) (cells : Variables) (run_indices : List ℕ) (ea
   indices_after e k r within others own j =
       elim (cases_eq j k) [ inl s ↦ ap (λ z. get_or (set run_indices k r) z 0) s ∙ get_or-set_same run_indices k r 0 within ∙ own ∙ ap (run_index_before (earlier ++ e ∷ [])) (sym s) | inr n ↦ get_or-set_other run_indices k j r 0 n ∙ index_other earlier e j (get_or run_indices j 0) (others j n) (t.run_indices_are j) ]
 
+  -- no sample of regular mode stands at the front
+  pub sample_missing : (near : Neighbours) (given : List Bool) → NoSample p (cell_at cells (context p near)) near given → (s : ℕ) (rest : List Bool) → s ≤ p.maxval → given ≡ event_bits p earlier (regular near s) ++ rest → ⊥
+  unfolding event_bits
+  sample_missing near given none s rest l e = none s rest l (e ∙ ap (λ (z : Cell). regular_bits p z near s ++ rest) (sym (t.regular_cells (context p near))))
+
+  -- the bits of one that does
+  pub sample_bits : (near : Neighbours) (s : ℕ) → event_bits p earlier (regular near s) ≡ regular_bits p (cell_at cells (context p near)) near s
+  unfolding event_bits
+  sample_bits near s = ap (λ (z : Cell). regular_bits p z near s) (sym (t.regular_cells (context p near)))
+
   module _ (near : Neighbours) (q : ℕ) (q_is : q ≡ context p near) (s : ℕ) (error : ℤ) (cells' : Variables) (parameters : cells'.parameters ≡ cells.parameters) (error_is : error ≡ regular_error p (cell_at cells q) near s) (changed : cell_at cells' q ≡ updated p.reset (cell_at cells q) error)
       (others : (other : ℕ) → (other ≡ q → ⊥) → cell_at cells' other ≡ cell_at cells other) (run_cells : (same : Bool) → run_cell_at cells' same ≡ run_cell_at cells same) where
     own_cell : cell_at cells' q ≡ cell_before p (earlier ++ regular near s ∷ []) q
@@ -94,3 +106,8 @@ module _ (p : CodingParameters) (cells : Variables) (run_indices : List ℕ) (ea
       run_cells = λ x. run_cell_learned p earlier k count near s x (run_cell_at cells x) (t.run_cells x) (run_cell_at cells' x) (run_cell_new cells cells' p.reset error same x changed other ∙ ap (λ z. cond (equal x z) (run_updated p.reset x (run_cell_at cells x) error) (run_cell_at cells x)) same_is ∙ ap (λ z. cond (equal x (is_same near)) (run_updated p.reset x (run_cell_at cells x) z) (run_cell_at cells x)) error_is);
       run_indices_are = indices_after (interrupted_run k count near s) k r within (λ j ne. ne_eqb k j (λ o. ne (sym o))) (index_interrupted earlier k count near s (get_or run_indices k 0) (t.run_indices_are k) r r_is);
     }
+
+-- the same variables and RUNindices
+pub after_same : (p : CodingParameters) (cells cells' : Variables) (run_indices run_indices' : List ℕ) (earlier : List Event) → cells' ≡ cells → run_indices' ≡ run_indices → IsAfter p cells run_indices earlier → IsAfter p cells' run_indices' earlier
+after_same p cells cells' run_indices run_indices' earlier a b h =
+    subst (λ (z : Variables). IsAfter p z run_indices' earlier) (sym a) (subst (λ z. IsAfter p cells z earlier) (sym b) h)

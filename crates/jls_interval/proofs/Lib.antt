@@ -23,6 +23,11 @@ pub mod WorkedExamples
 pub mod RunSteps
 pub mod LineLists
 pub mod AfterEvents
+pub mod RunChunks
+pub mod HandBits
+pub mod Decoding
+pub mod IntervalReading
+pub mod Finishing
 pub mod DecodedEvents
 pub mod LineSteps
 pub mod DecodedLine

@@ -18,3 +18,8 @@ pub mod After
 pub mod Place
 pub mod Encoding
 pub mod ReadBack
+pub mod RunChunks
+pub mod SampleSteps
+pub mod Hands
+pub mod Decoding
+pub mod IntervalBytes

@@ -1,9 +1,11 @@
 -- Why a piece gives no lines.
-use Rattle.std.specs.Prelude.{◌≡◌, ℕ, Bool, List, ◌++◌}
+use Rattle.std.specs.Prelude.{◌≡◌, ℕ, Bool, List, ◌++◌, map, Result, Ok, Err}
+use Rattle.std.specs.declared.vec.Vec.{Vec}
+use Rattle.std.specs.declared.alloc.Global.{Global}
 use Rattle.jls_values.specs.Params.{CodingParameters}
 use Rattle.jls_interval.specs.Lines.{AreLines}
 use Rattle.jls_interval.specs.Code.{code}
-use Rattle.jls_interval.specs.Reads.{IsLong, IsBroken}
+use Rattle.jls_interval.specs.Reads.{Reads, IsLong, IsBroken}
 use Rattle.jls_interval.specs.declared.decode_piece.PieceFault.{PieceFault}
 use Rattle.jls_interval.specs.declared.decode_piece.PieceFault.TheVariants.{Long, Broken, OutOfMemory}
 
@@ -12,6 +14,14 @@ abbrev pub FaultIs : PieceFault → CodingParameters → ℕ → ℕ → ℕ →
 FaultIs Long p width components count piece = IsLong p width components count piece
 FaultIs Broken p width components count piece = IsBroken p width components count piece
 FaultIs OutOfMemory p width components count piece = Unit {0}
+
+-- what bytes that were all decoded gave: their lines, or why there are none
+abbrev pub OutcomeIs : CodingParameters → ℕ → ℕ → ℕ → List ℕ → Result (Vec (Vec ℕ Global) Global) PieceFault → Type 0
+OutcomeIs p width components count piece (Ok lines) =
+    Reads p width components count piece (map (λ v. v.items) lines.items)
+OutcomeIs p width components count piece (Err Long) = IsLong p width components count piece
+OutcomeIs p width components count piece (Err Broken) = IsBroken p width components count piece
+OutcomeIs p width components count piece (Err OutOfMemory) = ⊥
 
 -- no lines' code stands at the front of the bits
 abbrev pub NoLines : CodingParameters → ℕ → ℕ → ℕ → List Bool → Type 0

@@ -12,15 +12,21 @@ mod encode_line;
 mod encode_run;
 mod encode_sample;
 mod encoder;
+mod interval_decoder;
+mod interval_reader;
 mod laws;
+mod line_reader;
 mod lines;
 mod neighbours;
 mod place;
+mod push_event;
+mod push_sample;
 mod run_index;
 mod run_reader;
 
 pub use decode_piece::{PieceFault, decode_interval};
 pub use encode::{encode_interval, packed_lines_read_back};
+pub use interval_decoder::IntervalDecoder;
 pub use laws::{
     broken_pieces_begin_with_no_code, codes_are_apart, cuts_are_exact, events_are_apart,
     events_have_bits, full_blocks_fit, growth_ends_in_lines, lines_are_parted_once, lines_grow,

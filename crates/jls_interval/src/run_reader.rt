@@ -3,10 +3,11 @@
 ghost use Rattle.std.specs.Prelude.{◌≡◌, ℕ, ◌^◌, ◌<◌, ◌≤◌, Bool, true, List, [], ◌∷◌, ◌++◌, IfSome, IfNone};
 ghost use Rattle.jls_interval.specs.Reading.{NoRun};
 ghost use Rattle.jls_interval.specs.RunState.{IsRun, IsRunState, IsRunStep, RunIs, RunAt, RunStepIs};
+ghost use Rattle.jls_interval.specs.RunChunks.{RunPushed};
 ghost use Rattle.jls_interval.specs.declared.run_reader.RunState.TheVariants.{Blocks, Count};
 
 use crate::run_index::{block_columns, raised, run_order};
-use jls_bits::BitReader;
+use jls_bits::{BitReader, Chunk};
 
 /// A run that was read, without the sample that interrupts it, and RUNindex after its full blocks.
 #[derive(Clone, Copy)]
@@ -46,6 +47,23 @@ pub(crate) enum RunStep {
 }
 
 impl RunState {
+    /// Takes as many bits of a chunk as the run wants, where the line had `width` columns left when the run
+    /// began.
+    pub(crate) fn push_chunk(self, width: u32, chunk: &mut Chunk) -> RunStep
+        requires { IsRunState width self }
+        ensures state { IsRunStep width result }
+        ensures step { RunPushed width self chunk.old chunk.new result }
+    {
+        let mut state = self;
+        while let Some(bit) = chunk.take_bit() {
+            match state.push(width, bit) {
+                RunStep::More(next) => state = next,
+                step => return step,
+            }
+        }
+        RunStep::More(state)
+    }
+
     /// Takes the next bit, where the line had `width` columns left when the run began.
     pub(crate) fn push(self, width: u32, bit: bool) -> RunStep
         requires { IsRunState width self }

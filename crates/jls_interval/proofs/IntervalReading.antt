@@ -1,0 +1,140 @@
+-- What a reader of an interval keeps, from what an event made of its line.
+use Rattle.std.proofs.Common.{◌≡◌, ℕ, ◌+◌, ◌<◌, ◌≤◌, Bool, true, List, [], ◌∷◌, ◌++◌, length, get_or, map, Vec, Global, ◌%◌, refl, sym, ap, ◌∙◌, subst, arith, append_assoc, length-append}
+use Rattle.std.proofs.lemmas.List.{append-nil}
+use Rattle.jls_values.specs.Params.{CodingParameters}
+use Rattle.jls_values.specs.Params.{AreCodingParameters}
+use Rattle.jls_context.specs.Variables.{Variables}
+use Rattle.jls_interval.specs.Events.{Event, Above, above}
+use Rattle.jls_interval.specs.After.{IsAfter}
+use Rattle.jls_interval.specs.DecodedEvent.{NoEvent}
+use Rattle.jls_interval.specs.Hands.{HandAt, Holds, EventDone, EventPushed}
+use Rattle.jls_interval.specs.Decoding.{IsWorking, IsDead, StateIs, IsReading, TakesAll, TakesEvent, HasShape}
+use Rattle.jls_interval.specs.declared.line_reader.Hand.{Hand}
+use Rattle.jls_interval.specs.declared.line_reader.Hand.TheVariants.{Fresh}
+use Rattle.jls_interval.specs.declared.line_reader.LineReader.{LineReader}
+use Rattle.jls_interval.specs.declared.line_reader.EventStep.{EventStep}
+use Rattle.jls_interval.specs.declared.line_reader.EventStep.TheVariants.{More, Moved, Refused}
+use Rattle.jls_interval.specs.declared.interval_reader.State.{State}
+use Rattle.jls_interval.specs.declared.interval_reader.State.TheVariants.{Working}
+use Rattle.jls_interval.proofs.GrownLines.{added_fits}
+use Rattle.jls_interval.proofs.Decoding.{working_more, working_refused, dead_more}
+use Rattle.jls_interval.specs.declared.interval_reader.IntervalReader.{IntervalReader}
+
+pub shape_none : (d : IntervalReader) → HasShape d d
+shape_none d = record { width = refl; components = refl; count = refl }
+
+pub shape_then : (a b c : IntervalReader) → HasShape a b → HasShape b c → HasShape a c
+shape_then a b c f g = record { width = g.width ∙ f.width; components = g.components ∙ f.components; count = g.count ∙ f.count }
+
+-- bits of a chunk were taken
+pub record Taken (p : CodingParameters) (given : List Bool) (now : IntervalReader) (chunk unread : List Bool) : Type 0 where
+  pub taken : List Bool
+  pub chunk_is : chunk ≡ taken ++ unread
+  pub reading : IsReading p (given ++ taken) now
+
+abbrev pub Taking : IntervalReader → List Bool → IntervalReader → List Bool → Type 0
+Taking old chunk now unread =
+    (p : CodingParameters) (given : List Bool) → IsReading p given old → Taken p given now chunk unread
+
+pub taking_none : (old : IntervalReader) (chunk : List Bool) → Taking old chunk old chunk
+taking_none old chunk = λ p given h. record { taken = []; chunk_is = refl; reading = subst (λ z. IsReading p z old) (sym (append-nil given)) h }
+
+module _ (old now next : IntervalReader) (chunk unread : List Bool) (t : Taking old chunk now unread) where
+  pub taking_more : (unread' : List Bool) → TakesEvent now next unread unread' true → Taking old chunk next unread'
+  taking_more unread' s = λ p given h.
+      let a = t p given h in let b = s p (given ++ a.taken) a.reading in
+      record {
+        taken = a.taken ++ b.taken;
+        chunk_is = a.chunk_is ∙ ap (λ z. a.taken ++ z) b.chunk_is ∙ sym (append_assoc a.taken b.taken unread');
+        reading = subst (λ z. IsReading p z next) (append_assoc given a.taken b.taken) b.reading;
+      }
+
+  pub taking_all : TakesAll now next unread → TakesAll old next chunk
+  taking_all s = λ p given h.
+      let a = t p given h in
+      subst (λ z. IsReading p z next) (append_assoc given a.taken unread ∙ ap (λ z. given ++ z) (sym a.chunk_is)) (s p (given ++ a.taken) a.reading)
+
+  pub taking_shorter : (unread' : List Bool) → TakesEvent now next unread unread' true → (p : CodingParameters) (given : List Bool) → IsReading p given old → length unread' < length unread
+  taking_shorter unread' s p given h =
+      let a = t p given h in let b = s p (given ++ a.taken) a.reading in
+      let l = b.some in let e = ap length b.chunk_is in let n = length-append b.taken unread' in omega arith
+
+-- One event ------------------------------------------------------------------------------------
+
+abbrev pub items : List (Vec ℕ Global) → List (List ℕ)
+items vs = map (λ v. v.items) vs
+
+pub line_fits : (p : CodingParameters) (w k : ℕ) (up : Above) (line line' : List ℕ) (cells' : Variables) (run_indices' : List ℕ) (told : List Bool) (earlier : List Event) → EventDone p w k up line line' cells' run_indices' told earlier → length line < w → length line' ≤ w
+line_fits p w k up line line' cells' run_indices' told earlier m short =
+    let f = added_fits p w k up line m.event short m.fits in let e = ap length m.line_is in omega (arith, f, e)
+
+module _ (p : CodingParameters) (n count : ℕ) (lines : List (List ℕ)) (s : State) where
+  pub state_same : (w w' : ℕ) (given given' : List Bool) (line line' : List ℕ) (cells cells' : Variables) (ri ri' : List ℕ) (hand : Hand) → w' ≡ w → given' ≡ given → line' ≡ line → cells' ≡ cells → ri' ≡ ri
+      → StateIs p w n count given lines line cells ri hand s → StateIs p w' n count given' lines line' cells' ri' hand s
+  state_same w w' given given' line line' cells cells' ri ri' hand a b c d e h =
+      subst (λ z. StateIs p z n count given' lines line' cells' ri' hand s) (sym a) (subst (λ z. StateIs p w n count z lines line' cells' ri' hand s) (sym b) (subst (λ z. StateIs p w n count given lines z cells' ri' hand s) (sym c) (subst (λ (z : Variables). StateIs p w n count given lines line z ri' hand s) (sym d) (subst (λ z. StateIs p w n count given lines line cells z hand s) (sym e) h))))
+
+module _ (p : CodingParameters) (d : IntervalReader) (given : List Bool) (h : IsReading p given d) (is : d.state ≡ Working) where
+  abbrev w : ℕ
+  w = d.reader.width
+
+  abbrev n : ℕ
+  n = d.components
+
+  abbrev lines : List (List ℕ)
+  lines = items d.lines.items
+
+  abbrev component : ℕ
+  component = length lines % n
+
+  abbrev line : List ℕ
+  line = d.reader.line.items
+
+  abbrev cells : Variables
+  cells = d.reader.coder.cells
+
+  abbrev run_indices : List ℕ
+  run_indices = d.reader.coder.run_indices
+
+  pub working : IsWorking p w n d.count given lines line cells run_indices d.reader.hand
+  working = subst (λ s. StateIs p w n d.count given lines line cells run_indices d.reader.hand s) is h.state_is
+
+  pub in_range : AreCodingParameters p
+  in_range = subst AreCodingParameters h.parameters d.reader.coder.in_range
+
+  module _ (new : LineReader) (chunk unread : List Bool) (k : ℕ) (k_is : k ≡ component) (up : Above) (up_is : up ≡ above n lines) where
+    abbrev Pushes : ℕ → Above → EventStep → Type 0
+    Pushes k up step =
+        (told : List Bool) (earlier : List Event) → IsAfter cells.parameters cells run_indices earlier → Holds k up d.reader told → EventPushed k up d.reader new told chunk unread earlier step
+
+    pushed : (step : EventStep) → Pushes k up step → EventPushed component (above n lines) d.reader new working.told chunk unread working.earlier step
+    pushed step all =
+        let a : Pushes component (above n lines) step = subst (λ z. Pushes z (above n lines) step) k_is (subst (λ (z : Above). Pushes k z step) up_is all) in
+        a working.told working.earlier (subst (λ q. IsAfter q cells run_indices working.earlier) (sym h.parameters) working.is_after) (subst (λ q. HandAt q w (above n lines) line cells (get_or run_indices component 0) d.reader.hand working.told) (sym h.parameters) working.hand_at)
+
+    -- the event isn't whole
+    pub more_state : Pushes k up More → StateIs p w n d.count (given ++ chunk) lines line cells run_indices new.hand d.state
+    more_state all =
+        let e = pushed More all in
+        let at = subst (λ q. HandAt q w (above n lines) line cells (get_or run_indices component 0) new.hand (working.told ++ e.taken)) h.parameters e.step_is.3 in
+        let whole : e.taken ≡ chunk = sym (e.chunk_is ∙ ap (λ z. e.taken ++ z) e.all ∙ append-nil e.taken) in
+        subst (λ s. StateIs p w n d.count (given ++ chunk) lines line cells run_indices new.hand s) (sym is) (subst (λ z. IsWorking p w n d.count (given ++ z) lines line cells run_indices new.hand) whole (working_more p in_range w n d.count h.width_at_least given lines line cells run_indices d.reader.hand working e.taken new.hand at))
+
+    pub more_same : Pushes k up More → (new.line.items ≡ line) × (new.coder.cells ≡ cells) × (new.coder.run_indices ≡ run_indices)
+    more_same all = let e = pushed More all in (e.step_is.0, e.step_is.1, e.step_is.2)
+
+    -- no event can come
+    pub refused_same : Pushes k up Refused → new.line.items ≡ line
+    refused_same all = let e = pushed Refused all in e.step_is.0
+
+    pub refused_state : Pushes k up Refused → IsDead p w n d.count (given ++ chunk)
+    refused_state all =
+        let e = pushed Refused all in
+        let dead = working_refused p in_range w n d.count h.width_at_least given lines line cells run_indices d.reader.hand working e.taken (λ more. subst (λ q. NoEvent q component w (above n lines) line ((working.told ++ e.taken) ++ more) working.earlier) h.parameters (e.step_is.1 more)) in
+        subst (IsDead p w n d.count) (append_assoc given e.taken unread ∙ ap (λ z. given ++ z) (sym e.chunk_is)) (dead_more p w n d.count (given ++ e.taken) unread dead)
+
+    -- the event is whole
+    pub moved_taken : Pushes k up Moved → (taken : List Bool) × (chunk ≡ taken ++ unread) × EventDone p w component (above n lines) line new.line.items new.coder.cells new.coder.run_indices (working.told ++ taken) working.earlier × (new.hand ≡ Fresh)
+    moved_taken all =
+        let e = pushed Moved all in
+        (e.taken, e.chunk_is, subst (λ q. EventDone q w component (above n lines) line new.line.items new.coder.cells new.coder.run_indices (working.told ++ e.taken) working.earlier) h.parameters e.step_is.0, e.step_is.1)

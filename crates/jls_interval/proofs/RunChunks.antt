@@ -1,0 +1,49 @@
+-- The bits of a run that are taken from a chunk, one after another.
+use Rattle.std.proofs.Common.{◌≡◌, ℕ, Bool, List, [], ◌∷◌, ◌++◌, refl, sym, ap, ◌∙◌, subst, append_assoc}
+use Rattle.std.proofs.lemmas.List.{append-nil}
+use Rattle.jls_interval.specs.RunState.{RunAt, RunStepIs}
+use Rattle.jls_interval.specs.RunChunks.{HasTakenAll, RunPushed}
+use Rattle.jls_interval.specs.declared.run_reader.RunState.{RunState}
+use Rattle.jls_interval.specs.declared.run_reader.RunStep.{RunStep}
+use Rattle.jls_interval.specs.declared.run_reader.RunStep.TheVariants.{More, Done, Refused}
+
+abbrev pub NotMore : RunStep → Type 0
+NotMore (More next) = ⊥
+NotMore (Done run) = Unit {0}
+NotMore Refused = Unit {0}
+
+pub not_more : (step : RunStep) → ((state : RunState) → step ≡ More state → ⊥) → NotMore step
+not_more (More state) h = h state refl
+not_more (Done run) h = tt
+not_more Refused h = tt
+
+has_taken : (step : RunStep) (unread : List Bool) → NotMore step → HasTakenAll step unread
+has_taken (More next) unread n = absurd n
+has_taken (Done run) unread n = tt
+has_taken Refused unread n = tt
+
+module _ (w0 : ℕ) (first : RunState) (chunk : List Bool) where
+  -- bits were taken that led to this state
+  pub record Taking (state : RunState) (unread : List Bool) : Type 0 where
+    pub taken : List Bool
+    pub chunk_is : chunk ≡ taken ++ unread
+    pub at : (r0 : ℕ) (told : List Bool) → RunAt r0 w0 told first → RunAt r0 w0 (told ++ taken) state
+
+  pub taking_none : Taking first chunk
+  taking_none = record { taken = []; chunk_is = refl; at = λ r0 told h. subst (λ z. RunAt r0 w0 z first) (sym (append-nil told)) h }
+
+  module _ (state : RunState) (left left' : List Bool) (b : Bool) (t : Taking state left) (e : left ≡ b ∷ left') where
+    one_more : chunk ≡ (t.taken ++ b ∷ []) ++ left'
+    one_more = t.chunk_is ∙ ap (λ z. t.taken ++ z) e ∙ sym (append_assoc t.taken (b ∷ []) left')
+
+    step_at : (step : RunStep) → ((r0 : ℕ) (told : List Bool) → RunAt r0 w0 told state → RunStepIs r0 w0 (told ++ b ∷ []) step) → (r0 : ℕ) (told : List Bool) → RunAt r0 w0 told first → RunStepIs r0 w0 (told ++ (t.taken ++ b ∷ [])) step
+    step_at step s r0 told h = subst (λ z. RunStepIs r0 w0 z step) (append_assoc told t.taken (b ∷ [])) (s r0 (told ++ t.taken) (t.at r0 told h))
+
+    pub taking_more : (next : RunState) → ((r0 : ℕ) (told : List Bool) → RunAt r0 w0 told state → RunStepIs r0 w0 (told ++ b ∷ []) (More next)) → Taking next left'
+    taking_more next s = record { taken = t.taken ++ b ∷ []; chunk_is = one_more; at = step_at (More next) s }
+
+    pub taking_end : (step : RunStep) → ((r0 : ℕ) (told : List Bool) → RunAt r0 w0 told state → RunStepIs r0 w0 (told ++ b ∷ []) step) → NotMore step → RunPushed w0 first chunk left' step
+    taking_end step s n = record { taken = t.taken ++ b ∷ []; chunk_is = one_more; step_is = step_at step s; all = has_taken step left' n }
+
+  pub taking_all : (state : RunState) (left left' : List Bool) → Taking state left → (left ≡ []) × (left' ≡ []) → RunPushed w0 first chunk left' (More state)
+  taking_all state left left' t e = record { taken = t.taken; chunk_is = t.chunk_is ∙ ap (λ z. t.taken ++ z) (e.0 ∙ sym e.1); step_is = t.at; all = e.1 }

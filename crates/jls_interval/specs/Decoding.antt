@@ -1,0 +1,82 @@
+-- What a decoder that is given a few bits at a time keeps.
+use Rattle.std.specs.Prelude.{◌≡◌, ℕ, ◌%◌, ◌<◌, ◌≤◌, Bool, true, false, List, [], ◌++◌, length, get_or, map, min}
+use Rattle.jls_values.specs.Params.{CodingParameters}
+use Rattle.jls_context.specs.Variables.{Variables}
+use Rattle.jls_interval.specs.Lines.{AreLines}
+use Rattle.jls_interval.specs.Events.{Event, above}
+use Rattle.jls_interval.specs.Code.{code}
+use Rattle.jls_interval.specs.Stepwise.{Leads, bits_of_steps}
+use Rattle.jls_interval.specs.Growth.{Position, HasSamples, interval_steps, start}
+use Rattle.jls_interval.specs.After.{IsAfter}
+use Rattle.jls_interval.specs.Hands.{HandAt}
+use Rattle.jls_interval.specs.PieceFaults.{NoLines}
+use Rattle.jls_interval.specs.declared.line_reader.Hand.{Hand}
+use Rattle.jls_interval.specs.declared.interval_reader.State.{State}
+use Rattle.jls_interval.specs.declared.interval_reader.State.TheVariants.{Working, Over, Dead}
+use Rattle.jls_interval.specs.declared.interval_reader.IntervalReader.{IntervalReader}
+
+-- Lines are still to come. Of the bits given, the first ones are those of whole events, which lead from the start to these finished
+-- lines and this begun one; the machine in hand was told the others
+pub record IsWorking (p : CodingParameters) (w c n : ℕ) (given : List Bool) (lines : List (List ℕ)) (line : List ℕ) (cells : Variables) (run_indices : List ℕ) (hand : Hand) : Type 0 where
+  pub earlier : List Event
+  pub told : List Bool
+  pub leads : Leads (interval_steps p w c n) start earlier (record { lines = lines; line = line; earlier = earlier })
+  pub bits_are : given ≡ bits_of_steps (interval_steps p w c n) start earlier ++ told
+  pub samples : HasSamples p (record { lines = lines; line = line; earlier = earlier })
+  pub unfinished : length line < w
+  pub few : length lines < n
+  pub is_after : IsAfter p cells run_indices earlier
+  pub hand_at : HandAt p w (above c lines) line cells (get_or run_indices (length lines % c) 0) hand told
+
+-- all lines are there, and so many bits, counted up to 8, came behind their code
+pub record IsOver (p : CodingParameters) (w c n : ℕ) (given : List Bool) (lines : List (List ℕ)) (extra : ℕ) : Type 0 where
+  pub unread : List Bool
+  pub are_lines : AreLines p w n lines
+  pub begins : given ≡ code p w c lines ++ unread
+  pub counted : extra ≡ min 8 (length unread)
+
+-- no lines' code begins with the bits given, whatever comes
+abbrev pub IsDead : CodingParameters → ℕ → ℕ → ℕ → List Bool → Type 0
+IsDead p w c n given = (more : List Bool) → NoLines p w c n (given ++ more)
+
+-- what the bits given have come to
+abbrev pub StateIs : CodingParameters → ℕ → ℕ → ℕ → List Bool → List (List ℕ) → List ℕ → Variables → List ℕ → Hand → State → Type 0
+StateIs p w c n given lines line cells run_indices hand Working =
+    IsWorking p w c n given lines line cells run_indices hand
+StateIs p w c n given lines line cells run_indices hand (Over extra) = IsOver p w c n given lines extra
+StateIs p w c n given lines line cells run_indices hand Dead = IsDead p w c n given
+
+-- what the fields of a reader say of the bits given. No line is finished without a bit of its own
+pub record IsReading (p : CodingParameters) (given : List Bool) (d : IntervalReader) : Type 0 where
+  pub parameters : d.reader.coder.cells.parameters ≡ p
+  pub width_at_least : 0 < d.reader.width
+  pub components_at_least : 0 < d.components
+  pub components_at_most : d.components ≤ 4
+  pub lines_at_most : length d.lines.items ≤ d.count
+  pub lines_paid : length d.lines.items ≤ length given
+  pub line_at_most : length d.reader.line.items ≤ d.reader.width
+  pub state_is : StateIs p d.reader.width d.components d.count given (map (λ v. v.items) d.lines.items) d.reader.line.items d.reader.coder.cells d.reader.coder.run_indices d.reader.hand d.state
+
+-- all bits of a chunk were taken
+abbrev pub TakesAll : IntervalReader → IntervalReader → List Bool → Type 0
+TakesAll old new chunk =
+    (p : CodingParameters) (given : List Bool) → IsReading p given old → IsReading p (given ++ chunk) new
+
+-- the first bits of a chunk were taken, some of them
+pub record Takes (p : CodingParameters) (given : List Bool) (new : IntervalReader) (chunk unread : List Bool) : Type 0 where
+  pub taken : List Bool
+  pub chunk_is : chunk ≡ taken ++ unread
+  pub some : 0 < length taken
+  pub reading : IsReading p (given ++ taken) new
+
+-- a whole event was taken, or all that the bits say
+abbrev pub TakesEvent : IntervalReader → IntervalReader → List Bool → List Bool → Bool → Type 0
+TakesEvent old new chunk unread true =
+    (p : CodingParameters) (given : List Bool) → IsReading p given old → Takes p given new chunk unread
+TakesEvent old new chunk unread false = TakesAll old new chunk
+
+-- the shape of an interval stays
+pub record HasShape (old new : IntervalReader) : Type 0 where
+  pub width : new.reader.width ≡ old.reader.width
+  pub components : new.components ≡ old.components
+  pub count : new.count ≡ old.count

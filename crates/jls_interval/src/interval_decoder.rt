@@ -1,0 +1,165 @@
+//! The lines of an interval, from bytes that come a few at a time.
+
+ghost use Rattle.std.specs.Prelude.{◌≡◌, ℕ, ◌*◌, ◌^◌, ◌<◌, ◌≤◌, ◌++◌, [], ◌∷◌, List, Some, None, IsSome, map, OnOk, OnErr, IfSome, MatchOption, MatchResult};
+ghost use Rattle.std.specs.Option.{option_map};
+ghost use Rattle.jls_values.specs.Params.{AreCodingParameters};
+ghost use Rattle.jls_interval.specs.Reads.{Reads};
+ghost use Rattle.jls_interval.specs.PieceFaults.{OutcomeIs};
+
+use crate::coder::Coder;
+use crate::decode_piece::PieceFault;
+use crate::interval_reader::{IntervalReader, State};
+use crate::line_reader::{Hand, LineReader};
+use jls_bits::{Chunk, Unstuffer};
+use jls_values::Params;
+use std::alloc::{AllocError, Global};
+use std::marker::Model;
+
+/// Reads an interval whose bytes come a few at a time, and keeps none of them: only its lines so far. A
+/// contract sees the shape of the interval and the bytes so far. Once memory is refused, every call answers
+/// that, and no bytes are seen any more.
+#[derive(Drop)]
+pub struct IntervalDecoder {
+    params: Params,
+    rows: u32,
+    unstuffer: Unstuffer,
+    reader: IntervalReader,
+    /// Whether a byte of 0x80 or more followed 0xFF.
+    ended: bool,
+    /// Whether memory was refused.
+    refused: bool,
+}
+
+impl Model for IntervalDecoder {
+    ghost use Rattle.jls_interval.specs.IntervalBytes.{IntervalBytes, bytes_of, IsDecoder};
+
+    ghost Value = { IntervalBytes };
+
+    ghost view = { λ d. record { parameters = d.params; width = d.reader.reader.width; components = d.reader.components; rows = d.rows; bytes = bytes_of d.refused d.unstuffer } };
+
+    ghost invariant = { λ d. IsDecoder d.params d.rows d.unstuffer d.ended d.refused d.reader };
+}
+
+impl IntervalDecoder {
+    ghost use Rattle.jls_interval.specs.IntervalBytes.{IntervalBytes};
+
+    /// A decoder of no byte, for lines of `width` samples, row by row, and in a row by component. It takes no
+    /// memory yet.
+    pub fn new(
+        alloc: Global,
+        params: &Params,
+        width: u16,
+        components: u8,
+        rows: u32,
+    ) -> IntervalDecoder
+        requires width { 1 ≤ width }
+        requires components_at_least { 1 ≤ components }
+        requires components_at_most { components ≤ 4 }
+        requires rows { 1 ≤ rows }
+        requires samples { width * components * rows ≤ 2 ^ 28 }
+        ensures { result ≡ record { parameters = params.now; width = width; components = components; rows = rows; bytes = Some [] } }
+    {
+        let _maxval = params.maxval();
+        IntervalDecoder {
+            params: *params,
+            rows,
+            unstuffer: Unstuffer::new(),
+            reader: IntervalReader {
+                alloc,
+                reader: LineReader {
+                    coder: Coder::new(params),
+                    width: usize::from(width),
+                    line: Vec::new(alloc),
+                    hand: Hand::Fresh,
+                },
+                components: usize::from(components),
+                count: rows as usize * usize::from(components),
+                lines: Vec::new(alloc),
+                state: State::Working,
+            },
+            ended: false,
+            refused: false,
+        }
+    }
+
+    /// Takes the next byte. The only refusal is out of memory, which is for good.
+    pub fn push(&mut self, byte: u8) -> Result<(), AllocError>
+        ensures ok { OnOk result (self.new ≡ record self.old { bytes = option_map (λ bytes. bytes ++ byte ∷ []) self.old.bytes }) }
+        ensures taken { OnOk result (IsSome self.old.bytes) }
+        ensures err { OnErr result (self.new ≡ record self.old { bytes = None }) }
+    {
+        if self.refused {
+            return Err(AllocError);
+        }
+        match self.unstuffer.push(byte) {
+            None => {
+                self.ended = true;
+                Ok(())
+            }
+            Some((value, count)) => {
+                let mut chunk = Chunk::new();
+                chunk.append(value, count);
+                match self.reader.push_chunk(&mut chunk) {
+                    Ok(()) => Ok(()),
+                    Err(AllocError) => {
+                        self.refused = true;
+                        Err(AllocError)
+                    }
+                }
+            }
+        }
+    }
+
+    /// Takes the next bytes, one after another. The only refusal is out of memory, which is for good.
+    pub fn push_all(&mut self, more: &[u8]) -> Result<(), AllocError>
+        ensures ok { OnOk result (self.new ≡ record self.old { bytes = option_map (λ bytes. bytes ++ more.now) self.old.bytes }) }
+        ensures taken { OnOk result (IsSome self.old.bytes) }
+        ensures err { OnErr result (self.new ≡ record self.old { bytes = None }) }
+    {
+        if self.refused {
+            return Err(AllocError);
+        }
+        for byte in more {
+            self.push(*byte)?;
+        }
+        Ok(())
+    }
+
+    /// The lines that the bytes read as, or why there are none.
+    fn outcome(self) -> Result<Vec<Vec<u16>>, PieceFault>
+        ensures in_range { AreCodingParameters self.parameters }
+        ensures width { 0 < self.width }
+        ensures outcome { MatchOption self.bytes (result ≡ Err PieceFault.OutOfMemory) (λ bytes. OutcomeIs self.parameters self.width self.components (self.rows * self.components) bytes result) }
+    {
+        if self.refused {
+            return Err(PieceFault::OutOfMemory);
+        }
+        if self.ended {
+            return Err(PieceFault::Broken);
+        }
+        let IntervalDecoder { reader, .. } = self;
+        let IntervalReader { lines, state, .. } = reader;
+        match state {
+            State::Working => Err(PieceFault::Broken),
+            State::Dead => Err(PieceFault::Broken),
+            State::Over(extra) => {
+                if extra > 7 {
+                    Err(PieceFault::Long)
+                } else {
+                    Ok(lines)
+                }
+            }
+        }
+    }
+
+    /// The lines that the bytes read as, or why there are none. Where a push was refused the answer is out of
+    /// memory, and else it never is. The whole piece is looked at, also behind its last line: at most seven
+    /// bits may follow the code, of any value, which is this profile's choice. A byte of 0x80 or more behind
+    /// 0xFF makes the piece broken wherever it stands (ITU-T T.87, A.1).
+    pub fn finish(self) -> Result<Vec<Vec<u16>>, PieceFault>
+        ensures outcome { MatchOption self.bytes (result ≡ Err PieceFault.OutOfMemory) (λ bytes. OutcomeIs self.parameters self.width self.components (self.rows * self.components) bytes result) }
+        ensures read { IfSome self.bytes (λ bytes. (lines : List (List ℕ)) → Reads self.parameters self.width self.components (self.rows * self.components) bytes lines → MatchResult result (λ v. map (λ v. v.items) v.items ≡ lines) (λ fault. ⊥)) }
+    {
+        self.outcome()
+    }
+}

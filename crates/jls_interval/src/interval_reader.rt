@@ -1,0 +1,101 @@
+//! The lines of an interval, from a few bits at a time.
+
+ghost use Rattle.std.specs.Prelude.{◌≡◌, ◌↔◌, List, Bool, IsTrue, IfOk, OnOk};
+ghost use Rattle.jls_values.specs.Params.{CodingParameters};
+
+use crate::line_reader::{EventStep, LineReader};
+use crate::place::Place;
+use crate::push_event::push_to_event;
+use jls_bits::Chunk;
+use std::alloc::{AllocError, Global};
+use std::mem;
+
+/// What the bits so far have come to.
+#[derive(Clone, Copy)]
+pub(crate) enum State {
+    /// Lines are still to come.
+    Working,
+    /// All lines are there, and so many bits came behind their code, counted up to 8.
+    Over(u8),
+    /// They begin with no lines' code, whatever comes.
+    Dead,
+}
+
+/// The lines of an interval that is read.
+#[derive(Drop)]
+pub(crate) struct IntervalReader {
+    pub alloc: Global,
+    /// The line in work.
+    pub reader: LineReader,
+    pub components: usize,
+    /// How many lines there are to be.
+    pub count: usize,
+    /// The finished lines.
+    pub lines: Vec<Vec<u16>>,
+    pub state: State,
+}
+
+impl IntervalReader {
+    ghost use Rattle.jls_interval.specs.Decoding.{IsReading, TakesAll, TakesEvent, HasShape};
+
+    /// Takes the bits of the event in hand, where lines are still to come, and says whether it is whole. Else
+    /// nothing more is to be taken.
+    fn push_event(&mut self, chunk: &mut Chunk) -> Result<bool, AllocError>
+        requires state { self.old.state ≡ State.Working }
+        requires reading { (p : CodingParameters) × (given : List Bool) × IsReading p given self.old }
+        ensures shape { HasShape self.old self.new }
+        ensures bits { IfOk result (TakesEvent self.old self.new chunk.old chunk.new) }
+    {
+        let place = Place::after(&self.lines, self.components);
+        match push_to_event(&mut self.reader, &place, chunk)? {
+            EventStep::More => Ok(false),
+            EventStep::Refused => {
+                self.state = State::Dead;
+                Ok(false)
+            }
+            EventStep::Moved => {
+                if self.reader.line.len() == self.reader.width {
+                    let line = mem::replace(&mut self.reader.line, Vec::new(self.alloc));
+                    self.lines.push(line)?;
+                    if self.lines.len() == self.count {
+                        self.state = State::Over(0);
+                    }
+                }
+                Ok(true)
+            }
+        }
+    }
+
+    /// Counts the bits that come behind the lines' code.
+    fn count_bits(&mut self, chunk: &Chunk)
+        ensures shape { HasShape self.old self.new }
+        ensures bits { (self.old.state ≡ State.Working → ⊥) → TakesAll self.old self.new chunk.now }
+    {
+        if let State::Over(extra) = self.state {
+            self.state = State::Over(extra.saturating_add(chunk.len()).min(8));
+        }
+    }
+
+    /// Whether lines are still to come.
+    fn is_working(&self) -> bool
+        ensures { IsTrue result ↔ (self.now.state ≡ State.Working) }
+    {
+        matches!(self.state, State::Working)
+    }
+
+    /// Takes the bits of a chunk.
+    pub(crate) fn push_chunk(&mut self, chunk: &mut Chunk) -> Result<(), AllocError>
+        requires { (p : CodingParameters) × (given : List Bool) × IsReading p given self.old }
+        ensures shape { HasShape self.old self.new }
+        ensures bits { OnOk result (TakesAll self.old self.new chunk.old) }
+    {
+        'events: while self.is_working() {
+            let goes_on = self.push_event(chunk)?;
+            if !goes_on {
+                return Ok(());
+            }
+        }
+        self.count_bits(chunk);
+        Ok(())
+    }
+}

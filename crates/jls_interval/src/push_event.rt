@@ -1,0 +1,211 @@
+//! Reading one event, a few bits at a time: a sample of regular mode, or a run with what ends it.
+
+ghost use Rattle.std.specs.Prelude.{◌≡◌, ℕ, ◌-◌, ◌<◌, ◌≤◌, ◌++◌, Bool, true, List, length, replicate, get_or, IfOk};
+ghost use Rattle.std.specs.List.{AllByRecursion};
+ghost use Rattle.jls_values.specs.Params.{limit, qbpp};
+ghost use Rattle.jls_context.specs.Mode.{is_run_mode, IsRegularMode};
+ghost use Rattle.jls_context.specs.Regular.{regular_k};
+ghost use Rattle.jls_context.specs.Interruption.{run_k};
+ghost use Rattle.jls_context.specs.Variables.{cell_at, run_cell_at};
+ghost use Rattle.jls_bits.specs.CodeState.{IsOpen, bits_told};
+ghost use Rattle.jls_interval.specs.Events.{Event, Above};
+ghost use Rattle.jls_interval.specs.Cells.{is_same};
+ghost use Rattle.jls_interval.specs.Place.{above_of};
+ghost use Rattle.jls_interval.specs.After.{IsAfter};
+ghost use Rattle.jls_interval.specs.Runs;
+ghost use Rattle.jls_interval.specs.RunState.{IsRunState, RunAt, RunIs};
+ghost use Rattle.jls_interval.specs.Hands.{now_at, behind, Holds, EventPushed};
+ghost use Rattle.jls_interval.specs.declared.run_reader.Run.TheVariants.{Interrupted};
+
+use crate::coder::RegularMode;
+use crate::line_reader::{EventStep, Hand, Interruption, LineReader};
+use crate::place::Place;
+use crate::push_sample::{SampleStep, push_to_interruption, push_to_sample};
+use crate::run_index::{lowered, run_order};
+use crate::run_reader::{Run, RunState, RunStep};
+use jls_bits::{Chunk, CodeState};
+use jls_context::{Mode, Neighbours};
+use std::alloc::AllocError;
+
+/// Takes bits of a sample in regular mode.
+fn push_to_regular(
+    reader: &mut LineReader,
+    neighbours: Neighbours,
+    mode: RegularMode,
+    code: CodeState,
+    chunk: &mut Chunk,
+) -> Result<EventStep, AllocError>
+    requires mode { IsRegularMode reader.old.coder.cells.parameters neighbours mode.context mode.negative }
+    requires opened { IsOpen (regular_k (cell_at reader.old.coder.cells mode.context)) (limit reader.old.coder.cells.parameters) (qbpp reader.old.coder.cells.parameters) code }
+    ensures step { IfOk result (λ s. (component : ℕ) (up : Above) (told : List Bool) (earlier : List Event) → neighbours ≡ now_at reader.old.width up reader.old.line.items → IsAfter reader.old.coder.cells.parameters reader.old.coder.cells reader.old.coder.run_indices earlier → told ≡ bits_told (limit reader.old.coder.cells.parameters) (qbpp reader.old.coder.cells.parameters) code → EventPushed component up reader.old reader.new told chunk.old chunk.new earlier s) }
+    ensures width { reader.new.width ≡ reader.old.width }
+    ensures parameters { reader.new.coder.cells.parameters ≡ reader.old.coder.cells.parameters }
+{
+    match push_to_sample(&reader.coder, neighbours, mode, code, chunk) {
+        SampleStep::More(next) => {
+            reader.hand = Hand::Sample(next);
+            Ok(EventStep::More)
+        }
+        SampleStep::Refused => Ok(EventStep::Refused),
+        SampleStep::Done(sample) => {
+            reader.line.push(sample.value)?;
+            reader
+                .coder
+                .cells
+                .update_regular(mode.context, sample.error);
+            reader.hand = Hand::Fresh;
+            Ok(EventStep::Moved)
+        }
+    }
+}
+
+/// Adds the samples of a run to its line.
+fn push_run(line: &mut Vec<u16>, value: u16, count: u32) -> Result<(), AllocError>
+    ensures { IfOk result (λ _. line.new.items ≡ line.old.items ++ replicate count value) }
+{
+    for _column in 0..count {
+        line.push(value)?;
+    }
+    Ok(())
+}
+
+/// Takes bits of the sample that interrupts a run of this value.
+fn push_to_interrupted(
+    reader: &mut LineReader,
+    place: &Place<'_>,
+    value: u16,
+    interruption: Interruption,
+    chunk: &mut Chunk,
+) -> Result<EventStep, AllocError>
+    requires above { AllByRecursion (λ s. s ≤ reader.old.coder.cells.parameters.maxval) place.now.line_above.now }
+    requires run { is_run_mode (now_at reader.old.width (above_of place.now) reader.old.line.items) ≡ true }
+    requires value { value ≡ (now_at reader.old.width (above_of place.now) reader.old.line.items).ra }
+    requires columns { interruption.count < reader.old.width - length reader.old.line.items }
+    requires run_index { interruption.run_index ≤ 31 }
+    requires opened { let there = behind reader.old.width (above_of place.now) reader.old.line.items interruption.count in IsOpen (run_k (is_same there) (run_cell_at reader.old.coder.cells (is_same there))) (limit reader.old.coder.cells.parameters - Runs.run_order interruption.run_index - 1) (qbpp reader.old.coder.cells.parameters) interruption.code }
+    ensures step { IfOk result (λ s. (told : List Bool) (earlier : List Event) → IsAfter reader.old.coder.cells.parameters reader.old.coder.cells reader.old.coder.run_indices earlier → RunIs (get_or reader.old.coder.run_indices place.now.component 0) (reader.old.width - length reader.old.line.items) told (bits_told (limit reader.old.coder.cells.parameters - Runs.run_order interruption.run_index - 1) (qbpp reader.old.coder.cells.parameters) interruption.code) (Interrupted interruption.count interruption.run_index) → EventPushed place.now.component (above_of place.now) reader.old reader.new told chunk.old chunk.new earlier s) }
+    ensures width { reader.new.width ≡ reader.old.width }
+    ensures parameters { reader.new.coder.cells.parameters ≡ reader.old.coder.cells.parameters }
+{
+    let Interruption {
+        count,
+        run_index,
+        code,
+    } = interruption;
+    let column = reader.line.len() + count as usize;
+    let next = place.neighbours(reader.width, &reader.line, column);
+    let Neighbours { rb, rc, rd, .. } = next;
+    let there = Neighbours {
+        ra: value,
+        rb,
+        rc,
+        rd,
+    };
+    match push_to_interruption(&reader.coder, there, run_order(run_index), code, chunk) {
+        SampleStep::More(code) => {
+            reader.hand = Hand::Interruption(Interruption {
+                count,
+                run_index,
+                code,
+            });
+            Ok(EventStep::More)
+        }
+        SampleStep::Refused => Ok(EventStep::Refused),
+        SampleStep::Done(sample) => {
+            push_run(&mut reader.line, value, count)?;
+            reader.line.push(sample.value)?;
+            reader.coder.cells.update_run(value == rb, sample.error);
+            reader
+                .coder
+                .set_run_index(place.component, lowered(run_index));
+            reader.hand = Hand::Fresh;
+            Ok(EventStep::Moved)
+        }
+    }
+}
+
+/// Takes bits of a run of this value, and of what ends it.
+fn push_to_run(
+    reader: &mut LineReader,
+    place: &Place<'_>,
+    value: u16,
+    state: RunState,
+    chunk: &mut Chunk,
+) -> Result<EventStep, AllocError>
+    requires above { AllByRecursion (λ s. s ≤ reader.old.coder.cells.parameters.maxval) place.now.line_above.now }
+    requires columns { length reader.old.line.items < reader.old.width }
+    requires run { is_run_mode (now_at reader.old.width (above_of place.now) reader.old.line.items) ≡ true }
+    requires value { value ≡ (now_at reader.old.width (above_of place.now) reader.old.line.items).ra }
+    requires state { IsRunState (reader.old.width - length reader.old.line.items) state }
+    ensures step { IfOk result (λ s. (told : List Bool) (earlier : List Event) → IsAfter reader.old.coder.cells.parameters reader.old.coder.cells reader.old.coder.run_indices earlier → RunAt (get_or reader.old.coder.run_indices place.now.component 0) (reader.old.width - length reader.old.line.items) told state → EventPushed place.now.component (above_of place.now) reader.old reader.new told chunk.old chunk.new earlier s) }
+    ensures width { reader.new.width ≡ reader.old.width }
+    ensures parameters { reader.new.coder.cells.parameters ≡ reader.old.coder.cells.parameters }
+{
+    let columns = (reader.width - reader.line.len()) as u32;
+    match state.push_chunk(columns, chunk) {
+        RunStep::More(next) => {
+            reader.hand = Hand::InRun(next);
+            Ok(EventStep::More)
+        }
+        RunStep::Refused => Ok(EventStep::Refused),
+        RunStep::Done(Run::ToEnd { run_index }) => {
+            push_run(&mut reader.line, value, columns)?;
+            reader.coder.set_run_index(place.component, run_index);
+            reader.hand = Hand::Fresh;
+            Ok(EventStep::Moved)
+        }
+        RunStep::Done(Run::Interrupted { count, run_index }) => {
+            let code = CodeState::START;
+            let interruption = Interruption {
+                count,
+                run_index,
+                code,
+            };
+            push_to_interrupted(reader, place, value, interruption, chunk)
+        }
+    }
+}
+
+/// Takes bits of the next event, in a line that goes on.
+pub(crate) fn push_to_event(
+    reader: &mut LineReader,
+    place: &Place<'_>,
+    chunk: &mut Chunk,
+) -> Result<EventStep, AllocError>
+    requires above { AllByRecursion (λ s. s ≤ reader.old.coder.cells.parameters.maxval) place.now.line_above.now }
+    requires columns { length reader.old.line.items < reader.old.width }
+    requires hand { (told : List Bool) × Holds place.now.component (above_of place.now) reader.old told }
+    ensures step { IfOk result (λ s. (told : List Bool) (earlier : List Event) → IsAfter reader.old.coder.cells.parameters reader.old.coder.cells reader.old.coder.run_indices earlier → Holds place.now.component (above_of place.now) reader.old told → EventPushed place.now.component (above_of place.now) reader.old reader.new told chunk.old chunk.new earlier s) }
+    ensures width { reader.new.width ≡ reader.old.width }
+    ensures parameters { reader.new.coder.cells.parameters ≡ reader.old.coder.cells.parameters }
+{
+    let column = reader.line.len();
+    let columns = (reader.width - column) as u32;
+    let near = place.neighbours(reader.width, &reader.line, column);
+    match reader.coder.cells.mode(near.ra, near.rb, near.rc, near.rd) {
+        Mode::Run => match reader.hand {
+            Hand::Fresh => {
+                let run_index = reader.coder.run_index(place.component);
+                let state = RunState::Blocks { run_index, columns };
+                push_to_run(reader, place, near.ra, state, chunk)
+            }
+            Hand::InRun(state) => push_to_run(reader, place, near.ra, state, chunk),
+            Hand::Interruption(interruption) => {
+                push_to_interrupted(reader, place, near.ra, interruption, chunk)
+            }
+            Hand::Sample(_) => unreachable!(),
+        },
+        Mode::Regular { cell, negative } => {
+            let mode = RegularMode {
+                context: cell,
+                negative,
+            };
+            match reader.hand {
+                Hand::Fresh => push_to_regular(reader, near, mode, CodeState::START, chunk),
+                Hand::Sample(code) => push_to_regular(reader, near, mode, code, chunk),
+                Hand::InRun(_) => unreachable!(),
+                Hand::Interruption(_) => unreachable!(),
+            }
+        }
+    }
+}

@@ -1,0 +1,139 @@
+//! Reading one sample, a few bits at a time (ITU-T T.87, A.4, A.5 and A.7.2).
+
+ghost use Rattle.std.specs.Prelude.{◌≡◌, ◌≢◌, ◌-◌, ◌≤◌, ◌++◌, Bool, true, List, pos, IfSome, IfNone};
+ghost use Rattle.jls_values.specs.Params.{limit, qbpp};
+ghost use Rattle.jls_context.specs.Mode.{IsRegularMode};
+ghost use Rattle.jls_context.specs.Errors.{IsError};
+ghost use Rattle.jls_context.specs.Regular.{regular_k};
+ghost use Rattle.jls_context.specs.Interruption.{run_k};
+ghost use Rattle.jls_context.specs.Variables.{cell_at, run_cell_at};
+ghost use Rattle.jls_bits.specs.Golomb.{golomb, has_golomb};
+ghost use Rattle.jls_bits.specs.CodeState.{IsOpen, bits_told};
+ghost use Rattle.jls_interval.specs.Cells.{regular_error, is_same, interruption_error};
+ghost use Rattle.jls_interval.specs.Code.{regular_bits, interrupting_bits};
+ghost use Rattle.jls_interval.specs.Reading.{NoSample, NoInterruption};
+ghost use Rattle.jls_interval.specs.SampleSteps.{SamplePushed, InterruptionPushed};
+
+use crate::coder::{Coder, RegularMode};
+use jls_bits::{Chunk, CodeState, CodeStep};
+use jls_context::Neighbours;
+
+/// A sample that was read, and the error of its prediction.
+#[derive(Clone, Copy)]
+pub(crate) struct Sample {
+    pub value: u16,
+    pub error: i32,
+}
+
+/// What more bits make of a sample.
+#[derive(Clone, Copy)]
+pub(crate) enum SampleStep {
+    /// The bits are no whole sample.
+    More(CodeState),
+    Done(Sample),
+    /// The bits begin with no sample, however they go on.
+    Refused,
+}
+
+/// The sample of regular mode whose error is mapped to this number. None where there is none.
+fn sample_of(
+    coder: &Coder,
+    neighbours: Neighbours,
+    mode: RegularMode,
+    mapped: u32,
+) -> Option<Sample>
+    requires mode { IsRegularMode coder.now.cells.parameters neighbours mode.context mode.negative }
+    requires code { has_golomb (regular_k (cell_at coder.now.cells mode.context)) (limit coder.now.cells.parameters) (qbpp coder.now.cells.parameters) mapped ≡ true }
+    ensures sample { IfSome result (λ s. s.value ≤ coder.now.cells.parameters.maxval) }
+    ensures error { IfSome result (λ s. s.error ≡ regular_error coder.now.cells.parameters (cell_at coder.now.cells mode.context) neighbours s.value) }
+    ensures reduced { IfSome result (λ s. IsError coder.now.cells.parameters s.error) }
+    ensures bits { IfSome result (λ s. regular_bits coder.now.cells.parameters (cell_at coder.now.cells mode.context) neighbours s.value ≡ golomb (regular_k (cell_at coder.now.cells mode.context)) (limit coder.now.cells.parameters) (qbpp coder.now.cells.parameters) mapped) }
+    ensures none { IfNone result ((given unread : List Bool) → given ≡ golomb (regular_k (cell_at coder.now.cells mode.context)) (limit coder.now.cells.parameters) (qbpp coder.now.cells.parameters) mapped ++ unread → NoSample coder.now.cells.parameters (cell_at coder.now.cells mode.context) neighbours given) }
+{
+    let RegularMode { context, negative } = mode;
+    match coder.cells.regular_error(context, mapped) {
+        None => None,
+        Some(error) => {
+            let Neighbours { ra, rb, rc, .. } = neighbours;
+            let prediction = coder.cells.predict(context, negative, ra, rb, rc);
+            let value = coder.cells.restore(prediction, negative, error);
+            Some(Sample { value, error })
+        }
+    }
+}
+
+/// Takes bits of a sample in regular mode.
+pub(crate) fn push_to_sample(
+    coder: &Coder,
+    neighbours: Neighbours,
+    mode: RegularMode,
+    code: CodeState,
+    chunk: &mut Chunk,
+) -> SampleStep
+    requires mode { IsRegularMode coder.now.cells.parameters neighbours mode.context mode.negative }
+    requires opened { IsOpen (regular_k (cell_at coder.now.cells mode.context)) (limit coder.now.cells.parameters) (qbpp coder.now.cells.parameters) code }
+    ensures { SamplePushed coder.now.cells.parameters (cell_at coder.now.cells mode.context) neighbours (bits_told (limit coder.now.cells.parameters) (qbpp coder.now.cells.parameters) code) chunk.old chunk.new result }
+{
+    let k = coder.cells.regular_k(mode.context);
+    match code.push_chunk(k, coder.lengths.limit, coder.lengths.qbpp, chunk) {
+        CodeStep::More(next) => SampleStep::More(next),
+        CodeStep::Refused => SampleStep::Refused,
+        CodeStep::Done(mapped) => match sample_of(coder, neighbours, mode, mapped) {
+            None => SampleStep::Refused,
+            Some(sample) => SampleStep::Done(sample),
+        },
+    }
+}
+
+/// The sample that interrupts a run, whose error is mapped to this number. None where there is none,
+/// and where the run would be interrupted by its own value.
+fn interruption_of(coder: &Coder, neighbours: Neighbours, order: u8, mapped: u32) -> Option<Sample>
+    requires order { order ≤ 15 }
+    requires above { neighbours.rb ≤ coder.now.cells.parameters.maxval }
+    requires code { has_golomb (run_k (is_same neighbours) (run_cell_at coder.now.cells (is_same neighbours))) (limit coder.now.cells.parameters - order - 1) (qbpp coder.now.cells.parameters) mapped ≡ true }
+    ensures sample { IfSome result (λ s. s.value ≤ coder.now.cells.parameters.maxval) }
+    ensures another { IfSome result (λ s. s.value ≢ neighbours.ra) }
+    ensures error { IfSome result (λ s. s.error ≡ interruption_error coder.now.cells.parameters neighbours s.value) }
+    ensures reduced { IfSome result (λ s. IsError coder.now.cells.parameters s.error) }
+    ensures another_error { IfSome result (λ s. is_same neighbours ≡ true → s.error ≢ pos 0) }
+    ensures bits { IfSome result (λ s. interrupting_bits coder.now.cells.parameters (run_cell_at coder.now.cells (is_same neighbours)) neighbours order s.value ≡ golomb (run_k (is_same neighbours) (run_cell_at coder.now.cells (is_same neighbours))) (limit coder.now.cells.parameters - order - 1) (qbpp coder.now.cells.parameters) mapped) }
+    ensures none { IfNone result ((given unread : List Bool) → given ≡ golomb (run_k (is_same neighbours) (run_cell_at coder.now.cells (is_same neighbours))) (limit coder.now.cells.parameters - order - 1) (qbpp coder.now.cells.parameters) mapped ++ unread → NoInterruption coder.now.cells.parameters (run_cell_at coder.now.cells (is_same neighbours)) neighbours order given) }
+{
+    let Neighbours { ra, rb, .. } = neighbours;
+    match coder.cells.run_error(ra == rb, mapped) {
+        None => None,
+        Some(error) => {
+            let value = coder.cells.restore(rb, rb < ra, error);
+            if value == ra {
+                None
+            } else {
+                Some(Sample { value, error })
+            }
+        }
+    }
+}
+
+/// Takes bits of a sample that interrupts a run, behind J bits of its count.
+pub(crate) fn push_to_interruption(
+    coder: &Coder,
+    neighbours: Neighbours,
+    order: u8,
+    code: CodeState,
+    chunk: &mut Chunk,
+) -> SampleStep
+    requires order { order ≤ 15 }
+    requires above { neighbours.rb ≤ coder.now.cells.parameters.maxval }
+    requires opened { IsOpen (run_k (is_same neighbours) (run_cell_at coder.now.cells (is_same neighbours))) (limit coder.now.cells.parameters - order - 1) (qbpp coder.now.cells.parameters) code }
+    ensures { InterruptionPushed coder.now.cells.parameters (run_cell_at coder.now.cells (is_same neighbours)) neighbours order (bits_told (limit coder.now.cells.parameters - order - 1) (qbpp coder.now.cells.parameters) code) chunk.old chunk.new result }
+{
+    let k = coder.cells.run_k(neighbours.ra == neighbours.rb);
+    let limit = coder.lengths.limit - order - 1;
+    match code.push_chunk(k, limit, coder.lengths.qbpp, chunk) {
+        CodeStep::More(next) => SampleStep::More(next),
+        CodeStep::Refused => SampleStep::Refused,
+        CodeStep::Done(mapped) => match interruption_of(coder, neighbours, order, mapped) {
+            None => SampleStep::Refused,
+            Some(sample) => SampleStep::Done(sample),
+        },
+    }
+}
