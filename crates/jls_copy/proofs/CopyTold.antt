@@ -32,7 +32,7 @@ use Rattle.jls_copy.specs.Tells.{ToldAs, AlikePiece, AlikePieces}
 use Rattle.jls_copy.specs.ReaderLaws.{ConclusionTold}
 use Rattle.jls_copy.specs.declared.piece.PieceKind.TheVariants as kind
 use Rattle.jls_copy.specs.declared.piece.PieceRecord.{PieceRecord}
-use Rattle.jls_copy.specs.declared.reader.CopyRead.{CopyRead}
+use Rattle.jls_copy.specs.ReadCopy.{ReadCopy}
 use Rattle.jls_copy.proofs.Alike.{same_outcome}
 use Rattle.jls_copy.proofs.CourseTold.{course_told}
 

@@ -41,8 +41,9 @@ component_in bound (suc place) (c ∷ components) each h = component_in bound pl
 
 row_in : (row height c place : ℕ) → row * c + place + 1 ≤ height * c → row < height
 row_in row height c place h = elim (cases_lt row height) [
-    inl below ↦ below
-  | inr above ↦ (let more : height * c ≤ row * c = mul-le-mul_right c above in absurd (omega (arith, h, more))) ]
+  | inl below ↦ below
+  | inr above ↦ (let more : height * c ≤ row * c = mul-le-mul_right c above in absurd (omega (arith, h, more)))
+]
 
 module _ (shape : PictureShape) (components : List ℕ) (row place : ℕ) (line : List ℕ) (lines : List (List ℕ)) (fit : FitFrom shape components row place (line ∷ lines)) where
   pub row_here : row < shape.height
@@ -54,16 +55,20 @@ module _ (shape : PictureShape) (components : List ℕ) (row place : ℕ) (line 
 
   pub fit_beside : place + 1 < length components → FitFrom shape components row (place + 1) lines
   fit_beside h = record {
-    height_below = fit.height_below; components_in = fit.components_in; place_in = h;
+    height_below = fit.height_below;
+    components_in = fit.components_in;
+    place_in = h;
     room = let room : row * length components + place + suc (length lines) ≤ shape.height * length components = fit.room in omega (arith, room);
     each = fit.each.1;
   }
 
   pub fit_below : place + 1 ≡ length components → FitFrom shape components (row + 1) 0 lines
   fit_below h = record {
-    height_below = fit.height_below; components_in = fit.components_in; place_in = omega (arith, h);
+    height_below = fit.height_below;
+    components_in = fit.components_in;
+    place_in = omega (arith, h);
     room = let room : row * length components + place + suc (length lines) ≤ shape.height * length components = fit.room in
-      let next : (row + 1) * length components ≡ row * length components + 1 * length components = times_sum row 1 (length components) in omega (arith, room, next, h);
+        let next : (row + 1) * length components ≡ row * length components + 1 * length components = times_sum row 1 (length components) in omega (arith, room, next, h);
     each = fit.each.1;
   }
 
@@ -75,14 +80,16 @@ line_fits shape p width (line ∷ lines) ok same wide each =
   where
     top : p.maxval < 2 ^ shape.precision
     top = subst (λ bits. p.maxval < 2 ^ bits) same ok.maxval_below
+
     samples : (line : List ℕ) → AllByRecursion (λ sample. sample ≤ p.maxval) line → AllByRecursion (λ sample. sample < 2 ^ shape.precision) line
     samples [] all = tt
     samples (x ∷ line) all = (omega (arith, all.0, top), samples line all.1)
 
 rows_in : (s : Scan) (k : ℕ) → first_row s k < s.height → first_row s k + row_count s k ≤ s.height
 rows_in s k first = elim (cases_eq s.restart_interval 0) [
-    inl none ↦ (let test : (s.restart_interval == 0) ≡ true = grind (arith, nat_tests, none) in rw (test, none) (omega arith))
-  | inr some ↦ (let test : (s.restart_interval == 0) ≡ false = grind (arith, nat_tests, some) in rw test (omega (arith, first))) ]
+  | inl none ↦ (let test : (s.restart_interval == 0) ≡ true = grind (arith, nat_tests, none) in rw (test, none) (omega arith))
+  | inr some ↦ (let test : (s.restart_interval == 0) ≡ false = grind (arith, nat_tests, some) in rw test (omega (arith, first)))
+]
 
 -- the lines that a piece of an interval reads as fit where they are placed
 pub lines_fit : (shape : PictureShape) (s : Scan) (k : ℕ) (lines : List (List ℕ)) → IsScan s → IsScanOf shape s → k < intervals s
@@ -92,11 +99,11 @@ lines_fit shape s k lines ok of_shape within are = record {
   components_in = of_shape.components_below;
   place_in = omega (arith, ok.components_at_least);
   room =
-    let count = are.count_is in let rows = rows_in s k (ok.first_rows k within) in
-    let all : (first_row s k + row_count s k) * length s.components ≤ s.height * length s.components = mul-le-mul_right (length s.components) rows in
-    let parts = times_sum (first_row s k) (row_count s k) (length s.components) in
-    let same : s.height * length s.components ≡ shape.height * length s.components = ap (λ height. height * length s.components) of_shape.height in
-    omega (arith, count, all, parts, same);
+      let count = are.count_is in let rows = rows_in s k (ok.first_rows k within) in
+      let all : (first_row s k + row_count s k) * length s.components ≤ s.height * length s.components = mul-le-mul_right (length s.components) rows in
+      let parts = times_sum (first_row s k) (row_count s k) (length s.components) in
+      let same : s.height * length s.components ≡ shape.height * length s.components = ap (λ height. height * length s.components) of_shape.height in
+      omega (arith, count, all, parts, same);
   each = line_fits shape s.params s.width lines ok.params of_shape.precision of_shape.width are.each;
 }
 

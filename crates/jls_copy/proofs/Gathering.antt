@@ -8,7 +8,7 @@ use Rattle.jls_copy.proofs.HeaderFacts.{frame_kept}
 use Rattle.jls_copy.specs.Conclusion.{Concludes, SaysNone, no_picture}
 use Rattle.jls_copy.specs.ReaderState.{end_at, closed_at_end}
 use Rattle.jls_copy.specs.declared.end.End.{End}
-use Rattle.jls_copy.specs.declared.reader.CopyRead.{CopyRead}
+use Rattle.jls_copy.specs.ReadCopy.{ReadCopy}
 use Rattle.jls_copy.specs.declared.reader.CopyFault.{CopyFault}
 use Rattle.jls_copy.specs.declared.reader.CopyFault.TheVariants.{NoPicture, OutOfMemory}
 use Rattle.jls_marker.specs.declared.fault.MarkerFault.{MarkerFault}
@@ -211,8 +211,8 @@ if_ok (Ok x) f p = f x p
 if_ok (Err e) f p = tt
 
 -- the input ends
-pub concluding : (m n : Machine) (bytes : List ℕ) (e : End) (read : CopyRead) → IsReading m bytes → e ≡ end_at m.place m.count → Adds m.headers.frame (closed_at_end m.place) m.findings n.findings → n.headers ≡ m.headers
-    → ((shape : PictureShape) × (n.headers.frame ≡ Some shape) × (read.partial ≡ picture_of shape n.findings.partial) × (read.pieces.items ≡ n.findings.records.items) × (read.piece_count ≡ n.findings.record_count) × (read.ended ≡ e))
+pub concluding : (m n : Machine) (bytes : List ℕ) (e : End) (read : ReadCopy) → IsReading m bytes → e ≡ end_at m.place m.count → Adds m.headers.frame (closed_at_end m.place) m.findings n.findings → n.headers ≡ m.headers
+    → ((shape : PictureShape) × (n.headers.frame ≡ Some shape) × (read.partial ≡ picture_of shape n.findings.partial) × (read.pieces ≡ n.findings.records.items) × (read.piece_count ≡ n.findings.record_count) × (read.ended ≡ e))
     → Concludes (reading bytes) read
 concluding m n bytes e read h end_is a same (shape, framed, p, q, r, s) =
     let all : Gathers m.headers.frame ((reading bytes).pieces ++ closed_at_end m.place) n.findings = gathers_pieces m.headers.frame (reading bytes).pieces (closed_at_end m.place) m.findings n.findings h.gathers a in

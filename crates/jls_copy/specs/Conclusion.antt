@@ -9,7 +9,7 @@ use Rattle.jls_copy.specs.ReaderState.{Reading, end_at}
 use Rattle.jls_copy.specs.declared.end.End.{End}
 use Rattle.jls_copy.specs.declared.end.End.TheVariants.{Eoi, Input, Header}
 use Rattle.jls_marker.specs.declared.fault.MarkerFault.TheVariants as fault
-use Rattle.jls_copy.specs.declared.reader.CopyRead.{CopyRead}
+use Rattle.jls_copy.specs.ReadCopy.{ReadCopy}
 use Rattle.jls_copy.specs.declared.reader.CopyFault.{CopyFault}
 use Rattle.jls_copy.specs.declared.reader.CopyFault.TheVariants.{NoPicture, OutOfMemory}
 use Rattle.jls_copy.specs.declared.place.Place.{Place}
@@ -25,13 +25,13 @@ is_final (InScan scan) = false
 is_final (Done e) = true
 
 -- the frame's shape, the readings and the records of all pieces, and the end
-pub record Concludes (r : Reading) (read : CopyRead) : Type 0 where
+pub record Concludes (r : Reading) (read : ReadCopy) : Type 0 where
   pub shape : PictureShape
   pub framed : r.state.headers.frame ≡ Some shape
   pub outcomes : List Outcome
   pub each : AreOutcomes (all_pieces r) outcomes
   pub partial_is : read.partial ≡ record { shape = shape; readings = set.insert_all set.empty (readings (all_pieces r) outcomes) }
-  pub pieces_are : read.pieces.items ≡ take 4096 (records (all_pieces r) outcomes)
+  pub pieces_are : read.pieces ≡ take 4096 (records (all_pieces r) outcomes)
   pub count_is : read.piece_count ≡ length (records (all_pieces r) outcomes)
   pub ended_is : read.ended ≡ end_at r.state.place r.state.count
 

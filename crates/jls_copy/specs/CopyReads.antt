@@ -10,13 +10,13 @@ use Rattle.jls_copy.specs.Conclusion.{no_picture}
 use Rattle.jls_copy.specs.declared.end.End.{End}
 use Rattle.jls_copy.specs.declared.end.End.TheVariants.{Eoi, Input, Header}
 use Rattle.jls_marker.specs.declared.fault.MarkerFault.TheVariants as fault
-use Rattle.jls_copy.specs.declared.reader.CopyRead.{CopyRead}
+use Rattle.jls_copy.specs.ReadCopy.{ReadCopy}
 use Rattle.jls_copy.specs.declared.reader.CopyFault.{CopyFault}
 use Rattle.jls_copy.specs.declared.reader.CopyFault.TheVariants.{NoPicture, OutOfMemory}
 
 -- the copy has a course with a frame, and what was read is the frame's shape with the readings of the course's pieces, the first 4,096
 -- of its records, how many there are, and its end
-pub record CopyReads (copy : List ℕ) (read : CopyRead) : Type 0 where
+pub record CopyReads (copy : List ℕ) (read : ReadCopy) : Type 0 where
   pub course : Course
   pub is_course : IsCourse copy course
   pub shape : PictureShape
@@ -24,7 +24,7 @@ pub record CopyReads (copy : List ℕ) (read : CopyRead) : Type 0 where
   pub outcomes : List Outcome
   pub each : AreOutcomes (pieces course) outcomes
   pub partial_is : read.partial ≡ record { shape = shape; readings = set.insert_all set.empty (readings (pieces course) outcomes) }
-  pub pieces_are : read.pieces.items ≡ take 4096 (records (pieces course) outcomes)
+  pub pieces_are : read.pieces ≡ take 4096 (records (pieces course) outcomes)
   pub count_is : read.piece_count ≡ length (records (pieces course) outcomes)
   pub ended_is : read.ended ≡ course.end
 

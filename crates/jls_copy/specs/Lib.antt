@@ -4,7 +4,7 @@ pub mod CutLaws
 pub mod Course
 pub mod CourseLaws
 pub mod Pieces
-pub mod Decoding
+pub mod ReadCopy
 pub mod Fits
 pub mod Findings
 pub mod ReaderState

@@ -9,7 +9,7 @@ use Rattle.jls_copy.specs.Course.{Course, IsCourse}
 use Rattle.jls_copy.specs.Reader.{all_pieces}
 use Rattle.jls_copy.specs.Conclusion.{Concludes}
 use Rattle.jls_copy.specs.CopyReads.{CopyReads}
-use Rattle.jls_copy.specs.declared.reader.CopyRead.{CopyRead}
+use Rattle.jls_copy.specs.ReadCopy.{ReadCopy}
 use Rattle.jls_copy.specs.declared.end.End.{End}
 use Rattle.jls_copy.specs.ReaderState.{reading, held_bytes, end_at}
 use Rattle.jls_copy.specs.ScanData.{fill_bytes}
@@ -41,4 +41,4 @@ CourseTold = (bytes : List ℕ) → AllByRecursion (λ b. b < 256) bytes
 
 -- and what a reader answers is what the copy gives
 abbrev pub ConclusionTold : Type 0
-ConclusionTold = (bytes : List ℕ) → AllByRecursion (λ b. b < 256) bytes → (read : CopyRead) → Concludes (reading bytes) read → CopyReads bytes read
+ConclusionTold = (bytes : List ℕ) → AllByRecursion (λ b. b < 256) bytes → (read : ReadCopy) → Concludes (reading bytes) read → CopyReads bytes read

@@ -6,7 +6,8 @@ use Rattle.jls_marker.specs.MarkerCodes.{has_segment}
 use Rattle.jls_marker.specs.Headers.{headers_after}
 use Rattle.jls_copy.specs.Numbers.{PieceNumber, Interval, BeyondLast, number_behind, given_last}
 use Rattle.jls_copy.specs.ScanData.{is_restart_code, ends_scan_data}
-use Rattle.jls_copy.specs.Decoding.{Decoding, with_bytes}
+use Rattle.std.specs.Option.{option_map}
+use Rattle.jls_interval.specs.IntervalBytes.{IntervalBytes}
 use Rattle.jls_copy.specs.Pieces.{FoundPiece}
 use Rattle.jls_marker.specs.declared.fault.MarkerFault.{MarkerFault}
 use Rattle.jls_marker.specs.declared.fault.MarkerFault.TheVariants as fault
@@ -50,8 +51,12 @@ from_marker fill has_frame count b =
     else Done (end.Header fault.UnknownMarker (count - 1))
 
 -- a decoder of an interval that was told nothing
-abbrev pub decoding_of : Scan → ℕ → Decoding
-decoding_of s k = record { params = s.params; width = s.width; components = length s.components; rows = row_count s k; pushed = Some [] }
+abbrev pub decoding_of : Scan → ℕ → IntervalBytes
+decoding_of s k = record { parameters = s.params; width = s.width; components = length s.components; rows = row_count s k; bytes = Some [] }
+
+-- a decoder that was told more bytes
+abbrev pub with_bytes : IntervalBytes → List ℕ → IntervalBytes
+with_bytes d more = record d { bytes = option_map (λ bytes. bytes ++ more) d.bytes }
 
 abbrev pub piece_opened : Scan → PieceNumber → OpenPiece
 piece_opened s (Interval k) = open_piece.Within k (decoding_of s k)
@@ -156,7 +161,7 @@ told (Some bytes) = bytes
 told None = []
 
 abbrev pub bytes_of : OpenPiece → List ℕ
-bytes_of (open_piece.Within k d) = told d.pushed
+bytes_of (open_piece.Within k d) = told d.bytes
 bytes_of (open_piece.Beyond k) = []
 
 abbrev pub piece_found : ℕ → Scan → ℕ → OpenPiece → FoundPiece

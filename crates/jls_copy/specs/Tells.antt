@@ -40,7 +40,7 @@ ToldAs (BeyondLast k) told piece = Unit {0}
 
 -- no push was refused
 abbrev pub IsTold : OpenPiece → Type 0
-IsTold (open_piece.Within k d) = (bytes : List ℕ) × (d.pushed ≡ Some bytes)
+IsTold (open_piece.Within k d) = (bytes : List ℕ) × (d.bytes ≡ Some bytes)
 IsTold (open_piece.Beyond k) = Unit {0}
 
 -- pieces that differ in their bytes at most, and have the same outcomes

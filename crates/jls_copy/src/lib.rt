@@ -8,7 +8,6 @@ mod cut_laws;
 mod cut_search;
 mod end;
 mod findings;
-mod interval_decoder;
 mod lanes;
 mod machine;
 mod piece;

@@ -6,7 +6,7 @@ ghost use Rattle.jls_copy.specs.Numbers.{numbered};
 ghost use Rattle.jls_copy.specs.ReaderState.{piece_opened, piece_with};
 ghost use Rattle.jls_copy.specs.Sound.{IsOpenPiece};
 
-use crate::interval_decoder::IntervalDecoder;
+use jls_interval::IntervalDecoder;
 use jls_marker::ScanPlan;
 use std::alloc::{AllocError, Global};
 
@@ -57,7 +57,7 @@ impl OpenPiece {
             plan.width(),
             components,
             u32::from(rows),
-        )?;
+        );
         Ok(OpenPiece::Within(number, decoder))
     }
 

@@ -27,13 +27,59 @@ pub enum CopyFault {
     OutOfMemory,
 }
 
-/// What a copy gave.
+/// What a copy gave: its readings, and why they are no more.
 #[derive(Drop)]
 pub struct CopyRead {
-    pub(crate) partial: Partial,
-    pub(crate) pieces: Vec<PieceRecord>,
-    pub(crate) piece_count: u64,
-    pub(crate) ended: End,
+    partial: Partial,
+    pieces: Vec<PieceRecord>,
+    piece_count: u64,
+    ended: End,
+}
+
+impl Model for CopyRead {
+    ghost use Rattle.jls_copy.specs.ReadCopy.{ReadCopy};
+
+    ghost Value = { ReadCopy };
+
+    ghost view = { λ r. record { partial = r.partial; pieces = r.pieces.items; piece_count = r.piece_count; ended = r.ended } };
+}
+
+impl CopyRead {
+    /// The readings, as a partial picture of the frame's shape. It has no sources.
+    pub fn partial(&self) -> &Partial
+        ensures { result.now ≡ self.now.partial }
+    {
+        &self.partial
+    }
+
+    /// The readings alone.
+    pub fn into_partial(self) -> Partial
+        ensures { result ≡ self.partial }
+    {
+        let Self { partial, .. } = self;
+        partial
+    }
+
+    /// The first 4,096 pieces of scan data that gave no readings, in the order of the copy.
+    pub fn pieces(&self) -> &[PieceRecord]
+        ensures { result.now ≡ self.now.pieces }
+    {
+        &self.pieces
+    }
+
+    /// How many pieces gave no readings, those that are not kept among them.
+    pub fn piece_count(&self) -> u64
+        ensures { result ≡ self.now.piece_count }
+    {
+        self.piece_count
+    }
+
+    /// Where the copy ended.
+    pub fn ended(&self) -> End
+        ensures { result ≡ self.now.ended }
+    {
+        self.ended
+    }
 }
 
 /// Reads one copy as its bytes come. A contract sees the bytes fed, or `None` after a refused `feed`.
@@ -173,7 +219,7 @@ fn no_picture(ended: End) -> CopyFault
 
 /// What a machine at its end holds.
 fn conclude(machine: Machine, ended: End) -> Result<CopyRead, CopyFault>
-    ensures read { IfOk result (λ read. (shape : PictureShape) × (machine.headers.frame ≡ Some shape) × (read.partial ≡ picture_of shape machine.findings.partial) × (read.pieces.items ≡ machine.findings.records.items) × (read.piece_count ≡ machine.findings.record_count) × (read.ended ≡ ended)) }
+    ensures read { IfOk result (λ read. (shape : PictureShape) × (machine.headers.frame ≡ Some shape) × (read.partial ≡ picture_of shape machine.findings.partial) × (read.pieces ≡ machine.findings.records.items) × (read.piece_count ≡ machine.findings.record_count) × (read.ended ≡ ended)) }
     ensures none { IfErr result (λ fault. (machine.headers.frame ≡ None) × (fault ≡ reader.no_picture ended)) }
 {
     let Machine {

@@ -12,6 +12,10 @@ pub step-requires : goal.step-requires
 step-requires c =
     let h = c.self.invariant c.if-self.false in
     record {
-      count_below = omega (arith, h.count_is, h.few); records_below = omega (arith, h.records_counted, h.count_is, h.few); behind = h.behind;
-      place_is = h.place_is; shape_is = held_shape _ _ _ h.gathers; header_bytes = h.header_bytes;
+      count_below = omega (arith, h.count_is, h.few);
+      records_below = omega (arith, h.records_counted, h.count_is, h.few);
+      behind = h.behind;
+      place_is = h.place_is;
+      shape_is = held_shape _ _ _ h.gathers;
+      header_bytes = h.header_bytes;
     }
