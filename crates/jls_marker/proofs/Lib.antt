@@ -1,8 +1,12 @@
 pub mod Beginning
+pub mod FaultsOf
 pub mod FirstFailing
+pub mod HeaderSteps
 pub mod Intervals
 pub mod Layouts
 pub mod ParamRanges
 pub mod ReadsBack
+pub mod SegmentLaws
+pub mod SegmentsRead
 pub mod Shapes
 pub mod WorkedRows

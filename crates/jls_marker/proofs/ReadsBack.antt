@@ -78,7 +78,7 @@ without_table : (ids : List ℕ) → list_all (λ c. c.table == 0) (map scan_com
 without_table [] = refl
 without_table (id ∷ ids) = without_table ids
 
-interleaved : (n : ℕ) (line : Bool) → (1 < n → line ≡ true)
+pub interleaved : (n : ℕ) (line : Bool) → (1 < n → line ≡ true)
     → (nat_le (if line then 1 else 0) 1 && (nat_le n 1 || ((if line then 1 else 0) == 1))) ≡ true
 interleaved n true h = or-true (nat_le n 1)
 interleaved n false h =
@@ -87,7 +87,7 @@ interleaved n false h =
       | inr le ↦ let e : nat_le n 1 ≡ true = le-leb n 1 le in rw e refl
     ]
 
-line_again : (line : Bool) → ((if line then 1 else 0) == 1) ≡ line
+pub line_again : (line : Bool) → ((if line then 1 else 0) == 1) ≡ line
 line_again true = refl
 line_again false = refl
 

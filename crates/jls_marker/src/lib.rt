@@ -6,6 +6,7 @@ mod codes;
 mod component_index;
 mod fault;
 mod headers;
+mod laws;
 mod read;
 mod scan_head;
 mod scan_plan;
@@ -15,8 +16,15 @@ mod write;
 pub use codes::has_segment;
 pub use fault::MarkerFault;
 pub use headers::Headers;
+pub use laws::{
+    frame_stays, intervals_part_the_lines, layouts_are_read, never_ended, others_count_none,
+    payloads_are_read, scans_are_in_range, scans_begin, unknown_codes, written_reads_back,
+};
 pub use read::read_segment;
 pub use scan_head::ScanHead;
 pub use scan_plan::ScanPlan;
 pub use segment::Segment;
 pub use write::write_segment;
+
+#[cfg(test)]
+mod tests;

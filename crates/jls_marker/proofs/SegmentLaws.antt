@@ -1,0 +1,29 @@
+-- The laws of segments, whole.
+use Rattle.std.proofs.Common.{◌≡◌, Ok, arith}
+use Rattle.std.specs.Int.{w32, to_be_bytes}
+use Rattle.jls_marker.specs.SegmentLaws.{LayoutsAreRead, PayloadsAreRead, WrittenReadsBack}
+use Rattle.jls_marker.specs.Segments.{preset_of, restart_of, segment_of}
+use Rattle.jls_marker.specs.Written.{payload_of, code_of, CanBeWritten, IsSegment}
+use Rattle.jls_marker.specs.declared.segment.Segment.{Segment}
+use Rattle.jls_marker.specs.declared.segment.Segment.TheVariants.{Frame, Scan, Preset, Restart, Skipped}
+use Rattle.jls_marker.proofs.Layouts.{frame_header_there, frame_header_of, scan_header_there, scan_header_of, preset_there, preset_of_layout, restart_there, restart_of_layout, preset_reads_back, restart_reads_back}
+use Rattle.jls_marker.proofs.ReadsBack.{frame_reads_back, scan_reads_back}
+use Rattle.jls_marker.proofs.SegmentsRead.{is_payload, is_read}
+
+pub layouts_are_read : LayoutsAreRead
+layouts_are_read = record {
+  frame = λ payload h b. (λ e. frame_header_there payload h b e, λ l. frame_header_of payload h l);
+  scan = λ payload h b. (λ e. scan_header_there payload h e, λ l. scan_header_of payload h l);
+  preset = λ values p b. (λ e. preset_there values p b e, λ l. preset_of_layout values p l);
+  restart = λ payload n b. (λ e. restart_there payload n b e, λ l. restart_of_layout payload n l);
+}
+
+pub payloads_are_read : PayloadsAreRead
+payloads_are_read code payload s b = (λ e. is_payload code payload s b e, λ p. is_read code payload s p)
+
+pub written_reads_back : WrittenReadsBack
+written_reads_back (Frame s) is can = frame_reads_back s is
+written_reads_back (Scan s) is can = scan_reads_back s is
+written_reads_back (Preset maxval t1 t2 t3 reset) is can = preset_reads_back maxval t1 t2 t3 reset is
+written_reads_back (Restart n) is can = restart_reads_back n is
+written_reads_back (Skipped code) is can = absurd can

@@ -1,0 +1,5 @@
+use Rattle.jls_marker.proofs.HeaderSteps
+use Rattle.jls_marker.proofs.laws.scans_are_in_range.Goals as goal
+
+pub returns : goal.returns
+returns c = HeaderSteps.scans_are_in_range
