@@ -10,8 +10,7 @@ use Rattle.jls_interval.specs.Events.{Event, above, events}
 use Rattle.jls_interval.specs.Code.{event_bits, code}
 use Rattle.jls_interval.specs.Growth.{Position, IsNext, grown, moved, interval_steps, start, finish}
 use Rattle.jls_interval.specs.PieceFaults.{NoLines}
-use Rattle.jls_interval.specs.DecodedEvent.{NoEvent}
-use Rattle.jls_interval.specs.Hands.{HandAt, EventDone}
+use Rattle.jls_interval.specs.Hands.{NoEvent, HandAt, EventDone}
 use Rattle.jls_interval.specs.Decoding.{IsWorking, IsOver, IsDead}
 use Rattle.jls_interval.specs.declared.line_reader.Hand.{Hand}
 use Rattle.jls_interval.specs.declared.line_reader.Hand.TheVariants.{Fresh}
@@ -33,26 +32,26 @@ module _ (p : CodingParameters) (ok : AreCodingParameters p) (w c n : ℕ) (some
   decoded = record { leads = h.leads; bits_are = h.bits_are; samples = h.samples; unfinished = h.unfinished }
 
   -- where no event that can come next stands at the front of what was told, no lines' code begins the bits
-  stuck : (more : List Bool) → NoEvent p (length lines % c) w (above c lines) line (h.told ++ more) h.earlier → NoLines p w c n (given ++ more)
+  stuck : (more : List Bool) → NoEvent p w (length lines % c) (above c lines) line (h.told ++ more) h.earlier → NoLines p w c n (given ++ more)
   stuck more none = λ ls rest are e.
       let d = decoded_with p w c n some given z h.told more decoded in
       let x = some_fits p w (length lines % c) (above c lines) line h.unfinished in
       refused (interval_steps p w c n) (events_apart p w c n ok) (kept p w c n) start z (finish w c ls) h.earlier (events w c ls) (h.told ++ more) rest (tt, tt) h.leads (lines_grow p w c n some ls are) (finished p w c n ls are.count_is) x.0 (h.few, x.1) (λ ev m next q. none ev m next.1 q) (sym d.bits_are ∙ e ∙ ap (λ v. v ++ rest) (code_is p w c n ls))
 
   -- a refused step: no bits that come later make it a code
-  pub working_refused : (taken : List Bool) → ((more : List Bool) → NoEvent p (length lines % c) w (above c lines) line ((h.told ++ taken) ++ more) h.earlier) → IsDead p w c n (given ++ taken)
+  pub working_refused : (taken : List Bool) → ((more : List Bool) → NoEvent p w (length lines % c) (above c lines) line ((h.told ++ taken) ++ more) h.earlier) → IsDead p w c n (given ++ taken)
   working_refused taken none = λ more.
-      subst (NoLines p w c n) (sym (append_assoc given taken more)) (stuck (taken ++ more) (subst (λ v. NoEvent p (length lines % c) w (above c lines) line v h.earlier) (append_assoc h.told taken more) (none more)))
+      subst (NoLines p w c n) (sym (append_assoc given taken more)) (stuck (taken ++ more) (subst (λ v. NoEvent p w (length lines % c) (above c lines) line v h.earlier) (append_assoc h.told taken more) (none more)))
 
   -- what was told is no whole event
-  none_whole : NoEvent p (length lines % c) w (above c lines) line h.told h.earlier
+  none_whole : NoEvent p w (length lines % c) (above c lines) line h.told h.earlier
   none_whole =
       hand_none p ok w (length lines % c) (above c lines) (small_back p lines c h.samples.0) line h.unfinished cells run_indices h.earlier h.is_after (λ e fits. event_some p w c n z e h.unfinished (h.few, fits)) hand h.told h.hand_at
 
   -- the end of the input while lines are still to come
   pub working_ends : NoLines p w c n given
   working_ends =
-      subst (NoLines p w c n) (append-nil given) (stuck [] (subst (λ v. NoEvent p (length lines % c) w (above c lines) line v h.earlier) (sym (append-nil h.told)) none_whole))
+      subst (NoLines p w c n) (append-nil given) (stuck [] (subst (λ v. NoEvent p w (length lines % c) (above c lines) line v h.earlier) (sym (append-nil h.told)) none_whole))
 
   -- more bits of the event in hand
   pub working_more : (taken : List Bool) (hand' : Hand) → HandAt p w (above c lines) line cells (get_or run_indices (length lines % c) 0) hand' (h.told ++ taken) → IsWorking p w c n (given ++ taken) lines line cells run_indices hand'

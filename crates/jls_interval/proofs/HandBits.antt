@@ -16,14 +16,13 @@ use Rattle.jls_interval.specs.Code.{event_bits, interrupted_run_bits}
 use Rattle.jls_bits.specs.Bits.{bits}
 use Rattle.jls_interval.specs.Growth.{Fits}
 use Rattle.jls_interval.specs.Reading.{NoSample, NoInterruption}
-use Rattle.jls_interval.specs.DecodedEvent.{NoEvent}
 use Rattle.jls_interval.specs.RunState.{RunAt}
 use Rattle.jls_interval.specs.declared.run_reader.RunState.{RunState}
 use Rattle.jls_interval.specs.declared.run_reader.RunState.TheVariants.{Blocks as AtBlocks}
 use Rattle.jls_bits.specs.declared.code_state.CodeState.{CodeState}
 use Rattle.jls_bits.specs.declared.code_state.CodeState.TheVariants.{Zeros}
 use Rattle.jls_interval.specs.After.{IsAfter}
-use Rattle.jls_interval.specs.Hands.{now_at, behind, HandAt, EventStepIs, EventPushed}
+use Rattle.jls_interval.specs.Hands.{NoEvent, now_at, behind, HandAt, EventStepIs, EventPushed}
 use Rattle.jls_interval.specs.declared.line_reader.LineReader.{LineReader}
 use Rattle.jls_interval.specs.declared.line_reader.EventStep.{EventStep}
 use Rattle.jls_interval.specs.declared.line_reader.Hand.{Hand}
@@ -65,7 +64,7 @@ start_open k g q room = (omega arith, λ e. (let z : 0 ≡ g - q - 1 = e in absu
 
 -- where no sample stands at the front, no event does
 pub no_sample_no_event : (p : CodingParameters) (w k : ℕ) (up : Above) (line : List ℕ) (cells : Variables) (ri : List ℕ) (earlier : List Event) → IsAfter p cells ri earlier → (told : List Bool) → is_run_mode (now_at w up line) ≡ false
-    → NoSample p (cell_at cells (context p (now_at w up line))) (now_at w up line) told → NoEvent p k w up line told earlier
+    → NoSample p (cell_at cells (context p (now_at w up line))) (now_at w up line) told → NoEvent p w k up line told earlier
 no_sample_no_event p w k up line cells ri earlier t told mode none (regular n s) rest fits e =
     sample_missing p cells ri earlier t (now_at w up line) told none s rest fits.2 (e ∙ ap (λ (z : Neighbours). event_bits p earlier (regular z s) ++ rest) fits.1)
 no_sample_no_event p w k up line cells ri earlier t told mode none (run_to_end k' c) rest fits e = true_false (is_run_mode (now_at w up line)) fits.0 mode
@@ -78,7 +77,7 @@ module _ (p : CodingParameters) (ok : AreCodingParameters p) (w k : ℕ) (up : A
   w0_is : length line + (w - length line) ≡ w
   w0_is = omega arith
 
-  pub hand_none : (some : (e : Event) → Fits p w k up line (now_at w up line) e → event_bits p earlier e ≡ [] → ⊥) (hand : Hand) (told : List Bool) → HandAt p w up line cells r hand told → NoEvent p k w up line told earlier
+  pub hand_none : (some : (e : Event) → Fits p w k up line (now_at w up line) e → event_bits p earlier e ≡ [] → ⊥) (hand : Hand) (told : List Bool) → HandAt p w up line cells r hand told → NoEvent p w k up line told earlier
   hand_none some Fresh told h = λ e rest fits is. some e fits (nothing_else (event_bits p earlier e) rest (sym h ∙ is))
   hand_none some (Sample code) told h =
       let room = limit_room p 0 (omega arith) in
@@ -103,3 +102,11 @@ run_then k up old new told first chunk middle unread earlier step e h = record {
   step_is = subst (λ z. EventStepIs k up old new z earlier step) (append_assoc told first h.taken) h.step_is;
   all = h.all;
 }
+
+-- a sample of a run more at the end
+pub run_pushed : (xs line : List ℕ) (i v : ℕ) → line ≡ xs ++ replicate i v → (next : List ℕ) → next ≡ line ++ v ∷ [] → next ≡ xs ++ replicate (i + 1) v
+run_pushed xs line i v h next e = e ∙ ap (λ z. z ++ v ∷ []) h ∙ append_assoc xs (replicate i v) (v ∷ []) ∙ ap (λ z. xs ++ z) (more i)
+  where
+    more : (n : ℕ) → replicate n v ++ v ∷ [] ≡ replicate (n + 1) v
+    more zero = refl
+    more (suc n) = let e : suc n + 1 ≡ suc (n + 1) = omega arith in ap (λ z. v ∷ z) (more n) ∙ ap (λ z. replicate z v) (sym e)

@@ -6,8 +6,7 @@ use Rattle.jls_values.specs.Params.{AreCodingParameters}
 use Rattle.jls_context.specs.Variables.{Variables}
 use Rattle.jls_interval.specs.Events.{Event, Above, above}
 use Rattle.jls_interval.specs.After.{IsAfter}
-use Rattle.jls_interval.specs.DecodedEvent.{NoEvent}
-use Rattle.jls_interval.specs.Hands.{HandAt, Holds, EventDone, EventPushed}
+use Rattle.jls_interval.specs.Hands.{NoEvent, HandAt, Holds, EventDone, EventPushed}
 use Rattle.jls_interval.specs.Decoding.{IsWorking, IsDead, StateIs, IsReading, TakesAll, TakesEvent, HasShape}
 use Rattle.jls_interval.specs.declared.line_reader.Hand.{Hand}
 use Rattle.jls_interval.specs.declared.line_reader.Hand.TheVariants.{Fresh}
@@ -130,7 +129,7 @@ module _ (p : CodingParameters) (d : IntervalReader) (given : List Bool) (h : Is
     pub refused_state : Pushes k up Refused → IsDead p w n d.count (given ++ chunk)
     refused_state all =
         let e = pushed Refused all in
-        let dead = working_refused p in_range w n d.count h.width_at_least given lines line cells run_indices d.reader.hand working e.taken (λ more. subst (λ q. NoEvent q component w (above n lines) line ((working.told ++ e.taken) ++ more) working.earlier) h.parameters (e.step_is.1 more)) in
+        let dead = working_refused p in_range w n d.count h.width_at_least given lines line cells run_indices d.reader.hand working e.taken (λ more. subst (λ q. NoEvent q w component (above n lines) line ((working.told ++ e.taken) ++ more) working.earlier) h.parameters (e.step_is.1 more)) in
         subst (IsDead p w n d.count) (append_assoc given e.taken unread ∙ ap (λ z. given ++ z) (sym e.chunk_is)) (dead_more p w n d.count (given ++ e.taken) unread dead)
 
     -- the event is whole

@@ -28,11 +28,6 @@ pub mod HandBits
 pub mod Decoding
 pub mod IntervalReading
 pub mod Finishing
-pub mod DecodedEvents
-pub mod LineSteps
-pub mod DecodedLine
-pub mod DecodedLines
-pub mod DecodedPieces
 pub mod PackedLines
 pub mod WrittenRuns
 pub mod EncodedEvents

@@ -65,37 +65,3 @@ full_end r0 w0 given r w t e =
 pub next_block : (r0 w0 : ℕ) (given : List Bool) (r w b : ℕ) → Taken r0 w0 given r w (true ∷ []) → b ≡ 2 ^ run_order r → b ≤ w → Taken r0 w0 given (risen r) (w - b) []
 next_block r0 w0 given r w b t e l =
     subst (λ z. Taken r0 w0 given (risen r) (w - z) []) (sym e) (taken_more r0 w0 given r w (true ∷ []) t [] (subst (λ z. z ≤ w) e l) refl)
-
--- Bits that are told from the front of others ----------------------------------------
-
--- some bits were told, and the others are unread
-pub record Told (s : RunState) (r0 w0 : ℕ) (before unread : List Bool) : Type 0 where
-  pub given : List Bool
-  pub before_is : before ≡ given ++ unread
-  pub at : RunAt r0 w0 given s
-
-split : (given left left' : List Bool) (b : Bool) (before : List Bool) → before ≡ given ++ left → left ≡ b ∷ left' → before ≡ (given ++ b ∷ []) ++ left'
-split given left left' b before h e = h ∙ ap (λ z. given ++ z) e ∙ sym (append_assoc given (b ∷ []) left')
-
-module _ (s : RunState) (r0 w0 : ℕ) (before left : List Bool) (a : Told s r0 w0 before left) (b : Bool) (left' : List Bool) (e : left ≡ b ∷ left') where
-  pub told_more : (s' : RunState) → ((r0 : ℕ) (given : List Bool) → RunAt r0 w0 given s → RunAt r0 w0 (given ++ b ∷ []) s') → Told s' r0 w0 before left'
-  told_more s' f = record { given = a.given ++ b ∷ []; before_is = split a.given left left' b before a.before_is e; at = f r0 a.given a.at }
-
-  pub told_done : (run : Run) → ((r0 : ℕ) (given : List Bool) → RunAt r0 w0 given s → RunIs r0 w0 (given ++ b ∷ []) [] run) → RunIs r0 w0 before left' run
-  told_done (ToEnd r) f =
-      let g = f r0 a.given a.at in
-      (split a.given left left' b before a.before_is e ∙ ap (λ z. z ++ left') (g.0 ∙ append-nil (run_to_end_bits (blocks r0 w0))), g.1)
-  told_done (Interrupted count r) f =
-      let g = f r0 a.given a.at in let q = blocks r0 count in
-      (g.0, split a.given left left' b before a.before_is e ∙ ap (λ z. z ++ left') (g.1 ∙ append-nil (replicate q.full_blocks true ++ false ∷ bits (run_order q.run_index) q.remaining)), g.2)
-
-  pub told_refused : ((r0 : ℕ) (given : List Bool) → RunAt r0 w0 given s → (more : List Bool) → NoRun r0 w0 ((given ++ b ∷ []) ++ more)) → NoRun r0 w0 before
-  told_refused f = subst (λ z. NoRun r0 w0 z) (sym (split a.given left left' b before a.before_is e)) (f r0 a.given a.at left')
-
--- the bits end
-pub told_all : (s : RunState) (r0 w0 : ℕ) (before left : List Bool) → Told s r0 w0 before left → IsRunState w0 s → left ≡ [] → NoRun r0 w0 before
-told_all s r0 w0 before left a i e =
-    subst (λ z. NoRun r0 w0 z) (sym (a.before_is ∙ ap (λ z. a.given ++ z) e ∙ append-nil a.given)) (no_whole r0 w0 a.given s i a.at)
-
-pub told_none : (r w : ℕ) (before : List Bool) → r ≤ 31 → Told (Blocks r w) r w before before
-told_none r w before small = record { given = []; before_is = refl; at = taken_start r w [] small }

@@ -42,11 +42,6 @@ regular_wrong p ok cell near given m t has is none = λ s rest l e.
     let h = golomb_same (regular_k cell) (limit p) (qbpp p) (regular_mapped cell v) m rest t (regular_has p ok cell near s l) has (sym e ∙ is) in
     none v (error_range p (is_negative p near) s (regular_prediction p cell near)) h.0
 
-pub regular_right : (p : CodingParameters) (cell : Cell) (near : Neighbours) (given : List Bool) (m : ℕ) (t : List Bool) (s : ℕ) (e : ℤ)
-    → given ≡ golomb (regular_k cell) (limit p) (qbpp p) m ++ t → regular_mapped cell e ≡ m → regular_error p cell near s ≡ e → given ≡ regular_bits p cell near s ++ t
-regular_right p cell near given m t s e is a b =
-    is ∙ ap (λ z. golomb (regular_k cell) (limit p) (qbpp p) z ++ t) (sym a) ∙ ap (λ z. golomb (regular_k cell) (limit p) (qbpp p) (regular_mapped cell z) ++ t) (sym b)
-
 -- Interrupting samples ---------------------------------------------------------
 
 module _ (p : CodingParameters) (ok : AreCodingParameters p) (cell : RunCell) (near : Neighbours) (b_small : near.rb ≤ p.maxval) (j : ℕ) (few : j ≤ 15) where
@@ -86,15 +81,6 @@ module _ (p : CodingParameters) (ok : AreCodingParameters p) (cell : RunCell) (n
     pub interruption_right : (s : ℕ) (v : ℤ) → interruption_mapped (is_same near) cell v ≡ m → interruption_error p near s ≡ v → given ≡ interrupting_bits p cell near j s ++ t
     interruption_right s v a b = is ∙ ap (λ z. golomb k g (qbpp p) z ++ t) (sym a) ∙ ap (λ z. golomb k g (qbpp p) (interruption_mapped (is_same near) cell z) ++ t) (sym b)
 
--- What is read, in terms of what the code computed ------------------------------------
-
--- no code stands at the front
-abbrev pub NoCode : List Bool → ℕ → ℕ → ℕ → Type 0
-NoCode given k g q = (m : ℕ) (rest : List Bool) → has_golomb k g q m ≡ true → given ≡ golomb k g q m ++ rest → ⊥
-
--- the code of m does
-abbrev pub Code : List Bool → List Bool → ℕ → ℕ → ℕ → ℕ → Type 0
-Code given t m k g q = (has_golomb k g q m ≡ true) × (given ≡ golomb k g q m ++ t)
-
+-- the same at equal arguments
 pub along : (P : ℕ → ℕ → ℕ → Type 0) (k k' g g' q q' : ℕ) → k ≡ k' → g ≡ g' → q ≡ q' → P k g q → P k' g' q'
 along P k k' g g' q q' a b c h = subst (λ z. P z g' q') a (subst (λ z. P k z q') b (subst (λ z. P k g z) c h))

@@ -14,7 +14,6 @@ use Rattle.jls_interval.specs.Code.{event_bits}
 use Rattle.jls_interval.specs.Growth.{Fits, added}
 use Rattle.jls_interval.specs.After.{IsAfter}
 use Rattle.jls_interval.specs.RunState.{IsRunState, RunIs, RunAt}
-use Rattle.jls_interval.specs.DecodedEvent.{NoEvent}
 use Rattle.jls_interval.specs.declared.run_reader.Run.TheVariants.{Interrupted}
 use Rattle.jls_interval.specs.declared.line_reader.Hand.{Hand}
 use Rattle.jls_interval.specs.declared.line_reader.Hand.TheVariants.{Fresh, Sample, InRun, Interruption}
@@ -45,6 +44,11 @@ abbrev pub Holds : ℕ → Above → LineReader → List Bool → Type 0
 Holds component up reader told =
     HandAt reader.coder.cells.parameters reader.width up reader.line.items reader.coder.cells (get_or reader.coder.run_indices component 0) reader.hand told
 
+-- no event that can come next stands at the front of the bits
+abbrev pub NoEvent : CodingParameters → ℕ → ℕ → Above → List ℕ → List Bool → List Event → Type 0
+NoEvent p w component up line given earlier =
+    (event : Event) (rest : List Bool) → Fits p w component up line (now_at w up line) event → given ≡ event_bits p earlier event ++ rest → ⊥
+
 -- the bits are an event's that can come next, the line grew by its samples, and these are the variables and RUNindices after it
 pub record EventDone (p : CodingParameters) (w component : ℕ) (up : Above) (line line' : List ℕ) (cells' : Variables) (run_indices' : List ℕ) (told : List Bool) (earlier : List Event) : Type 0 where
   pub event : Event
@@ -60,7 +64,7 @@ EventStepIs component up old new told earlier More =
 EventStepIs component up old new told earlier Moved =
     EventDone old.coder.cells.parameters old.width component up old.line.items new.line.items new.coder.cells new.coder.run_indices told earlier × (new.hand ≡ Fresh)
 EventStepIs component up old new told earlier Refused =
-    (new.line.items ≡ old.line.items) × ((more : List Bool) → NoEvent old.coder.cells.parameters component old.width up old.line.items (told ++ more) earlier)
+    (new.line.items ≡ old.line.items) × ((more : List Bool) → NoEvent old.coder.cells.parameters old.width component up old.line.items (told ++ more) earlier)
 
 -- an event that isn't whole has taken all bits
 abbrev pub HasTakenAll : EventStep → List Bool → Type 0

@@ -11,8 +11,6 @@ pub mod Fits
 pub mod Growth
 pub mod Laws
 pub mod RunState
-pub mod DecodedEvent
-pub mod DecodedLine
 pub mod PieceFaults
 pub mod After
 pub mod Place

@@ -1,17 +1,10 @@
-//! Reading the lines of an interval.
+//! Reading the lines of an interval whose bytes are all there.
 
-ghost use Rattle.std.specs.Prelude.{◌≡◌, ◌+◌, ◌*◌, ◌^◌, ◌<◌, ◌≤◌, ◌++◌, ℕ, List, Bool, map, IfOk, IfErr, IfSome, IfNone, MatchResult};
-ghost use Rattle.jls_values.specs.Params.{AreCodingParameters};
-ghost use Rattle.jls_interval.specs.Code.{code};
-ghost use Rattle.jls_interval.specs.Lines.{AreLines};
+ghost use Rattle.std.specs.Prelude.{◌≡◌, ◌*◌, ◌^◌, ◌≤◌, ℕ, List, map, IfOk, IfErr, MatchResult};
 ghost use Rattle.jls_interval.specs.Reads.{Reads};
-ghost use Rattle.jls_interval.specs.PieceFaults.{FaultIs, NoLines};
+ghost use Rattle.jls_interval.specs.PieceFaults.{FaultIs};
 
-use crate::code_lengths::CodeLengths;
-use crate::decode_line::read_line;
-use crate::neighbours::line_back;
-use jls_bits::BitReader;
-use jls_context::Cells;
+use crate::interval_decoder::IntervalDecoder;
 use jls_values::Params;
 use std::alloc::{AllocError, Global};
 use thiserror::Error;
@@ -28,58 +21,6 @@ pub enum PieceFault {
     /// Memory was refused. Nothing is said of the bytes.
     #[error("out of memory")]
     OutOfMemory,
-}
-
-/// A law: parameters are in their ranges.
-fn are_in_range(params: &Params)
-    ensures { AreCodingParameters params.now }
-{
-    let _maxval = params.maxval();
-}
-
-/// Reads the lines whose code stands at the front of what is left. None where none stands there.
-fn read_lines(
-    alloc: Global,
-    reader: &mut BitReader<'_>,
-    params: &Params,
-    width: usize,
-    components: usize,
-    count: usize,
-) -> Result<Option<Vec<Vec<u16>>>, AllocError>
-    requires ranges { AreCodingParameters params.now }
-    requires width { (1 ≤ width) × (width < 2 ^ 16) }
-    requires components { (1 ≤ components) × (components ≤ 4) }
-    requires count { (1 ≤ count) × (count ≤ 2 ^ 28) }
-    ensures lines { IfOk result (λ o. IfSome o (λ v. AreLines params.now width count (map (λ v. v.items) v.items))) }
-    ensures code { IfOk result (λ o. IfSome o (λ v. reader.old.left ≡ code params.now width components (map (λ v. v.items) v.items) ++ reader.new.left)) }
-    ensures none { IfOk result (λ o. IfNone o (NoLines params.now width components count reader.old.left)) }
-    ensures whole { reader.new.whole ≡ reader.old.whole }
-{
-    let lengths = CodeLengths::of(params);
-    let mut cells = Cells::new(params);
-    let mut run_indices = [0u8; 4];
-    let mut lines: Vec<Vec<u16>> = Vec::new(alloc);
-    for j in 0..count {
-        let component = j % components;
-        let line_above = line_back(&lines, components);
-        let line_two_above = line_back(&lines, 2 * components);
-        let mut line: Vec<u16> = Vec::new(alloc);
-        match read_line(
-            reader,
-            &mut cells,
-            lengths,
-            run_indices[component],
-            line_above,
-            line_two_above,
-            &mut line,
-            width,
-        )? {
-            None => return Ok(None),
-            Some(after) => run_indices[component] = after,
-        }
-        lines.push(line)?;
-    }
-    Ok(Some(lines))
 }
 
 /// Reads the bytes of an interval as its lines: row by row, and in a row by component, each of
@@ -104,26 +45,9 @@ pub fn decode_interval(
     ensures fault { IfErr result (λ fault. FaultIs fault params.now width components (rows * components) piece.now) }
     ensures read { (lines : List (List ℕ)) → Reads params.now width components (rows * components) piece.now lines → MatchResult result (λ v. map (λ v. v.items) v.items ≡ lines) (λ fault. fault ≡ PieceFault.OutOfMemory) }
 {
-    are_in_range(params);
-    let count = rows as usize * usize::from(components);
-    let mut reader = BitReader::over(piece);
-    let lines = match read_lines(
-        alloc,
-        &mut reader,
-        params,
-        usize::from(width),
-        usize::from(components),
-        count,
-    ) {
-        Err(AllocError) => return Err(PieceFault::OutOfMemory),
-        Ok(None) => return Err(PieceFault::Broken),
-        Ok(Some(lines)) => lines,
-    };
-    if !reader.is_whole() {
-        return Err(PieceFault::Broken);
+    let mut decoder = IntervalDecoder::new(alloc, params, width, components, rows);
+    match decoder.push_all(piece) {
+        Err(AllocError) => Err(PieceFault::OutOfMemory),
+        Ok(()) => decoder.finish(),
     }
-    if reader.left() > 7 {
-        return Err(PieceFault::Long);
-    }
-    Ok(lines)
 }

@@ -3,10 +3,7 @@
 
 mod code_lengths;
 mod coder;
-mod decode_event;
-mod decode_line;
 mod decode_piece;
-mod decode_sample;
 mod encode;
 mod encode_line;
 mod encode_run;

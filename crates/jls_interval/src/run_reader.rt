@@ -1,13 +1,12 @@
-//! Reading a run, as a machine that is told one bit after another (ITU-T T.87, A.7.1).
+//! Reading a run, a few bits at a time (ITU-T T.87, A.7.1).
 
-ghost use Rattle.std.specs.Prelude.{◌≡◌, ℕ, ◌^◌, ◌<◌, ◌≤◌, Bool, true, List, [], ◌∷◌, ◌++◌, IfSome, IfNone};
-ghost use Rattle.jls_interval.specs.Reading.{NoRun};
+ghost use Rattle.std.specs.Prelude.{◌≡◌, ℕ, ◌^◌, ◌<◌, ◌≤◌, Bool, true, List, [], ◌∷◌, ◌++◌};
 ghost use Rattle.jls_interval.specs.RunState.{IsRun, IsRunState, IsRunStep, RunIs, RunAt, RunStepIs};
 ghost use Rattle.jls_interval.specs.RunChunks.{RunPushed};
 ghost use Rattle.jls_interval.specs.declared.run_reader.RunState.TheVariants.{Blocks, Count};
 
 use crate::run_index::{block_columns, raised, run_order};
-use jls_bits::{BitReader, Chunk};
+use jls_bits::Chunk;
 
 /// A run that was read, without the sample that interrupts it, and RUNindex after its full blocks.
 #[derive(Clone, Copy)]
@@ -154,28 +153,4 @@ fn push_to_count(
     } else {
         RunStep::Refused
     }
-}
-
-/// Reads the run that stands at the front of what is left, from this RUNindex on, where the line has
-/// `width` columns left. None where no run stands there; the reader has then gone past some bits.
-pub(crate) fn read_run(reader: &mut BitReader<'_>, run_index: u8, width: u32) -> Option<Run>
-    requires run_index { run_index ≤ 31 }
-    requires width { 0 < width }
-    ensures some { IfSome result (λ run. RunIs run_index width reader.old.left reader.new.left run) }
-    ensures run { IfSome result (λ run. IsRun width run) }
-    ensures none { IfNone result (NoRun run_index width reader.old.left) }
-    ensures whole { reader.new.whole ≡ reader.old.whole }
-{
-    let mut state = RunState::Blocks {
-        run_index,
-        columns: width,
-    };
-    while let Some(bit) = reader.read_bit() {
-        match state.push(width, bit) {
-            RunStep::More(next) => state = next,
-            RunStep::Done(run) => return Some(run),
-            RunStep::Refused => return None,
-        }
-    }
-    None
 }

@@ -7,6 +7,81 @@ use jls_values::Params;
 use std::alloc::Global;
 use std::test::Fail;
 
+/// What a decoder answers that is given the piece by slices of this length.
+fn by_slices(
+    alloc: Global,
+    params: &Params,
+    shape: (u16, u8, u32),
+    piece: &[u8],
+    length: usize,
+) -> Result<Vec<Vec<u16>>, PieceFault>
+    requires width { 1 ≤ shape.0 }
+    requires components_at_least { 1 ≤ shape.1 }
+    requires components_at_most { shape.1 ≤ 4 }
+    requires rows { 1 ≤ shape.2 }
+    requires samples { shape.0 * shape.1 * shape.2 ≤ 2 ^ 28 }
+    requires length { 1 ≤ length }
+{
+    let (width, components, rows) = shape;
+    let mut decoder = IntervalDecoder::new(alloc, params, width, components, rows);
+    for slice in piece.chunks(length) {
+        if decoder.push_all(slice).is_err() {
+            return Err(PieceFault::OutOfMemory);
+        }
+    }
+    decoder.finish()
+}
+
+/// What a decoder answers that is given the piece byte by byte.
+fn by_bytes(
+    alloc: Global,
+    params: &Params,
+    shape: (u16, u8, u32),
+    piece: &[u8],
+) -> Result<Vec<Vec<u16>>, PieceFault>
+    requires width { 1 ≤ shape.0 }
+    requires components_at_least { 1 ≤ shape.1 }
+    requires components_at_most { shape.1 ≤ 4 }
+    requires rows { 1 ≤ shape.2 }
+    requires samples { shape.0 * shape.1 * shape.2 ≤ 2 ^ 28 }
+{
+    let (width, components, rows) = shape;
+    let mut decoder = IntervalDecoder::new(alloc, params, width, components, rows);
+    for byte in piece {
+        if decoder.push(*byte).is_err() {
+            return Err(PieceFault::OutOfMemory);
+        }
+    }
+    decoder.finish()
+}
+
+/// What the piece reads as, where it is given whole, byte by byte and by slices of every length. Two answers
+/// that differ are out of memory.
+fn decoded(
+    alloc: Global,
+    params: &Params,
+    shape: (u16, u8, u32),
+    piece: &[u8],
+) -> Result<Vec<Vec<u16>>, PieceFault>
+    requires width { 1 ≤ shape.0 }
+    requires components_at_least { 1 ≤ shape.1 }
+    requires components_at_most { shape.1 ≤ 4 }
+    requires rows { 1 ≤ shape.2 }
+    requires samples { shape.0 * shape.1 * shape.2 ≤ 2 ^ 28 }
+{
+    let (width, components, rows) = shape;
+    let whole = decode_interval(alloc, params, width, components, rows, piece);
+    if by_bytes(alloc, params, shape, piece) != whole {
+        return Err(PieceFault::OutOfMemory);
+    }
+    for length in 1..=piece.len() {
+        if by_slices(alloc, params, shape, piece, length) != whole {
+            return Err(PieceFault::OutOfMemory);
+        }
+    }
+    whole
+}
+
 fn reads_as(
     alloc: Global,
     params: &Params,
@@ -22,7 +97,7 @@ fn reads_as(
     requires rows { 1 ≤ rows }
     requires samples { width * components * rows ≤ 2 ^ 28 }
 {
-    match decode_interval(alloc, params, width, components, rows, piece) {
+    match decoded(alloc, params, (width, components, rows), piece) {
         Err(_) => false,
         Ok(read) => {
             if read.len() != lines.len() {
@@ -44,7 +119,7 @@ fn fault(alloc: Global, params: &Params, width: u16, rows: u32, piece: &[u8]) ->
     requires rows { 1 ≤ rows }
     requires samples { width * 1 * rows ≤ 2 ^ 28 }
 {
-    decode_interval(alloc, params, width, 1, rows, piece).err()
+    decoded(alloc, params, (width, 1, rows), piece).err()
 }
 
 /// Samples of 8 bits, and the pieces of intervals that have nothing else.

@@ -1,4 +1,4 @@
-use Rattle.jls_interval.proofs.DecodedEvents.{run_pushed}
+use Rattle.jls_interval.proofs.HandBits.{run_pushed}
 use Rattle.jls_interval.proofs.push_event.push_run.Goals as goal
 
 pub loop-column-preserved : goal.loop-column-preserved
