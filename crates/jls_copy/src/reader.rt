@@ -38,8 +38,12 @@ pub struct CopyRead {
 
 impl Model for CopyRead {
     ghost use Rattle.jls_copy.specs.ReadCopy.{ReadCopy};
+    ghost use Rattle.jls_partial.specs.Partial.{coded_partial};
+    ghost use Rattle.std.specs.Coded.{codes};
 
     ghost Value = { ReadCopy };
+
+    ghost coded = { Prim.hlevel (codes, coded_partial) };
 
     ghost view = { λ r. record { partial = r.partial; pieces = r.pieces.items; piece_count = r.piece_count; ended = r.ended } };
 }
