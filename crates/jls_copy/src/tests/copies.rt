@@ -157,6 +157,9 @@ fn bytes_of(alloc: Global, text: &str) -> Result<Vec<u8>, Fail> {
 /// What a reader says of a copy that comes in pieces of this size.
 fn read_in_pieces(alloc: Global, bytes: &[u8], size: usize) -> Result<CopyRead, CopyFault> {
     let mut reader = CopyReader::new(alloc);
+    if size == 0 {
+        return reader.finish();
+    }
     for piece in bytes.chunks(size) {
         if reader.feed(piece).is_err() {
             return Err(CopyFault::OutOfMemory);
@@ -168,6 +171,10 @@ fn read_in_pieces(alloc: Global, bytes: &[u8], size: usize) -> Result<CopyRead, 
 /// The readings of one line.
 fn put_line(out: &mut String, read: &CopyRead, component: u8, line: u16) -> Result<(), Fail> {
     let partial = read.partial();
+    let shape = partial.shape();
+    if usize::from(component) >= shape.ids().len() || line >= shape.height() {
+        return Ok(());
+    }
     for i in 0..partial.count(component, line) {
         write!(
             out,
