@@ -18,6 +18,7 @@ pub use golomb::{
     golomb_codes_are_limited, no_golomb_code_begins_another, read_golomb, write_golomb,
 };
 pub use golomb_reader::{GolombReader, GolombStep};
+pub use pushed::PushedBytes;
 pub use reader::{BitReader, data_bits_end_at_a_marker};
 pub use unstuffer::Unstuffer;
 pub use writer::{BitWriter, bits_have_one_pad};

@@ -13,7 +13,7 @@ pub(crate) struct NextBytes<'a> {
 
 /// The bytes so far, which only clauses read. They take no memory, and the methods do nothing when the program runs.
 #[derive(Drop)]
-pub(crate) struct PushedBytes {
+pub struct PushedBytes {
     pub ghost list: { List ℕ },
 }
 
@@ -23,7 +23,7 @@ impl Model for PushedBytes {
 
 impl PushedBytes {
     /// No byte.
-    pub(crate) fn new() -> PushedBytes
+    pub fn new() -> PushedBytes
         ensures { result.list ≡ [] }
     {
         PushedBytes {}
@@ -37,7 +37,7 @@ impl PushedBytes {
     }
 
     /// Notes a byte.
-    pub(crate) fn note(&mut self, byte: u8)
+    pub fn note(&mut self, byte: u8)
         ensures { self.new.list ≡ self.old.list ++ byte ∷ [] }
     {
         let byte = [byte];

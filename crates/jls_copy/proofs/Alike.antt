@@ -1,0 +1,56 @@
+-- Two FF bytes stand for any longer run: a piece with two FF in a row has no data bits, whatever stands round them.
+use Rattle.std.proofs.Common.{◌≡◌, ℕ, zero, suc, ◌+◌, ◌*◌, ◌<◌, ◌≤◌, Bool, true, false, not, ◌&&◌, List, [], ◌∷◌, ◌++◌, length, replicate, refl, sym, ap, ◌∙◌, subst, append_assoc, arith, ◌⊎◌, inl, inr}
+use Rattle.jls_bits.specs.Bits.{is_whole, is_whole_after, ends_data}
+use Rattle.jls_interval.specs.Reads.{Reads, IsLong, IsBroken}
+use Rattle.jls_marker.specs.Scan.{Scan}
+use Rattle.jls_copy.specs.Numbers.{Interval, BeyondLast}
+use Rattle.jls_copy.specs.ScanData.{fill_bytes}
+use Rattle.jls_copy.specs.Pieces.{Outcome, Lines, Fault, IsOutcomeAt}
+use Rattle.jls_copy.specs.ReaderState.{held_bytes}
+use Rattle.jls_copy.specs.Tells.{SameBytes, HeldIs}
+use Rattle.jls_copy.specs.declared.piece.PieceKind.TheVariants as kind
+use Rattle.jls_copy.specs.declared.scan.Held.{Held}
+use Rattle.jls_copy.specs.declared.scan.Held.TheVariants.{Nothing, One, More}
+
+and_false : (b : Bool) → (b && false) ≡ false
+and_false true = refl
+and_false false = refl
+
+and_front : (b c d : Bool) → (c ≡ false → d ≡ false) → (b && c) ≡ false → (b && d) ≡ false
+and_front true c d f e = f e
+and_front false c d f e = refl
+
+unwhole_append : (before : ℕ) (xs ys : List ℕ) → is_whole_after before xs ≡ false → is_whole_after before (xs ++ ys) ≡ false
+unfolding is_whole_after
+unwhole_append before [] ys e = cc
+unwhole_append before (x ∷ xs) ys e = and_front (not (ends_data before x)) (is_whole_after x xs) (is_whole_after x (xs ++ ys)) (unwhole_append x xs ys) e
+
+two_break : (before : ℕ) (xs ys : List ℕ) → is_whole_after before (xs ++ (255 ∷ 255 ∷ ys)) ≡ false
+unfolding is_whole_after ends_data
+two_break before [] ys = and_false (not (ends_data before 255))
+two_break before (x ∷ xs) ys = ap (λ t. not (ends_data before x) && t) (two_break x xs ys) ∙ and_false (not (ends_data before x))
+
+same_equal : (told piece : List ℕ) (n b : ℕ) → told ≡ piece → (held : Held) → HeldIs held n → SameBytes (told ++ (held_bytes held ++ b ∷ [])) (piece ++ (fill_bytes n ++ b ∷ []))
+same_equal told piece n b e Nothing h = inl (rw (h, e) refl)
+same_equal told piece n b e One h = inl (rw (h, e) refl)
+same_equal told piece n b e More (m, h) = inr (two_break 0 told (b ∷ []), rw h (two_break 0 piece (fill_bytes m ++ b ∷ [])))
+
+-- what is told goes on as the piece does
+pub same_more : (told piece : List ℕ) (held : Held) (n b : ℕ) → HeldIs held n → SameBytes told piece
+    → SameBytes (told ++ (held_bytes held ++ b ∷ [])) (piece ++ (fill_bytes n ++ b ∷ []))
+same_more told piece held n b h (inl e) = same_equal told piece n b e held h
+same_more told piece held n b h (inr e) = inr (unwhole_append 0 told (held_bytes held ++ b ∷ []) e.0, unwhole_append 0 piece (fill_bytes n ++ b ∷ []) e.1)
+
+never_both : (b : Bool) → b ≡ true → b ≡ false → ⊥
+never_both b e f = let g : true ≡ false = sym e ∙ f in cc
+
+-- and so has the same outcome
+pub same_outcome : (s : Scan) (k : ℕ) (told piece : List ℕ) (o : Outcome) → SameBytes told piece → IsOutcomeAt s (Interval k) told o → IsOutcomeAt s (Interval k) piece o
+same_outcome s k told piece o (inl e) h = subst (λ bytes. IsOutcomeAt s (Interval k) bytes o) e h
+same_outcome s k told piece (Lines lines) (inr e) h = absurd (never_both (is_whole told) h.begins.data_bits.whole e.0)
+same_outcome s k told piece (Fault kind.Long) (inr e) h = absurd (never_both (is_whole told) h.begins.data_bits.whole e.0)
+same_outcome s k told piece (Fault kind.Broken) (inr e) h = record {
+  not_read = λ lines r. never_both (is_whole piece) r.begins.data_bits.whole e.1;
+  not_long = λ r. never_both (is_whole piece) r.begins.data_bits.whole e.1;
+}
+same_outcome s k told piece (Fault kind.Beyond) (inr e) h = h

@@ -1,0 +1,34 @@
+-- Worked cuts and numbers, computed.
+use Rattle.std.proofs.Common.{◌≡◌, true, false, [], ◌∷◌, refl, lit<, map, arith}
+use Rattle.jls_copy.specs.ScanData.{ScanCut, at_input, at_marker, IsCut, is_restart_code, ends_scan_data}
+use Rattle.jls_copy.specs.Numbers.{Interval, BeyondLast, numbers_behind}
+
+-- the codes that cut scan data, and some that don't: SOI, the frame's code and 0x7F stay in the piece
+codes_told : map is_restart_code (0xCF ∷ 0xD0 ∷ 0xD7 ∷ 0xD8 ∷ []) ≡ false ∷ true ∷ true ∷ false ∷ []
+codes_told = refl
+
+ends_told : map ends_scan_data (0x7F ∷ 0xD7 ∷ 0xD8 ∷ 0xD9 ∷ 0xDA ∷ 0xDB ∷ 0xDC ∷ 0xDD ∷ 0xDF ∷ 0xE0 ∷ 0xEF ∷ 0xF0 ∷ 0xF7 ∷ 0xF8 ∷ 0xF9 ∷ 0xFD ∷ 0xFE ∷ 0xFF ∷ [])
+    ≡ false ∷ false ∷ false ∷ true ∷ true ∷ false ∷ false ∷ true ∷ false ∷ true ∷ true ∷ false ∷ false ∷ true ∷ false ∷ false ∷ true ∷ false ∷ []
+ends_told = refl
+
+-- 80 FF D0 80 FF D9, of a picture of two lines with a mark between them
+abbrev two_pieces : ScanCut
+two_pieces = record { closed = record { piece = 0x80 ∷ []; fill = 0; mark = 0 } ∷ []; last = 0x80 ∷ []; end = at_marker 0 0xD9 [] }
+
+two_pieces_told : IsCut (0x80 ∷ 0xFF ∷ 0xD0 ∷ 0x80 ∷ 0xFF ∷ 0xD9 ∷ []) two_pieces
+two_pieces_told = record { whole = refl; each = ((λ h. omega arith, lit< tt), tt); last = λ h. omega arith; end = refl }
+
+-- fill bytes before a mark, and bytes 0xFF that the input ends in, belong to no piece
+abbrev filled : ScanCut
+filled = record { closed = record { piece = 0x80 ∷ []; fill = 2; mark = 5 } ∷ []; last = []; end = at_input 2 }
+
+-- where lines 0 to 9 have an interval each and the marks 0 to 6 are lost, the mark 7 gives 8; eight lost marks can't be told from none
+seven_lost : numbers_behind 10 0 (7 ∷ 0 ∷ []) ≡ Interval 8 ∷ Interval 9 ∷ []
+seven_lost = refl
+
+eight_lost : numbers_behind 10 0 (0 ∷ []) ≡ Interval 1 ∷ []
+eight_lost = refl
+
+-- a mark that would give a number beyond the last interval gives none, and the next mark counts from the number given before
+beyond_told : numbers_behind 10 9 (5 ∷ 1 ∷ []) ≡ BeyondLast 14 ∷ BeyondLast 10 ∷ []
+beyond_told = refl

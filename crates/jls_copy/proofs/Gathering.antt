@@ -1,0 +1,249 @@
+-- One byte more, over what a reader holds.
+use Rattle.std.proofs.Common.{◌≡◌, ℕ, zero, suc, ◌+◌, ◌-◌, ◌^◌, ◌<◌, ◌≤◌, Bool, true, false, List, [], ◌∷◌, ◌++◌, take, length, Option, Some, None, refl, sym, ap, ◌∙◌, subst, append_assoc, add-zero, arith, length-append, ◌⊎◌, inl, inr}
+use Rattle.std.proofs.lemmas.List.{append-nil, take_all, take-append-le, length-take}
+use Rattle.std.proofs.lemmas.Bool.{cases_lt}
+use Rattle.std.proofs.lemmas.Bool.Decides.{nat_tests}
+use Rattle.std.specs.Prelude.{nat_lt, ◌==◌, ◌*◌, cond, Result, Ok, Err, IfSome, IfOk, IfErr}
+use Rattle.jls_copy.proofs.HeaderFacts.{frame_kept}
+use Rattle.jls_copy.specs.Conclusion.{Concludes, SaysNone, no_picture}
+use Rattle.jls_copy.specs.ReaderState.{end_at, closed_at_end}
+use Rattle.jls_copy.specs.declared.end.End.{End}
+use Rattle.jls_copy.specs.ReadCopy.{ReadCopy}
+use Rattle.jls_copy.specs.declared.reader.CopyFault.{CopyFault}
+use Rattle.jls_copy.specs.declared.reader.CopyFault.TheVariants.{NoPicture, OutOfMemory}
+use Rattle.jls_marker.specs.declared.fault.MarkerFault.{MarkerFault}
+use Rattle.std.specs.List.{AllByRecursion}
+use Rattle.jls_values.specs.OrderedSet as set
+use Rattle.jls_values.specs.OrderedSetLaws.{insert_all-append}
+use Rattle.jls_values.specs.Shape.{PictureShape}
+use Rattle.jls_partial.specs.Partial.{PartialPicture}
+use Rattle.jls_partial.specs.Reading as partial
+use Rattle.jls_marker.specs.HeaderState.{HeaderState}
+use Rattle.jls_marker.specs.Scan.{Scan}
+use Rattle.jls_marker.specs.Headers.{headers_after}
+use Rattle.jls_copy.specs.Pieces.{FoundPiece, Outcome, Lines, Fault, IsOutcome, readings_of, records_of}
+use Rattle.jls_copy.specs.Findings.{Adds, AddsOutcome, HoldsShape, with_readings, picture_of, kept_with}
+use Rattle.jls_copy.specs.Gathers.{Gathers}
+use Rattle.jls_copy.specs.Pieces.{AreOutcomes, readings, records}
+use Rattle.jls_copy.specs.ReaderState.{ReaderState, Step, Reading, reading, reading_with, reading_from, first_state, after_byte, step_from, closed_at, closed_by, class_of, segment_taken, length_known, payload_grown}
+use Rattle.jls_copy.specs.Machine.{state_of, IsBehind}
+use Rattle.jls_copy.specs.Reader.{IsReading}
+use Rattle.jls_copy.specs.Sound.{IsPlace}
+use Rattle.jls_copy.specs.declared.machine.Machine.{Machine}
+use Rattle.jls_copy.specs.declared.findings.Findings.{Findings}
+use Rattle.jls_copy.specs.declared.piece.PieceRecord.{PieceRecord}
+use Rattle.jls_copy.specs.declared.place.Place.{Place}
+use Rattle.jls_copy.specs.declared.place.Place.TheVariants.{Start, AtMarker, AtLength, InLength, InPayload, InScan, Done}
+use Rattle.jls_copy.specs.declared.scan.ByteClass.{ByteClass}
+use Rattle.jls_copy.specs.declared.scan.ByteClass.TheVariants.{Fill, Mark, Stop, Data}
+use Rattle.jls_copy.specs.declared.scan.OpenScan.{OpenScan}
+use Rattle.jls_copy.proofs.Kept.{behind_some}
+
+-- reading is a fold: one byte more is one step more
+from_snoc : (r : Reading) (bytes : List ℕ) (b : ℕ) → reading_from r (bytes ++ b ∷ []) ≡ reading_with (reading_from r bytes) b
+from_snoc r [] b = refl
+from_snoc r (x ∷ bytes) b = from_snoc (reading_with r x) bytes b
+
+pub reading_snoc : (bytes : List ℕ) (b : ℕ) → reading (bytes ++ b ∷ []) ≡ reading_with (reading bytes) b
+reading_snoc bytes b = from_snoc _ bytes b
+
+are_more : (ps : List FoundPiece) (os : List Outcome) (p : FoundPiece) (o : Outcome) → AreOutcomes ps os → IsOutcome p o → AreOutcomes (ps ++ p ∷ []) (os ++ o ∷ [])
+are_more [] [] p o h i = (i, tt)
+are_more [] (x ∷ os) p o h i = absurd h
+are_more (x ∷ ps) [] p o h i = absurd h
+are_more (x ∷ ps) (y ∷ os) p o h i = (h.0, are_more ps os p o h.1 i)
+
+readings_more : (ps : List FoundPiece) (os : List Outcome) (p : FoundPiece) (o : Outcome) → AreOutcomes ps os → readings (ps ++ p ∷ []) (os ++ o ∷ []) ≡ readings ps os ++ readings_of p o
+readings_more [] [] p o h = append-nil (readings_of p o)
+readings_more [] (x ∷ os) p o h = absurd h
+readings_more (x ∷ ps) [] p o h = absurd h
+readings_more (x ∷ ps) (y ∷ os) p o h = ap (λ t. readings_of x y ++ t) (readings_more ps os p o h.1) ∙ sym (append_assoc (readings_of x y) (readings ps os) (readings_of p o))
+
+records_more : (ps : List FoundPiece) (os : List Outcome) (p : FoundPiece) (o : Outcome) → AreOutcomes ps os → records (ps ++ p ∷ []) (os ++ o ∷ []) ≡ records ps os ++ records_of p o
+records_more [] [] p o h = append-nil (records_of p o)
+records_more [] (x ∷ os) p o h = absurd h
+records_more (x ∷ ps) [] p o h = absurd h
+records_more (x ∷ ps) (y ∷ os) p o h = ap (λ t. records_of x y ++ t) (records_more ps os p o h.1) ∙ sym (append_assoc (records_of x y) (records ps os) (records_of p o))
+
+-- the first 4,096 records are kept
+kept_one : (xs : List PieceRecord) (r : PieceRecord) → kept_with (take 4096 xs) (r ∷ []) ≡ take 4096 (xs ++ r ∷ [])
+kept_one xs r = by (cases_lt (length xs) 4096)
+  where
+    by : (length xs < 4096) ⊎ (4096 ≤ length xs) → kept_with (take 4096 xs) (r ∷ []) ≡ take 4096 (xs ++ r ∷ [])
+    by (inl h) =
+        let all : take 4096 xs ≡ xs = take_all 4096 xs (omega arith) in
+        let low : nat_lt (length xs) 4096 ≡ true = grind (arith, nat_tests) in
+        let more : take 4096 (xs ++ r ∷ []) ≡ xs ++ r ∷ [] = take_all 4096 (xs ++ r ∷ []) (omega (arith, length-append xs (r ∷ []))) in
+        rw (all, low, more) refl
+    by (inr h) =
+        let size : length (take 4096 xs) ≡ 4096 = omega (arith, length-take 4096 xs) in
+        let same : take 4096 (xs ++ r ∷ []) ≡ take 4096 xs = take-append-le 4096 xs (r ∷ []) h in
+        rw (size, same) refl
+
+kept_more : (xs : List PieceRecord) (p : FoundPiece) (o : Outcome) → kept_with (take 4096 xs) (records_of p o) ≡ take 4096 (xs ++ records_of p o)
+kept_more xs p (Lines lines) = sym (ap (take 4096) (append-nil xs))
+kept_more xs p (Fault f) = kept_one xs _
+
+none_some : {A : Type 0} (x : A) → ◌≡◌ {A = Option A} None (Some x) → ⊥
+none_some x e = cc
+
+-- one piece more
+gathers_piece : (frame : Option PictureShape) (ps : List FoundPiece) (p : FoundPiece) (old new : Findings) → Gathers frame ps old → Adds frame (p ∷ []) old new → Gathers frame (ps ++ p ∷ []) new
+gathers_piece frame ps p old new g (shape, framed, o, is, adds) = record {
+  outcomes = g.outcomes ++ o ∷ [];
+  each = are_more ps g.outcomes p o g.each is;
+  picture_is = λ s e.
+      let same : shape ≡ s = some_is shape s (sym framed ∙ e) in
+      subst (λ t. picture_of t new.partial ≡ record { shape = t; readings = set.insert_all set.empty (readings (ps ++ p ∷ []) (g.outcomes ++ o ∷ [])) }) same
+      (adds.picture_is ∙ ap (λ q. with_readings q (readings_of p o)) (g.picture_is shape framed)
+      ∙ ap (λ t. record { shape = shape; readings = t }) (sym (insert_all-append set.empty (readings ps g.outcomes) (readings_of p o)) ∙ ap (set.insert_all set.empty) (sym (readings_more ps g.outcomes p o g.each))));
+  unframed = λ e. absurd (none_some shape (sym e ∙ framed));
+  records_are = adds.records_are ∙ ap (λ xs. kept_with xs (records_of p o)) g.records_are ∙ kept_more (records ps g.outcomes) p o ∙ ap (take 4096) (sym (records_more ps g.outcomes p o g.each));
+  count_is = adds.count_is ∙ ap (λ n. n + length (records_of p o)) g.count_is ∙ sym (length-append (records ps g.outcomes) (records_of p o)) ∙ ap length (sym (records_more ps g.outcomes p o g.each));
+}
+  where
+    some_is : (x y : PictureShape) → ◌≡◌ {A = Option PictureShape} (Some x) (Some y) → x ≡ y
+    some_is x y e = cc
+
+-- no piece or one
+gathers_pieces : (frame : Option PictureShape) (ps qs : List FoundPiece) (old new : Findings) → Gathers frame ps old → Adds frame qs old new → Gathers frame (ps ++ qs) new
+gathers_pieces frame ps [] old new g e = rw (append-nil, e) g
+gathers_pieces frame ps (q ∷ []) old new g a = gathers_piece frame ps q old new g a
+gathers_pieces frame ps (q ∷ r ∷ more) old new g a = absurd a
+
+-- the frame came, or stays
+gathers_frame : (before now : Option PictureShape) (ps : List FoundPiece) (f : Findings) → ((s : PictureShape) → before ≡ Some s → now ≡ Some s) → Gathers before ps f → Gathers now ps f
+gathers_frame before now ps f stays g = record {
+  outcomes = g.outcomes;
+  each = g.each;
+  picture_is = λ s e. picture before stays g s e;
+  unframed = λ e. none before stays g e;
+  records_are = g.records_are;
+  count_is = g.count_is;
+}
+  where
+    some_is : (x y : PictureShape) → ◌≡◌ {A = Option PictureShape} (Some x) (Some y) → x ≡ y
+    some_is x y e = cc
+
+    fresh : (s : PictureShape) (os : List Outcome) (p : Option PartialPicture) → (ps ≡ []) × (p ≡ None) → picture_of s p ≡ record { shape = s; readings = set.insert_all set.empty (readings ps os) }
+    fresh s os p (e, i) = rw (e, i) refl
+
+    picture : (b : Option PictureShape) → ((s : PictureShape) → b ≡ Some s → now ≡ Some s) → (h : Gathers b ps f) → (s : PictureShape) → now ≡ Some s
+        → picture_of s f.partial ≡ record { shape = s; readings = set.insert_all set.empty (readings ps h.outcomes) }
+    picture None st h s e = fresh s h.outcomes f.partial (h.unframed refl)
+    picture (Some t) st h s e = h.picture_is s (ap Some (some_is t s (sym (st t refl) ∙ e)))
+
+    none : (b : Option PictureShape) → ((s : PictureShape) → b ≡ Some s → now ≡ Some s) → Gathers b ps f → now ≡ None → (ps ≡ []) × (f.partial ≡ None)
+    none None st h e = h.unframed refl
+    none (Some t) st h e = absurd (none_some t (sym e ∙ st t refl))
+
+taken_frame : (count : ℕ) (h : HeaderState) (payload : List ℕ) (marker code : ℕ) (s : PictureShape) → h.frame ≡ Some s → (r : Result (HeaderState × Option Scan) MarkerFault) → headers_after h code payload ≡ r
+    → (segment_taken count h payload marker r).headers.frame ≡ Some s
+taken_frame count h payload marker code s f (Ok r) e = frame_kept h r.0 code payload r.1 s e f
+taken_frame count h payload marker code s f (Err x) e = f
+
+cond_frame : (b : Bool) (x y : Step) (s : PictureShape) → x.headers.frame ≡ Some s → y.headers.frame ≡ Some s → (cond b x y).headers.frame ≡ Some s
+cond_frame true x y s p q = p
+cond_frame false x y s p q = q
+
+frame_stays : (p : Place) (count : ℕ) (h : HeaderState) (payload : List ℕ) (b : ℕ) (s : PictureShape) → h.frame ≡ Some s → (step_from p count h payload b).headers.frame ≡ Some s
+frame_stays (Start fill) count h payload b s f = f
+frame_stays (AtMarker fill) count h payload b s f = f
+frame_stays (AtLength marker code) count h payload b s f = f
+frame_stays (InLength marker code high) count h payload b s f =
+    cond_frame (nat_lt (256 * high + b) 2) _ _ s f
+    (cond_frame (256 * high + b == 2) _ _ s (taken_frame count h [] marker code s f (headers_after h code []) refl) f)
+frame_stays (InPayload marker code size) count h payload b s f =
+    cond_frame (length (payload ++ b ∷ []) + 2 == size) _ _ s (taken_frame count h (payload ++ b ∷ []) marker code s f (headers_after h code (payload ++ b ∷ [])) refl) f
+frame_stays (InScan scan) count h payload b s f = f
+frame_stays (Done e) count h payload b s f = f
+
+-- a piece adds one record at most
+one_at_most : (p : FoundPiece) (o : Outcome) → length (records_of p o) ≤ 1
+one_at_most p (Lines lines) = omega arith
+one_at_most p (Fault f) = omega arith
+
+adds_one : (frame : Option PictureShape) (qs : List FoundPiece) (old new : Findings) → Adds frame qs old new → new.record_count ≤ old.record_count + 1
+adds_one frame [] old new e = rw e (omega arith)
+adds_one frame (q ∷ []) old new (shape, framed, o, is, adds) = rw adds.count_is (omega (arith, one_at_most q o))
+adds_one frame (q ∷ r ∷ more) old new a = absurd a
+
+low_more : (bytes : List ℕ) (b : ℕ) → AllByRecursion (λ x. x < 256) bytes → b < 256 → AllByRecursion (λ x. x < 256) (bytes ++ b ∷ [])
+low_more [] b h l = (l, tt)
+low_more (x ∷ bytes) b h l = (h.0, low_more bytes b h.1 l)
+
+-- one byte more
+pub reading_more : (m n : Machine) (bytes : List ℕ) (b : ℕ) → IsReading m bytes → state_of n ≡ after_byte (state_of m) b → Adds m.headers.frame (closed_at m.place b) m.findings n.findings
+    → IsPlace n.headers.frame n.place n.payload.items → length n.payload.items ≤ 65535 → length bytes + 1 ≤ 2 ^ 63 - 1 → b < 256 → IsReading n (bytes ++ b ∷ [])
+reading_more m n bytes b h e a p small few low =
+    let place_is : m.place ≡ (reading bytes).state.place = ap (λ s. s.place) h.state_is in
+    let count : n.count ≡ m.count + 1 = ap (λ s. s.count) e in
+    let frame : n.headers.frame ≡ (step_from m.place m.count m.headers m.payload.items b).headers.frame = ap (λ s. s.headers.frame) e in
+    let pieces : (reading (bytes ++ b ∷ [])).pieces ≡ (reading bytes).pieces ++ closed_at m.place b =
+    ap (λ r. r.pieces) (reading_snoc bytes b) ∙ ap (λ q. (reading bytes).pieces ++ closed_at q b) (sym place_is) in
+    let more : Gathers n.headers.frame ((reading bytes).pieces ++ closed_at m.place b) n.findings =
+    gathers_frame m.headers.frame n.headers.frame _ n.findings (λ s f. frame ∙ frame_stays m.place m.count m.headers m.payload.items b s f)
+    (gathers_pieces m.headers.frame (reading bytes).pieces (closed_at m.place b) m.findings n.findings h.gathers a) in
+    record {
+      state_is = e ∙ ap (λ s. after_byte s b) h.state_is ∙ sym (ap (λ r. r.state) (reading_snoc bytes b));
+      gathers = subst (λ ps. Gathers n.headers.frame ps n.findings) (sym pieces) more;
+      count_is = count ∙ ap (λ k. k + 1) h.count_is ∙ sym (length-append bytes (b ∷ []));
+      few = omega (arith, length-append bytes (b ∷ []));
+      are_bytes = low_more bytes b h.are_bytes low;
+      place_is = p;
+      behind = behind_some n.place n.count (omega (arith, count));
+      records_counted = omega (arith, count, adds_one m.headers.frame (closed_at m.place b) m.findings n.findings a, h.records_counted);
+      records_kept = rw more.records_are (omega (arith, length-take 4096 (records ((reading bytes).pieces ++ closed_at m.place b) more.outcomes)));
+      header_bytes = small;
+    }
+
+-- what a reader that wasn't refused was fed
+pub of_fed : (failed : Bool) (bytes : List ℕ) (v : Option (List ℕ)) (P : List ℕ → Type 0) → cond failed None (Some bytes) ≡ v → failed ≡ false → IfSome v P → P bytes
+of_fed true bytes v P e f h = absurd cc
+of_fed false bytes v P e f h = subst (λ o. IfSome o P) (sym e) h
+
+pub to_fed : (failed : Bool) (bytes : List ℕ) (v : Option (List ℕ)) (P : List ℕ → Type 0) → cond failed None (Some bytes) ≡ v → failed ≡ false → P bytes → IfSome v P
+to_fed true bytes v P e f h = absurd cc
+to_fed false bytes v P e f h = subst (λ o. IfSome o P) e h
+
+pub if_ok : {A B : Type 0} {P Q : A → Type 0} (r : Result A B) → ((x : A) → P x → Q x) → IfOk r P → IfOk r Q
+if_ok (Ok x) f p = f x p
+if_ok (Err e) f p = tt
+
+-- the input ends
+pub concluding : (m n : Machine) (bytes : List ℕ) (e : End) (read : ReadCopy) → IsReading m bytes → e ≡ end_at m.place m.count → Adds m.headers.frame (closed_at_end m.place) m.findings n.findings → n.headers ≡ m.headers
+    → ((shape : PictureShape) × (n.headers.frame ≡ Some shape) × (read.partial ≡ picture_of shape n.findings.partial) × (read.pieces ≡ n.findings.records.items) × (read.piece_count ≡ n.findings.record_count) × (read.ended ≡ e))
+    → Concludes (reading bytes) read
+concluding m n bytes e read h end_is a same (shape, framed, p, q, r, s) =
+    let all : Gathers m.headers.frame ((reading bytes).pieces ++ closed_at_end m.place) n.findings = gathers_pieces m.headers.frame (reading bytes).pieces (closed_at_end m.place) m.findings n.findings h.gathers a in
+    let place_is : m.place ≡ (reading bytes).state.place = ap (λ t. t.place) h.state_is in
+    let now : Gathers m.headers.frame ((reading bytes).pieces ++ closed_at_end (reading bytes).state.place) n.findings = subst (λ t. Gathers m.headers.frame ((reading bytes).pieces ++ closed_at_end t) n.findings) place_is all in
+    let frame : m.headers.frame ≡ Some shape = ap (λ t. t.frame) (sym same) ∙ framed in
+    record {
+      shape = shape;
+      framed = ap (λ t. t.headers.frame) (sym h.state_is) ∙ frame;
+      outcomes = now.outcomes;
+      each = now.each;
+      partial_is = p ∙ now.picture_is shape frame;
+      pieces_are = q ∙ now.records_are;
+      count_is = r ∙ now.count_is;
+      ended_is = s ∙ end_is ∙ ap (λ t. end_at t.place t.count) h.state_is;
+    }
+
+pub if_err : {A B : Type 0} {P Q : B → Type 0} (r : Result A B) → ((x : B) → P x → Q x) → IfErr r P → IfErr r Q
+if_err (Ok x) f p = tt
+if_err (Err e) f p = f e p
+
+pub saying_none : (m n : Machine) (bytes : List ℕ) (e : End) (f : CopyFault) → IsReading m bytes → e ≡ end_at m.place m.count → n.headers ≡ m.headers
+    → (n.headers.frame ≡ None) × (f ≡ no_picture e) → SaysNone (reading bytes) f
+saying_none m n bytes e OutOfMemory h end_is same k = tt
+saying_none m n bytes e (NoPicture f offset) h end_is same (none, is) =
+    (ap (λ t. t.headers.frame) (sym h.state_is) ∙ ap (λ t. t.frame) (sym same) ∙ none, is ∙ ap no_picture (end_is ∙ ap (λ t. end_at t.place t.count) h.state_is))
+
+pub fed_or_failed : (failed : Bool) (bytes : List ℕ) (v : Option (List ℕ)) (P : List ℕ → Type 0) → cond failed None (Some bytes) ≡ v → (failed ≡ false → P bytes) → IfSome v P
+fed_or_failed true bytes v P e f = subst (λ o. IfSome o P) e tt
+fed_or_failed false bytes v P e f = subst (λ o. IfSome o P) e (f refl)
+
+-- the picture that is held has the frame's shape
+pub held_shape : (frame : Option PictureShape) (ps : List FoundPiece) (f : Findings) → Gathers frame ps f → (shape : PictureShape) → frame ≡ Some shape → HoldsShape f.partial shape
+held_shape frame ps f g shape framed p e = ap (λ q. q.shape) (ap (picture_of shape) (sym e) ∙ g.picture_is shape framed)

@@ -1,0 +1,36 @@
+-- What a step leaves as it is.
+use Rattle.std.proofs.Common.{◌≡◌, ℕ, ◌+◌, ◌≤◌, Bool, true, false, cond, List, [], length, Option, Result, Ok, Err, refl}
+use Rattle.std.specs.Prelude.{nat_lt, ◌==◌}
+use Rattle.jls_marker.specs.HeaderState.{HeaderState}
+use Rattle.jls_marker.specs.Scan.{Scan}
+use Rattle.jls_marker.specs.Headers.{headers_after}
+use Rattle.jls_copy.specs.ReaderState.{Step, segment_taken, length_known, payload_grown}
+use Rattle.jls_copy.specs.Machine.{IsBehind}
+use Rattle.jls_marker.specs.declared.fault.MarkerFault.{MarkerFault}
+use Rattle.jls_copy.specs.declared.place.Place.{Place}
+use Rattle.jls_copy.specs.declared.place.Place.TheVariants.{Start, AtMarker, AtLength, InLength, InPayload, InScan, Done}
+
+taken_payload : (count : ℕ) (h : HeaderState) (payload : List ℕ) (marker : ℕ) (r : Result (HeaderState × Option Scan) MarkerFault) → (segment_taken count h payload marker r).payload ≡ payload
+taken_payload count h payload marker (Ok r) = refl
+taken_payload count h payload marker (Err f) = refl
+
+cond_payload : (b : Bool) (x y : Step) (z : List ℕ) → x.payload ≡ z → y.payload ≡ z → (cond b x y).payload ≡ z
+cond_payload true x y z p q = p
+cond_payload false x y z p q = q
+
+pub length_keeps : (count : ℕ) (h : HeaderState) (marker code size : ℕ) → (length_known count h marker code size).payload ≡ []
+length_keeps count h marker code size =
+    cond_payload (nat_lt size 2) _ _ [] refl (cond_payload (size == 2) _ _ [] (taken_payload count h [] marker (headers_after h code [])) refl)
+
+pub payload_keeps : (count : ℕ) (h : HeaderState) (payload : List ℕ) (marker code size : ℕ) → (payload_grown count h payload marker code size).payload ≡ payload
+payload_keeps count h payload marker code size =
+    cond_payload (length payload + 2 == size) _ _ payload (taken_payload count h payload marker (headers_after h code payload)) refl
+
+pub behind_some : (p : Place) (n : ℕ) → 1 ≤ n → IsBehind p n
+behind_some (Start fill) n h = λ e. h
+behind_some (AtMarker fill) n h = h
+behind_some (AtLength marker code) n h = h
+behind_some (InLength marker code high) n h = h
+behind_some (InPayload marker code size) n h = h
+behind_some (InScan scan) n h = h
+behind_some (Done e) n h = tt

@@ -1,0 +1,17 @@
+mod OneMoreByte
+mod OneCut
+mod NumbersGiven
+mod CutExamples
+mod OneCourse
+mod Fitting
+mod HeaderFacts
+mod Alike
+mod Kept
+mod Outcomes
+mod TellsMore
+mod TellsScan
+mod TellsSegment
+mod ReadingTells
+mod CourseTold
+mod Gathering
+mod CopyTold

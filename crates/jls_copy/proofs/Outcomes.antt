@@ -1,0 +1,98 @@
+-- What a whole piece adds, from what its decoder answered.
+use Rattle.std.proofs.Common.{◌≡◌, ℕ, ◌+◌, ◌*◌, ◌<◌, Bool, List, [], ◌∷◌, ◌++◌, map, length, Option, Some, None, Result, Ok, Err, refl, sym, ap, ◌∙◌, subst, add-zero, arith}
+use Rattle.std.specs.Prelude.{OnOk, MatchOption}
+use Rattle.std.specs.declared.vec.Vec.{Vec}
+use Rattle.std.specs.declared.alloc.Global.{Global}
+use Rattle.jls_values.specs.Shape.{PictureShape}
+use Rattle.jls_values.specs.Params.{CodingParameters}
+use Rattle.jls_interval.specs.Reads.{Reads, IsLong, IsBroken}
+use Rattle.jls_interval.specs.PieceFaults.{OutcomeIs}
+use Rattle.jls_interval.specs.declared.decode_piece.PieceFault.{PieceFault}
+use Rattle.jls_interval.specs.declared.decode_piece.PieceFault.TheVariants as piece_fault
+use Rattle.jls_marker.specs.Scan.{Scan, intervals, row_count, first_row}
+use Rattle.jls_interval.specs.IntervalBytes.{IntervalBytes}
+use Rattle.jls_copy.specs.Pieces.{placed, Lines, Fault}
+use Rattle.jls_copy.specs.Findings.{Adds, with_readings, picture_of, kept_with}
+use Rattle.jls_copy.specs.ReaderState.{piece_found, piece_with, scan_with}
+use Rattle.jls_copy.specs.Sound.{IsDecodingOf, IsOpenPiece, IsOpenScan}
+use Rattle.jls_copy.specs.declared.scan.OpenScan.{OpenScan}
+use Rattle.jls_copy.specs.declared.piece.PieceKind.TheVariants as kind
+use Rattle.jls_copy.specs.declared.piece.OpenPiece.{OpenPiece}
+use Rattle.jls_copy.specs.declared.piece.OpenPiece.TheVariants.{Within, Beyond}
+use Rattle.jls_copy.specs.declared.findings.Findings.{Findings}
+
+pub on_ok3 : {A B P Q R S : Type 0} (r : Result A B) → (P → Q → R → S) → OnOk r P → OnOk r Q → OnOk r R → OnOk r S
+on_ok3 (Ok x) f p q t = f p q t
+on_ok3 (Err e) f p q t = tt
+
+-- the decoder of an interval that was told these bytes
+abbrev pub decoding_with : Scan → ℕ → List ℕ → IntervalBytes
+decoding_with s k bytes = record { parameters = s.params; width = s.width; components = length s.components; rows = row_count s k; bytes = Some bytes }
+
+same_decoding : (d : IntervalBytes) (p : CodingParameters) (w c r : ℕ) (b : Option (List ℕ)) → d.parameters ≡ p → d.width ≡ w → d.components ≡ c → d.rows ≡ r → d.bytes ≡ b
+    → d ≡ record { parameters = p; width = w; components = c; rows = r; bytes = b }
+same_decoding d p w c r b e f g h i = rw (sym e, sym f, sym g, sym h, sym i) refl
+
+pub decoding_is : (s : Scan) (k : ℕ) (d : IntervalBytes) (i : IsDecodingOf s k d) → d ≡ decoding_with s k i.bytes
+decoding_is s k d i = same_decoding d s.params s.width (length s.components) (row_count s k) (Some i.bytes) i.parameters_are i.width_is i.components_are i.rows_are i.bytes_are
+
+-- what `finish` says of a decoder
+abbrev pub Finishes : IntervalBytes → Result (Vec (Vec ℕ Global) Global) PieceFault → Type 0
+Finishes d r = MatchOption d.bytes (r ≡ Err piece_fault.OutOfMemory) (λ bytes. OutcomeIs d.parameters d.width d.components (d.rows * d.components) bytes r)
+
+module _ (shape : PictureShape) (index : ℕ) (s : Scan) (offset k : ℕ) (old new : Findings) where
+  pub beyond_adds : (piece : OpenPiece) → piece ≡ Beyond k → new.partial ≡ old.partial
+      → new.records.items ≡ kept_with old.records.items (record { scan = index; interval = k; offset = offset; kind = kind.Beyond } ∷ []) → new.record_count ≡ old.record_count + 1
+      → Adds (Some shape) (piece_found index s offset piece ∷ []) old new
+  beyond_adds piece e p r c = rw e (shape, refl, Fault kind.Beyond, tt, record { picture_is = rw p refl; records_are = r; count_is = c })
+
+  module _ (d : IntervalBytes) (piece : OpenPiece) (is : piece ≡ Within k d) (sound : IsOpenPiece s piece) where
+    abbrev open_is : IsDecodingOf s k d
+    open_is = subst (IsOpenPiece s) is sound
+
+    abbrev told_bytes : List ℕ
+    told_bytes = open_is.bytes
+
+    whole : piece ≡ Within k (decoding_with s k told_bytes)
+    whole = is ∙ ap (Within k) (decoding_is s k d open_is)
+
+    pub long_adds : Finishes d (Err piece_fault.Long) → new.partial ≡ old.partial
+        → new.records.items ≡ kept_with old.records.items (record { scan = index; interval = k; offset = offset; kind = kind.Long } ∷ []) → new.record_count ≡ old.record_count + 1
+        → Adds (Some shape) (piece_found index s offset piece ∷ []) old new
+    long_adds h p r c =
+        let now : IsLong s.params s.width (length s.components) (row_count s k * length s.components) told_bytes =
+        subst (λ x. Finishes x (Err piece_fault.Long)) (decoding_is s k d open_is) h in
+        rw whole (shape, refl, Fault kind.Long, now, record { picture_is = rw p refl; records_are = r; count_is = c })
+
+    pub broken_adds : Finishes d (Err piece_fault.Broken) → new.partial ≡ old.partial
+        → new.records.items ≡ kept_with old.records.items (record { scan = index; interval = k; offset = offset; kind = kind.Broken } ∷ []) → new.record_count ≡ old.record_count + 1
+        → Adds (Some shape) (piece_found index s offset piece ∷ []) old new
+    broken_adds h p r c =
+        let now : IsBroken s.params s.width (length s.components) (row_count s k * length s.components) told_bytes =
+        subst (λ x. Finishes x (Err piece_fault.Broken)) (decoding_is s k d open_is) h in
+        rw whole (shape, refl, Fault kind.Broken, now, record { picture_is = rw p refl; records_are = r; count_is = c })
+
+    pub lines_add : (lines : Vec (Vec ℕ Global) Global) → Finishes d (Ok lines)
+        → new.partial ≡ Some (with_readings (picture_of shape old.partial) (placed s.components (first_row s k) 0 (map (λ line. line.items) lines.items)))
+        → new.records.items ≡ old.records.items → new.record_count ≡ old.record_count
+        → Adds (Some shape) (piece_found index s offset piece ∷ []) old new
+    lines_add lines h p r c =
+        let now : Reads s.params s.width (length s.components) (row_count s k * length s.components) told_bytes (map (λ line. line.items) lines.items) =
+        subst (λ x. Finishes x (Ok lines)) (decoding_is s k d open_is) h in
+        rw whole (shape, refl, Lines (map (λ line. line.items) lines.items), now, record { picture_is = rw p refl; records_are = r; count_is = rw add-zero c })
+
+-- telling a piece more leaves it sound
+pub told_sound : (s : Scan) (piece : OpenPiece) (more : List ℕ) → IsOpenPiece s piece → IsOpenPiece s (piece_with piece more)
+told_sound s (Within k d) more i = record {
+  within = i.within;
+  parameters_are = i.parameters_are;
+  width_is = i.width_is;
+  components_are = i.components_are;
+  rows_are = i.rows_are;
+  bytes = i.bytes ++ more;
+  bytes_are = let e : d.bytes ≡ Some i.bytes = i.bytes_are in rw e refl;
+}
+told_sound s (Beyond k) more i = i
+
+pub told_sound_scan : (scan : OpenScan) (b : ℕ) (next : OpenScan) → next ≡ scan_with scan b → IsOpenScan scan → IsOpenScan next
+told_sound_scan scan b next e h = rw e (h.0, told_sound scan.plan scan.piece _ h.1)

@@ -1,0 +1,290 @@
+-- A byte of scan data, over what a reader's place tells.
+use Rattle.std.proofs.Common.{◌≡◌, ℕ, zero, suc, ◌+◌, ◌-◌, ◌<◌, ◌≤◌, ◌≢◌, Bool, true, false, cond, List, [], ◌∷◌, ◌++◌, length, Option, Some, None, Result, Ok, Err, refl, sym, ◌∙◌, ap, subst, append_assoc, add-zero, arith, ◌⊎◌, inl, inr, length-append}
+use Rattle.std.specs.Prelude.{is_some, ◌==◌}
+use Rattle.std.proofs.lemmas.List.{append-nil}
+use Rattle.std.proofs.lemmas.Grind.{flat_map-append}
+use Rattle.std.proofs.lemmas.Bool.{cases_eq, cases_Bool}
+use Rattle.std.proofs.lemmas.Bool.Decides.{nat_tests}
+use Rattle.std.specs.List.{flat_map, AllByRecursion}
+use Rattle.jls_copy.proofs.HeaderFacts.{scan_has_frame}
+use Rattle.jls_copy.specs.ScanData.{fill_bytes, ClosedPiece, closed_bytes, IsClosedPiece, IsPiece, ends_scan_data, is_restart_code, closes_piece}
+use Rattle.jls_copy.specs.Numbers.{PieceNumber, Interval, BeyondLast, number_behind, given_last}
+use Rattle.jls_marker.specs.HeaderState.{HeaderState}
+use Rattle.jls_marker.specs.Scan.{Scan, intervals}
+use Rattle.jls_marker.specs.MarkerCodes.{has_segment}
+use Rattle.jls_marker.specs.Headers.{headers_after}
+use Rattle.jls_copy.specs.Pieces.{FoundPiece}
+use Rattle.jls_copy.specs.Course.{by_marker, CopyUnit, segment, scan, segment_bytes, unit_bytes}
+use Rattle.jls_copy.specs.Pieces.{pieces_from}
+use Rattle.jls_copy.specs.ReaderState as state
+use Rattle.jls_copy.specs.ReaderState.{class_of, one_more, held_bytes, piece_with, piece_opened, number_of, bytes_of, found, scan_with, scan_behind}
+use Rattle.jls_copy.specs.Tells.{SameBytes, HeldIs, ToldAs, IsTold, AlikePiece, AlikePieces, Passed, passed_scan, InScanData, ScanPieces, given_after, Tells}
+use Rattle.jls_copy.specs.declared.piece.OpenPiece.{OpenPiece}
+use Rattle.jls_copy.specs.declared.piece.OpenPiece.TheVariants as open_piece
+use Rattle.jls_copy.specs.declared.scan.Held.{Held}
+use Rattle.jls_copy.specs.declared.scan.Held.TheVariants.{Nothing, One, More}
+use Rattle.jls_copy.specs.declared.scan.ByteClass.{ByteClass}
+use Rattle.jls_copy.specs.declared.scan.ByteClass.TheVariants.{Fill, Mark, Stop, Data}
+use Rattle.jls_copy.specs.declared.scan.OpenScan.{OpenScan}
+use Rattle.jls_copy.proofs.Alike.{same_more}
+use Rattle.jls_copy.proofs.TellsMore.{fill_more, fill_length, fill_marker_more}
+
+fill_snoc : (n : ℕ) → fill_bytes n ++ 255 ∷ [] ≡ fill_bytes (suc n)
+fill_snoc n = fill_more n [] ∙ append-nil _
+
+-- the class of a byte, with what it says of the byte
+data ClassIs : Held → ℕ → ℕ → Type 0 where
+  is_fill : (held : Held) (n b : ℕ) → class_of held b ≡ Fill → b ≡ 255 → ClassIs held n b
+  is_mark : (held : Held) (n b : ℕ) → class_of held b ≡ Mark → 0 < n → is_restart_code b ≡ true → ClassIs held n b
+  is_stop : (held : Held) (n b : ℕ) → class_of held b ≡ Stop → 0 < n → b ≢ 255 → ends_scan_data b ≡ true → ClassIs held n b
+  is_data : (held : Held) (n b : ℕ) → class_of held b ≡ Data → b ≢ 255 → (0 < n → closes_piece b ≡ false) → ClassIs held n b
+
+class_is : (held : Held) (n b : ℕ) → HeldIs held n → (b ≡ 255) ⊎ (b ≢ 255) → (is_restart_code b ≡ true) ⊎ (is_restart_code b ≡ false) → (ends_scan_data b ≡ true) ⊎ (ends_scan_data b ≡ false) → ClassIs held n b
+class_is Nothing n b h (inl e) r s = is_fill Nothing n b (rw e refl) e
+class_is One n b h (inl e) r s = is_fill One n b (rw e refl) e
+class_is More n b h (inl e) r s = is_fill More n b (rw e refl) e
+class_is Nothing n b h (inr ne) r s =
+    let f : (b == 255) ≡ false = grind (arith, nat_tests) in is_data Nothing n b (rw f refl) ne (λ k. absurd (omega (arith, h)))
+class_is One n b h (inr ne) (inl r) s =
+    let f : (b == 255) ≡ false = grind (arith, nat_tests) in is_mark One n b (rw (f, r) refl) (omega (arith, h)) r
+class_is One n b h (inr ne) (inr r) (inl s) =
+    let f : (b == 255) ≡ false = grind (arith, nat_tests) in is_stop One n b (rw (f, r, s) refl) (omega (arith, h)) ne s
+class_is One n b h (inr ne) (inr r) (inr s) =
+    let f : (b == 255) ≡ false = grind (arith, nat_tests) in is_data One n b (rw (f, r, s) refl) ne (λ k. rw (r, s) refl)
+class_is More n b h (inr ne) (inl r) s =
+    let f : (b == 255) ≡ false = grind (arith, nat_tests) in is_mark More n b (rw (f, r) refl) (omega (arith, h.1)) r
+class_is More n b h (inr ne) (inr r) (inl s) =
+    let f : (b == 255) ≡ false = grind (arith, nat_tests) in is_stop More n b (rw (f, r, s) refl) (omega (arith, h.1)) ne s
+class_is More n b h (inr ne) (inr r) (inr s) =
+    let f : (b == 255) ≡ false = grind (arith, nat_tests) in is_data More n b (rw (f, r, s) refl) ne (λ k. rw (r, s) refl)
+
+more_held : (held : Held) (n : ℕ) → HeldIs held n → HeldIs (one_more held) (suc n)
+more_held Nothing n h = ap suc h
+more_held One n h = (0, ap suc h)
+more_held More n h = (suc h.0, ap suc h.1)
+
+-- pieces of scan data go on
+piece_fills : (n b : ℕ) → b ≢ 255 → (0 < n → closes_piece b ≡ false) → IsPiece (fill_bytes n ++ (b ∷ []))
+piece_fills zero b ne free = ne
+piece_fills (suc zero) b ne free = (λ _. free (omega arith), ne)
+piece_fills (suc (suc n)) b ne free = (λ _. refl, piece_fills (suc n) b ne (λ _. free (omega arith)))
+
+piece_more : (w : List ℕ) (n b : ℕ) → IsPiece w → b ≢ 255 → (0 < n → closes_piece b ≡ false) → IsPiece (w ++ (fill_bytes n ++ (b ∷ [])))
+piece_more [] n b p ne free = piece_fills n b ne free
+piece_more (a ∷ []) zero b p ne free = (λ e. absurd (p e), ne)
+piece_more (a ∷ []) (suc n) b p ne free = (λ e. absurd (p e), piece_fills (suc n) b ne free)
+piece_more (a ∷ c ∷ w) n b p ne free = (p.0, piece_more (c ∷ w) n b p.1 ne free)
+
+each_more : (cs : List ClosedPiece) (c : ClosedPiece) → AllByRecursion IsClosedPiece cs → IsClosedPiece c → AllByRecursion IsClosedPiece (cs ++ c ∷ [])
+each_more [] c all here = (here, tt)
+each_more (x ∷ xs) c all here = (all.0, each_more xs c all.1 here)
+
+pub alike_more : (ps qs : List FoundPiece) (p q : FoundPiece) → AlikePieces ps qs → AlikePiece p q → AlikePieces (ps ++ p ∷ []) (qs ++ q ∷ [])
+alike_more [] [] p q h a = (a, tt)
+alike_more [] (y ∷ qs) p q h a = absurd h
+alike_more (x ∷ ps) [] p q h a = absurd h
+alike_more (x ∷ ps) (y ∷ qs) p q h a = (h.0, alike_more ps qs p q h.1 a)
+
+-- one piece more is closed: those before it stay as they are
+pieces_snoc : (index : ℕ) (s : Scan) (given : ℕ) (number : PieceNumber) (at : ℕ) (cs : List ClosedPiece) (c : ClosedPiece) (w : List ℕ)
+    → pieces_from index s given number at (cs ++ c ∷ []) w
+    ≡ pieces_from index s given number at cs c.piece
+    ++ record { scan = index; plan = s; number = number_behind (intervals s) (given_after (intervals s) given cs) c.mark; offset = at + length (flat_map closed_bytes cs) + length (closed_bytes c); bytes = w } ∷ []
+pieces_snoc index s given number at [] c w = rw add-zero refl
+pieces_snoc index s given number at (x ∷ cs) c w =
+    let next = number_behind (intervals s) given x.mark in
+    let e : at + length (closed_bytes x) + length (flat_map closed_bytes cs) ≡ at + length (closed_bytes x ++ flat_map closed_bytes cs) = omega (arith, length-append (closed_bytes x) (flat_map closed_bytes cs)) in
+    ap (λ t. record { scan = index; plan = s; number = number; offset = at; bytes = x.piece } ∷ t)
+    (pieces_snoc index s (given_last given next) next (at + length (closed_bytes x)) cs c w ∙ rw e refl)
+
+given_snoc : (n given : ℕ) (cs : List ClosedPiece) (c : ClosedPiece) → given_after n given (cs ++ c ∷ []) ≡ given_last (given_after n given cs) (number_behind n (given_after n given cs) c.mark)
+given_snoc n given [] c = refl
+given_snoc n given (x ∷ cs) c = given_snoc n (given_last given (number_behind n given x.mark)) cs c
+
+-- an open piece that is told more
+number_with : (p : OpenPiece) (more : List ℕ) → number_of (piece_with p more) ≡ number_of p
+number_with (open_piece.Within k d) more = refl
+number_with (open_piece.Beyond k) more = refl
+
+told_with : (p : OpenPiece) (more : List ℕ) → IsTold p → IsTold (piece_with p more)
+told_with (open_piece.Within k d) more (bytes, e) = (bytes ++ more, rw e refl)
+told_with (open_piece.Beyond k) more t = tt
+
+told_more : (p : OpenPiece) (w : List ℕ) (held : Held) (n b : ℕ) → HeldIs held n → IsTold p → ToldAs (number_of p) (bytes_of p) w
+    → ToldAs (number_of (piece_with p (held_bytes held ++ b ∷ []))) (bytes_of (piece_with p (held_bytes held ++ b ∷ []))) (w ++ (fill_bytes n ++ b ∷ []))
+told_more (open_piece.Within k d) w held n b h (bytes, e) t = let u : SameBytes bytes w = rw e at t in rw e (same_more bytes w held n b h u)
+told_more (open_piece.Beyond k) w held n b h i t = tt
+
+opened_number : (s : Scan) (number : PieceNumber) → number_of (piece_opened s number) ≡ number
+opened_number s (Interval k) = refl
+opened_number s (BeyondLast k) = refl
+
+opened_told : (s : Scan) (number : PieceNumber) → IsTold (piece_opened s number)
+opened_told s (Interval k) = ([], refl)
+opened_told s (BeyondLast k) = tt
+
+opened_as : (s : Scan) (number : PieceNumber) → ToldAs (number_of (piece_opened s number)) (bytes_of (piece_opened s number)) []
+opened_as s (Interval k) = inl refl
+opened_as s (BeyondLast k) = tt
+
+module _ (o : OpenScan) (h : HeaderState) (ps : List FoundPiece) (x : List ℕ) (d : InScanData o h ps x) (b : ℕ) where
+  start_length : ℕ
+  start_length = length d.before + length (segment_bytes d.fill d.code d.payload)
+
+  fill_tells : b ≡ 255 → InScanData (record o { held = one_more o.held }) h (ps ++ []) (x ++ b ∷ [])
+  fill_tells e = record {
+    before = d.before;
+    old = d.old;
+    units = d.units;
+    earlier = d.earlier;
+    behind = d.behind;
+    passed = d.passed;
+    fill = d.fill;
+    code = d.code;
+    payload = d.payload;
+    known = d.known;
+    size = d.size;
+    follows = d.follows;
+    plan_is = d.plan_is;
+    index_is = d.index_is;
+    closed = d.closed;
+    each = d.each;
+    piece = d.piece;
+    piece_is = d.piece_is;
+    front = d.front;
+    pieces_are = d.pieces_are;
+    given_is = d.given_is;
+    offset_is = d.offset_is;
+    here = d.here;
+    here_alike = d.here_alike;
+    told_as = d.told_as;
+    told_is = d.told_is;
+    held = suc d.held;
+    held_is = more_held o.held d.held d.held_is;
+    found_are = append-nil ps ∙ d.found_are;
+    whole = ap (λ y. y ++ b ∷ []) d.whole ∙ rw e (simp append_assoc (rw fill_snoc refl));
+  }
+
+  data_tells : b ≢ 255 → (0 < d.held → closes_piece b ≡ false) → InScanData (scan_with o b) h (ps ++ []) (x ++ b ∷ [])
+  data_tells ne free = record {
+    before = d.before;
+    old = d.old;
+    units = d.units;
+    earlier = d.earlier;
+    behind = d.behind;
+    passed = d.passed;
+    fill = d.fill;
+    code = d.code;
+    payload = d.payload;
+    known = d.known;
+    size = d.size;
+    follows = d.follows;
+    plan_is = d.plan_is;
+    index_is = d.index_is;
+    closed = d.closed;
+    each = d.each;
+    piece = d.piece ++ (fill_bytes d.held ++ b ∷ []);
+    piece_is = piece_more d.piece d.held b d.piece_is ne free;
+    front = d.front;
+    pieces_are = rw number_with d.pieces_are;
+    given_is = d.given_is;
+    offset_is = d.offset_is;
+    here = d.here;
+    here_alike = d.here_alike;
+    told_as = told_more o.piece d.piece o.held d.held b d.held_is d.told_is d.told_as;
+    told_is = told_with o.piece _ d.told_is;
+    held = 0;
+    held_is = refl;
+    found_are = append-nil ps ∙ d.found_are;
+    whole = ap (λ y. y ++ b ∷ []) d.whole ∙ simp (append_assoc, append-nil) refl;
+  }
+
+  pub alike_now : AlikePiece (found o) (record { scan = d.old.scans; plan = o.plan; number = number_of o.piece; offset = o.offset; bytes = d.piece })
+  alike_now = record { scan_is = d.index_is; plan_is = refl; number_is = refl; offset_is = refl; told_as = d.told_as }
+
+  mark_tells : (m count : ℕ) → d.held ≡ suc m → is_restart_code b ≡ true → count ≡ length x
+      → InScanData (scan_behind o (number_behind (intervals o.plan) o.last (b - 208)) (count + 1)) h (ps ++ found o ∷ []) (x ++ b ∷ [])
+  mark_tells m count hm r c =
+      let low : b - 208 < 8 = grind (arith, nat_tests) in
+      let back : 208 + (b - 208) ≡ b = grind (arith, nat_tests) in
+      let closing : ClosedPiece = record { piece = d.piece; fill = m; mark = b - 208 } in
+      let given : o.last ≡ given_after (intervals o.plan) 0 d.closed = d.given_is in
+      let bytes : x ++ b ∷ [] ≡ d.before ++ (segment_bytes d.fill d.code d.payload ++ (flat_map closed_bytes (d.closed ++ closing ∷ []) ++ ([] ++ []))) =
+      ap (λ y. y ++ b ∷ []) d.whole ∙ rw hm (simp (append_assoc, append-nil, flat_map-append, ← fill_more m) (rw back refl)) in
+      let size : count + 1 ≡ length d.before + length (segment_bytes d.fill d.code d.payload) + length (flat_map closed_bytes (d.closed ++ closing ∷ [])) =
+      ap (λ n. n + 1) c ∙ sym (length-append x (b ∷ [])) ∙ ap length bytes ∙ length-append d.before _
+      ∙ (omega (arith, length-append (segment_bytes d.fill d.code d.payload) (flat_map closed_bytes (d.closed ++ closing ∷ []) ++ []), ap length (append-nil (flat_map closed_bytes (d.closed ++ closing ∷ []))))) in
+      let number : PieceNumber = number_behind (intervals o.plan) o.last (b - 208) in
+      record {
+        before = d.before;
+        old = d.old;
+        units = d.units;
+        earlier = d.earlier;
+        behind = d.behind;
+        passed = d.passed;
+        fill = d.fill;
+        code = d.code;
+        payload = d.payload;
+        known = d.known;
+        size = d.size;
+        follows = d.follows;
+        plan_is = d.plan_is;
+        index_is = d.index_is;
+        closed = d.closed ++ closing ∷ [];
+        each = each_more d.closed closing d.each (d.piece_is, low);
+        piece = [];
+        piece_is = tt;
+        front = d.front ++ record { scan = d.old.scans; plan = o.plan; number = number_of o.piece; offset = o.offset; bytes = d.piece } ∷ [];
+        pieces_are = λ w.
+            pieces_snoc d.old.scans o.plan 0 (Interval 0) (length d.before + length (segment_bytes d.fill d.code d.payload)) d.closed closing w
+            ∙ rw (d.pieces_are d.piece, opened_number, ← given, size) (ap (λ k. (d.front ++ record { scan = d.old.scans; plan = o.plan; number = number_of o.piece; offset = o.offset; bytes = d.piece } ∷ [])
+            ++ record { scan = d.old.scans; plan = o.plan; number = number; offset = k; bytes = w } ∷ []) (shut d.before closing));
+        given_is = rw (given_snoc, ← given) refl;
+        offset_is = size;
+        here = d.here ++ found o ∷ [];
+        here_alike = alike_more d.here d.front (found o) _ d.here_alike alike_now;
+        told_as = opened_as o.plan number;
+        told_is = opened_told o.plan number;
+        held = 0;
+        held_is = refl;
+        found_are = ap (λ y. y ++ found o ∷ []) d.found_are ∙ append_assoc d.earlier d.here (found o ∷ []);
+        whole = bytes;
+      }
+    where
+      shut : (before : List ℕ) (closing : ClosedPiece) → length d.before + length (segment_bytes d.fill d.code d.payload) + length (flat_map closed_bytes d.closed) + length (closed_bytes closing)
+          ≡ length d.before + length (segment_bytes d.fill d.code d.payload) + length (flat_map closed_bytes (d.closed ++ closing ∷ []))
+      shut before closing = rw (flat_map-append, append-nil) (omega (arith, length-append (flat_map closed_bytes d.closed) (closed_bytes closing)))
+
+  stop_tells : (payload : List ℕ) (m count : ℕ) → d.held ≡ suc m → b ≢ 255 → ends_scan_data b ≡ true → count ≡ length x
+      → Tells (state.from_marker true true count b) h payload (ps ++ found o ∷ []) (x ++ b ∷ [])
+  stop_tells payload m count hm ne s c =
+      let unit : CopyUnit = scan d.fill d.code d.payload o.plan d.closed d.piece by_marker in
+      let y : List ℕ = d.before ++ unit_bytes unit in
+      let alike : AlikePieces (d.here ++ found o ∷ []) (pieces_from d.old.scans o.plan 0 (Interval 0) (length d.before + length (segment_bytes d.fill d.code d.payload)) d.closed d.piece) =
+      subst (AlikePieces (d.here ++ found o ∷ [])) (sym (d.pieces_are d.piece)) (alike_more d.here d.front (found o) _ d.here_alike alike_now) in
+      let passed : Passed y h (d.units ++ unit ∷ []) (d.earlier ++ (d.here ++ found o ∷ [])) true =
+      passed_scan d.before d.old d.units d.earlier d.behind d.passed d.fill d.code d.payload h y d.known d.size d.follows o.plan d.plan_is d.closed d.piece (d.here ++ found o ∷ []) d.each d.piece_is alike refl in
+      let all : x ≡ y ++ fill_bytes (suc m) = d.whole ∙ rw hm (simp (append_assoc, append-nil) refl) in
+      let bytes : y ++ (fill_bytes (suc m) ++ b ∷ []) ≡ x ++ b ∷ [] = rw all (sym (append_assoc y (fill_bytes (suc m)) (b ∷ []))) in
+      let pieces : d.earlier ++ (d.here ++ found o ∷ []) ≡ ps ++ found o ∷ [] = rw d.found_are (sym (append_assoc d.earlier d.here (found o ∷ []))) in
+      let size : count ≡ length y + suc m = c ∙ ap length all ∙ length-append y (fill_bytes (suc m)) ∙ ap (λ k. length y + k) (fill_length (suc m)) in
+      let framed : is_some h.frame ≡ true = scan_has_frame d.old h d.code d.payload o.plan d.plan_is in
+      let told : Tells (state.from_marker true (is_some h.frame) count b) h payload (d.earlier ++ (d.here ++ found o ∷ [])) (y ++ (fill_bytes (suc m) ++ b ∷ [])) =
+      fill_marker_more y h (d.units ++ unit ∷ []) (d.earlier ++ (d.here ++ found o ∷ [])) true payload m b count passed size (λ _. s) (inr ne) (cases_eq b 217) (inl framed) (cases_Bool (has_segment b)) (inl refl) in
+      subst (λ q. Tells (state.from_marker true q count b) h payload (ps ++ found o ∷ []) (x ++ b ∷ [])) framed
+      (subst (λ q. Tells (state.from_marker true (is_some h.frame) count b) h payload q (x ++ b ∷ [])) pieces
+      (subst (λ q. Tells (state.from_marker true (is_some h.frame) count b) h payload (d.earlier ++ (d.here ++ found o ∷ [])) q) bytes told))
+
+pub scan_more : (o : OpenScan) (h : HeaderState) (ps : List FoundPiece) (x : List ℕ) (d : InScanData o h ps x) (b : ℕ) (payload : List ℕ) (count : ℕ) → count ≡ length x
+    → Tells (state.from_scan (class_of o.held b) o count b) h payload (ps ++ state.closed_by (class_of o.held b) o) (x ++ b ∷ [])
+scan_more o h ps x d b payload count c = by (class_is o.held d.held b d.held_is (cases_eq b 255) (cases_Bool (is_restart_code b)) (cases_Bool (ends_scan_data b)))
+  where
+    some : (n : ℕ) → 0 < n → (m : ℕ) × (n ≡ suc m)
+    some zero k = absurd (omega arith)
+    some (suc m) k = (m, refl)
+
+    by : ClassIs o.held d.held b → Tells (state.from_scan (class_of o.held b) o count b) h payload (ps ++ state.closed_by (class_of o.held b) o) (x ++ b ∷ [])
+    by (is_fill _ _ _ e f) = rw e (fill_tells o h ps x d b f)
+    by (is_data _ _ _ e ne free) = rw e (data_tells o h ps x d b ne free)
+    by (is_mark _ _ _ e k r) = let m = some d.held k in rw e (mark_tells o h ps x d b m.0 count m.1 r c)
+    by (is_stop _ _ _ e k ne s) = let m = some d.held k in rw e (stop_tells o h ps x d b payload m.0 count m.1 ne s c)

@@ -1,0 +1,5 @@
+use Rattle.jls_copy.proofs.OneCourse.{one_course}
+use Rattle.jls_copy.proofs.course_laws.copies_have_one_course.Goals as goal
+
+pub returns : goal.returns
+returns c = one_course

@@ -1,0 +1,6 @@
+use Rattle.std.proofs.Common.{◌≡◌, Some}
+use Rattle.jls_copy.specs.Findings.{HoldsShape}
+use Rattle.jls_copy.proofs.machine.Machine.close.Goals as goal
+
+pub close-requires-clause-held : goal.close-requires-clause-held
+close-requires-clause-held c = c.requires.held c.in-Some.shape.now c.in-Some.ensures.some

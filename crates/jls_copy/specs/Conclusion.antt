@@ -1,0 +1,46 @@
+-- What a reader answers when the input ends.
+use Rattle.std.specs.Prelude.{◌≡◌, ℕ, Bool, true, false, List, length, take, Option, Some, None}
+use Rattle.jls_values.specs.OrderedSet as set
+use Rattle.jls_values.specs.Shape.{PictureShape}
+use Rattle.jls_copy.specs.Pieces.{Outcome}
+use Rattle.jls_copy.specs.Pieces.{AreOutcomes, readings, records}
+use Rattle.jls_copy.specs.Reader.{all_pieces}
+use Rattle.jls_copy.specs.ReaderState.{Reading, end_at}
+use Rattle.jls_copy.specs.declared.end.End.{End}
+use Rattle.jls_copy.specs.declared.end.End.TheVariants.{Eoi, Input, Header}
+use Rattle.jls_marker.specs.declared.fault.MarkerFault.TheVariants as fault
+use Rattle.jls_copy.specs.ReadCopy.{ReadCopy}
+use Rattle.jls_copy.specs.declared.reader.CopyFault.{CopyFault}
+use Rattle.jls_copy.specs.declared.reader.CopyFault.TheVariants.{NoPicture, OutOfMemory}
+use Rattle.jls_copy.specs.declared.place.Place.{Place}
+use Rattle.jls_copy.specs.declared.place.Place.TheVariants.{Start, AtMarker, AtLength, InLength, InPayload, InScan, Done}
+
+abbrev pub is_final : Place → Bool
+is_final (Start fill) = false
+is_final (AtMarker fill) = false
+is_final (AtLength marker code) = false
+is_final (InLength marker code high) = false
+is_final (InPayload marker code size) = false
+is_final (InScan scan) = false
+is_final (Done e) = true
+
+-- the frame's shape, the readings and the records of all pieces, and the end
+pub record Concludes (r : Reading) (read : ReadCopy) : Type 0 where
+  pub shape : PictureShape
+  pub framed : r.state.headers.frame ≡ Some shape
+  pub outcomes : List Outcome
+  pub each : AreOutcomes (all_pieces r) outcomes
+  pub partial_is : read.partial ≡ record { shape = shape; readings = set.insert_all set.empty (readings (all_pieces r) outcomes) }
+  pub pieces_are : read.pieces ≡ take 4096 (records (all_pieces r) outcomes)
+  pub count_is : read.piece_count ≡ length (records (all_pieces r) outcomes)
+  pub ended_is : read.ended ≡ end_at r.state.place r.state.count
+
+-- the fault where no frame was taken
+abbrev pub no_picture : End → CopyFault
+no_picture (Eoi offset) = NoPicture fault.NoFrame offset
+no_picture (Input offset) = NoPicture fault.Ended offset
+no_picture (Header f offset) = NoPicture f offset
+
+abbrev pub SaysNone : Reading → CopyFault → Type 0
+SaysNone r OutOfMemory = Unit {0}
+SaysNone r (NoPicture f offset) = (r.state.headers.frame ≡ None) × (NoPicture f offset ≡ no_picture (end_at r.state.place r.state.count))

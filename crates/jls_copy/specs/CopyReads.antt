@@ -1,0 +1,45 @@
+-- What a whole copy gives: the readings and the records of its course.
+use Rattle.std.specs.Prelude.{◌≡◌, ℕ, Bool, true, false, List, length, take, Option, Some, None}
+use Rattle.jls_values.specs.OrderedSet as set
+use Rattle.jls_values.specs.Shape.{PictureShape}
+use Rattle.jls_copy.specs.Course.{Course, IsCourse}
+use Rattle.jls_copy.specs.Pieces.{pieces}
+use Rattle.jls_copy.specs.Pieces.{Outcome}
+use Rattle.jls_copy.specs.Pieces.{AreOutcomes, readings, records}
+use Rattle.jls_copy.specs.Conclusion.{no_picture}
+use Rattle.jls_copy.specs.declared.end.End.{End}
+use Rattle.jls_copy.specs.declared.end.End.TheVariants.{Eoi, Input, Header}
+use Rattle.jls_marker.specs.declared.fault.MarkerFault.TheVariants as fault
+use Rattle.jls_copy.specs.ReadCopy.{ReadCopy}
+use Rattle.jls_copy.specs.declared.reader.CopyFault.{CopyFault}
+use Rattle.jls_copy.specs.declared.reader.CopyFault.TheVariants.{NoPicture, OutOfMemory}
+
+-- the copy has a course with a frame, and what was read is the frame's shape with the readings of the course's pieces, the first 4,096
+-- of its records, how many there are, and its end
+pub record CopyReads (copy : List ℕ) (read : ReadCopy) : Type 0 where
+  pub course : Course
+  pub is_course : IsCourse copy course
+  pub shape : PictureShape
+  pub framed : course.headers.frame ≡ Some shape
+  pub outcomes : List Outcome
+  pub each : AreOutcomes (pieces course) outcomes
+  pub partial_is : read.partial ≡ record { shape = shape; readings = set.insert_all set.empty (readings (pieces course) outcomes) }
+  pub pieces_are : read.pieces ≡ take 4096 (records (pieces course) outcomes)
+  pub count_is : read.piece_count ≡ length (records (pieces course) outcomes)
+  pub ended_is : read.ended ≡ course.end
+
+-- the copy has a course without a frame, and the fault is that which ended it
+abbrev pub CopyGivesNone : List ℕ → CopyFault → Type 0
+CopyGivesNone copy OutOfMemory = Unit {0}
+CopyGivesNone copy (NoPicture f offset) = (c : Course) × IsCourse copy c × (c.headers.frame ≡ None) × (NoPicture f offset ≡ no_picture c.end)
+
+-- whether no byte more undoes an end: EOI, or a fault other than that of an input that ends too early
+abbrev pub is_final_end : End → Bool
+is_final_end (Eoi offset) = true
+is_final_end (Input offset) = false
+is_final_end (Header fault.Ended offset) = false
+is_final_end (Header f offset) = true
+
+-- the course of the bytes ends so that no byte more undoes it, or it doesn't
+abbrev pub IsDone : List ℕ → Bool → Type 0
+IsDone copy done = (c : Course) × IsCourse copy c × (done ≡ is_final_end c.end)

@@ -1,0 +1,117 @@
+-- The pieces of a copy's scan data, each under its number, and what each gives.
+use Rattle.std.specs.Prelude.{◌≡◌, ℕ, ◌+◌, ◌*◌, ◌==◌, List, [], ◌∷◌, ◌++◌, length, get_or, if◌then◌else◌}
+use Rattle.jls_interval.specs.Reads.{Reads, IsLong, IsBroken}
+use Rattle.jls_partial.specs.Reading.{Reading, reading_of}
+use Rattle.jls_marker.specs.Scan.{Scan, intervals, first_row, row_count}
+use Rattle.jls_copy.specs.ScanData.{ClosedPiece, closed_bytes}
+use Rattle.jls_copy.specs.Numbers.{PieceNumber, Interval, BeyondLast, number_behind, given_last}
+use Rattle.jls_copy.specs.Course.{CopyUnit, segment, scan, segment_bytes, unit_bytes, Course}
+use Rattle.jls_copy.specs.declared.piece.PieceKind.{PieceKind}
+use Rattle.jls_copy.specs.declared.piece.PieceKind.TheVariants as kind
+use Rattle.jls_copy.specs.declared.piece.PieceRecord.{PieceRecord}
+
+-- a piece: of which scan of the copy, counted from 0, and of which components, parameters and rows; its number; the offset of its first
+-- byte; and its bytes
+pub record FoundPiece : Type 0 where
+  pub scan : ℕ
+  pub plan : Scan
+  pub number : PieceNumber
+  pub offset : ℕ
+  pub bytes : List ℕ
+
+-- Where they stand ------------------------------------------------------------------------------------------------
+
+-- the pieces of scan data from one on that has this number and this offset, where `last` was given last
+abbrev pub pieces_from : ℕ → Scan → ℕ → PieceNumber → ℕ → List ClosedPiece → List ℕ → List FoundPiece
+pieces_from index plan last number at [] bytes = record { scan = index; plan = plan; number = number; offset = at; bytes = bytes } ∷ []
+pieces_from index plan last number at (c ∷ closed) bytes =
+    let next = number_behind (intervals plan) last c.mark in
+    record { scan = index; plan = plan; number = number; offset = at; bytes = c.piece }
+    ∷ pieces_from index plan (given_last last next) next (at + length (closed_bytes c)) closed bytes
+
+-- the pieces of a unit at this offset, where so many scans stand before it
+abbrev pub unit_pieces : ℕ → ℕ → CopyUnit → List FoundPiece
+unit_pieces index at (segment fill code payload) = []
+unit_pieces index at (scan fill code payload plan closed last closing) =
+    pieces_from index plan 0 (Interval 0) (at + length (segment_bytes fill code payload)) closed last
+
+abbrev pub scans_in : CopyUnit → ℕ
+scans_in (segment fill code payload) = 0
+scans_in (scan fill code payload plan closed last closing) = 1
+
+abbrev pub pieces_in : ℕ → ℕ → List CopyUnit → List FoundPiece
+pieces_in index at [] = []
+pieces_in index at (u ∷ us) = unit_pieces index at u ++ pieces_in (index + scans_in u) (at + length (unit_bytes u)) us
+
+-- all pieces of a course, in order
+abbrev pub pieces : Course → List FoundPiece
+pieces c = pieces_in 0 c.begin c.units
+
+-- What they give --------------------------------------------------------------------------------------------------
+
+-- what a piece gives: the lines that it reads as, or why it reads as none
+pub data Outcome : Type 0 where
+  Lines : List (List ℕ) → Outcome
+  Fault : PieceKind → Outcome
+
+-- the bytes, as the piece of this number of a scan, have this outcome. A piece beyond the last interval isn't decoded
+abbrev pub IsOutcomeAt : Scan → PieceNumber → List ℕ → Outcome → Type 0
+IsOutcomeAt s (Interval k) bytes (Lines lines) =
+    Reads s.params s.width (length s.components) (row_count s k * length s.components) bytes lines
+IsOutcomeAt s (Interval k) bytes (Fault kind.Long) =
+    IsLong s.params s.width (length s.components) (row_count s k * length s.components) bytes
+IsOutcomeAt s (Interval k) bytes (Fault kind.Broken) =
+    IsBroken s.params s.width (length s.components) (row_count s k * length s.components) bytes
+IsOutcomeAt s (Interval k) bytes (Fault kind.Beyond) = ⊥
+IsOutcomeAt s (BeyondLast k) bytes (Lines lines) = ⊥
+IsOutcomeAt s (BeyondLast k) bytes (Fault kind.Long) = ⊥
+IsOutcomeAt s (BeyondLast k) bytes (Fault kind.Broken) = ⊥
+IsOutcomeAt s (BeyondLast k) bytes (Fault kind.Beyond) = Unit {0}
+
+abbrev pub IsOutcome : FoundPiece → Outcome → Type 0
+IsOutcome p o = IsOutcomeAt p.plan p.number p.bytes o
+
+-- lines as readings: row by row, and in a row by component, from this row on and from this place among the scan's components on
+abbrev pub placed : List ℕ → ℕ → ℕ → List (List ℕ) → List Reading
+placed components row place [] = []
+placed components row place (line ∷ lines) =
+    reading_of (get_or components place 0) row line
+    ∷ placed components (if place + 1 == length components then row + 1 else row) (if place + 1 == length components then 0 else place + 1) lines
+
+-- the readings that an outcome gives
+abbrev pub readings_at : Scan → PieceNumber → Outcome → List Reading
+readings_at s (Interval k) (Lines lines) = placed s.components (first_row s k) 0 lines
+readings_at s (Interval k) (Fault _) = []
+readings_at s (BeyondLast k) o = []
+
+abbrev pub readings_of : FoundPiece → Outcome → List Reading
+readings_of p o = readings_at p.plan p.number o
+
+abbrev pub value_of : PieceNumber → ℕ
+value_of (Interval k) = k
+value_of (BeyondLast k) = k
+
+-- the record of a piece that gives no lines
+abbrev pub records_of : FoundPiece → Outcome → List PieceRecord
+records_of p (Lines lines) = []
+records_of p (Fault f) = record { scan = p.scan; interval = value_of p.number; offset = p.offset; kind = f } ∷ []
+
+-- Of many pieces --------------------------------------------------------------------------------------------------
+
+-- these are the outcomes of the pieces, one of each
+abbrev pub AreOutcomes : List FoundPiece → List Outcome → Type 0
+AreOutcomes [] [] = Unit {0}
+AreOutcomes (p ∷ ps) (o ∷ os) = IsOutcome p o × AreOutcomes ps os
+AreOutcomes [] (o ∷ os) = ⊥
+AreOutcomes (p ∷ ps) [] = ⊥
+
+-- the readings and the records that they give
+abbrev pub readings : List FoundPiece → List Outcome → List Reading
+readings [] os = []
+readings (p ∷ ps) [] = []
+readings (p ∷ ps) (o ∷ os) = readings_of p o ++ readings ps os
+
+abbrev pub records : List FoundPiece → List Outcome → List PieceRecord
+records [] os = []
+records (p ∷ ps) [] = []
+records (p ∷ ps) (o ∷ os) = records_of p o ++ records ps os

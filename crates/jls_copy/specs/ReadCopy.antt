@@ -1,0 +1,12 @@
+-- What is told of a copy that was read.
+use Rattle.std.specs.Prelude.{ℕ, List}
+use Rattle.jls_partial.specs.Partial.{PartialPicture}
+use Rattle.jls_copy.specs.declared.end.End.{End}
+use Rattle.jls_copy.specs.declared.piece.PieceRecord.{PieceRecord}
+
+-- the readings, the records that are kept of faulty pieces, how many faulty pieces there were, and where the copy ended
+pub record ReadCopy : Type 0 where
+  pub partial : PartialPicture
+  pub pieces : List PieceRecord
+  pub piece_count : ℕ
+  pub ended : End

@@ -1,0 +1,41 @@
+-- What a reader of a copy keeps true.
+use Rattle.std.specs.Prelude.{◌≡◌, ℕ, ◌^◌, ◌<◌, ◌≤◌, Bool, true, false, List, [], ◌∷◌, ◌++◌, length, take, Option, Some, None}
+use Rattle.std.specs.List.{AllByRecursion}
+use Rattle.jls_values.specs.OrderedSet as set
+use Rattle.jls_values.specs.Shape.{PictureShape}
+use Rattle.jls_partial.specs.Partial.{PartialPicture}
+use Rattle.jls_copy.specs.Pieces.{FoundPiece, Outcome}
+use Rattle.jls_copy.specs.ReaderState.{reading, Reading, closed_at_end, end_at}
+use Rattle.jls_copy.specs.Sound.{IsPlace}
+use Rattle.jls_copy.specs.Machine.{state_of, IsBehind}
+use Rattle.jls_copy.specs.Gathers.{Gathers}
+use Rattle.jls_copy.specs.Pieces.{AreOutcomes, readings, records}
+use Rattle.jls_copy.specs.declared.machine.Machine.{Machine}
+use Rattle.jls_copy.specs.declared.end.End.{End}
+use Rattle.jls_copy.specs.declared.piece.PieceRecord.{PieceRecord}
+
+-- the machine stands where these bytes lead, and holds what they give; and what it holds is bounded, beside its partial picture and
+-- the decoder of one piece
+pub record IsReading (m : Machine) (bytes : List ℕ) : Type 0 where
+  pub state_is : state_of m ≡ (reading bytes).state
+  pub gathers : Gathers m.headers.frame (reading bytes).pieces m.findings
+  pub count_is : m.count ≡ length bytes
+  pub few : length bytes < 2 ^ 63
+  pub are_bytes : AllByRecursion (λ b. b < 256) bytes
+  pub place_is : IsPlace m.headers.frame m.place m.payload.items
+  pub behind : IsBehind m.place m.count
+  pub records_counted : m.findings.record_count ≤ m.count
+  pub records_kept : length m.findings.records.items ≤ 4096
+  pub header_bytes : length m.payload.items ≤ 65535
+
+abbrev pub IsReader : Bool → Machine → List ℕ → Type 0
+IsReader failed m bytes = failed ≡ false → IsReading m bytes
+
+-- what was fed, or nothing more after a refusal
+abbrev pub after : Option (List ℕ) → List ℕ → Option (List ℕ)
+after None more = None
+after (Some bytes) more = Some (bytes ++ more)
+
+-- all pieces, if the input ends here
+abbrev pub all_pieces : Reading → List FoundPiece
+all_pieces r = r.pieces ++ closed_at_end r.state.place

@@ -1,0 +1,44 @@
+-- What ties the reader's machine to the declarative course. It concerns no caller.
+use Rattle.std.specs.Prelude.{◌≡◌, ℕ, ◌<◌, List, [], ◌∷◌, ◌++◌}
+use Rattle.std.specs.List.{AllByRecursion}
+use Rattle.jls_copy.specs.Numbers.{Interval}
+use Rattle.jls_copy.specs.Pieces.{FoundPiece, Outcome, IsOutcomeAt, pieces}
+use Rattle.jls_marker.specs.HeaderState.{HeaderState}
+use Rattle.jls_marker.specs.Scan.{Scan}
+use Rattle.jls_copy.specs.Course.{Course, IsCourse}
+use Rattle.jls_copy.specs.Reader.{all_pieces}
+use Rattle.jls_copy.specs.Conclusion.{Concludes}
+use Rattle.jls_copy.specs.CopyReads.{CopyReads}
+use Rattle.jls_copy.specs.ReadCopy.{ReadCopy}
+use Rattle.jls_copy.specs.declared.end.End.{End}
+use Rattle.jls_copy.specs.ReaderState.{reading, held_bytes, end_at}
+use Rattle.jls_copy.specs.ScanData.{fill_bytes}
+use Rattle.jls_copy.specs.Tells.{Tells, SameBytes, HeldIs, AlikePieces}
+use Rattle.jls_copy.specs.declared.scan.Held.{Held}
+
+-- what a reader is told of a piece goes on as the piece does
+abbrev pub ToldGoesOn : Type 0
+ToldGoesOn = (told piece : List ℕ) (held : Held) (n b : ℕ) → HeldIs held n → SameBytes told piece
+    → SameBytes (told ++ (held_bytes held ++ b ∷ [])) (piece ++ (fill_bytes n ++ b ∷ []))
+
+-- and has the same outcome
+abbrev pub SameOutcome : Type 0
+SameOutcome = (s : Scan) (k : ℕ) (told piece : List ℕ) (o : Outcome) → SameBytes told piece → IsOutcomeAt s (Interval k) told o → IsOutcomeAt s (Interval k) piece o
+
+-- the reader's place tells the course of the bytes so far
+abbrev pub ReadingTells : Type 0
+ReadingTells = (bytes : List ℕ) → AllByRecursion (λ b. b < 256) bytes
+    → Tells (reading bytes).state.place (reading bytes).state.headers (reading bytes).state.payload (reading bytes).pieces bytes
+
+-- the bytes have a course with this end, these headers at last and pieces alike
+abbrev pub CourseIs : List ℕ → End → HeaderState → List FoundPiece → Type 0
+CourseIs bytes e headers ps = (c : Course) × IsCourse bytes c × (c.headers ≡ headers) × (c.end ≡ e) × AlikePieces ps (pieces c)
+
+-- where a reader stands after some bytes tells their course
+abbrev pub CourseTold : Type 0
+CourseTold = (bytes : List ℕ) → AllByRecursion (λ b. b < 256) bytes
+    → CourseIs bytes (end_at (reading bytes).state.place (reading bytes).state.count) (reading bytes).state.headers (all_pieces (reading bytes))
+
+-- and what a reader answers is what the copy gives
+abbrev pub ConclusionTold : Type 0
+ConclusionTold = (bytes : List ℕ) → AllByRecursion (λ b. b < 256) bytes → (read : ReadCopy) → Concludes (reading bytes) read → CopyReads bytes read

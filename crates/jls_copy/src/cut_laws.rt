@@ -1,0 +1,21 @@
+//! The laws of scan data. Each is a function that does nothing and whose contract is the law.
+
+ghost use Rattle.jls_copy.specs.CutLaws.{OneCut, NumbersAreLeast, LostMarksAreBridged};
+
+/// A law: every list of bytes that begins where scan data does is cut into pieces and marks in exactly one way (T.81 B.1.1.2
+/// and B.2.1).
+pub fn scan_data_has_one_cut()
+    ensures { OneCut }
+{}
+
+/// A law: the number that a restart marker gives to the piece behind it is the least one above the number given last whose
+/// marker it can be.
+pub fn numbers_are_least()
+    ensures { NumbersAreLeast }
+{}
+
+/// A law: where fewer than eight restart markers in a row are lost, those that are left give the pieces behind them the
+/// numbers that these have in the undamaged picture.
+pub fn lost_marks_are_bridged()
+    ensures { LostMarksAreBridged }
+{}

@@ -1,0 +1,147 @@
+//! What a copy gives: readings, and records of the pieces that give none.
+
+ghost use Rattle.std.specs.Prelude.{◌≡◌, ◌+◌, ◌*◌, ◌^◌, ◌≤◌, ◌<◌, ◌++◌, ◌∷◌, [], ℕ, OnOk, IfOk, length, map, take, Some, None};
+ghost use Rattle.jls_copy.specs.Findings.{with_readings, picture_of, HoldsShape, kept_with, Adds};
+ghost use Rattle.jls_copy.specs.Fits.{FitFrom};
+ghost use Rattle.jls_partial.specs.InsertFaults.{reading_fault};
+ghost use Rattle.jls_partial.specs.Partial.{with_reading};
+ghost use Rattle.jls_copy.specs.Pieces.{placed};
+ghost use Rattle.jls_interval.specs.Lines.{AreLines};
+ghost use Rattle.jls_marker.specs.Scan.{IsScanOf, intervals, first_row, row_count};
+ghost use Rattle.jls_copy.specs.ReaderState.{piece_found};
+ghost use Rattle.jls_copy.specs.Sound.{IsOpenPiece};
+
+use crate::piece::{OpenPiece, PieceKind, PieceRecord};
+use jls_interval::PieceFault;
+use jls_marker::ScanPlan;
+use jls_partial::{InsertFault, Partial};
+use jls_values::Shape;
+use std::alloc::{AllocError, Global};
+
+/// The readings, the first 4,096 records, and how many pieces gave none.
+#[derive(Drop)]
+pub(crate) struct Findings {
+    pub(crate) partial: Option<Partial>,
+    pub(crate) records: Vec<PieceRecord>,
+    pub(crate) record_count: u64,
+}
+
+/// Takes a line that fits into the picture.
+fn take_line(partial: &mut Partial, component: u8, row: u16, line: &[u16]) -> Result<(), AllocError>
+    requires { reading_fault partial.old.shape component row line.now ≡ None }
+    ensures { OnOk result (partial.new ≡ with_reading partial.old component row line.now) }
+{
+    match partial.insert(component, row, line) {
+        Ok(_) => Ok(()),
+        Err(InsertFault::OutOfMemory) => Err(AllocError),
+        Err(_) => unreachable!(),
+    }
+}
+
+/// Takes the lines of an interval whose first row this is.
+fn take_lines(
+    partial: &mut Partial,
+    components: &[u8],
+    first_row: u16,
+    lines: &[Vec<u16>],
+) -> Result<(), AllocError>
+    requires { FitFrom partial.old.shape components.now first_row 0 (map (λ line. line.items) lines.now) }
+    ensures { OnOk result (partial.new ≡ with_readings partial.old (placed components.now first_row 0 (map (λ line. line.items) lines.now))) }
+{
+    let mut row = first_row;
+    let mut place = 0;
+    for line in lines {
+        take_line(partial, components[place], row, line)?;
+        place += 1;
+        if place == components.len() {
+            place = 0;
+            row += 1;
+        }
+    }
+    Ok(())
+}
+
+impl Findings {
+    /// Keeps a record, if fewer than 4,096 are kept, and counts it.
+    fn note(&mut self, entry: PieceRecord) -> Result<(), AllocError>
+        requires { self.old.record_count < 2 ^ 63 }
+        ensures partial { OnOk result (self.new.partial ≡ self.old.partial) }
+        ensures records { OnOk result (self.new.records.items ≡ kept_with self.old.records.items (entry ∷ [])) }
+        ensures count { OnOk result (self.new.record_count ≡ self.old.record_count + 1) }
+    {
+        if self.records.len() < 4096 {
+            self.records.push(entry)?;
+        }
+        self.record_count += 1;
+        Ok(())
+    }
+
+    /// Takes the lines of an interval of a scan.
+    fn take(
+        &mut self,
+        alloc: Global,
+        shape: &Shape,
+        plan: &ScanPlan,
+        interval: u32,
+        lines: &[Vec<u16>],
+    ) -> Result<(), AllocError>
+        requires interval { interval < intervals plan.now }
+        requires scan { IsScanOf shape.now plan.now }
+        requires lines { AreLines plan.now.params plan.now.width (row_count plan.now interval * length plan.now.components) (map (λ line. line.items) lines.now) }
+        requires held { HoldsShape self.old.partial shape.now }
+        ensures picture { OnOk result (self.new.partial ≡ Some (with_readings (picture_of shape.now self.old.partial) (placed plan.now.components (first_row plan.now interval) 0 (map (λ line. line.items) lines.now)))) }
+        ensures records { OnOk result (self.new.records.items ≡ self.old.records.items) }
+        ensures count { OnOk result (self.new.record_count ≡ self.old.record_count) }
+    {
+        let (first_row, _) = plan.rows(interval);
+        let mut partial = match self.partial.take() {
+            None => Partial::empty(alloc, shape.to_owned()),
+            Some(partial) => partial,
+        };
+        take_lines(&mut partial, plan.components(), first_row, lines)?;
+        self.partial = Some(partial);
+        Ok(())
+    }
+
+    /// Takes what a whole piece of a scan gives.
+    pub(crate) fn close(
+        &mut self,
+        alloc: Global,
+        shape: &Shape,
+        index: u8,
+        plan: &ScanPlan,
+        offset: u64,
+        piece: OpenPiece,
+    ) -> Result<(), AllocError>
+        requires count { self.old.record_count < 2 ^ 63 }
+        requires sound { IsOpenPiece plan.now piece }
+        requires scan { IsScanOf shape.now plan.now }
+        requires held { HoldsShape self.old.partial shape.now }
+        ensures { OnOk result (Adds (Some shape.now) (piece_found index plan.now offset piece ∷ []) self.old self.new) }
+    {
+        match piece {
+            OpenPiece::Beyond(interval) => self.note(PieceRecord {
+                scan: index,
+                interval,
+                offset,
+                kind: PieceKind::Beyond,
+            }),
+            OpenPiece::Within(interval, decoder) => match decoder.finish() {
+                Ok(lines) => self.take(alloc, shape, plan, interval, &lines),
+                Err(PieceFault::Long) => self.note(PieceRecord {
+                    scan: index,
+                    interval,
+                    offset,
+                    kind: PieceKind::Long,
+                }),
+                Err(PieceFault::Broken) => self.note(PieceRecord {
+                    scan: index,
+                    interval,
+                    offset,
+                    kind: PieceKind::Broken,
+                }),
+                Err(PieceFault::OutOfMemory) => Err(AllocError),
+            },
+        }
+    }
+}

@@ -1,0 +1,26 @@
+//! One copy of a picture as a JPEG-LS file, read through damage (ITU-T T.87 with the marker syntax of ITU-T T.81).
+//!
+//! So far: where scan data is cut into pieces, which numbers restart markers give, and the search for places where a cut can be.
+#![tactic(auto)]
+
+mod course_laws;
+mod cut_laws;
+mod cut_search;
+mod end;
+mod findings;
+mod lanes;
+mod machine;
+mod piece;
+mod place;
+mod reader;
+mod scan;
+
+pub use course_laws::copies_have_one_course;
+pub use cut_laws::{lost_marks_are_bridged, numbers_are_least, scan_data_has_one_cut};
+pub use cut_search::next_cut;
+pub use end::End;
+pub use piece::{PieceKind, PieceRecord};
+pub use reader::{CopyFault, CopyRead, CopyReader};
+
+#[cfg(test)]
+mod tests;

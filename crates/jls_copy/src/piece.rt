@@ -1,0 +1,73 @@
+//! Pieces of scan data.
+
+ghost use Rattle.std.specs.Prelude.{◌≡◌, ◌+◌, ◌∷◌, ◌++◌, [], ◌<◌, ◌^◌, OnOk, IfOk};
+ghost use Rattle.jls_marker.specs.Scan.{intervals};
+ghost use Rattle.jls_copy.specs.Numbers.{numbered};
+ghost use Rattle.jls_copy.specs.ReaderState.{piece_opened, piece_with};
+ghost use Rattle.jls_copy.specs.Sound.{IsOpenPiece};
+
+use jls_interval::IntervalDecoder;
+use jls_marker::ScanPlan;
+use std::alloc::{AllocError, Global};
+
+/// Why a piece of scan data gives no readings.
+#[derive(Clone, Copy, Debug, PartialEq, Eq)]
+pub enum PieceKind {
+    /// Its bytes are no code of lines.
+    Broken,
+    /// More than seven bits follow the code of lines.
+    Long,
+    /// Its number is beyond the last interval.
+    Beyond,
+}
+
+/// A piece of scan data that gave no readings.
+#[derive(Clone, Copy, Debug, PartialEq, Eq)]
+pub struct PieceRecord {
+    pub scan: u8,
+    pub interval: u32,
+    /// The offset of its first byte.
+    pub offset: u64,
+    pub kind: PieceKind,
+}
+
+/// A piece that is told byte after byte, under its number.
+#[derive(Drop)]
+pub(crate) enum OpenPiece {
+    Within(u32, IntervalDecoder),
+    Beyond(u32),
+}
+
+impl OpenPiece {
+    /// The piece of this number, told nothing.
+    pub(crate) fn open(alloc: Global, plan: &ScanPlan, number: u32) -> Result<OpenPiece, AllocError>
+        requires { number < 2 ^ 17 }
+        ensures opened { IfOk result (λ piece. piece ≡ piece_opened plan.now (numbered (intervals plan.now) number)) }
+        ensures sound { IfOk result (λ piece. IsOpenPiece plan.now piece) }
+    {
+        if number >= plan.intervals() {
+            return Ok(OpenPiece::Beyond(number));
+        }
+        let (_, rows) = plan.rows(number);
+        let params = plan.params();
+        let components = plan.components().len() as u8;
+        let decoder = IntervalDecoder::new(
+            alloc,
+            &params,
+            plan.width(),
+            components,
+            u32::from(rows),
+        );
+        Ok(OpenPiece::Within(number, decoder))
+    }
+
+    /// Tells one byte more.
+    pub(crate) fn push(&mut self, byte: u8) -> Result<(), AllocError>
+        ensures { OnOk result (self.new ≡ piece_with self.old (byte ∷ [])) }
+    {
+        match self {
+            OpenPiece::Within(_, decoder) => decoder.push(byte),
+            OpenPiece::Beyond(_) => Ok(()),
+        }
+    }
+}

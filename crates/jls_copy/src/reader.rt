@@ -1,0 +1,257 @@
+//! One copy of a picture, in pieces of any size.
+
+ghost use Rattle.std.specs.Prelude.{◌≡◌, ◌+◌, ◌-◌, ◌≤◌, ◌<◌, ◌^◌, ◌∷◌, [], length, Some, None, IfSome, OnOk, OnErr, IsOk, IsSome, IsErr, IfOk, IfErr, IfNone, take};
+ghost use Rattle.jls_copy.specs.Reader.{after};
+ghost use Rattle.jls_copy.specs.Conclusion as reader;
+ghost use Rattle.jls_copy.specs.CopyReads.{CopyReads, CopyGivesNone, IsDone};
+ghost use Rattle.jls_copy.specs.Findings.{picture_of};
+ghost use Rattle.jls_copy.specs.declared.reader.CopyFault.TheVariants as CopyFault;
+ghost use Rattle.jls_values.specs.Shape.{PictureShape};
+
+use crate::end::End;
+use crate::findings::Findings;
+use crate::machine::Machine;
+use crate::piece::PieceRecord;
+use crate::place::Place;
+use jls_bits::PushedBytes;
+use jls_marker::{Headers, MarkerFault};
+use jls_partial::Partial;
+use std::alloc::{AllocError, Global};
+use std::marker::Model;
+
+/// Why a copy gives nothing.
+#[derive(Clone, Copy, Debug, PartialEq, Eq)]
+pub enum CopyFault {
+    /// No frame was taken: the fault that ended the copy, and its offset.
+    NoPicture(MarkerFault, u64),
+    OutOfMemory,
+}
+
+/// What a copy gave: its readings, and why they are no more.
+#[derive(Drop)]
+pub struct CopyRead {
+    partial: Partial,
+    pieces: Vec<PieceRecord>,
+    piece_count: u64,
+    ended: End,
+}
+
+impl Model for CopyRead {
+    ghost use Rattle.jls_copy.specs.ReadCopy.{ReadCopy};
+    ghost use Rattle.jls_partial.specs.Partial.{coded_partial};
+    ghost use Rattle.std.specs.Coded.{codes};
+
+    ghost Value = { ReadCopy };
+
+    ghost coded = { Prim.hlevel (codes, coded_partial) };
+
+    ghost view = { λ r. record { partial = r.partial; pieces = r.pieces.items; piece_count = r.piece_count; ended = r.ended } };
+}
+
+impl CopyRead {
+    /// The readings, as a partial picture of the frame's shape. It has no sources.
+    pub fn partial(&self) -> &Partial
+        ensures { result.now ≡ self.now.partial }
+    {
+        &self.partial
+    }
+
+    /// The readings alone.
+    pub fn into_partial(self) -> Partial
+        ensures { result ≡ self.partial }
+    {
+        let Self { partial, .. } = self;
+        partial
+    }
+
+    /// The first 4,096 pieces of scan data that gave no readings, in the order of the copy.
+    pub fn pieces(&self) -> &[PieceRecord]
+        ensures { result.now ≡ self.now.pieces }
+    {
+        &self.pieces
+    }
+
+    /// How many pieces gave no readings, those that are not kept among them.
+    pub fn piece_count(&self) -> u64
+        ensures { result ≡ self.now.piece_count }
+    {
+        self.piece_count
+    }
+
+    /// Where the copy ended.
+    pub fn ended(&self) -> End
+        ensures { result ≡ self.now.ended }
+    {
+        self.ended
+    }
+}
+
+/// Reads one copy as its bytes come. A contract sees the bytes fed, or `None` after a refused `feed`.
+#[derive(Drop)]
+pub struct CopyReader {
+    bytes: PushedBytes,
+    machine: Machine,
+    failed: bool,
+}
+
+impl Model for CopyReader {
+    ghost use Rattle.std.specs.Prelude.{ℕ, List, Option, Some, None, if◌then◌else◌};
+    ghost use Rattle.jls_copy.specs.Reader.{IsReader};
+
+    ghost Value = { Option (List ℕ) };
+
+    ghost view = { λ r. if r.failed then None else Some r.bytes.list };
+
+    ghost invariant = { λ r. IsReader r.failed r.machine r.bytes.list };
+}
+
+impl CopyReader {
+    /// A reader that was fed nothing.
+    pub fn new(alloc: Global) -> CopyReader
+        ensures { result ≡ Some [] }
+    {
+        CopyReader {
+            bytes: PushedBytes::new(),
+            machine: Machine {
+                alloc,
+                count: 0,
+                place: Place::Start(false),
+                headers: Headers::new(),
+                payload: Vec::new(alloc),
+                findings: Findings {
+                    partial: None,
+                    records: Vec::new(alloc),
+                    record_count: 0,
+                },
+            },
+            failed: false,
+        }
+    }
+
+    /// How many bytes were fed.
+    pub fn fed(&self) -> u64
+        ensures { IfSome self.now (λ bytes. result ≡ length bytes) }
+    {
+        self.machine.count
+    }
+
+    fn feed_byte(&mut self, byte: u8) -> Result<(), AllocError>
+        requires { IfSome self.old (λ bytes. length bytes + 1 ≤ 2 ^ 63 - 1) }
+        ensures ok { OnOk result (self.new ≡ after self.old (byte ∷ [])) }
+        ensures err { OnErr result (self.new ≡ None) }
+        ensures not_refused { IsOk result → IsSome self.old }
+    {
+        if self.failed {
+            return Err(AllocError);
+        }
+        match self.machine.step(byte) {
+            Ok(()) => {
+                self.bytes.note(byte);
+                Ok(())
+            }
+            Err(refused) => {
+                self.failed = true;
+                Err(refused)
+            }
+        }
+    }
+
+    /// Takes the next piece of the copy. After a refusal it is refused for good.
+    pub fn feed(&mut self, piece: &[u8]) -> Result<(), AllocError>
+        requires { IfSome self.old (λ bytes. length bytes + length piece.now ≤ 2 ^ 63 - 1) }
+        ensures ok { OnOk result (self.new ≡ after self.old piece.now) }
+        ensures err { OnErr result (self.new ≡ None) }
+        ensures not_refused { IsOk result → IsSome self.old }
+    {
+        if self.failed {
+            return Err(AllocError);
+        }
+        for byte in piece {
+            self.feed_byte(*byte)?;
+        }
+        Ok(())
+    }
+
+    /// Whether EOI or a fault of the headers was met, so that no byte more changes anything.
+    pub fn is_done(&self) -> bool
+        ensures { IfSome self.now (λ bytes. IsDone bytes result) }
+    {
+        is_final(&self.machine.place)
+    }
+
+    /// What the copy gave.
+    pub fn finish(self) -> Result<CopyRead, CopyFault>
+        ensures read { IfOk result (λ read. IfSome self (λ bytes. CopyReads bytes read)) }
+        ensures none { IfErr result (λ fault. IfSome self (λ bytes. CopyGivesNone bytes fault)) }
+        ensures refused { IfNone self (IfErr result (λ fault. fault ≡ CopyFault.OutOfMemory) × IsErr result) }
+    {
+        let Self {
+            bytes: _,
+            mut machine,
+            failed,
+        } = self;
+        if failed {
+            return Err(CopyFault::OutOfMemory);
+        }
+        match machine.finish() {
+            Err(AllocError) => Err(CopyFault::OutOfMemory),
+            Ok(ended) => conclude(machine, ended),
+        }
+    }
+}
+
+/// Whether no byte more changes anything.
+fn is_final(place: &Place) -> bool
+    ensures { result ≡ reader.is_final place.now }
+{
+    match place {
+        Place::Done(_) => true,
+        _ => false,
+    }
+}
+
+/// The first fault, where no frame was taken.
+fn no_picture(ended: End) -> CopyFault
+    ensures { result ≡ reader.no_picture ended }
+{
+    match ended {
+        End::Eoi(offset) => CopyFault::NoPicture(MarkerFault::NoFrame, offset),
+        End::Input(offset) => CopyFault::NoPicture(MarkerFault::Ended, offset),
+        End::Header(fault, offset) => CopyFault::NoPicture(fault, offset),
+    }
+}
+
+/// What a machine at its end holds.
+fn conclude(machine: Machine, ended: End) -> Result<CopyRead, CopyFault>
+    ensures read { IfOk result (λ read. (shape : PictureShape) × (machine.headers.frame ≡ Some shape) × (read.partial ≡ picture_of shape machine.findings.partial) × (read.pieces ≡ machine.findings.records.items) × (read.piece_count ≡ machine.findings.record_count) × (read.ended ≡ ended)) }
+    ensures none { IfErr result (λ fault. (machine.headers.frame ≡ None) × (fault ≡ reader.no_picture ended)) }
+{
+    let Machine {
+        alloc,
+        count: _,
+        place: _,
+        headers,
+        payload: _,
+        findings,
+    } = machine;
+    let Findings {
+        partial,
+        records,
+        record_count,
+    } = findings;
+    match headers.shape() {
+        None => Err(no_picture(ended)),
+        Some(shape) => {
+            let partial = match partial {
+                Some(partial) => partial,
+                None => Partial::empty(alloc, shape.to_owned()),
+            };
+            Ok(CopyRead {
+                partial,
+                pieces: records,
+                piece_count: record_count,
+                ended,
+            })
+        }
+    }
+}

@@ -1,0 +1,150 @@
+//! Scan data, byte after byte.
+
+ghost use Rattle.std.specs.Prelude.{◌≡◌, ◌+◌, ◌-◌, ◌*◌, ◌^◌, ◌∷◌, ◌++◌, [], ◌<◌, ◌≤◌, OnOk, IfOk, true};
+ghost use Rattle.jls_marker.specs.Scan.{intervals};
+ghost use Rattle.jls_copy.specs.Numbers.{next_number as number_rule, number_behind};
+ghost use Rattle.jls_copy.specs.ScanData.{is_restart_code as restart_code, ends_scan_data as end_code};
+ghost use Rattle.jls_copy.specs.ReaderState as state;
+ghost use Rattle.jls_copy.specs.declared.scan.ByteClass.TheVariants.{Mark};
+ghost use Rattle.jls_copy.specs.Sound.{IsOpenScan, IsOpenPiece};
+
+use crate::piece::OpenPiece;
+use jls_marker::ScanPlan;
+use std::alloc::{AllocError, Global};
+
+/// How many FF bytes stand at the end of what was told.
+#[derive(Clone, Copy)]
+pub(crate) enum Held {
+    Nothing,
+    One,
+    More,
+}
+
+/// What a byte of scan data does.
+#[derive(Clone, Copy)]
+pub(crate) enum ByteClass {
+    /// It may be fill.
+    Fill,
+    /// It closes_piece a piece.
+    Mark,
+    /// It ends the scan data.
+    Stop,
+    /// It belongs to the piece.
+    Data,
+}
+
+/// A scan whose data is told byte after byte.
+#[derive(Drop)]
+pub(crate) struct OpenScan {
+    pub(crate) index: u8,
+    pub(crate) plan: ScanPlan,
+    /// The number given last.
+    pub(crate) last: u32,
+    pub(crate) held: Held,
+    /// The offset of the piece.
+    pub(crate) offset: u64,
+    pub(crate) piece: OpenPiece,
+}
+
+fn is_restart_code(code: u8) -> bool
+    ensures { result ≡ restart_code code }
+{
+    code >= 0xd0 && code <= 0xd7
+}
+
+fn ends_scan_data(code: u8) -> bool
+    ensures { result ≡ end_code code }
+{
+    code == 0xd9
+        || code == 0xda
+        || code == 0xdd
+        || code == 0xf8
+        || code == 0xfe
+        || (code >= 0xe0 && code <= 0xef)
+}
+
+pub(crate) fn class_of(held: Held, byte: u8) -> ByteClass
+    ensures class { result ≡ state.class_of held byte }
+    ensures mark { result ≡ Mark → (208 ≤ byte) × (byte < 216) }
+{
+    if byte == 0xff {
+        return ByteClass::Fill;
+    }
+    match held {
+        Held::Nothing => ByteClass::Data,
+        Held::One | Held::More => {
+            if is_restart_code(byte) {
+                ByteClass::Mark
+            } else if ends_scan_data(byte) {
+                ByteClass::Stop
+            } else {
+                ByteClass::Data
+            }
+        }
+    }
+}
+
+fn one_more(held: Held) -> Held
+    ensures { result ≡ state.one_more held }
+{
+    match held {
+        Held::Nothing => Held::One,
+        Held::One | Held::More => Held::More,
+    }
+}
+
+/// The number of the piece behind RSTm, where `last` was given last.
+pub(crate) fn next_number(last: u32, mark: u8) -> u32
+    requires mark { mark < 8 }
+    requires last { last < 2 ^ 16 }
+    ensures value { result ≡ number_rule last mark }
+    ensures at_most { result ≤ last + 8 }
+{
+    last + 1 + (u32::from(mark) + 8 - last % 8) % 8
+}
+
+impl OpenScan {
+    /// The scan at its first piece.
+    pub(crate) fn open(
+        alloc: Global,
+        index: u8,
+        plan: ScanPlan,
+        offset: u64,
+    ) -> Result<OpenScan, AllocError>
+        ensures opened { IfOk result (λ scan. scan ≡ state.scan_opened index plan offset) }
+        ensures sound { IfOk result (λ scan. IsOpenScan scan) }
+    {
+        let piece = OpenPiece::open(alloc, &plan, 0)?;
+        Ok(OpenScan {
+            index,
+            plan,
+            last: 0,
+            held: Held::Nothing,
+            offset,
+            piece,
+        })
+    }
+
+    /// One FF byte more that may be fill.
+    pub(crate) fn hold(&mut self)
+        ensures { self.new ≡ record self.old { held = state.one_more self.old.held } }
+    {
+        self.held = one_more(self.held);
+    }
+
+    /// Tells the piece what was held and one byte more.
+    pub(crate) fn tell(&mut self, byte: u8) -> Result<(), AllocError>
+        ensures { OnOk result (self.new ≡ state.scan_with self.old byte) }
+    {
+        match self.held {
+            Held::Nothing => {}
+            Held::One => self.piece.push(0xff)?,
+            Held::More => {
+                self.piece.push(0xff)?;
+                self.piece.push(0xff)?;
+            }
+        }
+        self.held = Held::Nothing;
+        self.piece.push(byte)
+    }
+}

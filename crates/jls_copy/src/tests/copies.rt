@@ -1,0 +1,230 @@
+//! Whole copies, read in pieces of several sizes: what each gives is worked out by hand from the formats, not by this crate.
+
+use crate::{CopyFault, CopyRead, CopyReader};
+use std::alloc::Global;
+use std::fmt::Write;
+use std::test::Fail;
+
+/// The bytes of a copy, and what it gives: its readings as component, line and samples, then each faulty piece as scan, interval,
+/// offset and kind, their number and the copy's end; or the fault for which it has no picture.
+const COPIES: [(&str, &str); 25] = [
+    // A picture of four lines.
+    (
+        "FF D8 FF F7 00 0B 08 00 04 00 04 01 01 11 00 FF DA 00 08 01 01 00 00 00 00 C0 00 00 6C 80 20 8E 01 C0 00 00 \
+         57 40 00 00 6E E6 00 00 01 BC 18 00 00 05 D8 00 00 91 60 FF D9",
+        "0.0=[0, 0, 90, 74] 0.1=[68, 50, 43, 205] 0.2=[64, 145, 145, 145] 0.3=[100, 145, 145, 145] | 0 Eoi(55)",
+    ),
+    // The same with ILV 1 for its one component.
+    (
+        "FF D8 FF F7 00 0B 08 00 04 00 04 01 01 11 00 FF DA 00 08 01 01 00 00 01 00 C0 00 00 6C 80 20 8E 01 C0 00 00 \
+         57 40 00 00 6E E6 00 00 01 BC 18 00 00 05 D8 00 00 91 60 FF D9",
+        "0.0=[0, 0, 90, 74] 0.1=[68, 50, 43, 205] 0.2=[64, 145, 145, 145] 0.3=[100, 145, 145, 145] | 0 Eoi(55)",
+    ),
+    // The same behind an application segment.
+    (
+        "FF D8 FF E8 00 04 AA BB FF F7 00 0B 08 00 04 00 04 01 01 11 00 FF DA 00 08 01 01 00 00 00 00 C0 00 00 6C 80 \
+         20 8E 01 C0 00 00 57 40 00 00 6E E6 00 00 01 BC 18 00 00 05 D8 00 00 91 60 FF D9",
+        "0.0=[0, 0, 90, 74] 0.1=[68, 50, 43, 205] 0.2=[64, 145, 145, 145] 0.3=[100, 145, 145, 145] | 0 Eoi(61)",
+    ),
+    // Ten lines, each an interval of its own.
+    (
+        "FF D8 FF F7 00 0B 08 00 0A 00 01 01 01 11 00 FF DD 00 04 00 01 FF DA 00 08 01 01 00 00 00 00 80 FF D0 50 FF \
+         D1 70 FF D2 28 FF D3 38 FF D4 14 FF D5 1C FF D6 0A FF D7 0E FF D0 05 FF D9",
+        "0.0=[0] 0.1=[1] 0.2=[2] 0.3=[3] 0.4=[4] 0.5=[5] 0.6=[6] 0.7=[7] 0.8=[8] 0.9=[9] | 0 Eoi(59)",
+    ),
+    // Seven markers lost.
+    (
+        "FF D8 FF F7 00 0B 08 00 0A 00 01 01 01 11 00 FF DD 00 04 00 01 FF DA 00 08 01 01 00 00 00 00 80 FF D7 0E FF \
+         D0 05 FF D9",
+        "0.0=[0] 0.8=[8] 0.9=[9] | 0 Eoi(38)",
+    ),
+    // Eight markers lost: the last piece gets number 1.
+    (
+        "FF D8 FF F7 00 0B 08 00 0A 00 01 01 01 11 00 FF DD 00 04 00 01 FF DA 00 08 01 01 00 00 00 00 80 FF D0 05 FF \
+         D9",
+        "0.0=[0] 0.1=[9] | 0 Eoi(35)",
+    ),
+    // One marker lost, so that two pieces are one.
+    (
+        "FF D8 FF F7 00 0B 08 00 0A 00 01 01 01 11 00 FF DD 00 04 00 01 FF DA 00 08 01 01 00 00 00 00 80 FF D0 50 FF \
+         D1 70 FF D2 28 38 FF D4 14 FF D5 1C FF D6 0A FF D7 0E FF D0 05 FF D9",
+        "0.0=[0] 0.1=[1] 0.2=[2] 0.5=[5] 0.6=[6] 0.7=[7] 0.8=[8] 0.9=[9] | 0 3 40 Long; 1 Eoi(57)",
+    ),
+    // FF A3, which no data bits hold, in a piece.
+    (
+        "FF D8 FF F7 00 0B 08 00 0A 00 01 01 01 11 00 FF DD 00 04 00 01 FF DA 00 08 01 01 00 00 00 00 80 FF D0 50 FF \
+         D1 70 FF A3 FF D2 28 FF D3 38 FF D4 14 FF D5 1C FF D6 0A FF D7 0E FF D0 05 FF D9",
+        "0.0=[0] 0.1=[1] 0.3=[3] 0.4=[4] 0.5=[5] 0.6=[6] 0.7=[7] 0.8=[8] 0.9=[9] | 0 2 37 Broken; 1 Eoi(61)",
+    ),
+    // A marker more than there are intervals.
+    (
+        "FF D8 FF F7 00 0B 08 00 0A 00 01 01 01 11 00 FF DD 00 04 00 01 FF DA 00 08 01 01 00 00 00 00 80 FF D0 50 FF \
+         D1 70 FF D2 28 FF D3 38 FF D4 14 FF D5 1C FF D6 0A FF D7 0E FF D0 05 FF D5 FF D9",
+        "0.0=[0] 0.1=[1] 0.2=[2] 0.3=[3] 0.4=[4] 0.5=[5] 0.6=[6] 0.7=[7] 0.8=[8] 0.9=[9] | 0 14 61 Beyond; 1 Eoi(61)",
+    ),
+    // A marker where there is one interval.
+    (
+        "FF D8 FF F7 00 0B 08 00 01 00 01 01 01 11 00 FF DA 00 08 01 01 00 00 00 00 80 FF D0 80 FF D9",
+        "0.0=[0] | 0 1 28 Beyond; 1 Eoi(29)",
+    ),
+    // Ri in four bytes.
+    (
+        "FF D8 FF F7 00 0B 08 00 0A 00 01 01 01 11 00 FF DD 00 06 00 00 00 01 FF DA 00 08 01 01 00 00 00 00 80 FF D0 \
+         50 FF D1 70 FF D2 28 FF D3 38 FF D4 14 FF D5 1C FF D6 0A FF D7 0E FF D0 05 FF D9",
+        "0.0=[0] 0.1=[1] 0.2=[2] 0.3=[3] 0.4=[4] 0.5=[5] 0.6=[6] 0.7=[7] 0.8=[8] 0.9=[9] | 0 Eoi(61)",
+    ),
+    // Two lines and one marker.
+    (
+        "FF D8 FF F7 00 0B 08 00 02 00 01 01 01 11 00 FF DD 00 04 00 01 FF DA 00 08 01 01 00 00 00 00 80 FF D0 80 FF \
+         D9",
+        "0.0=[0] 0.1=[0] | 0 Eoi(35)",
+    ),
+    // Preset parameters before the scan.
+    (
+        "FF D8 FF F7 00 0B 08 00 01 00 01 01 01 11 00 FF F8 00 0D 01 00 0F 00 00 00 00 00 00 00 00 FF DA 00 08 01 01 \
+         00 00 00 00 40 FF D9",
+        "0.0=[15] | 0 Eoi(41)",
+    ),
+    // Two components by line.
+    (
+        "FF D8 FF F7 00 0E 08 00 01 00 01 02 01 11 00 02 11 00 FF DA 00 0A 02 01 00 02 00 00 01 00 07 16 FF D9",
+        "0.0=[10] 1.0=[10] | 0 Eoi(32)",
+    ),
+    // Two components, a scan each.
+    (
+        "FF D8 FF F7 00 0E 08 00 01 00 01 02 01 11 00 02 11 00 FF DA 00 08 01 01 00 00 00 00 07 FF DA 00 08 01 02 00 \
+         00 00 00 07 FF D9",
+        "0.0=[10] 1.0=[10] | 0 Eoi(40)",
+    ),
+    // Two scans of two components, each under preset parameters of its own.
+    (
+        "FF D8 FF F7 00 0E 08 00 01 00 01 02 01 11 00 02 11 00 FF F8 00 0D 01 00 0F 00 00 00 00 00 00 00 00 FF DA 00 \
+         08 01 01 00 00 00 00 40 FF F8 00 0D 01 00 00 00 00 00 00 00 00 00 00 FF DA 00 08 01 02 00 00 00 00 40 FF D9",
+        "0.0=[15] 1.0=[255] | 0 Eoi(70)",
+    ),
+    // Two scans of one component that disagree.
+    (
+        "FF D8 FF F7 00 0B 08 00 01 00 01 01 01 11 00 FF DA 00 08 01 01 00 00 00 00 50 FF DA 00 08 01 01 00 00 00 00 \
+         40 FF D9",
+        "0.0=[1] 0.0=[255] | 0 Eoi(37)",
+    ),
+    // A scan that is not lossless ends the copy.
+    (
+        "FF D8 FF F7 00 0B 08 00 0A 00 01 01 01 11 00 FF DD 00 04 00 01 FF DA 00 08 01 01 00 01 00 00 80 FF D0 50 FF \
+         D1 70 FF D2 28 FF D3 38 FF D4 14 FF D5 1C FF D6 0A FF D7 0E FF D0 05 FF D9",
+        "| 0 Header(Lossy, 21)",
+    ),
+    // The input ends behind FF.
+    (
+        "FF D8 FF F7 00 0B 08 00 0A 00 01 01 01 11 00 FF DD 00 04 00 01 FF DA 00 08 01 01 00 00 00 00 80 FF D0 50 FF \
+         D1 70 FF D2 28 FF D3 38 FF",
+        "0.0=[0] 0.1=[1] 0.2=[2] 0.3=[3] 0.4=[4] | 0 Input(45)",
+    ),
+    // No byte.
+    ("", "NoPicture(Ended, 0)"),
+    // A byte that begins no marker.
+    ("00", "NoPicture(NoSoi, 0)"),
+    // No frame before the end of the image.
+    ("FF D8 FF D9", "NoPicture(NoFrame, 2)"),
+    // A precision of 1.
+    (
+        "FF D8 FF F7 00 0B 01 00 04 00 04 01 01 11 00 FF DA 00 08 01 01 00 00 00 00 C0 00 00 6C 80 20 8E 01 C0 00 00 \
+         57 40 00 00 6E E6 00 00 01 BC 18 00 00 05 D8 00 00 91 60 FF D9",
+        "NoPicture(BadShape, 2)",
+    ),
+    // Bits left over.
+    (
+        "FF D8 FF F7 00 0B 08 00 04 00 04 01 01 11 00 FF DA 00 08 01 01 00 00 00 00 C0 00 00 6C 80 20 8E 01 C0 00 00 \
+         57 40 00 00 6E E6 00 00 01 BC 18 00 00 05 D8 00 00 91 60 00 FF D9",
+        "| 0 0 25 Long; 1 Eoi(56)",
+    ),
+    // Bytes behind the end of the image change nothing.
+    (
+        "FF D8 FF F7 00 0B 08 00 01 00 01 01 01 11 00 FF DA 00 08 01 01 00 00 00 00 80 FF D9 FF DA 00",
+        "0.0=[0] | 0 Eoi(26)",
+    ),
+];
+
+/// The bytes that hexadecimal digits spell.
+fn bytes_of(alloc: Global, text: &str) -> Result<Vec<u8>, Fail> {
+    let mut bytes = Vec::new(alloc);
+    for digits in text.split_whitespace() {
+        bytes.push(u8::from_str_radix(digits, 16)?)?;
+    }
+    Ok(bytes)
+}
+
+/// What a reader says of a copy that comes in pieces of this size.
+fn read_in_pieces(alloc: Global, bytes: &[u8], size: usize) -> Result<CopyRead, CopyFault> {
+    let mut reader = CopyReader::new(alloc);
+    if size == 0 {
+        return reader.finish();
+    }
+    for piece in bytes.chunks(size) {
+        if reader.feed(piece).is_err() {
+            return Err(CopyFault::OutOfMemory);
+        }
+    }
+    reader.finish()
+}
+
+/// The readings of one line.
+fn put_line(out: &mut String, read: &CopyRead, component: u8, line: u16) -> Result<(), Fail> {
+    let partial = read.partial();
+    let shape = partial.shape();
+    if usize::from(component) >= shape.ids().len() || line >= shape.height() {
+        return Ok(());
+    }
+    for i in 0..partial.count(component, line) {
+        write!(
+            out,
+            "{component}.{line}={:?} ",
+            partial.reading(component, line, i)
+        )?;
+    }
+    Ok(())
+}
+
+fn text_of(alloc: Global, read: &CopyRead) -> Result<String, Fail> {
+    let mut out = String::new(alloc);
+    let shape = read.partial().shape();
+    for component in 0..shape.ids().len() as u8 {
+        for line in 0..shape.height() {
+            put_line(&mut out, read, component, line)?;
+        }
+    }
+    write!(out, "| ")?;
+    for piece in read.pieces() {
+        write!(
+            out,
+            "{} {} {} {:?}; ",
+            piece.scan, piece.interval, piece.offset, piece.kind
+        )?;
+    }
+    write!(out, "{} {:?}", read.piece_count(), read.ended())?;
+    Ok(out)
+}
+
+fn told(alloc: Global, read: Result<CopyRead, CopyFault>) -> Result<String, Fail> {
+    match read {
+        Ok(read) => text_of(alloc, &read),
+        Err(fault) => Ok(format!(in alloc; "{fault:?}")?),
+    }
+}
+
+#[test]
+fn copies_in_pieces_of_every_size(rt: HostRuntime) -> Result<(), Fail> {
+    let alloc = rt.alloc();
+    for (text, wanted) in COPIES {
+        let bytes = bytes_of(alloc, text)?;
+        for size in [1usize, 2, 3, 7, 4096] {
+            let read = read_in_pieces(alloc, &bytes, size);
+            assert_eq!(rt;
+                told(alloc, read)?.as_str(),
+                wanted,
+                "of {text} in pieces of {size}"
+            );
+        }
+    }
+    Ok(())
+}
