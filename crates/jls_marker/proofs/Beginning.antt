@@ -1,6 +1,6 @@
 -- A scan that begins: the first test that fails, and the scan where none does.
-use Rattle.std.proofs.Common.{◌≡◌, ℕ, ◌+◌, ◌*◌, ◌<◌, ◌≤◌, ◌^◌, Bool, true, false, List, [], ◌∷◌, length, map, Result, Ok, Err, refl, sym, ap, ◌∙◌, arith}
-use Rattle.std.specs.Prelude.{◌&&◌, nat_lt, nat_le, is_ok}
+use Rattle.std.proofs.Common.{◌≡◌, ℕ, ◌*◌, ◌<◌, ◌≤◌, ◌^◌, Bool, true, false, List, [], ◌∷◌, length, map, Result, Ok, Err, refl, sym, ap, ◌∙◌, arith}
+use Rattle.std.specs.Prelude.{nat_lt, nat_le, is_ok}
 use Rattle.std.specs.List.{list_all, AllByRecursion}
 use Rattle.std.proofs.lemmas.Bool.{and_parts, ltb-true, lt-ltb, le-leb, lt-leb, le-ltb}
 use Rattle.jls_values.specs.Shape.{PictureShape}
@@ -8,7 +8,6 @@ use Rattle.jls_values.specs.Params.{CodingParameters}
 use Rattle.jls_values.specs.ParamsOf.{params_of}
 use Rattle.jls_values.specs.declared.params.ParamFault.{ParamFault}
 use Rattle.jls_marker.specs.ComponentIndex.{index_of}
-use Rattle.jls_marker.specs.Faults.{first_failing}
 use Rattle.jls_marker.specs.Headers.{params_judged, params_under, scan_judged, scan_in}
 use Rattle.jls_marker.specs.PresetParameters.{PresetParameters}
 use Rattle.jls_marker.specs.Scan.{Scan, scan_with, row_count}

@@ -1,6 +1,6 @@
 -- The parameters that are in force are in range.
-use Rattle.std.proofs.Common.{◌≡◌, ℕ, ◌+◌, ◌-◌, ◌<◌, ◌≤◌, ◌^◌, max, Bool, true, false, cond, Option, Some, None, Result, Ok, Err, refl, sym, subst, arith}
-use Rattle.std.specs.Prelude.{◌||◌, nat_lt, is_ok}
+use Rattle.std.proofs.Common.{◌≡◌, ℕ, ◌-◌, ◌≤◌, ◌^◌, max, Bool, true, false, cond, Option, Some, None, Result, Ok, refl, sym, subst, arith}
+use Rattle.std.specs.Prelude.{nat_lt, is_ok}
 use Rattle.std.proofs.lemmas.Bool.{ltb-false, or_parts}
 use Rattle.jls_values.specs.Params.{CodingParameters, AreCodingParameters}
 use Rattle.jls_values.specs.ParamsOf.{in_force, is_outside, param_fault, params_in_range, params_of}

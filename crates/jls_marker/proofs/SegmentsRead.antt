@@ -1,19 +1,18 @@
 -- A payload is read as a segment exactly where it is a payload of this segment.
-use Rattle.std.proofs.Common.{◌≡◌, ℕ, zero, suc, ◌+◌, ◌-◌, ◌*◌, ◌%◌, ◌<◌, ◌≤◌, ◌^◌, Bool, true, false, cond, eqb, List, [], ◌∷◌, ◌++◌, length, map, Option, Some, None, Result, Ok, Err, ◌⊎◌, refl, sym, ap, subst, ◌∙◌, arith, inl, inr}
+use Rattle.std.proofs.Common.{◌≡◌, ℕ, zero, suc, ◌+◌, ◌-◌, ◌<◌, ◌≤◌, Bool, true, false, cond, eqb, List, [], ◌∷◌, ◌++◌, length, map, Option, Some, None, Ok, Err, ◌⊎◌, refl, sym, ap, subst, ◌∙◌, arith, inl, inr}
 use Rattle.std.specs.Prelude.{◌&&◌, ◌||◌, ◌==◌, not, nat_le, is_ok, if◌then◌else◌}
 use Rattle.std.specs.List.{list_all, flat_map, AllByRecursion}
 use Rattle.std.proofs.lemmas.Bool.{eqb-true, eq-eqb, ne_eqb, leb-true, lt-leb, and_parts, and_from, cases_Bool}
 use Rattle.std.proofs.lemmas.List.{length-map}
-use Rattle.jls_values.specs.Shape.{PictureShape, IsShape, has_repeat}
+use Rattle.jls_values.specs.Shape.{PictureShape, has_repeat}
 use Rattle.jls_values.specs.ShapeOf.{shape_of}
 use Rattle.jls_marker.specs.MarkerCodes.{sof55, sos, lse, dri, is_skipped}
 use Rattle.jls_marker.specs.PresetParameters.{PresetParameters}
-use Rattle.jls_marker.specs.ScanSelection.{ScanSelection, IsScanSelection}
-use Rattle.jls_marker.specs.Layouts.{FrameComponent, FrameHeader, HasFrameLayout, frame_component_bytes, frame_header, ScanComponent, ScanHeader, HasScanLayout, scan_component_bytes, scan_header, HasPresetLayout, preset_parameters, HasRestartLayout, restart_interval}
+use Rattle.jls_marker.specs.ScanSelection.{ScanSelection}
+use Rattle.jls_marker.specs.Layouts.{FrameComponent, FrameHeader, HasFrameLayout, frame_component_bytes, frame_header, ScanComponent, ScanHeader, HasScanLayout, scan_component_bytes, scan_header, preset_parameters, restart_interval}
 use Rattle.jls_marker.specs.Payloads.{IsFrameHeaderOf, IsScanHeaderOf, HasLseId, IsPayload}
 use Rattle.jls_marker.specs.SegmentLaws.{AreBytes}
 use Rattle.jls_marker.specs.Segments.{frame_ids, shape_in, frame_tests, frame_of, scan_ids, selection_in, scan_tests, scan_of, preset_of, lse_of, restart_of, segment_of}
-use Rattle.jls_marker.specs.declared.fault.MarkerFault.{MarkerFault}
 use Rattle.jls_marker.specs.declared.fault.MarkerFault.TheVariants as fault
 use Rattle.jls_marker.specs.declared.segment.Segment.{Segment}
 use Rattle.jls_marker.specs.declared.segment.Segment.TheVariants.{Frame, Scan, Preset, Restart, Skipped}

@@ -1,5 +1,5 @@
 -- The definitions on payloads that were written out by hand.
-use Rattle.std.proofs.Common.{◌≡◌, ℕ, Bool, true, false, List, [], ◌∷◌, ◌++◌, Option, Some, None, Result, Ok, Err, refl}
+use Rattle.std.proofs.Common.{◌≡◌, ℕ, true, false, [], ◌∷◌, Some, Ok, Err, refl}
 use Rattle.jls_values.specs.Shape.{PictureShape}
 use Rattle.jls_values.specs.Params.{CodingParameters}
 use Rattle.jls_marker.specs.ScanSelection.{selection_of}
@@ -9,9 +9,7 @@ use Rattle.jls_marker.specs.Written.{payload_of, segment_bytes, code_of}
 use Rattle.jls_marker.specs.HeaderState.{HeaderState, no_headers}
 use Rattle.jls_marker.specs.ComponentIndex.{index_of}
 use Rattle.jls_marker.specs.Headers.{accepted}
-use Rattle.jls_marker.specs.declared.fault.MarkerFault.{MarkerFault}
 use Rattle.jls_marker.specs.declared.fault.MarkerFault.TheVariants as fault
-use Rattle.jls_marker.specs.declared.segment.Segment.{Segment}
 use Rattle.jls_marker.specs.declared.segment.Segment.TheVariants as segment
 
 -- a frame of one column and ten lines, and one of two components

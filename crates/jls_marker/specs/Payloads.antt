@@ -1,11 +1,10 @@
 -- The payloads of a segment, as a relation: what stands in which field, and which fields are free.
-use Rattle.std.specs.Prelude.{◌≡◌, ℕ, ◌%◌, true, List, [], ◌∷◌, map, ◌⊎◌, if◌then◌else◌}
+use Rattle.std.specs.Prelude.{◌≡◌, ℕ, ◌%◌, true, List, ◌∷◌, map, ◌⊎◌, if◌then◌else◌}
 use Rattle.std.specs.List.{AllByRecursion}
 use Rattle.jls_values.specs.Shape.{PictureShape, IsShape}
 use Rattle.jls_marker.specs.MarkerCodes.{sof55, sos, lse, dri, is_skipped}
-use Rattle.jls_marker.specs.PresetParameters.{PresetParameters}
 use Rattle.jls_marker.specs.ScanSelection.{ScanSelection, IsScanSelection}
-use Rattle.jls_marker.specs.Layouts.{FrameComponent, FrameHeader, HasFrameLayout, ScanComponent, ScanHeader, HasScanLayout, HasPresetLayout, HasRestartLayout}
+use Rattle.jls_marker.specs.Layouts.{FrameHeader, HasFrameLayout, ScanHeader, HasScanLayout, HasPresetLayout, HasRestartLayout}
 use Rattle.jls_marker.specs.declared.segment.Segment.{Segment}
 use Rattle.jls_marker.specs.declared.segment.Segment.TheVariants.{Frame, Scan, Preset, Restart, Skipped}
 

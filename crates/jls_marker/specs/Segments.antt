@@ -7,7 +7,7 @@ use Rattle.jls_marker.specs.MarkerCodes.{sof55, sos, lse, dri, is_skipped}
 use Rattle.jls_marker.specs.Faults.{first_failing}
 use Rattle.jls_marker.specs.PresetParameters.{PresetParameters}
 use Rattle.jls_marker.specs.ScanSelection.{ScanSelection}
-use Rattle.jls_marker.specs.Layouts.{FrameComponent, FrameHeader, frame_header, ScanComponent, ScanHeader, scan_header, preset_parameters, restart_interval}
+use Rattle.jls_marker.specs.Layouts.{FrameHeader, frame_header, ScanHeader, scan_header, preset_parameters, restart_interval}
 use Rattle.jls_marker.specs.declared.fault.MarkerFault.{MarkerFault}
 use Rattle.jls_marker.specs.declared.fault.MarkerFault.TheVariants as fault
 use Rattle.jls_marker.specs.declared.segment.Segment.{Segment}

@@ -1,10 +1,10 @@
 -- What is written of a segment: the marker, the length, and one payload, with Tq and Ah 0 and Ri in the fewest bytes.
-use Rattle.std.specs.Prelude.{◌≡◌, ℕ, ◌+◌, ◌^◌, ◌<◌, nat_lt, Bool, List, [], ◌∷◌, ◌++◌, length, drop, Result, Ok, if◌then◌else◌}
+use Rattle.std.specs.Prelude.{ℕ, ◌+◌, ◌^◌, ◌<◌, nat_lt, List, [], ◌∷◌, ◌++◌, length, drop, if◌then◌else◌}
 use Rattle.std.specs.List.{flat_map}
 use Rattle.std.specs.Int.{w16, w32, to_be_bytes}
 use Rattle.jls_values.specs.Shape.{PictureShape, IsShape}
 use Rattle.jls_marker.specs.MarkerCodes.{sof55, sos, lse, dri}
-use Rattle.jls_marker.specs.PresetParameters.{PresetParameters, ArePresetParameters}
+use Rattle.jls_marker.specs.PresetParameters.{ArePresetParameters}
 use Rattle.jls_marker.specs.ScanSelection.{ScanSelection, IsScanSelection}
 use Rattle.jls_marker.specs.Layouts.{preset_bytes}
 use Rattle.jls_marker.specs.declared.segment.Segment.{Segment}

@@ -1,11 +1,8 @@
-use Rattle.std.proofs.Common.{◌≡◌, ◌<◌, ◌≤◌, ◌^◌, ℕ, true, List, map, length, Ok, sym, ap, subst, ◌∙◌, arith}
+use Rattle.std.proofs.Common.{◌<◌, ◌≤◌, ◌^◌, ℕ, true, length, sym, ap, subst, ◌∙◌}
 use Rattle.std.specs.Prelude.{is_ok}
 use Rattle.std.specs.List.{AllByRecursion}
-use Rattle.jls_marker.specs.ComponentIndex.{index_of}
-use Rattle.jls_marker.specs.Headers.{params_judged}
 use Rattle.jls_marker.specs.PresetParameters.{PresetParameters}
-use Rattle.jls_marker.specs.Scan.{Scan}
-use Rattle.jls_marker.proofs.Beginning.{are_known, known_there, indices_there, indices_below, bytes_below, params_known, bad_params, samples, too_large, too_many, begins, ok_scan}
+use Rattle.jls_marker.proofs.Beginning.{known_there, indices_there, indices_below, bytes_below, params_known, bad_params, samples, too_large, too_many, begins, ok_scan}
 use Rattle.jls_marker.proofs.headers.begin.Goals as goal
 
 pub returns-in-Err-clause-judged : goal.returns-in-Err-clause-judged

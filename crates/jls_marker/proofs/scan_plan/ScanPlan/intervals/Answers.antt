@@ -1,7 +1,6 @@
-use Rattle.std.proofs.Common.{ap, sym, ◌∙◌, ◌≡◌, ◌+◌, ◌-◌, ◌/◌, ℕ, refl, arith}
+use Rattle.std.proofs.Common.{ap, ◌∙◌, ◌≡◌, ◌+◌, ◌-◌, ◌/◌, ℕ, refl, arith}
 use Rattle.std.specs.Int.{div_ceil}
 use Rattle.std.proofs.lemmas.Bool.{ne_eqb}
-use Rattle.jls_marker.specs.Scan.{intervals}
 use Rattle.jls_marker.proofs.Intervals.{ceil_is}
 use Rattle.jls_marker.proofs.scan_plan.ScanPlan.intervals.Goals as goal
 
