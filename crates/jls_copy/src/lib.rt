@@ -1,6 +1,5 @@
-//! One copy of a picture as a JPEG-LS file, read through damage (ITU-T T.87 with the marker syntax of ITU-T T.81).
-//!
-//! So far: where scan data is cut into pieces, which numbers restart markers give, and the search for places where a cut can be.
+//! One copy of a picture as a JPEG-LS file, read through damage: its segments, the pieces of its scan data between restart markers, and
+//! the lines that each piece still gives (ITU-T T.87 with the marker syntax of ITU-T T.81).
 #![tactic(auto)]
 
 mod course_laws;

