@@ -1,6 +1,7 @@
 pub mod Entries
 pub mod Growth
 pub mod LineSets
+pub mod PackedLines
 pub mod PartialRows
 pub mod Parts
 pub mod ReadBack

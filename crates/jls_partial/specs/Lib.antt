@@ -4,7 +4,11 @@ pub mod Held
 pub mod InsertFaults
 pub mod LineSet
 pub mod LineSetLaws
+pub mod Marks
+pub mod MarkLaws
 pub mod Merging
+pub mod Packed
+pub mod PackedLines
 pub mod Partial
 pub mod Parts
 pub mod PartialLaws

@@ -10,6 +10,8 @@ use Rattle.std.proofs.lemmas.Map.Lookups.{CmpEqualImpliesEq, exact_bytes}
 use Rattle.jls_values.specs.Join.{JoinLaws}
 use Rattle.jls_values.specs.OrderedSetLaws.{union-idempotent, union-commutative, union-associative}
 use Rattle.jls_partial.specs.LineSet.{PictureLines, has_same_line_shape, union_of_lines}
+use Rattle.jls_partial.specs.MarkLaws.{mark_total, mark_exact}
+use Rattle.jls_partial.specs.Marks.{mark_cmp}
 use Rattle.jls_partial.specs.PartialLaws.{eqb_itself}
 
 -- the order of lines, by their samples from the first one on
@@ -19,6 +21,13 @@ lines_total = nat_list_cmp_total
 -- lines that tie are one
 pub lines_exact : CmpEqualImpliesEq (slice_cmp nat_cmp)
 lines_exact = exact_bytes
+
+-- the order of marks of lines
+pub line_marks_total : IsTotalOrder (mark_cmp (slice_cmp nat_cmp))
+line_marks_total = mark_total lines_total
+
+pub line_marks_exact : CmpEqualImpliesEq (mark_cmp (slice_cmp nat_cmp))
+line_marks_exact = mark_exact lines_exact
 
 -- a line set passes the test with itself
 itself : (s : PictureLines) → has_same_line_shape s s ≡ true
@@ -49,7 +58,7 @@ line_set_laws = record {
   symmetric = λ x y. both_ways (has_same_line_shape x y) (has_same_line_shape y x) (test_turned x y) (test_turned y x);
   transitive = test_along;
   join_same_shape = λ x y e. itself x;
-  idempotent = λ x. ap (λ s. record { precision = x.precision; width = x.width; lines = s }) (union-idempotent lines_total lines_exact x.lines);
-  commutative = λ x y e. let p = agree x y e in λ i. record { precision = p.0 i; width = p.1 i; lines = union-commutative lines_total lines_exact x.lines y.lines i };
-  associative = λ x y z e f. ap (λ s. record { precision = x.precision; width = x.width; lines = s }) (union-associative lines_total lines_exact x.lines y.lines z.lines);
+  idempotent = λ x. λ i. record { precision = x.precision; width = x.width; lines = union-idempotent lines_total lines_exact x.lines i; marks = union-idempotent line_marks_total line_marks_exact x.marks i };
+  commutative = λ x y e. let p = agree x y e in λ i. record { precision = p.0 i; width = p.1 i; lines = union-commutative lines_total lines_exact x.lines y.lines i; marks = union-commutative line_marks_total line_marks_exact x.marks y.marks i };
+  associative = λ x y z e f. λ i. record { precision = x.precision; width = x.width; lines = union-associative lines_total lines_exact x.lines y.lines z.lines i; marks = union-associative line_marks_total line_marks_exact x.marks y.marks z.marks i };
 }

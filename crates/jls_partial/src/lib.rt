@@ -6,6 +6,7 @@ mod insert_fault;
 mod laws;
 mod line_set;
 mod merging;
+mod packed;
 mod partial;
 mod place;
 mod readings;

@@ -1,25 +1,27 @@
 //! Sets of lines of one width.
 
 ghost use Rattle.jls_partial.specs.InsertFaults.{samples_fault, Refuses};
-ghost use Rattle.jls_partial.specs.LineSet.{with_line, union_of_lines, has_same_line_shape};
+ghost use Rattle.jls_partial.specs.LineSet.{no_lines, line_sources, AreLineMarksHeld, with_line, with_lines, union_of_lines, has_same_line_shape};
 ghost use Rattle.jls_values.specs.Join.{IsBetween};
 ghost use Rattle.jls_values.specs.OrderedSet as set;
-ghost use Rattle.std.specs.Prelude.{◌≡◌, ◌<◌, ◌≤◌, length, true, not, IfOk, OnOk, OnErr, IsOk, None, Some, slice_get};
+ghost use Rattle.std.specs.Prelude.{◌≡◌, ◌<◌, ◌≤◌, ◌∷◌, [], length, true, not, IfOk, IfSome, OnOk, OnErr, IsOk, None, Some, slice_get};
 
 use crate::insert_fault::{InsertFault, find_samples_fault};
-use crate::readings::Readings;
-use crate::sample_lists::SampleLists;
-use jls_values::{Merge, MergeFault};
+use crate::packed::{Slot, find, put, samples_at};
+use jls_values::{Merge, MergeFault, SourceSet};
 use std::alloc::{AllocError, Global};
 use std::marker::Model;
 
 /// A set of lines, each as the list of its samples from left to right: all of one width, with samples
-/// of one precision.
+/// of one precision. Each line keeps the set of source numbers under which it was seen.
+///
+/// All samples stand in one list, and an index of them in ascending order of the lines.
 #[derive(Drop)]
 pub struct LineSet {
     precision: u8,
     width: u16,
-    lists: SampleLists,
+    samples: Vec<u16>,
+    index: Vec<Slot>,
     alloc: Global,
 }
 
@@ -30,12 +32,11 @@ impl Model for LineSet {
 
     ghost coded = { coded_lines };
 
-    ghost use Rattle.jls_partial.specs.LineSet.{IsLineSet};
-    ghost use Rattle.jls_values.specs.OrderedSet as set;
+    ghost use Rattle.jls_partial.specs.PackedLines.{seen_lines, IsLineSet};
 
-    ghost view = { λ a. record { precision = a.precision; width = a.width; lines = set.from_list a.lists } };
+    ghost view = { λ a. seen_lines a.precision a.width a.samples.items a.index.items };
 
-    ghost invariant = { λ a. IsLineSet a.precision a.width a.lists };
+    ghost invariant = { λ a. IsLineSet a.precision a.width a.samples.items a.index.items };
 }
 
 impl LineSet {
@@ -44,18 +45,19 @@ impl LineSet {
         requires precision_at_least { 2 ≤ precision }
         requires precision_at_most { precision ≤ 16 }
         requires width_at_least { 1 ≤ width }
-        ensures { result ≡ record { precision = precision; width = width; lines = set.empty } }
+        ensures { result ≡ no_lines precision width }
     {
         LineSet {
             precision,
             width,
-            lists: SampleLists::new(alloc),
+            samples: Vec::new(alloc),
+            index: Vec::new(alloc),
             alloc,
         }
     }
 
-    /// Takes one line. True where it is new. The refusals are `Width`, `Sample` and `OutOfMemory`, in
-    /// this order, and change nothing; a line that is held already needs no memory.
+    /// Takes one line. True where it is new; then it has no source. The refusals are `Width`, `Sample` and
+    /// `OutOfMemory`, in this order, and change nothing; a line that is held already needs no memory.
     pub fn add(&mut self, samples: &[u16]) -> Result<bool, InsertFault>
         ensures refused { Refuses (samples_fault self.old.precision self.old.width samples.now) result }
         ensures unchanged { OnErr result (self.new ≡ self.old) }
@@ -66,19 +68,22 @@ impl LineSet {
         if let Some(fault) = find_samples_fault(samples, self.precision, self.width) {
             return Err(fault);
         }
-        if self.lists.contains(samples) {
-            return Ok(false);
+        match find(&self.index, &self.samples, self.width, samples) {
+            Ok(_) => Ok(false),
+            Err(at) => {
+                let sources = SourceSet::empty(self.alloc);
+                put(&mut self.index, &mut self.samples, at, samples, sources)?;
+                Ok(true)
+            }
         }
-        let samples = Vec::from_slice(self.alloc, samples)?;
-        self.lists.insert(samples)?;
-        Ok(true)
     }
 
-    /// How many lines are held.
+    /// How many lines are held. Each source is of one of them.
     pub fn len(&self) -> usize
-        ensures { result ≡ length (set.items self.now.lines) }
+        ensures value { result ≡ length (set.items self.now.lines) }
+        ensures sources { AreLineMarksHeld self.now }
     {
-        self.lists.len()
+        self.index.len()
     }
 
     /// The line that has `i` others below it, lent from the set: lines stand in ascending order of
@@ -88,14 +93,32 @@ impl LineSet {
         ensures value { slice_get (set.items self.now.lines) i ≡ Some result.now }
         ensures fitting { samples_fault self.now.precision self.now.width result.now ≡ None }
     {
-        self.lists.get(i)
+        samples_at(&self.samples, self.width, self.index[i].start)
     }
 
-    /// The lines one after the other, in the order of `get`.
-    fn lines(&self) -> Readings<'_>
-        ensures { result ≡ set.items self.now.lines }
+    /// The source numbers of that line in ascending order, lent from the set.
+    pub fn sources(&self, i: usize) -> &[u32]
+        requires { i < length (set.items self.now.lines) }
+        ensures { IfSome (slice_get (set.items self.now.lines) i) (λ samples. result.now ≡ line_sources self.now samples) }
     {
-        Readings::of(&self.lists)
+        self.index[i].sources.as_slice()
+    }
+
+    /// Takes one line that fits, and adds these source numbers to its own.
+    fn take(&mut self, samples: &[u16], sources: &[u32]) -> Result<(), AllocError>
+        requires { samples_fault self.old.precision self.old.width samples.now ≡ None }
+        ensures ok { OnOk result (self.new ≡ with_lines self.old ((samples.now, sources.now) ∷ [])) }
+        ensures err { OnErr result (self.new ≡ self.old) }
+    {
+        match find(&self.index, &self.samples, self.width, samples) {
+            Ok(at) => self.index[at].sources.add_all(sources)?,
+            Err(at) => {
+                let mut own = SourceSet::empty(self.alloc);
+                own.add_all(sources)?;
+                put(&mut self.index, &mut self.samples, at, samples, own)?;
+            }
+        }
+        Ok(())
     }
 
     fn has_same_shape(&self, other: &LineSet) -> bool
@@ -105,16 +128,14 @@ impl LineSet {
     }
 }
 
-/// Takes all lines of the other.
+/// Takes all lines of the other, with their sources.
 fn merge_lines(into: &mut LineSet, other: &LineSet) -> Result<(), AllocError>
+    requires { has_same_line_shape into.old other.now ≡ true }
     ensures ok { OnOk result (into.new ≡ union_of_lines into.old other.now) }
     ensures err { OnErr result (IsBetween union_of_lines into.old into.new (union_of_lines into.old other.now)) }
 {
-    for samples in other.lines() {
-        match into.add(samples) {
-            Ok(_) => {}
-            Err(_) => return Err(AllocError),
-        }
+    for i in 0..other.len() {
+        into.take(other.get(i), other.sources(i))?;
     }
     Ok(())
 }
@@ -129,9 +150,9 @@ impl Merge for LineSet {
 
     ghost laws = { line_set_laws };
 
-    /// Takes in the lines of `other`. `ShapeDiffers`, where the precisions or the widths differ,
+    /// Takes in the lines of `other`, and their sources. `ShapeDiffers`, where the precisions or the widths differ,
     /// changes nothing; after want of memory all that was held is still held, with some of the other's
-    /// lines, and the same call can be made again.
+    /// lines and their sources, and the same call can be made again.
     fn merge(&mut self, other: &LineSet) -> Result<(), MergeFault> {
         if !self.has_same_shape(other) {
             return Err(MergeFault::ShapeDiffers);

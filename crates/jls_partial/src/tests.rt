@@ -153,6 +153,7 @@ fn lines_of_one_width(rt: HostRuntime) -> Result<(), Fail> {
     assert_eq!(rt; five.len(), 2);
     assert_eq!(rt; five.get(0), [3].as_slice());
     assert_eq!(rt; five.get(1), [5].as_slice());
+    assert!(rt; five.sources(1).is_empty());
 
     let mut all = LineSet::empty(rt.alloc(), 8, 1);
     let both = [lines, five];

@@ -1,31 +1,39 @@
-use Rattle.std.proofs.Common.{◌∙◌, ◌∷◌, [], map, ap, sym, subst}
-use Rattle.std.proofs.lemmas.List.{map-append}
+use Rattle.std.proofs.Common.{◌≡◌, ℕ, ◌+◌, ◌<◌, List, [], length, take, drop, ap, sym, subst, ◌∙◌, arith}
+use Rattle.std.specs.Prelude.{OnErr, Ok, Err}
+use Rattle.std.proofs.lemmas.List.{append-nil, take_at, take-append-drop, length-map}
 use Rattle.jls_values.specs.Join.{IsBetween}
 use Rattle.jls_values.specs.OrderedSet.{items}
-use Rattle.jls_partial.specs.LineSet.{PictureLines, with_lines, union_of_lines}
-use Rattle.jls_partial.proofs.LineSets.{with_lines-push, front_above, front_below}
-use Rattle.jls_partial.proofs.Yielded.{yielded_more, yielded_all}
+use Rattle.jls_partial.specs.LineSet.{PictureLines, with_lines, kept_lines, line_sources, union_of_lines}
+use Rattle.jls_partial.specs.Packed.{Kept}
+use Rattle.jls_partial.proofs.LineSets.{one_more, all_is_union, front_between}
 use Rattle.jls_partial.proofs.line_set.merge_lines.Goals as goal
 
-pub returns-in-Err-clause-err : goal.returns-in-Err-clause-err
-returns-in-Err-clause-err c =
-    let taken = map (λ samples. samples.now) c.loop-samples.yielded in
-    subst (λ (s : PictureLines). IsBetween union_of_lines c.args.into.now s (union_of_lines c.args.into.now c.args.other.now)) (sym (c.in-Err.ensures.unchanged ∙ c.loop-samples.invariant.taken))
-    (front_above c.args.into.now taken, front_below c.args.into.now c.args.other.now taken c.loop-samples.samples-iterator c.loop-samples.invariant.lent)
+pub returns-in_err-take-clause-err : goal.returns-in_err-take-clause-err
+returns-in_err-take-clause-err c =
+    let s = c.args.into.now in
+    let p = c.args.other.now in
+    let kl = kept_lines p in
+    let i = c.loop-i.i in
+    let between : IsBetween union_of_lines s (with_lines s (take i kl)) (union_of_lines s p) = front_between s p c.len-i-end.ensures.sources (take i kl) (drop i kl) (sym (take-append-drop i kl)) in
+    let stands : IsBetween union_of_lines s c.take.new.self (union_of_lines s p) = subst (λ (z : PictureLines). IsBetween union_of_lines s z (union_of_lines s p)) (sym (c.in_err-take.ensures.err ∙ c.loop-i.invariant)) between in
+    elim c.from_residual.result as (λ r. OnErr r (IsBetween union_of_lines s c.take.new.self (union_of_lines s p))) [
+      | Ok _ ↦ tt
+      | Err _ ↦ stands
+    ]
 
-pub loop-samples-preserved : goal.loop-samples-preserved
-loop-samples-preserved c =
-    let taken = map (λ samples. samples.now) c.loop-samples.yielded in
-    record {
-      can_next = tt;
-      is_finite = tt;
-      lent = yielded_more (λ samples. samples.now) (items c.args.other.now.lines) c.loop-samples.yielded c.in-Some.samples c.loop-samples.samples-iterator c.next.new.self c.loop-samples.invariant.lent c.in-Some.ensures.steps;
-      taken = c.in-Ok.ensures.held
-          ∙ with_lines-push c.args.into.now c.loop-samples.into taken c.in-Some.samples.now c.loop-samples.invariant.taken
-          ∙ ap (with_lines c.args.into.now) (sym (map-append (λ samples. samples.now) c.loop-samples.yielded (c.in-Some.samples ∷ [])));
-    }
+pub loop-i-preserved : goal.loop-i-preserved
+loop-i-preserved c =
+    let end = c.len-i-end.ensures.value in
+    let lt : c.loop-i.i < length (items c.args.other.now.lines) = omega (arith, end, c.loop-i-test.true) in
+    c.in_ok-take.ensures.ok ∙ one_more c.args.into.now c.loop-i.into c.args.other.now c.loop-i.i c.get.result.now c.sources.result.now lt c.get.ensures.value c.sources.ensures c.loop-i.invariant
 
 pub returns-clause-ok : goal.returns-clause-ok
 returns-clause-ok c =
-    c.loop-samples.invariant.taken
-    ∙ ap (with_lines c.args.into.now) (yielded_all (λ samples. samples.now) (items c.args.other.now.lines) c.loop-samples.yielded c.loop-samples.samples-iterator c.loop-samples.invariant.lent c.in-None.ensures.steps.0)
+    let s = c.args.into.now in
+    let p = c.args.other.now in
+    let kl = kept_lines p in
+    let f = λ (y : List ℕ). let k : Kept = (y, line_sources p y) in k in
+    let many : length kl ≡ length (items p.lines) = length-map (items p.lines) f in
+    let end = c.len-i-end.ensures.value in
+    let all : length kl ≡ c.loop-i.i = omega (arith, many, end) in
+    c.loop-i.invariant ∙ ap (with_lines s) (ap (take c.loop-i.i) (sym (append-nil kl)) ∙ take_at kl [] c.loop-i.i all) ∙ all_is_union s p c.len-i-end.ensures.sources

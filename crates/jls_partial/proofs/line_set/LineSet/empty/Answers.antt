@@ -1,7 +1,10 @@
-use Rattle.std.proofs.Common.{sym, subst}
-use Rattle.jls_partial.specs.LineSet.{IsLineSet}
+use Rattle.std.proofs.Common.{ℕ, List, [], sym, subst}
+use Rattle.jls_partial.specs.declared.packed.Slot.{Slot}
+use Rattle.jls_partial.specs.PackedLines.{IsLineSet}
 use Rattle.jls_partial.proofs.LineSets.{none_kept}
 use Rattle.jls_partial.proofs.line_set.LineSet.empty.Goals as goal
 
 pub invariant_of-result : goal.invariant_of-result
-invariant_of-result c = subst (IsLineSet c.args.precision c.args.width) (sym c.new.ensures) (none_kept c.args.precision c.args.width c.requires.precision_at_most)
+invariant_of-result c =
+    subst (λ (ps : List ℕ). IsLineSet c.args.precision c.args.width ps c.new-2.result.items) (sym c.new.ensures.items)
+    (subst (λ (ss : List Slot). IsLineSet c.args.precision c.args.width [] ss) (sym c.new-2.ensures.items) (none_kept c.args.precision c.args.width c.requires.precision_at_most))

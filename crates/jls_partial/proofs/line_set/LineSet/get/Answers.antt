@@ -1,21 +1,48 @@
-use Rattle.std.proofs.Common.{◌≡◌, ◌<◌, ◌∙◌, ℕ, List, length, ap, subst, None}
-use Rattle.std.specs.Prelude.{slice_get}
+use Rattle.std.proofs.Common.{◌≡◌, ℕ, ◌+◌, ◌<◌, ◌≤◌, List, length, get_or, take, drop, Some, None, refl, ap, sym, subst, ◌∙◌, arith}
+use Rattle.std.specs.Prelude.{slice_get, IfSome}
+use Rattle.std.proofs.lemmas.List.{length-map}
+use Rattle.std.proofs.lemmas.Option.{slice_get_read}
+use Rattle.jls_values.specs.OrderedSet as sets
+use Rattle.jls_partial.specs.declared.packed.Slot.{Slot}
 use Rattle.jls_partial.specs.InsertFaults.{samples_fault}
-use Rattle.jls_partial.specs.LineSet.{PictureLines}
-use Rattle.jls_partial.proofs.LineSets.{lines_kept}
+use Rattle.jls_partial.specs.LineSet.{PictureLines, line_sources}
+use Rattle.jls_partial.specs.Packed.{lines_of}
+use Rattle.jls_partial.proofs.LineSets.{lines_kept, length_kept, sources_lent}
+use Rattle.jls_partial.proofs.PackedLines.{inside_at, line_at}
 use Rattle.jls_partial.proofs.Views.{all-slice_get}
 use Rattle.jls_partial.proofs.line_set.LineSet.get.Goals as goal
 
-pub get-requires : goal.get-requires
-get-requires c =
-    subst (λ (xs : List (List ℕ)). c.args.i < length xs) (lines_kept c.self.inside.precision c.self.inside.width c.self.inside.lists c.args.self.now c.self.invariant c.self.view_is) c.requires
+pub index-requires : goal.index-requires
+index-requires c =
+    let many = length_kept c.self.inside.precision c.self.inside.width c.self.inside.samples.items c.self.inside.index.items c.args.self.now c.self.invariant c.self.view_is in
+    let items = c.self.inside.index.ok.0 in
+    let below = c.requires in
+    omega (arith, many, items, below)
+
+-- the line is the one of its slot
+read : (precision width : ℕ) (packed : List ℕ) (slots : List Slot) (i : ℕ) (s : Slot) (x : List ℕ) → i < length slots → s ≡ get_or slots i s → x ≡ take width (drop s.start packed) → slice_get (lines_of width packed slots) i ≡ Some x
+read precision width packed slots i s x lt is e =
+    let many : length (lines_of width packed slots) ≡ length slots = length-map slots (λ (t : Slot). take width (drop t.start packed)) in
+    slice_get_read (lines_of width packed slots) (length (lines_of width packed slots)) i x refl (omega (arith, many, lt)) (e ∙ sym (line_at width packed slots i s x lt is))
+
+pub samples_at-requires : goal.samples_at-requires
+samples_at-requires c =
+    let many = length_kept c.self.inside.precision c.self.inside.width c.self.inside.samples.items c.self.inside.index.items c.args.self.now c.self.invariant c.self.view_is in
+    let below = c.requires in
+    subst (λ (ps : List ℕ). c.index.result.now.start + c.self.inside.width ≤ length ps) (sym c.deref.ensures.value)
+    (inside_at c.self.inside.width c.self.inside.samples.items c.self.inside.index.items c.args.i c.index.result.now c.self.invariant.packed_lines.inside (omega (arith, many, below)) c.index.ensures)
 
 pub returns-clause-value : goal.returns-clause-value
 returns-clause-value c =
-    ap (λ (xs : List (List ℕ)). slice_get xs c.args.i) (lines_kept c.self.inside.precision c.self.inside.width c.self.inside.lists c.args.self.now c.self.invariant c.self.view_is)
-    ∙ c.get.ensures
+    let many = length_kept c.self.inside.precision c.self.inside.width c.self.inside.samples.items c.self.inside.index.items c.args.self.now c.self.invariant c.self.view_is in
+    let below = c.requires in
+    ap (λ (xs : List (List ℕ)). slice_get xs c.args.i) (lines_kept c.self.inside.precision c.self.inside.width c.self.inside.samples.items c.self.inside.index.items c.args.self.now c.self.invariant c.self.view_is)
+    ∙ read c.self.inside.precision c.self.inside.width c.self.inside.samples.items c.self.inside.index.items c.args.i c.index.result.now c.samples_at.result.now (omega (arith, many, below)) c.index.ensures
+    (c.samples_at.ensures ∙ ap (λ (ps : List ℕ). take c.self.inside.width (drop c.index.result.now.start ps)) c.deref.ensures.value)
 
 pub returns-clause-fitting : goal.returns-clause-fitting
 returns-clause-fitting c =
-    subst (λ (s : PictureLines). samples_fault s.precision s.width c.get.result.now ≡ None) c.self.view_is
-    (all-slice_get (λ x. samples_fault c.self.inside.precision c.self.inside.width x ≡ None) c.self.inside.lists c.args.i c.get.result.now c.self.invariant.fitting c.get.ensures)
+    let lines = lines_of c.self.inside.width c.self.inside.samples.items c.self.inside.index.items in
+    subst (λ (z : PictureLines). samples_fault z.precision z.width c.samples_at.result.now ≡ None) c.self.view_is
+    (all-slice_get (λ x. samples_fault c.self.inside.precision c.self.inside.width x ≡ None) lines c.args.i c.samples_at.result.now c.self.invariant.fitting
+    (ap (λ (xs : List (List ℕ)). slice_get xs c.args.i) (sym (lines_kept c.self.inside.precision c.self.inside.width c.self.inside.samples.items c.self.inside.index.items c.args.self.now c.self.invariant c.self.view_is)) ∙ returns-clause-value c))
