@@ -1,5 +1,5 @@
 -- What a decoder holds at the end of its bytes.
-use Rattle.std.proofs.Common.{◌≡◌, ℕ, ◌*◌, ◌<◌, ◌≤◌, Bool, true, false, List, [], ◌∷◌, ◌++◌, length, map, Vec, Global, Result, Ok, Err, refl, sym, ap, ◌∙◌, subst, arith, inl, inr, append_assoc}
+use Rattle.std.proofs.Common.{◌≡◌, ℕ, ◌*◌, ◌<◌, ◌≤◌, Bool, true, false, List, [], ◌∷◌, ◌++◌, length, get_or, suc, map, Vec, Global, Result, Ok, Err, refl, sym, ap, ◌∙◌, subst, arith, inl, inr, append_assoc}
 use Rattle.std.specs.Prelude.{Option, Some, None, MatchOption, IfSome, MatchResult}
 use Rattle.std.specs.Option.{option_map}
 use Rattle.std.proofs.lemmas.List.{append-nil}
@@ -44,10 +44,15 @@ pushed_then v a b xs ys zs e f h =
 pub refused_then : (v a b : IntervalBytes) (xs : List ℕ) → a ≡ record v { bytes = option_map (λ bytes. bytes ++ xs) v.bytes } → b ≡ record a { bytes = None } → b ≡ record v { bytes = None }
 refused_then v a b xs e f = f ∙ ap (λ (z : IntervalBytes). record z { bytes = None }) e
 
--- a piece goes on after a byte that has data bits
-pub goes_on : (bytes : List ℕ) (x : ℕ) (ended : Bool) → (ended ≡ true → is_whole bytes ≡ false) → is_whole (bytes ++ x ∷ []) ≡ true → ended ≡ false
-goes_on bytes x ended h w =
-    elim (cases_Bool ended) [ inl t ↦ (let a : true ≡ false = sym (whole_front 0 bytes (x ∷ []) w).0 ∙ h t in cc) | inr o ↦ o ]
+-- a piece goes on after bytes that have data bits
+pub goes_on : (bytes more : List ℕ) (ended : Bool) → (ended ≡ true → is_whole bytes ≡ false) → is_whole (bytes ++ more) ≡ true → ended ≡ false
+goes_on bytes more ended h w =
+    elim (cases_Bool ended) [ inl t ↦ (let a : true ≡ false = sym (whole_front 0 bytes more w).0 ∙ h t in cc) | inr o ↦ o ]
+
+-- elements of a type of bytes
+pub all_bytes : (xs : List ℕ) → ((i : ℕ) → get_or xs i 0 < 256) → AllByRecursion (λ x. x < 256) xs
+all_bytes [] h = tt
+all_bytes (x ∷ xs) h = (h 0, all_bytes xs (λ i. h (suc i)))
 
 -- a byte has at most eight data bits
 pub data_bits_at_most : (before : ℕ) (xs : List ℕ) → length (bits_read_after before xs) ≤ 8 * length xs

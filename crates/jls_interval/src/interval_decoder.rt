@@ -1,7 +1,8 @@
 //! The lines of an interval, from bytes that come a few at a time.
 
-ghost use Rattle.std.specs.Prelude.{◌≡◌, ℕ, ◌*◌, ◌^◌, ◌<◌, ◌≤◌, ◌++◌, [], ◌∷◌, List, Some, None, IsSome, map, OnOk, OnErr, IfSome, MatchOption, MatchResult};
+ghost use Rattle.std.specs.Prelude.{◌≡◌, ℕ, ◌*◌, ◌^◌, ◌<◌, ◌≤◌, ◌++◌, ◌+◌, true, [], ◌∷◌, Bool, List, length, Some, None, IsSome, map, OnOk, OnErr, IfSome, MatchOption, MatchResult};
 ghost use Rattle.std.specs.Option.{option_map};
+ghost use Rattle.jls_bits.specs.Bits.{bits_read, is_whole};
 ghost use Rattle.jls_values.specs.Params.{AreCodingParameters};
 ghost use Rattle.jls_interval.specs.Reads.{Reads};
 ghost use Rattle.jls_interval.specs.PieceFaults.{OutcomeIs};
@@ -14,6 +15,41 @@ use jls_bits::{Chunk, Unstuffer};
 use jls_values::Params;
 use std::alloc::{AllocError, Global};
 use std::marker::Model;
+
+/// Appends the data bits of a byte to a chunk, and says whether none of the bytes so far ends the data.
+fn append_byte(unstuffer: &mut Unstuffer, byte: u8, chunk: &mut Chunk) -> bool
+    requires { length chunk.old ≤ 56 }
+    ensures pushed { unstuffer.new ≡ unstuffer.old ++ byte ∷ [] }
+    ensures whole { result ≡ is_whole unstuffer.new }
+    ensures bits { (given : List Bool) → is_whole unstuffer.new ≡ true
+        → bits_read unstuffer.old ≡ given ++ chunk.old → bits_read unstuffer.new ≡ given ++ chunk.new }
+    ensures few { length chunk.new ≤ length chunk.old + 8 }
+{
+    match unstuffer.push(byte) {
+        None => false,
+        Some((value, count)) => {
+            chunk.append(value, count);
+            true
+        }
+    }
+}
+
+/// Appends the data bits of a few bytes to a chunk of none, and says whether none of the bytes so far ends
+/// the data.
+fn append_bytes(unstuffer: &mut Unstuffer, bytes: &[u8], chunk: &mut Chunk) -> bool
+    requires some { 0 < length bytes.now }
+    requires few { length bytes.now ≤ 7 }
+    requires empty { chunk.old ≡ [] }
+    ensures pushed { unstuffer.new ≡ unstuffer.old ++ bytes.now }
+    ensures whole { result ≡ is_whole unstuffer.new }
+    ensures bits { is_whole unstuffer.new ≡ true → bits_read unstuffer.new ≡ bits_read unstuffer.old ++ chunk.new }
+{
+    let mut whole = false;
+    for byte in bytes {
+        whole = append_byte(unstuffer, *byte, chunk);
+    }
+    whole
+}
 
 /// Reads an interval whose bytes come a few at a time, and keeps none of them: only its lines so far. A
 /// contract sees the shape of the interval and the bytes so far. Once memory is refused, every call answers
@@ -82,32 +118,38 @@ impl IntervalDecoder {
         }
     }
 
-    /// Takes the next byte. The only refusal is out of memory, which is for good.
-    pub fn push(&mut self, byte: u8) -> Result<(), AllocError>
-        ensures ok { OnOk result (self.new ≡ record self.old { bytes = option_map (λ bytes. bytes ++ byte ∷ []) self.old.bytes }) }
+    /// Takes the next bytes, from one to seven.
+    fn push_few(&mut self, bytes: &[u8]) -> Result<(), AllocError>
+        requires some { 0 < length bytes.now }
+        requires few { length bytes.now ≤ 7 }
+        ensures ok { OnOk result (self.new ≡ record self.old { bytes = option_map (λ before. before ++ bytes.now) self.old.bytes }) }
         ensures taken { OnOk result (IsSome self.old.bytes) }
         ensures err { OnErr result (self.new ≡ record self.old { bytes = None }) }
     {
         if self.refused {
             return Err(AllocError);
         }
-        match self.unstuffer.push(byte) {
-            None => {
-                self.ended = true;
-                Ok(())
-            }
-            Some((value, count)) => {
-                let mut chunk = Chunk::new();
-                chunk.append(value, count);
-                match self.reader.push_chunk(&mut chunk) {
-                    Ok(()) => Ok(()),
-                    Err(AllocError) => {
-                        self.refused = true;
-                        Err(AllocError)
-                    }
-                }
+        let mut chunk = Chunk::new();
+        if !append_bytes(&mut self.unstuffer, bytes, &mut chunk) {
+            self.ended = true;
+            return Ok(());
+        }
+        match self.reader.push_chunk(&mut chunk) {
+            Ok(()) => Ok(()),
+            Err(AllocError) => {
+                self.refused = true;
+                Err(AllocError)
             }
         }
+    }
+
+    /// Takes the next byte. The only refusal is out of memory, which is for good.
+    pub fn push(&mut self, byte: u8) -> Result<(), AllocError>
+        ensures ok { OnOk result (self.new ≡ record self.old { bytes = option_map (λ bytes. bytes ++ byte ∷ []) self.old.bytes }) }
+        ensures taken { OnOk result (IsSome self.old.bytes) }
+        ensures err { OnErr result (self.new ≡ record self.old { bytes = None }) }
+    {
+        self.push_few(&[byte])
     }
 
     /// Takes the next bytes, one after another. The only refusal is out of memory, which is for good.
@@ -119,8 +161,11 @@ impl IntervalDecoder {
         if self.refused {
             return Err(AllocError);
         }
-        for byte in more {
-            self.push(*byte)?;
+        let mut at = 0;
+        while at < more.len() {
+            let end = at + (more.len() - at).min(7);
+            self.push_few(&more[at..end])?;
+            at = end;
         }
         Ok(())
     }

@@ -1,0 +1,11 @@
+use Rattle.std.proofs.Common.{◌≡◌, ◌*◌, ◌<◌, ◌≤◌, true, ◌++◌, take, length}
+use Rattle.jls_bits.specs.Bits.{bits_read, is_whole}
+use Rattle.jls_interval.proofs.interval_decoder.append_bytes.Given as goal
+
+abbrev pub invariant-loop-byte : goal.invariant-loop-byte
+invariant-loop-byte l = record {
+  pushed : l.unstuffer ≡ l.initial.unstuffer ++ take l.byte-index l.bytes;
+  whole : 0 < l.byte-index → l.whole ≡ is_whole l.unstuffer;
+  bits : is_whole l.unstuffer ≡ true → bits_read l.unstuffer ≡ bits_read l.initial.unstuffer ++ l.chunk;
+  few : length l.chunk ≤ 8 * l.byte-index;
+}
