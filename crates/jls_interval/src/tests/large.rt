@@ -7,13 +7,14 @@ use jls_values::Params;
 use std::alloc::Global;
 use std::test::Fail;
 
-/// Lines of this width, of samples that change with place and line.
-fn lines_of(alloc: Global, width: u16, count: u32, spread: u32) -> Result<Vec<Vec<u16>>, Fail> {
+/// Lines of this width, of samples that change with place and line, and have the bits of `mask`.
+fn lines_of(alloc: Global, width: u16, count: u32, mask: u16) -> Result<Vec<Vec<u16>>, Fail> {
     let mut lines = Vec::new(alloc);
     for y in 0..count {
+        let row = (y % 4096) as u16 * 13;
         let mut line = Vec::new(alloc);
         for x in 0..width {
-            line.push((((u32::from(x) * 7) ^ (y % 4096 * 13)) % spread) as u16)?;
+            line.push((x.wrapping_mul(7) ^ row) & mask)?;
         }
         lines.push(line)?;
     }
@@ -44,14 +45,14 @@ fn come_back(alloc: Global, shape: (u16, u8, u32), lines: &[Vec<u16>]) -> Result
 
 #[test]
 fn four_wide_components(rt: HostRuntime) -> Result<(), Fail> {
-    let lines = lines_of(rt.alloc(), 100, 200, 256)?;
+    let lines = lines_of(rt.alloc(), 100, 200, 255)?;
     assert!(rt; come_back(rt.alloc(), (100, 4, 50), &lines)?);
     Ok(())
 }
 
 #[test]
 fn more_than_a_million_samples(rt: HostRuntime) -> Result<(), Fail> {
-    let lines = lines_of(rt.alloc(), 1100, 1000, 2)?;
+    let lines = lines_of(rt.alloc(), 1100, 1000, 1)?;
     assert!(rt; come_back(rt.alloc(), (1100, 1, 1000), &lines)?);
     Ok(())
 }
