@@ -1,4 +1,4 @@
--- What a reader answers when the input ends.
+-- What a reader answers when the input ends. Of these words `no_picture` alone is one that public contracts stand on.
 use Rattle.std.specs.Prelude.{◌≡◌, ℕ, Bool, true, false, List, length, take, Option, Some, None}
 use Rattle.jls_values.specs.OrderedSet as set
 use Rattle.jls_values.specs.Shape.{PictureShape}
@@ -35,7 +35,8 @@ pub record Concludes (r : Reading) (read : ReadCopy) : Type 0 where
   pub count_is : read.piece_count ≡ length (records (all_pieces r) outcomes)
   pub ended_is : read.ended ≡ end_at r.state.place r.state.count
 
--- the fault where no frame was taken
+-- the fault where no frame was taken, with its offset: that which ended the copy, or `Ended` where the input ended at the place of a
+-- marker. (Behind EOI a frame was always taken: EOI before a frame is a fault)
 abbrev pub no_picture : End → CopyFault
 no_picture (Eoi offset) = NoPicture fault.NoFrame offset
 no_picture (Input offset) = NoPicture fault.Ended offset

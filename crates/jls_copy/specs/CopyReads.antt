@@ -1,4 +1,5 @@
--- What a whole copy gives: the readings and the records of its course.
+-- What a whole copy gives: the readings and the records of its course. Where a definition says that there is a course, it is the only
+-- one that these bytes have (`OneCourse`).
 use Rattle.std.specs.Prelude.{◌≡◌, ℕ, Bool, true, false, List, length, take, Option, Some, None}
 use Rattle.jls_values.specs.OrderedSet as set
 use Rattle.jls_values.specs.Shape.{PictureShape}
@@ -28,18 +29,20 @@ pub record CopyReads (copy : List ℕ) (read : ReadCopy) : Type 0 where
   pub count_is : read.piece_count ≡ length (records (pieces course) outcomes)
   pub ended_is : read.ended ≡ course.end
 
--- the copy has a course without a frame, and the fault is that which ended it
+-- The copy has a course without a frame, and the fault is the one that belongs to its end (`no_picture`). Of a copy whose reading ran
+-- out of memory nothing is said
 abbrev pub CopyGivesNone : List ℕ → CopyFault → Type 0
 CopyGivesNone copy OutOfMemory = Unit {0}
 CopyGivesNone copy (NoPicture f offset) = (c : Course) × IsCourse copy c × (c.headers.frame ≡ None) × (NoPicture f offset ≡ no_picture c.end)
 
--- whether no byte more undoes an end: EOI, or a fault other than that of an input that ends too early
+-- Whether an end is EOI, or a fault other than that of an input that ends too early. By the definition of a course more bytes leave
+-- such an end as it is; no law says so yet
 abbrev pub is_final_end : End → Bool
 is_final_end (Eoi offset) = true
 is_final_end (Input offset) = false
 is_final_end (Header fault.Ended offset) = false
 is_final_end (Header f offset) = true
 
--- the course of the bytes ends so that no byte more undoes it, or it doesn't
+-- whether the course of the bytes has such an end
 abbrev pub IsDone : List ℕ → Bool → Type 0
 IsDone copy done = (c : Course) × IsCourse copy c × (done ≡ is_final_end c.end)

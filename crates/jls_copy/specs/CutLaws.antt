@@ -3,7 +3,7 @@ use Rattle.std.specs.Prelude.{◌≡◌, ℕ, ◌<◌, List, map}
 use Rattle.jls_copy.specs.ScanData.{ScanCut, IsCut}
 use Rattle.jls_copy.specs.Numbers.{IsNextNumber, next_number, Interval, numbers_behind, RiseByEightAtMost, mark_before}
 
--- every list of bytes is cut in one way, and in no other
+-- every list of bytes that begins where scan data does is cut in one way, and in no other
 abbrev pub OneCut : Type 0
 OneCut = (bytes : List ℕ) → (c : ScanCut) × IsCut bytes c × ((d : ScanCut) → IsCut bytes d → d ≡ c)
 
@@ -11,7 +11,8 @@ OneCut = (bytes : List ℕ) → (c : ScanCut) × IsCut bytes c × ((d : ScanCut)
 abbrev pub NumbersAreLeast : Type 0
 NumbersAreLeast = (last m : ℕ) → m < 8 → IsNextNumber last m (next_number last m)
 
--- where fewer than eight marks in a row are lost, the marks that are left give the pieces behind them their true numbers
+-- where fewer than eight marks in a row are lost, and every mark that is seen is a true one, these marks give the pieces behind them
+-- their true numbers
 abbrev pub LostMarksAreBridged : Type 0
 LostMarksAreBridged = (intervals last : ℕ) (numbers : List ℕ) → RiseByEightAtMost intervals last numbers
     → numbers_behind intervals last (map mark_before numbers) ≡ map Interval numbers

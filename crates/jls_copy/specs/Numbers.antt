@@ -2,8 +2,8 @@
 -- a row can be lost, is this profile's choice; T.81 B.2.1 counts the markers modulo 8.
 use Rattle.std.specs.Prelude.{◌≡◌, ℕ, ◌+◌, ◌-◌, ◌<◌, ◌≤◌, ◌%◌, List, [], ◌∷◌, nat_lt, if◌then◌else◌}
 
--- Interval i is closed by the mark i mod 8. Behind the mark m, where the number `last` was given last, the piece has this number: the
--- least one above `last` whose interval follows one that m closes
+-- Interval i, if it is not the last, is closed by the mark i mod 8. Behind the mark m, where the number `last` was given last, the
+-- piece has this number: the least one above `last` whose interval follows one that m closes
 pub record IsNextNumber (last m number : ℕ) : Type 0 where
   pub above : last < number
   pub mark : (number - 1) % 8 ≡ m
@@ -31,7 +31,8 @@ abbrev pub given_last : ℕ → PieceNumber → ℕ
 given_last last (Interval number) = number
 given_last last (BeyondLast number) = last
 
--- the numbers of the pieces behind these marks
+-- The numbers that these marks give, one behind the other. The pieces of a course get theirs by the same rule (`pieces_from` of
+-- `Pieces`); no law ties the two yet
 abbrev pub numbers_behind : ℕ → ℕ → List ℕ → List PieceNumber
 numbers_behind intervals last [] = []
 numbers_behind intervals last (m ∷ marks) =

@@ -1,4 +1,4 @@
--- What a reader of a copy keeps true.
+-- What a reader of a copy keeps true. Of these words `after` alone is one that public contracts cite.
 use Rattle.std.specs.Prelude.{◌≡◌, ℕ, ◌^◌, ◌<◌, ◌≤◌, Bool, true, false, List, [], ◌∷◌, ◌++◌, length, take, Option, Some, None}
 use Rattle.std.specs.List.{AllByRecursion}
 use Rattle.jls_values.specs.OrderedSet as set

@@ -170,7 +170,7 @@ piece_found index plan offset piece = record { scan = index; plan = plan; number
 abbrev pub found : OpenScan → FoundPiece
 found scan = piece_found scan.index scan.plan scan.offset scan.piece
 
--- the piece that a byte closes_piece
+-- the piece that a byte closes
 abbrev pub closed_by : ByteClass → OpenScan → List FoundPiece
 closed_by Fill scan = []
 closed_by Mark scan = found scan ∷ []

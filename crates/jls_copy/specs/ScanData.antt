@@ -1,5 +1,6 @@
--- Scan data: how restart markers cut it into pieces, and where it ends (T.81 B.1.1.2, B.1.1.5 and B.2.1, T.87 C.1). Which codes end
--- scan data, and that bytes 0xFF before a marker or the input's end are fill, is this profile's choice.
+-- Scan data: how restart markers cut it into pieces, and where it ends (T.81 B.1.1.2, B.1.1.5 and B.2.1, T.87 C.1). Bytes 0xFF before a
+-- marker are fill by T.81 B.1.1.2. Which codes end scan data, and that bytes 0xFF at the input's end belong to no piece, is this
+-- profile's choice.
 use Rattle.std.specs.Prelude.{◌≡◌, ℕ, ◌+◌, ◌<◌, ◌≤◌, ◌≢◌, Bool, true, false, ◌&&◌, ◌||◌, ◌==◌, nat_le, List, [], ◌∷◌, ◌++◌, length, replicate, slice_index}
 use Rattle.std.specs.List.{flat_map, AllByRecursion}
 
@@ -38,7 +39,8 @@ pub data ScanEnd : Type 0 where
   at_input : ℕ → ScanEnd
   at_marker : ℕ → ℕ → List ℕ → ScanEnd
 
--- how scan data, and what follows it, is cut: piece, mark, piece, mark, and so on, a last piece, and the end
+-- How scan data, and what follows it, is cut: piece, mark, piece, mark, and so on, a last piece, and the end. A unit of a course says
+-- the same without this record (`Course`); no law ties the two yet
 pub record ScanCut : Type 0 where
   pub closed : List ClosedPiece
   pub last : List ℕ
@@ -69,7 +71,8 @@ pub record IsCut (bytes : List ℕ) (c : ScanCut) : Type 0 where
   pub last : IsPiece c.last
   pub end : IsScanEnd c.end
 
--- a byte 0xFF stands at this place, and a byte of 0x80 or more behind it: no data bits do, so that a mark or the scan's end can only be here
+-- A byte 0xFF stands at this place, and a byte of 0x80 or more behind it, as never in data bits: a mark or a marker that ends scan data
+-- has such a place, but not each such place cuts scan data
 pub record IsCutPlace (bytes : List ℕ) (place : ℕ) : Type 0 where
   pub within : place + 1 < length bytes
   pub is_ff : slice_index bytes place ≡ 0xFF

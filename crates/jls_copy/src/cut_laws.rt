@@ -3,7 +3,7 @@
 ghost use Rattle.jls_copy.specs.CutLaws.{OneCut, NumbersAreLeast, LostMarksAreBridged};
 
 /// A law: every list of bytes that begins where scan data does is cut into pieces and marks in exactly one way (T.81 B.1.1.2
-/// and B.2.1).
+/// and B.2.1). The units of a course hold their pieces without a `ScanCut`; no law ties the two yet.
 pub fn scan_data_has_one_cut()
     ensures { OneCut }
 {}
@@ -14,8 +14,9 @@ pub fn numbers_are_least()
     ensures { NumbersAreLeast }
 {}
 
-/// A law: where fewer than eight restart markers in a row are lost, those that are left give the pieces behind them the
-/// numbers that these have in the undamaged picture.
+/// A law of lists of marks: where fewer than eight restart markers in a row are lost, and every marker that is seen is a true
+/// one, those that are left give the pieces behind them the numbers that these have in the undamaged picture. No law ties
+/// these numbers to the pieces of a copy yet.
 pub fn lost_marks_are_bridged()
     ensures { LostMarksAreBridged }
 {}

@@ -13,7 +13,8 @@ use std::alloc::{AllocError, Global};
 /// Why a piece of scan data gives no readings.
 #[derive(Clone, Copy, Debug, PartialEq, Eq)]
 pub enum PieceKind {
-    /// Its bytes are no code of lines.
+    /// It reads as no lines and is not too long: its data bits begin with the code of no lines, or a byte of 0x80 or more follows
+    /// 0xFF in it.
     Broken,
     /// More than seven bits follow the code of lines.
     Long,
@@ -24,7 +25,10 @@ pub enum PieceKind {
 /// A piece of scan data that gave no readings.
 #[derive(Clone, Copy, Debug, PartialEq, Eq)]
 pub struct PieceRecord {
+    /// The scan of the copy, counted from 0.
     pub scan: u8,
+    /// Its number among the restart intervals of the scan, from 0. For `Beyond` it is the number that the restart marker before the
+    /// piece stands for, at or above the number of intervals, which was not given.
     pub interval: u32,
     /// The offset of its first byte.
     pub offset: u64,

@@ -1,4 +1,4 @@
-//! One copy of a picture, in pieces of any size.
+//! One copy of a picture, fed in slices of any size.
 
 ghost use Rattle.std.specs.Prelude.{◌≡◌, ◌+◌, ◌-◌, ◌≤◌, ◌<◌, ◌^◌, ◌∷◌, [], length, Some, None, IfSome, OnOk, OnErr, IsOk, IsSome, IsErr, IfOk, IfErr, IfNone, take};
 ghost use Rattle.jls_copy.specs.Reader.{after};
@@ -24,6 +24,7 @@ use std::marker::Model;
 pub enum CopyFault {
     /// No frame was taken: the fault that ended the copy, and its offset.
     NoPicture(MarkerFault, u64),
+    /// Memory was refused, in a `feed` or in `finish`. Nothing is said of the copy.
     OutOfMemory,
 }
 
@@ -49,7 +50,7 @@ impl Model for CopyRead {
 }
 
 impl CopyRead {
-    /// The readings, as a partial picture of the frame's shape. It has no sources.
+    /// The readings, as a partial picture of the frame's shape.
     pub fn partial(&self) -> &Partial
         ensures { result.now ≡ self.now.partial }
     {
@@ -86,7 +87,7 @@ impl CopyRead {
     }
 }
 
-/// Reads one copy as its bytes come. A contract sees the bytes fed, or `None` after a refused `feed`.
+/// Reads one copy as its bytes come, in slices of any size. A contract sees the bytes fed, or `None` after a refused `feed`.
 #[derive(Drop)]
 pub struct CopyReader {
     bytes: PushedBytes,
@@ -128,7 +129,7 @@ impl CopyReader {
         }
     }
 
-    /// How many bytes were fed.
+    /// How many bytes were fed, those behind the copy's end among them. After a refused `feed` nothing is promised of the answer.
     pub fn fed(&self) -> u64
         ensures { IfSome self.now (λ bytes. result ≡ length bytes) }
     {
@@ -156,7 +157,9 @@ impl CopyReader {
         }
     }
 
-    /// Takes the next piece of the copy. After a refusal it is refused for good.
+    /// Takes the next slice of the copy, which may be empty. All slices together may have 2^63 - 1 bytes at most. Bytes behind the
+    /// copy's end are counted, and otherwise ignored. The only refusal is out of memory, and it is for good: every further `feed` is
+    /// refused too, and `finish` answers `OutOfMemory`.
     pub fn feed(&mut self, piece: &[u8]) -> Result<(), AllocError>
         requires { IfSome self.old (λ bytes. length bytes + length piece.now ≤ 2 ^ 63 - 1) }
         ensures ok { OnOk result (self.new ≡ after self.old piece.now) }
@@ -172,14 +175,17 @@ impl CopyReader {
         Ok(())
     }
 
-    /// Whether EOI or a fault of the headers was met, so that no byte more changes anything.
+    /// Whether EOI was met, or a fault of the headers other than `Ended`: then further bytes are counted, and otherwise ignored. After
+    /// a refused `feed` nothing is promised of the answer.
     pub fn is_done(&self) -> bool
         ensures { IfSome self.now (λ bytes. IsDone bytes result) }
     {
         is_final(&self.machine.place)
     }
 
-    /// What the copy gave.
+    /// What the copy gave, if the input ends here. `NoPicture` comes if no frame was taken: with the fault that ended the copy and
+    /// its offset, or with `Ended` and the input's length if the input ended where a marker may begin. `OutOfMemory` comes if a `feed`
+    /// was refused, or if memory runs out for the last piece.
     pub fn finish(self) -> Result<CopyRead, CopyFault>
         ensures read { IfOk result (λ read. IfSome self (λ bytes. CopyReads bytes read)) }
         ensures none { IfErr result (λ fault. IfSome self (λ bytes. CopyGivesNone bytes fault)) }

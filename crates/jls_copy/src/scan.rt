@@ -25,7 +25,7 @@ pub(crate) enum Held {
 pub(crate) enum ByteClass {
     /// It may be fill.
     Fill,
-    /// It closes_piece a piece.
+    /// It closes a piece.
     Mark,
     /// It ends the scan data.
     Stop,

@@ -1,2 +1,4 @@
+//! What whole copies give, and where scan data can be cut, on known values.
+
 mod copies;
 mod cuts;

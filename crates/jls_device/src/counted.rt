@@ -25,6 +25,9 @@ pub trait Open {
 /// Every error counts as a failure, an interrupted call too, and so does a write that took 0 of some bytes. Nothing is
 /// buffered, so what a write took has gone to the writer. A read while no input is open gives 0 bytes, and a write while no
 /// output is open fails; the stream behind is not asked.
+///
+/// Contracts speak of what is noted. That each call asks the stream or the files behind it for just that, once and by the same
+/// name, no contract says: it is read here.
 #[derive(Drop)]
 pub struct Counted<T> {
     inner: T,

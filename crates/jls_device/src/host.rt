@@ -21,7 +21,9 @@ enum Output {
 }
 
 /// Files by their names, where `-` is standard input as an input and standard output as an output. Each call is one call of
-/// the system: nothing is buffered, tried again or counted here.
+/// the system, or none, where nothing is open or where `-` is opened: nothing is buffered, tried again or counted here. Reads go to the
+/// input that was opened last, and writes to the output that was created last; an opening that fails changes neither. No
+/// contract says any of this.
 #[derive(Drop)]
 pub struct HostFiles<'a> {
     rt: &'a HostRuntime,

@@ -28,6 +28,59 @@ impl Write for Broken {
     }
 }
 
+/// A stream whose first call fails, whose second gives or takes nothing, and whose later calls give or take a byte.
+#[derive(Drop)]
+struct Wavering {
+    calls: u8,
+}
+
+impl Wavering {
+    /// The number of the call, counted up to 2.
+    fn call(&mut self) -> u8 {
+        let call = self.calls;
+        if call < 2 {
+            self.calls = call + 1;
+        }
+        call
+    }
+}
+
+impl Read for Wavering {
+    fn read(&mut self, buf: &mut [u8]) -> io::Result<usize> {
+        match self.call() {
+            0 => Err(io::Error::from(io::ErrorKind::Interrupted)),
+            1 => Ok(0),
+            _ => Ok(buf.len().min(1)),
+        }
+    }
+}
+
+impl Write for Wavering {
+    fn write(&mut self, buf: &[u8]) -> io::Result<usize> {
+        match self.call() {
+            0 => Err(io::Error::from(io::ErrorKind::Interrupted)),
+            1 => Ok(0),
+            _ => Ok(buf.len().min(1)),
+        }
+    }
+
+    fn flush(&mut self) -> io::Result<()> {
+        Ok(())
+    }
+}
+
+#[test]
+fn asks_a_stream_once_for_each_call(rt: HostRuntime) {
+    let mut source = Counted::new(Wavering { calls: 0 });
+    assert_eq!(rt; source.read_some(&mut [0, 0]), Err(SourceFault));
+    assert_eq!(rt; source.read_some(&mut [0, 0]), Ok(0));
+    assert_eq!(rt; source.read_some(&mut [0, 0]), Ok(1));
+    let mut sink = Counted::new(Wavering { calls: 0 });
+    assert_eq!(rt; sink.write_some(b"xy"), Err(SinkFault));
+    assert_eq!(rt; sink.write_some(b"xy"), Err(SinkFault));
+    assert_eq!(rt; sink.write_some(b"xy"), Ok(1));
+}
+
 #[test]
 fn counts_calls_and_failures(rt: HostRuntime) {
     let mut buffer = [0u8; 4];

@@ -19,8 +19,8 @@ abbrev pub bytes_of : Bool → List ℕ → Option (List ℕ)
 bytes_of true bytes = None
 bytes_of false bytes = Some bytes
 
--- The fields of a decoder, until memory is refused: what they say of the bytes so far, and how much they hold. There are at most eight
--- finished lines for each byte, and no more than the interval has; beside them a line in work
+-- Inside the crate. The fields of a decoder, until memory is refused: what they say of the bytes so far, and how much they hold. There
+-- are at most eight finished lines for each byte, and no more than the interval has; beside them a line in work
 pub record IsDecoding (p : CodingParameters) (rows : ℕ) (bytes : List ℕ) (ended : Bool) (d : IntervalReader) : Type 0 where
   pub ended_is : ended ≡ true → is_whole bytes ≡ false
   pub whole : ended ≡ false → is_whole bytes ≡ true

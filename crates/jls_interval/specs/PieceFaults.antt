@@ -23,7 +23,7 @@ OutcomeIs p width components count piece (Err Long) = IsLong p width components 
 OutcomeIs p width components count piece (Err Broken) = IsBroken p width components count piece
 OutcomeIs p width components count piece (Err OutOfMemory) = ⊥
 
--- no lines' code stands at the front of the bits
+-- inside the crate: no lines' code stands at the front of the bits
 abbrev pub NoLines : CodingParameters → ℕ → ℕ → ℕ → List Bool → Type 0
 NoLines p width components count given =
     (lines : List (List ℕ)) (rest : List Bool) → AreLines p width count lines → given ≡ code p width components lines ++ rest → ⊥

@@ -21,8 +21,8 @@ pub fn read_pieces_have_no_head()
 
 /// Behind whole events, bits cut an event that can come next if and only if lines are still to come and the bits are one of
 /// these: in regular mode, a proper prefix of the code of some error; in run mode, ones for full blocks with columns left
-/// behind them, or a count of columns whose least continuation is below the columns left, or a whole count and a proper
-/// prefix of the code of some error other than that of the run's own value.
+/// behind them, or a count of columns whose least continuation is below the columns left, or a whole count that is below
+/// them and a proper prefix of the code of some error other than that of the run's own value.
 pub fn cut_events_go_on()
     ensures { CutEventsGoOn }
 {}

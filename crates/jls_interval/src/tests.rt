@@ -4,3 +4,4 @@
 mod damaged;
 mod decoding;
 mod encoding;
+mod large;

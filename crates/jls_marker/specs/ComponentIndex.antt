@@ -1,4 +1,4 @@
--- The components of a frame by their identifiers.
+-- The components of a frame by their identifiers: which of them a scan has, and which identifiers are unknown.
 use Rattle.std.specs.Prelude.{ℕ, ◌==◌, List}
 use Rattle.std.specs.List.{position_or_len}
 

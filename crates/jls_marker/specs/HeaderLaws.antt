@@ -23,7 +23,7 @@ pub record Begins (h after : HeaderState) (scan : Scan) : Type 0 where
 abbrev pub ScansBegin : Type 0
 ScansBegin = (h after : HeaderState) (code : ℕ) (payload : List ℕ) (scan : Scan) → headers_after h code payload ≡ Ok (after, Some scan) → Begins h after scan
 
--- its ranges
+-- a scan that begins is in its ranges, if the headers before it are in theirs and the payload consists of bytes
 abbrev pub ScansAreInRange : Type 0
 ScansAreInRange = (h after : HeaderState) (code : ℕ) (payload : List ℕ) (scan : Scan) → IsHeaderState h → AreBytes payload → headers_after h code payload ≡ Ok (after, Some scan) → IsScan scan
 

@@ -45,7 +45,8 @@ pub enum MarkerFault {
     /// An LSE segment of an ID other than 1, 2 and 3.
     #[error("unknown kind of preset parameters")]
     LseId,
-    /// A code that isn't known, or not there: no segment of this profile, a second SOI, a restart marker outside of scan data.
+    /// The code of a marker that is not EOI and has no segment in this profile, a second SOI and a restart marker outside of scan data
+    /// among them.
     #[error("unknown marker")]
     UnknownMarker,
     /// A restart interval of the scan has more than 2^28 samples.
@@ -57,10 +58,11 @@ pub enum MarkerFault {
     /// A byte other than FF where a marker must be.
     #[error("no marker")]
     NoMarker,
-    /// The input doesn't begin with SOI.
+    /// The first marker isn't SOI, or the input begins with a byte other than FF. Fill bytes may stand before SOI.
     #[error("no start of image")]
     NoSoi,
-    /// The input ends inside a marker or a segment.
+    /// The input ends before SOI is whole, inside a marker or a segment, or, before a frame was taken, where a marker may begin. The
+    /// empty input is one of them.
     #[error("the input ends too early")]
     Ended,
 }

@@ -33,7 +33,7 @@ pub fn scans_begin()
     ensures { ScansBegin }
 {}
 
-/// A scan that begins keeps the ranges of a scan.
+/// A scan that begins is in its ranges, if the headers before it are in theirs and the payload consists of bytes.
 pub fn scans_are_in_range()
     ensures { ScansAreInRange }
 {}

@@ -17,10 +17,10 @@ pub data Run : List Text → ℕ → List Event → List Event → List Event �
   joined : (words : List Text) (out first : Text) (others : List Text) (outcome : Outcome) (desk faults : List Event)
       → ReadsAsJoin words out first others → Joins None out (first ∷ others) outcome desk → Printed (fault_line outcome) faults
       → Run words (status_of outcome) desk [] faults
-  -- clap refuses the words, and not to show help: its text goes to the fault output
+  -- clap refuses the words, and not to show help: some text, which may be any, goes to the fault output
   misused : (words : List Text) (k : ErrorKind) (usage : List ℕ) (faults : List Event)
       → AreRefused words k → is_help k ≡ false → Printed usage faults → Run words 2 [] [] faults
-  -- help or the version was asked for: it goes to the report output
+  -- help was asked for: some text, which may be any, goes to the report output
   helped : (words : List Text) (k : ErrorKind) (help : List ℕ) (report : List Event)
       → AreRefused words k → is_help k ≡ true → Wrote help report → Run words 0 [] report []
   -- and a write failed there

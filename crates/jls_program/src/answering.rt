@@ -24,9 +24,9 @@ fn is_help(kind: ErrorKind) -> bool
     matches!(kind, ErrorKind::DisplayHelp | ErrorKind::DisplayVersion)
 }
 
-/// Answers words that clap refused for this error, with the exit status: help and the version go to the report output, with
-/// status 0; what is wrong with the words goes to the fault output, with status 2; status 5 if memory ran out, and 4 if a
-/// write to the report output failed.
+/// Answers words that clap refused for this error, with the exit status: help goes to the report output, with status 0; what
+/// is wrong with the words goes to the fault output, with status 2; status 5 if memory ran out, and 4 if a write to the
+/// report output failed. The texts are clap's, and only tested.
 pub(crate) fn answer<W: Sink, E: Sink>(
     alloc: Global,
     error: &Error,

@@ -20,7 +20,7 @@ use std::alloc::Global;
 /// - 4: an input can't be opened or read, the output can't be created, or a write failed;
 /// - 5: out of memory.
 ///
-/// What clap's help and usage texts say is tested, not proved.
+/// The help and usage texts are clap's. That there is one, and what it says, is tested and not proved.
 pub fn run<D: Desk, W: Sink, E: Sink>(
     alloc: Global,
     words: &[String],

@@ -3,7 +3,7 @@
 /// What a report says of lines that aren't settled. A component is named by its index in the frame.
 #[derive(Clone, Copy, Debug, PartialEq, Eq)]
 pub enum Entry {
-    /// The lines from `first` to `last` have no reading, and the lines next to them have one, or there are none.
+    /// The lines from `first` to `last` have no reading. The lines next to them have readings, or there are none.
     Missing {
         component: u8,
         first: u16,

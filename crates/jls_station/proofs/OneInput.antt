@@ -141,7 +141,7 @@ module _ (old new : History) (bytes : List ℕ) (h : GrewBy (λ reads. IsRead Is
   refused_as_text f fails = record { events = h.events; grew = h.grew; they_are = for_fault (fault.Text f) bytes Whole h.events h.they_are (no_text bytes f fails) }
 
   pub refused_for_memory : GrewBy (ReadsRefuse fault.OutOfMemory) old new
-  refused_for_memory = record { events = h.events; grew = h.grew; they_are = for_memory h.events (inr (bytes, Whole, h.they_are)) }
+  refused_for_memory = record { events = h.events; grew = h.grew; they_are = for_memory h.events (inr (bytes, h.they_are)) }
 
 -- where the bytes of a source are known, they are those that were read
 pub known_text : (old new : Option (List ℕ)) (bytes : List ℕ) (p : PartialPicture) → Consumes old new bytes → IsAtEnd new → IsTextOf bytes p → IfSome old (λ known. IsTextOf known p)

@@ -6,6 +6,7 @@ use Rattle.jls_station.specs.declared.outcome.Cause.TheVariants as cause
 use Rattle.jls_station.specs.declared.outcome.Outcome.{Outcome}
 use Rattle.jls_station.specs.declared.outcome.Outcome.TheVariants.{Done, Refused}
 
+-- (no input is refused as a text whose fault is want of memory: that is `Input OutOfMemory`)
 abbrev pub status_of_cause : Cause → ℕ
 status_of_cause cause.NotOpened = 4
 status_of_cause (cause.Input (fault.Text f)) = 3

@@ -33,7 +33,7 @@ pub record IsRead (IsEnough : List ℕ → Type 0) (reads : List Event) (bytes :
   pub at_most : length reads ≤ 4294967295
   pub used_up : stop ≡ Turns → length reads ≡ 4294967295
 
--- an input was read so far and no further, whether or not there was reason to go on
+-- an input was read so far, each read gave some bytes, and there was reason to go on; or it was read whole. None of the reads failed
 abbrev pub IsReadSoFar : (List ℕ → Type 0) → List Event → Type 0
 IsReadSoFar IsEnough reads =
-    (GoesOn IsEnough [] reads × (length reads ≤ 4294967295)) ⊎ ((bytes : List ℕ) × (stop : ReadStop) × IsRead IsEnough reads bytes stop)
+    (GoesOn IsEnough [] reads × (length reads ≤ 4294967295)) ⊎ ((bytes : List ℕ) × IsRead IsEnough reads bytes Whole)

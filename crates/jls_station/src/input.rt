@@ -75,8 +75,8 @@ fn input_fault(fault: TextFault) -> InputFault
 
 /// The partial picture whose text a source gives, from its current position to its end. At this stage every input is such
 /// a text: one that begins with another byte than 4A is refused as `Text(Magic(0))`, and an empty one as
-/// `Text(Truncated(0))`. The input is refused as `Read` if and only if a read failed or the last of 4,294,967,295 reads was
-/// made before its end, whatever the bytes are.
+/// `Text(Truncated(0))`. The input is refused as `Read` only if a read failed or the last of 4,294,967,295 reads was made
+/// before its end, whatever the bytes are. Memory may run out before that, or for the picture.
 pub fn read_input<S: Source>(alloc: Global, source: &mut S) -> Result<Partial, InputFault>
     ensures given { IfOk result (λ p. GrewBy (ReadsGive None (whole p)) (S.history source.old) (S.history source.new)) }
     ensures refused { IfErr result (λ fault. GrewBy (ReadsRefuse fault) (S.history source.old) (S.history source.new)) }

@@ -27,6 +27,7 @@ salvage_app =
 abbrev pub AreTaken : List Text → Type 0
 AreTaken words = (takes salvage_app words ≡ true) ⊎ (fault_of salvage_app words ≡ [])
 
+-- the kinds that ask for help, or for a version: the program has none, so its words never ask for it
 abbrev pub is_help : ErrorKind → Bool
 is_help kind.DisplayHelp = true
 is_help kind.DisplayVersion = true

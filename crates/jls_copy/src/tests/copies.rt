@@ -1,6 +1,6 @@
 //! Whole copies, read in pieces of several sizes: what each gives is worked out by hand from the formats, not by this crate.
 
-use crate::{CopyFault, CopyRead, CopyReader};
+use crate::{CopyFault, CopyRead, CopyReader, End, PieceKind, PieceRecord};
 use std::alloc::Global;
 use std::fmt::Write;
 use std::test::Fail;
@@ -236,5 +236,64 @@ fn copies_in_pieces_of_every_size(rt: HostRuntime) -> Result<(), Fail> {
             );
         }
     }
+    Ok(())
+}
+
+/// A header of 5,000 lines of one sample, with a restart interval for each line.
+const LINES: &str =
+    "FF D8 FF F7 00 0B 08 13 88 00 01 01 01 11 00 FF DD 00 04 00 01 FF DA 00 08 01 01 00 00 00 00";
+
+/// A copy of 5,000 lines of one sample, each written as `piece`.
+fn copy_of_lines(alloc: Global, piece: &[u8]) -> Result<Vec<u8>, Fail> {
+    let mut bytes = bytes_of(alloc, LINES)?;
+    for interval in 0..5000u32 {
+        bytes.extend_from_slice(piece)?;
+        bytes.push(0xFF)?;
+        let mark = 0xD0 + (interval % 8) as u8;
+        bytes.push(if interval == 4999 { 0xD9 } else { mark })?;
+    }
+    Ok(bytes)
+}
+
+#[test]
+fn many_lines(rt: HostRuntime) -> Result<(), Fail> {
+    let bytes = copy_of_lines(rt.alloc(), &[0x80])?;
+    let read = read_in_pieces(rt.alloc(), &bytes, 4096)?;
+    assert!(rt; read.partial().is_settled());
+    assert_eq!(rt; read.piece_count(), 0);
+    assert_eq!(rt; read.ended(), End::Eoi(15_029));
+    Ok(())
+}
+
+#[test]
+fn many_faulty_pieces(rt: HostRuntime) -> Result<(), Fail> {
+    let bytes = copy_of_lines(rt.alloc(), &[])?;
+    let read = read_in_pieces(rt.alloc(), &bytes, 4096)?;
+    let last = PieceRecord {
+        scan: 0,
+        interval: 4095,
+        offset: 8221,
+        kind: PieceKind::Broken,
+    };
+    assert_eq!(rt; read.pieces().len(), 4096);
+    assert_eq!(rt; read.pieces().last(), Some(&last));
+    assert_eq!(rt; read.piece_count(), 5000);
+    assert_eq!(rt; read.ended(), End::Eoi(10_029));
+    Ok(())
+}
+
+#[test]
+fn a_long_comment(rt: HostRuntime) -> Result<(), Fail> {
+    let mut bytes = bytes_of(rt.alloc(), "FF D8 FF FE FF FF")?;
+    for _ in 0..65_533u32 {
+        bytes.push(0)?;
+    }
+    let picture = bytes_of(
+        rt.alloc(),
+        "FF F7 00 0B 08 00 01 00 01 01 01 11 00 FF DA 00 08 01 01 00 00 00 00 80 FF D9",
+    )?;
+    bytes.extend_from_slice(&picture)?;
+    let read = read_in_pieces(rt.alloc(), &bytes, 1000);
+    assert_eq!(rt; told(rt.alloc(), read)?.as_str(), "0.0=[0] | 0 Eoi(65563)");
     Ok(())
 }
