@@ -29,7 +29,7 @@ pub enum Asked<'m, 'a> {
 
 fn asked_join<'m, 'a>(out: Option<&'a str>, files: Option<&'m [&'a str]>) -> Option<Asked<'m, 'a>>
     ensures { option_map asked_of result
-        ≡ spec.asked_join (option_map (λ s. s.now) out) (option_map (λ s. map (λ f. f.now) s.now) files) }
+        ≡ spec.asked_join (option_map (λ s. s.now) out.entry) (option_map (λ s. map (λ f. f.now) s.now) files.entry) }
 {
     let (Some(out), Some([first, others @ ..])) = (out, files) else {
         return None;
@@ -38,7 +38,7 @@ fn asked_join<'m, 'a>(out: Option<&'a str>, files: Option<&'m [&'a str]>) -> Opt
 }
 
 fn asked_show<'m, 'a>(file: Option<&'a str>) -> Option<Asked<'m, 'a>>
-    ensures { option_map asked_of result ≡ spec.asked_show (option_map (λ s. s.now) file) }
+    ensures { option_map asked_of result ≡ spec.asked_show (option_map (λ s. s.now) file.entry) }
 {
     match file {
         Some(file) => Some(Asked::Show { file }),
@@ -52,7 +52,7 @@ fn asked_write<'m, 'a>(
     file: Option<&'a str>,
 ) -> Option<Asked<'m, 'a>>
     ensures { option_map asked_of result
-        ≡ spec.asked_write (option_map (λ s. s.now) format) (option_map (λ s. s.now) out) (option_map (λ s. s.now) file) }
+        ≡ spec.asked_write (option_map (λ s. s.now) format.entry) (option_map (λ s. s.now) out.entry) (option_map (λ s. s.now) file.entry) }
 {
     let (Some(format), Some(out), Some(file)) = (format, out, file) else {
         return None;
@@ -65,7 +65,7 @@ fn asked_write<'m, 'a>(
 }
 
 /// What the words ask for. `None` if a value is none that its option has.
-pub fn asked<'m, 'a>(matches: &'m ArgMatches<'a>) -> Option<Asked<'m, 'a>>
+pub fn asked_command<'m, 'a>(matches: &'m ArgMatches<'a>) -> Option<Asked<'m, 'a>>
     ensures { option_map asked_of result ≡ option_and_then (λ p. spec.asked_by p.0 p.1) (subcommand_rows_of matches.now) }
 {
     let (name, given) = match matches.subcommand() {

@@ -5,7 +5,7 @@ mod asked;
 mod command;
 mod texts;
 
-pub use asked::{Asked, asked};
+pub use asked::{Asked, asked_command};
 pub use command::matches;
 
 #[cfg(test)]

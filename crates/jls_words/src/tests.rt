@@ -1,6 +1,6 @@
 //! That words are read: no clause says that memory is left for it.
 
-use crate::{Asked, asked, matches};
+use crate::{Asked, asked_command, matches};
 use std::alloc::Global;
 use std::test::Fail;
 
@@ -18,7 +18,7 @@ fn join_is_read(rt: HostRuntime) -> Result<(), Fail> {
     let words = ["jls-salvage", "join", "all.jlsp", "-", "south.jlsp"];
     let words = line(rt.alloc(), &words)?;
     let matches = matches(rt.alloc(), &words)?;
-    let asks = asked(&matches).ok_or("nothing asked")?;
+    let asks = asked_command(&matches).ok_or("nothing asked")?;
     let expected = Asked::Join {
         out: "all.jlsp",
         first: "-",
