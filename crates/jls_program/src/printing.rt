@@ -4,7 +4,7 @@ ghost use Rattle.std.specs.Prelude.{◌≡◌, ◌++◌, codes, decimal};
 ghost use Rattle.jls_device.specs.Event.{GrewBy};
 ghost use Rattle.jls_device.specs.Writing.{Printed};
 ghost use Rattle.jls_station.specs.declared.outcome.Outcome.TheVariants.{Refused};
-ghost use Rattle.jls_program.specs.FaultLines.{cause_line, text_fault_line, fault_line, out_of_memory_line, unknown_value_line};
+ghost use Rattle.jls_program.specs.FaultLines.{cause_line, text_fault_line, fault_line, out_of_memory_line, unknown_value_line, unsettled_line};
 ghost use Rattle.jls_program.specs.Lines.{bytes_of, digits_of, PrintsOn};
 
 use itoa::Buffer;
@@ -52,10 +52,9 @@ fn numbered<'a>(name: &'a str, text: &'static str, number: u64) -> Line<'a>
     }
 }
 
-/// The line of a picture's line that is missing or disputed.
-fn unsettled<'a>(id: u8, line: u16, end: &'static str) -> Line<'a>
-    ensures { bytes_of result
-        ≡ codes "jls-salvage: line " ++ (decimal line ++ (codes " of component " ++ (decimal id ++ end.now))) }
+/// The line of a picture's line that is disputed, or missing.
+fn unsettled<'a>(id: u8, line: u16, disputed: bool) -> Line<'a>
+    ensures { bytes_of result ≡ unsettled_line id line disputed }
 {
     Line {
         name: "",
@@ -63,7 +62,11 @@ fn unsettled<'a>(id: u8, line: u16, end: &'static str) -> Line<'a>
         number: Some(u64::from(line)),
         between: " of component ",
         second: Some(u64::from(id)),
-        end,
+        end: if disputed {
+            " is disputed\n"
+        } else {
+            " is missing\n"
+        },
     }
 }
 
@@ -97,10 +100,7 @@ fn line_of_cause<'a>(name: &'a str, cause: Cause) -> Line<'a>
         Cause::Input(InputFault::Text(fault)) => line_of_text_fault(name, fault),
         Cause::Input(InputFault::Read(_, _)) => plain(name, ": read failed"),
         Cause::ShapeDiffers => plain(name, ": shape differs"),
-        Cause::Unsettled { id, line, disputed } => {
-            let end = if disputed { " is disputed\n" } else { " is missing\n" };
-            unsettled(id, line, end)
-        }
+        Cause::Unsettled { id, line, disputed } => unsettled(id, line, disputed),
         Cause::TooLarge => plain("", "interval too large, give --ri"),
         Cause::NotCreated => plain(name, ": cannot be created"),
         Cause::NotWritten(count) => Line {
@@ -170,7 +170,10 @@ pub(crate) fn print_text<E: Sink>(faults: &mut E, text: &str)
 pub(crate) fn print_unknown_value<E: Sink>(faults: &mut E)
     ensures { GrewBy (Printed unknown_value_line) (E.history faults.old) (E.history faults.new) }
 {
-    print_line(faults, &plain("", "unknown value, see jls-salvage write --help"))
+    print_line(
+        faults,
+        &plain("", "unknown value, see jls-salvage write --help"),
+    )
 }
 
 /// Prints that memory ran out.
