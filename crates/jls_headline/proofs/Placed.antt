@@ -80,17 +80,6 @@ module _ (pic : WholePicture) where
   placed_are P [] row n some h = absurd (omega arith)
   placed_are P (c ∷ cs) row n some h = subst (AllByRecursion (IsIn P row n)) (sym (placed_rows c cs row n)) (rows_are P (c ∷ cs) row n row n (omega arith) (omega arith) h)
 
--- a reading of first lines is one of all
-pub first_among : (components : List ℕ) (n : ℕ) (lines : List (List ℕ)) (row place : ℕ) (r : Reading)
-    → Contains (placed components row place (take n lines)) r → Contains (placed components row place lines) r
-first_among components zero lines row place r c = absurd (none_in r c)
-first_among components (suc n) [] row place r c = absurd (none_in r c)
-first_among components (suc n) (line ∷ lines) row place r c =
-    elim (first_or_rest r (reading_of (get_or components place 0) row line) _ c) [
-      | inl e ↦ (0, omega arith, e)
-      | inr later ↦ in_rest r (reading_of (get_or components place 0) row line) _ (first_among components n lines (if place + 1 == length components then row + 1 else row) (if place + 1 == length components then 0 else place + 1) r later)
-    ]
-
 -- the interval's line is among its readings
 pub line_is_among : (pic : WholePicture) (s : Scan) (k component line : ℕ) → Contains s.components component → HasRow s k line
     → Contains (interval_readings s k (interval_lines pic s k)) (picture_reading pic component line)
