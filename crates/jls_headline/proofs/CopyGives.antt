@@ -1,5 +1,5 @@
 -- What is read of a copy is what the copy gives.
-use Rattle.std.proofs.Common.{◌≡◌, ℕ, ◌<◌, ◌*◌, Bool, true, false, List, [], ◌∷◌, ◌++◌, length, Option, Some, refl, sym, ap, ◌∙◌, subst, ◌⊎◌, inl, inr}
+use Rattle.std.proofs.Common.{◌≡◌, ℕ, ◌<◌, true, List, [], ◌∷◌, Option, Some, refl, sym, ap, ◌∙◌, subst, inl, inr}
 use Rattle.std.specs.Prelude.{◌↔◌}
 use Rattle.std.specs.List.{AllByRecursion, Contains}
 use Rattle.std.proofs.lemmas.List.Elements.{Contains-append_left, Contains-append_right, Contains-append_cases}
@@ -7,9 +7,8 @@ use Rattle.jls_values.specs.OrderedSet as set
 use Rattle.jls_values.specs.Shape.{PictureShape}
 use Rattle.jls_partial.specs.Reading.{Reading}
 use Rattle.jls_partial.specs.Partial.{PartialPicture}
-use Rattle.jls_marker.specs.Scan.{Scan, IsScan}
+use Rattle.jls_marker.specs.Scan.{Scan}
 use Rattle.jls_copy.specs.Numbers.{PieceNumber, Interval, BeyondLast}
-use Rattle.jls_copy.specs.Course.{Course, IsCourse}
 use Rattle.jls_copy.specs.CopyReads.{CopyReads}
 use Rattle.jls_copy.specs.ReadCopy.{ReadCopy}
 use Rattle.jls_copy.specs.Pieces.{FoundPiece, Outcome, Lines, Fault, IsOutcome, readings_at, readings_of, AreOutcomes, readings, pieces}
@@ -18,7 +17,7 @@ use Rattle.jls_copy.proofs.ScansOfCourse.{HasScan, course_has}
 use Rattle.jls_copy.proofs.BytesDecide.{one_outcome}
 use Rattle.jls_headline.specs.Gives.{PieceGives, CourseGives, Gives}
 use Rattle.jls_headline.specs.Stations.{HasShape}
-use Rattle.jls_headline.proofs.Members.{is_first, in_rest, none_in, first_or_rest, all_at}
+use Rattle.jls_headline.proofs.Members.{is_first, in_rest, none_in, first_or_rest}
 use Rattle.jls_headline.proofs.Held.{made_holds}
 
 abbrev some_shape : PictureShape → Option PictureShape

@@ -1,19 +1,18 @@
 -- What damaged copies give, and that what survives is given.
-use Rattle.std.proofs.Common.{◌≡◌, ℕ, ◌+◌, ◌<◌, List, [], ◌∷◌, ◌++◌, length, Some, refl, sym, ap, ◌∙◌, subst, ◌⊎◌, inl, inr}
+use Rattle.std.proofs.Common.{◌≡◌, ℕ, ◌+◌, ◌<◌, List, [], ◌∷◌, length, refl, sym, subst, inl, inr}
 use Rattle.std.specs.List.{AllByRecursion, Contains}
 use Rattle.std.proofs.lemmas.List.Elements.{Contains-append_left, Contains-append_right}
 use Rattle.jls_partial.specs.Reading.{Reading}
 use Rattle.jls_marker.specs.Scan.{Scan, intervals}
-use Rattle.jls_copy.specs.ScanData.{ClosedPiece}
 use Rattle.jls_copy.specs.Numbers.{Interval}
-use Rattle.jls_copy.specs.Course.{CopyUnit, segment, scan, segment_bytes, unit_bytes, Course, IsCourse}
+use Rattle.jls_copy.specs.Course.{CopyUnit, segment, scan, segment_bytes, unit_bytes}
 use Rattle.jls_copy.specs.Pieces.{FoundPiece, Lines, IsOutcomeAt, readings_at, unit_pieces, scans_in, pieces_in, pieces}
 use Rattle.jls_copy.proofs.OneCourse.{one_course}
 use Rattle.jls_picture.specs.Picture.{WholePicture}
 use Rattle.jls_headline.specs.PictureLines.{interval_lines, interval_readings, picture_reading, IsLineOf}
-use Rattle.jls_headline.specs.Gives.{PieceGives, CourseGives, Gives}
-use Rattle.jls_headline.specs.Damaged.{ReadsAsPictureOrNone, DamagedUnit, DamagedCourse}
-use Rattle.jls_headline.specs.Survives.{ReadsWithLine, SurvivesInUnit, Survives}
+use Rattle.jls_headline.specs.Gives.{PieceGives, CourseGives}
+use Rattle.jls_headline.specs.Damaged.{ReadsAsPictureOrNone, DamagedUnit}
+use Rattle.jls_headline.specs.Survives.{ReadsWithLine, SurvivesInUnit}
 use Rattle.jls_headline.specs.ScanLaws.{IsScanUnder, ScanOfUnitIs}
 use Rattle.jls_headline.specs.LostIntervalLaws.{ReadsWith, DamagedCopiesGiveExactly, DamagedCopiesGiveNoOther, SurvivingLinesAreGiven}
 use Rattle.jls_headline.proofs.Members.{all_at, all_append, first_or_rest, none_in}

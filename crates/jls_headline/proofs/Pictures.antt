@@ -1,17 +1,15 @@
 -- The picture that a station gives, and that a file reads as one picture at most.
-use Rattle.std.proofs.Common.{◌≡◌, ℕ, zero, suc, ◌+◌, ◌<◌, ◌≤◌, List, [], ◌∷◌, map, length, Some, refl, sym, ap, ◌∙◌, subst, arith}
+use Rattle.std.proofs.Common.{◌≡◌, ℕ, zero, suc, ◌+◌, ◌<◌, List, [], ◌∷◌, map, length, refl, sym, ap, ◌∙◌, subst, arith}
 use Rattle.std.specs.Prelude.{get_or}
 use Rattle.std.specs.List.{AllByRecursion, range_with_len}
 use Rattle.jls_values.specs.Shape.{PictureShape}
-use Rattle.jls_partial.specs.Reading.{Reading, reading_of}
 use Rattle.jls_partial.specs.Partial.{PartialPicture, readings_at}
 use Rattle.jls_partial.specs.Status.{status_of, IsSettled}
-use Rattle.jls_partial.specs.declared.status.Status.TheVariants.{Settled}
 use Rattle.jls_copy.specs.Course.{Course}
 use Rattle.jls_copy.proofs.OneCourse.{one_course}
-use Rattle.jls_picture.specs.Picture.{WholePicture, line_of, settled_line, picture_of}
+use Rattle.jls_picture.specs.Picture.{WholePicture, line_of, settled_line}
 use Rattle.jls_headline.specs.PictureLines.{picture_reading}
-use Rattle.jls_headline.specs.ReadsAs.{IsComponentIn, IsPicture, GivesPicture, ReadsAs}
+use Rattle.jls_headline.specs.ReadsAs.{IsComponentIn, IsPicture, GivesPicture}
 use Rattle.jls_headline.specs.HeadlineLaws.{FilesReadAsOne}
 use Rattle.jls_headline.proofs.ScansInRange.{same_frame}
 

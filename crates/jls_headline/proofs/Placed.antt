@@ -1,6 +1,6 @@
 -- The readings of an interval that reads as the picture's lines are lines of the picture, and each line of the interval is among them.
-use Rattle.std.proofs.Common.{◌≡◌, ◌≢◌, ℕ, zero, suc, ◌+◌, ◌<◌, ◌≤◌, true, false, List, [], ◌∷◌, ◌++◌, map, length, take, refl, sym, ap, ◌∙◌, subst, arith, append_assoc, length-append, inl, inr}
-use Rattle.std.specs.Prelude.{◌==◌, get_or, if◌then◌else◌}
+use Rattle.std.proofs.Common.{◌≡◌, ◌≢◌, ℕ, zero, suc, ◌+◌, ◌<◌, ◌≤◌, true, false, List, [], ◌∷◌, ◌++◌, map, length, refl, sym, ap, ◌∙◌, subst, arith, append_assoc, length-append, inl, inr}
+use Rattle.std.specs.Prelude.{◌==◌, get_or}
 use Rattle.std.specs.List.{flat_map, AllByRecursion, Contains, range_with_len}
 use Rattle.std.proofs.lemmas.Bool.{cases_eq}
 use Rattle.std.proofs.lemmas.Bool.Decides.{nat_tests}
@@ -11,7 +11,7 @@ use Rattle.jls_marker.proofs.Intervals.{part_the_lines}
 use Rattle.jls_copy.specs.Pieces.{placed}
 use Rattle.jls_picture.specs.Picture.{WholePicture, line_of}
 use Rattle.jls_headline.specs.PictureLines.{rows_from, interval_lines, interval_readings, picture_reading, IsLineOf}
-use Rattle.jls_headline.proofs.Members.{none_in, in_rest, first_or_rest, all_at, all_append, in_map, in_flat_map}
+use Rattle.jls_headline.proofs.Members.{none_in, in_rest, all_at, all_append, in_map, in_flat_map}
 
 abbrev row_readings : WholePicture → List ℕ → ℕ → List Reading
 row_readings pic components row = map (λ c. picture_reading pic c row) components

@@ -1,9 +1,7 @@
 -- Copies that differ only behind their end give the same.
-use Rattle.std.proofs.Common.{◌≡◌, ℕ, true, List, ◌++◌, Some, refl, sym, ap, ◌∙◌, subst, ◌⊎◌, inl, inr}
-use Rattle.std.specs.List.{AllByRecursion, Contains}
+use Rattle.std.proofs.Common.{◌≡◌, ℕ, true, List, ◌++◌, sym, subst, inl, inr}
 use Rattle.jls_partial.specs.Reading.{Reading}
-use Rattle.jls_copy.specs.Course.{Course, IsCourse}
-use Rattle.jls_copy.specs.CopyReads.{is_final_end, IsDone}
+use Rattle.jls_copy.specs.CopyReads.{IsDone}
 use Rattle.jls_copy.proofs.OneCourse.{one_course}
 use Rattle.jls_copy.proofs.FinalEnds.{final_ends_stay}
 use Rattle.jls_headline.specs.Gives.{CourseGives, Gives}

@@ -1,24 +1,23 @@
 -- What stations hold that took the same copies, and the picture that damaged copies give.
-use Rattle.std.proofs.Common.{◌≡◌, ℕ, zero, suc, ◌<◌, true, List, [], ◌∷◌, length, Some, refl, sym, ap, ◌∙◌, subst, arith}
-use Rattle.std.specs.Prelude.{get_or}
+use Rattle.std.proofs.Common.{◌≡◌, ℕ, zero, suc, ◌<◌, true, List, [], ◌∷◌, length, sym, ap, ◌∙◌, subst, arith}
 use Rattle.std.specs.List.{AllByRecursion, Contains}
 use Rattle.jls_values.specs.OrderedSet as set
 use Rattle.jls_values.specs.Shape.{PictureShape}
 use Rattle.jls_partial.specs.Reading.{Reading, reading_of, reading_cmp}
 use Rattle.jls_partial.specs.Partial.{PartialPicture, readings_at}
-use Rattle.jls_partial.specs.Status.{status_of, IsSettled}
+use Rattle.jls_partial.specs.Status.{status_of}
 use Rattle.jls_partial.specs.declared.status.Status.TheVariants.{Settled}
 use Rattle.jls_copy.specs.Course.{Course}
 use Rattle.jls_copy.proofs.OneCourse.{one_course}
-use Rattle.jls_picture.specs.Picture.{WholePicture, line_of, settled_line, picture_of}
+use Rattle.jls_picture.specs.Picture.{WholePicture, line_of, picture_of}
 use Rattle.jls_picture.specs.Pnm.{pnm}
 use Rattle.jls_report.specs.Report.{report_of}
 use Rattle.jls_report.specs.ReportText.{report_text}
 use Rattle.jls_headline.specs.PictureLines.{picture_reading}
 use Rattle.jls_headline.specs.Damaged.{Damaged}
-use Rattle.jls_headline.specs.Survives.{Survives, EachLineSurvives}
-use Rattle.jls_headline.specs.Stations.{HasShape, HoldsExactly, TookInTheEnd}
-use Rattle.jls_headline.specs.ReadsAs.{IsPicture, GivesPicture}
+use Rattle.jls_headline.specs.Survives.{EachLineSurvives}
+use Rattle.jls_headline.specs.Stations.{HasShape, HoldsExactly}
+use Rattle.jls_headline.specs.ReadsAs.{IsPicture}
 use Rattle.jls_headline.specs.HeadlineLaws.{SayTheSame, SameCopiesSameReadings, DamagedCopiesGiveThePicture, NeverAnotherPicture}
 use Rattle.jls_headline.proofs.Members.{all_at}
 use Rattle.jls_headline.proofs.ScansInRange.{same_frame}

@@ -1,14 +1,13 @@
 -- A station that took copies holds exactly their readings.
-use Rattle.std.proofs.Common.{◌≡◌, ℕ, ◌<◌, Bool, true, List, [], ◌∷◌, ◌++◌, Some, refl, sym, ap, ◌∙◌, subst, ◌⊎◌, inl, inr}
-use Rattle.std.specs.Prelude.{◌||◌, ◌↔◌}
+use Rattle.std.proofs.Common.{◌≡◌, ℕ, ◌<◌, true, List, ◌∷◌, ◌++◌, sym, ap, ◌∙◌, subst, ◌⊎◌, inl, inr}
+use Rattle.std.specs.Prelude.{◌||◌}
 use Rattle.std.specs.List.{AllByRecursion, Contains}
 use Rattle.std.specs.Cmp.{both_ways}
 use Rattle.std.proofs.lemmas.List.Elements.{Contains-append_left, Contains-append_right, Contains-append_cases}
 use Rattle.jls_values.specs.OrderedSet as set
 use Rattle.jls_values.specs.OrderedSetLaws.{contains-union, same_set}
 use Rattle.jls_values.specs.Join.{IsBetween}
-use Rattle.jls_values.specs.Shape.{PictureShape}
-use Rattle.jls_partial.specs.Reading.{Reading, reading_cmp}
+use Rattle.jls_partial.specs.Reading.{Reading}
 use Rattle.jls_partial.specs.ReadingOrder.{reading_total, reading_exact}
 use Rattle.jls_partial.specs.Partial.{PartialPicture, union}
 use Rattle.jls_copy.specs.CopyReads.{CopyReads}

@@ -16,7 +16,7 @@ use Rattle.jls_interval.proofs.HeadLines.{front_lines, code_parts}
 use Rattle.jls_interval.proofs.StepwiseCodes.{one_begins}
 use Rattle.jls_marker.specs.Scan.{row_count}
 use Rattle.jls_copy.specs.ScanData.{ClosedPiece}
-use Rattle.jls_copy.specs.Course.{CopyUnit, segment, scan, LastClosed, by_input, by_marker}
+use Rattle.jls_copy.specs.Course.{CopyUnit, segment, scan}
 use Rattle.jls_picture.specs.Picture.{WholePicture}
 use Rattle.jls_headline.specs.PictureLines.{interval_lines}
 use Rattle.jls_headline.specs.Damaged.{PiecesAre, ReadsAsPictureOrNone, DamagedUnit}
