@@ -1,0 +1,68 @@
+//! SOI and the segments before the scans.
+
+ghost use Rattle.jls_file.specs.WrittenFile as spec;
+ghost use Rattle.std.specs.Prelude.{◌≡◌, ◌++◌, IfOk, OnOk};
+ghost use Rattle.std.specs.List.{flat_map};
+
+use jls_marker::{Segment, write_segment};
+use jls_picture::{Options, Picture};
+use jls_values::Params;
+use std::alloc::{AllocError, Global};
+
+/// Whether the parameters are the defaults of their precision.
+fn are_defaults(params: &Params) -> bool
+    ensures { result ≡ spec.are_defaults params.now }
+{
+    match Params::new(params.precision(), 0, 0, 0, 0, 0) {
+        Err(_) => false,
+        Ok(defaults) => {
+            params.maxval() == defaults.maxval()
+                && params.t1() == defaults.t1()
+                && params.t2() == defaults.t2()
+                && params.t3() == defaults.t3()
+                && params.reset() == defaults.reset()
+        }
+    }
+}
+
+/// Appends LSE, where the parameters aren't all defaults.
+fn write_presets(out: &mut Vec<u8>, params: &Params) -> Result<(), AllocError>
+    ensures { OnOk result (out.new.items ≡ out.old.items ++ flat_map spec.bytes_of (spec.preset_segments params.now)) }
+{
+    if are_defaults(params) {
+        return Ok(());
+    }
+    let segment = Segment::Preset {
+        maxval: params.maxval(),
+        t1: params.t1(),
+        t2: params.t2(),
+        t3: params.t3(),
+        reset: params.reset(),
+    };
+    write_segment(out, &segment)
+}
+
+/// Appends DRI, where there is a restart interval.
+fn write_restart_interval(out: &mut Vec<u8>, rows: u16) -> Result<(), AllocError>
+    ensures { OnOk result (out.new.items ≡ out.old.items ++ flat_map spec.bytes_of (spec.restart_segments rows)) }
+{
+    if rows == 0 {
+        return Ok(());
+    }
+    write_segment(out, &Segment::Restart(u32::from(rows)))
+}
+
+/// SOI and the segments before the scans.
+pub(crate) fn header_bytes(
+    alloc: Global,
+    picture: &Picture<'_>,
+    options: &Options,
+) -> Result<Vec<u8>, AllocError>
+    ensures { IfOk result (λ bytes. bytes.items ≡ spec.header_bytes picture.now options.now) }
+{
+    let mut bytes = Vec::from_slice(alloc, &[0xFF, 0xD8])?;
+    write_segment(&mut bytes, &Segment::Frame(picture.shape().to_owned()))?;
+    write_presets(&mut bytes, &options.params())?;
+    write_restart_interval(&mut bytes, options.restart_interval())?;
+    Ok(bytes)
+}

@@ -1,0 +1,1 @@
+//! Small pictures and their files, worked out by hand.
