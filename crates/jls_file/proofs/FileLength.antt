@@ -16,9 +16,10 @@ use Rattle.jls_marker.proofs.Intervals.{count_at_most}
 use Rattle.jls_picture.specs.Picture.{WholePicture}
 use Rattle.jls_picture.specs.Options.{WriteOptions, OptionsFit, components_of_scan}
 use Rattle.jls_picture.proofs.OneMore.{length-flat_map-le}
-use Rattle.jls_file.specs.WrittenFile.{bytes_of, are_defaults, preset_segments, restart_segments, header_segments, header_bytes, scan_segment, before_interval, interval_code, marked_interval, scan_bytes}
-use Rattle.jls_file.specs.Parts.{scan_from}
+use Rattle.jls_file.specs.WrittenFile.{bytes_of, are_defaults, preset_segments, restart_segments, header_segments, header_bytes, scan_segment, before_interval, interval_code, marked_interval, scan_bytes, scans_bytes}
+use Rattle.jls_file.specs.Parts.{scan_from, scan_count}
 use Rattle.jls_file.proofs.CopiedLines.{length_range, samples_most}
+use Rattle.jls_file.proofs.Scans.{scans_are}
 use Rattle.jls_file.proofs.PackedLength.{packed_at_most}
 
 each_length : (f : ℕ → List ℕ) (n : ℕ) (xs : List ℕ) → ((x : ℕ) → length (f x) ≡ n) → length (flat_map f xs) ≡ length xs * n
@@ -72,6 +73,26 @@ scan_at_most pic o first fit shape =
     let each = length-flat_map-le (marked_interval pic s) (2 ^ 39) (λ k. marked_at_most pic o first (components_of_scan pic.shape o) k fit shape refl) 0 (intervals s) in
     let few : intervals s ≤ pic.shape.height = count_at_most pic.shape.height o.restart_interval shape.height_at_least in
     omega (arith, each, few, low)
+
+pub scan_count_at_most : (pic : WholePicture) (o : WriteOptions) → IsShape pic.shape → scan_count pic o ≤ 4
+scan_count_at_most pic o shape = by_line o.line
+  where
+    by_line : (line : Bool) → cond line 1 (length pic.shape.ids) ≤ 4
+    by_line true = omega arith
+    by_line false = shape.ids_at_most
+
+-- so many scans
+pub scans_at_most : (pic : WholePicture) (o : WriteOptions) (n : ℕ) → OptionsFit pic o → IsShape pic.shape
+    → length (flat_map (λ first. scan_bytes pic (scan_from pic o first (components_of_scan pic.shape o))) (range_with_len 0 n)) ≤ n * 2 ^ 55
+scans_at_most pic o n fit shape =
+    length-flat_map-le (λ first. scan_bytes pic (scan_from pic o first (components_of_scan pic.shape o))) (2 ^ 55) (λ first. scan_at_most pic o first fit shape) 0 n
+
+pub all_scans_at_most : (pic : WholePicture) (o : WriteOptions) → OptionsFit pic o → IsShape pic.shape → length (scans_bytes pic o) ≤ 2 ^ 57
+all_scans_at_most pic o fit shape =
+    let all = scans_at_most pic o (scan_count pic o) fit shape in
+    let few = scan_count_at_most pic o shape in
+    let size = ap length (scans_are pic o) in
+    omega (arith, all, few, size)
 
 -- the header segments
 preset_at_most : (p : CodingParameters) (same : Bool) → length (flat_map bytes_of (cond same [] (segment.Preset p.maxval p.t1 p.t2 p.t3 p.reset ∷ []))) ≤ 15

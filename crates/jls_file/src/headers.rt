@@ -1,6 +1,7 @@
 //! SOI and the segments before the scans.
 
 ghost use Rattle.jls_file.specs.WrittenFile as spec;
+ghost use Rattle.jls_values.specs.Shape.{IsShape};
 ghost use Rattle.std.specs.Prelude.{◌≡◌, ◌++◌, IfOk, OnOk};
 ghost use Rattle.std.specs.List.{flat_map};
 
@@ -8,6 +9,9 @@ use jls_marker::{Segment, write_segment};
 use jls_picture::{Options, Picture};
 use jls_values::Params;
 use std::alloc::{AllocError, Global};
+
+/// SOI, SOF55 without its components, LSE and DRI have so many bytes at most.
+const MOST_OTHERS: usize = 35;
 
 /// Whether the parameters are the defaults of their precision.
 fn are_defaults(params: &Params) -> bool
@@ -58,10 +62,13 @@ pub(crate) fn header_bytes(
     picture: &Picture<'_>,
     options: &Options,
 ) -> Result<Vec<u8>, AllocError>
-    ensures { IfOk result (λ bytes. bytes.items ≡ spec.header_bytes picture.now options.now) }
+    ensures value { IfOk result (λ bytes. bytes.items ≡ spec.header_bytes picture.now options.now) }
+    ensures ranges { IsShape picture.now.shape }
 {
-    let mut bytes = Vec::from_slice(alloc, &[0xFF, 0xD8])?;
-    write_segment(&mut bytes, &Segment::Frame(picture.shape().to_owned()))?;
+    let shape = picture.shape();
+    let mut bytes = Vec::with_capacity(alloc, MOST_OTHERS + 3 * shape.ids().len())?;
+    bytes.extend_from_slice(&[0xFF, 0xD8])?;
+    write_segment(&mut bytes, &Segment::Frame(shape.to_owned()))?;
     write_presets(&mut bytes, &options.params())?;
     write_restart_interval(&mut bytes, options.restart_interval())?;
     Ok(bytes)
