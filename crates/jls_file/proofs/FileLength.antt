@@ -8,7 +8,7 @@ use Rattle.std.proofs.lemmas.Bool.{ne_eqb}
 use Rattle.std.proofs.lemmas.List.{length-append, length-drop}
 use Rattle.std.proofs.lemmas.Grind.{flat_map-append}
 use Rattle.jls_values.specs.Shape.{PictureShape, IsShape}
-use Rattle.jls_values.specs.Params.{CodingParameters}
+use Rattle.jls_values.specs.Params.{CodingParameters, AreCodingParameters}
 use Rattle.jls_marker.specs.declared.segment.Segment.TheVariants as segment
 use Rattle.jls_marker.specs.Scan.{intervals}
 use Rattle.jls_marker.specs.Written.{unneeded_bytes, restart_payload}
@@ -16,7 +16,7 @@ use Rattle.jls_marker.proofs.Intervals.{count_at_most}
 use Rattle.jls_picture.specs.Picture.{WholePicture}
 use Rattle.jls_picture.specs.Options.{WriteOptions, OptionsFit, components_of_scan}
 use Rattle.jls_picture.proofs.OneMore.{length-flat_map-le}
-use Rattle.jls_file.specs.WrittenFile.{bytes_of, are_defaults, preset_segments, restart_segments, header_segments, header_bytes, scan_segment, before_interval, interval_code, marked_interval, scan_bytes, scans_bytes}
+use Rattle.jls_file.specs.WrittenFile.{bytes_of, are_defaults, preset_segments, restart_segments, header_segments, header_bytes, scan_segment, before_interval, interval_lines, interval_code, marked_interval, scan_bytes, scans_bytes}
 use Rattle.jls_file.specs.Parts.{scan_from, scan_count}
 use Rattle.jls_file.proofs.CopiedLines.{length_range, samples_most}
 use Rattle.jls_file.proofs.Scans.{scans_are}
@@ -55,22 +55,22 @@ before_at_most pic o first count zero few =
     omega (arith, size, listed, all, few)
 before_at_most pic o first count (suc k) few = rw (ne_eqb (suc k) 0 (λ e. absurd (omega (arith, e)))) (omega arith)
 
-pub marked_at_most : (pic : WholePicture) (o : WriteOptions) (first count k : ℕ) → OptionsFit pic o → IsShape pic.shape → count ≡ components_of_scan pic.shape o
+pub marked_at_most : (pic : WholePicture) (o : WriteOptions) (first count k : ℕ) → OptionsFit pic o → IsShape pic.shape → AreCodingParameters o.params → count ≡ components_of_scan pic.shape o
     → length (marked_interval pic (scan_from pic o first count) k) ≤ 2 ^ 39
-marked_at_most pic o first count k fit shape of_scan =
+marked_at_most pic o first count k fit shape params of_scan =
     let s = scan_from pic o first count in
     let few = before_at_most pic o first count k (few_components pic o count shape of_scan) in
-    let code = packed_at_most o.params pic.shape.width (length s.components) _ shape.width_below (samples_most pic o first count k fit of_scan) in
+    let code = packed_at_most o.params pic.shape.width (length s.components) (interval_lines pic s k) params shape.width_below (samples_most pic o first count k fit of_scan) in
     let both = length-append (before_interval pic s k) (interval_code pic s k) in
     omega (arith, few, code, both)
 
 -- a scan
-pub scan_at_most : (pic : WholePicture) (o : WriteOptions) (first : ℕ) → OptionsFit pic o → IsShape pic.shape
+pub scan_at_most : (pic : WholePicture) (o : WriteOptions) (first : ℕ) → OptionsFit pic o → IsShape pic.shape → AreCodingParameters o.params
     → length (scan_bytes pic (scan_from pic o first (components_of_scan pic.shape o))) ≤ 2 ^ 55
-scan_at_most pic o first fit shape =
+scan_at_most pic o first fit shape params =
     let s = scan_from pic o first (components_of_scan pic.shape o) in
     let low = shape.height_below in
-    let each = length-flat_map-le (marked_interval pic s) (2 ^ 39) (λ k. marked_at_most pic o first (components_of_scan pic.shape o) k fit shape refl) 0 (intervals s) in
+    let each = length-flat_map-le (marked_interval pic s) (2 ^ 39) (λ k. marked_at_most pic o first (components_of_scan pic.shape o) k fit shape params refl) 0 (intervals s) in
     let few : intervals s ≤ pic.shape.height = count_at_most pic.shape.height o.restart_interval shape.height_at_least in
     omega (arith, each, few, low)
 
@@ -82,14 +82,14 @@ scan_count_at_most pic o shape = by_line o.line
     by_line false = shape.ids_at_most
 
 -- so many scans
-pub scans_at_most : (pic : WholePicture) (o : WriteOptions) (n : ℕ) → OptionsFit pic o → IsShape pic.shape
+pub scans_at_most : (pic : WholePicture) (o : WriteOptions) (n : ℕ) → OptionsFit pic o → IsShape pic.shape → AreCodingParameters o.params
     → length (flat_map (λ first. scan_bytes pic (scan_from pic o first (components_of_scan pic.shape o))) (range_with_len 0 n)) ≤ n * 2 ^ 55
-scans_at_most pic o n fit shape =
-    length-flat_map-le (λ first. scan_bytes pic (scan_from pic o first (components_of_scan pic.shape o))) (2 ^ 55) (λ first. scan_at_most pic o first fit shape) 0 n
+scans_at_most pic o n fit shape params =
+    length-flat_map-le (λ first. scan_bytes pic (scan_from pic o first (components_of_scan pic.shape o))) (2 ^ 55) (λ first. scan_at_most pic o first fit shape params) 0 n
 
-pub all_scans_at_most : (pic : WholePicture) (o : WriteOptions) → OptionsFit pic o → IsShape pic.shape → length (scans_bytes pic o) ≤ 2 ^ 57
-all_scans_at_most pic o fit shape =
-    let all = scans_at_most pic o (scan_count pic o) fit shape in
+pub all_scans_at_most : (pic : WholePicture) (o : WriteOptions) → OptionsFit pic o → IsShape pic.shape → AreCodingParameters o.params → length (scans_bytes pic o) ≤ 2 ^ 57
+all_scans_at_most pic o fit shape params =
+    let all = scans_at_most pic o (scan_count pic o) fit shape params in
     let few = scan_count_at_most pic o shape in
     let size = ap length (scans_are pic o) in
     omega (arith, all, few, size)

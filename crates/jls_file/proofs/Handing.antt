@@ -48,8 +48,7 @@ stops_on old mid new held keeps holds (OutOfMemory count) before now a b rest al
     let three = length-append (a ++ b) rest in
     let size = ap length all_is in
     let front : take (length a + n) all ≡ a ++ take n b =
-    ap (take (length a + n)) all_is ∙ take-append-le (length a + n) (a ++ b) rest (omega (arith, less, two)) ∙ take-append-add a b n in
-    (
+    ap (take (length a + n)) all_is ∙ take-append-le (length a + n) (a ++ b) rest (omega (arith, less, two)) ∙ take-append-add a b n in (
       length a + n,
       omega (arith, now_is, count_is),
       record {

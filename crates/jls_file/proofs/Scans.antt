@@ -3,6 +3,7 @@ use Rattle.std.proofs.Common.{◌≡◌, ℕ, zero, suc, ◌+◌, ◌≤◌, ◌
 use Rattle.std.specs.List.{flat_map, range_with_len}
 use Rattle.std.proofs.lemmas.Bool.{ne_eqb}
 use Rattle.jls_values.specs.Shape.{IsShape}
+use Rattle.jls_values.specs.Params.{AreCodingParameters}
 use Rattle.jls_picture.specs.Picture.{WholePicture}
 use Rattle.jls_picture.specs.Options.{WriteOptions, OptionsFit, components_of_scan}
 use Rattle.jls_file.specs.WrittenFile.{scan_of, scan_bytes, scans_bytes, marked_interval}
@@ -26,8 +27,8 @@ scans_are pic o = by_line o.line
     by_line false = singles of 0 (length pic.shape.ids)
 
 -- each of them can be written
-pub scan_fits : (pic : WholePicture) (o : WriteOptions) (first : ℕ) → OptionsFit pic o → IsShape pic.shape → first < scan_count pic o → IsScanFrom pic o first (components_of_scan pic.shape o)
-scan_fits pic o first fit shape below = let both = by_line o.line below in record { fit = fit; shape = shape; some = both.0; within = both.1; of_scan = refl }
+pub scan_fits : (pic : WholePicture) (o : WriteOptions) (first : ℕ) → OptionsFit pic o → IsShape pic.shape → AreCodingParameters o.params → first < scan_count pic o → IsScanFrom pic o first (components_of_scan pic.shape o)
+scan_fits pic o first fit shape params below = let both = by_line o.line below in record { fit = fit; shape = shape; params = params; some = both.0; within = both.1; of_scan = refl }
   where
     by_line : (line : Bool) → first < cond line 1 (length pic.shape.ids) → (1 ≤ cond line (length pic.shape.ids) 1) × (first + cond line (length pic.shape.ids) 1 ≤ length pic.shape.ids)
     by_line true below = let some = shape.ids_at_least in (omega arith, omega arith)

@@ -2,6 +2,7 @@
 use Rattle.std.specs.Prelude.{◌≡◌, ℕ, ◌+◌, ◌≤◌, if◌then◌else◌, length}
 use Rattle.std.specs.List.{range_with_len}
 use Rattle.jls_values.specs.Shape.{IsShape}
+use Rattle.jls_values.specs.Params.{AreCodingParameters}
 use Rattle.jls_marker.specs.Scan.{Scan}
 use Rattle.jls_picture.specs.Picture.{WholePicture}
 use Rattle.jls_picture.specs.Options.{WriteOptions, OptionsFit, components_of_scan}
@@ -19,6 +20,7 @@ scan_count pic o = if o.line then 1 else length pic.shape.ids
 pub record IsScanFrom (pic : WholePicture) (o : WriteOptions) (first count : ℕ) : Type 0 where
   pub fit : OptionsFit pic o
   pub shape : IsShape pic.shape
+  pub params : AreCodingParameters o.params
   pub some : 1 ≤ count
   pub within : first + count ≤ length pic.shape.ids
   pub of_scan : count ≡ components_of_scan pic.shape o

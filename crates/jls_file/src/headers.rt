@@ -2,6 +2,7 @@
 
 ghost use Rattle.jls_file.specs.WrittenFile as spec;
 ghost use Rattle.jls_values.specs.Shape.{IsShape};
+ghost use Rattle.jls_values.specs.Params.{AreCodingParameters};
 ghost use Rattle.std.specs.Prelude.{◌≡◌, ◌++◌, IfOk, OnOk};
 ghost use Rattle.std.specs.List.{flat_map};
 
@@ -15,7 +16,8 @@ const MOST_OTHERS: usize = 35;
 
 /// Whether the parameters are the defaults of their precision.
 fn are_defaults(params: &Params) -> bool
-    ensures { result ≡ spec.are_defaults params.now }
+    ensures value { result ≡ spec.are_defaults params.now }
+    ensures ranges { AreCodingParameters params.now }
 {
     match Params::new(params.precision(), 0, 0, 0, 0, 0) {
         Err(_) => false,
@@ -31,7 +33,8 @@ fn are_defaults(params: &Params) -> bool
 
 /// Appends LSE, where the parameters aren't all defaults.
 fn write_presets(out: &mut Vec<u8>, params: &Params) -> Result<(), AllocError>
-    ensures { OnOk result (out.new.items ≡ out.old.items ++ flat_map spec.bytes_of (spec.preset_segments params.now)) }
+    ensures written { OnOk result (out.new.items ≡ out.old.items ++ flat_map spec.bytes_of (spec.preset_segments params.now)) }
+    ensures ranges { AreCodingParameters params.now }
 {
     if are_defaults(params) {
         return Ok(());
@@ -64,6 +67,7 @@ pub(crate) fn header_bytes(
 ) -> Result<Vec<u8>, AllocError>
     ensures value { IfOk result (λ bytes. bytes.items ≡ spec.header_bytes picture.now options.now) }
     ensures ranges { IsShape picture.now.shape }
+    ensures params { OnOk result (AreCodingParameters options.now.params) }
 {
     let shape = picture.shape();
     let mut bytes = Vec::with_capacity(alloc, MOST_OTHERS + 3 * shape.ids().len())?;

@@ -6,6 +6,7 @@ ghost use Rattle.jls_file.specs.WrittenFile as spec;
 ghost use Rattle.jls_marker.specs.Scan.{intervals};
 ghost use Rattle.jls_picture.specs.Options.{OptionsFit};
 ghost use Rattle.jls_picture.specs.Outcomes.{HandedOut};
+ghost use Rattle.jls_values.specs.Params.{AreCodingParameters};
 ghost use Rattle.std.specs.Prelude.{◌≡◌, ◌+◌, ◌<◌, ◌≤◌, ◌^◌, length, IfOk, IfErr, OnOk};
 
 use crate::headers::header_bytes;
@@ -90,6 +91,7 @@ fn write_scans<W: Sink>(
     sink: &mut W,
 ) -> Result<u64, OutputFault>
     requires fit { OptionsFit picture.now options.now }
+    requires params { AreCodingParameters options.now.params }
     requires early { before < 2 ^ 60 }
     ensures count { IfOk result (λ count. count ≡ before + length (spec.scans_bytes picture.now options.now)) }
     ensures all { OnOk result (HandedOut (W.history sink.old) (W.history sink.new) (W.contents sink.old) (W.contents sink.new)

@@ -49,7 +49,7 @@ pub write_part-requires-in-Ok : goal.write_part-requires-in-Ok
 write_part-requires-in-Ok g c =
     let few = header_at_most c.args.picture.now c.args.options.now c.header_bytes.ensures.ranges in
     let size = ap length (c.deref.ensures.value ∙ c.in-Ok.ensures.value) in
-    let scans = all_scans_at_most c.args.picture.now c.args.options.now c.requires c.header_bytes.ensures.ranges in
+    let scans = all_scans_at_most c.args.picture.now c.args.options.now c.requires c.header_bytes.ensures.ranges c.in-Ok.ensures.params in
     let count = c.in_ok-count-in-Ok.ensures.count in
     let more = c.in_ok-count-in-Ok-2.ensures.count in
     omega (arith, few, size, count, scans, more)

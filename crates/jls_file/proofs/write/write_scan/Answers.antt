@@ -16,7 +16,7 @@ write_interval-requires-clause-early g c =
     let part = c.args.part.now in
     let s = scan_from part.picture.now part.options part.first part.count in
     let so_far = length-flat_map-le (marked_interval part.picture.now s) (2 ^ 39)
-    (λ k. marked_at_most part.picture.now part.options part.first part.count k c.requires.part.fit c.requires.part.shape c.requires.part.of_scan) 0 c.loop-interval.interval in
+    (λ k. marked_at_most part.picture.now part.options part.first part.count k c.requires.part.fit c.requires.part.shape c.requires.part.params c.requires.part.of_scan) 0 c.loop-interval.interval in
     let counted = c.loop-interval.invariant.counted in
     let few = c.intervals-interval-end.ensures.few in
     omega (arith, so_far, counted, few, c.loop-interval-test.true, c.requires.early)

@@ -19,11 +19,11 @@ write_scan-requires-clause-part g c =
     let o = c.args.options.now in
     let end = c.scan_count-first-end.ensures.value in
     subst (λ n. IsScanFrom pic o c.loop-first.first n) (sym c.components_of_scan-components.ensures)
-    (scan_fits pic o c.loop-first.first c.requires.fit c.scan_count-first-end.ensures.ranges (omega (arith, end, c.loop-first-test.true)))
+    (scan_fits pic o c.loop-first.first c.requires.fit c.scan_count-first-end.ensures.ranges c.requires.params (omega (arith, end, c.loop-first-test.true)))
 
 pub write_scan-requires-clause-early : goal.write_scan-requires-clause-early
 write_scan-requires-clause-early g c =
-    let so_far = scans_at_most c.args.picture.now c.args.options.now c.loop-first.first c.requires.fit c.scan_count-first-end.ensures.ranges in
+    let so_far = scans_at_most c.args.picture.now c.args.options.now c.loop-first.first c.requires.fit c.scan_count-first-end.ensures.ranges c.requires.params in
     let few = scan_count_at_most c.args.picture.now c.args.options.now c.scan_count-first-end.ensures.ranges in
     let counted = c.loop-first.invariant.counted in
     let end = c.scan_count-first-end.ensures.value in
