@@ -1,9 +1,8 @@
 -- How many bytes the parts of a file have, at most.
-use Rattle.std.proofs.Common.{◌≡◌, ℕ, zero, suc, ◌+◌, ◌-◌, ◌*◌, ◌≤◌, ◌<◌, ◌^◌, Bool, true, false, cond, List, [], ◌∷◌, ◌++◌, length, map, drop, get_or, refl, sym, ap, subst, ◌∙◌, arith}
+use Rattle.std.proofs.Common.{◌≡◌, ℕ, zero, suc, ◌+◌, ◌*◌, ◌≤◌, ◌^◌, Bool, true, false, cond, List, [], ◌∷◌, ◌++◌, length, map, get_or, refl, sym, ap, subst, ◌∙◌, arith}
 use Rattle.std.specs.Prelude.{nat_lt, if◌then◌else◌}
-use Rattle.std.specs.Int.{w16, w32, to_be_bytes}
+use Rattle.std.specs.Int.{w32, to_be_bytes}
 use Rattle.std.specs.List.{flat_map, range_with_len}
-use Rattle.std.proofs.Math.Nat.{mul-le-mul}
 use Rattle.std.proofs.lemmas.Bool.{ne_eqb}
 use Rattle.std.proofs.lemmas.List.{length-append, length-drop}
 use Rattle.std.proofs.lemmas.Grind.{flat_map-append}
@@ -16,7 +15,7 @@ use Rattle.jls_marker.proofs.Intervals.{count_at_most}
 use Rattle.jls_picture.specs.Picture.{WholePicture}
 use Rattle.jls_picture.specs.Options.{WriteOptions, OptionsFit, components_of_scan}
 use Rattle.jls_picture.proofs.OneMore.{length-flat_map-le}
-use Rattle.jls_file.specs.WrittenFile.{bytes_of, are_defaults, preset_segments, restart_segments, header_segments, header_bytes, scan_segment, before_interval, interval_lines, interval_code, marked_interval, scan_bytes, scans_bytes}
+use Rattle.jls_file.specs.WrittenFile.{bytes_of, are_defaults, preset_segments, restart_segments, header_segments, header_bytes, before_interval, interval_lines, interval_code, marked_interval, scan_bytes, scans_bytes}
 use Rattle.jls_file.specs.Parts.{scan_from, scan_count}
 use Rattle.jls_file.proofs.CopiedLines.{length_range, samples_most}
 use Rattle.jls_file.proofs.Scans.{scans_are}

@@ -1,6 +1,6 @@
 -- How many bytes the code of an interval has, at most: the bits of an event are bounded, and there are no more events than samples.
-use Rattle.std.proofs.Common.{◌≡◌, ℕ, zero, suc, ◌+◌, ◌-◌, ◌*◌, ◌/◌, ◌^◌, ◌≤◌, ◌<◌, min, max, Bool, true, false, eqb, leb, ltb, cond, List, [], ◌∷◌, ◌++◌, length, get_or, replicate, refl, sym, ap, subst, ◌∙◌, ◌%◌, inl, inr, arith, length-append}
-use Rattle.std.specs.Prelude.{ℤ, pos, negsuc, unsigned_abs}
+use Rattle.std.proofs.Common.{◌≡◌, ℕ, zero, suc, ◌+◌, ◌-◌, ◌*◌, ◌/◌, ◌^◌, ◌≤◌, ◌<◌, Bool, true, false, eqb, leb, ltb, cond, List, [], ◌∷◌, ◌++◌, length, replicate, sym, ap, ◌∙◌, ◌%◌, inl, inr, arith, length-append}
+use Rattle.std.specs.Prelude.{ℤ, unsigned_abs}
 use Rattle.std.specs.List.{AllByRecursion, fold, filter}
 use Rattle.std.proofs.lemmas.Bool.{cases_Bool, cases_eq, ltb-true, le-leb}
 use Rattle.std.proofs.Math.Nat.{mul-le-mul_right}
@@ -11,7 +11,6 @@ use Rattle.jls_bits.specs.Bits.{bits, width_after, value_of_bits}
 use Rattle.jls_bits.specs.Golomb.{golomb, is_short}
 use Rattle.jls_bits.specs.Pad.{pad_after}
 use Rattle.jls_bits.proofs.NumberBits.{length-bits}
-use Rattle.jls_context.specs.declared.mode.Neighbours.{Neighbours}
 use Rattle.jls_context.specs.declared.regular.Cell.{Cell}
 use Rattle.jls_context.specs.declared.interruption.RunCell.{RunCell}
 use Rattle.jls_context.specs.Errors.{IsError}
@@ -23,7 +22,7 @@ use Rattle.jls_context.proofs.Sizes.{maxval_small, interruption_mapped_at_most}
 use Rattle.jls_interval.specs.Events.{Event, regular, run_to_end, interrupted_run, Above, neighbours, run_stop, stretch, events_from, events_after, above, line_events}
 use Rattle.jls_interval.specs.Cells.{regular_error, regular_prediction, cell_after, cell_before, uses_cell, run_cell_after, run_cell_before, uses_run_cell, is_same, interruption_error}
 use Rattle.jls_interval.specs.Runs.{run_order, block_columns, full_blocks, blocks, run_index_before}
-use Rattle.jls_interval.specs.Code.{event_bits, bits_of_events, code, regular_bits, interrupting_bits}
+use Rattle.jls_interval.specs.Code.{event_bits, bits_of_events, code}
 use Rattle.jls_interval.specs.Reads.{packed}
 use Rattle.jls_interval.proofs.EventsApart.{j_small}
 use Rattle.jls_interval.proofs.LeastPassing.{least_low}

@@ -1,9 +1,7 @@
-use Rattle.std.proofs.Common.{◌≡◌, ℕ, ◌-◌, ◌+◌, List, map, sym, ap, subst, ◌∙◌, arith}
-use Rattle.std.specs.List.{flat_map, range_with_len, AllByRecursion}
+use Rattle.std.proofs.Common.{◌≡◌, ℕ, ◌-◌, ◌+◌, List, map, sym, ap, ◌∙◌, arith}
+use Rattle.std.specs.List.{flat_map, range_with_len}
 use Rattle.std.proofs.lemmas.Result.{IfOk-weaker}
 use Rattle.jls_values.specs.Params.{CodingParameters}
-use Rattle.jls_interval.specs.Fits.{FitsInterval}
-use Rattle.jls_interval.specs.Lines.{IsLine}
 use Rattle.jls_interval.specs.Reads.{packed}
 use Rattle.jls_marker.specs.Scan.{Scan, first_row, row_count}
 use Rattle.jls_picture.specs.Picture.{WholePicture}

@@ -1,13 +1,13 @@
-use Rattle.std.proofs.Common.{◌≡◌, ℕ, ◌+◌, ◌++◌, ◌^◌, ◌<◌, List, [], length, sym, ap, subst, ◌∙◌, arith, length-append}
+use Rattle.std.proofs.Common.{◌≡◌, ℕ, ◌++◌, List, [], length, sym, ap, subst, ◌∙◌, arith, length-append}
 use Rattle.std.proofs.lemmas.List.{append-nil}
-use Rattle.std.proofs.lemmas.Result.{err_from_is_err_and, on_ok_weaker, IfOk-weaker}
+use Rattle.std.proofs.lemmas.Result.{on_ok_weaker}
 use Rattle.jls_picture.specs.Outcomes.{HandedOut, HandedFront, StoppedBy}
 use Rattle.jls_picture.proofs.Handing.{handed_on, if_err_weaker}
 use Rattle.jls_file.specs.Parts.{scan_from}
 use Rattle.jls_file.specs.Stops.{StopsIn}
 use Rattle.jls_file.specs.WrittenFile.{before_interval, interval_code, marked_interval}
 use Rattle.jls_file.proofs.FileLength.{marked_at_most}
-use Rattle.jls_file.proofs.Handing.{stops_at_once, stops_by, stops_first, stops_on}
+use Rattle.jls_file.proofs.Handing.{stops_at_once, stops_by, stops_on}
 use Rattle.jls_file.proofs.Scans.{marked_some}
 use Rattle.jls_file.proofs.write.write_interval.Goals as goal
 

@@ -1,10 +1,10 @@
-use Rattle.std.proofs.Common.{◌≡◌, ℕ, ◌+◌, ◌≤◌, ◌<◌, ◌^◌, ◌++◌, List, [], ◌∷◌, length, sym, ap, subst, ◌∙◌, arith, length-append, append_assoc}
+use Rattle.std.proofs.Common.{◌≡◌, ℕ, ◌+◌, ◌++◌, List, [], ◌∷◌, length, sym, ap, subst, ◌∙◌, arith, length-append, append_assoc}
 use Rattle.std.proofs.lemmas.List.{append-nil}
 use Rattle.std.proofs.lemmas.Result.{err_from_is_err_and}
 use Rattle.jls_picture.specs.Outcomes.{HandedOut}
 use Rattle.jls_picture.proofs.Handing.{handed_on}
 use Rattle.jls_file.specs.Stops.{StopsIn}
-use Rattle.jls_file.specs.WrittenFile.{header_bytes, scans_bytes, written_file}
+use Rattle.jls_file.specs.WrittenFile.{scans_bytes, written_file}
 use Rattle.jls_file.proofs.FileLength.{header_at_most, all_scans_at_most}
 use Rattle.jls_file.proofs.Handing.{stops_by, stops_first, stops_on}
 use Rattle.jls_file.proofs.write.write_jls.Goals as goal
