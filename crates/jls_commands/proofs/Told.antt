@@ -4,7 +4,8 @@ use Rattle.std.proofs.lemmas.List.{append-nil}
 use Rattle.std.specs.Prelude.{codes}
 use Rattle.jls_device.specs.Event.{History, GrewBy}
 use Rattle.jls_device.specs.Writing.{Wrote, WroteFront}
-use Rattle.jls_station.specs.Inputs.{Given, IsTaken, StopsAt}
+use Rattle.jls_station.specs.Given.{Given}
+use Rattle.jls_station.specs.Inputs.{IsTaken, StopsAt}
 use Rattle.jls_station.specs.declared.outcome.Cause.TheVariants as cause
 use Rattle.jls_station.specs.declared.outcome.Refusal.{Refusal}
 use Rattle.jls_station.specs.declared.outcome.Outcome.TheVariants.{Done, Refused}

@@ -10,7 +10,8 @@ use Rattle.jls_picture.specs.Unsettled.{NamesFirstUnsettled}
 use Rattle.jls_picture.specs.declared.picture.PictureFault.{PictureFault}
 use Rattle.jls_device.specs.Event.{History, GrewBy, created}
 use Rattle.jls_device.proofs.Growing.{grew_on, grew_as}
-use Rattle.jls_station.specs.Inputs.{Given, IsTaken, StopsAt}
+use Rattle.jls_station.specs.Given.{Given}
+use Rattle.jls_station.specs.Inputs.{IsTaken, StopsAt}
 use Rattle.jls_station.specs.Outputs.{HandsOut, StopsAtOutput}
 use Rattle.jls_station.specs.declared.outcome.Refusal.{Refusal}
 use Rattle.jls_station.specs.declared.outcome.Outcome.TheVariants.{Done, Refused}
