@@ -1,3 +1,4 @@
+pub mod CopySteps
 pub mod InTurn
 pub mod JoinSteps
 pub mod OneInput
