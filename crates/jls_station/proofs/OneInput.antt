@@ -1,8 +1,8 @@
 -- Reads of one input, one after the other.
-use Rattle.std.proofs.Common.{◌≡◌, ◌<◌, ◌≤◌, ℕ, ◌+◌, true, false, List, [], ◌∷◌, ◌++◌, Option, Some, None, length, refl, sym, subst, ap, ◌∙◌, append_assoc, arith}
+use Rattle.std.proofs.Common.{◌≡◌, ◌<◌, ◌≤◌, ℕ, zero, suc, ◌+◌, get_or, take, true, false, List, [], ◌∷◌, ◌++◌, Option, Some, None, Result, Ok, Err, length, refl, sym, subst, ap, ◌∙◌, append_assoc, arith}
 use Rattle.std.proofs.lemmas.Bool.{false≢true}
 use Rattle.std.proofs.lemmas.List.{append-nil, length-append}
-use Rattle.std.specs.Prelude.{IfSome}
+use Rattle.std.specs.Prelude.{IfSome, OnErr}
 use Rattle.std.specs.Io.KnownBytes.{Consumes, IsAtEnd}
 use Rattle.jls_marker.specs.declared.fault.MarkerFault.TheVariants as marker
 use Rattle.jls_partial.specs.Partial.{PartialPicture}
@@ -19,13 +19,38 @@ use Rattle.jls_device.specs.Event.{Event, History, GrewBy, opened, not_opened, g
 use Rattle.jls_device.proofs.Growing.{grew_as, grew_twice}
 use Rattle.jls_station.specs.Given.{Given, Gives}
 use Rattle.jls_station.specs.Inputs.{IsCopyDone, IsEnough, IsRefused, no_text, no_picture, copy_not_read, between_reads, behind_the_last, ReadsGive, ReadsRefuse, for_fault, for_memory}
-use Rattle.jls_station.specs.Reading.{GoesOn, StopsWith, IsRead, IsReadInPart, ReadSoFar}
+use Rattle.jls_station.specs.Reading.{AreBytes, GoesOn, StopsWith, IsRead, IsReadInPart, ReadSoFar}
 use Rattle.jls_station.specs.Texts.{is_text, IsTextOf, IsNoText}
 use Rattle.jls_station.specs.InputFaults.{input_fault_of, input_fault_of_copy}
 use Rattle.jls_station.specs.declared.input.ReadStop.{ReadStop}
 use Rattle.jls_station.specs.declared.input.ReadStop.TheVariants.{Whole, Failed, Turns}
 use Rattle.jls_station.specs.declared.input.InputFault.{InputFault}
 use Rattle.jls_station.specs.declared.input.InputFault.TheVariants as fault
+
+-- ---- bytes
+
+bytes_both : (xs ys : List ℕ) → AreBytes xs → AreBytes ys → AreBytes (xs ++ ys)
+bytes_both [] ys h k = k
+bytes_both (x ∷ xs) ys h k = (h.0, bytes_both xs ys h.1 k)
+
+bytes_front : (n : ℕ) (xs : List ℕ) → AreBytes xs → AreBytes (take n xs)
+bytes_front zero xs h = tt
+bytes_front (suc n) [] h = tt
+bytes_front (suc n) (x ∷ xs) h = (h.0, bytes_front n xs h.1)
+
+bytes_each : (xs : List ℕ) → ((k : ℕ) → get_or xs k 0 < 256) → AreBytes xs
+bytes_each [] h = tt
+bytes_each (x ∷ xs) h = (h 0, bytes_each xs (λ k. h (suc k)))
+
+-- the front of a buffer
+pub front_of_buffer : (n : ℕ) (xs : List ℕ) → ((k : ℕ) → get_or xs k 0 < 256) → AreBytes (take n xs)
+front_of_buffer n xs h = bytes_front n xs (bytes_each xs h)
+
+-- ---- results
+
+pub on_error : {T E : Type 0} (r : Result T E) (P : Type 0) → P → OnErr r P
+on_error (Ok x) P h = tt
+on_error (Err e) P h = h
 
 -- ---- reads of an input, as long as its bytes are not enough
 
@@ -57,6 +82,7 @@ module _ (E : List ℕ → Type 0) where
         reads_are = refl;
         goes_on = h.goes_on;
         bytes_are = h.bytes_are;
+        are_bytes = h.are_bytes;
         stops = s;
         at_most = omega (arith, n, h.number, at_most);
         used_up = λ e. let u = used_up e in omega (arith, n, h.number, u);
@@ -64,11 +90,11 @@ module _ (E : List ℕ → Type 0) where
 
   module _ (count : ℕ) (old mid new : History) (bytes : List ℕ) where
     pub nothing_read : GrewBy (ReadSoFar E 0 []) old old
-    nothing_read = record { events = []; grew = sym (append-nil old); they_are = record { goes_on = tt; bytes_are = refl; number = refl } }
+    nothing_read = record { events = []; grew = sym (append-nil old); they_are = record { goes_on = tt; bytes_are = refl; are_bytes = tt; number = refl } }
 
     pub one_read_more : (room : ℕ) (more : List ℕ) → GrewBy (ReadSoFar E count bytes) old mid → new ≡ mid ++ gave room more ∷ [] → (E bytes → ⊥) → room ≤ 4096
-        → 0 < length more → GrewBy (ReadSoFar E (count + 1) (bytes ++ more)) old new
-    one_read_more room more h e not fits some =
+        → 0 < length more → AreBytes more → GrewBy (ReadSoFar E (count + 1) (bytes ++ more)) old new
+    one_read_more room more h e not fits some low =
         let is = h.they_are.bytes_are in
         let on = goes_on_more [] h.events room more h.they_are.goes_on fits some (λ t same enough. not (subst E (same ∙ sym is) enough)) in
         record {
@@ -77,6 +103,7 @@ module _ (E : List ℕ → Type 0) where
           they_are = record {
             goes_on = on.0;
             bytes_are = ap (λ (b : List ℕ). b ++ more) is ∙ sym on.1;
+            are_bytes = bytes_both bytes more h.they_are.are_bytes low;
             number = omega (arith, length-append h.events (gave room more ∷ []), h.they_are.number);
           };
         }
@@ -148,29 +175,29 @@ goes_on_enough fed (took b ∷ reads) h = absurd h
 goes_on_enough fed (write_failed ∷ reads) h = absurd h
 
 stops_enough : (bytes : List ℕ) (last : List Event) (stop : ReadStop) → is_text bytes ≡ false → StopsWith IsCopyDone bytes last stop → StopsWith IsEnough bytes last stop
-stops_enough bytes [] Whole no h = (no, h)
-stops_enough bytes [] Turns no h = λ e. h e.1
-stops_enough bytes [] Failed no h = absurd h
-stops_enough bytes (gave room [] ∷ []) Whole no h = (h.0, h.1, λ e. h.2 e.1)
-stops_enough bytes (gave room [] ∷ []) Failed no h = absurd h
-stops_enough bytes (gave room [] ∷ []) Turns no h = absurd h
-stops_enough bytes (gave room [] ∷ e ∷ more) stop no h = absurd h
-stops_enough bytes (gave room (b ∷ bs) ∷ more) stop no h = absurd h
-stops_enough bytes (read_failed ∷ []) Failed no h = λ e. h e.1
-stops_enough bytes (read_failed ∷ []) Whole no h = absurd h
-stops_enough bytes (read_failed ∷ []) Turns no h = absurd h
-stops_enough bytes (read_failed ∷ e ∷ more) stop no h = absurd h
-stops_enough bytes (opened name ∷ more) stop no h = absurd h
-stops_enough bytes (not_opened name ∷ more) stop no h = absurd h
-stops_enough bytes (created name ∷ more) stop no h = absurd h
-stops_enough bytes (not_created name ∷ more) stop no h = absurd h
-stops_enough bytes (took b ∷ more) stop no h = absurd h
-stops_enough bytes (write_failed ∷ more) stop no h = absurd h
+stops_enough bytes [] Whole copied h = (copied, h)
+stops_enough bytes [] Turns copied h = λ e. h e.1
+stops_enough bytes [] Failed copied h = absurd h
+stops_enough bytes (gave room [] ∷ []) Whole copied h = (h.0, h.1, λ e. h.2 e.1)
+stops_enough bytes (gave room [] ∷ []) Failed copied h = absurd h
+stops_enough bytes (gave room [] ∷ []) Turns copied h = absurd h
+stops_enough bytes (gave room [] ∷ e ∷ more) stop copied h = absurd h
+stops_enough bytes (gave room (b ∷ bs) ∷ more) stop copied h = absurd h
+stops_enough bytes (read_failed ∷ []) Failed copied h = λ e. h e.1
+stops_enough bytes (read_failed ∷ []) Whole copied h = absurd h
+stops_enough bytes (read_failed ∷ []) Turns copied h = absurd h
+stops_enough bytes (read_failed ∷ e ∷ more) stop copied h = absurd h
+stops_enough bytes (opened name ∷ more) stop copied h = absurd h
+stops_enough bytes (not_opened name ∷ more) stop copied h = absurd h
+stops_enough bytes (created name ∷ more) stop copied h = absurd h
+stops_enough bytes (not_created name ∷ more) stop copied h = absurd h
+stops_enough bytes (took b ∷ more) stop copied h = absurd h
+stops_enough bytes (write_failed ∷ more) stop copied h = absurd h
 
 -- the reads of an input that is a copy are those of the copy
 pub read_as_input : (bytes : List ℕ) (stop : ReadStop) (old new : History) → is_text bytes ≡ false → GrewBy (λ reads. IsRead IsCopyDone reads bytes stop) old new
     → GrewBy (λ reads. IsRead IsEnough reads bytes stop) old new
-read_as_input bytes stop old new no =
+read_as_input bytes stop old new copied =
     grew_as (λ reads. IsRead IsCopyDone reads bytes stop) (λ reads. IsRead IsEnough reads bytes stop) old new
     (λ reads h. record {
       on = h.on;
@@ -178,7 +205,8 @@ read_as_input bytes stop old new no =
       reads_are = h.reads_are;
       goes_on = goes_on_enough [] h.on h.goes_on;
       bytes_are = h.bytes_are;
-      stops = stops_enough bytes h.last stop no h.stops;
+      are_bytes = h.are_bytes;
+      stops = stops_enough bytes h.last stop copied h.stops;
       at_most = h.at_most;
       used_up = h.used_up;
     })
@@ -248,12 +276,12 @@ module _ (old new : History) (bytes : List ℕ) (text : is_text bytes ≡ true) 
 -- the fault of a copy, likewise
 pub refused_as_copy : (old new : History) (bytes : List ℕ) (stop : ReadStop) → is_text bytes ≡ false → GrewBy (λ reads. IsRead IsEnough reads bytes stop) old new
     → (f : CopyFault) → CopyGivesNone bytes f → GrewBy (ReadsRefuse (input_fault_of_copy f stop (length bytes))) old new
-refused_as_copy old new bytes stop no h copy.OutOfMemory e = out_of_memory_behind old new bytes stop h (λ is. absurd (false≢true (sym no ∙ is)))
-refused_as_copy old new bytes Whole no h (copy.NoPicture f offset) e = refused_for old new bytes Whole h (fault.NoPicture f offset) (no_picture bytes f offset no e)
-refused_as_copy old new bytes Failed no h (copy.NoPicture f offset) e =
-    refused_for old new bytes Failed h (fault.Read Failed (length bytes)) (copy_not_read bytes Failed f offset no (λ t. absurd cc) e)
-refused_as_copy old new bytes Turns no h (copy.NoPicture f offset) e =
-    refused_for old new bytes Turns h (fault.Read Turns (length bytes)) (copy_not_read bytes Turns f offset no (λ t. absurd cc) e)
+refused_as_copy old new bytes stop copied h copy.OutOfMemory e = out_of_memory_behind old new bytes stop h (λ is. absurd (false≢true (sym copied ∙ is)))
+refused_as_copy old new bytes Whole copied h (copy.NoPicture f offset) e = refused_for old new bytes Whole h (fault.NoPicture f offset) (no_picture bytes f offset copied e)
+refused_as_copy old new bytes Failed copied h (copy.NoPicture f offset) e =
+    refused_for old new bytes Failed h (fault.Read Failed (length bytes)) (copy_not_read bytes Failed f offset copied (λ t. absurd cc) e)
+refused_as_copy old new bytes Turns copied h (copy.NoPicture f offset) e =
+    refused_for old new bytes Turns h (fault.Read Turns (length bytes)) (copy_not_read bytes Turns f offset copied (λ t. absurd cc) e)
 
 -- the empty input has no frame, and more bytes can change that
 pub empty_gives_none : CopyGivesNone [] (copy.NoPicture marker.Ended 0)

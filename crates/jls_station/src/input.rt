@@ -11,7 +11,7 @@ ghost use Rattle.jls_station.specs.Texts.{is_text, IsTextOf};
 ghost use Rattle.jls_station.specs.declared.input.ReadStop.TheVariants.{Whole};
 
 use crate::copy_end::read_of_copy;
-use crate::reading::{read_copy_on, read_text_on};
+use crate::reading::{front, read_copy_on, read_text_on};
 use crate::take_report::TakeReport;
 use jls_copy::{CopyFault, CopyReader, copies_have_one_course};
 use jls_device::Source;
@@ -233,7 +233,7 @@ pub fn read_input<S: Source>(alloc: Global, device: &mut S) -> Result<InputRead,
     if count == 0 {
         return Err(InputFault::NoPicture(MarkerFault::Ended, 0));
     }
-    let first = &chunk[..count];
+    let first = front(&chunk, count);
     if first[0] == FIRST_OF_TEXT {
         read_text(alloc, device, first)
     } else {

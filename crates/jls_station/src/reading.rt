@@ -1,10 +1,10 @@
 //! The loops that read an input: a text to its end, and a copy as long as more bytes can change what it gives.
 
-ghost use Rattle.std.specs.Prelude.{◌≡◌, ◌≤◌, ◌<◌, ◌*◌, ◌↔◌, ℕ, List, Option, Some, true, IsTrue, length, IfOk, OnErr, IfSome, IsSomeAnd};
+ghost use Rattle.std.specs.Prelude.{◌≡◌, ◌≤◌, ◌<◌, ◌*◌, ◌↔◌, ℕ, List, Option, Some, true, IsTrue, length, IfOk, OnErr, IfSome, IsSomeAnd, take};
 ghost use Rattle.std.specs.Io.KnownBytes.{Consumes, IsAtEnd};
 ghost use Rattle.jls_device.specs.Event.{History, GrewBy};
 ghost use Rattle.jls_station.specs.Inputs.{IsEnough, IsCopyDone};
-ghost use Rattle.jls_station.specs.Reading.{ReadSoFar, IsRead, IsReadInPart};
+ghost use Rattle.jls_station.specs.Reading.{AreBytes, ReadSoFar, IsRead, IsReadInPart};
 ghost use Rattle.jls_station.specs.Texts.{is_text};
 ghost use Rattle.jls_station.specs.declared.input.ReadStop.TheVariants.{Whole};
 
@@ -15,6 +15,15 @@ use std::alloc::AllocError;
 
 /// The most reads of one input.
 const READS: u64 = 4_294_967_295;
+
+/// The front of a buffer, which has as many bytes as a read gave.
+pub(crate) fn front(buffer: &[u8], count: usize) -> &[u8]
+    requires { count ≤ length buffer.now }
+    ensures front { result.now ≡ take count buffer.now }
+    ensures bytes { AreBytes result.now }
+{
+    &buffer[..count]
+}
 
 /// Reads a text on, whose first read gave these bytes, to its end or as far as the source goes, and adds what the reads give.
 // `before` is what the device had done, or what it had left to give, before the first read.
@@ -41,7 +50,7 @@ pub(crate) fn read_text_on<S: Source>(
         if n == 0 {
             return Ok(ReadStop::Whole);
         }
-        bytes.extend_from_slice(&chunk[..n])?;
+        bytes.extend_from_slice(front(&chunk, n))?;
     }
     Ok(ReadStop::Turns)
 }
@@ -81,7 +90,7 @@ pub(crate) fn read_copy_on<S: Source>(
         if n == 0 {
             return Ok(ReadStop::Whole);
         }
-        reader.feed(&chunk[..n])?;
+        reader.feed(front(&chunk, n))?;
     }
     if is_enough(reader) {
         Ok(ReadStop::Whole)
