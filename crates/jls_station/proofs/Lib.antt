@@ -1,3 +1,4 @@
+pub mod CopyEnds
 pub mod CopySteps
 pub mod InTurn
 pub mod JoinSteps

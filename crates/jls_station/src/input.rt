@@ -173,8 +173,9 @@ fn read_text<S: Source>(
         Ok(stop) => stop,
         Err(_) => return Err(InputFault::OutOfMemory),
     };
-    if stop != ReadStop::Whole {
-        return Err(InputFault::Read(stop, bytes.len() as u64));
+    match stop {
+        ReadStop::Whole => {}
+        stop => return Err(InputFault::Read(stop, bytes.len() as u64)),
     }
     match Partial::from_bytes(alloc, &bytes) {
         Ok(partial) => Ok(InputRead::of_text(partial)),
