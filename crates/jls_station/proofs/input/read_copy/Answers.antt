@@ -1,5 +1,5 @@
 use Rattle.std.proofs.Common.{◌≡◌, ℕ, List, Option, Some, ap, ◌∙◌, arith}
-use Rattle.jls_copy.specs.Reader.{after}
+use Rattle.jls_copy.specs.ReadCopy.{after}
 use Rattle.jls_station.specs.Inputs.{IsCopyDone}
 use Rattle.jls_station.proofs.CopyEnds.{copy_gives, copy_refused}
 use Rattle.jls_station.proofs.OneInput.{out_of_memory_in_part, part_of_input, read_in_part}

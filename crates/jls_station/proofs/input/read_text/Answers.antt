@@ -54,8 +54,8 @@ returns-clause-refused g c before h =
     let history = g.S.Device.history in
     let bytes = c.read_text_on.new.bytes.items in
     let read : GrewBy (λ reads. IsRead IsEnough reads bytes Whole) before (history c.read_text_on.new.device) =
-        subst (λ (stop : ReadStop). GrewBy (λ reads. IsRead IsEnough reads bytes stop) before (history c.read_text_on.new.device)) c.in-Whole.is
-        (c.in-Ok-read_text_on.ensures.read before (as_first before (history c.args.device.now) c.args.first.now c.in-Ok.bytes.items c.in-Ok.ensures.items h)) in
+    subst (λ (stop : ReadStop). GrewBy (λ reads. IsRead IsEnough reads bytes stop) before (history c.read_text_on.new.device)) c.in-Whole.is
+    (c.in-Ok-read_text_on.ensures.read before (as_first before (history c.args.device.now) c.args.first.now c.in-Ok.bytes.items c.in-Ok.ensures.items h)) in
     subst (λ (f : InputFault). GrewBy (ReadsRefuse f) before (history c.read_text_on.new.device)) (sym c.input_fault.ensures)
     (refused_by before (history c.read_text_on.new.device) bytes c.in-Ok-read_text_on.ensures.text read c.in-Err-from_bytes.fault
     (subst (λ (t : List ℕ). Fails c.in-Err-from_bytes.fault (read_text t)) c.deref.ensures.value c.in-Err-from_bytes.ensures.exact))

@@ -1,6 +1,6 @@
 use Rattle.std.proofs.Common.{rules, ◌≡◌, ◌<◌, ◌≤◌, ◌+◌, ◌++◌, ◌∙◌, ap, subst, List, ℕ, arith, take, length}
 use Rattle.std.proofs.lemmas.List.{length-take}
-use Rattle.jls_copy.specs.Reader.{after}
+use Rattle.jls_copy.specs.ReadCopy.{after}
 use Rattle.jls_device.specs.Event.{GrewBy}
 use Rattle.jls_station.specs.Inputs.{IsCopyDone}
 use Rattle.jls_station.specs.Reading.{AreBytes, IsRead, IsReadInPart}

@@ -1,4 +1,5 @@
 use Rattle.std.proofs.Common.{◌∷◌, [], ◌<◌, length, map, take, drop, get_or, List, ℕ, None, true, false, ap, sym, subst, refl, ◌∙◌, Result, Err, ◌≡◌, ◌+◌, arith}
+use Rattle.std.specs.Prelude.{◌&&◌}
 use Rattle.std.specs.Borrow.{Bor}
 use Rattle.jls_device.specs.Event.{GrewBy}
 use Rattle.jls_partial.specs.Partial.{PartialPicture, has_same_shape, union}
@@ -71,10 +72,11 @@ loop-name-preserved g c =
     let i = c.loop-name.name-index in
     let lt : i < length c.args.others.now = omega arith in
     record {
-      so_far = subst (λ (names : List (List ℕ)). GrewBy (TakesUnion None (c.args.first.now ∷ names) c.take.new.self ?) (history c.args.desk.now) (history c.open_and_read-in-loop-name.new.desk))
+      so_far = subst (λ (names : List (List ℕ)). GrewBy (TakesUnion None (c.args.first.now ∷ names) c.take.new.self (c.loop-name.whole && c.is_whole-whole-in-loop-name.result)) (history c.args.desk.now) (history c.open_and_read-in-loop-name.new.desk))
           (sym (names_one_more name_of c.args.others.now i none lt))
           (union_of_next (history c.args.desk.now) (history c.loop-name.desk) (history c.open_and_read-in-loop-name.new.desk) (c.args.first.now ∷ map name_of (take i c.args.others.now)) c.loop-name.station c.loop-name.whole
-          c.loop-name.invariant.so_far (get_or c.args.others.now i none).now c.in-Ok-open_and_read.read ? ? c.take.new.self ? ? c.in-Ok-open_and_read.ensures.taken
+          c.loop-name.invariant.so_far (get_or c.args.others.now i none).now c.in-Ok-open_and_read.read c.is_whole-whole-in-loop-name.result
+          (c.loop-name.whole && c.is_whole-whole-in-loop-name.result) c.take.new.self c.is_whole-whole-in-loop-name.ensures refl c.in-Ok-open_and_read.ensures.taken
           (subst (λ (p : PartialPicture). has_same_shape c.loop-name.station p ≡ true) c.partial.ensures c.in-Ok-take.ensures.ok_same_shape)
           (c.in-Ok-take.ensures.ok ∙ ap (λ (p : PartialPicture). union c.loop-name.station p) c.partial.ensures));
     }
