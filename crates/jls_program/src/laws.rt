@@ -1,11 +1,18 @@
 //! The laws of whole runs. Each is a function that does nothing and whose contract is the law.
 
-ghost use Rattle.jls_program.specs.Laws.{DoneJoinsRan, DoneShowsRan, DoneWritesRan};
+ghost use Rattle.jls_program.specs.Laws.{DoneChecksRan, DoneJoinsRan, DoneShowsRan, DoneWritesRan};
 
 /// If the words of a run ask for a join and the run ends with status 0 or 1, the join is done, the status is 0 if and only
 /// if each line of the union is settled, and nothing was reported or printed as a fault.
 pub fn done_joins_ran()
     ensures { DoneJoinsRan }
+{}
+
+/// If the words of a run ask for a trace and a report and the run ends with status 0 or 1, the input was read whole and nothing
+/// else was opened or created; the report output was handed exactly the two; the status is 0 if and only if each line is
+/// settled; and nothing was printed as a fault.
+pub fn done_checks_ran()
+    ensures { DoneChecksRan }
 {}
 
 /// If the words of a run ask for a report and the run ends with status 0 or 1, the input was read whole and nothing else was
