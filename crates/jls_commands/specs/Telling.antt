@@ -38,7 +38,7 @@ pub data Tells (lines : Given → List ℕ) : List ℕ → Outcome → List Even
   at_input : (name : List ℕ) (r : Refusal) (reading : List Event)
       → r.name.now ≡ name → StopsAt None [] name r.cause reading → Tells lines name (Refused r) reading []
   no_memory : (name : List ℕ) (r : Refusal) (g : Given) (reading : List Event)
-      → r.cause ≡ cause.OutOfMemory → IsTaken None name g reading → Tells lines name (Refused r) reading []
+      → r.name.now ≡ name → r.cause ≡ cause.OutOfMemory → IsTaken None name g reading → Tells lines name (Refused r) reading []
   not_printed : (name : List ℕ) (r : Refusal) (g : Given) (count : ℕ) (reading writing : List Event)
       → r.name.now ≡ codes "-" → r.cause ≡ cause.NotWritten count → IsTaken None name g reading → WroteFront (lines g) count writing
       → Tells lines name (Refused r) reading writing

@@ -16,7 +16,7 @@ kind_text Broken = codes " broken\n"
 kind_text Long = codes " long\n"
 kind_text Beyond = codes " beyond\n"
 
--- a piece that gave no readings: its scan, its number, the offset of its first byte, and why
+-- a piece that did not read: its scan, its number, the offset of its first byte, and why
 abbrev pub piece_line : PieceRecord → List ℕ
 piece_line r = codes "piece " ++ decimal r.scan ++ codes " " ++ decimal r.interval ++ codes " " ++ decimal r.offset ++ kind_text r.kind
 

@@ -31,7 +31,7 @@ fn put_kind(out: &mut Vec<u8>, kind: PieceKind) -> Result<(), AllocError>
     Ok(())
 }
 
-/// Appends the line of a piece that gave no readings.
+/// Appends the line of a piece that did not read.
 fn put_piece(out: &mut Vec<u8>, piece: &PieceRecord) -> Result<(), AllocError>
     ensures { OnOk result (out.new.items ≡ out.old.items ++ piece_line piece.now) }
 {

@@ -5,10 +5,10 @@ use Rattle.std.proofs.lemmas.List.{append-nil}
 use Rattle.clap.specs.Words.{Text}
 use Rattle.jls_partial.specs.Partial.{PartialPicture}
 use Rattle.jls_partial.specs.Status.{IsSettled}
-use Rattle.jls_device.specs.Event.{Event, History, opened, not_opened, gave, read_failed, created, not_created, took, write_failed, bytes_taken}
+use Rattle.jls_device.specs.Event.{Event, History, GrewBy, opened, not_opened, gave, read_failed, created, not_created, took, write_failed, bytes_taken}
 use Rattle.jls_device.specs.Writing.{Printed, AreWrites}
 use Rattle.jls_station.specs.Given.{Given}
-use Rattle.jls_station.specs.Inputs.{StopsAt, not_there, refused, other_shape, no_memory}
+use Rattle.jls_station.specs.Inputs.{IsTaken, StopsAt, not_there, refused, other_shape, no_memory}
 use Rattle.jls_station.specs.Joining as joining
 use Rattle.jls_station.specs.Joining.{JoinIsDone, Joins}
 use Rattle.jls_station.specs.Outputs as outputs
@@ -24,13 +24,14 @@ use Rattle.jls_commands.specs.Telling as telling
 use Rattle.jls_commands.specs.Telling.{Tells, lines}
 use Rattle.jls_commands.specs.WritingFiles as writing
 use Rattle.jls_commands.specs.WritingFiles.{WritesFile, unsettled_cause}
+use Rattle.jls_picture.specs.Unsettled.{NamesFirstUnsettled}
 use Rattle.jls_picture.specs.declared.picture.PictureFault.{PictureFault}
 use Rattle.jls_picture.specs.declared.picture.PictureFault.TheVariants.{Unsettled}
 use Rattle.jls_commands.specs.declared.writing.Format.TheVariants.{Pnm}
 use Rattle.jls_words.specs.Asking.{Asked, ReadsAs}
 use Rattle.jls_program.specs.FaultLines.{fault_line}
 use Rattle.jls_program.specs.Runs.{CameOf, Run, came_of, misused, helped, help_cut, nothing_begun, nothing_asked}
-use Rattle.jls_program.specs.Laws.{JoinRan, DoneJoinsRan, TellRan, DoneChecksRan, DoneShowsRan, WriteRan, DoneWritesRan}
+use Rattle.jls_program.specs.Laws.{JoinRan, DoneJoinsRan, TellRan, DoneChecksRan, DoneShowsRan, WriteRan, DoneWritesRan, UnsettledWritesStop}
 
 -- ---- what stops a command
 
@@ -147,7 +148,7 @@ tell_finished traced name _ events reported desk desk' report report' (telling.d
     )
 tell_finished traced name _ events _ desk desk' report report' (telling.at_input _ r _ named h) e d le =
     let k = status_at_input None [] name r.cause events h in absurd (omega (arith, k, le))
-tell_finished traced name _ events _ desk desk' report report' (telling.no_memory _ r g _ is taken) e d le = let k = status_of_memory r.cause is in absurd (omega (arith, k, le))
+tell_finished traced name _ events _ desk desk' report report' (telling.no_memory _ r g _ named is taken) e d le = let k = status_of_memory r.cause is in absurd (omega (arith, k, le))
 tell_finished traced name _ events reported desk desk' report report' (telling.not_printed _ r g count _ _ named is taken wrote) e d le =
     let k = status_of_cut r.cause count is in absurd (omega (arith, k, le))
 
@@ -158,9 +159,26 @@ write_finished out name _ _ desk desk' (writing.done _ _ _ g whole reading writt
     (g, record { reading = reading; writing = written; grew = e; taken = taken; whole = says.whole_is.0 s.1; settled = settled; handed = handed }, refl)
 write_finished out name _ events desk desk' (writing.at_input _ _ _ r _ named h) e is =
     let k = status_at_input None [] name r.cause events h in absurd (omega (arith, k, is))
-write_finished out name _ events desk desk' (writing.unsettled _ _ _ r g f _ taken first because) e is =
+write_finished out name _ events desk desk' (writing.unsettled _ _ _ r g f _ named taken first because) e is =
     let k = status_of_unsettled g.partial f r.cause because in absurd (omega (arith, k, is))
 write_finished out name _ _ desk desk' (writing.at_output _ _ _ r g reading written named taken settled stops) e is =
+    let k = status_at_output out _ r.cause written stops in absurd (omega (arith, k, is))
+
+not_settled : (p : PartialPicture) (f : PictureFault) → NamesFirstUnsettled p f → IsSettled p → ⊥
+not_settled p (Unsettled component line) first settled =
+    first.first_line.unsettled (settled component first.first_line.component_in line first.first_line.line_in)
+
+write_stopped : (out name : Text) (outcome : Outcome) (events : List Event) (desk desk' : History) → WritesFile Pnm out name outcome events → desk' ≡ desk ++ events → status_of outcome ≡ 1
+    → (g : Given) × GrewBy (IsTaken None name g) desk desk' × (IsSettled g.partial → ⊥)
+write_stopped out name _ _ desk desk' (writing.done _ _ _ g whole reading written taken settled says handed) e is =
+    let s = done_status true whole g.partial says.settled_is (omega (arith, is)) in
+    let zero = s.0.1 settled in
+    absurd (omega (arith, is, zero))
+write_stopped out name _ events desk desk' (writing.at_input _ _ _ r _ named h) e is =
+    let k = status_at_input None [] name r.cause events h in absurd (omega (arith, k, is))
+write_stopped out name _ events desk desk' (writing.unsettled _ _ _ r g f _ named taken first because) e is =
+    (g, record { events = events; grew = e; they_are = taken }, not_settled g.partial f first)
+write_stopped out name _ _ desk desk' (writing.at_output _ _ _ r g reading written named taken settled stops) e is =
     let k = status_at_output out _ r.cause written stops in absurd (omega (arith, k, is))
 
 -- ---- the laws
@@ -202,3 +220,8 @@ writes_finished words status desk desk' report report' faults faults' ran out na
       unchanged report report' ran.report_events ran.report_is c.came.1,
       unchanged faults faults' ran.fault_events ran.faults_are (none_printed ran.fault_events (subst (λ (line : List ℕ). Printed line ran.fault_events) f.2 c.printed)),
     )
+
+pub writes_stopped : UnsettledWritesStop
+writes_stopped words status desk desk' report report' faults faults' ran out name k is =
+    let c = came_of_run words status ran.desk_events ran.report_events ran.fault_events ran.run _ k (omega (arith, is)) in
+    write_stopped out name c.outcome ran.desk_events desk desk' c.came.0 ran.desk_is (omega (arith, is, c.status_is))

@@ -70,6 +70,15 @@ pub record WriteRan (out name : Text) (g : Given) (desk desk' : History) : Type 
   pub settled : IsSettled g.partial
   pub handed : HandsOut out (pnm (picture_of g.partial)) writing
 
+-- Where the words ask for a PNM file and the status is 1, the input was taken, and nothing else was done with the desk: so no output
+-- was created; and a line of what it gave is not settled
+abbrev pub UnsettledWritesStop : Type 0
+UnsettledWritesStop =
+    (words : List Text) (status : ℕ) (desk desk' report report' faults faults' : History)
+    → Ran words status desk desk' report report' faults faults'
+    → (out name : Text) → ReadsAs words (write_pnm out name) → status ≡ 1
+    → (g : Given) × GrewBy (IsTaken None name g) desk desk' × (IsSettled g.partial → ⊥)
+
 -- Where the words ask for a PNM file and the status is 0, it is written; and nothing is reported or printed
 abbrev pub DoneWritesRan : Type 0
 DoneWritesRan =

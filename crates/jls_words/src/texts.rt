@@ -18,12 +18,14 @@ pub(crate) const CHECK_ABOUT: &str =
 
 pub(crate) const CHECK_NOTES: &str = "\
 Of a JPEG-LS copy it prints first
-  a line for each piece of scan data that gave no lines: piece SCAN INTERVAL OFFSET, and why
+  a line for each piece of scan data that did not read: piece SCAN INTERVAL OFFSET, and why
     broken  it can't be read
     long    it goes on behind its lines
     beyond  its restart marker stands for no interval that there is
+  pieces more N, if there are more than 4,096 such pieces: so many have no line
   where the copy ends: end eoi OFFSET, end input OFFSET, or end fault NUMBER OFFSET
-  read failed OFFSET, if a read failed there; what was read before is kept
+  read failed OFFSET, if a read failed there, or read stopped OFFSET, if the program made so many reads
+    as it makes at most; what was read before is kept
 Then it prints what jls-salvage show prints. Of a partial picture it prints that alone.
 
 Exit status:

@@ -16,7 +16,7 @@ pub returns-in-Err-lines_of : goal.returns-in-Err-lines_of
 returns-in-Err-lines_of g c =
     let desk = g.D.Device.history in
     let report = g.W.Device.history c.args.report.now in
-    told_for_memory (lines c.args.traced) c.args.file.now (desk c.args.desk.now) (desk c.open_and_read.new.desk) report report c.in-Ok.input c.in-Ok.ensures.taken _ refl
+    told_for_memory (lines c.args.traced) c.args.file.now (desk c.args.desk.now) (desk c.open_and_read.new.desk) report report c.in-Ok.input c.in-Ok.ensures.taken _ refl refl
 
 pub returns-in-Ok-write_all : goal.returns-in-Ok-write_all
 returns-in-Ok-write_all g c =

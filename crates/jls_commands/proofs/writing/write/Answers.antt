@@ -22,7 +22,7 @@ returns-in-Err-of g c =
     let first = subst (λ (p : PartialPicture). NamesFirstUnsettled p c.in-Err-of.fault) is c.in-Err-of.ensures.unsettled in
     let because = c.unsettled-cause.ensures ∙ ap (λ (p : PartialPicture). unsettled_cause p c.in-Err-of.fault) is in
     stops_unsettled c.args.format c.args.out.now c.args.file.now (desk c.args.desk.now) (desk c.open_and_read.new.desk) (desk c.open_and_read.new.desk) c.in-Ok.input c.in-Ok.ensures.taken
-    _ c.in-Err-of.fault first because
+    _ c.in-Err-of.fault refl first because
 
 pub returns-in-Ok-hand_out : goal.returns-in-Ok-hand_out
 returns-in-Ok-hand_out g c =
