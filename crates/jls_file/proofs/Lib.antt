@@ -4,3 +4,4 @@ mod Handing
 mod PackedLength
 mod ScanIds
 mod Scans
+mod WrittenFileExamples
