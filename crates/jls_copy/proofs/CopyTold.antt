@@ -12,8 +12,8 @@ use Rattle.jls_copy.specs.Course.{Course, IsCourse}
 use Rattle.jls_copy.specs.Pieces.{pieces}
 use Rattle.jls_copy.specs.ReaderState.{reading}
 use Rattle.jls_copy.specs.Reader.{all_pieces}
-use Rattle.jls_copy.specs.Conclusion.{Concludes, SaysNone, no_picture, is_final}
-use Rattle.jls_copy.specs.CopyReads.{CopyReads, CopyGivesNone, IsDone, is_final_end}
+use Rattle.jls_copy.specs.Conclusion.{Concludes, SaysNone, is_final}
+use Rattle.jls_copy.specs.CopyReads.{CopyReads, CopyGivesNone, IsDone, is_final_end, no_picture}
 use Rattle.std.specs.Prelude.{Bool, true, false, Result, Err}
 use Rattle.jls_marker.specs.HeaderState.{HeaderState}
 use Rattle.jls_marker.specs.Headers.{headers_after}

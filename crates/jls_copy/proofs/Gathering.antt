@@ -5,7 +5,8 @@ use Rattle.std.proofs.lemmas.Bool.{cases_lt}
 use Rattle.std.proofs.lemmas.Bool.Decides.{nat_tests}
 use Rattle.std.specs.Prelude.{nat_lt, ◌==◌, ◌*◌, cond, Result, Ok, Err, IfSome, IfOk, IfErr}
 use Rattle.jls_copy.proofs.HeaderFacts.{frame_kept}
-use Rattle.jls_copy.specs.Conclusion.{Concludes, SaysNone, no_picture}
+use Rattle.jls_copy.specs.Conclusion.{Concludes, SaysNone}
+use Rattle.jls_copy.specs.CopyReads.{no_picture}
 use Rattle.jls_copy.specs.ReaderState.{end_at, closed_at_end}
 use Rattle.jls_copy.specs.declared.end.End.{End}
 use Rattle.jls_copy.specs.ReadCopy.{ReadCopy}

@@ -1,8 +1,8 @@
 mod OneMoreByte
 mod OneCut
-mod NumbersGiven
+pub mod NumbersGiven
 mod CutExamples
-mod OneCourse
+pub mod OneCourse
 mod Fitting
 mod HeaderFacts
 mod Alike
@@ -15,3 +15,7 @@ mod ReadingTells
 mod CourseTold
 mod Gathering
 mod CopyTold
+pub mod HeadersKept
+pub mod ScansOfCourse
+pub mod BytesDecide
+pub mod FinalEnds

@@ -1,4 +1,4 @@
--- What a reader answers when the input ends. Of these words `no_picture` alone is one that public contracts stand on.
+-- What a reader answers when the input ends. It concerns no caller.
 use Rattle.std.specs.Prelude.{◌≡◌, ℕ, Bool, true, false, List, length, take, Option, Some, None}
 use Rattle.jls_values.specs.OrderedSet as set
 use Rattle.jls_values.specs.Shape.{PictureShape}
@@ -6,10 +6,8 @@ use Rattle.jls_copy.specs.Pieces.{Outcome}
 use Rattle.jls_copy.specs.Pieces.{AreOutcomes, readings, records}
 use Rattle.jls_copy.specs.Reader.{all_pieces}
 use Rattle.jls_copy.specs.ReaderState.{Reading, end_at}
-use Rattle.jls_copy.specs.declared.end.End.{End}
-use Rattle.jls_copy.specs.declared.end.End.TheVariants.{Eoi, Input, Header}
-use Rattle.jls_marker.specs.declared.fault.MarkerFault.TheVariants as fault
 use Rattle.jls_copy.specs.ReadCopy.{ReadCopy}
+use Rattle.jls_copy.specs.CopyReads.{no_picture}
 use Rattle.jls_copy.specs.declared.reader.CopyFault.{CopyFault}
 use Rattle.jls_copy.specs.declared.reader.CopyFault.TheVariants.{NoPicture, OutOfMemory}
 use Rattle.jls_copy.specs.declared.place.Place.{Place}
@@ -34,13 +32,6 @@ pub record Concludes (r : Reading) (read : ReadCopy) : Type 0 where
   pub pieces_are : read.pieces ≡ take 4096 (records (all_pieces r) outcomes)
   pub count_is : read.piece_count ≡ length (records (all_pieces r) outcomes)
   pub ended_is : read.ended ≡ end_at r.state.place r.state.count
-
--- the fault where no frame was taken, with its offset: that which ended the copy, or `Ended` where the input ended at the place of a
--- marker. (Behind EOI a frame was always taken: EOI before a frame is a fault)
-abbrev pub no_picture : End → CopyFault
-no_picture (Eoi offset) = NoPicture fault.NoFrame offset
-no_picture (Input offset) = NoPicture fault.Ended offset
-no_picture (Header f offset) = NoPicture f offset
 
 abbrev pub SaysNone : Reading → CopyFault → Type 0
 SaysNone r OutOfMemory = Unit {0}

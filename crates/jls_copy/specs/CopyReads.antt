@@ -7,7 +7,6 @@ use Rattle.jls_copy.specs.Course.{Course, IsCourse}
 use Rattle.jls_copy.specs.Pieces.{pieces}
 use Rattle.jls_copy.specs.Pieces.{Outcome}
 use Rattle.jls_copy.specs.Pieces.{AreOutcomes, readings, records}
-use Rattle.jls_copy.specs.Conclusion.{no_picture}
 use Rattle.jls_copy.specs.declared.end.End.{End}
 use Rattle.jls_copy.specs.declared.end.End.TheVariants.{Eoi, Input, Header}
 use Rattle.jls_marker.specs.declared.fault.MarkerFault.TheVariants as fault
@@ -29,14 +28,21 @@ pub record CopyReads (copy : List ℕ) (read : ReadCopy) : Type 0 where
   pub count_is : read.piece_count ≡ length (records (pieces course) outcomes)
   pub ended_is : read.ended ≡ course.end
 
+-- the fault where no frame was taken, with its offset: that which ended the copy, or `Ended` where the input ended at the place of a
+-- marker. (Behind EOI a frame was always taken: EOI before a frame is a fault)
+abbrev pub no_picture : End → CopyFault
+no_picture (Eoi offset) = NoPicture fault.NoFrame offset
+no_picture (Input offset) = NoPicture fault.Ended offset
+no_picture (Header f offset) = NoPicture f offset
+
 -- The copy has a course without a frame, and the fault is the one that belongs to its end (`no_picture`). Of a copy whose reading ran
 -- out of memory nothing is said
 abbrev pub CopyGivesNone : List ℕ → CopyFault → Type 0
 CopyGivesNone copy OutOfMemory = Unit {0}
 CopyGivesNone copy (NoPicture f offset) = (c : Course) × IsCourse copy c × (c.headers.frame ≡ None) × (NoPicture f offset ≡ no_picture c.end)
 
--- Whether an end is EOI, or a fault other than that of an input that ends too early. By the definition of a course more bytes leave
--- such an end as it is; no law says so yet
+-- Whether an end is EOI, or a fault other than that of an input that ends too early. More bytes leave a course with such an end as it is
+-- (`FinalEndsStay`)
 abbrev pub is_final_end : End → Bool
 is_final_end (Eoi offset) = true
 is_final_end (Input offset) = false

@@ -16,3 +16,4 @@ pub mod Tells
 pub mod ReaderLaws
 pub mod Conclusion
 pub mod CopyReads
+pub mod CopyLaws

@@ -1,4 +1,4 @@
--- What a reader of a copy keeps true. Of these words `after` alone is one that public contracts cite.
+-- What a reader of a copy keeps true. It concerns no caller.
 use Rattle.std.specs.Prelude.{◌≡◌, ℕ, ◌^◌, ◌<◌, ◌≤◌, Bool, true, false, List, [], ◌∷◌, ◌++◌, length, take, Option, Some, None}
 use Rattle.std.specs.List.{AllByRecursion}
 use Rattle.jls_values.specs.OrderedSet as set
@@ -30,11 +30,6 @@ pub record IsReading (m : Machine) (bytes : List ℕ) : Type 0 where
 
 abbrev pub IsReader : Bool → Machine → List ℕ → Type 0
 IsReader failed m bytes = failed ≡ false → IsReading m bytes
-
--- what was fed, or nothing more after a refusal
-abbrev pub after : Option (List ℕ) → List ℕ → Option (List ℕ)
-after None more = None
-after (Some bytes) more = Some (bytes ++ more)
 
 -- all pieces, if the input ends here
 abbrev pub all_pieces : Reading → List FoundPiece

@@ -2,6 +2,7 @@
 //! the lines that each piece still gives (ITU-T T.87 with the marker syntax of ITU-T T.81).
 #![tactic(auto)]
 
+mod copy_laws;
 mod course_laws;
 mod cut_laws;
 mod cut_search;
@@ -14,6 +15,7 @@ mod place;
 mod reader;
 mod scan;
 
+pub use copy_laws::{bytes_decide, final_ends_stay};
 pub use course_laws::{copies_have_one_course, every_copy_has_a_course};
 pub use cut_laws::{lost_marks_are_bridged, numbers_are_least, scan_data_has_one_cut};
 pub use cut_search::next_cut;

@@ -1,8 +1,9 @@
 //! One copy of a picture, fed in slices of any size.
 
 ghost use Rattle.std.specs.Prelude.{◌≡◌, ◌+◌, ◌-◌, ◌≤◌, ◌<◌, ◌^◌, ◌∷◌, [], length, Some, None, IfSome, OnOk, OnErr, IsOk, IsSome, IsErr, IfOk, IfErr, IfNone, take};
-ghost use Rattle.jls_copy.specs.Reader.{after};
+ghost use Rattle.jls_copy.specs.ReadCopy.{after};
 ghost use Rattle.jls_copy.specs.Conclusion as reader;
+ghost use Rattle.jls_copy.specs.CopyReads as copy;
 ghost use Rattle.jls_copy.specs.CopyReads.{CopyReads, CopyGivesNone, IsDone};
 ghost use Rattle.jls_copy.specs.Findings.{picture_of};
 ghost use Rattle.jls_copy.specs.declared.reader.CopyFault.TheVariants as CopyFault;
@@ -218,7 +219,7 @@ fn is_final(place: &Place) -> bool
 
 /// The first fault, where no frame was taken.
 fn no_picture(ended: End) -> CopyFault
-    ensures { result ≡ reader.no_picture ended }
+    ensures { result ≡ copy.no_picture ended }
 {
     match ended {
         End::Eoi(offset) => CopyFault::NoPicture(MarkerFault::NoFrame, offset),
@@ -230,7 +231,7 @@ fn no_picture(ended: End) -> CopyFault
 /// What a machine at its end holds.
 fn conclude(machine: Machine, ended: End) -> Result<CopyRead, CopyFault>
     ensures read { IfOk result (λ read. (shape : PictureShape) × (machine.headers.frame ≡ Some shape) × (read.partial ≡ picture_of shape machine.findings.partial) × (read.pieces ≡ machine.findings.records.items) × (read.piece_count ≡ machine.findings.record_count) × (read.ended ≡ ended)) }
-    ensures none { IfErr result (λ fault. (machine.headers.frame ≡ None) × (fault ≡ reader.no_picture ended)) }
+    ensures none { IfErr result (λ fault. (machine.headers.frame ≡ None) × (fault ≡ copy.no_picture ended)) }
 {
     let Machine {
         alloc,

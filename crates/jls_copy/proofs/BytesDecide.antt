@@ -1,0 +1,110 @@
+-- What a copy gives is determined by its bytes.
+use Rattle.std.proofs.Common.{◌≡◌, ℕ, ◌*◌, ◌<◌, List, [], ◌∷◌, length, take, Option, Some, None, refl, sym, ap, ◌∙◌, subst, arith}
+use Rattle.std.specs.List.{AllByRecursion}
+use Rattle.jls_values.specs.OrderedSet as set
+use Rattle.jls_values.specs.Shape.{PictureShape}
+use Rattle.jls_partial.specs.Partial.{PartialPicture}
+use Rattle.jls_interval.specs.Reads.{Reads, IsLong}
+use Rattle.jls_interval.proofs.PiecesReadOnce.{reads_once, read_not_long}
+use Rattle.jls_marker.specs.Scan.{Scan, IsScan, row_count}
+use Rattle.jls_marker.specs.declared.fault.MarkerFault.{MarkerFault}
+use Rattle.jls_copy.specs.Numbers.{PieceNumber, Interval, BeyondLast}
+use Rattle.jls_copy.specs.Pieces.{FoundPiece, pieces, Outcome, Lines, Fault, IsOutcomeAt, AreOutcomes, readings, records}
+use Rattle.jls_copy.specs.Course.{Course}
+use Rattle.jls_copy.specs.ReadCopy.{ReadCopy}
+use Rattle.jls_copy.specs.CopyReads.{CopyReads, CopyGivesNone, no_picture}
+use Rattle.jls_copy.specs.CopyLaws.{BytesDecide}
+use Rattle.jls_copy.specs.declared.piece.PieceKind.TheVariants as kind
+use Rattle.jls_copy.specs.declared.reader.CopyFault.{CopyFault}
+use Rattle.jls_copy.specs.declared.reader.CopyFault.TheVariants.{NoPicture}
+use Rattle.jls_copy.proofs.OneCourse.{one_course}
+use Rattle.jls_copy.proofs.ScansOfCourse.{HasScan, course_has}
+
+-- One outcome --------------------------------------------------------------------------------
+
+module _ (s : Scan) (ok : IsScan s) (k : ℕ) (bytes : List ℕ) where
+  abbrev count : ℕ
+  count = row_count s k * length s.components
+
+  one_list : (a b : List (List ℕ)) → Reads s.params s.width (length s.components) count bytes a → Reads s.params s.width (length s.components) count bytes b → a ≡ b
+  one_list a b h r = reads_once s.params ok.params s.width (length s.components) count (let w = ok.width_at_least in omega arith) bytes a b h r
+
+  not_long : (a : List (List ℕ)) → Reads s.params s.width (length s.components) count bytes a → IsLong s.params s.width (length s.components) count bytes → ⊥
+  not_long a h l = read_not_long s.params ok.params s.width (length s.components) count (let w = ok.width_at_least in omega arith) bytes a h l
+
+  within : (o p : Outcome) → IsOutcomeAt s (Interval k) bytes o → IsOutcomeAt s (Interval k) bytes p → o ≡ p
+  within (Lines a) (Lines b) h r = ap Lines (one_list a b h r)
+  within (Lines a) (Fault kind.Long) h r = absurd (not_long a h r)
+  within (Lines a) (Fault kind.Broken) h r = absurd (r.not_read a h)
+  within (Lines a) (Fault kind.Beyond) h r = absurd r
+  within (Fault kind.Long) (Lines b) h r = absurd (not_long b r h)
+  within (Fault kind.Long) (Fault kind.Long) h r = refl
+  within (Fault kind.Long) (Fault kind.Broken) h r = absurd (r.not_long h)
+  within (Fault kind.Long) (Fault kind.Beyond) h r = absurd r
+  within (Fault kind.Broken) (Lines b) h r = absurd (h.not_read b r)
+  within (Fault kind.Broken) (Fault kind.Long) h r = absurd (h.not_long r)
+  within (Fault kind.Broken) (Fault kind.Broken) h r = refl
+  within (Fault kind.Broken) (Fault kind.Beyond) h r = absurd r
+  within (Fault kind.Beyond) p h r = absurd h
+
+  beyond : (o p : Outcome) → IsOutcomeAt s (BeyondLast k) bytes o → IsOutcomeAt s (BeyondLast k) bytes p → o ≡ p
+  beyond (Lines a) p h r = absurd h
+  beyond (Fault kind.Long) p h r = absurd h
+  beyond (Fault kind.Broken) p h r = absurd h
+  beyond (Fault kind.Beyond) (Lines b) h r = absurd r
+  beyond (Fault kind.Beyond) (Fault kind.Long) h r = absurd r
+  beyond (Fault kind.Beyond) (Fault kind.Broken) h r = absurd r
+  beyond (Fault kind.Beyond) (Fault kind.Beyond) h r = refl
+
+pub one_outcome : (s : Scan) (n : PieceNumber) (bytes : List ℕ) (o p : Outcome) → IsScan s → IsOutcomeAt s n bytes o → IsOutcomeAt s n bytes p → o ≡ p
+one_outcome s (Interval k) bytes o p ok h r = within s ok k bytes o p h r
+one_outcome s (BeyondLast k) bytes o p ok h r = beyond s ok k bytes o p h r
+
+pub one_outcomes : (ps : List FoundPiece) (os qs : List Outcome) → AllByRecursion HasScan ps → AreOutcomes ps os → AreOutcomes ps qs → os ≡ qs
+one_outcomes [] [] [] ok h r = refl
+one_outcomes [] [] (q ∷ qs) ok h r = absurd r
+one_outcomes [] (o ∷ os) qs ok h r = absurd h
+one_outcomes (p ∷ ps) [] qs ok h r = absurd h
+one_outcomes (p ∷ ps) (o ∷ os) [] ok h r = absurd r
+one_outcomes (p ∷ ps) (o ∷ os) (q ∷ qs) ok h r =
+    ap (λ x. x ∷ os) (one_outcome p.plan p.number p.bytes o q ok.0 h.0 r.0) ∙ ap (λ xs. q ∷ xs) (one_outcomes ps os qs ok.1 h.1 r.1)
+
+-- One reading --------------------------------------------------------------------------------
+
+read_eq : (r s : ReadCopy) → r.partial ≡ s.partial → r.pieces ≡ s.pieces → r.piece_count ≡ s.piece_count → r.ended ≡ s.ended → r ≡ s
+read_eq r s e f g h =
+    let x : r ≡ record { partial = s.partial; pieces = s.pieces; piece_count = s.piece_count; ended = s.ended } = rw (sym e, sym f, sym g, sym h) refl in x
+
+some_is : (a b : PictureShape) → Some a ≡ Some b → a ≡ b
+some_is a b e = cc
+
+abbrev given : Course → PictureShape → List Outcome → PartialPicture
+given c shape os = record { shape = shape; readings = set.insert_all set.empty (readings (pieces c) os) }
+
+one_reading : (bytes : List ℕ) → AllByRecursion (λ b. b < 256) bytes → (r s : ReadCopy) → CopyReads bytes r → CopyReads bytes s → r ≡ s
+one_reading bytes low r s k l =
+    let same = one_course bytes k.course l.course k.is_course l.is_course in
+    let shape = some_is k.shape l.shape (sym k.framed ∙ ap (λ (c : Course). c.headers.frame) same ∙ l.framed) in
+    let each = subst (λ c. AreOutcomes (pieces c) l.outcomes) (sym same) l.each in
+    let outcomes = one_outcomes (pieces k.course) k.outcomes l.outcomes (course_has bytes k.course low k.is_course) k.each each in
+    let told = ap (λ c. records (pieces c) k.outcomes) same ∙ ap (records (pieces l.course)) outcomes in
+    read_eq r s
+    (k.partial_is ∙ ap (λ c. given c k.shape k.outcomes) same ∙ ap (λ x. given l.course x k.outcomes) shape ∙ ap (given l.course l.shape) outcomes ∙ sym l.partial_is)
+    (k.pieces_are ∙ ap (take 4096) told ∙ sym l.pieces_are)
+    (k.count_is ∙ ap length told ∙ sym l.count_is)
+    (k.ended_is ∙ ap (λ (c : Course). c.end) same ∙ sym l.ended_is)
+
+fault_is : (f g : MarkerFault) (m n : ℕ) → NoPicture f m ≡ NoPicture g n → (f ≡ g) × (m ≡ n)
+fault_is f g m n e = (cc, cc)
+
+none_is_some : (o : Option PictureShape) (shape : PictureShape) → o ≡ None → o ≡ Some shape → ⊥
+none_is_some o shape e f = cc
+
+pub bytes_decide : BytesDecide
+bytes_decide bytes low = record {
+  one_reading = one_reading bytes low;
+  one_fault = λ f g m n h k.
+      fault_is f g m n (h.3 ∙ ap (λ (c : Course). no_picture c.end) (one_course bytes h.0 k.0 h.1 k.1) ∙ sym k.3);
+  not_both = λ r f n h k.
+      none_is_some k.0.headers.frame h.shape k.2 (ap (λ (c : Course). c.headers.frame) (one_course bytes k.0 h.course k.1 h.is_course) ∙ h.framed);
+}

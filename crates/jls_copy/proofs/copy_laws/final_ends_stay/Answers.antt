@@ -1,0 +1,5 @@
+use Rattle.jls_copy.proofs.FinalEnds.{final_ends_stay}
+use Rattle.jls_copy.proofs.copy_laws.final_ends_stay.Goals as goal
+
+pub returns : goal.returns
+returns c = final_ends_stay

@@ -1,0 +1,21 @@
+-- The laws of what a copy gives, of which each is the contract of a function with an empty body.
+use Rattle.std.specs.Prelude.{◌≡◌, ℕ, ◌<◌, true, List, ◌++◌}
+use Rattle.std.specs.List.{AllByRecursion}
+use Rattle.jls_copy.specs.Course.{Course, IsCourse}
+use Rattle.jls_copy.specs.ReadCopy.{ReadCopy}
+use Rattle.jls_copy.specs.CopyReads.{CopyReads, CopyGivesNone, is_final_end}
+use Rattle.jls_marker.specs.declared.fault.MarkerFault.{MarkerFault}
+use Rattle.jls_copy.specs.declared.reader.CopyFault.TheVariants.{NoPicture}
+
+-- of a list of bytes: what it gives as a whole copy, and whether it gives anything, is one thing
+pub record CopiesGiveOne (bytes : List ℕ) : Type 0 where
+  pub one_reading : (r s : ReadCopy) → CopyReads bytes r → CopyReads bytes s → r ≡ s
+  pub one_fault : (f g : MarkerFault) (m n : ℕ) → CopyGivesNone bytes (NoPicture f m) → CopyGivesNone bytes (NoPicture g n) → (f ≡ g) × (m ≡ n)
+  pub not_both : (r : ReadCopy) (f : MarkerFault) (n : ℕ) → CopyReads bytes r → CopyGivesNone bytes (NoPicture f n) → ⊥
+
+abbrev pub BytesDecide : Type 0
+BytesDecide = (bytes : List ℕ) → AllByRecursion (λ b. b < 256) bytes → CopiesGiveOne bytes
+
+-- a course whose end is final is that of every longer list of bytes too: the same units, headers and end
+abbrev pub FinalEndsStay : Type 0
+FinalEndsStay = (front more : List ℕ) (c : Course) → IsCourse front c → is_final_end c.end ≡ true → IsCourse (front ++ more) c

@@ -1,0 +1,6 @@
+mod Members
+mod Numbered
+mod Placed
+mod LostIntervals
+mod ScansInRange
+mod Trims
