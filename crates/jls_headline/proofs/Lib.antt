@@ -4,3 +4,9 @@ mod Placed
 mod LostIntervals
 mod ScansInRange
 mod Trims
+mod Held
+mod CopyGives
+mod SameCopies
+mod Stations
+mod Pictures
+mod StationPictures

@@ -1,14 +1,17 @@
--- A run that reads as `join` and ends with 0 or 1.
-use Rattle.std.proofs.Common.{◌≡◌, ◌≤◌, ℕ, Bool, true, false, inl, inr, List, [], ◌∷◌, ◌++◌, Some, None, sym, subst, ap, ◌∙◌, refl, arith}
-use Rattle.std.specs.Prelude.{◌↔◌, IsTrue, codes, option_map}
+-- Runs that end with 0 or 1, by what the words ask for.
+use Rattle.std.proofs.Common.{◌≡◌, ◌≤◌, ℕ, Bool, true, false, inl, inr, List, [], ◌∷◌, ◌++◌, Option, Some, None, sym, subst, ap, ◌∙◌, refl, arith}
+use Rattle.std.specs.Prelude.{◌↔◌, IsTrue}
 use Rattle.std.proofs.lemmas.List.{append-nil}
-use Rattle.clap.specs.Words.{Row, Text, all_of, first_of, subcommand_of}
+use Rattle.clap.specs.Words.{Text}
 use Rattle.jls_partial.specs.Partial.{PartialPicture}
 use Rattle.jls_partial.specs.Status.{IsSettled}
 use Rattle.jls_device.specs.Event.{Event, History, opened, not_opened, gave, read_failed, created, not_created, took, write_failed, bytes_taken}
 use Rattle.jls_device.specs.Writing.{Printed, AreWrites}
+use Rattle.jls_station.specs.Inputs.{Given, StopsAt, not_there, refused, other_shape, no_memory}
 use Rattle.jls_station.specs.Joining as joining
 use Rattle.jls_station.specs.Joining.{JoinIsDone, Joins}
+use Rattle.jls_station.specs.Outputs as outputs
+use Rattle.jls_station.specs.Outputs.{StopsAtOutput}
 use Rattle.jls_station.specs.Outcomes.{status_of, status_of_cause}
 use Rattle.jls_station.specs.declared.outcome.Cause.{Cause}
 use Rattle.jls_station.specs.declared.outcome.Cause.TheVariants as cause
@@ -16,25 +19,47 @@ use Rattle.jls_station.specs.declared.input.InputFault.{InputFault}
 use Rattle.jls_station.specs.declared.input.InputFault.TheVariants as fault
 use Rattle.jls_station.specs.declared.outcome.Outcome.{Outcome}
 use Rattle.jls_station.specs.declared.outcome.Outcome.TheVariants.{Done}
-use Rattle.jls_words.specs.Words.{ReadsAsJoin, salvage_app}
-use Rattle.jls_words.proofs.WordsRead.{same_rows as one_row}
+use Rattle.jls_commands.specs.Telling as telling
+use Rattle.jls_commands.specs.Telling.{Tells, report_lines}
+use Rattle.jls_commands.specs.WritingFiles as writing
+use Rattle.jls_commands.specs.WritingFiles.{WritesFile, unsettled_cause}
+use Rattle.jls_picture.specs.declared.picture.PictureFault.{PictureFault}
+use Rattle.jls_picture.specs.declared.picture.PictureFault.TheVariants.{Unsettled}
+use Rattle.jls_commands.specs.declared.writing.Format.TheVariants.{Pnm}
+use Rattle.jls_words.specs.Asking.{Asked, ReadsAs}
 use Rattle.jls_program.specs.FaultLines.{fault_line}
-use Rattle.jls_program.specs.Runs.{Run, joined, misused, helped, help_cut, nothing_begun, nothing_asked}
-use Rattle.jls_program.specs.Laws.{JoinRan, DoneJoinsRan}
+use Rattle.jls_program.specs.Runs.{CameOf, Run, came_of, misused, helped, help_cut, nothing_begun, nothing_asked}
+use Rattle.jls_program.specs.Laws.{JoinRan, DoneJoinsRan, ShowRan, DoneShowsRan, WriteRan, DoneWritesRan}
 
--- what stops a command has at least status 3
+-- ---- what stops a command
+
 status_of_input_fault : (f : InputFault) → 3 ≤ status_of_cause (cause.Input f)
 status_of_input_fault (fault.Text f) = omega arith
 status_of_input_fault (fault.Read stop offset) = omega arith
 status_of_input_fault fault.OutOfMemory = omega arith
 
-refusal_status : (c : Cause) → 3 ≤ status_of_cause c
-refusal_status cause.NotOpened = omega arith
-refusal_status (cause.Input f) = status_of_input_fault f
-refusal_status cause.ShapeDiffers = omega arith
-refusal_status cause.NotCreated = omega arith
-refusal_status (cause.NotWritten count) = omega arith
-refusal_status cause.OutOfMemory = omega arith
+-- an input has at least status 3
+status_at_input : (source : Option ℕ) (before : List Given) (name : List ℕ) (c : Cause) (events : List Event) → StopsAt source before name c events → 3 ≤ status_of_cause c
+status_at_input source before name _ _ (not_there _ _ _) = omega arith
+status_at_input source before name _ _ (refused _ _ _ f reads h) = status_of_input_fault f
+status_at_input source before name _ _ (other_shape _ _ _ g events h other) = omega arith
+status_at_input source before name _ _ (no_memory _ _ _ g events h other) = omega arith
+
+-- and so has an output
+status_at_output : (name bytes : List ℕ) (c : Cause) (events : List Event) → StopsAtOutput name bytes c events → 3 ≤ status_of_cause c
+status_at_output name bytes _ _ (outputs.not_there _ _) = omega arith
+status_at_output name bytes _ _ (outputs.cut _ _ count writes h) = omega arith
+
+status_of_memory : (c : Cause) → c ≡ cause.OutOfMemory → 3 ≤ status_of_cause c
+status_of_memory c is = let e : status_of_cause c ≡ 5 = ap status_of_cause is in omega (arith, e)
+
+status_of_cut : (c : Cause) (count : ℕ) → c ≡ cause.NotWritten count → 3 ≤ status_of_cause c
+status_of_cut c count is = let e : status_of_cause c ≡ 4 = ap status_of_cause is in omega (arith, e)
+
+status_of_unsettled : (p : PartialPicture) (f : PictureFault) (c : Cause) → c ≡ unsettled_cause p f → status_of_cause c ≡ 1
+status_of_unsettled p (Unsettled component line) c is = ap status_of_cause is
+
+-- ---- no fault line
 
 -- nothing is written where there are no bytes
 none_written : (writes : List Event) → AreWrites writes → bytes_taken writes ≡ [] → writes ≡ []
@@ -56,16 +81,26 @@ none_printed events (inr (count, h)) = let lt = h.not_all in absurd (omega (arit
 unchanged : (old new : History) (events : List Event) → new ≡ old ++ events → events ≡ [] → new ≡ old
 unchanged old new events e is = e ∙ (ap (λ (es : List Event). old ++ es) is ∙ append-nil old)
 
--- words read as `join` with one output and one list of inputs
-module _ (words : List Text) (out first out' first' : Text) (others others' : List Text) (h : ReadsAsJoin words out first others) (k : ReadsAsJoin words out' first' others') where
-  same_rows : h.rows ≡ k.rows
-  same_rows = one_row (subcommand_of salvage_app words) (codes "join") k.rows h.rows (ap (option_map (λ (p : Text × List Row). p.1)) h.join) k.join
+-- ---- what came of the words
 
-  same_out : out ≡ out'
-  same_out = let e : Some out ≡ Some out' = sym h.out_is ∙ (ap (first_of (codes "OUT")) same_rows ∙ k.out_is) in cc
+one_asked : (words : List Text) (a b : Asked) → ReadsAs words a → ReadsAs words b → a ≡ b
+one_asked words a b h k = let e : Some a ≡ Some b = sym h.asks ∙ k.asks in cc
 
-  same_files : first ∷ others ≡ first' ∷ others'
-  same_files = let e : Some (first ∷ others) ≡ Some (first' ∷ others') = sym h.files_are ∙ (ap (all_of (codes "FILE")) same_rows ∙ k.files_are) in cc
+record Came (asked : Asked) (status : ℕ) (desk report faults : List Event) : Type 0 where
+  outcome : Outcome
+  came : CameOf asked outcome desk report
+  status_is : status ≡ status_of outcome
+  printed : Printed (fault_line outcome) faults
+
+came_of_run : (words : List Text) (status : ℕ) (desk report faults : List Event) → Run words status desk report faults → (asked : Asked) → ReadsAs words asked → status ≤ 1
+    → Came asked status desk report faults
+came_of_run words _ desk report faults (came_of _ a outcome _ _ _ reads came line) asked k le =
+    record { outcome = outcome; came = subst (λ (x : Asked). CameOf x outcome desk report) (one_asked words a asked reads k) came; status_is = refl; printed = line }
+came_of_run words _ _ _ faults (misused _ kind usage _ r n line) asked k le = absurd (r.not_taken k.taken)
+came_of_run words _ _ report _ (helped _ kind help _ r n wrote) asked k le = absurd (r.not_taken k.taken)
+came_of_run words _ _ report faults (help_cut _ kind help count _ _ r n wrote line) asked k le = absurd (r.not_taken k.taken)
+came_of_run words _ _ _ faults (nothing_begun _ _ line) asked k le = absurd (omega (arith, le))
+came_of_run words _ _ _ faults (nothing_asked _ _ asks line) asked k le = let e : None ≡ Some asked = sym asks.asks ∙ k.asks in absurd cc
 
 done_status : (settled whole : Bool) (p : PartialPicture) → (IsTrue settled ↔ IsSettled p) → status_of (Done settled whole) ≤ 1
     → ((status_of (Done settled whole) ≡ 0) ↔ IsSettled p) × (whole ≡ true)
@@ -90,28 +125,69 @@ join_finished out names _ events desk desk' (joining.done _ _ _ p settled whole 
       },
       refl,
     )
-join_finished out names _ events desk desk' (joining.at_input _ _ _ r _ h) e le = let k = refusal_status r.cause in absurd (omega (arith, k, le))
-join_finished out names _ events desk desk' (joining.no_memory _ _ _ r p whole _ named is h) e le = let k = refusal_status r.cause in absurd (omega (arith, k, le))
-join_finished out names _ _ desk desk' (joining.at_output _ _ _ r p whole reading writing named h stops) e le = let k = refusal_status r.cause in absurd (omega (arith, k, le))
+join_finished out names _ events desk desk' (joining.at_input _ _ _ r _ h) e le = let k = status_at_input None h.givens r.name.now r.cause h.last h.stops in absurd (omega (arith, k, le))
+join_finished out names _ events desk desk' (joining.no_memory _ _ _ r p whole _ named is h) e le = let k = status_of_memory r.cause is in absurd (omega (arith, k, le))
+join_finished out names _ _ desk desk' (joining.at_output _ _ _ r p whole reading writing named h stops) e le = let k = status_at_output out _ r.cause writing stops in absurd (omega (arith, k, le))
 
-run_finished : (words : List Text) (status : ℕ) (events reported printed : List Event) → Run words status events reported printed
-    → (out first : Text) (others : List Text) → ReadsAsJoin words out first others → status ≤ 1 → (desk desk' : History) → desk' ≡ desk ++ events
-    → (joined : PartialPicture) × JoinRan out (first ∷ others) joined status desk desk' × (reported ≡ []) × (printed ≡ [])
-run_finished words _ events _ printed (joined _ o f os outcome _ _ reads h line) out first others k le desk desk' e =
-    let r = join_finished o (f ∷ os) outcome events desk desk' h e le in
-    let named = subst (λ (x : Text). JoinRan x (f ∷ os) r.0 (status_of outcome) desk desk') (same_out words o f out first os others reads k) r.1 in (
-      r.0,
-      subst (λ (xs : List Text). JoinRan out xs r.0 (status_of outcome) desk desk') (same_files words o f out first os others reads k) named,
+show_finished : (name : Text) (outcome : Outcome) (events reported : List Event) (desk desk' report report' : History) → Tells (λ g. report_lines g.partial) name outcome events reported
+    → desk' ≡ desk ++ events → report' ≡ report ++ reported → status_of outcome ≤ 1
+    → (g : Given) × ShowRan name g (status_of outcome) desk desk' report report' × (fault_line outcome ≡ [])
+show_finished name _ events reported desk desk' report report' (telling.done _ g settled whole _ _ taken says wrote) e d le =
+    let s = done_status settled whole g.partial says.settled_is le in (
+      g,
+      record {
+        taken = record { events = events; grew = e; they_are = taken };
+        whole = says.whole_is.0 s.1;
+        printed = record { events = reported; grew = d; they_are = wrote };
+        status_is = s.0;
+      },
       refl,
-      none_printed printed (subst (λ (bytes : List ℕ). Printed bytes printed) r.2 line),
     )
-run_finished words _ _ _ printed (misused _ kind usage _ r n line) out first others k le desk desk' e = absurd (r.not_taken k.taken)
-run_finished words _ _ reported _ (helped _ kind help _ r n wrote) out first others k le desk desk' e = absurd (r.not_taken k.taken)
-run_finished words _ _ reported printed (help_cut _ kind help count _ _ r n wrote line) out first others k le desk desk' e = absurd (r.not_taken k.taken)
-run_finished words _ _ _ printed (nothing_begun _ _ line) out first others k le desk desk' e = absurd (omega (arith, le))
-run_finished words _ _ _ _ (nothing_asked _ taken none) out first others k le desk desk' e = absurd (none out first others k)
+show_finished name _ events _ desk desk' report report' (telling.at_input _ r _ named h) e d le =
+    let k = status_at_input None [] name r.cause events h in absurd (omega (arith, k, le))
+show_finished name _ events _ desk desk' report report' (telling.no_memory _ r g _ is taken) e d le = let k = status_of_memory r.cause is in absurd (omega (arith, k, le))
+show_finished name _ events reported desk desk' report report' (telling.not_printed _ r g count _ _ named is taken wrote) e d le =
+    let k = status_of_cut r.cause count is in absurd (omega (arith, k, le))
 
-pub finished : DoneJoinsRan
-finished words status desk desk' report report' faults faults' ran out first others k le =
-    let f = run_finished words status ran.desk_events ran.report_events ran.fault_events ran.run out first others k le desk desk' ran.desk_is in
-    (f.0, f.1, unchanged report report' ran.report_events ran.report_is f.2, unchanged faults faults' ran.fault_events ran.faults_are f.3)
+write_finished : (out name : Text) (outcome : Outcome) (events : List Event) (desk desk' : History) → WritesFile Pnm out name outcome events → desk' ≡ desk ++ events → status_of outcome ≡ 0
+    → (g : Given) × WriteRan out name g desk desk' × (fault_line outcome ≡ [])
+write_finished out name _ _ desk desk' (writing.done _ _ _ g whole reading written taken settled says handed) e is =
+    let s = done_status true whole g.partial says.settled_is (omega (arith, is)) in
+    (g, record { reading = reading; writing = written; grew = e; taken = taken; whole = says.whole_is.0 s.1; settled = settled; handed = handed }, refl)
+write_finished out name _ events desk desk' (writing.at_input _ _ _ r _ named h) e is =
+    let k = status_at_input None [] name r.cause events h in absurd (omega (arith, k, is))
+write_finished out name _ events desk desk' (writing.unsettled _ _ _ r g f _ taken first because) e is =
+    let k = status_of_unsettled g.partial f r.cause because in absurd (omega (arith, k, is))
+write_finished out name _ _ desk desk' (writing.at_output _ _ _ r g reading written named taken settled stops) e is =
+    let k = status_at_output out _ r.cause written stops in absurd (omega (arith, k, is))
+
+-- ---- the laws
+
+pub joins_finished : DoneJoinsRan
+joins_finished words status desk desk' report report' faults faults' ran out names k le =
+    let c = came_of_run words status ran.desk_events ran.report_events ran.fault_events ran.run _ k le in
+    let f = join_finished out names c.outcome ran.desk_events desk desk' c.came.0 ran.desk_is (omega (arith, le, c.status_is)) in (
+      f.0,
+      subst (λ (s : ℕ). JoinRan out names f.0 s desk desk') (sym c.status_is) f.1,
+      unchanged report report' ran.report_events ran.report_is c.came.1,
+      unchanged faults faults' ran.fault_events ran.faults_are (none_printed ran.fault_events (subst (λ (line : List ℕ). Printed line ran.fault_events) f.2 c.printed)),
+    )
+
+pub shows_finished : DoneShowsRan
+shows_finished words status desk desk' report report' faults faults' ran name k le =
+    let c = came_of_run words status ran.desk_events ran.report_events ran.fault_events ran.run _ k le in
+    let f = show_finished name c.outcome ran.desk_events ran.report_events desk desk' report report' c.came ran.desk_is ran.report_is (omega (arith, le, c.status_is)) in (
+      f.0,
+      subst (λ (s : ℕ). ShowRan name f.0 s desk desk' report report') (sym c.status_is) f.1,
+      unchanged faults faults' ran.fault_events ran.faults_are (none_printed ran.fault_events (subst (λ (line : List ℕ). Printed line ran.fault_events) f.2 c.printed)),
+    )
+
+pub writes_finished : DoneWritesRan
+writes_finished words status desk desk' report report' faults faults' ran out name k is =
+    let c = came_of_run words status ran.desk_events ran.report_events ran.fault_events ran.run _ k (omega (arith, is)) in
+    let f = write_finished out name c.outcome ran.desk_events desk desk' c.came.0 ran.desk_is (omega (arith, is, c.status_is)) in (
+      f.0,
+      f.1,
+      unchanged report report' ran.report_events ran.report_is c.came.1,
+      unchanged faults faults' ran.fault_events ran.faults_are (none_printed ran.fault_events (subst (λ (line : List ℕ). Printed line ran.fault_events) f.2 c.printed)),
+    )

@@ -1,5 +1,5 @@
 -- The line on the fault output.
-use Rattle.std.specs.Prelude.{ℕ, List, [], ◌++◌, codes, decimal}
+use Rattle.std.specs.Prelude.{ℕ, Bool, List, [], ◌++◌, codes, decimal, if◌then◌else◌}
 use Rattle.jls_partial.specs.declared.text_fault.TextFault.{TextFault}
 use Rattle.jls_partial.specs.declared.text_fault.TextFault.TheVariants as text_fault
 use Rattle.jls_station.specs.declared.input.InputFault.TheVariants as fault
@@ -10,6 +10,10 @@ use Rattle.jls_station.specs.declared.outcome.Outcome.TheVariants.{Done, Refused
 
 abbrev pub out_of_memory_line : List ℕ
 out_of_memory_line = codes "jls-salvage: out of memory\n"
+
+-- an option has a value which it doesn't take
+abbrev pub unknown_value_line : List ℕ
+unknown_value_line = codes "jls-salvage: unknown value, see jls-salvage write --help\n"
 
 -- the line of a bad text of this name: the kind of its fault, and the offset
 abbrev pub bad_text_line : List ℕ → List ℕ → ℕ → List ℕ
@@ -26,6 +30,12 @@ text_fault_line name (text_fault.Sample offset) = bad_text_line name (codes ": b
 text_fault_line name (text_fault.Trailing offset) = bad_text_line name (codes ": bad text, trailing at ") offset
 text_fault_line name text_fault.OutOfMemory = out_of_memory_line
 
+-- the line of a picture's line that is disputed, or missing
+abbrev pub unsettled_line : ℕ → ℕ → Bool → List ℕ
+unsettled_line id line disputed =
+    codes "jls-salvage: line " ++ (decimal line ++ (codes " of component "
+    ++ (decimal id ++ (if disputed then codes " is disputed\n" else codes " is missing\n"))))
+
 -- the line of a cause at an input or output of this name
 abbrev pub cause_line : List ℕ → Cause → List ℕ
 cause_line name cause.NotOpened = codes "jls-salvage: " ++ (name ++ codes ": cannot be opened\n")
@@ -33,6 +43,8 @@ cause_line name (cause.Input (fault.Text f)) = text_fault_line name f
 cause_line name (cause.Input (fault.Read stop offset)) = codes "jls-salvage: " ++ (name ++ codes ": read failed\n")
 cause_line name (cause.Input fault.OutOfMemory) = out_of_memory_line
 cause_line name cause.ShapeDiffers = codes "jls-salvage: " ++ (name ++ codes ": shape differs\n")
+cause_line name (cause.Unsettled id line disputed) = unsettled_line id line disputed
+cause_line name cause.TooLarge = codes "jls-salvage: interval too large, give --ri\n"
 cause_line name cause.NotCreated = codes "jls-salvage: " ++ (name ++ codes ": cannot be created\n")
 cause_line name (cause.NotWritten count) =
     codes "jls-salvage: " ++ (name ++ (codes ": write failed after " ++ (decimal count ++ codes " bytes\n")))

@@ -1,11 +1,18 @@
 -- The laws of whole runs.
-use Rattle.std.specs.Prelude.{◌≡◌, ◌≤◌, ◌↔◌, ℕ, Bool, true, List, ◌∷◌, ◌++◌, None}
+use Rattle.std.specs.Prelude.{◌≡◌, ◌≤◌, ◌↔◌, ℕ, Bool, true, List, ◌++◌, None}
 use Rattle.clap.specs.Words.{Text}
 use Rattle.jls_partial.specs.Partial.{PartialPicture}
 use Rattle.jls_partial.specs.Status.{IsSettled}
-use Rattle.jls_device.specs.Event.{Event, History}
+use Rattle.jls_picture.specs.Picture.{picture_of}
+use Rattle.jls_picture.specs.Pnm.{pnm}
+use Rattle.jls_device.specs.Event.{Event, History, GrewBy}
+use Rattle.jls_device.specs.Writing.{Wrote}
+use Rattle.jls_station.specs.Inputs.{Given, IsTaken}
 use Rattle.jls_station.specs.Joining.{JoinIsDone}
-use Rattle.jls_words.specs.Words.{ReadsAsJoin}
+use Rattle.jls_station.specs.Outputs.{HandsOut}
+use Rattle.jls_station.specs.declared.input.ReadStop.TheVariants.{Whole}
+use Rattle.jls_commands.specs.Telling.{report_lines}
+use Rattle.jls_words.specs.Asking.{ReadsAs, join, show, write_pnm}
 use Rattle.jls_program.specs.Runs.{Ran}
 
 -- a run of `join` that is done, as the history of the desk has it
@@ -16,11 +23,47 @@ pub record JoinRan (out : Text) (names : List Text) (joined : PartialPicture) (s
   pub is_done : JoinIsDone None out names joined settled true events
   pub status_is : (status ≡ 0) ↔ IsSettled joined
 
--- Where clap reads the words as `join` and the status is 0 or 1, the join is done, with status 0 exactly where each line is
+-- Where the words ask for a join and the status is 0 or 1, the join is done, with status 0 exactly where each line is
 -- settled; and nothing is reported or printed
 abbrev pub DoneJoinsRan : Type 0
 DoneJoinsRan =
     (words : List Text) (status : ℕ) (desk desk' report report' faults faults' : History)
     → Ran words status desk desk' report report' faults faults'
-    → (out first : Text) (others : List Text) → ReadsAsJoin words out first others → status ≤ 1
-    → (joined : PartialPicture) × JoinRan out (first ∷ others) joined status desk desk' × (report' ≡ report) × (faults' ≡ faults)
+    → (out : Text) (names : List Text) → ReadsAs words (join out names) → status ≤ 1
+    → (joined : PartialPicture) × JoinRan out names joined status desk desk' × (report' ≡ report) × (faults' ≡ faults)
+
+-- a run of `show` that is done: the input was read whole, and nothing else was done with the desk; the report output was handed
+-- exactly the report of what the input gave
+pub record ShowRan (name : Text) (g : Given) (status : ℕ) (desk desk' report report' : History) : Type 0 where
+  pub taken : GrewBy (IsTaken None name g) desk desk'
+  pub whole : g.stop ≡ Whole
+  pub printed : GrewBy (Wrote (report_lines g.partial)) report report'
+  pub status_is : (status ≡ 0) ↔ IsSettled g.partial
+
+-- Where the words ask for a report and the status is 0 or 1, it is printed, with status 0 exactly where each line is settled;
+-- and no fault is printed
+abbrev pub DoneShowsRan : Type 0
+DoneShowsRan =
+    (words : List Text) (status : ℕ) (desk desk' report report' faults faults' : History)
+    → Ran words status desk desk' report report' faults faults'
+    → (name : Text) → ReadsAs words (show name) → status ≤ 1
+    → (g : Given) × ShowRan name g status desk desk' report report' × (faults' ≡ faults)
+
+-- a run of `write` that is done: the input was read whole, and each of its lines is settled; then the output was created, and
+-- handed exactly the file of the picture
+pub record WriteRan (out name : Text) (g : Given) (desk desk' : History) : Type 0 where
+  pub reading : List Event
+  pub writing : List Event
+  pub grew : desk' ≡ desk ++ (reading ++ writing)
+  pub taken : IsTaken None name g reading
+  pub whole : g.stop ≡ Whole
+  pub settled : IsSettled g.partial
+  pub handed : HandsOut out (pnm (picture_of g.partial)) writing
+
+-- Where the words ask for a PNM file and the status is 0, it is written; and nothing is reported or printed
+abbrev pub DoneWritesRan : Type 0
+DoneWritesRan =
+    (words : List Text) (status : ℕ) (desk desk' report report' faults faults' : History)
+    → Ran words status desk desk' report report' faults faults'
+    → (out name : Text) → ReadsAs words (write_pnm out name) → status ≡ 0
+    → (g : Given) × WriteRan out name g desk desk' × (report' ≡ report) × (faults' ≡ faults)

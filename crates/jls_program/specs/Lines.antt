@@ -9,7 +9,9 @@ digits_of None = []
 digits_of (Some n) = decimal n
 
 abbrev pub bytes_of : Line → List ℕ
-bytes_of line = codes "jls-salvage: " ++ (line.name.now ++ (line.text.now ++ (digits_of line.number ++ line.end.now)))
+bytes_of line =
+    codes "jls-salvage: "
+    ++ (line.name.now ++ (line.text.now ++ (digits_of line.number ++ (line.between.now ++ (digits_of line.second ++ line.end.now)))))
 
 -- the bytes were printed, all or up to a write that failed; or a write had failed before, and nothing is printed any more
 abbrev pub PrintsOn : Bool → List ℕ → Bool → History → History → Type 0

@@ -1,5 +1,5 @@
 -- What a run of the program is.
-use Rattle.std.specs.Prelude.{◌≡◌, ℕ, true, false, List, [], ◌∷◌, ◌++◌, None, codes}
+use Rattle.std.specs.Prelude.{◌≡◌, ℕ, true, false, List, [], ◌++◌, None, codes}
 use Rattle.clap.specs.Words.{Text}
 use Rattle.clap.specs.declared.error.kind.ErrorKind.{ErrorKind}
 use Rattle.jls_device.specs.Event.{Event, History}
@@ -8,19 +8,29 @@ use Rattle.jls_station.specs.Joining.{Joins}
 use Rattle.jls_station.specs.Outcomes.{status_of}
 use Rattle.jls_station.specs.declared.outcome.Cause.TheVariants as cause
 use Rattle.jls_station.specs.declared.outcome.Outcome.{Outcome}
-use Rattle.jls_words.specs.Words.{AreTaken, AreRefused, ReadsAsJoin, is_help}
-use Rattle.jls_program.specs.FaultLines.{cause_line, fault_line, out_of_memory_line}
+use Rattle.jls_commands.specs.Telling.{Tells, report_lines}
+use Rattle.jls_commands.specs.WritingFiles.{WritesFile}
+use Rattle.jls_commands.specs.declared.writing.Format.TheVariants.{Pnm}
+use Rattle.jls_words.specs.Words.{AreRefused, is_help}
+use Rattle.jls_words.specs.Asking.{Asked, join, show, write_pnm, ReadsAs, AskForNothing}
+use Rattle.jls_program.specs.FaultLines.{cause_line, fault_line, out_of_memory_line, unknown_value_line}
+
+-- what came of what was asked, by the events of the desk and of the report output
+abbrev pub CameOf : Asked → Outcome → List Event → List Event → Type 0
+CameOf (join out names) outcome desk report = Joins None out names outcome desk × (report ≡ [])
+CameOf (show name) outcome desk report = Tells (λ g. report_lines g.partial) name outcome desk report
+CameOf (write_pnm out name) outcome desk report = WritesFile Pnm out name outcome desk × (report ≡ [])
 
 -- a run over these words ends with this status; the events are those of the desk, of the report output and of the fault output
 pub data Run : List Text → ℕ → List Event → List Event → List Event → Type 0 where
-  -- clap reads the words as `join`: what comes of it has the status and the fault line, and nothing is reported
-  joined : (words : List Text) (out first : Text) (others : List Text) (outcome : Outcome) (desk faults : List Event)
-      → ReadsAsJoin words out first others → Joins None out (first ∷ others) outcome desk → Printed (fault_line outcome) faults
-      → Run words (status_of outcome) desk [] faults
+  -- the words ask for something: what came of it has the status and the fault line
+  came_of : (words : List Text) (asked : Asked) (outcome : Outcome) (desk report faults : List Event)
+      → ReadsAs words asked → CameOf asked outcome desk report → Printed (fault_line outcome) faults
+      → Run words (status_of outcome) desk report faults
   -- clap refuses the words, and not to show help: some text, which may be any, goes to the fault output
   misused : (words : List Text) (k : ErrorKind) (usage : List ℕ) (faults : List Event)
       → AreRefused words k → is_help k ≡ false → Printed usage faults → Run words 2 [] [] faults
-  -- help was asked for: some text, which may be any, goes to the report output
+  -- help or the version was asked for: some text, which may be any, goes to the report output
   helped : (words : List Text) (k : ErrorKind) (help : List ℕ) (report : List Event)
       → AreRefused words k → is_help k ≡ true → Wrote help report → Run words 0 [] report []
   -- and a write failed there
@@ -31,8 +41,8 @@ pub data Run : List Text → ℕ → List Event → List Event → List Event �
   -- memory ran out before a command began
   nothing_begun : (words : List Text) (faults : List Event) → Printed out_of_memory_line faults → Run words 5 [] [] faults
   -- clap takes the words, and they ask for nothing that there is
-  nothing_asked : (words : List Text)
-      → AreTaken words → ((out first : Text) (others : List Text) → ReadsAsJoin words out first others → ⊥) → Run words 2 [] [] []
+  nothing_asked : (words : List Text) (faults : List Event)
+      → AskForNothing words → Printed unknown_value_line faults → Run words 2 [] [] faults
 
 -- the histories of the three devices grew by the events of such a run
 pub record Ran (words : List Text) (status : ℕ) (desk desk' report report' faults faults' : History) : Type 0 where

@@ -1,9 +1,22 @@
 //! The laws of whole runs. Each is a function that does nothing and whose contract is the law.
 
-ghost use Rattle.jls_program.specs.Laws.{DoneJoinsRan};
+ghost use Rattle.jls_program.specs.Laws.{DoneJoinsRan, DoneShowsRan, DoneWritesRan};
 
-/// If clap reads the words of a run as `join` and the run ends with status 0 or 1, the join is done, the status is 0 if and
-/// only if each line of the union is settled, and nothing was reported or printed as a fault.
+/// If the words of a run ask for a join and the run ends with status 0 or 1, the join is done, the status is 0 if and only
+/// if each line of the union is settled, and nothing was reported or printed as a fault.
 pub fn done_joins_ran()
     ensures { DoneJoinsRan }
+{}
+
+/// If the words of a run ask for a report and the run ends with status 0 or 1, the input was read whole and nothing else was
+/// opened or created; the report output was handed exactly the report of what it gave; the status is 0 if and only if each
+/// line of it is settled; and nothing was printed as a fault.
+pub fn done_shows_ran()
+    ensures { DoneShowsRan }
+{}
+
+/// If the words of a run ask for a PNM file and the run ends with status 0, the input was read whole, each of its lines is
+/// settled, the output was created after that and handed exactly the file, and nothing was reported or printed as a fault.
+pub fn done_writes_ran()
+    ensures { DoneWritesRan }
 {}

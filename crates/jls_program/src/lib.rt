@@ -3,10 +3,11 @@
 
 mod answering;
 mod laws;
+mod performing;
 mod printing;
 mod program;
 #[cfg(test)]
 mod tests;
 
-pub use laws::done_joins_ran;
+pub use laws::{done_joins_ran, done_shows_ran, done_writes_ran};
 pub use program::run;

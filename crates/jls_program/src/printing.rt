@@ -4,7 +4,7 @@ ghost use Rattle.std.specs.Prelude.{◌≡◌, ◌++◌, codes, decimal};
 ghost use Rattle.jls_device.specs.Event.{GrewBy};
 ghost use Rattle.jls_device.specs.Writing.{Printed};
 ghost use Rattle.jls_station.specs.declared.outcome.Outcome.TheVariants.{Refused};
-ghost use Rattle.jls_program.specs.FaultLines.{cause_line, text_fault_line, fault_line, out_of_memory_line};
+ghost use Rattle.jls_program.specs.FaultLines.{cause_line, text_fault_line, fault_line, out_of_memory_line, unknown_value_line, unsettled_line};
 ghost use Rattle.jls_program.specs.Lines.{bytes_of, digits_of, PrintsOn};
 
 use itoa::Buffer;
@@ -12,13 +12,15 @@ use jls_device::{Sink, write_all};
 use jls_partial::TextFault;
 use jls_station::{Cause, InputFault, Outcome, Refusal};
 
-/// A line by its parts: the name of an input or output, a text, a number, and the end. The program's name stands before
-/// them.
+/// A line by its parts: the name of an input or output, a text, a number, more text, a second number, and the end. The
+/// program's name stands before them.
 #[derive(Clone, Copy)]
 struct Line<'a> {
     name: &'a str,
     text: &'static str,
     number: Option<u64>,
+    between: &'static str,
+    second: Option<u64>,
     end: &'static str,
 }
 
@@ -30,6 +32,8 @@ fn plain<'a>(name: &'a str, text: &'static str) -> Line<'a>
         name,
         text,
         number: None,
+        between: "",
+        second: None,
         end: "\n",
     }
 }
@@ -42,7 +46,27 @@ fn numbered<'a>(name: &'a str, text: &'static str, number: u64) -> Line<'a>
         name,
         text,
         number: Some(number),
+        between: "",
+        second: None,
         end: "\n",
+    }
+}
+
+/// The line of a picture's line that is disputed, or missing.
+fn unsettled<'a>(id: u8, line: u16, disputed: bool) -> Line<'a>
+    ensures { bytes_of result ≡ unsettled_line id line disputed }
+{
+    Line {
+        name: "",
+        text: "line ",
+        number: Some(u64::from(line)),
+        between: " of component ",
+        second: Some(u64::from(id)),
+        end: if disputed {
+            " is disputed\n"
+        } else {
+            " is missing\n"
+        },
     }
 }
 
@@ -76,11 +100,15 @@ fn line_of_cause<'a>(name: &'a str, cause: Cause) -> Line<'a>
         Cause::Input(InputFault::Text(fault)) => line_of_text_fault(name, fault),
         Cause::Input(InputFault::Read(_, _)) => plain(name, ": read failed"),
         Cause::ShapeDiffers => plain(name, ": shape differs"),
+        Cause::Unsettled { id, line, disputed } => unsettled(id, line, disputed),
+        Cause::TooLarge => plain("", "interval too large, give --ri"),
         Cause::NotCreated => plain(name, ": cannot be created"),
         Cause::NotWritten(count) => Line {
             name,
             text: ": write failed after ",
             number: Some(count),
+            between: "",
+            second: None,
             end: " bytes\n",
         },
         Cause::Input(InputFault::OutOfMemory) | Cause::OutOfMemory => out_of_memory(),
@@ -119,12 +147,15 @@ fn print_line<E: Sink>(faults: &mut E, line: &Line<'_>)
 {
     let name = line.name.as_bytes();
     let text = line.text.as_bytes();
+    let between = line.between.as_bytes();
     let end = line.end.as_bytes();
     let program_went = print_more(faults, true, b"jls-salvage: ");
     let name_went = print_more(faults, program_went, name);
     let text_went = print_more(faults, name_went, text);
     let number_went = print_number(faults, text_went, line.number);
-    let _end_went = print_more(faults, number_went, end);
+    let between_went = print_more(faults, number_went, between);
+    let second_went = print_number(faults, between_went, line.second);
+    let _end_went = print_more(faults, second_went, end);
 }
 
 /// Prints a text to the fault output.
@@ -133,6 +164,16 @@ pub(crate) fn print_text<E: Sink>(faults: &mut E, text: &str)
 {
     let bytes = text.as_bytes();
     let _went = print_more(faults, true, bytes);
+}
+
+/// Prints that an option has a value which it doesn't take.
+pub(crate) fn print_unknown_value<E: Sink>(faults: &mut E)
+    ensures { GrewBy (Printed unknown_value_line) (E.history faults.old) (E.history faults.new) }
+{
+    print_line(
+        faults,
+        &plain("", "unknown value, see jls-salvage write --help"),
+    )
 }
 
 /// Prints that memory ran out.

@@ -5,22 +5,23 @@ ghost use Rattle.std.specs.String.{string_bytes};
 ghost use Rattle.jls_program.specs.Runs.{Ran};
 
 use crate::answering::answer;
-use crate::printing::print_outcome;
+use crate::performing::perform;
+use crate::printing::{print_outcome, print_unknown_value};
 use jls_device::{Desk, Sink};
-use jls_station::join;
-use jls_words::{join_words, matches};
+use jls_words::{asked_command, matches};
 use std::alloc::Global;
 
 /// The program `jls-salvage`. The words begin with the program's own name, and the answer is the exit status:
 ///
-/// - 0: done, and each line of what was written is settled, or help was asked for;
-/// - 1: done, with lines that are missing or disputed;
+/// - 0: done, and each line of what was read is settled; or help or the version was asked for;
+/// - 1: `join` and `show` are done, with lines that are missing or disputed; `write` is refused for such a line, and its
+///   output is not created;
 /// - 2: the words were not understood;
 /// - 3: an input is not the text of a partial picture, or shapes differ;
 /// - 4: an input can't be opened or read, the output can't be created, or a write failed;
 /// - 5: out of memory.
 ///
-/// The help and usage texts are clap's. That there is one, and what it says, is tested and not proved.
+/// The texts of help, usage and version are clap's. That there is one, and what it says, is tested and not proved.
 pub fn run<D: Desk, W: Sink, E: Sink>(
     alloc: Global,
     words: &[String],
@@ -35,13 +36,14 @@ pub fn run<D: Desk, W: Sink, E: Sink>(
         Ok(matches) => matches,
         Err(error) => return answer(alloc, &error, report, faults),
     };
-    match join_words(&matches) {
-        Some((out, first, others)) => {
-            let outcome = join(alloc, desk, out, first, others);
-            print_outcome(faults, &outcome);
-            outcome.status()
+    let asked = match asked_command(&matches) {
+        Some(asked) => asked,
+        None => {
+            print_unknown_value(faults);
+            return 2;
         }
-        // Not reached: clap asks for a command, and there is no other.
-        None => 2,
-    }
+    };
+    let outcome = perform(alloc, desk, report, asked);
+    print_outcome(faults, &outcome);
+    outcome.status()
 }

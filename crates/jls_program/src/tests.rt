@@ -4,6 +4,7 @@ mod failing;
 mod joining;
 mod memory;
 mod pictures;
+mod telling;
 mod words;
 
 use crate::program::run;

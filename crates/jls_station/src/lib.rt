@@ -14,6 +14,7 @@ pub use joining::join;
 pub use laws::{same_inputs_same_output, surviving_lines_give_the_picture};
 pub use outcome::{Cause, Outcome, Refusal};
 pub use station::Station;
+pub use taking::open_and_read;
 
 #[cfg(test)]
 mod tests;

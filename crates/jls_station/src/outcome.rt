@@ -13,6 +13,11 @@ pub enum Cause {
     Input(InputFault),
     /// An input has another shape than the first.
     ShapeDiffers,
+    /// This line of the component with this identifier is the first of a picture that isn't settled: it is disputed, or
+    /// missing.
+    Unsettled { id: u8, line: u16, disputed: bool },
+    /// The options of a written file don't fit its picture: an interval would have more than 2^28 samples.
+    TooLarge,
     /// The output can't be created.
     NotCreated,
     /// A write failed when so many bytes had gone out.
@@ -41,12 +46,14 @@ pub enum Outcome<'a> {
 impl Cause {
     ghost use Rattle.jls_station.specs.Outcomes.{status_of_cause};
 
-    /// The exit status: 3 if an input is no text or shapes differ, 4 if a device failed or the reads of an input were used
-    /// up, 5 if memory ran out.
+    /// The exit status: 1 if a line isn't settled, 2 if an interval is too large, 3 if an input is no text or shapes differ,
+    /// 4 if a device failed or the reads of an input were used up, 5 if memory ran out.
     pub fn status(self) -> u8
         ensures { result ≡ status_of_cause self }
     {
         match self {
+            Cause::Unsettled { .. } => 1,
+            Cause::TooLarge => 2,
             Cause::Input(InputFault::Text(_)) | Cause::ShapeDiffers => 3,
             Cause::Input(InputFault::OutOfMemory) | Cause::OutOfMemory => 5,
             Cause::Input(InputFault::Read(_, _)) => 4,

@@ -12,8 +12,8 @@ use jls_partial::Partial;
 use jls_values::MergeFault;
 use std::alloc::Global;
 
-/// Opens one input and reads it whole.
-fn open_and_read<D: Desk>(alloc: Global, desk: &mut D, name: &str) -> Result<Partial, Cause>
+/// Opens one input by its name and reads it whole.
+pub fn open_and_read<D: Desk>(alloc: Global, desk: &mut D, name: &str) -> Result<Partial, Cause>
     ensures taken { IfOk result (λ p. GrewBy (IsTaken None name.now (whole p)) (D.history desk.old) (D.history desk.new)) }
     // Whatever the inputs before it gave.
     ensures stopped { (before : List Given) → IfErr result (λ cause.

@@ -1,6 +1,7 @@
 -- What a caller of clap reads of the rows of `join`, and of the kinds of error.
 use Rattle.std.proofs.Common.{◌≡◌, ◌∙◌, ap, sym, subst, true, inl, inr, refl, List, [], Option, None, Some, Result, Ok, Err}
-use Rattle.std.specs.Prelude.{◌⊎◌, option_map}
+use Rattle.std.specs.Prelude.{◌⊎◌, codes, false, option_map, option_and_then}
+use Rattle.std.specs.Str.{bytes_eq}
 use Rattle.clap.specs.declared.error.kind.ErrorKind.{ErrorKind}
 use Rattle.std.specs.Prelude.{IfOk, IfErr}
 use Rattle.clap.specs.Words.{App, FailsBy, HasKind, IsAmong, Kinds, Row, Text, all_of, fault_of, first_of, first_value, is_simple_and_free, kind_of, matched_of, raw_values, rows_of, takes}
@@ -12,14 +13,9 @@ use Rattle.clap.specs.declared.error.Error.{Error}
 use Rattle.clap.specs.declared.error.kind.ErrorKind.TheVariants as kind
 use Rattle.clap.specs.declared.parser.matches.Found.{Found}
 use Rattle.clap.proofs.WalkLemmas.{first_value-rows, raw_values-rows}
+use Rattle.jls_words.specs.Asking.{Asked, asked_by, asked_join, asked_show, asked_write}
 use Rattle.jls_words.specs.Words.{AreRefused, AreTaken, salvage_app}
 use Rattle.jls_words.proofs.WordsTaken.{is_simple_command}
-
--- the rows of the subcommand that was entered
-pub same_rows : (o : Option (Text × List Row)) (n : Text) (rows mine : List Row) → option_map (λ p. p.1) o ≡ Some mine → o ≡ Some (n, rows) → mine ≡ rows
-same_rows o n rows mine h e =
-    let k : Some rows ≡ Some mine = sym (ap (option_map (λ (p : Text × List Row). p.1)) e) ∙ h in
-    cc
 
 -- the name and the rows, from both
 both_parts : {X : Type 0} (name_of : X → Text) (rows_in : X → List Row) (o : Option X) (name : Text) (rows : List Row)
@@ -36,13 +32,25 @@ pub entered_rows : (m : ArgMatches) (name : Text) (rows : List Row) → subcomma
     → option_map (λ p. p.1) (subcommand_rows (out-ArgMatches m).subcommand) ≡ Some rows → subcommand_rows_of m ≡ Some (name, rows)
 entered_rows m name rows e h = both_parts _ _ (out-ArgMatches m).subcommand name rows e h
 
--- the first value of an id, by the rows
-pub first_by_rows : (f : Found) (rows : List Row) (id : Text) (read : Option Text) (value : Text) → read ≡ first_value f id → rows_of f ≡ rows → first_of id rows ≡ Some value → read ≡ Some value
-first_by_rows f rows id read value h e is = h ∙ (first_value-rows f id ∙ (ap (first_of id) e ∙ is))
+-- what a command asks for, by its name
+module _ (name : Text) (rows : List Row) where
+  pub asks_join : bytes_eq name (codes "join") ≡ true → asked_by name rows ≡ asked_join (first_of (codes "OUT") rows) (all_of (codes "FILE") rows)
+  asks_join e = rw e refl
 
--- all values of an id, by the rows
-pub all_by_rows : (f : Found) (rows : List Row) (id : Text) (read : Option (List Text)) (values : List Text) → read ≡ option_map raw_values (matched_of f id) → rows_of f ≡ rows → all_of id rows ≡ Some values → read ≡ Some values
-all_by_rows f rows id read values h e is = h ∙ (raw_values-rows f id ∙ (ap (all_of id) e ∙ is))
+  pub asks_show : bytes_eq name (codes "join") ≡ false → bytes_eq name (codes "show") ≡ true → asked_by name rows ≡ asked_show (first_of (codes "FILE") rows)
+  asks_show d e = rw (d, e) refl
+
+  pub asks_write : bytes_eq name (codes "join") ≡ false → bytes_eq name (codes "show") ≡ false → bytes_eq name (codes "write") ≡ true
+      → asked_by name rows ≡ asked_write (first_of (codes "as") rows) (first_of (codes "OUT") rows) (first_of (codes "FILE") rows)
+  asks_write d e f = rw (d, e, f) refl
+
+  pub asks_nothing : bytes_eq name (codes "join") ≡ false → bytes_eq name (codes "show") ≡ false → bytes_eq name (codes "write") ≡ false → asked_by name rows ≡ None
+  asks_nothing d e f = rw (d, e, f) refl
+
+-- and so what the words ask for
+pub asked_entered : (m : ArgMatches) (name : Text) (rows : List Row) (a : Option Asked) → subcommand_rows_of m ≡ Some (name, rows) → asked_by name rows ≡ a
+    → option_and_then (λ p. asked_by p.0 p.1) (subcommand_rows_of m) ≡ a
+asked_entered m name rows a e is = ap (option_and_then (λ (p : Text × List Row). asked_by p.0 p.1)) e ∙ is
 
 -- ---- the kinds of error
 

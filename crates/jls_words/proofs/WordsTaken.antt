@@ -1,9 +1,10 @@
--- Words that clap does read as `join`: the premise of the theorem on `run` holds of them.
+-- Words that clap does read as commands: the premises of the theorems on `run` hold of them.
 use Rattle.std.proofs.Common.{◌≡◌, true, List, [], ◌∷◌, refl, inl}
 use Rattle.std.specs.Prelude.{codes}
 use Rattle.clap.specs.Words.{Text, is_simple_and_free}
 use Rattle.clap.proofs.OnLiterals.{clap_on_literals}
-use Rattle.jls_words.specs.Words.{salvage_app, ReadsAsJoin}
+use Rattle.jls_words.specs.Words.{salvage_app}
+use Rattle.jls_words.specs.Asking.{ReadsAs, AskForNothing, join, show, write_pnm}
 
 -- `jls-salvage join OUT A B`
 abbrev pub two_files : List Text
@@ -13,15 +14,36 @@ two_files = codes "jls-salvage" ∷ codes "join" ∷ codes "OUT" ∷ codes "A" �
 abbrev pub dashes : List Text
 dashes = codes "jls-salvage" ∷ codes "join" ∷ codes "-" ∷ codes "-" ∷ []
 
+-- `jls-salvage show A`
+abbrev pub one_file : List Text
+one_file = codes "jls-salvage" ∷ codes "show" ∷ codes "A" ∷ []
+
+-- `jls-salvage write --as FORMAT OUT A`
+abbrev pub as_format : Text → List Text
+as_format format = codes "jls-salvage" ∷ codes "write" ∷ codes "--as" ∷ format ∷ codes "OUT" ∷ codes "A" ∷ []
+
 -- clap's definition fits the program: it is a simple command, with no rule between its arguments
 pub is_simple_command : is_simple_and_free salvage_app ≡ true
 unfolding clap_on_literals
 is_simple_command = refl
 
-pub two_files-join : ReadsAsJoin two_files (codes "OUT") (codes "A") (codes "B" ∷ [])
+pub two_files-join : ReadsAs two_files (join (codes "OUT") (codes "A" ∷ codes "B" ∷ []))
 unfolding clap_on_literals
-two_files-join = record { taken = inl refl; rows = _; join = refl; out_is = refl; files_are = refl }
+two_files-join = record { taken = inl refl; asks = refl }
 
-pub dashes-join : ReadsAsJoin dashes (codes "-") (codes "-") []
+pub dashes-join : ReadsAs dashes (join (codes "-") (codes "-" ∷ []))
 unfolding clap_on_literals
-dashes-join = record { taken = inl refl; rows = _; join = refl; out_is = refl; files_are = refl }
+dashes-join = record { taken = inl refl; asks = refl }
+
+pub one_file-show : ReadsAs one_file (show (codes "A"))
+unfolding clap_on_literals
+one_file-show = record { taken = inl refl; asks = refl }
+
+pub as_pnm-write : ReadsAs (as_format (codes "pnm")) (write_pnm (codes "OUT") (codes "A"))
+unfolding clap_on_literals
+as_pnm-write = record { taken = inl refl; asks = refl }
+
+-- a format that there is not
+pub as_gif-nothing : AskForNothing (as_format (codes "gif"))
+unfolding clap_on_literals
+as_gif-nothing = record { taken = inl refl; asks = refl }

@@ -1,9 +1,12 @@
 //! The words of the command line, as clap reads them.
 #![tactic(auto)]
 
+mod asked;
 mod command;
+mod texts;
 
-pub use command::{join_words, matches};
+pub use asked::{Asked, asked_command};
+pub use command::matches;
 
 #[cfg(test)]
 mod tests;

@@ -1,6 +1,6 @@
 //! That words are read: no clause says that memory is left for it.
 
-use crate::{join_words, matches};
+use crate::{Asked, asked_command, matches};
 use std::alloc::Global;
 use std::test::Fail;
 
@@ -18,10 +18,12 @@ fn join_is_read(rt: HostRuntime) -> Result<(), Fail> {
     let words = ["jls-salvage", "join", "all.jlsp", "-", "south.jlsp"];
     let words = line(rt.alloc(), &words)?;
     let matches = matches(rt.alloc(), &words)?;
-    let (out, first, others) = join_words(&matches).ok_or("not read as join")?;
-    assert_eq!(rt; out, "all.jlsp");
-    assert_eq!(rt; first, "-");
-    assert_eq!(rt; others.len(), 1);
-    assert_eq!(rt; others[0], "south.jlsp");
+    let asks = asked_command(&matches).ok_or("nothing asked")?;
+    let expected = Asked::Join {
+        out: "all.jlsp",
+        first: "-",
+        others: &["south.jlsp"],
+    };
+    assert_eq!(rt; asks, expected);
     Ok(())
 }

@@ -29,6 +29,7 @@ fn stops_where_a_read_fails(rt: HostRuntime) -> Result<(), Fail> {
 fn check_write_failure(
     rt: &impl Abort,
     alloc: Global,
+    words: &str,
     most: usize,
     taken: &[u8],
 ) -> Result<(), Fail> {
@@ -37,7 +38,7 @@ fn check_write_failure(
         writes_fail_at: Some(taken.len()),
         ..GOOD
     };
-    let found = run_words(alloc, "join OUT T", manners)?;
+    let found = run_words(alloc, words, manners)?;
     let count = taken.len();
     let line = format!(in alloc; "jls-salvage: OUT: write failed after {count} bytes\n")?;
     assert_eq!(rt; found.status, 4);
@@ -51,8 +52,12 @@ fn check_write_failure(
 fn stops_where_a_write_fails(rt: HostRuntime) -> Result<(), Fail> {
     for n in 0..31 {
         for most in [1, 7, usize::MAX] {
-            check_write_failure(&rt, rt.alloc(), most, &DISPUTED[..n])?;
+            check_write_failure(&rt, rt.alloc(), "join OUT T", most, &DISPUTED[..n])?;
         }
+    }
+    for n in 0..12 {
+        let taken = &b"P5\n1 1\n255\n\0"[..n];
+        check_write_failure(&rt, rt.alloc(), "write --as pnm OUT S", 1, taken)?;
     }
     Ok(())
 }

@@ -1,4 +1,4 @@
-//! Words that are not `join`.
+//! Words that ask for no command.
 
 use super::memory::{GOOD, MemoryFiles};
 use super::pictures::FILES;
@@ -8,16 +8,22 @@ use std::io;
 use std::io::Write;
 use std::test::Fail;
 
-/// Words and the status: 2 with a line on the fault output, or 0 with help on the report output.
-const WORDS: [(&str, u8); 8] = [
+/// Words and the status: 2 with a line on the fault output, or 0 with help or the version on the report output.
+const WORDS: [(&str, u8); 14] = [
     ("", 2),
     ("join", 2),
     ("join OUT", 2),
-    ("show T", 2),
+    ("show", 2),
+    ("show T S", 2),
+    ("frobnicate T", 2),
+    ("write OUT S", 2),
     ("join --loud OUT T", 2),
     ("--help", 0),
     ("join --help", 0),
+    ("show --help", 0),
+    ("write --help", 0),
     ("help join", 0),
+    ("--version", 0),
 ];
 
 #[test]
@@ -51,14 +57,23 @@ impl Write for Broken {
 }
 
 #[test]
-fn says_where_help_stopped(rt: HostRuntime) -> Result<(), Fail> {
+fn says_where_the_report_stopped(rt: HostRuntime) -> Result<(), Fail> {
     let alloc = rt.alloc();
-    let mut files = MemoryFiles::new(alloc, &FILES, GOOD);
-    let (status, faults) = run_line(alloc, "--help", &mut files, &mut Counted::new(Broken))?;
-    assert_eq!(rt; status, 4);
-    assert_eq!(rt;
-        faults.as_slice(),
-        b"jls-salvage: -: write failed after 0 bytes\n".as_slice()
-    );
+    for words in ["--help", "show T"] {
+        let mut files = MemoryFiles::new(alloc, &FILES, GOOD);
+        let (status, faults) = run_line(alloc, words, &mut files, &mut Counted::new(Broken))?;
+        assert_eq!(rt; status, 4);
+        assert_eq!(rt;
+            faults.as_slice(),
+            b"jls-salvage: -: write failed after 0 bytes\n".as_slice()
+        );
+    }
+    Ok(())
+}
+
+#[test]
+fn tells_its_version(rt: HostRuntime) -> Result<(), Fail> {
+    let found = run_words(rt.alloc(), "--version", GOOD)?;
+    assert_eq!(rt; found.report.as_slice(), b"jls-salvage 0.1.0\n".as_slice());
     Ok(())
 }

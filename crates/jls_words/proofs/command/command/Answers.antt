@@ -1,23 +1,32 @@
-use Rattle.std.proofs.Common.{◌≡◌, ◌∙◌, ap, true, codes}
+use Rattle.std.proofs.Common.{◌≡◌, ◌∙◌, ap, codes, true}
 use Rattle.std.proofs.lemmas.Result.{IfOk-weaker}
-use Rattle.clap.specs.Words.{App, app_of, new_app, with_subcommand}
-use Rattle.clap.specs.Simple.{Shape, app_of_fields, shape_of}
-use Rattle.jls_words.specs.Words.{join_app, salvage_app}
+use Rattle.clap.specs.Words.{App, Shape, app_of, new_app, shape_of, with_subcommand}
+use Rattle.clap.specs.Simple.{app_of_fields}
+use Rattle.jls_words.specs.Words.{bare_app, join_app, show_app, write_app}
 use Rattle.jls_words.proofs.command.command.Goals as goal
+
+-- `version`
+abbrev versioned : App → App
+versioned a = record a { top = record a.top { has_version = true } }
 
 -- `subcommand_required(true)`
 abbrev must_name : App → App
 must_name a = record a { top = record a.top { subcommand_required = true } }
 
-abbrev bare_app : App
-bare_app = must_name (new_app (codes "jls-salvage"))
+-- a command more
+one_more : (app after a : App) (sub s : Shape) → after ≡ with_subcommand app sub → app ≡ a → sub ≡ s → after ≡ with_subcommand a s
+one_more app after a sub s f d e = f ∙ (ap (λ (x : App). with_subcommand x sub) d ∙ ap (with_subcommand a) e)
 
-with_join : (top : App) (sub : Shape) → top ≡ bare_app → sub ≡ join_app.top → with_subcommand top sub ≡ salvage_app
-with_join top sub e d = ap (λ (a : App). with_subcommand a sub) e ∙ ap (λ (s : Shape). with_subcommand bare_app s) d
+abbrev top_of : App → Shape
+top_of a = a.top
 
 pub returns : goal.returns
 returns c =
-    let plain : app_of c.after_help.result ≡ new_app (codes "jls-salvage") = ap app_of_fields c.after_help.ensures ∙ (ap app_of_fields c.about.ensures ∙ c.new.ensures.app) in
-    let above : app_of c.subcommand_required.result ≡ bare_app = ap app_of_fields c.subcommand_required.ensures ∙ ap must_name plain in
-    let below : shape_of c.in_ok-join.join ≡ join_app.top = ap (λ (a : App). a.top) c.in_ok-join.ensures.app in
-    IfOk-weaker c.subcommand.result _ _ (λ r added. added.shape c.in_ok-join.ensures.local ∙ with_join _ _ above below) c.subcommand.ensures
+    let named : app_of c.version.result ≡ versioned (new_app (codes "jls-salvage")) = ap app_of_fields c.version.ensures ∙ ap versioned c.bare-bare.ensures.app in
+    let bare : app_of c.subcommand_required-salvage.result ≡ bare_app = ap app_of_fields c.subcommand_required-salvage.ensures ∙ ap must_name named in
+    let show : shape_of c.in_ok-show_command.field-0 ≡ show_app.top = ap top_of c.in_ok-show_command.ensures.app in
+    let join : shape_of c.in_ok-join_command.field-0 ≡ join_app.top = ap top_of c.in_ok-join_command.ensures.app in
+    let write : shape_of c.in_ok-write_command.field-0 ≡ write_app.top = ap top_of c.in_ok-write_command.ensures.app in
+    let shows = one_more _ _ _ _ _ (c.in_ok-shows.ensures.shape c.in_ok-show_command.ensures.local) bare show in
+    let joins = one_more _ _ _ _ _ (c.in_ok-joins.ensures.shape c.in_ok-join_command.ensures.local) shows join in
+    IfOk-weaker c.subcommand-3.result _ _ (λ r added. one_more _ _ _ _ _ (added.shape c.in_ok-write_command.ensures.local) joins write) c.subcommand-3.ensures

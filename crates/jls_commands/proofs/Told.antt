@@ -1,0 +1,53 @@
+-- The steps of a command that tells what one input gave, put together.
+use Rattle.std.proofs.Common.{◌≡◌, ℕ, Bool, List, [], None, sym, subst}
+use Rattle.std.proofs.lemmas.List.{append-nil}
+use Rattle.std.specs.Prelude.{codes}
+use Rattle.jls_device.specs.Event.{History, GrewBy}
+use Rattle.jls_device.specs.Writing.{Wrote, WroteFront}
+use Rattle.jls_station.specs.Inputs.{Given, IsTaken, StopsAt}
+use Rattle.jls_station.specs.declared.outcome.Cause.TheVariants as cause
+use Rattle.jls_station.specs.declared.outcome.Refusal.{Refusal}
+use Rattle.jls_station.specs.declared.outcome.Outcome.TheVariants.{Done, Refused}
+use Rattle.jls_commands.specs.Histories.{GrewBoth}
+use Rattle.jls_commands.specs.Telling.{Says, Tells, done, at_input, no_memory, not_printed}
+
+module _ (lines : Given → List ℕ) (name : List ℕ) (desk desk' report report' : History) where
+  pub told_at_input : (r : Refusal) → r.name.now ≡ name → GrewBy (StopsAt None [] name r.cause) desk desk'
+      → GrewBoth (Tells lines name (Refused r)) desk desk' report report
+  told_at_input r named h = record {
+    desk_events = h.events;
+    report_events = [];
+    desk_is = h.grew;
+    report_is = sym (append-nil report);
+    they_are = at_input name r h.events named h.they_are;
+  }
+
+  module _ (g : Given) (taken : GrewBy (IsTaken None name g) desk desk') where
+    pub told_for_memory : (r : Refusal) → r.cause ≡ cause.OutOfMemory → GrewBoth (Tells lines name (Refused r)) desk desk' report report
+    told_for_memory r is = record {
+      desk_events = taken.events;
+      report_events = [];
+      desk_is = taken.grew;
+      report_is = sym (append-nil report);
+      they_are = no_memory name r g taken.events is taken.they_are;
+    }
+
+    pub told : (settled whole : Bool) (printed : List ℕ) → printed ≡ lines g → Says g settled whole → GrewBy (Wrote printed) report report'
+        → GrewBoth (Tells lines name (Done settled whole)) desk desk' report report'
+    told settled whole printed is says h = record {
+      desk_events = taken.events;
+      report_events = h.events;
+      desk_is = taken.grew;
+      report_is = h.grew;
+      they_are = done name g settled whole taken.events h.events taken.they_are says (subst (λ (bytes : List ℕ). Wrote bytes h.events) is h.they_are);
+    }
+
+    pub told_in_part : (r : Refusal) (count : ℕ) (printed : List ℕ) → printed ≡ lines g → r.name.now ≡ codes "-" → r.cause ≡ cause.NotWritten count
+        → GrewBy (WroteFront printed count) report report' → GrewBoth (Tells lines name (Refused r)) desk desk' report report'
+    told_in_part r count printed is named cut h = record {
+      desk_events = taken.events;
+      report_events = h.events;
+      desk_is = taken.grew;
+      report_is = h.grew;
+      they_are = not_printed name r g count taken.events h.events named cut taken.they_are (subst (λ (bytes : List ℕ). WroteFront bytes count h.events) is h.they_are);
+    }

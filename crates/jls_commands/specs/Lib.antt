@@ -1,0 +1,4 @@
+-- What the contracts of this crate cite.
+pub mod Histories
+pub mod Telling
+pub mod WritingFiles

@@ -1,0 +1,38 @@
+-- What comes of a command that tells what one input gave.
+use Rattle.std.specs.Prelude.{◌≡◌, ◌↔◌, ℕ, Bool, IsTrue, List, [], None, codes}
+use Rattle.jls_partial.specs.Partial.{PartialPicture}
+use Rattle.jls_partial.specs.Status.{IsSettled}
+use Rattle.jls_report.specs.Report.{report_of}
+use Rattle.jls_report.specs.ReportText.{report_text}
+use Rattle.jls_device.specs.Event.{Event}
+use Rattle.jls_device.specs.Writing.{Wrote, WroteFront}
+use Rattle.jls_station.specs.Inputs.{Given, IsTaken, StopsAt}
+use Rattle.jls_station.specs.declared.input.ReadStop.TheVariants.{Whole}
+use Rattle.jls_station.specs.declared.outcome.Cause.TheVariants as cause
+use Rattle.jls_station.specs.declared.outcome.Refusal.{Refusal}
+use Rattle.jls_station.specs.declared.outcome.Outcome.{Outcome}
+use Rattle.jls_station.specs.declared.outcome.Outcome.TheVariants.{Done, Refused}
+
+-- the lines that tell what is known of a partial picture
+abbrev pub report_lines : PartialPicture → List ℕ
+report_lines p = report_text (report_of p)
+
+-- whether each line of what an input gave is settled, and whether it was read whole
+pub record Says (g : Given) (settled whole : Bool) : Type 0 where
+  pub settled_is : IsTrue settled ↔ IsSettled g.partial
+  pub whole_is : IsTrue whole ↔ (g.stop ≡ Whole)
+
+-- What comes of a command that takes one input of this name and prints these lines of what it gave, by the events of the desk
+-- and of the report output: it is done; the input stops it; memory runs out for the lines, when the input was taken; or a
+-- write fails, and then the refusal names the report output
+pub data Tells (lines : Given → List ℕ) : List ℕ → Outcome → List Event → List Event → Type 0 where
+  done : (name : List ℕ) (g : Given) (settled whole : Bool) (reading writing : List Event)
+      → IsTaken None name g reading → Says g settled whole → Wrote (lines g) writing
+      → Tells lines name (Done settled whole) reading writing
+  at_input : (name : List ℕ) (r : Refusal) (reading : List Event)
+      → r.name.now ≡ name → StopsAt None [] name r.cause reading → Tells lines name (Refused r) reading []
+  no_memory : (name : List ℕ) (r : Refusal) (g : Given) (reading : List Event)
+      → r.cause ≡ cause.OutOfMemory → IsTaken None name g reading → Tells lines name (Refused r) reading []
+  not_printed : (name : List ℕ) (r : Refusal) (g : Given) (count : ℕ) (reading writing : List Event)
+      → r.name.now ≡ codes "-" → r.cause ≡ cause.NotWritten count → IsTaken None name g reading → WroteFront (lines g) count writing
+      → Tells lines name (Refused r) reading writing

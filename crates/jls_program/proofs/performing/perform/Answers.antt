@@ -1,0 +1,35 @@
+use Rattle.std.proofs.Common.{◌∷◌, None, ℕ, List, map, sym, subst}
+use Rattle.std.specs.Borrow.{Bor}
+use Rattle.jls_commands.specs.Histories.{GrewBoth}
+use Rattle.jls_commands.specs.WritingFiles.{WritesFile}
+use Rattle.jls_commands.specs.declared.writing.Format.TheVariants.{Pnm}
+use Rattle.jls_station.specs.Joining.{Joins}
+use Rattle.jls_words.specs.Asking.{asked_of}
+use Rattle.jls_words.specs.declared.asked.Asked.{Asked}
+use Rattle.jls_program.specs.Runs.{CameOf}
+use Rattle.jls_program.proofs.Running.{desk_alone}
+use Rattle.jls_program.proofs.performing.perform.Goals as goal
+
+pub returns-in-Join : goal.returns-in-Join
+returns-in-Join g c =
+    let desk = g.D.Device.history c.args.desk.now in
+    let desk' = g.D.Device.history c.join.new.desk in
+    let report = g.W.Device.history c.args.report.now in
+    let names : List (List ℕ) = c.in-Join.first.now ∷ map (λ (f : Bor (List ℕ)). f.now) c.in-Join.others.now in
+    subst (λ (a : Asked). GrewBoth (CameOf (asked_of a) c.join.result) desk desk' report report) (sym c.in-Join.is)
+    (desk_alone (Joins None c.in-Join.out.now names c.join.result) desk desk' report c.join.ensures)
+
+pub returns-in-Show : goal.returns-in-Show
+returns-in-Show g c =
+    let desk = g.D.Device.history in
+    let report = g.W.Device.history in
+    subst (λ (a : Asked). GrewBoth (CameOf (asked_of a) c.show.result) (desk c.args.desk.now) (desk c.show.new.desk) (report c.args.report.now) (report c.show.new.report))
+    (sym c.in-Show.is) c.show.ensures
+
+pub returns-in-WritePnm : goal.returns-in-WritePnm
+returns-in-WritePnm g c =
+    let desk = g.D.Device.history c.args.desk.now in
+    let desk' = g.D.Device.history c.write.new.desk in
+    let report = g.W.Device.history c.args.report.now in
+    subst (λ (a : Asked). GrewBoth (CameOf (asked_of a) c.write.result) desk desk' report report) (sym c.in-WritePnm.is)
+    (desk_alone (WritesFile Pnm c.in-WritePnm.out.now c.in-WritePnm.file.now c.write.result) desk desk' report c.write.ensures)

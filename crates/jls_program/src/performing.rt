@@ -1,0 +1,28 @@
+//! What is asked for, done.
+
+ghost use Rattle.jls_commands.specs.Histories.{GrewBoth};
+ghost use Rattle.jls_words.specs.Asking.{asked_of};
+ghost use Rattle.jls_program.specs.Runs.{CameOf};
+
+use jls_commands::{Format, show, write};
+use jls_device::{Desk, Sink};
+use jls_station::{Outcome, join};
+use jls_words::Asked;
+use std::alloc::Global;
+
+/// Does what is asked for.
+pub(crate) fn perform<'a, D: Desk, W: Sink>(
+    alloc: Global,
+    desk: &mut D,
+    report: &mut W,
+    asked: Asked<'_, 'a>,
+) -> Outcome<'a>
+    ensures { GrewBoth (CameOf (asked_of asked.entry) result) (D.history desk.old) (D.history desk.new)
+        (W.history report.old) (W.history report.new) }
+{
+    match asked {
+        Asked::Join { out, first, others } => join(alloc, desk, out, first, others),
+        Asked::Show { file } => show(alloc, desk, report, file),
+        Asked::WritePnm { out, file } => write(alloc, desk, Format::Pnm, out, file),
+    }
+}

@@ -1,0 +1,156 @@
+//! The commands on one input: what they print, write and refuse.
+
+use super::memory::{GOOD, Manners};
+use super::run_words;
+use std::alloc::Global;
+use std::process::Abort;
+use std::test::Fail;
+
+/// The words and the report with its status.
+const SHOWN: [(&str, u8, &str); 7] = [
+    (
+        "show T",
+        1,
+        "picture 1x1, 8 bits, components 1\nsettled 0, missing 0, disputed 1\ndisputed 1 0 2\n",
+    ),
+    (
+        "show U",
+        1,
+        "picture 1x1, 8 bits, components 2\nsettled 0, missing 1, disputed 0\nmissing 2 0-0\n",
+    ),
+    (
+        "show -",
+        0,
+        "picture 1x1, 8 bits, components 1\nsettled 1, missing 0, disputed 0\n",
+    ),
+    (
+        "show doubt",
+        1,
+        "picture 1x10, 8 bits, components 1\nsettled 9, missing 0, disputed 1\ndisputed 1 6 2\n",
+    ),
+    (
+        "show gap",
+        1,
+        "picture 1x10, 8 bits, components 1\nsettled 8, missing 2, disputed 0\nmissing 1 3-4\n",
+    ),
+    (
+        "show deep",
+        0,
+        "picture 1x1, 16 bits, components 1\nsettled 1, missing 0, disputed 0\n",
+    ),
+    (
+        "show pair",
+        0,
+        "picture 1x1, 8 bits, components 1,2\nsettled 2, missing 0, disputed 0\n",
+    ),
+];
+
+/// The words and the file that OUT is; the status is 0.
+const WRITTEN: [(&str, &[u8]); 6] = [
+    ("write --as pnm OUT S", b"P5\n1 1\n255\n\0"),
+    ("write --as pnm - -", b"P5\n1 1\n255\n\0"),
+    ("write OUT ten --as=pnm", TEN_AS_PNM),
+    ("write --as pnm OUT deep", b"P5\n1 1\n65535\n\xff\xff"),
+    (
+        "write --as pnm OUT three",
+        b"P6\n4 1\n255\n\0\0\0\0\0\0\0\0\0\0\0\0",
+    ),
+    (
+        "write --as pnm OUT pair",
+        b"P7\nWIDTH 1\nHEIGHT 1\nDEPTH 2\nMAXVAL 255\nENDHDR\n\n\n",
+    ),
+];
+
+const TEN_AS_PNM: &[u8] = b"P5\n1 10\n255\n\0\x01\x02\x03\x04\x05\x06\x07\x08\x09";
+
+/// The words, the status, and the line on the fault output; nothing is created or reported.
+const REFUSED: [(&str, u8, &str); 9] = [
+    ("show cut", 3, "cut: bad text, truncated at 30"),
+    ("show A", 4, "A: cannot be opened"),
+    (
+        "write --as pnm OUT T",
+        1,
+        "line 0 of component 1 is disputed",
+    ),
+    (
+        "write --as pnm OUT U",
+        1,
+        "line 0 of component 2 is missing",
+    ),
+    (
+        "write --as pnm OUT doubt",
+        1,
+        "line 6 of component 1 is disputed",
+    ),
+    (
+        "write --as pnm OUT gap",
+        1,
+        "line 3 of component 1 is missing",
+    ),
+    (
+        "write --as pnm OUT cut",
+        3,
+        "cut: bad text, truncated at 30",
+    ),
+    ("write --as pnm OUT A", 4, "A: cannot be opened"),
+    (
+        "write --as gif OUT S",
+        2,
+        "unknown value, see jls-salvage write --help",
+    ),
+];
+
+fn check_shown(rt: &impl Abort, alloc: Global, manners: Manners) -> Result<(), Fail> {
+    for &(words, status, report) in &SHOWN {
+        let found = run_words(alloc, words, manners)?;
+        assert_eq!(rt; found.status, status, "{words}");
+        assert_eq!(rt; found.report.as_slice(), report.as_bytes(), "{words}");
+        assert!(rt;
+            found.faults.is_empty() && found.created.is_empty(),
+            "{words}"
+        );
+    }
+    Ok(())
+}
+
+fn check_written(rt: &impl Abort, alloc: Global, manners: Manners) -> Result<(), Fail> {
+    for &(words, file) in &WRITTEN {
+        let found = run_words(alloc, words, manners)?;
+        assert_eq!(rt; found.status, 0, "{words}");
+        let output = found.output.ok_or("no output")?;
+        assert_eq!(rt; output.as_slice(), file, "{words}");
+        assert!(rt;
+            found.faults.is_empty() && found.report.is_empty(),
+            "{words}"
+        );
+    }
+    Ok(())
+}
+
+#[test]
+fn shows(rt: HostRuntime) -> Result<(), Fail> {
+    check_shown(&rt, rt.alloc(), GOOD)?;
+    check_shown(&rt, rt.alloc(), Manners { most: 1, ..GOOD })
+}
+
+#[test]
+fn writes(rt: HostRuntime) -> Result<(), Fail> {
+    check_written(&rt, rt.alloc(), GOOD)?;
+    check_written(&rt, rt.alloc(), Manners { most: 1, ..GOOD })
+}
+
+#[test]
+fn refuses(rt: HostRuntime) -> Result<(), Fail> {
+    let alloc = rt.alloc();
+    for &(words, status, line) in &REFUSED {
+        let found = run_words(alloc, words, GOOD)?;
+        let printed = format!(in alloc; "jls-salvage: {line}\n")?;
+        assert_eq!(rt; found.status, status, "{words}");
+        assert_eq!(rt; found.faults.as_slice(), printed.as_bytes(), "{words}");
+        assert!(rt;
+            found.created.is_empty() && found.report.is_empty(),
+            "{words}"
+        );
+    }
+    Ok(())
+}

@@ -1,0 +1,58 @@
+-- What the words of a command line ask for.
+use Rattle.std.specs.Prelude.{◌≡◌, List, ◌∷◌, Option, Some, None, map, codes, if◌then◌else◌, option_map, option_and_then}
+use Rattle.std.specs.Str.{bytes_eq}
+use Rattle.clap.specs.Words.{Row, Text, all_of, first_of, subcommand_of}
+use Rattle.jls_words.specs.Words.{salvage_app, AreTaken}
+use Rattle.jls_words.specs.declared.asked.Asked.{Asked as AskedValue}
+use Rattle.jls_words.specs.declared.asked.Asked.TheVariants as asked
+
+-- a command with its words: the output stands before the inputs
+pub data Asked : Type 0 where
+  join : Text → List Text → Asked
+  show : Text → Asked
+  write_pnm : Text → Text → Asked
+
+-- ---- by the values of a command's arguments
+
+abbrev pub asked_join : Option Text → Option (List Text) → Option Asked
+asked_join (Some out) (Some (first ∷ others)) = Some (join out (first ∷ others))
+asked_join _ _ = None
+
+abbrev pub asked_show : Option Text → Option Asked
+asked_show file = option_map show file
+
+-- the format that is asked for, OUT and FILE
+abbrev pub asked_write : Option Text → Option Text → Option Text → Option Asked
+asked_write (Some format) (Some out) (Some file) = if bytes_eq format (codes "pnm") then Some (write_pnm out file) else None
+asked_write _ _ _ = None
+
+-- ---- by what clap reads
+
+-- the command of this name, whose arguments have these values, asks for this
+abbrev pub asked_by : Text → List Row → Option Asked
+asked_by name rows =
+    if bytes_eq name (codes "join") then asked_join (first_of (codes "OUT") rows) (all_of (codes "FILE") rows)
+    else if bytes_eq name (codes "show") then asked_show (first_of (codes "FILE") rows)
+    else if bytes_eq name (codes "write") then
+    asked_write (first_of (codes "as") rows) (first_of (codes "OUT") rows) (first_of (codes "FILE") rows)
+    else None
+
+-- what the words ask for, by the command that clap reads in them
+abbrev pub asked_in : List Text → Option Asked
+asked_in words = option_and_then (λ p. asked_by p.0 p.1) (subcommand_of salvage_app words)
+
+-- clap takes the words, and they ask for this
+pub record ReadsAs (words : List Text) (a : Asked) : Type 0 where
+  pub taken : AreTaken words
+  pub asks : asked_in words ≡ Some a
+
+-- clap takes the words, and they ask for nothing that there is
+pub record AskForNothing (words : List Text) : Type 0 where
+  pub taken : AreTaken words
+  pub asks : asked_in words ≡ None
+
+-- what is asked, as the code has it
+abbrev pub asked_of : AskedValue → Asked
+asked_of (asked.Join out first others) = join out.now (first.now ∷ map (λ f. f.now) others.now)
+asked_of (asked.Show file) = show file.now
+asked_of (asked.WritePnm out file) = write_pnm out.now file.now
