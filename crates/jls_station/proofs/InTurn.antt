@@ -1,14 +1,18 @@
 -- Inputs taken one after the other.
-use Rattle.std.proofs.Common.{◌≡◌, ℕ, ◌+◌, ◌<◌, true, false, List, [], ◌∷◌, ◌++◌, Option, None, length, get_or, map, take, drop, refl, sym, subst, ap, ◌∙◌, append_assoc}
-use Rattle.std.proofs.lemmas.List.{append-nil, drop_more, map-append, take_more, take-append-drop}
+use Rattle.std.proofs.Common.{◌≡◌, ℕ, zero, suc, ◌+◌, ◌<◌, Bool, true, false, List, [], ◌∷◌, ◌++◌, Option, None, length, get_or, map, take, drop, refl, sym, subst, ap, ◌∙◌, append_assoc, arith}
+use Rattle.std.specs.Prelude.{◌↔◌, ◌&&◌, IsTrue, All}
+use Rattle.std.proofs.Math.Seq.{get_or-append_seam}
+use Rattle.std.proofs.lemmas.List.{append-nil, drop_more, get_or_append_left, length-append, map-append, take_more, take-append-drop}
 use Rattle.std.proofs.lemmas.List.Elements.{All-append, All-cons, All-nil}
+use Rattle.std.proofs.lemmas.Bool.{and_parts}
 use Rattle.jls_values.specs.Join.{join_all, AllOfShape}
 use Rattle.jls_values.specs.Shape.{PictureShape}
 use Rattle.jls_values.specs.SameShape.{same_shape}
 use Rattle.jls_partial.specs.Partial.{PartialPicture, has_same_shape, union}
 use Rattle.jls_device.specs.Event.{Event, History, GrewBy, opened, not_opened}
 use Rattle.jls_device.proofs.Growing.{grew_twice}
-use Rattle.jls_station.specs.Inputs.{Given, whole, partials, AreOfOneShape, IsOfOtherShape, IsUnionOf, ReadsGive, ReadsRefuse, IsTaken, TakesInTurn, TakesUnion, StopsAt, not_there, refused, other_shape, no_memory, StopsAtInput}
+use Rattle.jls_station.specs.Given.{Given}
+use Rattle.jls_station.specs.Inputs.{partials, AreOfOneShape, IsOfOtherShape, IsUnionOf, ReadsGive, ReadsRefuse, IsTaken, TakesInTurn, TakesUnion, StopsAt, not_there, refused, other_shape, no_memory, StopsAtInput}
 use Rattle.jls_station.specs.declared.input.ReadStop.TheVariants.{Whole}
 use Rattle.jls_station.specs.declared.input.InputFault.{InputFault}
 use Rattle.jls_station.specs.declared.outcome.Cause.{Cause}
@@ -26,8 +30,8 @@ grew_behind A B old mid new e see d h = record {
 }
 
 module _ (old mid new : History) (name : List ℕ) where
-  pub opened_and_given : (p : PartialPicture) → mid ≡ old ++ opened name ∷ [] → GrewBy (ReadsGive None (whole p)) mid new → GrewBy (IsTaken None name (whole p)) old new
-  opened_and_given p = grew_behind (ReadsGive None (whole p)) (IsTaken None name (whole p)) old mid new (opened name) (λ reads h. record { reads = reads; events_are = refl; give = h })
+  pub opened_and_given : (g : Given) → mid ≡ old ++ opened name ∷ [] → GrewBy (ReadsGive None g) mid new → GrewBy (IsTaken None name g) old new
+  opened_and_given g = grew_behind (ReadsGive None g) (IsTaken None name g) old mid new (opened name) (λ reads h. record { reads = reads; events_are = refl; give = h })
 
   pub opened_and_refused : (f : InputFault) (before : List Given) → mid ≡ old ++ opened name ∷ [] → GrewBy (ReadsRefuse f) mid new → GrewBy (StopsAt None before name (cause.Input f)) old new
   opened_and_refused f before = grew_behind (ReadsRefuse f) (StopsAt None before name (cause.Input f)) old mid new (opened name) (λ reads h. refused None before name f reads h)
@@ -71,6 +75,20 @@ same_shape_as_union : (ps : List PartialPicture) (joined q : PartialPicture) →
 same_shape_as_union [] joined q u same other = other
 same_shape_as_union (p ∷ ps) joined q u same other = same (shape_of_union p ps joined q u ∙ other)
 
+-- ---- read whole
+
+and_both : (a b : Bool) → a ≡ true → b ≡ true → (a && b) ≡ true
+and_both true b h k = k
+and_both false b h k = h
+
+module _ {X : Type 0} (P : X → Type 0) where
+  All-left : (xs ys : List X) → All P (xs ++ ys) → All P xs
+  All-left xs ys h k d lt =
+      subst P (get_or_append_left xs ys d k lt) (h k d (omega (arith, lt, length-append xs ys)))
+
+  All-last : (xs : List X) (y : X) → All P (xs ++ y ∷ []) → P y
+  All-last xs y h = subst P (get_or-append_seam xs y [] y) (h (length xs) y (omega (arith, length-append xs (y ∷ []))))
+
 -- ---- inputs in turn
 
 in_turn_more : (source : Option ℕ) (names : List (List ℕ)) (givens : List Given) (a b : List Event) (name : List ℕ) (g : Given)
@@ -81,44 +99,56 @@ in_turn_more source (n ∷ names) [] a b name g h t = absurd h
 in_turn_more source (n ∷ names) (x ∷ givens) a b name g h t =
     (h.0, h.1 ++ b, ap (λ (y : List Event). y ++ b) h.2 ∙ append_assoc h.0 h.1 b, h.3, in_turn_more source names givens h.1 b name g h.4 t)
 
-module _ (names : List (List ℕ)) (name : List ℕ) (p : PartialPicture) where
-  first_taken : (events : List Event) → IsTaken None name (whole p) events → TakesUnion None (name ∷ []) p true events
+-- whether one more was read whole too
+whole_one_more : (givens : List Given) (g : Given) (whole also both : Bool) → IsTrue whole ↔ All (λ x. x.stop ≡ Whole) givens → IsTrue also ↔ (g.stop ≡ Whole)
+    → both ≡ (whole && also) → IsTrue both ↔ All (λ x. x.stop ≡ Whole) (givens ++ g ∷ [])
+whole_one_more givens g whole also both h k is = (
+  λ t. let parts = and_parts whole also (sym is ∙ t) in
+      All-append (λ (x : Given). x.stop ≡ Whole) givens (g ∷ []) (h.0 parts.0)
+      (All-cons (λ (x : Given). x.stop ≡ Whole) g [] (k.0 parts.1) (All-nil (λ (x : Given). x.stop ≡ Whole))),
+  λ all. is ∙ and_both whole also (h.1 (All-left (λ (x : Given). x.stop ≡ Whole) givens (g ∷ []) all)) (k.1 (All-last (λ (x : Given). x.stop ≡ Whole) givens g all)),
+)
+
+module _ (names : List (List ℕ)) (name : List ℕ) (g : Given) (also : Bool) (also_is : IsTrue also ↔ (g.stop ≡ Whole)) where
+  first_taken : (events : List Event) → IsTaken None name g events → TakesUnion None (name ∷ []) g.partial also events
   first_taken events h = record {
-    givens = whole p ∷ [];
+    givens = g ∷ [];
     taken = record { in_turn = (events, [], sym (append-nil events), h, refl); one_shape = tt };
     union_is = refl;
-    whole_is = (λ _. All-cons (λ (g : Given). g.stop ≡ Whole) (whole p) [] refl (All-nil (λ (g : Given). g.stop ≡ Whole)), λ _. refl);
+    whole_is = whole_one_more [] g true also also (λ _. All-nil (λ (x : Given). x.stop ≡ Whole), λ _. refl) also_is refl;
   }
 
-  next_taken : (joined : PartialPicture) → has_same_shape joined p ≡ true → (a b : List Event) → TakesUnion None names joined true a → IsTaken None name (whole p) b
-      → TakesUnion None (names ++ name ∷ []) (union joined p) true (a ++ b)
-  next_taken joined e a b h t =
-      let more : partials (h.givens ++ whole p ∷ []) ≡ partials h.givens ++ p ∷ [] = map-append (λ (g : Given). g.partial) h.givens (whole p ∷ []) in
+  next_taken : (joined : PartialPicture) (whole both : Bool) → both ≡ (whole && also) → has_same_shape joined g.partial ≡ true → (a b : List Event)
+      → TakesUnion None names joined whole a → IsTaken None name g b → TakesUnion None (names ++ name ∷ []) (union joined g.partial) both (a ++ b)
+  next_taken joined whole both is e a b h t =
+      let more : partials (h.givens ++ g ∷ []) ≡ partials h.givens ++ g.partial ∷ [] = map-append (λ (x : Given). x.partial) h.givens (g ∷ []) in
       record {
-        givens = h.givens ++ whole p ∷ [];
+        givens = h.givens ++ g ∷ [];
         taken = record {
-          in_turn = in_turn_more None names h.givens a b name (whole p) h.taken.in_turn t;
-          one_shape = subst AreOfOneShape (sym more) (one_shape_more (partials h.givens) joined p h.union_is h.taken.one_shape e);
+          in_turn = in_turn_more None names h.givens a b name g h.taken.in_turn t;
+          one_shape = subst AreOfOneShape (sym more) (one_shape_more (partials h.givens) joined g.partial h.union_is h.taken.one_shape e);
         };
-        union_is = subst (λ (ps : List PartialPicture). IsUnionOf ps (union joined p)) (sym more) (union_of_more (partials h.givens) joined p h.union_is);
-        whole_is = (
-          λ _. All-append (λ (g : Given). g.stop ≡ Whole) h.givens (whole p ∷ []) (h.whole_is.0 refl)
-              (All-cons (λ (g : Given). g.stop ≡ Whole) (whole p) [] refl (All-nil (λ (g : Given). g.stop ≡ Whole))),
-          λ _. refl,
-        );
+        union_is = subst (λ (ps : List PartialPicture). IsUnionOf ps (union joined g.partial)) (sym more) (union_of_more (partials h.givens) joined g.partial h.union_is);
+        whole_is = whole_one_more h.givens g whole also both h.whole_is also_is is;
       }
 
-pub union_of_first : (old new : History) (name : List ℕ) (p : PartialPicture) → GrewBy (IsTaken None name (whole p)) old new → GrewBy (TakesUnion None (name ∷ []) p true) old new
-union_of_first old new name p h = record { events = h.events; grew = h.grew; they_are = first_taken [] name p h.events h.they_are }
+pub union_of_first : (old new : History) (name : List ℕ) (g : Given) (also : Bool) (held : PartialPicture) → IsTrue also ↔ (g.stop ≡ Whole) → held ≡ g.partial
+    → GrewBy (IsTaken None name g) old new → GrewBy (TakesUnion None (name ∷ []) held also) old new
+union_of_first old new name g also held w is h = record {
+  events = h.events;
+  grew = h.grew;
+  they_are = subst (λ (p : PartialPicture). TakesUnion None (name ∷ []) p also h.events) (sym is) (first_taken [] name g also w h.events h.they_are);
+}
 
-module _ (old mid new : History) (names : List (List ℕ)) (joined : PartialPicture) (taken : GrewBy (TakesUnion None names joined true) old mid) where
-  pub union_of_next : (name : List ℕ) (p new_union : PartialPicture) → GrewBy (IsTaken None name (whole p)) mid new → has_same_shape joined p ≡ true → new_union ≡ union joined p
-      → GrewBy (TakesUnion None (names ++ name ∷ []) new_union true) old new
-  union_of_next name p new_union h e is = record {
+module _ (old mid new : History) (names : List (List ℕ)) (joined : PartialPicture) (whole : Bool) (taken : GrewBy (TakesUnion None names joined whole) old mid) where
+  pub union_of_next : (name : List ℕ) (g : Given) (also both : Bool) (new_union : PartialPicture) → IsTrue also ↔ (g.stop ≡ Whole) → both ≡ (whole && also)
+      → GrewBy (IsTaken None name g) mid new → has_same_shape joined g.partial ≡ true → new_union ≡ union joined g.partial
+      → GrewBy (TakesUnion None (names ++ name ∷ []) new_union both) old new
+  union_of_next name g also both new_union w b h e is = record {
     events = taken.events ++ h.events;
     grew = grew_twice old mid new taken.events h.events taken.grew h.grew;
-    they_are = subst (λ (u : PartialPicture). TakesUnion None (names ++ name ∷ []) u true (taken.events ++ h.events)) (sym is)
-        (next_taken names name p joined e taken.events h.events taken.they_are h.they_are);
+    they_are = subst (λ (u : PartialPicture). TakesUnion None (names ++ name ∷ []) u both (taken.events ++ h.events)) (sym is)
+        (next_taken names name g also w joined whole both b e taken.events h.events taken.they_are h.they_are);
   }
 
   module _ (all after : List (List ℕ)) (r : Refusal) (among : all ≡ names ++ r.name.now ∷ after) where
@@ -142,21 +172,21 @@ module _ (old mid new : History) (names : List (List ℕ)) (joined : PartialPict
     pub stops_next : ((before : List Given) → GrewBy (StopsAt None before r.name.now r.cause) mid new) → GrewBy (StopsAtInput None all r) old new
     stops_next h = let s = h taken.they_are.givens in stops_there s.events s.grew s.they_are
 
-    pub differs_next : (p : PartialPicture) → r.cause ≡ cause.ShapeDiffers → GrewBy (IsTaken None r.name.now (whole p)) mid new → has_same_shape joined p ≡ false
+    pub differs_next : (g : Given) → r.cause ≡ cause.ShapeDiffers → GrewBy (IsTaken None r.name.now g) mid new → has_same_shape joined g.partial ≡ false
         → GrewBy (StopsAtInput None all r) old new
-    differs_next p is h e =
+    differs_next g is h e =
         stops_there h.events h.grew
         (subst (λ (c : Cause). StopsAt None taken.they_are.givens r.name.now c h.events) (sym is)
-        (other_shape None taken.they_are.givens r.name.now (whole p) h.events h.they_are
-        (other_shape_than_union (partials taken.they_are.givens) joined p taken.they_are.union_is e)))
+        (other_shape None taken.they_are.givens r.name.now g h.events h.they_are
+        (other_shape_than_union (partials taken.they_are.givens) joined g.partial taken.they_are.union_is e)))
 
-    pub ran_out_next : (p : PartialPicture) → r.cause ≡ cause.OutOfMemory → GrewBy (IsTaken None r.name.now (whole p)) mid new → (has_same_shape joined p ≡ false → ⊥)
+    pub ran_out_next : (g : Given) → r.cause ≡ cause.OutOfMemory → GrewBy (IsTaken None r.name.now g) mid new → (has_same_shape joined g.partial ≡ false → ⊥)
         → GrewBy (StopsAtInput None all r) old new
-    ran_out_next p is h same =
+    ran_out_next g is h same =
         stops_there h.events h.grew
         (subst (λ (c : Cause). StopsAt None taken.they_are.givens r.name.now c h.events) (sym is)
-        (no_memory None taken.they_are.givens r.name.now (whole p) h.events h.they_are
-        (same_shape_as_union (partials taken.they_are.givens) joined p taken.they_are.union_is same)))
+        (no_memory None taken.they_are.givens r.name.now g h.events h.they_are
+        (same_shape_as_union (partials taken.they_are.givens) joined g.partial taken.they_are.union_is same)))
 
 -- the first input stops the command
 pub stops_first : (old new : History) (others : List (List ℕ)) (r : Refusal) → ((before : List Given) → GrewBy (StopsAt None before r.name.now r.cause) old new)

@@ -1,3 +1,5 @@
+pub mod CopyEnds
+pub mod CopySteps
 pub mod InTurn
 pub mod JoinSteps
 pub mod OneInput

@@ -1,118 +1,218 @@
 -- Reads of one input, one after the other.
-use Rattle.std.proofs.Common.{◌≡◌, ◌<◌, ◌≤◌, ℕ, ◌+◌, inl, inr, List, [], ◌∷◌, ◌++◌, Option, Some, None, length, refl, sym, subst, ap, ◌∙◌, append_assoc, arith}
+use Rattle.std.proofs.Common.{◌≡◌, ◌<◌, ◌≤◌, ℕ, zero, suc, ◌+◌, get_or, take, true, false, List, [], ◌∷◌, ◌++◌, Option, Some, None, Result, Ok, Err, length, refl, sym, subst, ap, ◌∙◌, append_assoc, arith}
+use Rattle.std.proofs.lemmas.Bool.{false≢true}
 use Rattle.std.proofs.lemmas.List.{append-nil, length-append}
-use Rattle.std.specs.Prelude.{IfSome}
+use Rattle.std.specs.Prelude.{IfSome, OnErr}
 use Rattle.std.specs.Io.KnownBytes.{Consumes, IsAtEnd}
+use Rattle.jls_marker.specs.declared.fault.MarkerFault.TheVariants as marker
 use Rattle.jls_partial.specs.Partial.{PartialPicture}
 use Rattle.jls_partial.specs.TextReading.{Fails, read_text}
 use Rattle.jls_partial.specs.declared.text_fault.TextFault.{TextFault}
 use Rattle.jls_partial.specs.declared.text_fault.TextFault.TheVariants as text_fault
+use Rattle.jls_copy.specs.CopyReads.{CopyGivesNone, is_final_end}
+use Rattle.jls_copy.specs.Course.{Course, without_units, with_fill_alone}
+use Rattle.jls_copy.specs.CourseLaws.{OneCourse}
+use Rattle.jls_copy.specs.declared.end.End.TheVariants.{Header}
+use Rattle.jls_copy.specs.declared.reader.CopyFault.{CopyFault}
+use Rattle.jls_copy.specs.declared.reader.CopyFault.TheVariants as copy
 use Rattle.jls_device.specs.Event.{Event, History, GrewBy, opened, not_opened, gave, read_failed, created, not_created, took, write_failed, bytes_given}
-use Rattle.jls_device.proofs.Growing.{grew_twice}
-use Rattle.jls_station.specs.Inputs.{IsEnough, whole, by_text, no_text, not_read, ReadsGive, ReadsRefuse, for_fault, for_memory}
-use Rattle.jls_station.specs.Reading.{GoesOn, StopsWith, IsRead}
-use Rattle.jls_station.specs.Texts.{IsTextOf, IsNoText}
-use Rattle.jls_station.specs.InputFaults.{input_fault_of}
+use Rattle.jls_device.proofs.Growing.{grew_as, grew_twice}
+use Rattle.jls_station.specs.Given.{Given, Gives}
+use Rattle.jls_station.specs.Inputs.{IsCopyDone, IsEnough, IsRefused, no_text, no_picture, copy_not_read, between_reads, behind_the_last, ReadsGive, ReadsRefuse, for_fault, for_memory}
+use Rattle.jls_station.specs.Reading.{AreBytes, GoesOn, StopsWith, IsRead, IsReadInPart, ReadSoFar}
+use Rattle.jls_station.specs.Texts.{is_text, IsTextOf, IsNoText}
+use Rattle.jls_station.specs.InputFaults.{input_fault_of, input_fault_of_copy}
 use Rattle.jls_station.specs.declared.input.ReadStop.{ReadStop}
 use Rattle.jls_station.specs.declared.input.ReadStop.TheVariants.{Whole, Failed, Turns}
+use Rattle.jls_station.specs.declared.input.InputFault.{InputFault}
 use Rattle.jls_station.specs.declared.input.InputFault.TheVariants as fault
 
--- so many reads gave these bytes, and each gave some
-pub record ReadSoFar (count : ℕ) (bytes : List ℕ) (reads : List Event) : Type 0 where
-  pub goes_on : GoesOn IsEnough [] reads
-  pub bytes_are : bytes ≡ bytes_given reads
-  pub number : length reads ≡ count
+-- ---- bytes
 
-never_enough : (bytes : List ℕ) → IsEnough bytes → ⊥
-never_enough bytes h = h
+bytes_both : (xs ys : List ℕ) → AreBytes xs → AreBytes ys → AreBytes (xs ++ ys)
+bytes_both [] ys h k = k
+bytes_both (x ∷ xs) ys h k = (h.0, bytes_both xs ys h.1 k)
 
--- one read more that gave some
-goes_on_more : (fed : List ℕ) (reads : List Event) (room : ℕ) (bytes : List ℕ) → GoesOn IsEnough fed reads → room ≤ 4096 → 0 < length bytes
-    → GoesOn IsEnough fed (reads ++ gave room bytes ∷ []) × (bytes_given (reads ++ gave room bytes ∷ []) ≡ bytes_given reads ++ bytes)
-goes_on_more fed [] room bytes h fits some = ((fits, some, never_enough fed, tt), append-nil bytes)
-goes_on_more fed (gave r b ∷ reads) room bytes h fits some =
-    let more = goes_on_more (fed ++ b) reads room bytes h.3 fits some in
-    ((h.0, h.1, h.2, more.0), ap (λ (x : List ℕ). b ++ x) more.1 ∙ sym (append_assoc b (bytes_given reads) bytes))
-goes_on_more fed (opened name ∷ reads) room bytes h fits some = absurd h
-goes_on_more fed (not_opened name ∷ reads) room bytes h fits some = absurd h
-goes_on_more fed (read_failed ∷ reads) room bytes h fits some = absurd h
-goes_on_more fed (created name ∷ reads) room bytes h fits some = absurd h
-goes_on_more fed (not_created name ∷ reads) room bytes h fits some = absurd h
-goes_on_more fed (took b ∷ reads) room bytes h fits some = absurd h
-goes_on_more fed (write_failed ∷ reads) room bytes h fits some = absurd h
+bytes_front : (n : ℕ) (xs : List ℕ) → AreBytes xs → AreBytes (take n xs)
+bytes_front zero xs h = tt
+bytes_front (suc n) [] h = tt
+bytes_front (suc n) (x ∷ xs) h = (h.0, bytes_front n xs h.1)
 
--- all reads, the last of which gave nothing, or failed, or was not made
-read_with : (count : ℕ) (bytes : List ℕ) (on last : List Event) (stop : ReadStop) → ReadSoFar count bytes on → StopsWith IsEnough bytes last stop
-    → count + length last ≤ 4294967295 → (stop ≡ Turns → count + length last ≡ 4294967295) → IsRead IsEnough (on ++ last) bytes stop
-read_with count bytes on last stop h s at_most used_up =
-    let n = length-append on last in
-    record {
-      on = on;
-      last = last;
-      reads_are = refl;
-      goes_on = h.goes_on;
-      bytes_are = h.bytes_are;
-      stops = s;
-      at_most = omega (arith, n, h.number, at_most);
-      used_up = λ e. let u = used_up e in omega (arith, n, h.number, u);
-    }
+bytes_each : (xs : List ℕ) → ((k : ℕ) → get_or xs k 0 < 256) → AreBytes xs
+bytes_each [] h = tt
+bytes_each (x ∷ xs) h = (h 0, bytes_each xs (λ k. h (suc k)))
 
-module _ (count : ℕ) (old mid new : History) (bytes : List ℕ) where
-  pub nothing_read : GrewBy (ReadSoFar 0 []) old old
-  nothing_read = record { events = []; grew = sym (append-nil old); they_are = record { goes_on = tt; bytes_are = refl; number = refl } }
+-- the front of a buffer
+pub front_of_buffer : (n : ℕ) (xs : List ℕ) → ((k : ℕ) → get_or xs k 0 < 256) → AreBytes (take n xs)
+front_of_buffer n xs h = bytes_front n xs (bytes_each xs h)
 
-  pub one_read_more : (room : ℕ) (more : List ℕ) → GrewBy (ReadSoFar count bytes) old mid → new ≡ mid ++ gave room more ∷ [] → room ≤ 4096 → 0 < length more
-      → GrewBy (ReadSoFar (count + 1) (bytes ++ more)) old new
-  one_read_more room more h e fits some =
-      let on = goes_on_more [] h.events room more h.they_are.goes_on fits some in
+-- ---- results
+
+pub on_error : {T E : Type 0} (r : Result T E) (P : Type 0) → P → OnErr r P
+on_error (Ok x) P h = tt
+on_error (Err e) P h = h
+
+-- ---- reads of an input, as long as its bytes are not enough
+
+module _ (E : List ℕ → Type 0) where
+  -- one read more that gave some
+  goes_on_more : (fed : List ℕ) (reads : List Event) (room : ℕ) (bytes : List ℕ) → GoesOn E fed reads → room ≤ 4096 → 0 < length bytes
+      → ((t : List ℕ) → t ≡ fed ++ bytes_given reads → E t → ⊥)
+      → GoesOn E fed (reads ++ gave room bytes ∷ []) × (bytes_given (reads ++ gave room bytes ∷ []) ≡ bytes_given reads ++ bytes)
+  goes_on_more fed [] room bytes h fits some not = ((fits, some, not fed (sym (append-nil fed)), tt), append-nil bytes)
+  goes_on_more fed (gave r b ∷ reads) room bytes h fits some not =
+      let more = goes_on_more (fed ++ b) reads room bytes h.3 fits some (λ t e. not t (e ∙ append_assoc fed b (bytes_given reads))) in
+      ((h.0, h.1, h.2, more.0), ap (λ (x : List ℕ). b ++ x) more.1 ∙ sym (append_assoc b (bytes_given reads) bytes))
+  goes_on_more fed (opened name ∷ reads) room bytes h fits some not = absurd h
+  goes_on_more fed (not_opened name ∷ reads) room bytes h fits some not = absurd h
+  goes_on_more fed (read_failed ∷ reads) room bytes h fits some not = absurd h
+  goes_on_more fed (created name ∷ reads) room bytes h fits some not = absurd h
+  goes_on_more fed (not_created name ∷ reads) room bytes h fits some not = absurd h
+  goes_on_more fed (took b ∷ reads) room bytes h fits some not = absurd h
+  goes_on_more fed (write_failed ∷ reads) room bytes h fits some not = absurd h
+
+  -- all reads, the last of which gave nothing, or failed, or was not made
+  read_with : (count : ℕ) (bytes : List ℕ) (on last : List Event) (stop : ReadStop) → ReadSoFar E count bytes on → StopsWith E bytes last stop
+      → count + length last ≤ 4294967295 → (stop ≡ Turns → count + length last ≡ 4294967295) → IsRead E (on ++ last) bytes stop
+  read_with count bytes on last stop h s at_most used_up =
+      let n = length-append on last in
       record {
-        events = h.events ++ gave room more ∷ [];
-        grew = grew_twice old mid new h.events (gave room more ∷ []) h.grew e;
-        they_are = record {
-          goes_on = on.0;
-          bytes_are = ap (λ (b : List ℕ). b ++ more) h.they_are.bytes_are ∙ sym on.1;
-          number = omega (arith, length-append h.events (gave room more ∷ []), h.they_are.number);
-        };
+        on = on;
+        last = last;
+        reads_are = refl;
+        goes_on = h.goes_on;
+        bytes_are = h.bytes_are;
+        are_bytes = h.are_bytes;
+        stops = s;
+        at_most = omega (arith, n, h.number, at_most);
+        used_up = λ e. let u = used_up e in omega (arith, n, h.number, u);
       }
 
-  -- the end was met
-  pub read_to_end : (room : ℕ) (none : List ℕ) → GrewBy (ReadSoFar count bytes) old mid → new ≡ mid ++ gave room none ∷ [] → none ≡ [] → 0 < room → room ≤ 4096 → count < 4294967295
-      → GrewBy (λ reads. IsRead IsEnough reads bytes Whole) old new
-  read_to_end room none h e is some fits lt = record {
-    events = h.events ++ gave room [] ∷ [];
-    grew = grew_twice old mid new h.events (gave room [] ∷ []) h.grew (subst (λ (b : List ℕ). new ≡ mid ++ gave room b ∷ []) is e);
-    they_are = read_with count bytes h.events (gave room [] ∷ []) Whole h.they_are (some, fits, never_enough bytes) (omega (arith, lt)) (λ t. absurd cc);
-  }
+  module _ (count : ℕ) (old mid new : History) (bytes : List ℕ) where
+    pub nothing_read : GrewBy (ReadSoFar E 0 []) old old
+    nothing_read = record { events = []; grew = sym (append-nil old); they_are = record { goes_on = tt; bytes_are = refl; are_bytes = tt; number = refl } }
 
-  -- a read failed
-  pub stopped_by_failure : (offset : ℕ) → offset ≡ length bytes → GrewBy (ReadSoFar count bytes) old mid → new ≡ mid ++ read_failed ∷ [] → count < 4294967295
-      → GrewBy (ReadsRefuse (fault.Read Failed offset)) old new
-  stopped_by_failure offset is h e lt = subst (λ (n : ℕ). GrewBy (ReadsRefuse (fault.Read Failed n)) old new) (sym is) (record {
-    events = h.events ++ read_failed ∷ [];
-    grew = grew_twice old mid new h.events (read_failed ∷ []) h.grew e;
-    they_are = for_fault (fault.Read Failed (length bytes)) bytes Failed _
-        (read_with count bytes h.events (read_failed ∷ []) Failed h.they_are (never_enough bytes) (omega (arith, lt)) (λ t. absurd cc))
-        (not_read bytes Failed (λ t. absurd cc));
-  })
+    pub one_read_more : (room : ℕ) (more : List ℕ) → GrewBy (ReadSoFar E count bytes) old mid → new ≡ mid ++ gave room more ∷ [] → (E bytes → ⊥) → room ≤ 4096
+        → 0 < length more → AreBytes more → GrewBy (ReadSoFar E (count + 1) (bytes ++ more)) old new
+    one_read_more room more h e not fits some low =
+        let is = h.they_are.bytes_are in
+        let on = goes_on_more [] h.events room more h.they_are.goes_on fits some (λ t same enough. not (subst E (same ∙ sym is) enough)) in
+        record {
+          events = h.events ++ gave room more ∷ [];
+          grew = grew_twice old mid new h.events (gave room more ∷ []) h.grew e;
+          they_are = record {
+            goes_on = on.0;
+            bytes_are = ap (λ (b : List ℕ). b ++ more) is ∙ sym on.1;
+            are_bytes = bytes_both bytes more h.they_are.are_bytes low;
+            number = omega (arith, length-append h.events (gave room more ∷ []), h.they_are.number);
+          };
+        }
 
-  -- the last turn was made
-  pub stopped_by_turns : (offset : ℕ) → offset ≡ length bytes → GrewBy (ReadSoFar count bytes) old mid → count ≡ 4294967295 → GrewBy (ReadsRefuse (fault.Read Turns offset)) old mid
-  stopped_by_turns offset same h is = subst (λ (n : ℕ). GrewBy (ReadsRefuse (fault.Read Turns n)) old mid) (sym same) (record {
-    events = h.events;
-    grew = h.grew;
-    they_are = for_fault (fault.Read Turns (length bytes)) bytes Turns h.events
-        (subst (λ (reads : List Event). IsRead IsEnough reads bytes Turns) (append-nil h.events)
-        (read_with count bytes h.events [] Turns h.they_are (never_enough bytes) (omega (arith, is)) (λ t. omega (arith, is))))
-        (not_read bytes Turns (λ t. absurd cc));
-  })
+    -- the end was met
+    pub read_to_end : (room : ℕ) (none : List ℕ) → GrewBy (ReadSoFar E count bytes) old mid → new ≡ mid ++ gave room none ∷ [] → none ≡ [] → (E bytes → ⊥)
+        → 0 < room → room ≤ 4096 → count < 4294967295 → GrewBy (λ reads. IsRead E reads bytes Whole) old new
+    read_to_end room none h e is not some fits lt = record {
+      events = h.events ++ gave room [] ∷ [];
+      grew = grew_twice old mid new h.events (gave room [] ∷ []) h.grew (subst (λ (b : List ℕ). new ≡ mid ++ gave room b ∷ []) is e);
+      they_are = read_with count bytes h.events (gave room [] ∷ []) Whole h.they_are (some, fits, not) (omega (arith, lt)) (λ t. absurd cc);
+    }
 
-  -- memory ran out
-  pub stopped_for_memory : GrewBy (ReadSoFar count bytes) old mid → count ≤ 4294967295 → GrewBy (ReadsRefuse fault.OutOfMemory) old mid
-  stopped_for_memory h le = record {
-    events = h.events;
-    grew = h.grew;
-    they_are = for_memory h.events (inl (h.they_are.goes_on, omega (arith, le, h.they_are.number)));
-  }
+    -- a read failed
+    pub read_to_failure : GrewBy (ReadSoFar E count bytes) old mid → new ≡ mid ++ read_failed ∷ [] → (E bytes → ⊥) → count < 4294967295
+        → GrewBy (λ reads. IsRead E reads bytes Failed) old new
+    read_to_failure h e not lt = record {
+      events = h.events ++ read_failed ∷ [];
+      grew = grew_twice old mid new h.events (read_failed ∷ []) h.grew e;
+      they_are = read_with count bytes h.events (read_failed ∷ []) Failed h.they_are not (omega (arith, lt)) (λ t. absurd cc);
+    }
+
+    -- the last turn was made
+    pub read_to_turns : GrewBy (ReadSoFar E count bytes) old mid → (E bytes → ⊥) → count ≡ 4294967295 → GrewBy (λ reads. IsRead E reads bytes Turns) old mid
+    read_to_turns h not is = record {
+      events = h.events;
+      grew = h.grew;
+      they_are = subst (λ (reads : List Event). IsRead E reads bytes Turns) (append-nil h.events)
+          (read_with count bytes h.events [] Turns h.they_are not (omega (arith, is)) (λ t. omega (arith, is)));
+    }
+
+    -- the bytes are enough
+    pub read_enough : GrewBy (ReadSoFar E count bytes) old mid → E bytes → count ≤ 4294967295 → GrewBy (λ reads. IsRead E reads bytes Whole) old mid
+    read_enough h enough le = record {
+      events = h.events;
+      grew = h.grew;
+      they_are = subst (λ (reads : List Event). IsRead E reads bytes Whole) (append-nil h.events)
+          (read_with count bytes h.events [] Whole h.they_are enough (omega (arith, le)) (λ t. absurd cc));
+    }
+
+    -- memory ran out
+    pub read_in_part : GrewBy (ReadSoFar E count bytes) old mid → count ≤ 4294967295 → GrewBy (IsReadInPart E) old mid
+    read_in_part h le = record { events = h.events; grew = h.grew; they_are = (h.they_are.goes_on, omega (arith, le, h.they_are.number)) }
+
+-- ---- a text
+
+pub never_enough : (bytes : List ℕ) → is_text bytes ≡ true → IsEnough bytes → ⊥
+never_enough bytes h e = false≢true (sym e.0 ∙ h)
+
+pub still_text : (bytes more : List ℕ) → is_text bytes ≡ true → is_text (bytes ++ more) ≡ true
+still_text [] more h = absurd (false≢true h)
+still_text (b ∷ bytes) more h = h
+
+pub same_first : (bytes more : List ℕ) → 0 < length bytes → is_text (bytes ++ more) ≡ is_text bytes
+same_first [] more h = absurd (omega (arith, h))
+same_first (b ∷ bytes) more h = refl
+
+-- ---- a copy
+
+goes_on_enough : (fed : List ℕ) (reads : List Event) → GoesOn IsCopyDone fed reads → GoesOn IsEnough fed reads
+goes_on_enough fed [] h = tt
+goes_on_enough fed (gave r b ∷ reads) h = (h.0, h.1, λ e. h.2 e.1, goes_on_enough (fed ++ b) reads h.3)
+goes_on_enough fed (opened name ∷ reads) h = absurd h
+goes_on_enough fed (not_opened name ∷ reads) h = absurd h
+goes_on_enough fed (read_failed ∷ reads) h = absurd h
+goes_on_enough fed (created name ∷ reads) h = absurd h
+goes_on_enough fed (not_created name ∷ reads) h = absurd h
+goes_on_enough fed (took b ∷ reads) h = absurd h
+goes_on_enough fed (write_failed ∷ reads) h = absurd h
+
+stops_enough : (bytes : List ℕ) (last : List Event) (stop : ReadStop) → is_text bytes ≡ false → StopsWith IsCopyDone bytes last stop → StopsWith IsEnough bytes last stop
+stops_enough bytes [] Whole copied h = (copied, h)
+stops_enough bytes [] Turns copied h = λ e. h e.1
+stops_enough bytes [] Failed copied h = absurd h
+stops_enough bytes (gave room [] ∷ []) Whole copied h = (h.0, h.1, λ e. h.2 e.1)
+stops_enough bytes (gave room [] ∷ []) Failed copied h = absurd h
+stops_enough bytes (gave room [] ∷ []) Turns copied h = absurd h
+stops_enough bytes (gave room [] ∷ e ∷ more) stop copied h = absurd h
+stops_enough bytes (gave room (b ∷ bs) ∷ more) stop copied h = absurd h
+stops_enough bytes (read_failed ∷ []) Failed copied h = λ e. h e.1
+stops_enough bytes (read_failed ∷ []) Whole copied h = absurd h
+stops_enough bytes (read_failed ∷ []) Turns copied h = absurd h
+stops_enough bytes (read_failed ∷ e ∷ more) stop copied h = absurd h
+stops_enough bytes (opened name ∷ more) stop copied h = absurd h
+stops_enough bytes (not_opened name ∷ more) stop copied h = absurd h
+stops_enough bytes (created name ∷ more) stop copied h = absurd h
+stops_enough bytes (not_created name ∷ more) stop copied h = absurd h
+stops_enough bytes (took b ∷ more) stop copied h = absurd h
+stops_enough bytes (write_failed ∷ more) stop copied h = absurd h
+
+-- the reads of an input that is a copy are those of the copy
+pub read_as_input : (bytes : List ℕ) (stop : ReadStop) (old new : History) → is_text bytes ≡ false → GrewBy (λ reads. IsRead IsCopyDone reads bytes stop) old new
+    → GrewBy (λ reads. IsRead IsEnough reads bytes stop) old new
+read_as_input bytes stop old new copied =
+    grew_as (λ reads. IsRead IsCopyDone reads bytes stop) (λ reads. IsRead IsEnough reads bytes stop) old new
+    (λ reads h. record {
+      on = h.on;
+      last = h.last;
+      reads_are = h.reads_are;
+      goes_on = goes_on_enough [] h.on h.goes_on;
+      bytes_are = h.bytes_are;
+      are_bytes = h.are_bytes;
+      stops = stops_enough bytes h.last stop copied h.stops;
+      at_most = h.at_most;
+      used_up = h.used_up;
+    })
+
+pub part_of_input : (old new : History) → GrewBy (IsReadInPart IsCopyDone) old new → GrewBy (IsReadInPart IsEnough) old new
+part_of_input old new = grew_as (IsReadInPart IsCopyDone) (IsReadInPart IsEnough) old new (λ reads h. (goes_on_enough [] reads h.0, h.1))
 
 -- ---- known bytes
 
@@ -133,15 +233,23 @@ consumes_end old mid new a b h k is =
 
 -- ---- what the bytes of one input are
 
-module _ (old new : History) (bytes : List ℕ) (h : GrewBy (λ reads. IsRead IsEnough reads bytes Whole) old new) where
-  pub given_text : (p : PartialPicture) → IsTextOf bytes p → GrewBy (ReadsGive None (whole p)) old new
-  given_text p is = record { events = h.events; grew = h.grew; they_are = record { bytes = bytes; is_read = h.they_are; gives = by_text None bytes p is } }
+module _ (old new : History) where
+  pub out_of_memory_in_part : GrewBy (IsReadInPart IsEnough) old new → GrewBy (ReadsRefuse fault.OutOfMemory) old new
+  out_of_memory_in_part = grew_as (IsReadInPart IsEnough) (ReadsRefuse fault.OutOfMemory) old new (λ reads h. for_memory reads (between_reads reads h))
 
-  pub refused_as_text : (f : TextFault) → IsNoText bytes f → GrewBy (ReadsRefuse (fault.Text f)) old new
-  refused_as_text f fails = record { events = h.events; grew = h.grew; they_are = for_fault (fault.Text f) bytes Whole h.events h.they_are (no_text bytes f fails) }
+  module _ (bytes : List ℕ) (stop : ReadStop) (h : GrewBy (λ reads. IsRead IsEnough reads bytes stop) old new) where
+    pub refused_for : (f : InputFault) → IsRefused bytes stop f → GrewBy (ReadsRefuse f) old new
+    refused_for f is = record { events = h.events; grew = h.grew; they_are = for_fault f bytes stop h.events h.they_are is }
 
-  pub refused_for_memory : GrewBy (ReadsRefuse fault.OutOfMemory) old new
-  refused_for_memory = record { events = h.events; grew = h.grew; they_are = for_memory h.events (inr (bytes, h.they_are)) }
+    pub out_of_memory_behind : (is_text bytes ≡ true → stop ≡ Whole) → GrewBy (ReadsRefuse fault.OutOfMemory) old new
+    out_of_memory_behind is = record { events = h.events; grew = h.grew; they_are = for_memory h.events (behind_the_last bytes stop h.events h.they_are is) }
+
+    pub given_so : (g : Given) → g.stop ≡ stop → Gives None bytes g → GrewBy (ReadsGive None g) old new
+    given_so g is gives = record {
+      events = h.events;
+      grew = h.grew;
+      they_are = record { bytes = bytes; is_read = subst (λ (s : ReadStop). IsRead IsEnough h.events bytes s) (sym is) h.they_are; gives = gives };
+    }
 
 -- where the bytes of a source are known, they are those that were read
 pub known_text : (old new : Option (List ℕ)) (bytes : List ℕ) (p : PartialPicture) → Consumes old new bytes → IsAtEnd new → IsTextOf bytes p → IfSome old (λ known. IsTextOf known p)
@@ -150,17 +258,38 @@ known_text (Some xs) None bytes p h e is = absurd h
 known_text (Some xs) (Some ys) bytes p h e is = subst (λ (t : List ℕ). IsTextOf t p) (sym (h ∙ (ap (λ (t : List ℕ). bytes ++ t) e ∙ append-nil bytes))) is
 
 -- the fault of a text that a function answers, as the fault of an input
-pub refused_by : (old new : History) (bytes : List ℕ) (f : TextFault) → GrewBy (λ reads. IsRead IsEnough reads bytes Whole) old new → Fails f (read_text bytes)
-    → GrewBy (ReadsRefuse (input_fault_of f)) old new
-refused_by old new bytes (text_fault.Magic offset) h e = refused_as_text old new bytes h (text_fault.Magic offset) e
-refused_by old new bytes (text_fault.BadShape offset) h e = refused_as_text old new bytes h (text_fault.BadShape offset) e
-refused_by old new bytes (text_fault.Truncated offset) h e = refused_as_text old new bytes h (text_fault.Truncated offset) e
-refused_by old new bytes (text_fault.Place offset) h e = refused_as_text old new bytes h (text_fault.Place offset) e
-refused_by old new bytes (text_fault.Count offset) h e = refused_as_text old new bytes h (text_fault.Count offset) e
-refused_by old new bytes (text_fault.Order offset) h e = refused_as_text old new bytes h (text_fault.Order offset) e
-refused_by old new bytes (text_fault.Sample offset) h e = refused_as_text old new bytes h (text_fault.Sample offset) e
-refused_by old new bytes (text_fault.Trailing offset) h e = refused_as_text old new bytes h (text_fault.Trailing offset) e
-refused_by old new bytes text_fault.OutOfMemory h e = refused_for_memory old new bytes h
+module _ (old new : History) (bytes : List ℕ) (text : is_text bytes ≡ true) (h : GrewBy (λ reads. IsRead IsEnough reads bytes Whole) old new) where
+  refused_as_text : (f : TextFault) → IsNoText bytes f → GrewBy (ReadsRefuse (fault.Text f)) old new
+  refused_as_text f fails = refused_for old new bytes Whole h (fault.Text f) (no_text bytes f text fails)
+
+  pub refused_by : (f : TextFault) → Fails f (read_text bytes) → GrewBy (ReadsRefuse (input_fault_of f)) old new
+  refused_by (text_fault.Magic offset) e = refused_as_text (text_fault.Magic offset) e
+  refused_by (text_fault.BadShape offset) e = refused_as_text (text_fault.BadShape offset) e
+  refused_by (text_fault.Truncated offset) e = refused_as_text (text_fault.Truncated offset) e
+  refused_by (text_fault.Place offset) e = refused_as_text (text_fault.Place offset) e
+  refused_by (text_fault.Count offset) e = refused_as_text (text_fault.Count offset) e
+  refused_by (text_fault.Order offset) e = refused_as_text (text_fault.Order offset) e
+  refused_by (text_fault.Sample offset) e = refused_as_text (text_fault.Sample offset) e
+  refused_by (text_fault.Trailing offset) e = refused_as_text (text_fault.Trailing offset) e
+  refused_by text_fault.OutOfMemory e = out_of_memory_behind old new bytes Whole h (λ _. refl)
+
+-- the fault of a copy, likewise
+pub refused_as_copy : (old new : History) (bytes : List ℕ) (stop : ReadStop) → is_text bytes ≡ false → GrewBy (λ reads. IsRead IsEnough reads bytes stop) old new
+    → (f : CopyFault) → CopyGivesNone bytes f → GrewBy (ReadsRefuse (input_fault_of_copy f stop (length bytes))) old new
+refused_as_copy old new bytes stop copied h copy.OutOfMemory e = out_of_memory_behind old new bytes stop h (λ is. absurd (false≢true (sym copied ∙ is)))
+refused_as_copy old new bytes Whole copied h (copy.NoPicture f offset) e = refused_for old new bytes Whole h (fault.NoPicture f offset) (no_picture bytes f offset copied e)
+refused_as_copy old new bytes Failed copied h (copy.NoPicture f offset) e =
+    refused_for old new bytes Failed h (fault.Read Failed (length bytes)) (copy_not_read bytes Failed f offset copied (λ t. absurd cc) e)
+refused_as_copy old new bytes Turns copied h (copy.NoPicture f offset) e =
+    refused_for old new bytes Turns h (fault.Read Turns (length bytes)) (copy_not_read bytes Turns f offset copied (λ t. absurd cc) e)
+
+-- the empty input has no frame, and more bytes can change that
+pub empty_gives_none : CopyGivesNone [] (copy.NoPicture marker.Ended 0)
+empty_gives_none = (without_units 0 (Header marker.Ended 0), with_fill_alone 0, refl, refl)
+
+pub empty_goes_on : OneCourse → IsCopyDone [] → ⊥
+empty_goes_on one done =
+    false≢true (ap (λ (c : Course). is_final_end c.end) (one [] (without_units 0 (Header marker.Ended 0)) done.0 (with_fill_alone 0) done.1) ∙ sym done.2)
 
 pub other_input_fault : (f : TextFault) → (f ≡ text_fault.OutOfMemory → ⊥) → input_fault_of f ≡ fault.Text f
 other_input_fault (text_fault.Magic offset) other = refl

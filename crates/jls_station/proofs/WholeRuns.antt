@@ -10,13 +10,16 @@ use Rattle.jls_partial.specs.Status.{IsSettled}
 use Rattle.jls_partial.specs.Text.{text, IsPartial}
 use Rattle.jls_device.specs.Event.{Event, opened, not_opened, gave, read_failed, created, not_created, took, write_failed, is_read, is_opening, is_creation, bytes_given, bytes_given_by, bytes_taken}
 use Rattle.jls_device.specs.Writing.{AreWrites}
-use Rattle.jls_station.specs.Texts.{IsTextOf}
-use Rattle.jls_station.specs.Reading.{GoesOn, StopsWith, IsRead}
-use Rattle.jls_station.specs.Inputs.{IsEnough, Given, partials, Gives, by_text, IsTaken, IsUnionOf, AreOfOneShape, TakesInTurn}
+use Rattle.jls_copy.specs.CopyLaws.{BytesDecide}
+use Rattle.jls_copy.specs.ReadCopy.{ReadCopy}
+use Rattle.jls_station.specs.Given.{Given, Gives, by_text, by_copy, GivesPartial, marked}
+use Rattle.jls_station.specs.Texts.{is_text}
+use Rattle.jls_station.specs.Reading.{AreBytes, GoesOn, StopsWith, IsRead}
+use Rattle.jls_station.specs.Inputs.{IsEnough, partials, IsTaken, IsUnionOf, AreOfOneShape, TakesInTurn}
 use Rattle.jls_station.specs.Joining.{JoinIsDone}
-use Rattle.jls_station.specs.Laws.{before_next, input_bytes, output_bytes, AreTextsOf, SameInputsSameOutput, SurvivingLinesGiveThePicture}
+use Rattle.jls_station.specs.Laws.{before_next, input_bytes, output_bytes, AreInputsOf, SameInputsSameOutput, SurvivingLinesGiveThePicture}
 use Rattle.jls_station.specs.declared.input.ReadStop.{ReadStop}
-use Rattle.jls_station.specs.declared.input.ReadStop.TheVariants.{Whole}
+use Rattle.jls_station.specs.declared.input.ReadStop.TheVariants.{Whole, Failed, Turns}
 
 -- ---- reads alone
 
@@ -41,26 +44,32 @@ reads_on fed (not_created name ∷ more) h = absurd h
 reads_on fed (took bytes ∷ more) h = absurd h
 reads_on fed (write_failed ∷ more) h = absurd h
 
--- the last read of an input that was read whole gave nothing
-last_read : (bytes : List ℕ) (last : List Event) → StopsWith IsEnough bytes last Whole → AreReads last × (bytes_given last ≡ [])
+-- the last read of an input gave nothing
+last_read : (bytes : List ℕ) (last : List Event) (stop : ReadStop) → StopsWith IsEnough bytes last stop → AreReads last × (bytes_given last ≡ [])
 unfolding AreReads
-last_read bytes [] h = absurd h
-last_read bytes (gave room [] ∷ []) h = ((refl, tt), refl)
-last_read bytes (gave room [] ∷ e ∷ more) h = absurd h
-last_read bytes (gave room (b ∷ bs) ∷ more) h = absurd h
-last_read bytes (opened name ∷ more) h = absurd h
-last_read bytes (not_opened name ∷ more) h = absurd h
-last_read bytes (read_failed ∷ []) h = absurd h
-last_read bytes (read_failed ∷ e ∷ more) h = absurd h
-last_read bytes (created name ∷ more) h = absurd h
-last_read bytes (not_created name ∷ more) h = absurd h
-last_read bytes (took b ∷ more) h = absurd h
-last_read bytes (write_failed ∷ more) h = absurd h
+last_read bytes [] Whole h = (tt, refl)
+last_read bytes [] Turns h = (tt, refl)
+last_read bytes [] Failed h = absurd h
+last_read bytes (gave room [] ∷ []) Whole h = ((refl, tt), refl)
+last_read bytes (gave room [] ∷ []) Failed h = absurd h
+last_read bytes (gave room [] ∷ []) Turns h = absurd h
+last_read bytes (gave room [] ∷ e ∷ more) stop h = absurd h
+last_read bytes (gave room (b ∷ bs) ∷ more) stop h = absurd h
+last_read bytes (opened name ∷ more) stop h = absurd h
+last_read bytes (not_opened name ∷ more) stop h = absurd h
+last_read bytes (read_failed ∷ []) Failed h = ((refl, tt), refl)
+last_read bytes (read_failed ∷ []) Whole h = absurd h
+last_read bytes (read_failed ∷ []) Turns h = absurd h
+last_read bytes (read_failed ∷ e ∷ more) stop h = absurd h
+last_read bytes (created name ∷ more) stop h = absurd h
+last_read bytes (not_created name ∷ more) stop h = absurd h
+last_read bytes (took b ∷ more) stop h = absurd h
+last_read bytes (write_failed ∷ more) stop h = absurd h
 
--- an input that was read whole: its reads, and their bytes
-whole_input : (bytes : List ℕ) (reads : List Event) → IsRead IsEnough reads bytes Whole → AreReads reads × (bytes_given reads ≡ bytes)
-whole_input bytes reads h =
-    let l = last_read bytes h.last h.stops in (
+-- the reads of an input, and their bytes
+reads_of_input : (bytes : List ℕ) (reads : List Event) (stop : ReadStop) → IsRead IsEnough reads bytes stop → AreReads reads × (bytes_given reads ≡ bytes)
+reads_of_input bytes reads stop h =
+    let l = last_read bytes h.last stop h.stops in (
       subst AreReads (sym h.reads_are) (reads_both h.on h.last (reads_on [] h.on h.goes_on) l.0),
       ap bytes_given h.reads_are ∙ (flat_map-append bytes_given_by h.on h.last ∙ (ap (λ (x : List ℕ). bytes_given h.on ++ x) l.1 ∙ (append-nil (bytes_given h.on) ∙ sym h.bytes_are))),
     )
@@ -98,16 +107,16 @@ past_writes (write_failed ∷ writes) h = absurd h
 
 -- ---- all inputs
 
--- what is given here is given by a text
-text_of_given : (source : Option ℕ) (bytes : List ℕ) (g : Given) → Gives source bytes g → IsTextOf bytes g.partial × (g.stop ≡ Whole)
-text_of_given source bytes _ (by_text _ _ p is) = (is, refl)
+-- at each place stand the bytes of an input that was read and gives the partial picture there
+AreReadAs : Option ℕ → List (List ℕ) → List PartialPicture → Type 0
+AreReadAs source [] [] = Unit {0}
+AreReadAs source (bytes ∷ inputs) (p ∷ ps) = AreBytes bytes × GivesPartial source bytes p × AreReadAs source inputs ps
+AreReadAs source _ _ = ⊥
 
 -- one input, and what comes behind it
 module _ (source : Option ℕ) (name : List ℕ) (g : Given) (mine rest : List Event) (h : IsTaken source name g mine) (quiet : bytes_given (before_next is_opening rest) ≡ []) where
   reads_are : AreReads h.reads × (bytes_given h.reads ≡ h.give.bytes)
-  reads_are =
-      let t = text_of_given source h.give.bytes g h.give.gives in
-      whole_input h.give.bytes h.reads (subst (λ (stop : ReadStop). IsRead IsEnough h.reads h.give.bytes stop) t.1 h.give.is_read)
+  reads_are = reads_of_input h.give.bytes h.reads g.stop h.give.is_read
 
   past : (before_next is_opening (h.reads ++ rest) ≡ h.reads ++ before_next is_opening rest) × (input_bytes (h.reads ++ rest) ≡ input_bytes rest) × (output_bytes (h.reads ++ rest) ≡ output_bytes rest)
   past = past_reads h.reads rest reads_are.0
@@ -125,29 +134,29 @@ module _ (source : Option ℕ) (name : List ℕ) (g : Given) (mine rest : List E
         ap (λ (x : List Event). bytes_given (before_next is_opening (x ++ rest))) is,
       )
 
--- what the inputs gave are texts of the partial pictures, and the outputs are those that come behind
-texts_in_turn : (source : Option ℕ) (names : List (List ℕ)) (givens : List Given) (reading writing : List Event) → TakesInTurn source names givens reading
+-- what the inputs gave is what gives the partial pictures, and the outputs are those that come behind
+inputs_in_turn : (source : Option ℕ) (names : List (List ℕ)) (givens : List Given) (reading writing : List Event) → TakesInTurn source names givens reading
     → bytes_given (before_next is_opening writing) ≡ [] → input_bytes writing ≡ []
-    → AreTextsOf (input_bytes (reading ++ writing)) (partials givens) × (output_bytes (reading ++ writing) ≡ output_bytes writing) × (bytes_given (before_next is_opening (reading ++ writing)) ≡ [])
-texts_in_turn source [] [] reading writing h quiet none =
+    → AreReadAs source (input_bytes (reading ++ writing)) (partials givens) × (output_bytes (reading ++ writing) ≡ output_bytes writing) × (bytes_given (before_next is_opening (reading ++ writing)) ≡ [])
+unfolding AreReadAs
+inputs_in_turn source [] [] reading writing h quiet none =
     let is : reading ++ writing ≡ writing = ap (λ (x : List Event). x ++ writing) h in (
-      subst (λ (texts : List (List ℕ)). AreTextsOf texts []) (sym (ap input_bytes is ∙ none)) tt,
+      subst (λ (inputs : List (List ℕ)). AreReadAs source inputs []) (sym (ap input_bytes is ∙ none)) tt,
       ap output_bytes is,
       ap (λ (x : List Event). bytes_given (before_next is_opening x)) is ∙ quiet,
     )
-texts_in_turn source [] (g ∷ givens) reading writing h quiet none = absurd h
-texts_in_turn source (name ∷ names) [] reading writing h quiet none = absurd h
-texts_in_turn source (name ∷ names) (g ∷ givens) reading writing h quiet none =
-    let r = texts_in_turn source names givens h.1 writing h.4 quiet none in
+inputs_in_turn source [] (g ∷ givens) reading writing h quiet none = absurd h
+inputs_in_turn source (name ∷ names) [] reading writing h quiet none = absurd h
+inputs_in_turn source (name ∷ names) (g ∷ givens) reading writing h quiet none =
+    let r = inputs_in_turn source names givens h.1 writing h.4 quiet none in
     let is : reading ++ writing ≡ h.0 ++ (h.1 ++ writing) = ap (λ (x : List Event). x ++ writing) h.2 ∙ append_assoc h.0 h.1 writing in
-    let one = one_input source name g h.0 (h.1 ++ writing) h.3 r.2 in
-    let t = text_of_given source h.3.give.bytes g h.3.give.gives in (
-      subst (λ (texts : List (List ℕ)). AreTextsOf texts (g.partial ∷ partials givens)) (sym (ap input_bytes is ∙ one.0)) (t.0, r.0),
+    let one = one_input source name g h.0 (h.1 ++ writing) h.3 r.2 in (
+      subst (λ (inputs : List (List ℕ)). AreReadAs source inputs (g.partial ∷ partials givens)) (sym (ap input_bytes is ∙ one.0)) (h.3.give.is_read.are_bytes, (g, h.3.give.gives, refl), r.0),
       ap output_bytes is ∙ (one.1 ∙ r.1),
       ap (λ (x : List Event). bytes_given (before_next is_opening x)) is ∙ one.2,
     )
 
--- a join that is done: its inputs gave texts, and its one output was handed the text of their union
+-- a join that is done: its inputs gave what was read of them, and its one output was handed the text of their union
 module _ (source : Option ℕ) (out : List ℕ) (names : List (List ℕ)) (joined : PartialPicture) (settled whole : Bool) (events : List Event)
     (h : JoinIsDone source out names joined settled whole events) where
   past_output : (bytes_given (before_next is_opening h.writing) ≡ []) × (input_bytes h.writing ≡ []) × (output_bytes h.writing ≡ text joined ∷ [])
@@ -159,53 +168,70 @@ module _ (source : Option ℕ) (out : List ℕ) (names : List (List ℕ)) (joine
         ap output_bytes is ∙ (λ i. (ap bytes_taken w.2 ∙ h.handed.wrote.they_took) i ∷ w.3 i),
       )
 
-  done_texts : AreTextsOf (input_bytes events) (partials h.taken.givens) × (output_bytes events ≡ text joined ∷ [])
-  done_texts =
-      let t = texts_in_turn source names h.taken.givens h.reading h.writing h.taken.taken.in_turn past_output.0 past_output.1 in (
-        subst (λ (x : List Event). AreTextsOf (input_bytes x) (partials h.taken.givens)) (sym h.events_are) t.0,
+  done_inputs : AreReadAs source (input_bytes events) (partials h.taken.givens) × (output_bytes events ≡ text joined ∷ [])
+  done_inputs =
+      let t = inputs_in_turn source names h.taken.givens h.reading h.writing h.taken.taken.in_turn past_output.0 past_output.1 in (
+        subst (λ (x : List Event). AreReadAs source (input_bytes x) (partials h.taken.givens)) (sym h.events_are) t.0,
         ap output_bytes h.events_are ∙ (t.1 ∙ past_output.2),
       )
 
--- ---- texts and pictures
+-- ---- inputs and pictures
 
-text_of_member : (texts : List (List ℕ)) (ps : List PartialPicture) (p : PartialPicture) → AreTextsOf texts ps → Contains ps p → (bytes : List ℕ) × Contains texts bytes × IsTextOf bytes p
-text_of_member [] [] p h (k, lt, e) = absurd (omega (arith, lt))
-text_of_member [] (q ∷ ps) p h c = absurd h
-text_of_member (bytes ∷ texts) [] p h c = absurd h
-text_of_member (bytes ∷ texts) (q ∷ ps) p h (zero, lt, e) = (bytes, (0, omega arith, refl), subst (λ (x : PartialPicture). IsTextOf bytes x) e h.0)
-text_of_member (bytes ∷ texts) (q ∷ ps) p h (suc k, lt, e) =
-    let m = text_of_member texts ps p h.1 (k, omega (arith, lt), e) in (m.0, (suc m.1.0, omega (arith, m.1.1), m.1.2), m.2)
+input_of_member : (source : Option ℕ) (inputs : List (List ℕ)) (ps : List PartialPicture) (p : PartialPicture) → AreReadAs source inputs ps → Contains ps p
+    → (bytes : List ℕ) × Contains inputs bytes × AreBytes bytes × GivesPartial source bytes p
+unfolding AreReadAs
+input_of_member source [] [] p h (k, lt, e) = absurd (omega (arith, lt))
+input_of_member source [] (q ∷ ps) p h c = absurd h
+input_of_member source (bytes ∷ inputs) [] p h c = absurd h
+input_of_member source (bytes ∷ inputs) (q ∷ ps) p h (zero, lt, e) = (bytes, (0, omega arith, refl), h.0, subst (λ (x : PartialPicture). GivesPartial source bytes x) e h.1)
+input_of_member source (bytes ∷ inputs) (q ∷ ps) p h (suc k, lt, e) =
+    let m = input_of_member source inputs ps p h.2 (k, omega (arith, lt), e) in (m.0, (suc m.1.0, omega (arith, m.1.1), m.1.2), m.2, m.3)
 
-member_of_text : (texts : List (List ℕ)) (ps : List PartialPicture) (bytes : List ℕ) → AreTextsOf texts ps → Contains texts bytes → (p : PartialPicture) × Contains ps p × IsTextOf bytes p
-member_of_text [] [] bytes h (k, lt, e) = absurd (omega (arith, lt))
-member_of_text [] (q ∷ ps) bytes h c = absurd h
-member_of_text (x ∷ texts) [] bytes h c = absurd h
-member_of_text (x ∷ texts) (q ∷ ps) bytes h (zero, lt, e) = (q, (0, omega arith, refl), subst (λ (b : List ℕ). IsTextOf b q) e h.0)
-member_of_text (x ∷ texts) (q ∷ ps) bytes h (suc k, lt, e) =
-    let m = member_of_text texts ps bytes h.1 (k, omega (arith, lt), e) in (m.0, (suc m.1.0, omega (arith, m.1.1), m.1.2), m.2)
+member_of_input : (source : Option ℕ) (inputs : List (List ℕ)) (ps : List PartialPicture) (bytes : List ℕ) → AreReadAs source inputs ps → Contains inputs bytes
+    → (p : PartialPicture) × Contains ps p × GivesPartial source bytes p
+unfolding AreReadAs
+member_of_input source [] [] bytes h (k, lt, e) = absurd (omega (arith, lt))
+member_of_input source [] (q ∷ ps) bytes h c = absurd h
+member_of_input source (x ∷ inputs) [] bytes h c = absurd h
+member_of_input source (x ∷ inputs) (q ∷ ps) bytes h (zero, lt, e) = (q, (0, omega arith, refl), subst (λ (b : List ℕ). GivesPartial source b q) e h.1)
+member_of_input source (x ∷ inputs) (q ∷ ps) bytes h (suc k, lt, e) =
+    let m = member_of_input source inputs ps bytes h.2 (k, omega (arith, lt), e) in (m.0, (suc m.1.0, omega (arith, m.1.1), m.1.2), m.2)
 
-module _ (apart : (p q : PartialPicture) → IsPartial p → IsPartial q → text p ≡ text q → p ≡ q) where
-  one_picture : (bytes : List ℕ) (p q : PartialPicture) → IsTextOf bytes p → IsTextOf bytes q → p ≡ q
-  one_picture bytes p q h k = apart p q h.partial k.partial (sym h.bytes_are ∙ k.bytes_are)
+-- a text begins as one
+text_begins : (bytes : List ℕ) (p : PartialPicture) → bytes ≡ text p → is_text bytes ≡ true
+text_begins bytes p e = ap is_text e
 
-  -- where the texts of one list are among those of another, so are the pictures
-  among : (texts others : List (List ℕ)) (ps qs : List PartialPicture) → AreTextsOf texts ps → AreTextsOf others qs → ((bytes : List ℕ) → Contains texts bytes → Contains others bytes)
-      → (p : PartialPicture) → Contains ps p → Contains qs p
-  among texts others ps qs h k inside p c =
-      let t = text_of_member texts ps p h c in
-      let m = member_of_text others qs t.0 k (inside t.0 t.1) in
-      subst (λ (q : PartialPicture). Contains qs q) (one_picture t.0 m.0 p m.2 t.2) m.1
+module _ (apart : (p q : PartialPicture) → IsPartial p → IsPartial q → text p ≡ text q → p ≡ q) (decide : BytesDecide) where
+  -- what an input gives is decided by its bytes
+  one_given : (source : Option ℕ) (bytes : List ℕ) (g g' : Given) → AreBytes bytes → Gives source bytes g → Gives source bytes g' → g.partial ≡ g'.partial
+  one_given source bytes _ _ low (by_text _ _ p is) (by_text _ _ q is') = apart p q is.partial is'.partial (sym is.bytes_are ∙ is'.bytes_are)
+  one_given source bytes _ _ low (by_text _ _ p is) (by_copy _ _ r stop copied reads) = not_so (sym copied ∙ text_begins bytes p is.bytes_are)
+  one_given source bytes _ _ low (by_copy _ _ r stop copied reads) (by_text _ _ p is) = not_so (sym copied ∙ text_begins bytes p is.bytes_are)
+  one_given source bytes _ _ low (by_copy _ _ r stop copied reads) (by_copy _ _ r' stop' copied' reads') =
+      ap (λ (x : ReadCopy). marked source x.partial) ((decide bytes low).one_reading r r' reads reads')
 
-  -- pictures of one list of texts are one list
-  same_pictures : (texts : List (List ℕ)) (ps qs : List PartialPicture) → AreTextsOf texts ps → AreTextsOf texts qs → ps ≡ qs
-  same_pictures [] [] [] h k = refl
-  same_pictures [] [] (q ∷ qs) h k = absurd k
-  same_pictures [] (p ∷ ps) qs h k = absurd h
-  same_pictures (bytes ∷ texts) [] qs h k = absurd h
-  same_pictures (bytes ∷ texts) (p ∷ ps) [] h k = absurd k
-  same_pictures (bytes ∷ texts) (p ∷ ps) (q ∷ qs) h k =
-      let first = one_picture bytes p q h.0 k.0 in
-      let rest = same_pictures texts ps qs h.1 k.1 in
+  one_picture : (source : Option ℕ) (bytes : List ℕ) (p q : PartialPicture) → AreBytes bytes → GivesPartial source bytes p → GivesPartial source bytes q → p ≡ q
+  one_picture source bytes p q low h k = sym h.2 ∙ (one_given source bytes h.0 k.0 low h.1 k.1 ∙ k.2)
+
+  -- where the inputs of one list are among those of another, so are the pictures
+  among : (source : Option ℕ) (inputs others : List (List ℕ)) (ps qs : List PartialPicture) → AreReadAs source inputs ps → AreReadAs source others qs
+      → ((bytes : List ℕ) → Contains inputs bytes → Contains others bytes) → (p : PartialPicture) → Contains ps p → Contains qs p
+  among source inputs others ps qs h k inside p c =
+      let t = input_of_member source inputs ps p h c in
+      let m = member_of_input source others qs t.0 k (inside t.0 t.1) in
+      subst (λ (q : PartialPicture). Contains qs q) (one_picture source t.0 m.0 p t.2 m.2 t.3) m.1
+
+  -- pictures of one list of inputs are one list
+  same_pictures : (source : Option ℕ) (inputs : List (List ℕ)) (ps qs : List PartialPicture) → AreReadAs source inputs ps → AreInputsOf source inputs qs → ps ≡ qs
+  unfolding AreReadAs
+  same_pictures source [] [] [] h k = refl
+  same_pictures source [] [] (q ∷ qs) h k = absurd k
+  same_pictures source [] (p ∷ ps) qs h k = absurd h
+  same_pictures source (bytes ∷ inputs) [] qs h k = absurd h
+  same_pictures source (bytes ∷ inputs) (p ∷ ps) [] h k = absurd k
+  same_pictures source (bytes ∷ inputs) (p ∷ ps) (q ∷ qs) h k =
+      let first = one_picture source bytes p q h.0 h.1 k.0 in
+      let rest = same_pictures source inputs ps qs h.2 k.1 in
       (λ i. first i ∷ rest i)
 
   module _ (one_join : (x y : PartialPicture) (xs ys : List PartialPicture) → AllOfShape has_same_shape x xs → AllOfShape has_same_shape y ys
@@ -218,12 +244,12 @@ module _ (apart : (p q : PartialPicture) → IsPartial p → IsPartial q → tex
 
     pub runs_agree : SameInputsSameOutput
     runs_agree source out names joined settled whole events h out' names' joined' settled' whole' events' h' same =
-        let t = done_texts source out names joined settled whole events h in
-        let t' = done_texts source out' names' joined' settled' whole' events' h' in
+        let t = done_inputs source out names joined settled whole events h in
+        let t' = done_inputs source out' names' joined' settled' whole' events' h' in
         let ps = partials h.taken.givens in
         let qs = partials h'.taken.givens in
-        let there = among (input_bytes events) (input_bytes events') ps qs t.0 t'.0 (λ bytes c. (same bytes).0 c) in
-        let back = among (input_bytes events') (input_bytes events) qs ps t'.0 t.0 (λ bytes c. (same bytes).1 c) in
+        let there = among source (input_bytes events) (input_bytes events') ps qs t.0 t'.0 (λ bytes c. (same bytes).0 c) in
+        let back = among source (input_bytes events') (input_bytes events) qs ps t'.0 t.0 (λ bytes c. (same bytes).1 c) in
         let e = unions_agree ps qs joined joined' h.taken.union_is h'.taken.union_is h.taken.taken.one_shape h'.taken.taken.one_shape (λ p. (there p, back p)) in
         (e, t.1 ∙ (ap (λ (p : PartialPicture). text p ∷ []) e ∙ sym t'.1))
 
@@ -233,8 +259,8 @@ module _ (apart : (p q : PartialPicture) → IsPartial p → IsPartial q → tex
   union_of_parts join picture joined is settled (p ∷ ps) u are survives = u ∙ join picture is.fitting settled p ps are survives
 
   pub picture_written : PartsGiveThePicture → SurvivingLinesGiveThePicture
-  picture_written join source out names joined settled whole events h picture is picture_settled parts are survives texts =
-      let t = done_texts source out names joined settled whole events h in
-      let same = same_pictures (input_bytes events) (partials h.taken.givens) parts t.0 texts in
+  picture_written join source out names joined settled whole events h picture is picture_settled parts are survives inputs =
+      let t = done_inputs source out names joined settled whole events h in
+      let same = same_pictures source (input_bytes events) (partials h.taken.givens) parts t.0 inputs in
       let e = union_of_parts join picture joined is picture_settled parts (subst (λ (ps : List PartialPicture). IsUnionOf ps joined) same h.taken.union_is) are survives in
       (e, t.1 ∙ ap (λ (p : PartialPicture). text p ∷ []) e)

@@ -1,11 +1,15 @@
 -- What the inputs of a command give, and how one of them stops it.
-use Rattle.std.specs.Prelude.{◌≡◌, ◌↔◌, ℕ, Bool, false, IsTrue, All, List, [], ◌∷◌, ◌++◌, length, map, Option}
+use Rattle.std.specs.Prelude.{◌≡◌, ◌↔◌, ℕ, Bool, true, false, IsTrue, All, List, [], ◌∷◌, ◌++◌, length, map, Option}
 use Rattle.jls_values.specs.Join.{join_all, AllOfShape}
+use Rattle.jls_marker.specs.declared.fault.MarkerFault.{MarkerFault}
 use Rattle.jls_partial.specs.Partial.{PartialPicture, has_same_shape, union}
 use Rattle.jls_partial.specs.declared.text_fault.TextFault.{TextFault}
+use Rattle.jls_copy.specs.CopyReads.{CopyGivesNone, IsDone}
+use Rattle.jls_copy.specs.declared.reader.CopyFault.TheVariants.{NoPicture}
 use Rattle.jls_device.specs.Event.{Event, opened, not_opened}
-use Rattle.jls_station.specs.Reading.{IsRead, IsReadSoFar}
-use Rattle.jls_station.specs.Texts.{IsTextOf, IsNoText}
+use Rattle.jls_station.specs.Given.{Given, Gives}
+use Rattle.jls_station.specs.Reading.{IsRead, IsReadInPart}
+use Rattle.jls_station.specs.Texts.{is_text, IsNoText}
 use Rattle.jls_station.specs.declared.input.ReadStop.{ReadStop}
 use Rattle.jls_station.specs.declared.input.ReadStop.TheVariants.{Whole}
 use Rattle.jls_station.specs.declared.input.InputFault.{InputFault}
@@ -14,33 +18,36 @@ use Rattle.jls_station.specs.declared.outcome.Cause.{Cause}
 use Rattle.jls_station.specs.declared.outcome.Cause.TheVariants as cause
 use Rattle.jls_station.specs.declared.outcome.Refusal.{Refusal}
 
--- `source` is the number under which the readings of copies are taken, where there is one; a text has its own, and so what
--- is said of texts doesn't depend on it
+-- `source` is the number under which the readings of copies are taken, where there is one
 
 -- ---- one input
 
--- no bytes are enough: a text is read to its end
+-- no byte more changes what a copy gives
+abbrev pub IsCopyDone : List ℕ → Type 0
+IsCopyDone bytes = IsDone bytes true
+
+-- the bytes are enough: no byte more changes what the copy gives. A text is read to its end
 abbrev pub IsEnough : List ℕ → Type 0
-IsEnough bytes = ⊥
+IsEnough bytes = (is_text bytes ≡ false) × IsCopyDone bytes
 
--- what an input gave: its partial picture, and how its reading stopped
-pub record Given : Type 0 where
-  pub partial : PartialPicture
-  pub stop : ReadStop
-
--- an input that was read to its end and gave this partial picture
-abbrev pub whole : PartialPicture → Given
-whole p = record { partial = p; stop = Whole }
-
--- an input whose bytes, until it stopped, are these gives this: a text, read to its end, its partial picture
-pub data Gives : Option ℕ → List ℕ → Given → Type 0 where
-  by_text : (source : Option ℕ) (bytes : List ℕ) (p : PartialPicture) → IsTextOf bytes p → Gives source bytes (whole p)
-
--- an input that gave these bytes until it stopped so is refused for this fault: it was read to its end and is no text; or it
--- was not, and the fault has the stop and the number of bytes before it
+-- An input that gave these bytes until it stopped so is refused for this fault. A text: it was read to its end and is none, or it was
+-- not read to its end. A copy in which no frame was taken: it was read whole and has this fault, at this offset, or it was not read
+-- whole. The fault of what was not read has the stop and the number of bytes before it
 pub data IsRefused : List ℕ → ReadStop → InputFault → Type 0 where
-  no_text : (bytes : List ℕ) (f : TextFault) → IsNoText bytes f → IsRefused bytes Whole (fault.Text f)
-  not_read : (bytes : List ℕ) (stop : ReadStop) → (stop ≡ Whole → ⊥) → IsRefused bytes stop (fault.Read stop (length bytes))
+  no_text : (bytes : List ℕ) (f : TextFault) → is_text bytes ≡ true → IsNoText bytes f → IsRefused bytes Whole (fault.Text f)
+  text_not_read : (bytes : List ℕ) (stop : ReadStop) → is_text bytes ≡ true → (stop ≡ Whole → ⊥)
+      → IsRefused bytes stop (fault.Read stop (length bytes))
+  no_picture : (bytes : List ℕ) (f : MarkerFault) (offset : ℕ) → is_text bytes ≡ false → CopyGivesNone bytes (NoPicture f offset)
+      → IsRefused bytes Whole (fault.NoPicture f offset)
+  copy_not_read : (bytes : List ℕ) (stop : ReadStop) (f : MarkerFault) (offset : ℕ) → is_text bytes ≡ false → (stop ≡ Whole → ⊥)
+      → CopyGivesNone bytes (NoPicture f offset) → IsRefused bytes stop (fault.Read stop (length bytes))
+
+-- memory can run out for an input that was read so far: between two reads; or behind the last, for what its bytes give, which are a
+-- text that was read to its end or a copy
+pub data RunsOutOfMemory : List Event → Type 0 where
+  between_reads : (reads : List Event) → IsReadInPart IsEnough reads → RunsOutOfMemory reads
+  behind_the_last : (bytes : List ℕ) (stop : ReadStop) (reads : List Event) → IsRead IsEnough reads bytes stop
+      → (is_text bytes ≡ true → stop ≡ Whole) → RunsOutOfMemory reads
 
 -- these are all reads of an input, and it gives this
 pub record ReadsGive (source : Option ℕ) (g : Given) (reads : List Event) : Type 0 where
@@ -52,7 +59,7 @@ pub record ReadsGive (source : Option ℕ) (g : Given) (reads : List Event) : Ty
 pub data ReadsRefuse : InputFault → List Event → Type 0 where
   for_fault : (f : InputFault) (bytes : List ℕ) (stop : ReadStop) (reads : List Event)
       → IsRead IsEnough reads bytes stop → IsRefused bytes stop f → ReadsRefuse f reads
-  for_memory : (reads : List Event) → IsReadSoFar IsEnough reads → ReadsRefuse fault.OutOfMemory reads
+  for_memory : (reads : List Event) → RunsOutOfMemory reads → ReadsRefuse fault.OutOfMemory reads
 
 -- an input of this name was opened and read, and gave this
 pub record IsTaken (source : Option ℕ) (name : List ℕ) (g : Given) (events : List Event) : Type 0 where

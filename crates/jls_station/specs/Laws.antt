@@ -5,8 +5,8 @@ use Rattle.jls_partial.specs.Partial.{PartialPicture}
 use Rattle.jls_partial.specs.Status.{IsSettled}
 use Rattle.jls_partial.specs.Text.{text, IsPartial}
 use Rattle.jls_device.specs.Event.{Event, opened, created, is_opening, is_creation, bytes_given, bytes_taken}
+use Rattle.jls_station.specs.Given.{GivesPartial}
 use Rattle.jls_station.specs.Joining.{JoinIsDone}
-use Rattle.jls_station.specs.Texts.{IsTextOf}
 
 -- what comes before the next event of a kind
 abbrev pub before_next : (Event → Bool) → List Event → List Event
@@ -25,18 +25,18 @@ output_bytes [] = []
 output_bytes (created name ∷ more) = bytes_taken (before_next is_creation more) ∷ output_bytes more
 output_bytes (_ ∷ more) = output_bytes more
 
--- the same texts stand in both, whatever their order, and however often each does
+-- the same inputs stand in both, whatever their order, and however often each does
 abbrev pub HaveSameMembers : List (List ℕ) → List (List ℕ) → Type 0
-HaveSameMembers texts others = (bytes : List ℕ) → Contains texts bytes ↔ Contains others bytes
+HaveSameMembers inputs others = (bytes : List ℕ) → Contains inputs bytes ↔ Contains others bytes
 
--- at each place stands a text of the partial picture there
-abbrev pub AreTextsOf : List (List ℕ) → List PartialPicture → Type 0
-AreTextsOf [] [] = Unit {0}
-AreTextsOf (bytes ∷ texts) (p ∷ ps) = IsTextOf bytes p × AreTextsOf texts ps
-AreTextsOf _ _ = ⊥
+-- at each place stand the bytes of an input that gives the partial picture there
+abbrev pub AreInputsOf : Option ℕ → List (List ℕ) → List PartialPicture → Type 0
+AreInputsOf source [] [] = Unit {0}
+AreInputsOf source (bytes ∷ inputs) (p ∷ ps) = GivesPartial source bytes p × AreInputsOf source inputs ps
+AreInputsOf source _ _ = ⊥
 
--- Two runs of `join` that are done and whose inputs gave the same texts, in whatever order, however often and under whatever
--- names: what they join is one picture, and their outputs are handed the same bytes
+-- Two runs of `join` under one source that are done and whose inputs, texts and copies, gave the same bytes, in whatever order, however
+-- often, under whatever names, and however their reading stopped: what they join is one picture, and their outputs are handed the same bytes
 abbrev pub SameInputsSameOutput : Type 0
 SameInputsSameOutput =
     (source : Option ℕ) (out : List ℕ) (names : List (List ℕ)) (joined : PartialPicture) (settled whole : Bool) (events : List Event)
@@ -46,7 +46,7 @@ SameInputsSameOutput =
     → HaveSameMembers (input_bytes events) (input_bytes events')
     → (joined ≡ joined') × (output_bytes events ≡ output_bytes events')
 
--- A run of `join` that is done and whose inputs gave the texts of parts of one picture, in which each line of it survives
+-- A run of `join` that is done and whose inputs, texts and copies, give parts of one picture, in which each line of it survives
 -- somewhere: what it joins is that picture, and its output is handed the picture's text
 abbrev pub SurvivingLinesGiveThePicture : Type 0
 SurvivingLinesGiveThePicture =
@@ -54,5 +54,5 @@ SurvivingLinesGiveThePicture =
     → JoinIsDone source out names joined settled whole events
     → (picture : PartialPicture) → IsPartial picture → IsSettled picture
     → (parts : List PartialPicture) → All (IsPartOf picture) parts → EachLineSurvives picture.shape parts
-    → AreTextsOf (input_bytes events) parts
+    → AreInputsOf source (input_bytes events) parts
     → (joined ≡ picture) × (output_bytes events ≡ text picture ∷ [])

@@ -10,6 +10,7 @@ use Rattle.jls_station.specs.declared.outcome.Outcome.TheVariants.{Done, Refused
 abbrev pub status_of_cause : Cause → ℕ
 status_of_cause cause.NotOpened = 4
 status_of_cause (cause.Input (fault.Text f)) = 3
+status_of_cause (cause.Input (fault.NoPicture f offset)) = 3
 status_of_cause (cause.Input (fault.Read stop offset)) = 4
 status_of_cause (cause.Input fault.OutOfMemory) = 5
 status_of_cause cause.ShapeDiffers = 3

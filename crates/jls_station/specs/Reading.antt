@@ -1,5 +1,6 @@
 -- How an input is read: as long as there is reason to, and no longer.
-use Rattle.std.specs.Prelude.{◌≡◌, ℕ, ◌<◌, ◌≤◌, ◌⊎◌, List, [], ◌∷◌, ◌++◌, length}
+use Rattle.std.specs.Prelude.{◌≡◌, ℕ, ◌<◌, ◌≤◌, List, [], ◌∷◌, ◌++◌, length}
+use Rattle.std.specs.List.{AllByRecursion}
 use Rattle.jls_device.specs.Event.{Event, gave, read_failed, bytes_given}
 use Rattle.jls_station.specs.declared.input.ReadStop.{ReadStop}
 use Rattle.jls_station.specs.declared.input.ReadStop.TheVariants.{Whole, Failed, Turns}
@@ -22,6 +23,10 @@ StopsWith IsEnough bytes (gave room [] ∷ []) Whole = (0 < room) × (room ≤ 4
 StopsWith IsEnough bytes (read_failed ∷ []) Failed = IsEnough bytes → ⊥
 StopsWith IsEnough bytes _ _ = ⊥
 
+-- these are bytes
+abbrev pub AreBytes : List ℕ → Type 0
+AreBytes bytes = AllByRecursion (λ b. b < 256) bytes
+
 -- all reads of one input, the bytes that they gave, and how they stopped
 pub record IsRead (IsEnough : List ℕ → Type 0) (reads : List Event) (bytes : List ℕ) (stop : ReadStop) : Type 0 where
   pub on : List Event
@@ -29,11 +34,18 @@ pub record IsRead (IsEnough : List ℕ → Type 0) (reads : List Event) (bytes :
   pub reads_are : reads ≡ on ++ last
   pub goes_on : GoesOn IsEnough [] on
   pub bytes_are : bytes ≡ bytes_given on
+  pub are_bytes : AreBytes bytes
   pub stops : StopsWith IsEnough bytes last stop
   pub at_most : length reads ≤ 4294967295
   pub used_up : stop ≡ Turns → length reads ≡ 4294967295
 
--- an input was read so far, each read gave some bytes, and there was reason to go on; or it was read whole. None of the reads failed
-abbrev pub IsReadSoFar : (List ℕ → Type 0) → List Event → Type 0
-IsReadSoFar IsEnough reads =
-    (GoesOn IsEnough [] reads × (length reads ≤ 4294967295)) ⊎ ((bytes : List ℕ) × IsRead IsEnough reads bytes Whole)
+-- so many reads gave these bytes, and each gave some while what was given before was not enough
+pub record ReadSoFar (IsEnough : List ℕ → Type 0) (count : ℕ) (bytes : List ℕ) (reads : List Event) : Type 0 where
+  pub goes_on : GoesOn IsEnough [] reads
+  pub bytes_are : bytes ≡ bytes_given reads
+  pub are_bytes : AreBytes bytes
+  pub number : length reads ≡ count
+
+-- an input was read so far, each read gave some bytes, and there was reason to go on
+abbrev pub IsReadInPart : (List ℕ → Type 0) → List Event → Type 0
+IsReadInPart IsEnough reads = GoesOn IsEnough [] reads × (length reads ≤ 4294967295)

@@ -1,9 +1,14 @@
 -- What is said of texts of partial pictures.
-use Rattle.std.specs.Prelude.{◌≡◌, ℕ, List, Err}
+use Rattle.std.specs.Prelude.{◌≡◌, ◌==◌, ℕ, Bool, false, List, [], ◌∷◌, Err}
 use Rattle.jls_partial.specs.Partial.{PartialPicture}
 use Rattle.jls_partial.specs.Text.{text, IsPartial}
 use Rattle.jls_partial.specs.TextReading.{read_text}
 use Rattle.jls_partial.specs.declared.text_fault.TextFault.{TextFault}
+
+-- whether an input is read as a text: its first byte is 4A. Every other one is read as a copy, the empty one too
+abbrev pub is_text : List ℕ → Bool
+is_text [] = false
+is_text (first ∷ bytes) = first == 0x4A
 
 -- these bytes are a text of this partial picture
 pub record IsTextOf (bytes : List ℕ) (p : PartialPicture) : Type 0 where

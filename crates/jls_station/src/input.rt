@@ -1,22 +1,29 @@
-//! Inputs of the program, read whole.
+//! Inputs of the program: partial pictures as texts, and damaged copies.
 
-ghost use Rattle.std.specs.Prelude.{◌≡◌, IfOk, IfErr, IfSome, None};
+ghost use Rattle.std.specs.Prelude.{◌≡◌, ◌↔◌, ◌<◌, ◌≤◌, ℕ, IsTrue, List, Option, None, Some, true, false, length, IfOk, IfErr, IfSome, MatchOption};
 ghost use Rattle.std.specs.Io.KnownBytes.{Consumes, IsAtEnd};
-ghost use Rattle.jls_device.specs.Event.{GrewBy};
-ghost use Rattle.jls_station.specs.Reading.{IsRead};
-ghost use Rattle.jls_station.specs.InputFaults.{input_fault_of};
-ghost use Rattle.jls_station.specs.Texts.{IsTextOf};
-ghost use Rattle.jls_station.specs.Inputs.{IsEnough, whole, ReadsGive, ReadsRefuse};
+ghost use Rattle.jls_device.specs.Event.{History, GrewBy};
+ghost use Rattle.jls_station.specs.Given.{given_by_text, given_of};
+ghost use Rattle.jls_station.specs.Inputs.{IsEnough, IsCopyDone, ReadsGive, ReadsRefuse};
+ghost use Rattle.jls_station.specs.InputFaults.{input_fault_of, input_fault_of_copy};
+ghost use Rattle.jls_station.specs.Reading.{ReadSoFar};
+ghost use Rattle.jls_station.specs.Texts.{is_text, IsTextOf};
 ghost use Rattle.jls_station.specs.declared.input.ReadStop.TheVariants.{Whole};
 
+use crate::copy_end::read_of_copy;
+use crate::reading::{front, read_copy_on, read_text_on};
+use crate::take_report::TakeReport;
+use jls_copy::{CopyFault, CopyReader, copies_have_one_course};
 use jls_device::Source;
+use jls_marker::MarkerFault;
 use jls_partial::{Partial, TextFault};
 use std::alloc::Global;
+use std::marker::Model;
 
 /// How the reading of an input stopped.
 #[derive(Clone, Copy, Debug, PartialEq, Eq)]
 pub enum ReadStop {
-    /// At the end of the input.
+    /// At the end of the input, or at that of a copy, behind which no byte changes what it gives.
     Whole,
     /// A read failed.
     Failed,
@@ -27,41 +34,98 @@ pub enum ReadStop {
 /// Why an input is refused.
 #[derive(Clone, Copy, Debug, PartialEq, Eq)]
 pub enum InputFault {
-    /// It is not the text of a partial picture. The fault is the first one from the front.
+    /// It begins as a text, and is not the text of a partial picture. The fault is the first one from the front.
     Text(TextFault),
-    /// The source stopped before its end, when it had given so many bytes.
+    /// It is a copy that was read whole and in which no frame was taken: the fault that ended it, and its offset.
+    NoPicture(MarkerFault, u64),
+    /// The source stopped before its end, when it had given so many bytes: in a text, or in a copy in which no frame was taken.
     Read(ReadStop, u64),
     /// Memory ran out for it.
     OutOfMemory,
 }
 
-/// The most reads of one input.
-const READS: u64 = 4_294_967_295;
+/// What was read of an input. Clauses see it as what the input gave.
+#[derive(Drop)]
+pub struct InputRead {
+    partial: Partial,
+    copy: Option<TakeReport>,
+}
 
-/// All bytes of a source, from its current position to its end.
-fn read_all<S: Source>(alloc: Global, source: &mut S) -> Result<Vec<u8>, InputFault>
-    ensures ok { IfOk result (λ v. GrewBy (λ reads. IsRead IsEnough reads v.items Whole) (S.history source.old) (S.history source.new)) }
-    ensures err { IfErr result (λ fault. GrewBy (ReadsRefuse fault) (S.history source.old) (S.history source.new)) }
-    ensures known { IfOk result (λ v. Consumes (S.remaining source.old) (S.remaining source.new) v.items) }
-    ensures end { IfOk result (λ v. IsAtEnd (S.remaining source.new)) }
-{
-    let mut bytes = Vec::new(alloc);
-    let mut chunk = [0u8; 4096];
-    for _ in 0..READS {
-        let n = match source.read_some(&mut chunk) {
-            Ok(n) => n,
-            Err(_) => return Err(InputFault::Read(ReadStop::Failed, bytes.len() as u64)),
-        };
-        if n == 0 {
-            return Ok(bytes);
-        }
-        match bytes.extend_from_slice(&chunk[..n]) {
-            Ok(()) => {}
-            Err(_) => return Err(InputFault::OutOfMemory),
+impl Model for InputRead {
+    ghost use Rattle.jls_partial.specs.Partial.{coded_partial};
+    ghost use Rattle.jls_station.specs.Given.{Given};
+    ghost use Rattle.std.specs.Coded.{codes};
+
+    ghost Value = { Given };
+
+    ghost coded = { Prim.hlevel (codes, coded_partial) };
+
+    ghost use Rattle.jls_station.specs.Given.{given_of};
+
+    ghost view = { λ r. given_of r.partial r.copy };
+}
+
+impl InputRead {
+    fn of_text(partial: Partial) -> InputRead
+        ensures { result ≡ given_by_text partial }
+    {
+        InputRead {
+            partial,
+            copy: None,
         }
     }
-    Err(InputFault::Read(ReadStop::Turns, bytes.len() as u64))
+
+    pub(crate) fn of_copy(partial: Partial, report: TakeReport) -> InputRead
+        ensures { result ≡ given_of partial (Some report) }
+    {
+        InputRead {
+            partial,
+            copy: Some(report),
+        }
+    }
+
+    /// The partial picture.
+    pub fn partial(&self) -> &Partial
+        ensures { result.now ≡ self.now.partial }
+    {
+        &self.partial
+    }
+
+    /// The partial picture alone.
+    pub fn into_partial(self) -> Partial
+        ensures { result ≡ self.partial }
+    {
+        let Self { partial, .. } = self;
+        partial
+    }
+
+    /// The report of a copy. There is none of a text.
+    pub fn copy(&self) -> Option<&TakeReport>
+        ensures { MatchOption result (self.now.copy ≡ None) (λ report. (self.now.copy ≡ Some report.now.found) × (self.now.stop ≡ report.now.stop)) }
+    {
+        self.copy.as_ref()
+    }
+
+    /// Whether the input was read to its end, as every text is.
+    pub fn is_whole(&self) -> bool
+        ensures { IsTrue result ↔ (self.now.stop ≡ Whole) }
+    {
+        matches!(self.stop(), ReadStop::Whole)
+    }
+
+    /// How the reading of the input stopped: `Whole` for each text.
+    pub fn stop(&self) -> ReadStop
+        ensures { result ≡ self.now.stop }
+    {
+        match &self.copy {
+            Some(report) => report.stop(),
+            None => ReadStop::Whole,
+        }
+    }
 }
+
+/// The first byte of each text, and of no copy.
+const FIRST_OF_TEXT: u8 = 0x4A;
 
 #[tactic(auto, using(crate::proofs::OneInput::other_input_fault))]
 fn input_fault(fault: TextFault) -> InputFault
@@ -73,18 +137,107 @@ fn input_fault(fault: TextFault) -> InputFault
     }
 }
 
-/// The partial picture whose text a source gives, from its current position to its end. At this stage every input is such
-/// a text: one that begins with another byte than 4A is refused as `Text(Magic(0))`, and an empty one as
-/// `Text(Truncated(0))`. The input is refused as `Read` only if a read failed or the last of 4,294,967,295 reads was made
-/// before its end, whatever the bytes are. Memory may run out before that, or for the picture.
-pub fn read_input<S: Source>(alloc: Global, source: &mut S) -> Result<Partial, InputFault>
-    ensures given { IfOk result (λ p. GrewBy (ReadsGive None (whole p)) (S.history source.old) (S.history source.new)) }
-    ensures refused { IfErr result (λ fault. GrewBy (ReadsRefuse fault) (S.history source.old) (S.history source.new)) }
-    ensures known { IfOk result (λ p. IfSome (S.remaining source.old) (λ bytes. IsTextOf bytes p)) }
+/// The fault of a copy of which so many bytes were read when its reading stopped so.
+fn copy_fault(fault: CopyFault, stop: ReadStop, count: u64) -> InputFault
+    ensures { result ≡ input_fault_of_copy fault stop count }
 {
-    let bytes = read_all(alloc, source)?;
+    match (fault, stop) {
+        (CopyFault::OutOfMemory, _) => InputFault::OutOfMemory,
+        (CopyFault::NoPicture(fault, offset), ReadStop::Whole) => InputFault::NoPicture(
+            fault, offset,
+        ),
+        (CopyFault::NoPicture(_, _), stop) => InputFault::Read(stop, count),
+    }
+}
+
+/// Reads a text, whose first read gave these bytes.
+// `before` is what the device had done, or what it had left to give, before the first read.
+fn read_text<S: Source>(
+    alloc: Global,
+    device: &mut S,
+    first: &[u8],
+) -> Result<InputRead, InputFault>
+    requires { is_text first.now ≡ true }
+    ensures given { (before : History) → GrewBy (ReadSoFar IsEnough 1 first.now) before (S.history device.old)
+        → IfOk result (λ given. GrewBy (ReadsGive None given) before (S.history device.new)) }
+    ensures refused { (before : History) → GrewBy (ReadSoFar IsEnough 1 first.now) before (S.history device.old)
+        → IfErr result (λ fault. GrewBy (ReadsRefuse fault) before (S.history device.new)) }
+    ensures known { (before : Option (List ℕ)) → Consumes before (S.remaining device.old) first.now
+        → IfOk result (λ given. IfSome before (λ bytes. IsTextOf bytes given.partial)) }
+{
+    let mut bytes = match Vec::from_slice(alloc, first) {
+        Ok(bytes) => bytes,
+        Err(_) => return Err(InputFault::OutOfMemory),
+    };
+    let stop = match read_text_on(device, &mut bytes) {
+        Ok(stop) => stop,
+        Err(_) => return Err(InputFault::OutOfMemory),
+    };
+    match stop {
+        ReadStop::Whole => {}
+        stop => return Err(InputFault::Read(stop, bytes.len() as u64)),
+    }
     match Partial::from_bytes(alloc, &bytes) {
-        Ok(partial) => Ok(partial),
+        Ok(partial) => Ok(InputRead::of_text(partial)),
         Err(fault) => Err(input_fault(fault)),
+    }
+}
+
+/// Reads a copy, whose first read gave these bytes, at least one.
+fn read_copy<S: Source>(
+    alloc: Global,
+    device: &mut S,
+    first: &[u8],
+) -> Result<InputRead, InputFault>
+    requires some { 0 < length first.now }
+    requires few { length first.now ≤ 4096 }
+    requires no_text { is_text first.now ≡ false }
+    ensures given { (before : History) → GrewBy (ReadSoFar IsCopyDone 1 first.now) before (S.history device.old)
+        → IfOk result (λ given. GrewBy (ReadsGive None given) before (S.history device.new)) }
+    ensures refused { (before : History) → GrewBy (ReadSoFar IsCopyDone 1 first.now) before (S.history device.old)
+        → IfErr result (λ fault. GrewBy (ReadsRefuse fault) before (S.history device.new)) }
+    ensures copy { IfOk result (λ given. given.copy ≡ None → ⊥) }
+{
+    let mut reader = CopyReader::new(alloc);
+    match reader.feed(first) {
+        Ok(()) => {}
+        Err(_) => return Err(InputFault::OutOfMemory),
+    }
+    let stop = match read_copy_on(device, &mut reader, 1) {
+        Ok(stop) => stop,
+        Err(_) => return Err(InputFault::OutOfMemory),
+    };
+    let count = reader.fed();
+    match read_of_copy(alloc, reader, stop) {
+        Ok(read) => Ok(read),
+        Err(fault) => Err(copy_fault(fault, stop, count)),
+    }
+}
+
+/// What a source gives, from its current position on. An input whose first byte is 4A is the text of a partial picture, and is read to
+/// its end. Every other input is a damaged copy, the empty one too, and is read as long as more bytes can change what it gives.
+/// Reads have room for at most 4,096 bytes, and there are at most 4,294,967,295 of them.
+///
+/// A copy in which a frame was taken is never refused, but where memory runs out: what was read before the source stopped is kept, and
+/// the report tells how it did. A text is refused as `Read` if the source stopped before its end, whatever the bytes are.
+pub fn read_input<S: Source>(alloc: Global, device: &mut S) -> Result<InputRead, InputFault>
+    ensures given { IfOk result (λ given. GrewBy (ReadsGive None given) (S.history device.old) (S.history device.new)) }
+    ensures refused { IfErr result (λ fault. GrewBy (ReadsRefuse fault) (S.history device.old) (S.history device.new)) }
+    ensures known { IfOk result (λ given. given.copy ≡ None → IfSome (S.remaining device.old) (λ bytes. IsTextOf bytes given.partial)) }
+{
+    copies_have_one_course();
+    let mut chunk = [0u8; 4096];
+    let count = match device.read_some(&mut chunk) {
+        Ok(count) => count,
+        Err(_) => return Err(InputFault::Read(ReadStop::Failed, 0)),
+    };
+    if count == 0 {
+        return Err(InputFault::NoPicture(MarkerFault::Ended, 0));
+    }
+    let first = front(&chunk, count);
+    if first[0] == FIRST_OF_TEXT {
+        read_text(alloc, device, first)
+    } else {
+        read_copy(alloc, device, first)
     }
 }

@@ -5,13 +5,14 @@ ghost use Rattle.jls_device.specs.Event.{GrewBy};
 ghost use Rattle.jls_station.specs.Joining.{Joins};
 
 use crate::outcome::{Cause, Outcome, Refusal};
-use crate::taking::take_inputs;
+use crate::taking::{Taken, take_inputs};
 use crate::writing::write_output;
 use jls_device::Desk;
 use std::alloc::Global;
 
 /// The command `join`: takes the inputs of these names, in turn, and then creates the output and writes the text of their
-/// union to it.
+/// union to it. An input is a text or a copy; a copy whose source stopped behind a frame is taken as far as it was read, and then the
+/// outcome says that not every input was read whole.
 pub fn join<'a, D: Desk>(
     alloc: Global,
     desk: &mut D,
@@ -21,8 +22,8 @@ pub fn join<'a, D: Desk>(
 ) -> Outcome<'a>
     ensures { GrewBy (Joins None out.now (first.now ∷ map (λ f. f.now) others.now) result) (D.history desk.old) (D.history desk.new) }
 {
-    let station = match take_inputs(alloc, desk, first, others) {
-        Ok(station) => station,
+    let Taken { station, whole } = match take_inputs(alloc, desk, first, others) {
+        Ok(taken) => taken,
         Err(refusal) => return Outcome::Refused(refusal),
     };
     let joined = station.partial();
@@ -36,10 +37,7 @@ pub fn join<'a, D: Desk>(
     match write_output(desk, out, &text) {
         Ok(()) => {
             let settled = joined.is_settled();
-            Outcome::Done {
-                settled,
-                whole: true,
-            }
+            Outcome::Done { settled, whole }
         }
         Err(cause) => Outcome::Refused(Refusal { name: out, cause }),
     }

@@ -9,7 +9,7 @@ use crate::input::InputFault;
 pub enum Cause {
     /// An input can't be opened.
     NotOpened,
-    /// An input could not be read to its end, is no text, or memory ran out for it.
+    /// An input could not be read to its end, is neither a text nor a copy with a frame, or memory ran out for it.
     Input(InputFault),
     /// An input has another shape than the first.
     ShapeDiffers,
@@ -46,15 +46,16 @@ pub enum Outcome<'a> {
 impl Cause {
     ghost use Rattle.jls_station.specs.Outcomes.{status_of_cause};
 
-    /// The exit status: 1 if a line isn't settled, 2 if an interval is too large, 3 if an input is no text or shapes differ,
-    /// 4 if a device failed or the reads of an input were used up, 5 if memory ran out.
+    /// The exit status: 1 if a line isn't settled, 2 if an interval is too large, 3 if an input is refused for what it says or shapes
+    /// differ, 4 if a device failed or the reads of an input were used up, 5 if memory ran out.
     pub fn status(self) -> u8
         ensures { result ≡ status_of_cause self }
     {
         match self {
             Cause::Unsettled { .. } => 1,
             Cause::TooLarge => 2,
-            Cause::Input(InputFault::Text(_)) | Cause::ShapeDiffers => 3,
+            Cause::Input(InputFault::Text(_) | InputFault::NoPicture(_, _)) => 3,
+            Cause::ShapeDiffers => 3,
             Cause::Input(InputFault::OutOfMemory) | Cause::OutOfMemory => 5,
             Cause::Input(InputFault::Read(_, _)) => 4,
             Cause::NotOpened | Cause::NotCreated | Cause::NotWritten(_) => 4,

@@ -1,4 +1,6 @@
-//! One input read whole, and a station that takes what fits.
+//! Inputs read, and a station that takes what fits.
+
+mod copies;
 
 use crate::input::{InputFault, ReadStop, read_input};
 use crate::station::Station;
@@ -46,12 +48,14 @@ fn refusal_of(alloc: Global, bytes: &[u8]) -> Option<InputFault> {
 #[test]
 fn reads_one_input(rt: HostRuntime) -> Result<(), Fail> {
     let alloc = rt.alloc();
-    let partial = match read_input(alloc, &mut Counted::new(DISPUTED)) {
-        Ok(partial) => partial,
+    let read = match read_input(alloc, &mut Counted::new(DISPUTED)) {
+        Ok(read) => read,
         Err(_) => return Err(Fail::from("refused")),
     };
-    assert_eq!(rt; partial.to_bytes(alloc)?.as_slice(), DISPUTED);
-    for count in [0, 20] {
+    assert!(rt; read.copy().is_none());
+    assert_eq!(rt; read.stop(), ReadStop::Whole);
+    assert_eq!(rt; read.into_partial().to_bytes(alloc)?.as_slice(), DISPUTED);
+    for count in [0, 1, 20] {
         let stopped = InputFault::Read(ReadStop::Failed, count as u64);
         assert_eq!(rt; refusal_of(alloc, &DISPUTED[..count]), Some(stopped));
     }

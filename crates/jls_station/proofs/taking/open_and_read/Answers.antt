@@ -9,9 +9,9 @@ returns-in-Err-clause-stopped g c before =
 pub returns-in-Ok-read_input-clause-taken : goal.returns-in-Ok-read_input-clause-taken
 returns-in-Ok-read_input-clause-taken g c =
     let history = g.D.Device.history in
-    opened_and_given (history c.args.desk.now) (history c.open_input.new.self) (history c.read_input.new.source) c.args.name.now c.in-Ok-read_input.partial c.in-Ok.ensures.opened c.in-Ok-read_input.ensures.given
+    opened_and_given (history c.args.desk.now) (history c.open_input.new.self) (history c.read_input.new.device) c.args.name.now c.in-Ok-read_input.read c.in-Ok.ensures.opened c.in-Ok-read_input.ensures.given
 
 pub returns-in-Err-read_input-clause-stopped : goal.returns-in-Err-read_input-clause-stopped
 returns-in-Err-read_input-clause-stopped g c before =
     let history = g.D.Device.history in
-    opened_and_refused (history c.args.desk.now) (history c.open_input.new.self) (history c.read_input.new.source) c.args.name.now c.in-Err-read_input.fault before c.in-Ok.ensures.opened c.in-Err-read_input.ensures.refused
+    opened_and_refused (history c.args.desk.now) (history c.open_input.new.self) (history c.read_input.new.device) c.args.name.now c.in-Err-read_input.fault before c.in-Ok.ensures.opened c.in-Err-read_input.ensures.refused

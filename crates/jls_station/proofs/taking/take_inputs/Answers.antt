@@ -1,7 +1,8 @@
-use Rattle.std.proofs.Common.{◌∷◌, [], ◌<◌, length, map, take, drop, get_or, List, ℕ, None, true, ap, sym, subst, refl, Result, Err, ◌≡◌, ◌+◌, arith}
+use Rattle.std.proofs.Common.{◌∷◌, [], ◌<◌, length, map, take, drop, get_or, List, ℕ, None, true, false, ap, sym, subst, refl, ◌∙◌, Result, Err, ◌≡◌, ◌+◌, arith}
+use Rattle.std.specs.Prelude.{◌&&◌}
 use Rattle.std.specs.Borrow.{Bor}
 use Rattle.jls_device.specs.Event.{GrewBy}
-use Rattle.jls_partial.specs.Partial.{PartialPicture}
+use Rattle.jls_partial.specs.Partial.{PartialPicture, has_same_shape, union}
 use Rattle.jls_values.specs.declared.merge.MergeFault.{MergeFault}
 use Rattle.jls_values.specs.declared.merge.MergeFault.TheVariants.{ShapeDiffers, OutOfMemory}
 use Rattle.jls_station.specs.Inputs.{TakesUnion}
@@ -29,8 +30,8 @@ pub loop-name-init : goal.loop-name-init
 loop-name-init g c =
     let history = g.D.Device.history in
     record {
-      so_far = subst (λ (p : PartialPicture). GrewBy (TakesUnion None (c.args.first.now ∷ []) p true) (history c.args.desk.now) (history c.open_and_read.new.desk)) (sym c.holding-station.ensures)
-          (union_of_first (history c.args.desk.now) (history c.open_and_read.new.desk) c.args.first.now c.in-Ok.partial c.in-Ok.ensures.taken);
+      so_far = union_of_first (history c.args.desk.now) (history c.open_and_read.new.desk) c.args.first.now c.in-Ok.read c.is_whole-whole.result c.holding-station.result
+          c.is_whole-whole.ensures (c.holding-station.ensures ∙ c.into_partial.ensures) c.in-Ok.ensures.taken;
     }
 
 pub returns-in-Err-open_and_read-clause-stopped : goal.returns-in-Err-open_and_read-clause-stopped
@@ -39,7 +40,7 @@ returns-in-Err-open_and_read-clause-stopped g c =
     let i = c.loop-name.name-index in
     let lt : i < length c.args.others.now = omega arith in
     let r : Refusal = record { name = get_or c.args.others.now i none; cause = c.in-Err-open_and_read.cause } in
-    stops_next (history c.args.desk.now) (history c.loop-name.desk) (history c.open_and_read-in-loop-name.new.desk) (c.args.first.now ∷ map name_of (take i c.args.others.now)) c.loop-name.station
+    stops_next (history c.args.desk.now) (history c.loop-name.desk) (history c.open_and_read-in-loop-name.new.desk) (c.args.first.now ∷ map name_of (take i c.args.others.now)) c.loop-name.station c.loop-name.whole
     c.loop-name.invariant.so_far (c.args.first.now ∷ map name_of c.args.others.now) (map name_of (drop (i + 1) c.args.others.now)) r
     (ap (λ (xs : List (List ℕ)). c.args.first.now ∷ xs) (names_split name_of c.args.others.now i none lt)) c.in-Err-open_and_read.ensures.stopped
 
@@ -49,10 +50,10 @@ returns-in-Err-ShapeDiffers-clause-stopped g c =
     let i = c.loop-name.name-index in
     let lt : i < length c.args.others.now = omega arith in
     let r : Refusal = record { name = get_or c.args.others.now i none; cause = cause.ShapeDiffers } in
-    differs_next (history c.args.desk.now) (history c.loop-name.desk) (history c.open_and_read-in-loop-name.new.desk) (c.args.first.now ∷ map name_of (take i c.args.others.now)) c.loop-name.station
+    differs_next (history c.args.desk.now) (history c.loop-name.desk) (history c.open_and_read-in-loop-name.new.desk) (c.args.first.now ∷ map name_of (take i c.args.others.now)) c.loop-name.station c.loop-name.whole
     c.loop-name.invariant.so_far (c.args.first.now ∷ map name_of c.args.others.now) (map name_of (drop (i + 1) c.args.others.now)) r
-    (ap (λ (xs : List (List ℕ)). c.args.first.now ∷ xs) (names_split name_of c.args.others.now i none lt)) c.in-Ok-open_and_read.partial refl c.in-Ok-open_and_read.ensures.taken
-    (c.in-Err-ShapeDiffers.ensures.shape_differs.0 (ap (λ e. Err e) c.in-Err-ShapeDiffers.field-0-is))
+    (ap (λ (xs : List (List ℕ)). c.args.first.now ∷ xs) (names_split name_of c.args.others.now i none lt)) c.in-Ok-open_and_read.read refl c.in-Ok-open_and_read.ensures.taken
+    (subst (λ (p : PartialPicture). has_same_shape c.loop-name.station p ≡ false) c.partial.ensures (c.in-Err-ShapeDiffers.ensures.shape_differs.0 (ap (λ e. Err e) c.in-Err-ShapeDiffers.field-0-is)))
 
 pub returns-in-Err-OutOfMemory-clause-stopped : goal.returns-in-Err-OutOfMemory-clause-stopped
 returns-in-Err-OutOfMemory-clause-stopped g c =
@@ -60,10 +61,10 @@ returns-in-Err-OutOfMemory-clause-stopped g c =
     let i = c.loop-name.name-index in
     let lt : i < length c.args.others.now = omega arith in
     let r : Refusal = record { name = get_or c.args.others.now i none; cause = cause.OutOfMemory } in
-    ran_out_next (history c.args.desk.now) (history c.loop-name.desk) (history c.open_and_read-in-loop-name.new.desk) (c.args.first.now ∷ map name_of (take i c.args.others.now)) c.loop-name.station
+    ran_out_next (history c.args.desk.now) (history c.loop-name.desk) (history c.open_and_read-in-loop-name.new.desk) (c.args.first.now ∷ map name_of (take i c.args.others.now)) c.loop-name.station c.loop-name.whole
     c.loop-name.invariant.so_far (c.args.first.now ∷ map name_of c.args.others.now) (map name_of (drop (i + 1) c.args.others.now)) r
-    (ap (λ (xs : List (List ℕ)). c.args.first.now ∷ xs) (names_split name_of c.args.others.now i none lt)) c.in-Ok-open_and_read.partial refl c.in-Ok-open_and_read.ensures.taken
-    (λ e. not_both (Err c.in-Err-OutOfMemory.field-0) c.in-Err-OutOfMemory.field-0 refl c.in-Err-OutOfMemory.field-0-is (c.in-Err-OutOfMemory.ensures.shape_differs.1 e))
+    (ap (λ (xs : List (List ℕ)). c.args.first.now ∷ xs) (names_split name_of c.args.others.now i none lt)) c.in-Ok-open_and_read.read refl c.in-Ok-open_and_read.ensures.taken
+    (λ e. not_both (Err c.in-Err-OutOfMemory.field-0) c.in-Err-OutOfMemory.field-0 refl c.in-Err-OutOfMemory.field-0-is (c.in-Err-OutOfMemory.ensures.shape_differs.1 (subst (λ (p : PartialPicture). has_same_shape c.loop-name.station p ≡ false) (sym c.partial.ensures) e)))
 
 pub loop-name-preserved : goal.loop-name-preserved
 loop-name-preserved g c =
@@ -71,8 +72,11 @@ loop-name-preserved g c =
     let i = c.loop-name.name-index in
     let lt : i < length c.args.others.now = omega arith in
     record {
-      so_far = subst (λ (names : List (List ℕ)). GrewBy (TakesUnion None (c.args.first.now ∷ names) c.take.new.self true) (history c.args.desk.now) (history c.open_and_read-in-loop-name.new.desk))
+      so_far = subst (λ (names : List (List ℕ)). GrewBy (TakesUnion None (c.args.first.now ∷ names) c.take.new.self (c.loop-name.whole && c.is_whole-whole-in-loop-name.result)) (history c.args.desk.now) (history c.open_and_read-in-loop-name.new.desk))
           (sym (names_one_more name_of c.args.others.now i none lt))
-          (union_of_next (history c.args.desk.now) (history c.loop-name.desk) (history c.open_and_read-in-loop-name.new.desk) (c.args.first.now ∷ map name_of (take i c.args.others.now)) c.loop-name.station
-          c.loop-name.invariant.so_far (get_or c.args.others.now i none).now c.in-Ok-open_and_read.partial c.take.new.self c.in-Ok-open_and_read.ensures.taken c.in-Ok-take.ensures.ok_same_shape c.in-Ok-take.ensures.ok);
+          (union_of_next (history c.args.desk.now) (history c.loop-name.desk) (history c.open_and_read-in-loop-name.new.desk) (c.args.first.now ∷ map name_of (take i c.args.others.now)) c.loop-name.station c.loop-name.whole
+          c.loop-name.invariant.so_far (get_or c.args.others.now i none).now c.in-Ok-open_and_read.read c.is_whole-whole-in-loop-name.result
+          (c.loop-name.whole && c.is_whole-whole-in-loop-name.result) c.take.new.self c.is_whole-whole-in-loop-name.ensures refl c.in-Ok-open_and_read.ensures.taken
+          (subst (λ (p : PartialPicture). has_same_shape c.loop-name.station p ≡ true) c.partial.ensures c.in-Ok-take.ensures.ok_same_shape)
+          (c.in-Ok-take.ensures.ok ∙ ap (λ (p : PartialPicture). union c.loop-name.station p) c.partial.ensures));
     }

@@ -1,0 +1,46 @@
+-- Steps of the loop that reads a copy.
+use Rattle.std.proofs.Common.{◌≡◌, ◌<◌, ◌≤◌, ℕ, ◌+◌, ◌*◌, Bool, true, false, List, [], ◌∷◌, ◌++◌, Option, Some, None, length, refl, sym, subst, ap, ◌∙◌, arith}
+use Rattle.std.specs.Prelude.{◌↔◌, IsTrue, IfSome, IsSomeAnd}
+use Rattle.std.proofs.lemmas.Bool.{false≢true}
+use Rattle.std.proofs.lemmas.List.{length-append}
+use Rattle.jls_copy.specs.ReadCopy.{after}
+use Rattle.jls_device.specs.Event.{History, GrewBy, gave}
+use Rattle.jls_station.specs.Inputs.{IsCopyDone}
+use Rattle.jls_station.specs.Reading.{AreBytes, ReadSoFar}
+use Rattle.jls_station.specs.Texts.{is_text}
+use Rattle.jls_station.proofs.OneInput.{one_read_more, same_first}
+
+-- what a reader of a copy, which was fed as `first` says and is fed as `reader` says now, got by so many reads
+pub record CopySoFar (first reader : Option (List ℕ)) (made count : ℕ) (old new : History) : Type 0 where
+  pub bytes : List ℕ
+  pub is : reader ≡ Some bytes
+  pub few : length bytes ≤ 4096 * count
+  pub begins : (fed : List ℕ) → first ≡ Some fed → 0 < length fed → (0 < length bytes) × (is_text bytes ≡ is_text fed)
+  pub so_far : (before : History) (fed : List ℕ) → first ≡ Some fed → GrewBy (ReadSoFar IsCopyDone made fed) before old
+      → GrewBy (ReadSoFar IsCopyDone count bytes) before new
+
+-- what a reader that was fed some bytes answers is about these
+pub about : (Q : List ℕ → Type 0) (reader : Option (List ℕ)) (bytes : List ℕ) → reader ≡ Some bytes → IfSome reader Q → Q bytes
+about Q reader bytes is h = subst (λ (o : Option (List ℕ)). IfSome o Q) is h
+
+-- and what is so of them is so of the reader
+pub of_reader : (Q : List ℕ → Type 0) (reader : Option (List ℕ)) (bytes : List ℕ) → reader ≡ Some bytes → Q bytes → IsSomeAnd reader Q
+of_reader Q reader bytes is h = subst (λ (o : Option (List ℕ)). IsSomeAnd o Q) (sym is) h
+
+-- more bytes are wanted
+pub goes_on : (enough : Bool) (reader : Option (List ℕ)) (bytes : List ℕ) → reader ≡ Some bytes → IfSome reader (λ b. IsTrue enough ↔ IsCopyDone b) → enough ≡ false → IsCopyDone bytes → ⊥
+goes_on enough reader bytes is h no_more done = false≢true (sym no_more ∙ (about (λ b. IsTrue enough ↔ IsCopyDone b) reader bytes is h).1 done)
+
+-- one read more, which gave some bytes
+pub copy_more : (first reader reader' : Option (List ℕ)) (made count : ℕ) (old mid new : History) (room : ℕ) (more : List ℕ) (h : CopySoFar first reader made count old mid)
+    → reader' ≡ after reader more → new ≡ mid ++ gave room more ∷ [] → (IsCopyDone h.bytes → ⊥) → room ≤ 4096 → 0 < length more → length more ≤ 4096 → AreBytes more
+    → CopySoFar first reader' made (count + 1) old new
+copy_more first reader reader' made count old mid new room more h is e not fits some few low = record {
+  bytes = h.bytes ++ more;
+  is = is ∙ ap (λ (o : Option (List ℕ)). after o more) h.is;
+  few = omega (arith, length-append h.bytes more, h.few, few);
+  begins = λ fed was any.
+      let b = h.begins fed was any in
+      (omega (arith, length-append h.bytes more, b.0), same_first h.bytes more b.0 ∙ b.1);
+  so_far = λ before fed was so. one_read_more IsCopyDone count before mid new h.bytes room more (h.so_far before fed was so) e not fits some low;
+}

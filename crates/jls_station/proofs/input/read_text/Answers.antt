@@ -1,0 +1,61 @@
+use Rattle.std.proofs.Common.{rules, None, ◌≡◌, ℕ, List, true, ap, refl, sym, subst, ◌∙◌, arith, length}
+use Rattle.jls_partial.specs.TextReading.{Fails, read_text}
+use Rattle.jls_device.specs.Event.{History, GrewBy}
+use Rattle.jls_station.specs.Given.{Given, Gives, by_text, given_by_text}
+use Rattle.jls_station.specs.Inputs.{IsEnough, text_not_read, ReadsGive, ReadsRefuse}
+use Rattle.jls_station.specs.Reading.{IsRead, ReadSoFar}
+use Rattle.jls_station.specs.Texts.{is_text}
+use Rattle.jls_station.specs.declared.input.ReadStop.{ReadStop}
+use Rattle.jls_station.specs.declared.input.ReadStop.TheVariants.{Whole}
+use Rattle.jls_station.specs.declared.input.InputFault.{InputFault}
+use Rattle.jls_station.specs.declared.input.InputFault.TheVariants as fault
+use Rattle.jls_station.proofs.OneInput.{out_of_memory_in_part, read_in_part, refused_for, refused_by, given_so}
+use Rattle.jls_station.proofs.input.read_text.Goals as goal
+
+-- the copy of what the first read gave
+as_first : (before now : History) (first items : List ℕ) → items ≡ first → GrewBy (ReadSoFar IsEnough 1 first) before now → GrewBy (ReadSoFar IsEnough 1 items) before now
+as_first before now first items is h = subst (λ (t : List ℕ). GrewBy (ReadSoFar IsEnough 1 t) before now) (sym is) h
+
+pub returns-in-Err-clause-refused : goal.returns-in-Err-clause-refused
+returns-in-Err-clause-refused g c before h =
+    let now = g.S.Device.history c.args.device.now in
+    out_of_memory_in_part before now (read_in_part IsEnough 1 before now now c.args.first.now h (omega arith))
+
+pub returns-in-Err-read_text_on-clause-refused : goal.returns-in-Err-read_text_on-clause-refused
+returns-in-Err-read_text_on-clause-refused g c before h =
+    let history = g.S.Device.history in
+    out_of_memory_in_part before (history c.read_text_on.new.device)
+    (c.in-Err-read_text_on.ensures.refused before (as_first before (history c.args.device.now) c.args.first.now c.in-Ok.bytes.items c.in-Ok.ensures.items h))
+
+pub returns-in_default-clause-refused : goal.returns-in_default-clause-refused
+returns-in_default-clause-refused g c before h =
+    let history = g.S.Device.history in
+    let bytes = c.read_text_on.new.bytes.items in
+    let stop = c.in-Ok-read_text_on.stop in
+    let count : c.len.result ≡ length bytes = search rules in
+    subst (λ (n : ℕ). GrewBy (ReadsRefuse (fault.Read stop n)) before (history c.read_text_on.new.device)) (sym count)
+    (refused_for before (history c.read_text_on.new.device) bytes stop
+    (c.in-Ok-read_text_on.ensures.read before (as_first before (history c.args.device.now) c.args.first.now c.in-Ok.bytes.items c.in-Ok.ensures.items h))
+    (fault.Read stop (length bytes)) (text_not_read bytes stop c.in-Ok-read_text_on.ensures.text c.in_default.not-Whole))
+
+pub returns-in-Ok-from_bytes-clause-given : goal.returns-in-Ok-from_bytes-clause-given
+returns-in-Ok-from_bytes-clause-given g c before h =
+    let history = g.S.Device.history in
+    let bytes = c.read_text_on.new.bytes.items in
+    let p = c.in-Ok-from_bytes.partial in
+    let is_text_of = by_text None bytes p (record { partial = c.in-Ok-from_bytes.ensures.found.0; bytes_are = sym c.deref.ensures.value ∙ c.in-Ok-from_bytes.ensures.found.1 }) in
+    subst (λ (x : Given). GrewBy (ReadsGive None x) before (history c.read_text_on.new.device)) (sym c.of_text.ensures)
+    (given_so before (history c.read_text_on.new.device) bytes c.in-Ok-read_text_on.stop
+    (c.in-Ok-read_text_on.ensures.read before (as_first before (history c.args.device.now) c.args.first.now c.in-Ok.bytes.items c.in-Ok.ensures.items h))
+    (given_by_text p) (sym c.in-Whole.is) is_text_of)
+
+pub returns-clause-refused : goal.returns-clause-refused
+returns-clause-refused g c before h =
+    let history = g.S.Device.history in
+    let bytes = c.read_text_on.new.bytes.items in
+    let read : GrewBy (λ reads. IsRead IsEnough reads bytes Whole) before (history c.read_text_on.new.device) =
+    subst (λ (stop : ReadStop). GrewBy (λ reads. IsRead IsEnough reads bytes stop) before (history c.read_text_on.new.device)) c.in-Whole.is
+    (c.in-Ok-read_text_on.ensures.read before (as_first before (history c.args.device.now) c.args.first.now c.in-Ok.bytes.items c.in-Ok.ensures.items h)) in
+    subst (λ (f : InputFault). GrewBy (ReadsRefuse f) before (history c.read_text_on.new.device)) (sym c.input_fault.ensures)
+    (refused_by before (history c.read_text_on.new.device) bytes c.in-Ok-read_text_on.ensures.text read c.in-Err-from_bytes.fault
+    (subst (λ (t : List ℕ). Fails c.in-Err-from_bytes.fault (read_text t)) c.deref.ensures.value c.in-Err-from_bytes.ensures.exact))

@@ -1,0 +1,8 @@
+use Rattle.std.proofs.Common.{◌≤◌}
+use Rattle.jls_station.proofs.CopySteps.{CopySoFar}
+use Rattle.jls_station.proofs.reading.read_copy_on.Given as goal
+
+abbrev pub invariant-loop : goal.invariant-loop
+invariant-loop g l =
+    let history = g.S.Device.history in
+    CopySoFar l.fn.reader l.reader l.made l.counter (history l.fn.device) (history l.device)
