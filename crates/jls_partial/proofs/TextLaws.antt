@@ -293,7 +293,8 @@ text_takes size bytes x fits e =
     let e03 = Takes-then bytes (head_text version shape ++ to_be_bytes w32 n.0.0) n.0.1 (flat_map (entry_text version) es) r.0.1 e02 t3.0 in
     let whole : bytes ≡ text_of version shape es ++ r.0.1 = subst (λ (k : ℕ). bytes ≡ ((head_text version shape ++ to_be_bytes w32 k) ++ flat_map (entry_text version) es) ++ r.0.1) (sym t3.1) e03.parts in
     let made : Parts = (shape, es, r.0.1) in
-    (version, subst (λ (y : Parts). (bytes ≡ text_of version y.0 y.1 ++ y.2) × IsShape y.0 × AreSaid version y.0 y.1) (ok_is made x r.2) (whole, t1.1, said_from_follow version shape es t3.2 t3.3))
+    let said = subst (λ (y : Parts). (bytes ≡ text_of version y.0 y.1 ++ y.2) × IsShape y.0 × AreSaid version y.0 y.1) (ok_is made x r.2) (whole, t1.1, said_from_follow version shape es t3.2 t3.3) in
+    (version, said.0, said.1, said.2)
 
 text_again : (size : ℕ) (version : Version) (shape : PictureShape) (es : List Entry) → IsShape shape → AreSaid version shape es → text_fields size (text_of version shape es) ≡ Ok (shape, es, [])
 unfolding text_fields
@@ -328,7 +329,7 @@ said_again : (version : Version) (shape : PictureShape) (es : List Entry) → Ar
 said_again version shape es h = entries_again shape es h.entries (rise_of version es h.said)
 
 -- the partial picture of what a text says has a text
-pub partial_is : (version : Version) (shape : PictureShape) (es : List Entry) → IsShape shape → AreSaid version shape es → IsPartial (partial_of shape es)
+partial_is : (version : Version) (shape : PictureShape) (es : List Entry) → IsShape shape → AreSaid version shape es → IsPartial (partial_of shape es)
 partial_is version shape es is h =
     let bs = map bare es in
     let p = partial_of shape es in
@@ -376,7 +377,7 @@ unfolding IsStrictlySortedBy
 no_order = tt
 
 -- the entries of a partial picture are what a text that says all of it says
-pub entries_said : (version : Version) (p : PartialPicture) → IsPartial p → SaysAll version p → AreSaid version p.shape (entries p)
+entries_said : (version : Version) (p : PartialPicture) → IsPartial p → SaysAll version p → AreSaid version p.shape (entries p)
 entries_said version p is says = record {
   entries = subst (AreEntries p.shape) (sym (bare_entries_are p)) (entries_are p is);
   said = each (bare_entries p);

@@ -9,12 +9,7 @@ use crate::place::Place;
 use std::alloc::AllocError;
 
 /// Adds a source to each reading of a line.
-fn mark_line(
-    partial: &mut Partial,
-    component: u8,
-    line: u16,
-    source: u32,
-) -> Result<(), AllocError>
+fn mark_line(partial: &mut Partial, component: u8, line: u16, source: u32) -> Result<(), AllocError>
     requires component_in { component < length partial.old.shape.ids }
     requires line_in { line < partial.old.shape.height }
     ensures ok { OnOk result (partial.new ≡ with_marks partial.old source (line_readings partial.old component line)) }

@@ -94,14 +94,20 @@ fn readings_and_their_sources(rt: HostRuntime) -> Result<(), Fail> {
     let mut both = Partial::empty(rt.alloc(), Shape::new(8, 1, 1, &[1])?);
     both.insert(0, 0, &[5])?;
     both.merge(&seven)?;
-    assert_eq!(rt; both.to_bytes(rt.alloc())?.as_slice(), ONE_SOURCE.as_slice());
+    assert_eq!(rt;
+        both.to_bytes(rt.alloc())?.as_slice(),
+        ONE_SOURCE.as_slice()
+    );
     assert!(rt; Partial::from_bytes(rt.alloc(), &ONE_SOURCE)? == both);
 
     two.merge(&seven)?;
     seven.merge(&two)?;
     assert!(rt; seven == two);
     assert_eq!(rt; two.sources(0, 0, 0), [2, 7].as_slice());
-    assert_eq!(rt; two.to_bytes(rt.alloc())?.as_slice(), TWO_SOURCES.as_slice());
+    assert_eq!(rt;
+        two.to_bytes(rt.alloc())?.as_slice(),
+        TWO_SOURCES.as_slice()
+    );
     Ok(())
 }
 

@@ -67,7 +67,11 @@ fn reads_the_sources_of_version_2(rt: HostRuntime) -> Result<(), Fail> {
         if let Some(old) = text.get_mut(at) {
             *old = byte;
         }
-        assert_eq!(rt; fault_of(rt.alloc(), &text), Some(fault), "byte {at} is {byte}");
+        assert_eq!(rt;
+            fault_of(rt.alloc(), &text),
+            Some(fault),
+            "byte {at} is {byte}"
+        );
     }
     for length in 0..45 {
         assert_eq!(rt;

@@ -17,8 +17,7 @@ returns-then-not-same_place c =
     let xs = map kept_entry c.next.new.self in
     let ys = map kept_entry c.next-in-loop-at.new.self in
     let p = ap (map kept_entry) c.in-Some.ensures.steps in
-    let q = ap (map kept_entry) c.in-Some-next.ensures.steps in
-    (
+    let q = ap (map kept_entry) c.in-Some-next.ensures.steps in (
       λ e. absurd cc,
       λ same. absurd (places_apart c.in-Some.at.now c.in-Some-next.other_at.now c.eq-same_place.result c.eq-same_place.ensures c.if-not-same_place.true
           (ap (λ (e : Entry). e.0) (same_next E F it left x y xs ys c.loop-at.invariant p q same))),
@@ -35,8 +34,7 @@ returns-then-not-same_lines c =
     let xs = map kept_entry c.next.new.self in
     let ys = map kept_entry c.next-in-loop-at.new.self in
     let p = ap (map kept_entry) c.in-Some.ensures.steps in
-    let q = ap (map kept_entry) c.in-Some-next.ensures.steps in
-    (
+    let q = ap (map kept_entry) c.in-Some-next.ensures.steps in (
       λ e. absurd cc,
       λ same. let t = c.same_line-same_lines.ensures.1 (ap (λ (e : Entry). e.1) (same_next E F it left x y xs ys c.loop-at.invariant p q same)) in let f = c.if-not-same_lines.true in absurd cc,
     )

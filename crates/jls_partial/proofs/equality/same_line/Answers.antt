@@ -24,8 +24,7 @@ returns-then-not-same_sources c =
     let l2 = c.len-2.ensures.value in
     let end = c.len-i-end.ensures.value in
     let lt : i < length (items L.lines) = omega (arith, end, c.loop-i-test.true) in
-    let lt' : i < length (items M.lines) = omega (arith, lens, l1, l2, lt) in
-    (
+    let lt' : i < length (items M.lines) = omega (arith, lens, l1, l2, lt) in (
       λ e. absurd cc,
       λ same. absurd (apart_lists c.sources.result.now c.sources-in-loop-i.result.now (sym c.eq-same_sources.ensures ∙ c.if-not-same_sources.true)
           (sources_same L M i c.get.result.now c.get-in-loop-i.result.now c.sources.result.now c.sources-in-loop-i.result.now lt lt' c.get.ensures.value c.get-in-loop-i.ensures.value c.sources.ensures c.sources-in-loop-i.ensures same)),

@@ -50,7 +50,7 @@ loop-preserved c =
     subst (λ (s : PictureShape). kept_fields size version s before c.loop.rest.now ≡ Ok (k, after)) (c.shape.ensures.value ∙ c.loop.invariant.shape) c.in_ok-samples.ensures in
     let total = with_readings c.args.partial.now c.args.at (readings_fields size version shape None c.args.count c.args.bytes.now) in
     let taken : c.take.new.self ≡ with_kept c.loop.partial c.args.at k =
-    c.in_ok-take.ensures.ok ∙ (λ i. with_all c.loop.partial ((at_place c.args.at (c.deref.ensures.value i), c.deref-2.ensures.value i) ∷ [])) in
+    c.in_ok-take.ensures.ok ∙ (λ i. with_all c.loop.partial ((at_place c.args.at (c.deref.ensures.value i), c.deref-in-loop.ensures.value i) ∷ [])) in
     record {
       shape = ap (λ (q : PartialPicture). q.shape) taken ∙ c.loop.invariant.shape;
       same = subst (λ (q : PartialPicture). with_readings q c.args.at (readings_fields size version shape (Some k.0) (c.args.count - (c.loop.counter + 1)) after) ≡ total) (sym taken)
