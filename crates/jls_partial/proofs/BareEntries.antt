@@ -268,13 +268,6 @@ pub line_of_entry : (shape : PictureShape) (e : BareEntry) → IsEntry shape e �
 line_of_entry shape (at, []) h = absurd (omega (arith, h.read))
 line_of_entry shape (at, x ∷ xs) h = line_of_fit shape at.component at.line x h.fitting.0
 
-few_at : (shape : PictureShape) (es : List BareEntry) (q : Place) → AllByRecursion (IsEntry shape) es → length (samples_at es q) < 2 ^ 64
-few_at shape es q each =
-    elim (lookup (is_at (place_cmp q)) es) as (λ (o : Option (List (List ℕ))). IfSome o (λ xs. IsEntry shape (q, xs)) → length (unwrap_or o []) < 2 ^ 64) [
-      | None ↦ λ k. omega arith
-      | Some xs ↦ λ k. k.countable
-    ] (lookup_from_each (IsEntry shape) es q each)
-
 -- ---- how many entries there are
 
 -- where a line stands among all lines of four components

@@ -125,13 +125,6 @@ held_same s r h = same_set reading_total reading_exact _ _ (λ q. contains-inser
           | false ↦ λ e. refl
         ] refl
 
-pub fit_at : (shape : PictureShape) (es : List BareEntry) (q : Place) → AreEntries shape es → AllByRecursion (λ y. reading_fault shape q.component q.line y ≡ None) (samples_at es q)
-fit_at shape es q kept =
-    elim (lookup (is_at (place_cmp q)) es) as (λ (o : Option (List (List ℕ))). IfSome o (λ xs. IsEntry shape (q, xs)) → AllByRecursion (λ y. reading_fault shape q.component q.line y ≡ None) (unwrap_or o [])) [
-      | None ↦ λ k. tt
-      | Some xs ↦ λ k. k.fitting
-    ] (lookup_from_each (IsEntry shape) es q kept.each)
-
 -- what is kept at a place can be counted
 pub countable_at : (shape : PictureShape) (es : List BareEntry) (q : Place) → AreEntries shape es → length (samples_at es q) < 2 ^ 64
 countable_at shape es q kept =

@@ -61,10 +61,6 @@ pub record IsSoFar (old new : PartialPicture) (all left : List (Reading × List 
   pub parts : all ≡ taken ++ left
   pub new_is : new ≡ with_all old taken
 
--- no reading is taken yet
-pub none_so_far : (p : PartialPicture) (all : List (Reading × List ℕ)) → IsSoFar p p all all
-none_so_far p all = record { taken = []; parts = refl; new_is = refl }
-
 -- some more are taken
 pub more_so_far : (p q r : PartialPicture) (all ks left : List (Reading × List ℕ)) → IsSoFar p q all (ks ++ left) → r ≡ with_all q ks → IsSoFar p r all left
 more_so_far p q r all ks left h is = record {
@@ -81,10 +77,6 @@ front_so_far p q r all ks left h f = record {
   parts = h.parts ∙ ap (λ t. h.taken ++ t) (ap (λ t. t ++ left) f.parts ∙ append_assoc f.taken f.left left) ∙ sym (append_assoc h.taken f.taken (f.left ++ left));
   new_is = f.new_is ∙ ap (λ (z : PartialPicture). with_all z f.taken) h.new_is ∙ sym (with_all-append p h.taken f.taken);
 }
-
--- none of them is left
-pub all_so_far : (p q : PartialPicture) (all : List (Reading × List ℕ)) → IsSoFar p q all [] → q ≡ with_all p all
-all_so_far p q all h = h.new_is ∙ ap (with_all p) (sym (append-nil h.taken) ∙ sym h.parts)
 
 -- the readings of the next entry come first
 pub next_entry : (e : LineEntry) (es : List LineEntry) → kept_readings (map kept_entry (e ∷ es)) ≡ map (kept_at_place e.0) (kept_lines e.1) ++ kept_readings (map kept_entry es)

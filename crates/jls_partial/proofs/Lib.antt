@@ -18,4 +18,3 @@ pub mod TextReadings
 pub mod TextRows
 pub mod Unions
 pub mod Views
-pub mod Yielded

@@ -19,9 +19,6 @@ pub record GoAlong {X : Type 0} (one other it left : List X) : Type 0 where
   pub one_is : one ≡ done ++ it
   pub other_is : other ≡ done ++ left
 
-pub none_done : {X : Type 0} (one other it left : List X) → it ≡ one → left ≡ other → GoAlong one other it left
-none_done one other it left p q = record { done = []; one_is = sym p; other_is = sym q }
-
 pub one_done : {X : Type 0} (one other it left : List X) (x y : X) (xs ys : List X) → GoAlong one other it left → it ≡ x ∷ xs → left ≡ y ∷ ys → x ≡ y → GoAlong one other xs ys
 one_done one other it left x y xs ys g p q same = record {
   done = g.done ++ x ∷ [];

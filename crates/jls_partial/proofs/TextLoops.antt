@@ -33,9 +33,6 @@ fails_then (fault.Order n) read f h = ap (λ r. r >>= f) h
 fails_then (fault.Sample n) read f h = ap (λ r. r >>= f) h
 fails_then (fault.Trailing n) read f h = ap (λ r. r >>= f) h
 
-pub fails_same : {A : Type 0} (e : TextFault) (one two : Result A TextFault) → one ≡ two → Fails e one → Fails e two
-fails_same e one two same h = subst (Fails e) same h
-
 -- ---- the magic
 
 pub magic_goes_on : (size : ℕ) (wanted : List ℕ) (want : ℕ) (others bytes : List ℕ) (byte : ℕ) (after : List ℕ) (total : Result (List ℕ) TextFault) → wanted ≡ want ∷ others → byte_field size bytes ≡ Ok (byte, after) → byte ≡ want

@@ -73,6 +73,3 @@ marks_total = mark_total reading_total
 
 pub marks_exact : CmpEqualImpliesEq (mark_cmp reading_cmp)
 marks_exact = mark_exact reading_exact
-
-pub same_mark : (x y : Reading × ℕ) → eq_by_cmp (mark_cmp reading_cmp) x y ≡ true → x ≡ y
-same_mark x y e = marks_exact x y (is_equal (mark_cmp reading_cmp x y) e)
