@@ -3,7 +3,7 @@ use Rattle.std.proofs.Common.{◌≡◌, ℕ, ◌*◌, ◌<◌, List, [], ◌∷
 use Rattle.std.specs.List.{AllByRecursion}
 use Rattle.jls_values.specs.OrderedSet as set
 use Rattle.jls_values.specs.Shape.{PictureShape}
-use Rattle.jls_partial.specs.Partial.{PartialPicture}
+use Rattle.jls_partial.specs.Partial.{PartialPicture, without_sources}
 use Rattle.jls_interval.specs.Reads.{Reads, IsLong}
 use Rattle.jls_interval.proofs.PiecesReadOnce.{reads_once, read_not_long}
 use Rattle.jls_marker.specs.Scan.{Scan, IsScan, row_count}
@@ -79,7 +79,7 @@ some_is : (a b : PictureShape) → Some a ≡ Some b → a ≡ b
 some_is a b e = cc
 
 abbrev given : Course → PictureShape → List Outcome → PartialPicture
-given c shape os = record { shape = shape; readings = set.insert_all set.empty (readings (pieces c) os) }
+given c shape os = without_sources shape (set.insert_all set.empty (readings (pieces c) os))
 
 one_reading : (bytes : List ℕ) → AllByRecursion (λ b. b < 256) bytes → (r s : ReadCopy) → CopyReads bytes r → CopyReads bytes s → r ≡ s
 one_reading bytes low r s k l =

@@ -35,6 +35,7 @@ use Rattle.jls_copy.specs.declared.piece.PieceRecord.{PieceRecord}
 use Rattle.jls_copy.specs.ReadCopy.{ReadCopy}
 use Rattle.jls_copy.proofs.Alike.{same_outcome}
 use Rattle.jls_copy.proofs.CourseTold.{course_told}
+use Rattle.jls_partial.specs.Partial.{without_sources}
 
 outcome_at : (s : Scan) (n : PieceNumber) (x w : List ℕ) (o : Outcome) → ToldAs n x w → IsOutcomeAt s n x o → IsOutcomeAt s n w o
 outcome_at s (Interval k) x w o t h = same_outcome s k x w o t h
@@ -77,7 +78,7 @@ conclusion_told bytes low read k =
       framed = ap (λ h. h.frame) told.2 ∙ k.framed;
       outcomes = k.outcomes;
       each = all.0;
-      partial_is = k.partial_is ∙ ap (λ rs. record { shape = k.shape; readings = set.insert_all set.empty rs }) all.1;
+      partial_is = k.partial_is ∙ ap (λ rs. without_sources k.shape (set.insert_all set.empty rs)) all.1;
       pieces_are = k.pieces_are ∙ ap (take 4096) all.2;
       count_is = k.count_is ∙ ap length all.2;
       ended_is = k.ended_is ∙ sym told.3;

@@ -17,7 +17,7 @@ use Rattle.std.specs.List.{AllByRecursion}
 use Rattle.jls_values.specs.OrderedSet as set
 use Rattle.jls_values.specs.OrderedSetLaws.{insert_all-append}
 use Rattle.jls_values.specs.Shape.{PictureShape}
-use Rattle.jls_partial.specs.Partial.{PartialPicture}
+use Rattle.jls_partial.specs.Partial.{PartialPicture, without_sources}
 use Rattle.jls_partial.specs.Reading as partial
 use Rattle.jls_marker.specs.HeaderState.{HeaderState}
 use Rattle.jls_marker.specs.Scan.{Scan}
@@ -95,9 +95,9 @@ gathers_piece frame ps p old new g (shape, framed, o, is, adds) = record {
   each = are_more ps g.outcomes p o g.each is;
   picture_is = λ s e.
       let same : shape ≡ s = some_is shape s (sym framed ∙ e) in
-      subst (λ t. picture_of t new.partial ≡ record { shape = t; readings = set.insert_all set.empty (readings (ps ++ p ∷ []) (g.outcomes ++ o ∷ [])) }) same
+      subst (λ t. picture_of t new.partial ≡ without_sources t (set.insert_all set.empty (readings (ps ++ p ∷ []) (g.outcomes ++ o ∷ [])))) same
       (adds.picture_is ∙ ap (λ q. with_readings q (readings_of p o)) (g.picture_is shape framed)
-      ∙ ap (λ t. record { shape = shape; readings = t }) (sym (insert_all-append set.empty (readings ps g.outcomes) (readings_of p o)) ∙ ap (set.insert_all set.empty) (sym (readings_more ps g.outcomes p o g.each))));
+      ∙ ap (λ t. without_sources shape t) (sym (insert_all-append set.empty (readings ps g.outcomes) (readings_of p o)) ∙ ap (set.insert_all set.empty) (sym (readings_more ps g.outcomes p o g.each))));
   unframed = λ e. absurd (none_some shape (sym e ∙ framed));
   records_are = adds.records_are ∙ ap (λ xs. kept_with xs (records_of p o)) g.records_are ∙ kept_more (records ps g.outcomes) p o ∙ ap (take 4096) (sym (records_more ps g.outcomes p o g.each));
   count_is = adds.count_is ∙ ap (λ n. n + length (records_of p o)) g.count_is ∙ sym (length-append (records ps g.outcomes) (records_of p o)) ∙ ap length (sym (records_more ps g.outcomes p o g.each));
@@ -126,11 +126,11 @@ gathers_frame before now ps f stays g = record {
     some_is : (x y : PictureShape) → ◌≡◌ {A = Option PictureShape} (Some x) (Some y) → x ≡ y
     some_is x y e = cc
 
-    fresh : (s : PictureShape) (os : List Outcome) (p : Option PartialPicture) → (ps ≡ []) × (p ≡ None) → picture_of s p ≡ record { shape = s; readings = set.insert_all set.empty (readings ps os) }
+    fresh : (s : PictureShape) (os : List Outcome) (p : Option PartialPicture) → (ps ≡ []) × (p ≡ None) → picture_of s p ≡ without_sources s (set.insert_all set.empty (readings ps os))
     fresh s os p (e, i) = rw (e, i) refl
 
     picture : (b : Option PictureShape) → ((s : PictureShape) → b ≡ Some s → now ≡ Some s) → (h : Gathers b ps f) → (s : PictureShape) → now ≡ Some s
-        → picture_of s f.partial ≡ record { shape = s; readings = set.insert_all set.empty (readings ps h.outcomes) }
+        → picture_of s f.partial ≡ without_sources s (set.insert_all set.empty (readings ps h.outcomes))
     picture None st h s e = fresh s h.outcomes f.partial (h.unframed refl)
     picture (Some t) st h s e = h.picture_is s (ap Some (some_is t s (sym (st t refl) ∙ e)))
 

@@ -12,6 +12,7 @@ use Rattle.jls_copy.specs.declared.reader.CopyFault.{CopyFault}
 use Rattle.jls_copy.specs.declared.reader.CopyFault.TheVariants.{NoPicture, OutOfMemory}
 use Rattle.jls_copy.specs.declared.place.Place.{Place}
 use Rattle.jls_copy.specs.declared.place.Place.TheVariants.{Start, AtMarker, AtLength, InLength, InPayload, InScan, Done}
+use Rattle.jls_partial.specs.Partial.{without_sources}
 
 abbrev pub is_final : Place → Bool
 is_final (Start fill) = false
@@ -28,7 +29,7 @@ pub record Concludes (r : Reading) (read : ReadCopy) : Type 0 where
   pub framed : r.state.headers.frame ≡ Some shape
   pub outcomes : List Outcome
   pub each : AreOutcomes (all_pieces r) outcomes
-  pub partial_is : read.partial ≡ record { shape = shape; readings = set.insert_all set.empty (readings (all_pieces r) outcomes) }
+  pub partial_is : read.partial ≡ without_sources shape (set.insert_all set.empty (readings (all_pieces r) outcomes))
   pub pieces_are : read.pieces ≡ take 4096 (records (all_pieces r) outcomes)
   pub count_is : read.piece_count ≡ length (records (all_pieces r) outcomes)
   pub ended_is : read.ended ≡ end_at r.state.place r.state.count

@@ -13,6 +13,7 @@ use Rattle.jls_marker.specs.declared.fault.MarkerFault.TheVariants as fault
 use Rattle.jls_copy.specs.ReadCopy.{ReadCopy}
 use Rattle.jls_copy.specs.declared.reader.CopyFault.{CopyFault}
 use Rattle.jls_copy.specs.declared.reader.CopyFault.TheVariants.{NoPicture, OutOfMemory}
+use Rattle.jls_partial.specs.Partial.{without_sources}
 
 -- the copy has a course with a frame, and what was read is the frame's shape with the readings of the course's pieces, the first 4,096
 -- of its records, how many there are, and its end
@@ -23,7 +24,7 @@ pub record CopyReads (copy : List ℕ) (read : ReadCopy) : Type 0 where
   pub framed : course.headers.frame ≡ Some shape
   pub outcomes : List Outcome
   pub each : AreOutcomes (pieces course) outcomes
-  pub partial_is : read.partial ≡ record { shape = shape; readings = set.insert_all set.empty (readings (pieces course) outcomes) }
+  pub partial_is : read.partial ≡ without_sources shape (set.insert_all set.empty (readings (pieces course) outcomes))
   pub pieces_are : read.pieces ≡ take 4096 (records (pieces course) outcomes)
   pub count_is : read.piece_count ≡ length (records (pieces course) outcomes)
   pub ended_is : read.ended ≡ course.end

@@ -66,7 +66,7 @@ fn check_write_failure(
 
 #[test]
 fn stops_where_a_write_fails(rt: HostRuntime) -> Result<(), Fail> {
-    for n in 0..31 {
+    for n in 0..47 {
         for most in [1, 7, usize::MAX] {
             check_write_failure(&rt, rt.alloc(), "join OUT T", most, &DISPUTED[..n])?;
         }
