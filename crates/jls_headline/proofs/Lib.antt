@@ -10,3 +10,4 @@ mod SameCopies
 mod Stations
 mod Pictures
 mod StationPictures
+mod TwoLineExamples
