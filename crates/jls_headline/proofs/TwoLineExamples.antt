@@ -4,6 +4,8 @@ use Rattle.std.proofs.Common.{◌≡◌, ℕ, zero, suc, ◌<◌, ◌≤◌, tru
 use Rattle.std.specs.Prelude.{nat_lt, get_or}
 use Rattle.std.specs.List.{AllByRecursion, Contains, list_all}
 use Rattle.std.proofs.lemmas.Bool.{and_parts, ltb-true}
+use Rattle.jls_values.specs.OrderedSet as set
+use Rattle.jls_values.specs.OrderedSetLaws.{contains-empty}
 use Rattle.jls_values.specs.Shape.{PictureShape}
 use Rattle.jls_values.specs.Params.{CodingParameters, least_from}
 use Rattle.jls_bits.specs.Bits.{bits, width_after, bits_read_after, ends_data, is_whole_after}
@@ -18,7 +20,8 @@ use Rattle.jls_interval.specs.Cells.{cell_before, run_cell_before}
 use Rattle.jls_interval.specs.Runs.{block_columns, full_blocks, blocks, run_index_before}
 use Rattle.jls_interval.specs.Code.{event_bits, bits_of_events, code}
 use Rattle.jls_interval.specs.Reads.{Reads}
-use Rattle.jls_partial.specs.Reading.{reading_of}
+use Rattle.jls_partial.specs.Reading.{reading_of, reading_cmp}
+use Rattle.jls_partial.specs.Partial.{PartialPicture, union}
 use Rattle.jls_marker.specs.ComponentIndex.{index_of}
 use Rattle.jls_marker.specs.MarkerCodes.{has_segment}
 use Rattle.jls_marker.specs.HeaderState.{HeaderState, no_headers}
@@ -29,6 +32,8 @@ use Rattle.jls_copy.specs.Numbers.{Interval, mark_before}
 use Rattle.jls_copy.specs.Course.{by_marker, CopyUnit, segment, scan, AreUnits, Course, IsCourse, with_soi, at_eoi, for_good}
 use Rattle.jls_copy.specs.Pieces.{pieces_from}
 use Rattle.jls_copy.specs.declared.end.End.TheVariants.{Eoi}
+use Rattle.jls_copy.specs.CopyReads.{CopyReads}
+use Rattle.jls_copy.specs.ReadCopy.{ReadCopy}
 use Rattle.jls_copy.proofs.OneCourse.{one_course}
 use Rattle.jls_picture.specs.Picture.{WholePicture}
 use Rattle.jls_headline.specs.PictureLines.{IsLineOf}
@@ -36,8 +41,12 @@ use Rattle.jls_headline.specs.Gives.{Gives}
 use Rattle.jls_headline.specs.Damaged.{PiecesAre, Damaged}
 use Rattle.jls_headline.specs.Survives.{SomePieceIs, ReadsWithLine, SurvivesInUnit, Survives, EachLineSurvives}
 use Rattle.jls_headline.specs.Trimmed.{whole, front, TrimmedCopy}
-use Rattle.jls_headline.specs.ReadsAs.{IsPicture}
-use Rattle.jls_headline.proofs.Members.{is_first, first_or_rest, none_in}
+use Rattle.jls_headline.specs.ReadsAs.{IsPicture, GivesPicture}
+use Rattle.jls_headline.specs.Stations.{HoldsExactly, began, took_copy, TookInTheEnd}
+use Rattle.jls_headline.proofs.Members.{none_in}
+use Rattle.jls_headline.proofs.CopyGives.{copy_has_shape}
+use Rattle.jls_headline.proofs.ScansInRange.{same_frame}
+use Rattle.jls_headline.proofs.StationPictures.{damaged_copies_give_the_picture}
 use Rattle.jls_headline.proofs.Trims.{trimmed_copies_are_damaged}
 
 -- The picture ----------------------------------------------------------------------------------------------------
@@ -299,6 +308,41 @@ each_line_survives zero zero c l = (first, (0, lit< tt, refl), line_0)
 each_line_survives zero (suc zero) c l = (second, (1, lit< tt, refl), line_1)
 each_line_survives zero (suc (suc line)) c l = absurd (omega (arith, l))
 each_line_survives (suc component) line c l = absurd (omega (arith, c))
+
+-- A new station that takes both has the picture ------------------------------------------------------------------
+
+new_station : (p : PartialPicture) → p.readings ≡ set.empty → HoldsExactly p []
+new_station p e = record {
+  are_copies = tt;
+  readings = λ r. (
+    λ h. (let none : false ≡ true = sym (contains-empty reading_cmp r) ∙ subst (λ rs. set.contains rs r ≡ true) e h in absurd cc),
+    λ g. absurd (none_in g.0 g.1),
+  );
+}
+
+-- what is read of a copy of this shape has the shape
+shape_read : (copy : List ℕ) (c : Course) (read : ReadCopy) → IsCourse copy c → c.headers.frame ≡ Some shape → CopyReads copy read → read.partial.shape ≡ shape
+shape_read copy c read is framed reads =
+    let s = copy_has_shape copy read reads in
+    same_frame read.partial.shape shape (sym s.2 ∙ ap (λ (d : Course). d.headers.frame) (one_course copy s.0 c s.1 is) ∙ framed)
+
+took_both : (p : PartialPicture) (a b : ReadCopy) → p.shape ≡ shape → p.readings ≡ set.empty → CopyReads first a → CopyReads second b
+    → TookInTheEnd (union (union p b.partial) a.partial) (first ∷ second ∷ [])
+took_both p a b e new ra rb =
+    let sa = shape_read first (course_with [] (0x80 ∷ []) 32) a first_course refl ra ∙ sym e in
+    let sb = shape_read second (course_with (lost_first ∷ []) (0x40 ∷ []) 34) b second_course refl rb ∙ sym e in (
+      [],
+      took_copy (union p b.partial) a.partial (second ∷ []) [] first a
+          (took_copy p b.partial [] [] second b (began p [] (new_station p new)) (bytes_of_test second refl) rb (refl, refl) sb)
+          (bytes_of_test first refl) ra (refl, refl) sa,
+      λ copy c. absurd (none_in copy c),
+    )
+
+picture_comes_back : (p : PartialPicture) (a b : ReadCopy) → p.shape ≡ shape → p.readings ≡ set.empty → CopyReads first a → CopyReads second b
+    → GivesPicture (union (union p b.partial) a.partial) pic
+picture_comes_back p a b e new ra rb =
+    damaged_copies_give_the_picture pic is_picture (union (union p b.partial) a.partial) (first ∷ second ∷ []) (took_both p a b e new ra rb)
+    both_are_damaged each_line_survives
 
 -- Where a premise is not met -------------------------------------------------------------------------------------
 
