@@ -1,6 +1,7 @@
 mod Members
 mod Numbered
 mod Placed
+mod CutOff
 mod LostIntervals
 mod ScansInRange
 mod Trims

@@ -290,7 +290,7 @@ line_0 = record {
   framed = refl;
   unit = scan 0 0xDA scan_payload plan [] (0x80 ∷ []) by_marker;
   among = (2, lit< tt, refl);
-  there = record { numbers = []; rise = tt; marks = tt; there = (((0, lit< tt, refl), (lit≤ tt, lit< tt)), pieces_read.zero_read) };
+  there = record { numbers = []; rise = tt; marks = tt; there = inl (((0, lit< tt, refl), (lit≤ tt, lit< tt)), pieces_read.zero_read) };
 }
 
 line_1 : Survives pic second 0 1
@@ -300,7 +300,7 @@ line_1 = record {
   framed = refl;
   unit = scan 0 0xDA scan_payload plan (lost_first ∷ []) (0x40 ∷ []) by_marker;
   among = (2, lit< tt, refl);
-  there = record { numbers = 1 ∷ []; rise = (lit< tt, lit≤ tt, lit< tt, tt); marks = (tt, refl, tt); there = inr (((0, lit< tt, refl), (lit≤ tt, lit< tt)), pieces_read.largest_read) };
+  there = record { numbers = 1 ∷ []; rise = (lit< tt, lit≤ tt, lit< tt, tt); marks = (tt, refl, tt); there = inl (inr (((0, lit< tt, refl), (lit≤ tt, lit< tt)), pieces_read.largest_read)) };
 }
 
 each_line_survives : EachLineSurvives pic (first ∷ second ∷ [])
@@ -348,12 +348,16 @@ picture_comes_back p a b e new ra rb =
 
 -- line 1 survives in the second copy alone
 scan_has_no_line_1 : SurvivesInUnit pic 0 1 (scan 0 0xDA scan_payload plan [] (0x80 ∷ []) by_marker) → ⊥
-scan_has_no_line_1 v = by v.numbers v.marks v.there
+scan_has_no_line_1 v = of_there v.there
   where
-    by : (numbers : List ℕ) → PiecesAre (λ k bytes. Unit {0}) 0 [] (0x80 ∷ []) numbers
+    of_pieces : (numbers : List ℕ) → PiecesAre (λ k bytes. Unit {0}) 0 [] (0x80 ∷ []) numbers
         → SomePieceIs (ReadsWithLine pic plan 0 1) 0 [] (0x80 ∷ []) numbers → ⊥
-    by [] m some = omega (arith, some.0.1.1)
-    by (k ∷ numbers) m some = absurd m
+    of_pieces [] m some = omega (arith, some.0.1.1)
+    of_pieces (k ∷ numbers) m some = absurd m
+
+    of_there : SomePieceIs (ReadsWithLine pic plan 0 1) 0 [] (0x80 ∷ []) v.numbers ⊎ ⊥ → ⊥
+    of_there (inl some) = of_pieces v.numbers v.marks some
+    of_there (inr none) = none
 
 line_1_is_lost : Survives pic first 0 1 → ⊥
 line_1_is_lost v =
@@ -371,7 +375,7 @@ third_gives_another : Gives third (reading_of 0 0 (1 ∷ []))
 third_gives_another = (
   course_with [] (0x50 ∷ []) 32,
   third_course,
-  (
+  inl (
     record { scan = 0; plan = plan; number = Interval 0; offset = 31; bytes = 0x50 ∷ [] },
     (0, lit< tt, refl),
     record { lines = (1 ∷ []) ∷ []; reads = pieces_read.one_read; among = (0, lit< tt, refl) },
