@@ -1,6 +1,6 @@
 -- What is read of a copy is what the copy gives.
-use Rattle.std.proofs.Common.{◌≡◌, ℕ, ◌<◌, true, List, [], ◌∷◌, Option, Some, refl, sym, ap, ◌∙◌, subst, inl, inr}
-use Rattle.std.specs.Prelude.{◌↔◌}
+use Rattle.std.proofs.Common.{◌≡◌, ℕ, ◌<◌, ◌≤◌, Bool, true, false, List, [], ◌∷◌, ◌++◌, length, Option, Some, refl, sym, ap, ◌∙◌, subst, arith, inl, inr}
+use Rattle.std.specs.Prelude.{◌↔◌, if◌then◌else◌}
 use Rattle.std.specs.List.{AllByRecursion, Contains}
 use Rattle.std.proofs.lemmas.List.Elements.{Contains-append_left, Contains-append_right, Contains-append_cases}
 use Rattle.jls_values.specs.OrderedSet as set
@@ -9,15 +9,18 @@ use Rattle.jls_partial.specs.Reading.{Reading}
 use Rattle.jls_partial.specs.Partial.{PartialPicture}
 use Rattle.jls_marker.specs.Scan.{Scan}
 use Rattle.jls_copy.specs.Numbers.{PieceNumber, Interval, BeyondLast}
+use Rattle.jls_copy.specs.Course.{Course}
+use Rattle.jls_copy.specs.CutPieces.{closed_by_input, last_piece, cut_pieces, IsHeadOfCut, head_readings}
 use Rattle.jls_copy.specs.CopyReads.{CopyReads}
 use Rattle.jls_copy.specs.ReadCopy.{ReadCopy}
 use Rattle.jls_copy.specs.Pieces.{FoundPiece, Outcome, Lines, Fault, IsOutcome, readings_at, readings_of, AreOutcomes, readings, pieces}
 use Rattle.jls_copy.proofs.OneCourse.{one_course}
 use Rattle.jls_copy.proofs.ScansOfCourse.{HasScan, course_has}
-use Rattle.jls_copy.proofs.BytesDecide.{one_outcome}
-use Rattle.jls_headline.specs.Gives.{PieceGives, CourseGives, Gives}
+use Rattle.jls_copy.proofs.BytesDecide.{one_outcome, one_head_of_cut, cut_has}
+use Rattle.jls_headline.specs.Gives.{PieceGives, HeadGives, CourseGives, Gives}
 use Rattle.jls_headline.specs.Stations.{HasShape}
 use Rattle.jls_headline.proofs.Members.{is_first, in_rest, none_in, first_or_rest}
+use Rattle.jls_headline.proofs.CutOff.{last_short}
 use Rattle.jls_headline.proofs.Held.{made_holds}
 
 abbrev some_shape : PictureShape → Option PictureShape
@@ -55,20 +58,63 @@ given (q ∷ ps) (o ∷ os) p r ok are c g =
         let h : PieceGives q r = subst (λ x. PieceGives x r) (sym e) g in
         subst (λ x. Contains (readings_of q x) r) (one_outcome q.plan q.number q.bytes (Lines h.lines) o ok.0 h.reads are.0) h.among
 
+-- The head of the piece that the input's end closes ---------------------------------------------------------------
+
+head_listed : (ps : List FoundPiece) (head : List (List ℕ)) (r : Reading) → IsHeadOfCut ps head → Contains (head_readings ps head) r
+    → (p : FoundPiece) × Contains ps p × HeadGives p r
+head_listed [] head r is c = absurd (none_in r c)
+head_listed (p ∷ ps) head r is c = (p, is_first p ps, record { head = head; is_head = is; among = c })
+
+head_given : (ps : List FoundPiece) (head : List (List ℕ)) (p : FoundPiece) (r : Reading) → length ps ≤ 1 → AllByRecursion HasScan ps → IsHeadOfCut ps head
+    → Contains ps p → HeadGives p r → Contains (head_readings ps head) r
+head_given [] head p r short ok is c g = absurd (none_in p c)
+head_given (q ∷ []) head p r short ok is c g =
+    elim (first_or_rest p q [] c) [
+      | inl e ↦ (
+          let h : HeadGives q r = subst (λ x. HeadGives x r) (sym e) g in
+          subst (λ x. Contains (readings_of q (Lines x)) r) (one_head_of_cut (q ∷ []) h.head head ok h.is_head is) h.among)
+      | inr later ↦ absurd (none_in p later)
+    ]
+head_given (q ∷ x ∷ ps) head p r short ok is c g = absurd (omega (arith, short))
+
+cut_short : (c : Course) → length (cut_pieces c) ≤ 1
+cut_short c = by (closed_by_input c.units)
+  where
+    by : (b : Bool) → length (if b then last_piece (pieces c) else []) ≤ 1
+    by true = last_short (pieces c)
+    by false = omega arith
+
 pub copy_gives : (copy : List ℕ) → AllByRecursion (λ b. b < 256) copy → (read : ReadCopy) → CopyReads copy read → (r : Reading)
     → (set.contains read.partial.readings r ≡ true) ↔ Gives copy r
-copy_gives copy low read reads r =
-    let ps = pieces reads.course in
-    let told = made_holds (readings ps reads.outcomes) r in (
-      λ h.
-          let f = listed ps reads.outcomes r reads.each (told.0 (subst (λ (p : PartialPicture). set.contains p.readings r ≡ true) reads.partial_is h)) in
-          (reads.course, reads.is_course, f),
-      λ g.
-          let m : CourseGives reads.course r = subst (λ c. CourseGives c r) (one_course copy g.0 reads.course g.1 reads.is_course) g.2 in
-          let has = course_has copy reads.course low reads.is_course in
-          subst (λ (p : PartialPicture). set.contains p.readings r ≡ true) (sym reads.partial_is)
-          (told.1 (given ps reads.outcomes m.0 r has reads.each m.1 m.2)),
-    )
+copy_gives copy low read reads r = (there, back)
+  where
+    there : set.contains read.partial.readings r ≡ true → Gives copy r
+    there h =
+        let ps = pieces reads.course in
+        let cs = cut_pieces reads.course in
+        let told = made_holds (readings ps reads.outcomes ++ head_readings cs reads.head) r in
+        let c = told.0 (subst (λ (p : PartialPicture). set.contains p.readings r ≡ true) reads.partial_is h) in (
+          reads.course,
+          reads.is_course,
+          elim (Contains-append_cases (readings ps reads.outcomes) (head_readings cs reads.head) r c) [
+            | inl m ↦ inl (listed ps reads.outcomes r reads.each m)
+            | inr m ↦ inr (head_listed cs reads.head r reads.head_is m)
+          ],
+        )
+
+    back : Gives copy r → set.contains read.partial.readings r ≡ true
+    back (c, is, g) =
+        let ps = pieces reads.course in
+        let cs = cut_pieces reads.course in
+        let has = course_has copy reads.course low reads.is_course in
+        let told = made_holds (readings ps reads.outcomes ++ head_readings cs reads.head) r in
+        let own : CourseGives reads.course r = subst (λ x. CourseGives x r) (one_course copy c reads.course is reads.is_course) g in
+        subst (λ (p : PartialPicture). set.contains p.readings r ≡ true) (sym reads.partial_is)
+        (told.1 (elim own [
+          | inl m ↦ Contains-append_left (readings ps reads.outcomes) (head_readings cs reads.head) r (given ps reads.outcomes m.0 r has reads.each m.1 m.2)
+          | inr m ↦ Contains-append_right (readings ps reads.outcomes) (head_readings cs reads.head) r
+              (head_given cs reads.head m.0 r (cut_short reads.course) (cut_has reads.course has) reads.head_is m.1 m.2)
+        ]))
 
 pub copy_has_shape : (copy : List ℕ) (read : ReadCopy) → CopyReads copy read → HasShape read.partial.shape copy
 copy_has_shape copy read reads =

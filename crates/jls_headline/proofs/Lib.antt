@@ -1,6 +1,7 @@
 mod Members
 mod Numbered
 mod Placed
+mod CutOff
 mod LostIntervals
 mod ScansInRange
 mod Trims
@@ -10,3 +11,4 @@ mod SameCopies
 mod Stations
 mod Pictures
 mod StationPictures
+mod TwoLineExamples

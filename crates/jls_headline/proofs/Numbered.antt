@@ -7,7 +7,8 @@ use Rattle.jls_marker.specs.Scan.{Scan, intervals}
 use Rattle.jls_copy.specs.ScanData.{ClosedPiece, closed_bytes}
 use Rattle.jls_copy.specs.Numbers.{Interval, next_number, number_behind, given_last, RiseByEightAtMost, mark_before}
 use Rattle.jls_copy.specs.Pieces.{FoundPiece, pieces_from}
-use Rattle.jls_headline.specs.Damaged.{PiecesAre}
+use Rattle.jls_copy.specs.CutPieces.{last_piece}
+use Rattle.jls_headline.specs.Damaged.{PiecesAre, last_number}
 use Rattle.jls_headline.specs.Survives.{SomePieceIs}
 use Rattle.jls_headline.specs.LostIntervalLaws.{NumbersComeBack}
 use Rattle.jls_headline.proofs.Members.{is_first, in_rest}
@@ -58,6 +59,20 @@ module _ (P : ℕ → List ℕ → Type 0) (Q : FoundPiece → Type 0) (s : Scan
       subst (AllByRecursion Q) (sym (behind_first index at k s c closed last next r.0 r.1 r.2 p.1))
       (of at k c.piece p.0, each_found (at + length (closed_bytes c)) next closed last numbers r.3 p.2)
 
+  -- and what holds of the last piece
+  pub last_found : (at k : ℕ) (closed : List ClosedPiece) (last numbers : List ℕ) → RiseByEightAtMost (intervals s) k numbers
+      → PiecesAre (λ number bytes. Unit {0}) k closed last numbers → P (last_number k numbers) last
+      → AllByRecursion Q (last_piece (pieces_from index s k (Interval k) at closed last))
+  last_found at k [] last [] r p h = (of at k last h, tt)
+  last_found at k [] last (next ∷ numbers) r p h = absurd p
+  last_found at k (c ∷ closed) last [] r p h = absurd p
+  last_found at k (c ∷ []) last (next ∷ []) r p h =
+      subst (λ ps. AllByRecursion Q (last_piece ps)) (sym (behind_first index at k s c [] last next r.0 r.1 r.2 p.1)) (of (at + length (closed_bytes c)) next last h, tt)
+  last_found at k (c ∷ []) last (next ∷ other ∷ numbers) r p h = absurd p.2
+  last_found at k (c ∷ d ∷ closed) last (next ∷ numbers) r p h =
+      subst (λ ps. AllByRecursion Q (last_piece ps)) (sym (behind_first index at k s c (d ∷ closed) last next r.0 r.1 r.2 p.1))
+      (last_found (at + length (closed_bytes c)) next (d ∷ closed) last numbers r.3 p.2 h)
+
 -- some piece of which it holds is found
 pub some_found : (P : ℕ → List ℕ → Type 0) (s : Scan) (index : ℕ) (closed : List ClosedPiece) (at k : ℕ) (last numbers : List ℕ)
     → RiseByEightAtMost (intervals s) k numbers
@@ -77,6 +92,26 @@ some_found P s index (c ∷ closed) at k last (next ∷ numbers) r p (inr h) =
       later.4,
     )
 
+-- the last piece
+pub last_is_found : (s : Scan) (index : ℕ) (closed : List ClosedPiece) (at k : ℕ) (last numbers : List ℕ)
+    → RiseByEightAtMost (intervals s) k numbers
+    → PiecesAre (λ number bytes. Unit {0}) k closed last numbers
+    → (offset : ℕ) × Contains (last_piece (pieces_from index s k (Interval k) at closed last)) (found index s offset (last_number k numbers) last)
+last_is_found s index [] at k last [] r p = (at, is_first (found index s at k last) [])
+last_is_found s index [] at k last (next ∷ numbers) r p = absurd p
+last_is_found s index (c ∷ closed) at k last [] r p = absurd p
+last_is_found s index (c ∷ []) at k last (next ∷ []) r p = (
+  at + length (closed_bytes c),
+  subst (λ ps. Contains (last_piece ps) (found index s (at + length (closed_bytes c)) next last)) (sym (behind_first index at k s c [] last next r.0 r.1 r.2 p.1))
+      (is_first (found index s (at + length (closed_bytes c)) next last) []),
+)
+last_is_found s index (c ∷ []) at k last (next ∷ other ∷ numbers) r p = absurd p.2
+last_is_found s index (c ∷ d ∷ closed) at k last (next ∷ numbers) r p =
+    let later = last_is_found s index (d ∷ closed) (at + length (closed_bytes c)) next last numbers r.3 p.2 in (
+      later.0,
+      subst (λ ps. Contains (last_piece ps) (found index s later.0 (last_number next numbers) last)) (sym (behind_first index at k s c (d ∷ closed) last next r.0 r.1 r.2 p.1)) later.1,
+    )
+
 -- Numbers of intervals -----------------------------------------------------------------------------------------
 
 -- each number is that of an interval, where the first is
@@ -87,3 +122,7 @@ numbers_low n P k [] last [] low r p = (low, p)
 numbers_low n P k [] last (next ∷ numbers) low r p = absurd p
 numbers_low n P k (c ∷ closed) last [] low r p = absurd p
 numbers_low n P k (c ∷ closed) last (next ∷ numbers) low r p = ((low, p.0), p.1, numbers_low n P next closed last numbers r.2 r.3 p.2)
+
+pub last_low : (n k : ℕ) (numbers : List ℕ) → k < n → RiseByEightAtMost n k numbers → last_number k numbers < n
+last_low n k [] low r = low
+last_low n k (next ∷ numbers) low r = last_low n next numbers r.2 r.3

@@ -1,6 +1,6 @@
 -- The readings of an interval that reads as the picture's lines are lines of the picture, and each line of the interval is among them.
-use Rattle.std.proofs.Common.{◌≡◌, ◌≢◌, ℕ, zero, suc, ◌+◌, ◌<◌, ◌≤◌, true, false, List, [], ◌∷◌, ◌++◌, map, length, refl, sym, ap, ◌∙◌, subst, arith, append_assoc, length-append, inl, inr}
-use Rattle.std.specs.Prelude.{◌==◌, get_or}
+use Rattle.std.proofs.Common.{◌≡◌, ◌≢◌, ℕ, zero, suc, ◌+◌, ◌<◌, ◌≤◌, true, false, List, [], ◌∷◌, ◌++◌, map, length, take, refl, sym, ap, ◌∙◌, subst, arith, append_assoc, length-append, inl, inr}
+use Rattle.std.specs.Prelude.{◌==◌, get_or, if◌then◌else◌}
 use Rattle.std.specs.List.{flat_map, AllByRecursion, Contains, range_with_len}
 use Rattle.std.proofs.lemmas.Bool.{cases_eq}
 use Rattle.std.proofs.lemmas.Bool.Decides.{nat_tests}
@@ -11,7 +11,7 @@ use Rattle.jls_marker.proofs.Intervals.{part_the_lines}
 use Rattle.jls_copy.specs.Pieces.{placed}
 use Rattle.jls_picture.specs.Picture.{WholePicture, line_of}
 use Rattle.jls_headline.specs.PictureLines.{rows_from, interval_lines, interval_readings, picture_reading, IsLineOf}
-use Rattle.jls_headline.proofs.Members.{none_in, in_rest, all_at, all_append, in_map, in_flat_map}
+use Rattle.jls_headline.proofs.Members.{none_in, in_rest, first_or_rest, all_at, all_append, in_map, in_flat_map}
 
 abbrev row_readings : WholePicture → List ℕ → ℕ → List Reading
 row_readings pic components row = map (λ c. picture_reading pic c row) components
@@ -79,6 +79,17 @@ module _ (pic : WholePicture) where
       → AllByRecursion (IsIn P row n) (placed components row 0 (rows_from pic components row n))
   placed_are P [] row n some h = absurd (omega arith)
   placed_are P (c ∷ cs) row n some h = subst (AllByRecursion (IsIn P row n)) (sym (placed_rows c cs row n)) (rows_are P (c ∷ cs) row n row n (omega arith) (omega arith) h)
+
+-- a reading of first lines is one of all
+pub first_among : (components : List ℕ) (n : ℕ) (lines : List (List ℕ)) (row place : ℕ) (r : Reading)
+    → Contains (placed components row place (take n lines)) r → Contains (placed components row place lines) r
+first_among components zero lines row place r c = absurd (none_in r c)
+first_among components (suc n) [] row place r c = absurd (none_in r c)
+first_among components (suc n) (line ∷ lines) row place r c =
+    elim (first_or_rest r (reading_of (get_or components place 0) row line) _ c) [
+      | inl e ↦ (0, omega arith, e)
+      | inr later ↦ in_rest r (reading_of (get_or components place 0) row line) _ (first_among components n lines (if place + 1 == length components then row + 1 else row) (if place + 1 == length components then 0 else place + 1) r later)
+    ]
 
 -- the interval's line is among its readings
 pub line_is_among : (pic : WholePicture) (s : Scan) (k component line : ℕ) → Contains s.components component → HasRow s k line

@@ -16,10 +16,10 @@ use Rattle.jls_interval.proofs.HeadLines.{front_lines, code_parts}
 use Rattle.jls_interval.proofs.StepwiseCodes.{one_begins}
 use Rattle.jls_marker.specs.Scan.{row_count}
 use Rattle.jls_copy.specs.ScanData.{ClosedPiece}
-use Rattle.jls_copy.specs.Course.{CopyUnit, segment, scan}
+use Rattle.jls_copy.specs.Course.{CopyUnit, segment, scan, LastClosed, by_input, by_marker}
 use Rattle.jls_picture.specs.Picture.{WholePicture}
 use Rattle.jls_headline.specs.PictureLines.{interval_lines}
-use Rattle.jls_headline.specs.Damaged.{PiecesAre, ReadsAsPictureOrNone, DamagedUnit}
+use Rattle.jls_headline.specs.Damaged.{PiecesAre, last_number, WhereCutOff, ReadsAsPictureOrNone, HasHeadOfPicture, DamagedUnit}
 use Rattle.jls_headline.specs.Trimmed.{Trimmed, whole, front, longer, IsTrimmed, TrimmedUnit}
 use Rattle.jls_headline.specs.ScanLaws.{IsScanUnder, ScanOfUnitIs}
 use Rattle.jls_headline.specs.LostIntervalLaws.{TrimmedPiecesAreHarmless, TrimmedPiecesHaveHeads, TrimmedPiecesHaveHeadsOfPicture, TrimmedCopiesAreDamaged}
@@ -167,6 +167,17 @@ pieces_map P Q f [] number last (next ∷ numbers) p = absurd p
 pieces_map P Q f (c ∷ closed) number last [] p = absurd p
 pieces_map P Q f (c ∷ closed) number last (next ∷ numbers) p = (f number c.piece p.0, p.1, pieces_map P Q f closed next last numbers p.2)
 
+last_is : (P : ℕ → List ℕ → Type 0) (closed : List ClosedPiece) (number : ℕ) (last numbers : List ℕ)
+    → PiecesAre P number closed last numbers → P (last_number number numbers) last
+last_is P [] number last [] p = p
+last_is P [] number last (next ∷ numbers) p = absurd p
+last_is P (c ∷ closed) number last [] p = absurd p
+last_is P (c ∷ closed) number last (next ∷ numbers) p = last_is P closed next last numbers p.2
+
+where_cut : (closing : LastClosed) (Claim : Type 0) → Claim → WhereCutOff closing Claim
+where_cut (by_input dropped) Claim h = h
+where_cut by_marker Claim h = tt
+
 module _ (pic : WholePicture) where
   abbrev TrimmedHere : CopyUnit → Type 0
   TrimmedHere u = TrimmedUnit pic u × ScanOfUnitIs (IsScanUnder pic.shape) u
@@ -177,6 +188,8 @@ module _ (pic : WholePicture) where
     numbers = t.numbers;
     rise = t.rise;
     pieces_are = pieces_map (IsTrimmed pic s) (ReadsAsPictureOrNone pic s) (λ k bytes h. trimmed_pieces_are_harmless pic s k bytes is.0 h) closed 0 last t.numbers t.pieces_are;
+    head = where_cut closing (HasHeadOfPicture pic s (last_number 0 t.numbers) last)
+        (trimmed_pieces_have_heads_of_picture pic s (last_number 0 t.numbers) last is.0 (last_is (IsTrimmed pic s) closed 0 last t.numbers t.pieces_are));
   }
 
 pub trimmed_copies_are_damaged : TrimmedCopiesAreDamaged

@@ -36,7 +36,8 @@ DamagedCopiesGiveThePicture =
 
 -- and no other: a file reads as one picture at most
 abbrev pub FilesReadAsOne : Type 0
-FilesReadAsOne = (file : List ℕ) (pic other : WholePicture) → IsPicture pic → IsPicture other → ReadsAs file pic → ReadsAs file other → pic ≡ other
+FilesReadAsOne = (file : List ℕ) (pic other : WholePicture) → IsPicture pic → IsPicture other
+    → ReadsAs file pic → ReadsAs file other → pic ≡ other
 
 -- Where every line of a picture survives in some copy that a station took, whatever else it took and whatever damaged intervals read
 -- as, the station's lines are not all settled, or they are that picture

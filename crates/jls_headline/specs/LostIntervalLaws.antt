@@ -1,5 +1,5 @@
 -- The laws of copies that have lost intervals: their numbers come back, and what they give is the picture's.
-use Rattle.std.specs.Prelude.{◌≡◌, ℕ, ◌<◌, List, [], ◌∷◌, map, length, ◌↔◌}
+use Rattle.std.specs.Prelude.{◌≡◌, ℕ, ◌<◌, List, [], ◌∷◌, map, length, take, ◌⊎◌, ◌↔◌}
 use Rattle.std.specs.List.{AllByRecursion, Contains}
 use Rattle.jls_partial.specs.Reading.{Reading}
 use Rattle.jls_marker.specs.Scan.{Scan, IsScan, intervals}
@@ -11,10 +11,11 @@ use Rattle.jls_copy.specs.Course.{Course}
 use Rattle.jls_copy.specs.Pieces.{FoundPiece, pieces_from, pieces}
 use Rattle.jls_picture.specs.Picture.{WholePicture}
 use Rattle.jls_headline.specs.PictureLines.{interval_lines, interval_readings, picture_reading, IsLineOf}
+use Rattle.jls_copy.specs.CutPieces.{cut_pieces, IsHeadAt}
 use Rattle.jls_headline.specs.Gives.{CourseGives, Gives}
-use Rattle.jls_headline.specs.Damaged.{ReadsAsPicture, ReadsAsPictureOrNone, PiecesAre, DamagedCourse, Damaged}
+use Rattle.jls_headline.specs.Damaged.{ReadsAsPicture, ReadsAsPictureOrNone, HasHeadOfPicture, PiecesAre, DamagedCourse, Damaged}
 use Rattle.jls_headline.specs.Survives.{Survives}
-use Rattle.jls_headline.specs.Trimmed.{IsTrimmed, IsHeadAt, HasHeadOfPicture, LacksABit, TrimmedCopy}
+use Rattle.jls_headline.specs.Trimmed.{IsTrimmed, LacksABit, TrimmedCopy}
 
 -- Numbers ------------------------------------------------------------------------------------------------------
 
@@ -34,11 +35,21 @@ pub record ReadsWith (pic : WholePicture) (p : FoundPiece) (r : Reading) : Type 
   pub reads : ReadsAsPicture pic p.plan k p.bytes
   pub among : Contains (interval_readings p.plan k (interval_lines pic p.plan k)) r
 
--- A damaged copy gives exactly the picture's lines of the intervals whose piece reads
+-- the piece has the number of an interval, its head is the first of the picture's lines of it, and this is one of them
+pub record HeadReadsWith (pic : WholePicture) (p : FoundPiece) (r : Reading) : Type 0 where
+  pub k : ℕ
+  pub numbered : p.number ≡ Interval k
+  pub count : ℕ
+  pub is_head : IsHeadAt p.plan (Interval k) p.bytes (take count (interval_lines pic p.plan k))
+  pub among : Contains (interval_readings p.plan k (take count (interval_lines pic p.plan k))) r
+
+-- A damaged copy gives exactly the picture's lines of the intervals whose piece reads, with those of the head
 abbrev pub DamagedCopiesGiveExactly : Type 0
 DamagedCopiesGiveExactly =
     (pic : WholePicture) (c : Course) → DamagedCourse pic c → (r : Reading)
-    → CourseGives c r ↔ ((p : FoundPiece) × Contains (pieces c) p × ReadsWith pic p r)
+    → CourseGives c r
+    ↔ (((p : FoundPiece) × Contains (pieces c) p × ReadsWith pic p r)
+    ⊎ ((p : FoundPiece) × Contains (cut_pieces c) p × HeadReadsWith pic p r))
 
 -- so whatever a damaged copy gives is a line of the picture
 abbrev pub DamagedCopiesGiveNoOther : Type 0
@@ -63,7 +74,7 @@ TrimmedPiecesAreHarmless =
 abbrev pub TrimmedPiecesHaveHeads : Type 0
 TrimmedPiecesHaveHeads =
     (pic : WholePicture) (s : Scan) (k : ℕ) (piece : List ℕ) → IsScan s → IsTrimmed pic s k piece
-    → (head : List (List ℕ)) → IsHeadAt s k piece head
+    → (head : List (List ℕ)) → IsHeadAt s (Interval k) piece head
     → (LacksABit pic s k piece → AreWholeLines s.params s.width (length s.components) (bits_read piece) (interval_lines pic s k) head)
     × ((LacksABit pic s k piece → ⊥) → head ≡ [])
 

@@ -53,7 +53,8 @@ pub data Took : PartialPicture → List (List ℕ) → List (List ℕ) → Type 
 -- two lists of bytes are one copy: they are equal, or they differ only behind the end of the copy
 abbrev pub IsSameCopy : List ℕ → List ℕ → Type 0
 IsSameCopy copy other = (copy ≡ other)
-    ⊎ ((front : List ℕ) × (behind : List ℕ) × (behind' : List ℕ) × IsDone front true × (copy ≡ front ++ behind) × (other ≡ front ++ behind'))
+    ⊎ ((front : List ℕ) × (behind : List ℕ) × (behind' : List ℕ)
+    × IsDone front true × (copy ≡ front ++ behind) × (other ≡ front ++ behind'))
 
 -- each of these copies is one of those
 abbrev pub AreAmong : List (List ℕ) → List (List ℕ) → Type 0

@@ -3,10 +3,12 @@ use Rattle.std.specs.Prelude.{◌≡◌, ℕ, ◌<◌, List, [], ◌∷◌, leng
 use Rattle.std.specs.List.{Contains}
 use Rattle.jls_marker.specs.Scan.{Scan, intervals, HasRow}
 use Rattle.jls_copy.specs.ScanData.{ClosedPiece}
-use Rattle.jls_copy.specs.Numbers.{RiseByEightAtMost}
-use Rattle.jls_copy.specs.Course.{CopyUnit, segment, scan, Course, IsCourse}
+use Rattle.jls_copy.specs.Numbers.{Interval, RiseByEightAtMost}
+use Rattle.jls_copy.specs.Course.{LastClosed, by_input, by_marker, CopyUnit, segment, scan, Course, IsCourse}
 use Rattle.jls_picture.specs.Picture.{WholePicture}
-use Rattle.jls_headline.specs.Damaged.{ReadsAsPicture, PiecesAre}
+use Rattle.jls_headline.specs.PictureLines.{interval_readings, picture_reading}
+use Rattle.jls_copy.specs.CutPieces.{IsHeadAt}
+use Rattle.jls_headline.specs.Damaged.{ReadsAsPicture, PiecesAre, last_number}
 
 -- P holds of some piece under its number
 abbrev pub SomePieceIs : (ℕ → List ℕ → Type 0) → ℕ → List ClosedPiece → List ℕ → List ℕ → Type 0
@@ -22,16 +24,24 @@ HasLine s component line k = Contains s.components component × HasRow s k line
 abbrev pub ReadsWithLine : WholePicture → Scan → ℕ → ℕ → ℕ → List ℕ → Type 0
 ReadsWithLine pic s component line k bytes = HasLine s component line k × ReadsAsPicture pic s k bytes
 
--- the marks are those of numbers that rise by one to eight each, and some piece reads as the picture's lines, with this one
-pub record SurvivesInScan (pic : WholePicture) (component line : ℕ) (s : Scan) (closed : List ClosedPiece) (last : List ℕ) : Type 0 where
+-- the input's end closes the piece, and its head, as that of interval k, has the picture's line
+abbrev pub HeadHasLine : WholePicture → Scan → ℕ → ℕ → ℕ → List ℕ → LastClosed → Type 0
+HeadHasLine pic s component line k bytes (by_input dropped) =
+    (head : List (List ℕ)) × IsHeadAt s (Interval k) bytes head × Contains (interval_readings s k head) (picture_reading pic component line)
+HeadHasLine pic s component line k bytes by_marker = ⊥
+
+-- the marks are those of numbers that rise by one to eight each, and some piece, or the head of the last one, has the picture's line
+pub record SurvivesInScan (pic : WholePicture) (component line : ℕ) (s : Scan) (closed : List ClosedPiece) (last : List ℕ)
+    (closing : LastClosed) : Type 0 where
   pub numbers : List ℕ
   pub rise : RiseByEightAtMost (intervals s) 0 numbers
   pub marks : PiecesAre (λ k bytes. Unit {0}) 0 closed last numbers
   pub there : SomePieceIs (ReadsWithLine pic s component line) 0 closed last numbers
+      ⊎ HeadHasLine pic s component line (last_number 0 numbers) last closing
 
 abbrev pub SurvivesInUnit : WholePicture → ℕ → ℕ → CopyUnit → Type 0
 SurvivesInUnit pic component line (segment fill code payload) = ⊥
-SurvivesInUnit pic component line (scan fill code payload s closed last closing) = SurvivesInScan pic component line s closed last
+SurvivesInUnit pic component line (scan fill code payload s closed last closing) = SurvivesInScan pic component line s closed last closing
 
 -- the line of the component survives in some scan of the copy, whose frame has the picture's shape
 pub record Survives (pic : WholePicture) (copy : List ℕ) (component line : ℕ) : Type 0 where

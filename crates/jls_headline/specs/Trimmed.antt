@@ -1,10 +1,9 @@
 -- Trimmed pieces: what is left where nothing but the front of an interval's bytes came, or bytes came behind them.
-use Rattle.std.specs.Prelude.{◌≡◌, ℕ, ◌*◌, Bool, List, ◌∷◌, ◌++◌, length, take, Some}
+use Rattle.std.specs.Prelude.{◌≡◌, ℕ, Bool, List, ◌∷◌, ◌++◌, length, Some}
 use Rattle.std.specs.List.{AllByRecursion}
 use Rattle.jls_bits.specs.Bits.{bits_read}
 use Rattle.jls_interval.specs.Code.{code}
-use Rattle.jls_interval.specs.Heads.{IsHeadOfPiece}
-use Rattle.jls_marker.specs.Scan.{Scan, intervals, row_count}
+use Rattle.jls_marker.specs.Scan.{Scan, intervals}
 use Rattle.jls_copy.specs.ScanData.{ClosedPiece}
 use Rattle.jls_copy.specs.Numbers.{RiseByEightAtMost}
 use Rattle.jls_copy.specs.Course.{CopyUnit, segment, scan, Course, IsCourse}
@@ -24,25 +23,11 @@ pub record IsTrimmed (pic : WholePicture) (s : Scan) (k : ℕ) (piece : List ℕ
   pub reads : ReadsAsPicture pic s k bytes
   pub trimmed : Trimmed bytes piece
 
--- Heads --------------------------------------------------------------------------------------------------------
-
--- the bytes, as interval k of a scan, have this head
-abbrev pub IsHeadAt : Scan → ℕ → List ℕ → List (List ℕ) → Type 0
-IsHeadAt s k bytes head =
-    IsHeadOfPiece s.params s.width (length s.components) (row_count s k * length s.components) bytes head
-
--- their head is the picture's first lines of that interval, which can be none
-abbrev pub HasHeadOfPicture : WholePicture → Scan → ℕ → List ℕ → Type 0
-HasHeadOfPicture pic s k bytes =
-    (head : List (List ℕ)) → IsHeadAt s k bytes head → head ≡ take (length head) (interval_lines pic s k)
-
 -- the piece lacks a bit of the code of the picture's lines of interval k, and has no bit that isn't of it
 pub record LacksABit (pic : WholePicture) (s : Scan) (k : ℕ) (piece : List ℕ) : Type 0 where
   pub missing : Bool
   pub more_missing : List Bool
   pub code_is : bits_read piece ++ missing ∷ more_missing ≡ code s.params s.width (length s.components) (interval_lines pic s k)
-
--- Copies -------------------------------------------------------------------------------------------------------
 
 -- whole intervals are lost and pieces are trimmed, and nothing else
 pub record TrimmedScan (pic : WholePicture) (s : Scan) (closed : List ClosedPiece) (last : List ℕ) : Type 0 where
