@@ -1,6 +1,6 @@
 -- The intervals of all scans of a written file are the picture's lines, each component and line once.
-use Rattle.std.proofs.Common.{◌≡◌, ℕ, zero, suc, ◌+◌, ◌-◌, ◌*◌, ◌/◌, ◌<◌, ◌≤◌, ◌≢◌, Bool, true, false, List, [], ◌∷◌, ◌++◌, map, length, refl, sym, ◌∙◌, ap, subst, append_assoc, add-zero, arith, ◌⊎◌, inl, inr, length-append}
-use Rattle.std.specs.Prelude.{◌==◌, ◌&&◌, nat_lt, min, get_or, if◌then◌else◌}
+use Rattle.std.proofs.Common.{◌≡◌, ℕ, zero, suc, ◌+◌, ◌-◌, ◌*◌, ◌/◌, ◌<◌, ◌≤◌, ◌≢◌, Bool, true, false, List, [], ◌∷◌, ◌++◌, map, length, refl, sym, ◌∙◌, ap, subst, append_assoc, arith, ◌⊎◌, inl, inr, length-append}
+use Rattle.std.specs.Prelude.{◌==◌, min, get_or, if◌then◌else◌}
 use Rattle.std.proofs.lemmas.List.{append-nil}
 use Rattle.std.proofs.lemmas.Grind.{flat_map-append}
 use Rattle.std.proofs.Math.Nat.{mod-add-div', mod-lt}
@@ -10,11 +10,11 @@ use Rattle.std.proofs.lemmas.Bool.{cases_eq, cases_Bool, cases_lt}
 use Rattle.std.proofs.lemmas.Bool.Decides.{nat_tests}
 use Rattle.std.specs.List.{flat_map, AllByRecursion, Contains, range_with_len}
 use Rattle.jls_partial.specs.Reading.{Reading, reading_of}
-use Rattle.jls_marker.specs.Scan.{Scan, intervals, first_row, row_count}
+use Rattle.jls_marker.specs.Scan.{Scan, intervals}
 use Rattle.jls_copy.specs.Pieces.{placed}
 use Rattle.jls_picture.specs.Picture.{WholePicture, line_of}
 use Rattle.jls_picture.specs.Options.{WriteOptions}
-use Rattle.jls_file.specs.WrittenFile.{row_lines, interval_lines, components_of_scans, scan_of}
+use Rattle.jls_file.specs.WrittenFile.{row_lines, scan_of}
 use Rattle.jls_file_law.specs.Covering.{row_readings, interval_readings, scan_readings, written_readings, count_at, IsLineOf, AreThePicture, ContainsThePicture, IntervalsAreRows, IntervalsCover}
 
 abbrev rows_from : WholePicture → List ℕ → ℕ → ℕ → List (List ℕ)
@@ -53,7 +53,7 @@ module _ (pic : WholePicture) where
       let l : length (pre ++ c ∷ []) ≡ length pre + 1 = length-append pre (c ∷ []) in
       let f : all ≡ (pre ++ c ∷ []) ++ (d ∷ cs) = e ∙ sym (append_assoc pre (c ∷ []) (d ∷ cs)) in
       rw (at, t) (ap (λ z. reading_of c row (line_of pic c row) ∷ z)
-        (subst (λ i. placed all row i (map (λ x. line_of pic x row) (d ∷ cs) ++ rest) ≡ row_readings pic (d ∷ cs) row ++ placed all (row + 1) 0 rest) l (placed_row all (pre ++ c ∷ []) d cs row rest f)))
+      (subst (λ i. placed all row i (map (λ x. line_of pic x row) (d ∷ cs) ++ rest) ≡ row_readings pic (d ∷ cs) row ++ placed all (row + 1) 0 rest) l (placed_row all (pre ++ c ∷ []) d cs row rest f)))
 
   -- rows of a scan with one component at least
   placed_rows : (c : ℕ) (cs : List ℕ) (row n : ℕ) → placed (c ∷ cs) row 0 (rows_from pic (c ∷ cs) row n) ≡ flat_map (row_readings pic (c ∷ cs)) (range_with_len row n)
@@ -125,8 +125,8 @@ scan_rows pic c cs s e (inr some) =
     let all : min (n * r) (y - 0 * r) ≡ y = omega (arith, enough y r (omega (arith, some))) in
     let zero_r : 0 * r ≡ 0 = omega arith in
     ap (λ m. flat_map (interval_readings pic s) (range_with_len 0 m)) (how_many s t)
-      ∙ same_map (λ k. Unit {0}) (interval_readings pic s) (λ k. flat_map (row_readings pic (c ∷ cs)) (range_with_len (k * r) (min r (y - k * r)))) (λ k u. interval_rows pic c cs s k e t) (range_with_len 0 n) (all_true _)
-      ∙ side_by_side (row_readings pic (c ∷ cs)) r y 0 n ∙ ap (λ m. flat_map (row_readings pic (c ∷ cs)) (range_with_len (0 * r) m)) all ∙ ap (λ m. flat_map (row_readings pic (c ∷ cs)) (range_with_len m y)) zero_r
+    ∙ same_map (λ k. Unit {0}) (interval_readings pic s) (λ k. flat_map (row_readings pic (c ∷ cs)) (range_with_len (k * r) (min r (y - k * r)))) (λ k u. interval_rows pic c cs s k e t) (range_with_len 0 n) (all_true _)
+    ∙ side_by_side (row_readings pic (c ∷ cs)) r y 0 n ∙ ap (λ m. flat_map (row_readings pic (c ∷ cs)) (range_with_len (0 * r) m)) all ∙ ap (λ m. flat_map (row_readings pic (c ∷ cs)) (range_with_len m y)) zero_r
 
 with_first : (pic : WholePicture) (s : Scan) (cs : List ℕ) → s.components ≡ cs → 1 ≤ length cs → scan_readings pic s ≡ flat_map (row_readings pic cs) (range_with_len 0 s.height)
 with_first pic s [] e h = absurd (omega (arith, h))
@@ -164,8 +164,9 @@ module _ (pic : WholePicture) (c y : ℕ) where
       let e = in_rows cs rows in
       count_append c y (row_readings pic cs row) (flat_map (row_readings pic cs) rows)
       ∙ elim (cases_Bool (row == y)) [
-          inl h ↦ (let a = in_row row cs h in rw (a, e, h) (omega arith))
-        | inr h ↦ (let a = not_in_row row cs h in rw (a, e, h) (omega arith)) ]
+        | inl h ↦ (let a = in_row row cs h in rw (a, e, h) (omega arith))
+        | inr h ↦ (let a = not_in_row row cs h in rw (a, e, h) (omega arith))
+      ]
 
   in_scans : (rows : List ℕ) (scans : List (List ℕ)) → count_at c y (flat_map (λ cs. flat_map (row_readings pic cs) rows) scans) ≡ count_of y rows * count_of c (flat_map (λ cs. cs) scans)
   in_scans rows [] = omega arith
@@ -184,8 +185,9 @@ none_below n a (suc m) h =
 one_in_range : (n a m : ℕ) → a ≤ n → n < a + m → count_of n (range_with_len a m) ≡ 1
 one_in_range n a zero h k = absurd (omega (arith, h, k))
 one_in_range n a (suc m) h k = elim (cases_eq a n) [
-    inl e ↦ (let t : (a == n) ≡ true = grind (arith, nat_tests, e) in let z = none_below n (a + 1) m (omega (arith, e)) in rw (t, z) refl)
-  | inr e ↦ (let t : (a == n) ≡ false = grind (arith, nat_tests, e) in let z = one_in_range n (a + 1) m (omega (arith, h, e)) (omega (arith, k)) in rw (t, z) refl) ]
+  | inl e ↦ (let t : (a == n) ≡ true = grind (arith, nat_tests, e) in let z = none_below n (a + 1) m (omega (arith, e)) in rw (t, z) refl)
+  | inr e ↦ (let t : (a == n) ≡ false = grind (arith, nat_tests, e) in let z = one_in_range n (a + 1) m (omega (arith, h, e)) (omega (arith, k)) in rw (t, z) refl)
+]
 
 -- The scans ---------------------------------------------------------------------------------------------
 
@@ -233,17 +235,20 @@ module _ (pic : WholePicture) where
 pub written_rows : (pic : WholePicture) (o : WriteOptions) → 1 ≤ length pic.shape.ids → written_readings pic o ≡ flat_map (λ cs. flat_map (row_readings pic cs) (range_with_len 0 pic.shape.height)) (scan_components (length pic.shape.ids) o.line)
 written_rows pic o some =
     same_map (IsScanOf (length pic.shape.ids)) (λ cs. scan_readings pic (scan_of pic o cs)) (λ cs. flat_map (row_readings pic cs) (range_with_len 0 pic.shape.height))
-      (λ cs h. intervals_are_rows pic (scan_of pic o cs) h.0) (scan_components (length pic.shape.ids) o.line) (scans_of (length pic.shape.ids) o.line some)
+    (λ cs h. intervals_are_rows pic (scan_of pic o cs) h.0) (scan_components (length pic.shape.ids) o.line) (scans_of (length pic.shape.ids) o.line some)
 
 pub intervals_cover : IntervalsCover
 intervals_cover pic o some =
     let n = length pic.shape.ids in
     let y = pic.shape.height in
     let lines : AllByRecursion (IsLineOf pic) (written_readings pic o) =
-      rw (written_rows pic o some) (scans_lines pic (range_with_len 0 y) (scan_components n o.line) (all_below 0 y y (omega arith)) (scans_of n o.line some)) in
-    record { each = lines; once = λ c l h k.
-      ap (count_at c l) (written_rows pic o some) ∙ in_scans pic c l (range_with_len 0 y) (scan_components n o.line)
-      ∙ (let a = all_components n o.line in let b = one_in_range c 0 n (omega arith) (omega (arith, h)) in let d = one_in_range l 0 y (omega arith) (omega (arith, k)) in rw (a, b, d) refl) }
+    rw (written_rows pic o some) (scans_lines pic (range_with_len 0 y) (scan_components n o.line) (all_below 0 y y (omega arith)) (scans_of n o.line some)) in
+    record {
+      each = lines;
+      once = λ c l h k.
+          ap (count_at c l) (written_rows pic o some) ∙ in_scans pic c l (range_with_len 0 y) (scan_components n o.line)
+          ∙ (let a = all_components n o.line in let b = one_in_range c 0 n (omega arith) (omega (arith, h)) in let d = one_in_range l 0 y (omega arith) (omega (arith, k)) in rw (a, b, d) refl);
+    }
 
 -- What a list of readings contains --------------------------------------------------------------------------
 

@@ -1,16 +1,15 @@
 -- The header segments of a written file are taken: each reads as what was meant, and no test of a scan fails.
-use Rattle.std.proofs.Common.{◌≡◌, ℕ, zero, suc, ◌+◌, ◌-◌, ◌*◌, ◌^◌, ◌<◌, ◌≤◌, Bool, true, false, cond, List, [], ◌∷◌, ◌++◌, map, length, get_or, drop, Option, Some, None, Result, Ok, Err, refl, sym, ◌∙◌, ap, subst, append_assoc, arith, inl, inr, length-append}
-use Rattle.std.specs.Prelude.{◌==◌, ◌&&◌, ◌||◌, nat_le, nat_lt, min, max, is_ok, if◌then◌else◌}
+use Rattle.std.proofs.Common.{◌≡◌, ℕ, zero, suc, ◌+◌, ◌-◌, ◌*◌, ◌^◌, ◌<◌, ◌≤◌, Bool, true, false, cond, List, [], ◌∷◌, ◌++◌, map, length, get_or, Some, None, Result, Ok, Err, refl, sym, ◌∙◌, ap, append_assoc, arith, inl, inr, length-append}
+use Rattle.std.specs.Prelude.{◌==◌, ◌&&◌, ◌||◌, nat_lt, min, max, is_ok, if◌then◌else◌}
 use Rattle.std.specs.Int.{w32, to_be_bytes}
-use Rattle.std.specs.List.{flat_map, AllByRecursion, list_any, list_all, range_with_len, position_or_len}
+use Rattle.std.specs.List.{flat_map, AllByRecursion, list_any, list_all, range_with_len}
 use Rattle.std.proofs.Math.Seq.{get_or-append_seam}
-use Rattle.std.proofs.Math.Nat.{mul-le-mul_left}
 use Rattle.std.proofs.lemmas.List.{length-drop}
 use Rattle.std.proofs.lemmas.List.Folds.{list_any_at}
 use Rattle.std.proofs.lemmas.List.FromFn.{length-range_with_len}
-use Rattle.std.proofs.lemmas.Bool.{cases_eq, cases_Bool, eqb-true, ne_eqb, lt-ltb, le-leb}
+use Rattle.std.proofs.lemmas.Bool.{cases_eq, eqb-true, ne_eqb, lt-ltb, le-leb}
 use Rattle.std.proofs.lemmas.Bool.Decides.{nat_tests}
-use Rattle.jls_values.specs.Shape.{PictureShape, IsShape, has_repeat}
+use Rattle.jls_values.specs.Shape.{PictureShape, has_repeat}
 use Rattle.jls_values.specs.Params.{CodingParameters, AreCodingParameters}
 use Rattle.jls_values.specs.ParamsOf.{or_default, in_force, param_fault, params_of, params_in_range}
 use Rattle.jls_values.specs.declared.params.ParamFault.{ParamFault}
@@ -28,10 +27,9 @@ use Rattle.jls_marker.specs.declared.segment.Segment.TheVariants as segment
 use Rattle.jls_marker.proofs.FirstFailing.{none_fails}
 use Rattle.jls_marker.proofs.ParamRanges.{params_there}
 use Rattle.jls_marker.proofs.SegmentLaws.{written_reads_back}
-use Rattle.jls_copy.specs.Course.{IsSegment}
 use Rattle.jls_picture.specs.Picture.{WholePicture}
 use Rattle.jls_picture.specs.Options.{WriteOptions, components_of_scan, rows_of_interval}
-use Rattle.jls_file.specs.WrittenFile.{are_values_of, are_defaults, preset_segments, restart_segments, header_segments, components_of_scans, scan_of, scan_segment}
+use Rattle.jls_file.specs.WrittenFile.{are_values_of, are_defaults, restart_segments, components_of_scans, scan_of, scan_segment}
 use Rattle.jls_file_law.specs.FileLaw.{CanBeWritten}
 use Rattle.jls_file_law.proofs.Covering.{IsScanOf, scans_of, scan_components}
 use Rattle.jls_file_law.proofs.WrittenUnits.{Steps, ScanSteps, AreTaken}
@@ -74,7 +72,8 @@ index_back [] c h l = absurd (omega (arith, l))
 index_back (x ∷ xs) zero h l = let t : (x == x) ≡ true = grind (arith, nat_tests) in rw t refl
 index_back (x ∷ xs) (suc c) h l =
     let f = none_at x xs c (or_left _ _ h) (omega (arith, l)) in
-    rw f (ap suc (index_back xs c (or_right _ _ h) (omega (arith, l))))
+    let next : 1 + c ≡ suc c = omega arith in
+    rw f (ap (λ n. 1 + n) (index_back xs c (or_right _ _ h) (omega (arith, l))) ∙ next)
 
 module _ (ids : List ℕ) (differ : has_repeat ids ≡ false) where
   components_back : (cs : List ℕ) → AllByRecursion (λ c. c < length ids) cs → map (index_of ids) (ids_at ids cs) ≡ cs
@@ -247,16 +246,15 @@ module _ (pic : WholePicture) (o : WriteOptions) (can : CanBeWritten pic o) wher
 
   before_steps : (same : Bool)
       → Steps (taken_so no_presets 0 0) (cond same [] (segment.Preset o.params.maxval o.params.t1 o.params.t2 o.params.t3 o.params.reset ∷ []) ++ restart_segments o.restart_interval)
-        (taken_so (written_presets o.params same) o.restart_interval 0)
+      (taken_so (written_presets o.params same) o.restart_interval 0)
   before_steps true = restart_steps no_presets
   before_steps false =
       let small = maxval_small o.params can.params in
-      let p = can.params in
-      (
+      let p = can.params in (
         taken_so (presets_of o.params) 0 0,
         (lse_code, omega arith),
         step (taken_so no_presets 0 0) (segment.Preset o.params.maxval o.params.t1 o.params.t2 o.params.t3 o.params.reset)
-        (record { maxval_below = small; t1_below = omega arith; t2_below = omega arith; t3_below = omega arith; reset_below = omega arith }) tt,
+            (record { maxval_below = small; t1_below = omega arith; t2_below = omega arith; t3_below = omega arith; reset_below = omega arith }) tt,
         restart_steps (presets_of o.params),
       )
 
@@ -306,8 +304,7 @@ module _ (pic : WholePicture) (o : WriteOptions) (can : CanBeWritten pic o) wher
         → ScanSteps pic o (now i) scans (now (i + length scans))
     scan_steps [] i few are differ sized = let e : i + 0 ≡ i = omega arith in ap now e
     scan_steps (cs ∷ scans) i few are differ sized =
-        let e : i + 1 + length scans ≡ i + suc (length scans) = omega arith in
-        (
+        let e : i + 1 + length scans ≡ i + suc (length scans) = omega arith in (
           now (i + 1),
           (sos_code, scan_short (selection cs) (selected cs are.0 differ.0).ids_at_most),
           scan_step cs i (omega (arith, few)) are.0 differ.0 sized.0,

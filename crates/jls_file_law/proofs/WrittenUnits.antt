@@ -1,12 +1,11 @@
 -- The course of a written file, where its segments are taken.
-use Rattle.std.proofs.Common.{◌≡◌, ℕ, zero, suc, ◌+◌, ◌-◌, ◌/◌, ◌%◌, ◌^◌, ◌<◌, ◌≤◌, Bool, true, List, [], ◌∷◌, ◌++◌, map, length, Option, Some, None, Ok, refl, sym, ◌∙◌, ap, subst, append_assoc, get_or, arith}
+use Rattle.std.proofs.Common.{◌≡◌, ℕ, zero, suc, ◌+◌, ◌-◌, ◌/◌, ◌%◌, ◌^◌, ◌<◌, ◌≤◌, true, List, [], ◌∷◌, ◌++◌, map, length, Some, None, Ok, refl, sym, ◌∙◌, ap, subst, append_assoc, get_or, arith}
 use Rattle.std.specs.Prelude.{is_some}
 use Rattle.std.specs.Int.{w16, to_be_bytes}
 use Rattle.std.proofs.lemmas.Nat.{be_bytes_2}
 use Rattle.std.proofs.lemmas.List.{append-nil}
 use Rattle.std.proofs.lemmas.Grind.{flat_map-append}
 use Rattle.std.specs.List.{flat_map, AllByRecursion, range_with_len}
-use Rattle.jls_values.specs.Shape.{PictureShape}
 use Rattle.jls_marker.specs.HeaderState.{HeaderState, no_headers}
 use Rattle.jls_marker.specs.Headers.{headers_after}
 use Rattle.jls_marker.specs.Scan.{Scan, intervals}
@@ -16,12 +15,11 @@ use Rattle.jls_marker.proofs.Intervals as marker
 use Rattle.jls_copy.specs.ScanData.{closed_bytes}
 use Rattle.jls_copy.specs.Numbers.{Interval}
 use Rattle.jls_copy.specs.Pieces.{pieces_from, pieces_in}
-use Rattle.jls_copy.specs.Course.{CopyUnit, segment, scan, by_marker, segment_bytes, unit_bytes, IsSegment, IsClosing, EndsHere, at_eoi, Ends, for_good, AreUnits, Course, IsCourse, with_soi}
-use Rattle.jls_copy.specs.declared.end.End.{End}
+use Rattle.jls_copy.specs.Course.{CopyUnit, segment, scan, by_marker, segment_bytes, unit_bytes, IsSegment, IsClosing, at_eoi, for_good, AreUnits, with_soi}
 use Rattle.jls_copy.specs.declared.end.End.TheVariants.{Eoi}
 use Rattle.jls_picture.specs.Picture.{WholePicture}
 use Rattle.jls_picture.specs.Options.{WriteOptions}
-use Rattle.jls_file.specs.WrittenFile.{bytes_of, header_segments, components_of_scans, scan_of, scan_segment, interval_code, marked_interval, scan_bytes, scans_bytes, written_file}
+use Rattle.jls_file.specs.WrittenFile.{bytes_of, header_segments, components_of_scans, scan_of, scan_segment, interval_code, marked_interval, scan_bytes, written_file}
 use Rattle.jls_file_law.specs.Covering.{interval_readings, scan_readings, written_readings}
 use Rattle.jls_file_law.specs.FileLaw.{CanBeWritten, ReadsBack}
 use Rattle.jls_file_law.proofs.Covering.{IsScanOf, scans_of}
@@ -114,8 +112,7 @@ module _ (pic : WholePicture) (o : WriteOptions) where
       → AreUnits h at (flat_map scan_part scans ++ eoi) (map scan_unit scans) last (Eoi (end_of at (map scan_unit scans)))
   from_scans h at [] last some steps framed = (steps, for_good h at eoi (Eoi (at + 0)) (at_eoi h at 0 [] (rw (ap (λ (t : HeaderState). is_some t.frame) (sym steps)) framed)))
   from_scans h at (c ∷ scans) last some steps framed =
-      let s : Scan = scan_of pic o c in
-      (
+      let s : Scan = scan_of pic o c in (
         steps.0,
         flat_map scan_part scans ++ eoi,
         append_assoc (scan_part c) (flat_map scan_part scans) eoi ∙ ap (λ t. t ++ (flat_map scan_part scans ++ eoi)) (scan_is c some steps.1.1),
@@ -128,8 +125,7 @@ module _ (pic : WholePicture) (o : WriteOptions) where
       → AreUnits h at (flat_map bytes_of before ++ (flat_map scan_part scans ++ eoi)) (units before scans) last (Eoi (end_of at (units before scans)))
   from_heads h at [] behind scans last some steps scan_steps framed = from_scans h at scans last some (subst (λ (t : HeaderState). ScanSteps t scans last) steps scan_steps) framed
   from_heads h at (x ∷ before) behind scans last some steps scan_steps framed =
-      let rest : List ℕ = flat_map bytes_of before ++ (flat_map scan_part scans ++ eoi) in
-      (
+      let rest : List ℕ = flat_map bytes_of before ++ (flat_map scan_part scans ++ eoi) in (
         steps.0,
         rest,
         append_assoc (bytes_of x) (flat_map bytes_of before) (flat_map scan_part scans ++ eoi) ∙ ap (λ t. t ++ rest) (segment_is x steps.1.1),
