@@ -1,6 +1,6 @@
 -- The intervals of all scans of a written file are the picture's lines, each component and line once.
-use Rattle.std.proofs.Common.{◌≡◌, ℕ, zero, suc, ◌+◌, ◌-◌, ◌*◌, ◌/◌, ◌<◌, ◌≤◌, ◌≢◌, Bool, true, false, List, [], ◌∷◌, ◌++◌, map, length, refl, sym, ◌∙◌, ap, subst, append_assoc, add-zero, arith, ◌⊎◌, inl, inr, length-append}
-use Rattle.std.specs.Prelude.{◌==◌, ◌&&◌, nat_lt, min, get_or, if◌then◌else◌}
+use Rattle.std.proofs.Common.{◌≡◌, ℕ, zero, suc, ◌+◌, ◌-◌, ◌*◌, ◌/◌, ◌<◌, ◌≤◌, ◌≢◌, Bool, true, false, List, [], ◌∷◌, ◌++◌, map, length, refl, sym, ◌∙◌, ap, subst, append_assoc, arith, ◌⊎◌, inl, inr, length-append}
+use Rattle.std.specs.Prelude.{◌==◌, min, get_or, if◌then◌else◌}
 use Rattle.std.proofs.lemmas.List.{append-nil}
 use Rattle.std.proofs.lemmas.Grind.{flat_map-append}
 use Rattle.std.proofs.Math.Nat.{mod-add-div', mod-lt}
@@ -10,11 +10,11 @@ use Rattle.std.proofs.lemmas.Bool.{cases_eq, cases_Bool, cases_lt}
 use Rattle.std.proofs.lemmas.Bool.Decides.{nat_tests}
 use Rattle.std.specs.List.{flat_map, AllByRecursion, Contains, range_with_len}
 use Rattle.jls_partial.specs.Reading.{Reading, reading_of}
-use Rattle.jls_marker.specs.Scan.{Scan, intervals, first_row, row_count}
+use Rattle.jls_marker.specs.Scan.{Scan, intervals}
 use Rattle.jls_copy.specs.Pieces.{placed}
 use Rattle.jls_picture.specs.Picture.{WholePicture, line_of}
 use Rattle.jls_picture.specs.Options.{WriteOptions}
-use Rattle.jls_file.specs.WrittenFile.{row_lines, interval_lines, components_of_scans, scan_of}
+use Rattle.jls_file.specs.WrittenFile.{row_lines, scan_of}
 use Rattle.jls_file_law.specs.Covering.{row_readings, interval_readings, scan_readings, written_readings, count_at, IsLineOf, AreThePicture, ContainsThePicture, IntervalsAreRows, IntervalsCover}
 
 abbrev rows_from : WholePicture → List ℕ → ℕ → ℕ → List (List ℕ)

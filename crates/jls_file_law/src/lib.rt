@@ -3,4 +3,4 @@
 
 mod laws;
 
-pub use laws::{intervals_are_rows, intervals_cover};
+pub use laws::{intervals_are_rows, intervals_cover, written_files_read_back};
