@@ -10,7 +10,8 @@ use Rattle.jls_picture.specs.Unsettled.{NamesFirstUnsettled}
 use Rattle.jls_picture.specs.declared.picture.PictureFault.{PictureFault}
 use Rattle.jls_device.specs.Event.{History, GrewBy, created}
 use Rattle.jls_device.proofs.Growing.{grew_on, grew_as}
-use Rattle.jls_station.specs.Inputs.{Given, IsTaken, StopsAt}
+use Rattle.jls_station.specs.Given.{Given}
+use Rattle.jls_station.specs.Inputs.{IsTaken, StopsAt}
 use Rattle.jls_station.specs.Outputs.{HandsOut, StopsAtOutput}
 use Rattle.jls_station.specs.declared.outcome.Refusal.{Refusal}
 use Rattle.jls_station.specs.declared.outcome.Outcome.TheVariants.{Done, Refused}
@@ -25,10 +26,10 @@ module _ (f : Format) (out name : List ℕ) (old mid new : History) where
   stops_at_input r named = grew_as (StopsAt None [] name r.cause) (WritesFile f out name (Refused r)) old mid (λ events h. at_input f out name r events named h)
 
   module _ (g : Given) (taken : GrewBy (IsTaken None name g) old mid) where
-    pub stops_unsettled : (r : Refusal) (fault : PictureFault) → NamesFirstUnsettled g.partial fault → r.cause ≡ unsettled_cause g.partial fault
+    pub stops_unsettled : (r : Refusal) (fault : PictureFault) → r.name.now ≡ name → NamesFirstUnsettled g.partial fault → r.cause ≡ unsettled_cause g.partial fault
         → GrewBy (WritesFile f out name (Refused r)) old mid
-    stops_unsettled r fault first is =
-        grew_as (IsTaken None name g) (WritesFile f out name (Refused r)) old mid (λ events h. unsettled f out name r g fault events h first is) taken
+    stops_unsettled r fault named first is =
+        grew_as (IsTaken None name g) (WritesFile f out name (Refused r)) old mid (λ events h. unsettled f out name r g fault events named h first is) taken
 
     module _ (settled : IsSettled g.partial) where
       pub is_written : (whole : Bool) → Says g true whole → GrewBy (HandsOut out (file f (picture_of g.partial))) mid new → GrewBy (WritesFile f out name (Done true whole)) old new

@@ -11,7 +11,8 @@ use Rattle.jls_picture.specs.declared.picture.PictureFault.TheVariants.{Unsettle
 use Rattle.jls_picture.specs.declared.output.OutputFault.{OutputFault}
 use Rattle.jls_picture.specs.declared.output.OutputFault.TheVariants.{Write, OutOfMemory}
 use Rattle.jls_device.specs.Event.{Event}
-use Rattle.jls_station.specs.Inputs.{Given, IsTaken, StopsAt}
+use Rattle.jls_station.specs.Given.{Given}
+use Rattle.jls_station.specs.Inputs.{IsTaken, StopsAt}
 use Rattle.jls_station.specs.Outputs.{HandsOut, StopsAtOutput}
 use Rattle.jls_station.specs.declared.outcome.Cause.{Cause}
 use Rattle.jls_station.specs.declared.outcome.Cause.TheVariants as cause
@@ -44,7 +45,7 @@ pub data WritesFile : Format → List ℕ → List ℕ → Outcome → List Even
   at_input : (f : Format) (out name : List ℕ) (r : Refusal) (reading : List Event)
       → r.name.now ≡ name → StopsAt None [] name r.cause reading → WritesFile f out name (Refused r) reading
   unsettled : (f : Format) (out name : List ℕ) (r : Refusal) (g : Given) (fault : PictureFault) (reading : List Event)
-      → IsTaken None name g reading → NamesFirstUnsettled g.partial fault
+      → r.name.now ≡ name → IsTaken None name g reading → NamesFirstUnsettled g.partial fault
       → r.cause ≡ unsettled_cause g.partial fault → WritesFile f out name (Refused r) reading
   at_output : (f : Format) (out name : List ℕ) (r : Refusal) (g : Given) (reading writing : List Event)
       → r.name.now ≡ out → IsTaken None name g reading → IsSettled g.partial

@@ -77,21 +77,22 @@ pub fn write<'a, D: Desk>(
 ) -> Outcome<'a>
     ensures { GrewBy (WritesFile format out.now file.now result) (D.history desk.old) (D.history desk.new) }
 {
-    let partial = match open_and_read(alloc, desk, file) {
-        Ok(partial) => partial,
+    let input = match open_and_read(alloc, desk, file) {
+        Ok(input) => input,
         Err(cause) => return Outcome::Refused(Refusal { name: file, cause }),
     };
-    let picture = match Picture::of(&partial) {
+    let partial = input.partial();
+    let picture = match Picture::of(partial) {
         Ok(picture) => picture,
         Err(fault) => {
-            let cause = unsettled(&partial, fault);
+            let cause = unsettled(partial, fault);
             return Outcome::Refused(Refusal { name: file, cause });
         }
     };
     match hand_out(desk, format, out, &picture) {
         Ok(()) => Outcome::Done {
             settled: true,
-            whole: true,
+            whole: input.is_whole(),
         },
         Err(cause) => Outcome::Refused(Refusal { name: out, cause }),
     }

@@ -33,7 +33,9 @@ use Rattle.jls_copy.specs.ReaderLaws.{ConclusionTold}
 use Rattle.jls_copy.specs.declared.piece.PieceKind.TheVariants as kind
 use Rattle.jls_copy.specs.declared.piece.PieceRecord.{PieceRecord}
 use Rattle.jls_copy.specs.ReadCopy.{ReadCopy}
-use Rattle.jls_copy.proofs.Alike.{same_outcome}
+use Rattle.jls_copy.proofs.Alike.{same_outcome, same_head}
+use Rattle.jls_copy.specs.CutPieces.{IsHeadAt, IsHeadOfCut, head_readings, cut_pieces}
+use Rattle.jls_copy.specs.ReaderState.{closed_at_end}
 use Rattle.jls_copy.proofs.CourseTold.{course_told}
 use Rattle.jls_partial.specs.Partial.{without_sources}
 
@@ -67,6 +69,24 @@ all_alike (p ∷ ps) (q ∷ qs) (o ∷ os) a h =
       ap (λ t. t ++ records ps os) (records_alike p q o a.0) ∙ ap (λ t. records_of q o ++ t) r.2,
     )
 
+-- heads of pieces that are alike
+head_at : (s : Scan) (n : PieceNumber) (x w : List ℕ) (head : List (List ℕ)) → ToldAs n x w → IsHeadAt s n x head → IsHeadAt s n w head
+head_at s (Interval k) x w head t h = same_head s k x w head t h
+head_at s (BeyondLast k) x w head t h = h
+
+head_alike : (ps qs : List FoundPiece) (head : List (List ℕ)) → AlikePieces ps qs → IsHeadOfCut ps head → IsHeadOfCut qs head
+head_alike [] [] head a h = h
+head_alike [] (q ∷ qs) head a h = absurd a
+head_alike (p ∷ ps) [] head a h = absurd a
+head_alike (p ∷ ps) (q ∷ qs) head a h =
+    let now : IsHeadAt q.plan q.number p.bytes head = rw (a.0.plan_is, a.0.number_is) at h in head_at q.plan q.number p.bytes q.bytes head a.0.told_as now
+
+head_readings_alike : (ps qs : List FoundPiece) (head : List (List ℕ)) → AlikePieces ps qs → head_readings ps head ≡ head_readings qs head
+head_readings_alike [] [] head a = refl
+head_readings_alike [] (q ∷ qs) head a = absurd a
+head_readings_alike (p ∷ ps) [] head a = absurd a
+head_readings_alike (p ∷ ps) (q ∷ qs) head a = readings_alike p q (Lines head) a.0
+
 pub conclusion_told : ConclusionTold
 conclusion_told bytes low read k =
     let told = course_told bytes low in
@@ -78,7 +98,11 @@ conclusion_told bytes low read k =
       framed = ap (λ h. h.frame) told.2 ∙ k.framed;
       outcomes = k.outcomes;
       each = all.0;
-      partial_is = k.partial_is ∙ ap (λ rs. without_sources k.shape (set.insert_all set.empty rs)) all.1;
+      head = k.head;
+      head_is = head_alike (closed_at_end (reading bytes).state.place) (cut_pieces told.0) k.head told.5 k.head_is;
+      partial_is = k.partial_is
+          ∙ ap (λ rs. without_sources k.shape (set.insert_all set.empty (rs ++ head_readings (closed_at_end (reading bytes).state.place) k.head))) all.1
+          ∙ ap (λ rs. without_sources k.shape (set.insert_all set.empty (readings (pieces told.0) k.outcomes ++ rs))) (head_readings_alike (closed_at_end (reading bytes).state.place) (cut_pieces told.0) k.head told.5);
       pieces_are = k.pieces_are ∙ ap (take 4096) all.2;
       count_is = k.count_is ∙ ap length all.2;
       ended_is = k.ended_is ∙ sym told.3;

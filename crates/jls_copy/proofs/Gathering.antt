@@ -48,19 +48,19 @@ from_snoc r (x ∷ bytes) b = from_snoc (reading_with r x) bytes b
 pub reading_snoc : (bytes : List ℕ) (b : ℕ) → reading (bytes ++ b ∷ []) ≡ reading_with (reading bytes) b
 reading_snoc bytes b = from_snoc _ bytes b
 
-are_more : (ps : List FoundPiece) (os : List Outcome) (p : FoundPiece) (o : Outcome) → AreOutcomes ps os → IsOutcome p o → AreOutcomes (ps ++ p ∷ []) (os ++ o ∷ [])
+pub are_more : (ps : List FoundPiece) (os : List Outcome) (p : FoundPiece) (o : Outcome) → AreOutcomes ps os → IsOutcome p o → AreOutcomes (ps ++ p ∷ []) (os ++ o ∷ [])
 are_more [] [] p o h i = (i, tt)
 are_more [] (x ∷ os) p o h i = absurd h
 are_more (x ∷ ps) [] p o h i = absurd h
 are_more (x ∷ ps) (y ∷ os) p o h i = (h.0, are_more ps os p o h.1 i)
 
-readings_more : (ps : List FoundPiece) (os : List Outcome) (p : FoundPiece) (o : Outcome) → AreOutcomes ps os → readings (ps ++ p ∷ []) (os ++ o ∷ []) ≡ readings ps os ++ readings_of p o
+pub readings_more : (ps : List FoundPiece) (os : List Outcome) (p : FoundPiece) (o : Outcome) → AreOutcomes ps os → readings (ps ++ p ∷ []) (os ++ o ∷ []) ≡ readings ps os ++ readings_of p o
 readings_more [] [] p o h = append-nil (readings_of p o)
 readings_more [] (x ∷ os) p o h = absurd h
 readings_more (x ∷ ps) [] p o h = absurd h
 readings_more (x ∷ ps) (y ∷ os) p o h = ap (λ t. readings_of x y ++ t) (readings_more ps os p o h.1) ∙ sym (append_assoc (readings_of x y) (readings ps os) (readings_of p o))
 
-records_more : (ps : List FoundPiece) (os : List Outcome) (p : FoundPiece) (o : Outcome) → AreOutcomes ps os → records (ps ++ p ∷ []) (os ++ o ∷ []) ≡ records ps os ++ records_of p o
+pub records_more : (ps : List FoundPiece) (os : List Outcome) (p : FoundPiece) (o : Outcome) → AreOutcomes ps os → records (ps ++ p ∷ []) (os ++ o ∷ []) ≡ records ps os ++ records_of p o
 records_more [] [] p o h = append-nil (records_of p o)
 records_more [] (x ∷ os) p o h = absurd h
 records_more (x ∷ ps) [] p o h = absurd h
@@ -81,11 +81,11 @@ kept_one xs r = by (cases_lt (length xs) 4096)
         let same : take 4096 (xs ++ r ∷ []) ≡ take 4096 xs = take-append-le 4096 xs (r ∷ []) h in
         rw (size, same) refl
 
-kept_more : (xs : List PieceRecord) (p : FoundPiece) (o : Outcome) → kept_with (take 4096 xs) (records_of p o) ≡ take 4096 (xs ++ records_of p o)
+pub kept_more : (xs : List PieceRecord) (p : FoundPiece) (o : Outcome) → kept_with (take 4096 xs) (records_of p o) ≡ take 4096 (xs ++ records_of p o)
 kept_more xs p (Lines lines) = sym (ap (take 4096) (append-nil xs))
 kept_more xs p (Fault f) = kept_one xs _
 
-none_some : {A : Type 0} (x : A) → ◌≡◌ {A = Option A} None (Some x) → ⊥
+pub none_some : {A : Type 0} (x : A) → ◌≡◌ {A = Option A} None (Some x) → ⊥
 none_some x e = cc
 
 -- one piece more
@@ -210,26 +210,6 @@ to_fed false bytes v P e f h = subst (λ o. IfSome o P) e h
 pub if_ok : {A B : Type 0} {P Q : A → Type 0} (r : Result A B) → ((x : A) → P x → Q x) → IfOk r P → IfOk r Q
 if_ok (Ok x) f p = f x p
 if_ok (Err e) f p = tt
-
--- the input ends
-pub concluding : (m n : Machine) (bytes : List ℕ) (e : End) (read : ReadCopy) → IsReading m bytes → e ≡ end_at m.place m.count → Adds m.headers.frame (closed_at_end m.place) m.findings n.findings → n.headers ≡ m.headers
-    → ((shape : PictureShape) × (n.headers.frame ≡ Some shape) × (read.partial ≡ picture_of shape n.findings.partial) × (read.pieces ≡ n.findings.records.items) × (read.piece_count ≡ n.findings.record_count) × (read.ended ≡ e))
-    → Concludes (reading bytes) read
-concluding m n bytes e read h end_is a same (shape, framed, p, q, r, s) =
-    let all : Gathers m.headers.frame ((reading bytes).pieces ++ closed_at_end m.place) n.findings = gathers_pieces m.headers.frame (reading bytes).pieces (closed_at_end m.place) m.findings n.findings h.gathers a in
-    let place_is : m.place ≡ (reading bytes).state.place = ap (λ t. t.place) h.state_is in
-    let now : Gathers m.headers.frame ((reading bytes).pieces ++ closed_at_end (reading bytes).state.place) n.findings = subst (λ t. Gathers m.headers.frame ((reading bytes).pieces ++ closed_at_end t) n.findings) place_is all in
-    let frame : m.headers.frame ≡ Some shape = ap (λ t. t.frame) (sym same) ∙ framed in
-    record {
-      shape = shape;
-      framed = ap (λ t. t.headers.frame) (sym h.state_is) ∙ frame;
-      outcomes = now.outcomes;
-      each = now.each;
-      partial_is = p ∙ now.picture_is shape frame;
-      pieces_are = q ∙ now.records_are;
-      count_is = r ∙ now.count_is;
-      ended_is = s ∙ end_is ∙ ap (λ t. end_at t.place t.count) h.state_is;
-    }
 
 pub if_err : {A B : Type 0} {P Q : B → Type 0} (r : Result A B) → ((x : B) → P x → Q x) → IfErr r P → IfErr r Q
 if_err (Ok x) f p = tt

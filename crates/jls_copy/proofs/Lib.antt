@@ -14,6 +14,8 @@ mod TellsSegment
 mod ReadingTells
 mod CourseTold
 mod Gathering
+mod CutOutcomes
+mod CutGathering
 mod CopyTold
 pub mod HeadersKept
 pub mod ScansOfCourse

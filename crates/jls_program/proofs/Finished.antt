@@ -5,9 +5,10 @@ use Rattle.std.proofs.lemmas.List.{append-nil}
 use Rattle.clap.specs.Words.{Text}
 use Rattle.jls_partial.specs.Partial.{PartialPicture}
 use Rattle.jls_partial.specs.Status.{IsSettled}
-use Rattle.jls_device.specs.Event.{Event, History, opened, not_opened, gave, read_failed, created, not_created, took, write_failed, bytes_taken}
+use Rattle.jls_device.specs.Event.{Event, History, GrewBy, opened, not_opened, gave, read_failed, created, not_created, took, write_failed, bytes_taken}
 use Rattle.jls_device.specs.Writing.{Printed, AreWrites}
-use Rattle.jls_station.specs.Inputs.{Given, StopsAt, not_there, refused, other_shape, no_memory}
+use Rattle.jls_station.specs.Given.{Given}
+use Rattle.jls_station.specs.Inputs.{IsTaken, StopsAt, not_there, refused, other_shape, no_memory}
 use Rattle.jls_station.specs.Joining as joining
 use Rattle.jls_station.specs.Joining.{JoinIsDone, Joins}
 use Rattle.jls_station.specs.Outputs as outputs
@@ -20,21 +21,23 @@ use Rattle.jls_station.specs.declared.input.InputFault.TheVariants as fault
 use Rattle.jls_station.specs.declared.outcome.Outcome.{Outcome}
 use Rattle.jls_station.specs.declared.outcome.Outcome.TheVariants.{Done}
 use Rattle.jls_commands.specs.Telling as telling
-use Rattle.jls_commands.specs.Telling.{Tells, report_lines}
+use Rattle.jls_commands.specs.Telling.{Tells, lines}
 use Rattle.jls_commands.specs.WritingFiles as writing
 use Rattle.jls_commands.specs.WritingFiles.{WritesFile, unsettled_cause}
+use Rattle.jls_picture.specs.Unsettled.{NamesFirstUnsettled}
 use Rattle.jls_picture.specs.declared.picture.PictureFault.{PictureFault}
 use Rattle.jls_picture.specs.declared.picture.PictureFault.TheVariants.{Unsettled}
 use Rattle.jls_commands.specs.declared.writing.Format.TheVariants.{Pnm}
 use Rattle.jls_words.specs.Asking.{Asked, ReadsAs}
 use Rattle.jls_program.specs.FaultLines.{fault_line}
 use Rattle.jls_program.specs.Runs.{CameOf, Run, came_of, misused, helped, help_cut, nothing_begun, nothing_asked}
-use Rattle.jls_program.specs.Laws.{JoinRan, DoneJoinsRan, ShowRan, DoneShowsRan, WriteRan, DoneWritesRan}
+use Rattle.jls_program.specs.Laws.{JoinRan, DoneJoinsRan, TellRan, DoneChecksRan, DoneShowsRan, WriteRan, DoneWritesRan, UnsettledWritesStop}
 
 -- ---- what stops a command
 
 status_of_input_fault : (f : InputFault) → 3 ≤ status_of_cause (cause.Input f)
 status_of_input_fault (fault.Text f) = omega arith
+status_of_input_fault (fault.NoPicture f offset) = omega arith
 status_of_input_fault (fault.Read stop offset) = omega arith
 status_of_input_fault fault.OutOfMemory = omega arith
 
@@ -129,10 +132,10 @@ join_finished out names _ events desk desk' (joining.at_input _ _ _ r _ h) e le 
 join_finished out names _ events desk desk' (joining.no_memory _ _ _ r p whole _ named is h) e le = let k = status_of_memory r.cause is in absurd (omega (arith, k, le))
 join_finished out names _ _ desk desk' (joining.at_output _ _ _ r p whole reading writing named h stops) e le = let k = status_at_output out _ r.cause writing stops in absurd (omega (arith, k, le))
 
-show_finished : (name : Text) (outcome : Outcome) (events reported : List Event) (desk desk' report report' : History) → Tells (λ g. report_lines g.partial) name outcome events reported
+tell_finished : (traced : Bool) (name : Text) (outcome : Outcome) (events reported : List Event) (desk desk' report report' : History) → Tells (lines traced) name outcome events reported
     → desk' ≡ desk ++ events → report' ≡ report ++ reported → status_of outcome ≤ 1
-    → (g : Given) × ShowRan name g (status_of outcome) desk desk' report report' × (fault_line outcome ≡ [])
-show_finished name _ events reported desk desk' report report' (telling.done _ g settled whole _ _ taken says wrote) e d le =
+    → (g : Given) × TellRan traced name g (status_of outcome) desk desk' report report' × (fault_line outcome ≡ [])
+tell_finished traced name _ events reported desk desk' report report' (telling.done _ g settled whole _ _ taken says wrote) e d le =
     let s = done_status settled whole g.partial says.settled_is le in (
       g,
       record {
@@ -143,10 +146,10 @@ show_finished name _ events reported desk desk' report report' (telling.done _ g
       },
       refl,
     )
-show_finished name _ events _ desk desk' report report' (telling.at_input _ r _ named h) e d le =
+tell_finished traced name _ events _ desk desk' report report' (telling.at_input _ r _ named h) e d le =
     let k = status_at_input None [] name r.cause events h in absurd (omega (arith, k, le))
-show_finished name _ events _ desk desk' report report' (telling.no_memory _ r g _ is taken) e d le = let k = status_of_memory r.cause is in absurd (omega (arith, k, le))
-show_finished name _ events reported desk desk' report report' (telling.not_printed _ r g count _ _ named is taken wrote) e d le =
+tell_finished traced name _ events _ desk desk' report report' (telling.no_memory _ r g _ named is taken) e d le = let k = status_of_memory r.cause is in absurd (omega (arith, k, le))
+tell_finished traced name _ events reported desk desk' report report' (telling.not_printed _ r g count _ _ named is taken wrote) e d le =
     let k = status_of_cut r.cause count is in absurd (omega (arith, k, le))
 
 write_finished : (out name : Text) (outcome : Outcome) (events : List Event) (desk desk' : History) → WritesFile Pnm out name outcome events → desk' ≡ desk ++ events → status_of outcome ≡ 0
@@ -156,9 +159,26 @@ write_finished out name _ _ desk desk' (writing.done _ _ _ g whole reading writt
     (g, record { reading = reading; writing = written; grew = e; taken = taken; whole = says.whole_is.0 s.1; settled = settled; handed = handed }, refl)
 write_finished out name _ events desk desk' (writing.at_input _ _ _ r _ named h) e is =
     let k = status_at_input None [] name r.cause events h in absurd (omega (arith, k, is))
-write_finished out name _ events desk desk' (writing.unsettled _ _ _ r g f _ taken first because) e is =
+write_finished out name _ events desk desk' (writing.unsettled _ _ _ r g f _ named taken first because) e is =
     let k = status_of_unsettled g.partial f r.cause because in absurd (omega (arith, k, is))
 write_finished out name _ _ desk desk' (writing.at_output _ _ _ r g reading written named taken settled stops) e is =
+    let k = status_at_output out _ r.cause written stops in absurd (omega (arith, k, is))
+
+not_settled : (p : PartialPicture) (f : PictureFault) → NamesFirstUnsettled p f → IsSettled p → ⊥
+not_settled p (Unsettled component line) first settled =
+    first.first_line.unsettled (settled component first.first_line.component_in line first.first_line.line_in)
+
+write_stopped : (out name : Text) (outcome : Outcome) (events : List Event) (desk desk' : History) → WritesFile Pnm out name outcome events → desk' ≡ desk ++ events → status_of outcome ≡ 1
+    → (g : Given) × GrewBy (IsTaken None name g) desk desk' × (IsSettled g.partial → ⊥)
+write_stopped out name _ _ desk desk' (writing.done _ _ _ g whole reading written taken settled says handed) e is =
+    let s = done_status true whole g.partial says.settled_is (omega (arith, is)) in
+    let zero = s.0.1 settled in
+    absurd (omega (arith, is, zero))
+write_stopped out name _ events desk desk' (writing.at_input _ _ _ r _ named h) e is =
+    let k = status_at_input None [] name r.cause events h in absurd (omega (arith, k, is))
+write_stopped out name _ events desk desk' (writing.unsettled _ _ _ r g f _ named taken first because) e is =
+    (g, record { events = events; grew = e; they_are = taken }, not_settled g.partial f first)
+write_stopped out name _ _ desk desk' (writing.at_output _ _ _ r g reading written named taken settled stops) e is =
     let k = status_at_output out _ r.cause written stops in absurd (omega (arith, k, is))
 
 -- ---- the laws
@@ -173,12 +193,21 @@ joins_finished words status desk desk' report report' faults faults' ran out nam
       unchanged faults faults' ran.fault_events ran.faults_are (none_printed ran.fault_events (subst (λ (line : List ℕ). Printed line ran.fault_events) f.2 c.printed)),
     )
 
+pub checks_finished : DoneChecksRan
+checks_finished words status desk desk' report report' faults faults' ran name k le =
+    let c = came_of_run words status ran.desk_events ran.report_events ran.fault_events ran.run _ k le in
+    let f = tell_finished true name c.outcome ran.desk_events ran.report_events desk desk' report report' c.came ran.desk_is ran.report_is (omega (arith, le, c.status_is)) in (
+      f.0,
+      subst (λ (s : ℕ). TellRan true name f.0 s desk desk' report report') (sym c.status_is) f.1,
+      unchanged faults faults' ran.fault_events ran.faults_are (none_printed ran.fault_events (subst (λ (line : List ℕ). Printed line ran.fault_events) f.2 c.printed)),
+    )
+
 pub shows_finished : DoneShowsRan
 shows_finished words status desk desk' report report' faults faults' ran name k le =
     let c = came_of_run words status ran.desk_events ran.report_events ran.fault_events ran.run _ k le in
-    let f = show_finished name c.outcome ran.desk_events ran.report_events desk desk' report report' c.came ran.desk_is ran.report_is (omega (arith, le, c.status_is)) in (
+    let f = tell_finished false name c.outcome ran.desk_events ran.report_events desk desk' report report' c.came ran.desk_is ran.report_is (omega (arith, le, c.status_is)) in (
       f.0,
-      subst (λ (s : ℕ). ShowRan name f.0 s desk desk' report report') (sym c.status_is) f.1,
+      subst (λ (s : ℕ). TellRan false name f.0 s desk desk' report report') (sym c.status_is) f.1,
       unchanged faults faults' ran.fault_events ran.faults_are (none_printed ran.fault_events (subst (λ (line : List ℕ). Printed line ran.fault_events) f.2 c.printed)),
     )
 
@@ -191,3 +220,8 @@ writes_finished words status desk desk' report report' faults faults' ran out na
       unchanged report report' ran.report_events ran.report_is c.came.1,
       unchanged faults faults' ran.fault_events ran.faults_are (none_printed ran.fault_events (subst (λ (line : List ℕ). Printed line ran.fault_events) f.2 c.printed)),
     )
+
+pub writes_stopped : UnsettledWritesStop
+writes_stopped words status desk desk' report report' faults faults' ran out name k is =
+    let c = came_of_run words status ran.desk_events ran.report_events ran.fault_events ran.run _ k (omega (arith, is)) in
+    write_stopped out name c.outcome ran.desk_events desk desk' c.came.0 ran.desk_is (omega (arith, is, c.status_is))

@@ -1,5 +1,6 @@
 -- The line on the fault output.
 use Rattle.std.specs.Prelude.{ℕ, Bool, List, [], ◌++◌, codes, decimal, if◌then◌else◌}
+use Rattle.jls_marker.specs.Faults.{fault_number}
 use Rattle.jls_partial.specs.declared.text_fault.TextFault.{TextFault}
 use Rattle.jls_partial.specs.declared.text_fault.TextFault.TheVariants as text_fault
 use Rattle.jls_station.specs.declared.input.InputFault.TheVariants as fault
@@ -30,6 +31,11 @@ text_fault_line name (text_fault.Sample offset) = bad_text_line name (codes ": b
 text_fault_line name (text_fault.Trailing offset) = bad_text_line name (codes ": bad text, trailing at ") offset
 text_fault_line name text_fault.OutOfMemory = out_of_memory_line
 
+-- the line of a copy of this name in which no frame was taken: the number of its fault, and the offset
+abbrev pub no_picture_line : List ℕ → ℕ → ℕ → List ℕ
+no_picture_line name number offset =
+    codes "jls-salvage: " ++ (name ++ (codes ": no picture, fault " ++ (decimal number ++ (codes " at " ++ (decimal offset ++ codes "\n")))))
+
 -- the line of a picture's line that is disputed, or missing
 abbrev pub unsettled_line : ℕ → ℕ → Bool → List ℕ
 unsettled_line id line disputed =
@@ -40,6 +46,7 @@ unsettled_line id line disputed =
 abbrev pub cause_line : List ℕ → Cause → List ℕ
 cause_line name cause.NotOpened = codes "jls-salvage: " ++ (name ++ codes ": cannot be opened\n")
 cause_line name (cause.Input (fault.Text f)) = text_fault_line name f
+cause_line name (cause.Input (fault.NoPicture f offset)) = no_picture_line name (fault_number f) offset
 cause_line name (cause.Input (fault.Read stop offset)) = codes "jls-salvage: " ++ (name ++ codes ": read failed\n")
 cause_line name (cause.Input fault.OutOfMemory) = out_of_memory_line
 cause_line name cause.ShapeDiffers = codes "jls-salvage: " ++ (name ++ codes ": shape differs\n")

@@ -1,5 +1,5 @@
 -- What a copy gives, where its reading has stopped.
-use Rattle.std.proofs.Common.{◌≡◌, ◌<◌, ◌≤◌, ℕ, true, false, List, [], Option, Some, None, length, refl, sym, subst, ap, ◌∙◌}
+use Rattle.std.proofs.Common.{◌≡◌, ℕ, false, List, Option, Some, None, length, refl, sym, subst, ap, ◌∙◌}
 use Rattle.std.specs.Prelude.{IfSome, IsSomeAnd}
 use Rattle.jls_partial.specs.Partial.{PartialPicture}
 use Rattle.jls_copy.specs.CopyReads.{CopyReads, CopyGivesNone}
@@ -8,7 +8,7 @@ use Rattle.jls_copy.specs.declared.end.End.{End}
 use Rattle.jls_copy.specs.declared.piece.PieceRecord.{PieceRecord}
 use Rattle.jls_copy.specs.declared.reader.CopyFault.{CopyFault}
 use Rattle.jls_device.specs.Event.{History, GrewBy}
-use Rattle.jls_station.specs.Given.{Given, FoundCopy, Gives, by_copy, found_in, given_by_copy}
+use Rattle.jls_station.specs.Given.{Given, by_copy, given_by_copy}
 use Rattle.jls_station.specs.InputFaults.{input_fault_of_copy}
 use Rattle.jls_station.specs.Inputs.{IsCopyDone, ReadsGive, ReadsRefuse}
 use Rattle.jls_station.specs.Reading.{IsRead}

@@ -13,7 +13,7 @@ use Rattle.clap.specs.declared.error.Error.{Error}
 use Rattle.clap.specs.declared.error.kind.ErrorKind.TheVariants as kind
 use Rattle.clap.specs.declared.parser.matches.Found.{Found}
 use Rattle.clap.proofs.WalkLemmas.{first_value-rows, raw_values-rows}
-use Rattle.jls_words.specs.Asking.{Asked, asked_by, asked_join, asked_show, asked_write}
+use Rattle.jls_words.specs.Asking.{Asked, asked_by, asked_check, asked_join, asked_show, asked_write}
 use Rattle.jls_words.specs.Words.{AreRefused, AreTaken, salvage_app}
 use Rattle.jls_words.proofs.WordsTaken.{is_simple_command}
 
@@ -34,18 +34,23 @@ entered_rows m name rows e h = both_parts _ _ (out-ArgMatches m).subcommand name
 
 -- what a command asks for, by its name
 module _ (name : Text) (rows : List Row) where
-  pub asks_join : bytes_eq name (codes "join") ≡ true → asked_by name rows ≡ asked_join (first_of (codes "OUT") rows) (all_of (codes "FILE") rows)
-  asks_join e = rw e refl
+  pub asks_check : bytes_eq name (codes "check") ≡ true → asked_by name rows ≡ asked_check (first_of (codes "FILE") rows)
+  asks_check e = rw e refl
 
-  pub asks_show : bytes_eq name (codes "join") ≡ false → bytes_eq name (codes "show") ≡ true → asked_by name rows ≡ asked_show (first_of (codes "FILE") rows)
-  asks_show d e = rw (d, e) refl
+  module _ (not_check : bytes_eq name (codes "check") ≡ false) where
+    pub asks_join : bytes_eq name (codes "join") ≡ true → asked_by name rows ≡ asked_join (first_of (codes "OUT") rows) (all_of (codes "FILE") rows)
+    asks_join e = rw (not_check, e) refl
 
-  pub asks_write : bytes_eq name (codes "join") ≡ false → bytes_eq name (codes "show") ≡ false → bytes_eq name (codes "write") ≡ true
-      → asked_by name rows ≡ asked_write (first_of (codes "as") rows) (first_of (codes "OUT") rows) (first_of (codes "FILE") rows)
-  asks_write d e f = rw (d, e, f) refl
+    module _ (not_join : bytes_eq name (codes "join") ≡ false) where
+      pub asks_show : bytes_eq name (codes "show") ≡ true → asked_by name rows ≡ asked_show (first_of (codes "FILE") rows)
+      asks_show e = rw (not_check, not_join, e) refl
 
-  pub asks_nothing : bytes_eq name (codes "join") ≡ false → bytes_eq name (codes "show") ≡ false → bytes_eq name (codes "write") ≡ false → asked_by name rows ≡ None
-  asks_nothing d e f = rw (d, e, f) refl
+      pub asks_write : bytes_eq name (codes "show") ≡ false → bytes_eq name (codes "write") ≡ true
+          → asked_by name rows ≡ asked_write (first_of (codes "as") rows) (first_of (codes "OUT") rows) (first_of (codes "FILE") rows)
+      asks_write d e = rw (not_check, not_join, d, e) refl
+
+      pub asks_nothing : bytes_eq name (codes "show") ≡ false → bytes_eq name (codes "write") ≡ false → asked_by name rows ≡ None
+      asks_nothing d e = rw (not_check, not_join, d, e) refl
 
 -- and so what the words ask for
 pub asked_entered : (m : ArgMatches) (name : Text) (rows : List Row) (a : Option Asked) → subcommand_rows_of m ≡ Some (name, rows) → asked_by name rows ≡ a

@@ -4,7 +4,7 @@ use Rattle.std.specs.Prelude.{codes}
 use Rattle.clap.specs.Words.{Text, is_simple_and_free}
 use Rattle.clap.proofs.OnLiterals.{clap_on_literals}
 use Rattle.jls_words.specs.Words.{salvage_app}
-use Rattle.jls_words.specs.Asking.{ReadsAs, AskForNothing, join, show, write_pnm}
+use Rattle.jls_words.specs.Asking.{ReadsAs, AskForNothing, check, join, show, write_pnm}
 
 -- `jls-salvage join OUT A B`
 abbrev pub two_files : List Text
@@ -14,9 +14,9 @@ two_files = codes "jls-salvage" ∷ codes "join" ∷ codes "OUT" ∷ codes "A" �
 abbrev pub dashes : List Text
 dashes = codes "jls-salvage" ∷ codes "join" ∷ codes "-" ∷ codes "-" ∷ []
 
--- `jls-salvage show A`
-abbrev pub one_file : List Text
-one_file = codes "jls-salvage" ∷ codes "show" ∷ codes "A" ∷ []
+-- `jls-salvage COMMAND A`
+abbrev pub one_file : Text → List Text
+one_file command = codes "jls-salvage" ∷ command ∷ codes "A" ∷ []
 
 -- `jls-salvage write --as FORMAT OUT A`
 abbrev pub as_format : Text → List Text
@@ -35,7 +35,11 @@ pub dashes-join : ReadsAs dashes (join (codes "-") (codes "-" ∷ []))
 unfolding clap_on_literals
 dashes-join = record { taken = inl refl; asks = refl }
 
-pub one_file-show : ReadsAs one_file (show (codes "A"))
+pub one_file-check : ReadsAs (one_file (codes "check")) (check (codes "A"))
+unfolding clap_on_literals
+one_file-check = record { taken = inl refl; asks = refl }
+
+pub one_file-show : ReadsAs (one_file (codes "show")) (show (codes "A"))
 unfolding clap_on_literals
 one_file-show = record { taken = inl refl; asks = refl }
 

@@ -8,6 +8,7 @@ use Rattle.jls_words.specs.declared.asked.Asked.TheVariants as asked
 
 -- a command with its words: the output stands before the inputs
 pub data Asked : Type 0 where
+  check : Text → Asked
   join : Text → List Text → Asked
   show : Text → Asked
   write_pnm : Text → Text → Asked
@@ -17,6 +18,9 @@ pub data Asked : Type 0 where
 abbrev pub asked_join : Option Text → Option (List Text) → Option Asked
 asked_join (Some out) (Some (first ∷ others)) = Some (join out (first ∷ others))
 asked_join _ _ = None
+
+abbrev pub asked_check : Option Text → Option Asked
+asked_check file = option_map check file
 
 abbrev pub asked_show : Option Text → Option Asked
 asked_show file = option_map show file
@@ -31,7 +35,8 @@ asked_write _ _ _ = None
 -- the command of this name, whose arguments have these values, asks for this
 abbrev pub asked_by : Text → List Row → Option Asked
 asked_by name rows =
-    if bytes_eq name (codes "join") then asked_join (first_of (codes "OUT") rows) (all_of (codes "FILE") rows)
+    if bytes_eq name (codes "check") then asked_check (first_of (codes "FILE") rows)
+    else if bytes_eq name (codes "join") then asked_join (first_of (codes "OUT") rows) (all_of (codes "FILE") rows)
     else if bytes_eq name (codes "show") then asked_show (first_of (codes "FILE") rows)
     else if bytes_eq name (codes "write") then
     asked_write (first_of (codes "as") rows) (first_of (codes "OUT") rows) (first_of (codes "FILE") rows)
@@ -54,5 +59,6 @@ pub record AskForNothing (words : List Text) : Type 0 where
 -- what is asked, as the code has it
 abbrev pub asked_of : AskedValue → Asked
 asked_of (asked.Join out first others) = join out.now (first.now ∷ map (λ f. f.now) others.now)
+asked_of (asked.Check file) = check file.now
 asked_of (asked.Show file) = show file.now
 asked_of (asked.WritePnm out file) = write_pnm out.now file.now

@@ -23,6 +23,9 @@ join_app = with_rule (with_rule (new_app (codes "join")) (word_rule (codes "OUT"
 abbrev pub show_app : App
 show_app = with_rule (new_app (codes "show")) (word_rule (codes "FILE"))
 
+abbrev pub check_app : App
+check_app = with_rule (new_app (codes "check")) (word_rule (codes "FILE"))
+
 abbrev pub write_app : App
 write_app = with_rule (with_rule (with_rule (new_app (codes "write")) as_rule) (word_rule (codes "OUT"))) (word_rule (codes "FILE"))
 
@@ -31,7 +34,7 @@ abbrev pub bare_app : App
 bare_app = let app = new_app (codes "jls-salvage") in record app { top = record app.top { has_version = true; subcommand_required = true } }
 
 abbrev pub salvage_app : App
-salvage_app = with_subcommand (with_subcommand (with_subcommand bare_app show_app.top) join_app.top) write_app.top
+salvage_app = with_subcommand (with_subcommand (with_subcommand (with_subcommand bare_app check_app.top) show_app.top) join_app.top) write_app.top
 
 -- by clap's own definitions the program takes the words, or there is no fault in them
 abbrev pub AreTaken : List Text → Type 0

@@ -10,6 +10,10 @@ use clap::ArgMatches;
 /// A command of the program with its words.
 #[derive(Clone, Copy, Debug, PartialEq, Eq)]
 pub enum Asked<'m, 'a> {
+    /// To print the trace and the report of the input.
+    Check {
+        file: &'a str,
+    },
     /// To join the inputs, of which there is a first.
     Join {
         out: &'a str,
@@ -35,6 +39,15 @@ fn asked_join<'m, 'a>(out: Option<&'a str>, files: Option<&'m [&'a str]>) -> Opt
         return None;
     };
     Some(Asked::Join { out, first, others })
+}
+
+fn asked_check<'m, 'a>(file: Option<&'a str>) -> Option<Asked<'m, 'a>>
+    ensures { option_map asked_of result ≡ spec.asked_check (option_map (λ s. s.now) file.entry) }
+{
+    match file {
+        Some(file) => Some(Asked::Check { file }),
+        None => None,
+    }
 }
 
 fn asked_show<'m, 'a>(file: Option<&'a str>) -> Option<Asked<'m, 'a>>
@@ -72,7 +85,9 @@ pub fn asked_command<'m, 'a>(matches: &'m ArgMatches<'a>) -> Option<Asked<'m, 'a
         Some((name, given)) => (name, given),
         None => return None,
     };
-    if name == "join" {
+    if name == "check" {
+        asked_check(given.get_str("FILE"))
+    } else if name == "join" {
         asked_join(given.get_str("OUT"), given.get_strs("FILE"))
     } else if name == "show" {
         asked_show(given.get_str("FILE"))

@@ -4,7 +4,7 @@ ghost use Rattle.std.specs.Prelude.{◌≡◌, ◌⊎◌, false, [], IfOk, IfErr
 ghost use Rattle.std.specs.String.{string_bytes};
 ghost use Rattle.clap.specs.Words.{app_of, fault_of, kind_of, new_app, rule_of, subcommand_of, subcommand_rows_of};
 ghost use Rattle.clap.specs.declared.builder.command.Command.TheViews.{out-Command};
-ghost use Rattle.jls_words.specs.Words.{as_rule, AreRefused, AreTaken, files_rule, join_app, salvage_app, show_app, word_rule, write_app};
+ghost use Rattle.jls_words.specs.Words.{as_rule, AreRefused, AreTaken, check_app, files_rule, join_app, salvage_app, show_app, word_rule, write_app};
 
 use crate::texts;
 use clap::error::ErrorKind;
@@ -44,6 +44,14 @@ fn bare<'a>(alloc: Global, name: &'a str, about: &'a str, notes: &'a str) -> Com
     Command::new(alloc, name).about(about).after_help(notes)
 }
 
+fn check_command<'a>(alloc: Global) -> Result<Command<'a>, AllocError>
+    ensures app { IfOk result (λ c. app_of c ≡ check_app) }
+    ensures local { IfOk result (λ c. (out-Command c).has_globals ≡ false) }
+{
+    let check = bare(alloc, "check", texts::CHECK_ABOUT, texts::CHECK_NOTES);
+    check.arg(word(alloc, "FILE", texts::FILE_HELP))
+}
+
 fn show_command<'a>(alloc: Global) -> Result<Command<'a>, AllocError>
     ensures app { IfOk result (λ c. app_of c ≡ show_app) }
     ensures local { IfOk result (λ c. (out-Command c).has_globals ≡ false) }
@@ -77,7 +85,8 @@ fn command<'a>(alloc: Global) -> Result<Command<'a>, AllocError>
 {
     let bare = bare(alloc, "jls-salvage", texts::ABOUT, texts::EXAMPLES);
     let salvage = bare.version("0.1.0").subcommand_required(true);
-    let shows = salvage.subcommand(show_command(alloc)?)?;
+    let checks = salvage.subcommand(check_command(alloc)?)?;
+    let shows = checks.subcommand(show_command(alloc)?)?;
     let joins = shows.subcommand(join_command(alloc)?)?;
     joins.subcommand(write_command(alloc)?)
 }

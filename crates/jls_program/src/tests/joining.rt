@@ -32,9 +32,14 @@ join OUT third => 3 third: bad text, magic at 4
 join OUT precision => 3 precision: bad text, shape at 5
 join OUT none => 3 none: bad text, count at 19
 join OUT below => 3 below: bad text, place at 16
-join OUT empty => 3 empty: bad text, truncated at 0
-join OUT copy => 3 copy: bad text, magic at 0
-join OUT T dot A => 3 dot: bad text, magic at 0
+join OUT empty => 3 empty: no picture, fault 19 at 0
+join OUT copy => 3 copy: no picture, fault 4 at 2
+join OUT T dot A => 3 dot: no picture, fault 18 at 0
+join OUT lost struck => 0 ten
+join OUT struck lost => 0 ten
+join OUT lost struck lost => 0 ten
+join OUT ten beyond => 0 ten
+join OUT T whole => 3 whole: shape differs
 join OUT A dot => 4 A: cannot be opened
 join OUT T S U => 3 U: shape differs";
 

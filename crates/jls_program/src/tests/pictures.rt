@@ -1,5 +1,6 @@
-//! Partial pictures as files: four of one shape, others of other shapes, and bytes that are no text of one.
+//! Partial pictures as files: four of one shape, others of other shapes, and bytes that are no text of one; and copies.
 
+use super::copies;
 use super::memory::File;
 
 /// A picture of one line with one sample: the line has the readings 3 and 5, under no source.
@@ -52,7 +53,7 @@ JLSP\x01\x08\0\x01\0\x01\x02\x01\x02\0\0\0\x02\0\0\0\0\0\0\0\0\0\0\x01\0\x0a\x01
 \0\0\0\0\x01\0\x0a";
 
 /// The files of the desk.
-pub(super) const FILES: [File<'static>; 26] = [
+pub(super) const FILES: [File<'static>; 33] = [
     ("T", DISPUTED),
     ("S", SETTLED),
     ("N", BARE),
@@ -106,6 +107,13 @@ pub(super) const FILES: [File<'static>; 26] = [
         "below",
         b"JLSP\x01\x08\0\x01\0\x01\x01\x01\0\0\0\x01\0\0\x01\0\0\0\0\0\0\0\x02\0\x03\0\x05",
     ),
+    ("whole", copies::WHOLE),
+    ("lost", copies::LOST),
+    ("struck", copies::STRUCK),
+    ("beyond", copies::BEYOND),
+    ("seven", copies::SEVEN),
+    ("near", copies::NEAR),
+    ("front", copies::FRONT),
     ("empty", b""),
     ("copy", b"\xff\xd8\xff\xd9"),
     ("dot", b"."),

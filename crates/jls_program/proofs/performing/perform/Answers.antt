@@ -19,6 +19,13 @@ returns-in-Join g c =
     subst (λ (a : Asked). GrewBoth (CameOf (asked_of a) c.join.result) desk desk' report report) (sym c.in-Join.is)
     (desk_alone (Joins None c.in-Join.out.now names c.join.result) desk desk' report c.join.ensures)
 
+pub returns-in-Check : goal.returns-in-Check
+returns-in-Check g c =
+    let desk = g.D.Device.history in
+    let report = g.W.Device.history in
+    subst (λ (a : Asked). GrewBoth (CameOf (asked_of a) c.check.result) (desk c.args.desk.now) (desk c.check.new.desk) (report c.args.report.now) (report c.check.new.report))
+    (sym c.in-Check.is) c.check.ensures
+
 pub returns-in-Show : goal.returns-in-Show
 returns-in-Show g c =
     let desk = g.D.Device.history in

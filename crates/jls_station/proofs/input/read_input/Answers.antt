@@ -1,4 +1,4 @@
-use Rattle.std.proofs.Common.{rules, ◌≡◌, ◌<◌, ◌≤◌, ℕ, List, [], ap, refl, sym, subst, ◌∙◌, arith, length, take}
+use Rattle.std.proofs.Common.{rules, ◌≡◌, ◌<◌, ℕ, List, [], ap, refl, sym, subst, arith, length, take}
 use Rattle.std.proofs.lemmas.List.{length-take}
 use Rattle.jls_marker.specs.declared.fault.MarkerFault.TheVariants as marker
 use Rattle.jls_device.specs.Event.{GrewBy}

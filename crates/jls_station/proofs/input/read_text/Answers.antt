@@ -1,7 +1,7 @@
-use Rattle.std.proofs.Common.{rules, None, ◌≡◌, ℕ, List, true, ap, refl, sym, subst, ◌∙◌, arith, length}
+use Rattle.std.proofs.Common.{rules, None, ◌≡◌, ℕ, List, sym, subst, ◌∙◌, arith, length}
 use Rattle.jls_partial.specs.TextReading.{Fails, read_text}
 use Rattle.jls_device.specs.Event.{History, GrewBy}
-use Rattle.jls_station.specs.Given.{Given, Gives, by_text, given_by_text}
+use Rattle.jls_station.specs.Given.{Given, by_text, given_by_text}
 use Rattle.jls_station.specs.Inputs.{IsEnough, text_not_read, ReadsGive, ReadsRefuse}
 use Rattle.jls_station.specs.Reading.{IsRead, ReadSoFar}
 use Rattle.jls_station.specs.Texts.{is_text, IsTextOf}

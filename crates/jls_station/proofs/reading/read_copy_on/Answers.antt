@@ -1,11 +1,11 @@
-use Rattle.std.proofs.Common.{rules, ◌≡◌, ◌<◌, ◌≤◌, ◌+◌, ◌++◌, ◌∙◌, ap, subst, List, ℕ, arith, take, length}
+use Rattle.std.proofs.Common.{rules, ◌≡◌, ◌<◌, ◌+◌, ◌++◌, ◌∙◌, ap, subst, List, ℕ, arith, take, length}
 use Rattle.std.proofs.lemmas.List.{length-take}
 use Rattle.jls_copy.specs.ReadCopy.{after}
 use Rattle.jls_device.specs.Event.{GrewBy}
 use Rattle.jls_station.specs.Inputs.{IsCopyDone}
 use Rattle.jls_station.specs.Reading.{AreBytes, IsRead, IsReadInPart}
 use Rattle.jls_station.specs.declared.input.ReadStop.TheVariants.{Whole, Failed}
-use Rattle.jls_station.proofs.CopySteps.{CopySoFar, of_reader, goes_on, copy_more}
+use Rattle.jls_station.proofs.CopySteps.{of_reader, goes_on, copy_more}
 use Rattle.jls_station.proofs.OneInput.{on_error, one_read_more, read_to_end, read_to_failure, read_in_part}
 use Rattle.jls_station.proofs.reading.read_copy_on.Goals as goal
 

@@ -1,4 +1,3 @@
-use Rattle.std.proofs.Common.{◌≤◌}
 use Rattle.jls_station.proofs.CopySteps.{CopySoFar}
 use Rattle.jls_station.proofs.reading.read_copy_on.Given as goal
 

@@ -1,4 +1,4 @@
-use Rattle.std.proofs.Common.{◌≡◌, ◌≤◌, ℕ, List, Option, true}
+use Rattle.std.proofs.Common.{◌≡◌, ℕ, List, Option, true}
 use Rattle.std.specs.Io.KnownBytes.{Consumes}
 use Rattle.jls_device.specs.Event.{History, GrewBy}
 use Rattle.jls_station.specs.Inputs.{IsEnough}

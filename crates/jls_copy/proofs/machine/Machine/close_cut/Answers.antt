@@ -1,0 +1,6 @@
+use Rattle.std.proofs.Common.{◌≡◌, Some}
+use Rattle.jls_copy.specs.Findings.{HoldsShape}
+use Rattle.jls_copy.proofs.machine.Machine.close_cut.Goals as goal
+
+pub close_cut-requires-clause-held : goal.close_cut-requires-clause-held
+close_cut-requires-clause-held c = c.requires.held c.in-Some.shape.now c.in-Some.ensures.some
