@@ -84,10 +84,13 @@ fn readings_and_their_sources(rt: HostRuntime) -> Result<(), Fail> {
     two.mark(2)?;
     assert!(rt; seven != two);
     assert!(rt; !seven.insert(0, 0, &[3])?);
+    assert_eq!(rt; seven.count(0, 0), 1);
     assert_eq!(rt; seven.sources(0, 0, 0), [7].as_slice());
 
-    let mut other = Partial::from_bytes(rt.alloc(), &ONE_READING)?;
+    let mut other = Partial::empty(rt.alloc(), Shape::new(8, 1, 1, &[1])?);
+    other.insert(0, 0, &[0])?;
     other.merge(&seven)?;
+    assert_eq!(rt; other.count(0, 0), 2);
     assert!(rt; other.sources(0, 0, 0).is_empty());
     assert_eq!(rt; other.sources(0, 0, 1), [7].as_slice());
 
@@ -103,6 +106,7 @@ fn readings_and_their_sources(rt: HostRuntime) -> Result<(), Fail> {
     two.merge(&seven)?;
     seven.merge(&two)?;
     assert!(rt; seven == two);
+    assert_eq!(rt; two.count(0, 0), 1);
     assert_eq!(rt; two.sources(0, 0, 0), [2, 7].as_slice());
     assert_eq!(rt;
         two.to_bytes(rt.alloc())?.as_slice(),
