@@ -73,36 +73,38 @@ fn merged_with_itself_and_again(rt: HostRuntime) -> Result<(), Fail> {
 }
 
 #[test]
-fn readings_and_their_sources(rt: HostRuntime) -> Result<(), Fail> {
+fn sources_of_one_partial(rt: HostRuntime) -> Result<(), Fail> {
     let mut seven = Partial::empty(rt.alloc(), Shape::new(8, 1, 1, &[1])?);
     seven.insert(0, 0, &[3])?;
-    let mut two = Partial::empty(rt.alloc(), Shape::new(8, 1, 1, &[1])?);
-    two.insert(0, 0, &[3])?;
+    let two = Partial::from_bytes(rt.alloc(), &seven.to_bytes(rt.alloc())?)?;
     assert!(rt; seven == two);
     seven.mark(7)?;
     seven.mark(7)?;
-    two.mark(2)?;
     assert!(rt; seven != two);
     assert!(rt; !seven.insert(0, 0, &[3])?);
+    assert_eq!(rt; seven.count(0, 0), 1);
     assert_eq!(rt; seven.sources(0, 0, 0), [7].as_slice());
-
-    let mut other = Partial::from_bytes(rt.alloc(), &ONE_READING)?;
-    other.merge(&seven)?;
-    assert!(rt; other.sources(0, 0, 0).is_empty());
-    assert_eq!(rt; other.sources(0, 0, 1), [7].as_slice());
-
-    let mut both = Partial::empty(rt.alloc(), Shape::new(8, 1, 1, &[1])?);
-    both.insert(0, 0, &[5])?;
-    both.merge(&seven)?;
+    seven.insert(0, 0, &[5])?;
     assert_eq!(rt;
-        both.to_bytes(rt.alloc())?.as_slice(),
+        seven.to_bytes(rt.alloc())?.as_slice(),
         ONE_SOURCE.as_slice()
     );
-    assert!(rt; Partial::from_bytes(rt.alloc(), &ONE_SOURCE)? == both);
+    assert!(rt; Partial::from_bytes(rt.alloc(), &ONE_SOURCE)? == seven);
+    Ok(())
+}
 
+#[test]
+fn sources_of_a_merge(rt: HostRuntime) -> Result<(), Fail> {
+    let mut seven = Partial::empty(rt.alloc(), Shape::new(8, 1, 1, &[1])?);
+    seven.insert(0, 0, &[3])?;
+    seven.mark(7)?;
+    let mut two = Partial::empty(rt.alloc(), Shape::new(8, 1, 1, &[1])?);
+    two.insert(0, 0, &[3])?;
+    two.mark(2)?;
     two.merge(&seven)?;
     seven.merge(&two)?;
     assert!(rt; seven == two);
+    assert_eq!(rt; two.count(0, 0), 1);
     assert_eq!(rt; two.sources(0, 0, 0), [2, 7].as_slice());
     assert_eq!(rt;
         two.to_bytes(rt.alloc())?.as_slice(),

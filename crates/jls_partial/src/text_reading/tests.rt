@@ -43,7 +43,6 @@ fn reads_a_text(rt: HostRuntime) -> Result<(), Fail> {
     wanted.insert(0, 0, &[3])?;
     let read = Partial::from_bytes(rt.alloc(), &TWO_READINGS)?;
     assert!(rt; read == wanted);
-    assert!(rt; read.sources(0, 0, 0).is_empty());
     Ok(())
 }
 
