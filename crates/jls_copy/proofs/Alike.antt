@@ -1,9 +1,8 @@
 -- Two FF bytes stand for any longer run: a piece with two FF in a row has no data bits, whatever stands round them.
-use Rattle.std.proofs.Common.{◌≡◌, ℕ, zero, suc, ◌+◌, ◌*◌, ◌<◌, ◌≤◌, Bool, true, false, not, ◌&&◌, List, [], ◌∷◌, ◌++◌, length, replicate, refl, sym, ap, ◌∙◌, subst, append_assoc, arith, ◌⊎◌, inl, inr}
+use Rattle.std.proofs.Common.{◌≡◌, ℕ, Bool, true, false, not, ◌&&◌, List, [], ◌∷◌, ◌++◌, refl, sym, ap, ◌∙◌, subst, inl, inr}
 use Rattle.jls_bits.specs.Bits.{is_whole, is_whole_after, ends_data}
-use Rattle.jls_interval.specs.Reads.{Reads, IsLong, IsBroken}
 use Rattle.jls_marker.specs.Scan.{Scan}
-use Rattle.jls_copy.specs.Numbers.{Interval, BeyondLast}
+use Rattle.jls_copy.specs.Numbers.{Interval}
 use Rattle.jls_copy.specs.ScanData.{fill_bytes}
 use Rattle.jls_copy.specs.Pieces.{Outcome, Lines, Fault, IsOutcomeAt}
 use Rattle.jls_copy.specs.CutPieces.{IsHeadAt}

@@ -1,5 +1,5 @@
 -- What a copy gives is determined by its bytes.
-use Rattle.std.proofs.Common.{◌≡◌, ℕ, ◌*◌, ◌<◌, ◌⊎◌, inl, inr, Bool, true, false, List, [], ◌∷◌, ◌++◌, length, take, Option, Some, None, refl, sym, ap, ◌∙◌, subst, arith}
+use Rattle.std.proofs.Common.{◌≡◌, ℕ, ◌*◌, ◌<◌, inl, inr, Bool, true, false, List, [], ◌∷◌, ◌++◌, length, take, Option, Some, None, refl, sym, ap, ◌∙◌, subst, arith}
 use Rattle.std.specs.List.{AllByRecursion}
 use Rattle.jls_values.specs.OrderedSet as set
 use Rattle.jls_values.specs.Shape.{PictureShape}
@@ -17,10 +17,9 @@ use Rattle.jls_copy.specs.CutPieces.{closed_by_input, last_piece, cut_pieces, Is
 use Rattle.std.specs.Prelude.{if◌then◌else◌}
 use Rattle.jls_copy.proofs.Alike.{never_both}
 use Rattle.jls_copy.specs.ReadCopy.{ReadCopy}
-use Rattle.jls_copy.specs.CopyReads.{CopyReads, CopyGivesNone, no_picture}
+use Rattle.jls_copy.specs.CopyReads.{CopyReads, no_picture}
 use Rattle.jls_copy.specs.CopyLaws.{BytesDecide}
 use Rattle.jls_copy.specs.declared.piece.PieceKind.TheVariants as kind
-use Rattle.jls_copy.specs.declared.reader.CopyFault.{CopyFault}
 use Rattle.jls_copy.specs.declared.reader.CopyFault.TheVariants.{NoPicture}
 use Rattle.jls_copy.proofs.OneCourse.{one_course}
 use Rattle.jls_copy.proofs.ScansOfCourse.{HasScan, course_has}

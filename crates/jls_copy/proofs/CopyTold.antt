@@ -1,28 +1,23 @@
 -- What a reader answers is what the course of the copy gives.
-use Rattle.std.proofs.Common.{◌≡◌, ℕ, ◌<◌, List, [], ◌∷◌, ◌++◌, length, take, Option, Some, None, refl, sym, ◌∙◌, ap, subst}
+use Rattle.std.proofs.Common.{◌≡◌, ℕ, ◌<◌, List, [], ◌∷◌, ◌++◌, length, take, refl, sym, ◌∙◌, ap}
 use Rattle.std.specs.List.{AllByRecursion}
 use Rattle.jls_values.specs.OrderedSet as set
-use Rattle.jls_partial.specs.Reading as partial
 use Rattle.jls_marker.specs.Scan.{Scan}
 use Rattle.jls_copy.proofs.HeaderFacts.{fault_is_final}
 use Rattle.jls_copy.specs.Numbers.{PieceNumber, Interval, BeyondLast}
 use Rattle.jls_copy.specs.Pieces.{FoundPiece, Outcome, Lines, Fault, IsOutcome, IsOutcomeAt, readings_of, records_of}
 use Rattle.jls_copy.specs.Pieces.{AreOutcomes, readings, records}
-use Rattle.jls_copy.specs.Course.{Course, IsCourse}
 use Rattle.jls_copy.specs.Pieces.{pieces}
 use Rattle.jls_copy.specs.ReaderState.{reading}
 use Rattle.jls_copy.specs.Reader.{all_pieces}
-use Rattle.jls_copy.specs.Conclusion.{Concludes, SaysNone, is_final}
-use Rattle.jls_copy.specs.CopyReads.{CopyReads, CopyGivesNone, IsDone, is_final_end, no_picture}
-use Rattle.std.specs.Prelude.{Bool, true, false, Result, Err}
+use Rattle.jls_copy.specs.Conclusion.{SaysNone, is_final}
+use Rattle.jls_copy.specs.CopyReads.{CopyGivesNone, IsDone, is_final_end, no_picture}
+use Rattle.std.specs.Prelude.{Bool, true, false}
 use Rattle.jls_marker.specs.HeaderState.{HeaderState}
-use Rattle.jls_marker.specs.Headers.{headers_after}
 use Rattle.jls_copy.specs.Course.{EndsHere, at_eoi, at_eoi_before_a_frame, at_no_marker, at_unknown_code, at_short_length, at_refused_segment}
 use Rattle.jls_copy.specs.ReaderState.{end_at}
 use Rattle.jls_copy.specs.Tells.{Tells, EndedAt, ended, without_soi, without_ff}
 use Rattle.jls_copy.specs.declared.end.End.{End}
-use Rattle.jls_copy.specs.declared.end.End.TheVariants.{Eoi, Input, Header}
-use Rattle.jls_marker.specs.declared.fault.MarkerFault.{MarkerFault}
 use Rattle.jls_copy.specs.declared.place.Place.{Place}
 use Rattle.jls_copy.specs.declared.place.Place.TheVariants.{Start, AtMarker, AtLength, InLength, InPayload, InScan, Done}
 use Rattle.jls_copy.proofs.ReadingTells.{readings_tell}
@@ -31,8 +26,6 @@ use Rattle.jls_copy.specs.declared.reader.CopyFault.TheVariants.{NoPicture, OutO
 use Rattle.jls_copy.specs.Tells.{ToldAs, AlikePiece, AlikePieces}
 use Rattle.jls_copy.specs.ReaderLaws.{ConclusionTold}
 use Rattle.jls_copy.specs.declared.piece.PieceKind.TheVariants as kind
-use Rattle.jls_copy.specs.declared.piece.PieceRecord.{PieceRecord}
-use Rattle.jls_copy.specs.ReadCopy.{ReadCopy}
 use Rattle.jls_copy.proofs.Alike.{same_outcome, same_head}
 use Rattle.jls_copy.specs.CutPieces.{IsHeadAt, IsHeadOfCut, head_readings, cut_pieces}
 use Rattle.jls_copy.specs.ReaderState.{closed_at_end}

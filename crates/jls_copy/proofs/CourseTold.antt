@@ -1,24 +1,22 @@
 -- What a reader's place tells is the course of the bytes, and its pieces are those of the course.
-use Rattle.std.proofs.Common.{◌≡◌, ℕ, zero, suc, ◌+◌, ◌*◌, ◌/◌, ◌%◌, ◌^◌, ◌<◌, ◌≢◌, Bool, true, false, List, [], ◌∷◌, ◌++◌, length, Option, Some, None, Result, Ok, Err, refl, sym, ◌∙◌, ap, subst, append_assoc, add-zero, arith, length-append, inl, inr}
+use Rattle.std.proofs.Common.{◌≡◌, ℕ, suc, ◌+◌, ◌/◌, ◌%◌, Bool, true, false, List, [], ◌∷◌, ◌++◌, length, refl, sym, ◌∙◌, ap, subst, append_assoc, add-zero, length-append}
 use Rattle.std.proofs.lemmas.List.{append-nil}
-use Rattle.std.specs.List.{flat_map, AllByRecursion}
 use Rattle.jls_copy.proofs.HeaderFacts.{scans_none, scans_one}
-use Rattle.jls_copy.specs.ScanData.{fill_bytes, ClosedPiece, closed_bytes, ends_scan_data, at_marker}
+use Rattle.jls_copy.specs.ScanData.{fill_bytes, ClosedPiece}
 use Rattle.jls_copy.specs.Numbers.{PieceNumber, Interval}
-use Rattle.jls_marker.specs.HeaderState.{HeaderState, no_headers}
+use Rattle.jls_marker.specs.HeaderState.{HeaderState}
 use Rattle.jls_marker.specs.Scan.{Scan}
-use Rattle.jls_marker.specs.Headers.{headers_after}
 use Rattle.jls_copy.specs.Pieces.{FoundPiece}
-use Rattle.jls_copy.specs.Course.{by_input, by_marker, CopyUnit, segment, scan, segment_bytes, unit_bytes, AreUnits, Ends, for_good, with_the_input, in_a_unit, fill_alone, marker_alone, half_a_length, short_payload, Course, IsCourse, with_soi, with_another_marker, with_no_marker, with_fill_alone}
-use Rattle.jls_copy.specs.Pieces.{pieces_in, pieces, pieces_from, unit_pieces, scans_in}
-use Rattle.jls_copy.specs.CutPieces.{is_cut, closed_by_input, last_piece, cut_pieces}
+use Rattle.jls_copy.specs.Course.{by_input, by_marker, CopyUnit, segment, scan, segment_bytes, unit_bytes, AreUnits, Ends, for_good, with_the_input, in_a_unit, fill_alone, marker_alone, half_a_length, short_payload, IsCourse, with_soi, with_another_marker, with_no_marker, with_fill_alone}
+use Rattle.jls_copy.specs.Pieces.{pieces_in, pieces_from, unit_pieces, scans_in}
+use Rattle.jls_copy.specs.CutPieces.{is_cut, closed_by_input, last_piece}
 use Rattle.std.specs.Prelude.{if◌then◌else◌}
 use Rattle.jls_copy.specs.ReaderState.{reading, found, number_of, end_at, closed_at_end}
-use Rattle.jls_copy.specs.Tells.{AlikePieces, AlikePiece, Passed, passed_soi, passed_segment, passed_scan, Follows, AtSegment, InScanData, EndedAt, ended, without_soi, without_ff, Tells}
+use Rattle.jls_copy.specs.Tells.{AlikePieces, Passed, passed_soi, passed_segment, passed_scan, Follows, EndedAt, ended, without_soi, without_ff, Tells}
 use Rattle.jls_copy.specs.ReaderLaws.{CourseTold, CourseIs}
 use Rattle.jls_marker.specs.declared.fault.MarkerFault.TheVariants as fault
 use Rattle.jls_copy.specs.declared.end.End.{End}
-use Rattle.jls_copy.specs.declared.end.End.TheVariants.{Eoi, Input, Header}
+use Rattle.jls_copy.specs.declared.end.End.TheVariants.{Input, Header}
 use Rattle.jls_copy.specs.declared.place.Place.{Place}
 use Rattle.jls_copy.specs.declared.place.Place.TheVariants.{Start, AtMarker, AtLength, InLength, InPayload, InScan, Done}
 use Rattle.jls_copy.proofs.TellsMore.{fill_length}

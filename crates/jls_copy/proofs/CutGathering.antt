@@ -1,5 +1,5 @@
 -- The input ends, over what a reader holds.
-use Rattle.std.proofs.Common.{◌≡◌, ℕ, ◌+◌, List, [], ◌∷◌, ◌++◌, take, length, Option, Some, None, refl, sym, ap, ◌∙◌, subst, append_assoc, length-append}
+use Rattle.std.proofs.Common.{◌≡◌, ℕ, ◌+◌, List, [], ◌∷◌, ◌++◌, take, length, Option, Some, refl, sym, ap, ◌∙◌, subst, append_assoc, length-append}
 use Rattle.std.proofs.lemmas.List.{append-nil}
 use Rattle.jls_values.specs.OrderedSet as set
 use Rattle.jls_values.specs.OrderedSetLaws.{insert_all-append}
@@ -16,7 +16,7 @@ use Rattle.jls_copy.specs.ReaderState.{reading, end_at, closed_at_end}
 use Rattle.jls_copy.specs.declared.end.End.{End}
 use Rattle.jls_copy.specs.declared.findings.Findings.{Findings}
 use Rattle.jls_copy.specs.declared.machine.Machine.{Machine}
-use Rattle.jls_copy.proofs.Gathering.{are_more, readings_more, records_more, kept_more, none_some}
+use Rattle.jls_copy.proofs.Gathering.{are_more, readings_more, records_more, kept_more}
 use Rattle.jls_partial.specs.Partial.{without_sources}
 
 -- what is kept is what the pieces give, with the readings of the head of the last one

@@ -1,15 +1,14 @@
 -- One byte more, over what a reader holds.
-use Rattle.std.proofs.Common.{◌≡◌, ℕ, zero, suc, ◌+◌, ◌-◌, ◌^◌, ◌<◌, ◌≤◌, Bool, true, false, List, [], ◌∷◌, ◌++◌, take, length, Option, Some, None, refl, sym, ap, ◌∙◌, subst, append_assoc, add-zero, arith, length-append, ◌⊎◌, inl, inr}
+use Rattle.std.proofs.Common.{◌≡◌, ℕ, ◌+◌, ◌-◌, ◌^◌, ◌<◌, ◌≤◌, Bool, true, false, List, [], ◌∷◌, ◌++◌, take, length, Option, Some, None, refl, sym, ap, ◌∙◌, subst, append_assoc, arith, length-append, ◌⊎◌, inl, inr}
 use Rattle.std.proofs.lemmas.List.{append-nil, take_all, take-append-le, length-take}
 use Rattle.std.proofs.lemmas.Bool.{cases_lt}
 use Rattle.std.proofs.lemmas.Bool.Decides.{nat_tests}
 use Rattle.std.specs.Prelude.{nat_lt, ◌==◌, ◌*◌, cond, Result, Ok, Err, IfSome, IfOk, IfErr}
 use Rattle.jls_copy.proofs.HeaderFacts.{frame_kept}
-use Rattle.jls_copy.specs.Conclusion.{Concludes, SaysNone}
+use Rattle.jls_copy.specs.Conclusion.{SaysNone}
 use Rattle.jls_copy.specs.CopyReads.{no_picture}
-use Rattle.jls_copy.specs.ReaderState.{end_at, closed_at_end}
+use Rattle.jls_copy.specs.ReaderState.{end_at}
 use Rattle.jls_copy.specs.declared.end.End.{End}
-use Rattle.jls_copy.specs.ReadCopy.{ReadCopy}
 use Rattle.jls_copy.specs.declared.reader.CopyFault.{CopyFault}
 use Rattle.jls_copy.specs.declared.reader.CopyFault.TheVariants.{NoPicture, OutOfMemory}
 use Rattle.jls_marker.specs.declared.fault.MarkerFault.{MarkerFault}
@@ -18,16 +17,15 @@ use Rattle.jls_values.specs.OrderedSet as set
 use Rattle.jls_values.specs.OrderedSetLaws.{insert_all-append}
 use Rattle.jls_values.specs.Shape.{PictureShape}
 use Rattle.jls_partial.specs.Partial.{PartialPicture, without_sources}
-use Rattle.jls_partial.specs.Reading as partial
 use Rattle.jls_marker.specs.HeaderState.{HeaderState}
 use Rattle.jls_marker.specs.Scan.{Scan}
 use Rattle.jls_marker.specs.Headers.{headers_after}
 use Rattle.jls_copy.specs.Pieces.{FoundPiece, Outcome, Lines, Fault, IsOutcome, readings_of, records_of}
-use Rattle.jls_copy.specs.Findings.{Adds, AddsOutcome, HoldsShape, with_readings, picture_of, kept_with}
+use Rattle.jls_copy.specs.Findings.{Adds, HoldsShape, with_readings, picture_of, kept_with}
 use Rattle.jls_copy.specs.Gathers.{Gathers}
 use Rattle.jls_copy.specs.Pieces.{AreOutcomes, readings, records}
-use Rattle.jls_copy.specs.ReaderState.{ReaderState, Step, Reading, reading, reading_with, reading_from, first_state, after_byte, step_from, closed_at, closed_by, class_of, segment_taken, length_known, payload_grown}
-use Rattle.jls_copy.specs.Machine.{state_of, IsBehind}
+use Rattle.jls_copy.specs.ReaderState.{Step, Reading, reading, reading_with, reading_from, after_byte, step_from, closed_at, segment_taken}
+use Rattle.jls_copy.specs.Machine.{state_of}
 use Rattle.jls_copy.specs.Reader.{IsReading}
 use Rattle.jls_copy.specs.Sound.{IsPlace}
 use Rattle.jls_copy.specs.declared.machine.Machine.{Machine}
@@ -35,9 +33,6 @@ use Rattle.jls_copy.specs.declared.findings.Findings.{Findings}
 use Rattle.jls_copy.specs.declared.piece.PieceRecord.{PieceRecord}
 use Rattle.jls_copy.specs.declared.place.Place.{Place}
 use Rattle.jls_copy.specs.declared.place.Place.TheVariants.{Start, AtMarker, AtLength, InLength, InPayload, InScan, Done}
-use Rattle.jls_copy.specs.declared.scan.ByteClass.{ByteClass}
-use Rattle.jls_copy.specs.declared.scan.ByteClass.TheVariants.{Fill, Mark, Stop, Data}
-use Rattle.jls_copy.specs.declared.scan.OpenScan.{OpenScan}
 use Rattle.jls_copy.proofs.Kept.{behind_some}
 
 -- reading is a fold: one byte more is one step more

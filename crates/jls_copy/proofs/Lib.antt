@@ -13,6 +13,7 @@ mod TellsScan
 mod TellsSegment
 mod ReadingTells
 mod CourseTold
+mod DataBytes
 mod Gathering
 mod CutOutcomes
 mod CutGathering

@@ -1,6 +1,6 @@
 -- What a whole copy gives: the readings and the records of its course. Where a definition says that there is a course, it is the only
 -- one that these bytes have (`OneCourse`).
-use Rattle.std.specs.Prelude.{◌≡◌, ℕ, Bool, true, false, List, ◌++◌, length, take, Option, Some, None}
+use Rattle.std.specs.Prelude.{◌≡◌, ℕ, Bool, true, false, List, ◌++◌, length, take, Some, None}
 use Rattle.jls_values.specs.OrderedSet as set
 use Rattle.jls_values.specs.Shape.{PictureShape}
 use Rattle.jls_copy.specs.Course.{Course, IsCourse}

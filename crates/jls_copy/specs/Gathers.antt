@@ -1,11 +1,9 @@
 -- What a reader has kept of the pieces that were whole, all together.
-use Rattle.std.specs.Prelude.{◌≡◌, ℕ, List, [], ◌∷◌, ◌++◌, length, take, Option, Some, None}
+use Rattle.std.specs.Prelude.{◌≡◌, List, [], length, take, Option, Some, None}
 use Rattle.jls_values.specs.OrderedSet as set
 use Rattle.jls_values.specs.Shape.{PictureShape}
-use Rattle.jls_partial.specs.Reading.{Reading}
 use Rattle.jls_copy.specs.Pieces.{FoundPiece, Outcome, AreOutcomes, readings, records}
 use Rattle.jls_copy.specs.Findings.{picture_of}
-use Rattle.jls_copy.specs.declared.piece.PieceRecord.{PieceRecord}
 use Rattle.jls_copy.specs.declared.findings.Findings.{Findings}
 use Rattle.jls_partial.specs.Partial.{without_sources}
 

@@ -284,8 +284,8 @@ impl Machine {
         }
     }
 
-    /// One byte more.
-    pub(crate) fn step(&mut self, byte: u8) -> Result<(), AllocError>
+    /// One byte that leads to another place.
+    fn step_on(&mut self, byte: u8) -> Result<(), AllocError>
         requires { IsMachine self.old }
         ensures state { OnOk result (state_of self.new ≡ state.after_byte (state_of self.old) byte) }
         ensures found { OnOk result (Adds self.old.headers.frame (state.closed_at self.old.place byte) self.old.findings self.new.findings) }
@@ -294,6 +294,21 @@ impl Machine {
     {
         let place = mem::replace(&mut self.place, Place::Start(false));
         self.place = self.place_after(place, byte)?;
+        self.count += 1;
+        Ok(())
+    }
+
+    /// One byte more.
+    pub(crate) fn step(&mut self, byte: u8) -> Result<(), AllocError>
+        requires { IsMachine self.old }
+        ensures state { OnOk result (state_of self.new ≡ state.after_byte (state_of self.old) byte) }
+        ensures found { OnOk result (Adds self.old.headers.frame (state.closed_at self.old.place byte) self.old.findings self.new.findings) }
+        ensures sound { OnOk result (IsPlace self.new.headers.frame self.new.place self.new.payload.items) }
+        ensures header_bytes { OnOk result (length self.new.payload.items ≤ 65535) }
+    {
+        if !self.place.take_data(byte)? {
+            return self.step_on(byte);
+        }
         self.count += 1;
         Ok(())
     }

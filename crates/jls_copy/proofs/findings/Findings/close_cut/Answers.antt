@@ -1,6 +1,6 @@
 use Rattle.std.proofs.Common.{subst}
 use Rattle.jls_copy.proofs.Outcomes.{on_ok3}
-use Rattle.jls_copy.proofs.CutOutcomes.{CutFinishes, beyond_adds, whole_adds, head_adds, cut_lines, not_memory}
+use Rattle.jls_copy.proofs.CutOutcomes.{CutFinishes, beyond_adds, whole_adds, head_adds, cut_lines}
 use Rattle.jls_copy.proofs.findings.Findings.close_cut.Goals as goal
 
 pub take_head-requires-clause-lines : goal.take_head-requires-clause-lines

@@ -1,4 +1,4 @@
-use Rattle.std.proofs.Common.{◌≡◌, ◌<◌, Some, refl, sym, ap, ◌∙◌}
+use Rattle.std.proofs.Common.{◌≡◌, sym, ap, ◌∙◌}
 use Rattle.jls_copy.proofs.Fitting.{lines_fit}
 use Rattle.jls_copy.proofs.findings.Findings.take.Goals as goal
 use Rattle.jls_copy.proofs.findings.Findings.take.Goals.{in-None, in-Some}

@@ -1,5 +1,3 @@
-use Rattle.std.proofs.Common.{◌≡◌, Some}
-use Rattle.jls_copy.specs.Findings.{HoldsShape}
 use Rattle.jls_copy.proofs.machine.Machine.close_cut.Goals as goal
 
 pub close_cut-requires-clause-held : goal.close_cut-requires-clause-held
