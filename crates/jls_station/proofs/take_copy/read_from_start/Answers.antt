@@ -23,8 +23,8 @@ returns-in-Ok-read_of_copy-clause-given g c =
     whole_copy_gives c.in-Ok.stop old new c.read_copy_on.new.reader c.in-Ok-read_of_copy.given.partial c.in-Ok-read_of_copy.given.report
     (c.in-Ok.ensures.read old [] c.new-reader.ensures (nothing_read IsCopyDone 0 old old old [])) c.in-Ok-read_of_copy.ensures.given
 
-pub returns-clause-refused : goal.returns-clause-refused
-returns-clause-refused g c =
+pub returns-in-Err-read_of_copy-clause-refused : goal.returns-in-Err-read_of_copy-clause-refused
+returns-in-Err-read_of_copy-clause-refused g c =
     let old = g.S.Device.history c.args.device.now in
     let new = g.S.Device.history c.read_copy_on.new.device in
     whole_copy_stops c.in-Ok.stop old new c.read_copy_on.new.reader c.in-Err-read_of_copy.fault c.fed-count.result c.take_fault.result
