@@ -179,8 +179,9 @@ fn copies_in_reads_of_every_size(rt: HostRuntime) -> Result<(), Fail> {
 #[test]
 fn a_copy_of_another_shape(rt: HostRuntime) -> Result<(), Fail> {
     let alloc = rt.alloc();
+    let bytes = bytes_of(alloc, TEN)?;
     let slices = Slices {
-        bytes: &bytes_of(alloc, TEN)?,
+        bytes: &bytes,
         most: 7,
         broken: false,
     };

@@ -12,8 +12,8 @@ not_false : (b : Bool) → (b ≡ false → ⊥) → b ≡ true
 not_false true h = refl
 not_false false h = absurd (h refl)
 
-not_both : (f : MergeFault) → f ≡ merge.OutOfMemory → Err f ≡ Err merge.ShapeDiffers → ⊥
-not_both f memory other = cc
+not_both : (r : Result (Unit {0}) MergeFault) (f : MergeFault) → r ≡ Err f → f ≡ merge.OutOfMemory → r ≡ Err merge.ShapeDiffers → ⊥
+not_both r f is memory other = cc
 
 pub returns-in-Err-clause-refused : goal.returns-in-Err-clause-refused
 returns-in-Err-clause-refused g c =
@@ -36,7 +36,7 @@ returns-in-Err-OutOfMemory-clause-refused g c =
     let history = g.S.Device.history in
     let given = c.in-Ok.given in
     let f = c.in-Err-OutOfMemory.field-0 in
-    let same = not_false (has_same_shape c.args.self.now given.partial) (λ e. not_both f c.in-Err-OutOfMemory.field-0-is (c.in-Err-OutOfMemory.ensures.shape_differs.1 e)) in
+    let same = not_false (has_same_shape c.args.self.now given.partial) (λ e. not_both (Err f) f refl c.in-Err-OutOfMemory.field-0-is (c.in-Err-OutOfMemory.ensures.shape_differs.1 e)) in
     grew_as (CopyGives None given.partial given.report) (RefusesCopy None c.args.self.now c.take.new.self take.OutOfMemory) (history c.args.device.now) (history c.read_from_start.new.device)
     (λ reads h. no_memory None c.args.self.now c.take.new.self given.partial given.report reads h same
     (c.in-Err-OutOfMemory.ensures.out_of_memory (ap (λ e. Err e) c.in-Err-OutOfMemory.field-0-is))) c.in-Ok.ensures.given
