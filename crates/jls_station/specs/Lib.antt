@@ -7,4 +7,5 @@ pub mod Laws
 pub mod Outcomes
 pub mod Outputs
 pub mod Reading
+pub mod TakingCopies
 pub mod Texts

@@ -3,21 +3,29 @@
 ghost use Rattle.std.specs.Prelude.{◌≡◌, None, IfOk, IfErr, IfSome};
 ghost use Rattle.jls_copy.specs.CopyReads.{CopyReads, CopyGivesNone};
 ghost use Rattle.jls_copy.specs.ReadCopy.{ReadCopy};
-ghost use Rattle.jls_station.specs.Given.{given_by_copy};
+ghost use Rattle.jls_station.specs.Given.{marked, report_of};
 
-use crate::input::{InputRead, ReadStop};
+use crate::input::ReadStop;
 use crate::take_report::TakeReport;
 use jls_copy::{CopyFault, CopyReader};
+use jls_partial::Partial;
 use std::alloc::Global;
+
+/// What a copy gave: its readings, and what is told of it beside them.
+#[derive(Drop)]
+pub(crate) struct CopyGiven {
+    pub(crate) partial: Partial,
+    pub(crate) report: TakeReport,
+}
 
 /// What a reader gives of a copy, where the reading of the copy stopped so.
 pub(crate) fn read_of_copy(
     alloc: Global,
     reader: CopyReader,
     stop: ReadStop,
-) -> Result<InputRead, CopyFault>
-    ensures given { IfOk result (λ given. IfSome reader (λ bytes.
-        (read : ReadCopy) × CopyReads bytes read × (given ≡ given_by_copy None bytes read stop))) }
+) -> Result<CopyGiven, CopyFault>
+    ensures given { IfOk result (λ given. IfSome reader (λ bytes. (read : ReadCopy) × CopyReads bytes read
+        × (given.partial ≡ marked None read.partial) × (given.report ≡ report_of bytes read stop))) }
     ensures none { IfErr result (λ fault. IfSome reader (λ bytes. CopyGivesNone bytes fault)) }
 {
     let count = reader.fed();
@@ -33,5 +41,6 @@ pub(crate) fn read_of_copy(
         count,
         stop,
     };
-    Ok(InputRead::of_copy(read.into_partial(), report))
+    let partial = read.into_partial();
+    Ok(CopyGiven { partial, report })
 }

@@ -10,7 +10,7 @@ ghost use Rattle.jls_station.specs.Reading.{ReadSoFar};
 ghost use Rattle.jls_station.specs.Texts.{is_text, IsTextOf};
 ghost use Rattle.jls_station.specs.declared.input.ReadStop.TheVariants.{Whole};
 
-use crate::copy_end::read_of_copy;
+use crate::copy_end::{CopyGiven, read_of_copy};
 use crate::reading::{front, read_copy_on, read_text_on};
 use crate::take_report::TakeReport;
 use jls_copy::{CopyFault, CopyReader, copies_have_one_course};
@@ -75,7 +75,7 @@ impl InputRead {
         }
     }
 
-    pub(crate) fn of_copy(partial: Partial, report: TakeReport) -> InputRead
+    fn of_copy(partial: Partial, report: TakeReport) -> InputRead
         ensures { result ≡ given_of partial (Some report) }
     {
         InputRead {
@@ -209,7 +209,10 @@ fn read_copy<S: Source>(
     };
     let count = reader.fed();
     match read_of_copy(alloc, reader, stop) {
-        Ok(read) => Ok(read),
+        Ok(given) => {
+            let CopyGiven { partial, report } = given;
+            Ok(InputRead::of_copy(partial, report))
+        }
         Err(fault) => Err(copy_fault(fault, stop, count)),
     }
 }

@@ -8,6 +8,7 @@ mod laws;
 mod outcome;
 mod reading;
 mod station;
+mod take_copy;
 mod take_report;
 mod taking;
 mod writing;
@@ -17,6 +18,7 @@ pub use joining::join;
 pub use laws::{same_inputs_same_output, surviving_lines_give_the_picture};
 pub use outcome::{Cause, Outcome, Refusal};
 pub use station::Station;
+pub use take_copy::TakeFault;
 pub use take_report::TakeReport;
 pub use taking::open_and_read;
 

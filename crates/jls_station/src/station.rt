@@ -14,6 +14,7 @@ use std::marker::Model;
 #[derive(Drop)]
 pub struct Station {
     held: Partial,
+    alloc: Global,
 }
 
 impl Model for Station {
@@ -33,14 +34,23 @@ impl Station {
     {
         Station {
             held: Partial::empty(alloc, shape),
+            alloc,
         }
     }
 
     /// A station that holds this partial picture. It takes no memory.
-    pub fn holding(partial: Partial) -> Station
+    pub fn holding(alloc: Global, partial: Partial) -> Station
         ensures { result ≡ partial }
     {
-        Station { held: partial }
+        Station {
+            held: partial,
+            alloc,
+        }
+    }
+
+    /// Where it takes memory.
+    pub(crate) fn allocator(&self) -> Global {
+        self.alloc
     }
 
     /// Takes in the readings of a partial picture. At `ShapeDiffers` nothing has changed; after `OutOfMemory` all that was

@@ -55,7 +55,7 @@ pub fn take_inputs<'a, D: Desk>(
         Err(cause) => return Err(Refusal { name: first, cause }),
     };
     let mut whole = read.is_whole();
-    let mut station = Station::holding(read.into_partial());
+    let mut station = Station::holding(alloc, read.into_partial());
     for name in others {
         let read = match open_and_read(alloc, desk, name) {
             Ok(read) => read,

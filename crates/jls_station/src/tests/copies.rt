@@ -1,7 +1,11 @@
 //! Damaged copies as inputs, from sources that give so many bytes a read at most, and that end or fail behind the last one.
 
-use crate::input::{InputFault, InputRead, read_input};
+use crate::input::read_input;
+use crate::station::Station;
+use crate::take_report::TakeReport;
 use jls_device::Counted;
+use jls_partial::Partial;
+use jls_values::Shape;
 use std::alloc::Global;
 use std::fmt::Write;
 use std::io;
@@ -90,8 +94,7 @@ fn bytes_of(alloc: Global, text: &str) -> Result<Vec<u8>, Fail> {
 }
 
 /// The first sample of each reading of a line.
-fn put_line(out: &mut String, read: &InputRead, line: u16) -> Result<(), Fail> {
-    let partial = read.partial();
+fn put_line(out: &mut String, partial: &Partial, line: u16) -> Result<(), Fail> {
     let shape = partial.shape();
     if shape.ids().is_empty() || line >= shape.height() {
         return Ok(());
@@ -104,12 +107,12 @@ fn put_line(out: &mut String, read: &InputRead, line: u16) -> Result<(), Fail> {
     Ok(())
 }
 
-fn text_of(alloc: Global, read: &InputRead) -> Result<String, Fail> {
+fn text_of(alloc: Global, partial: &Partial, report: Option<&TakeReport>) -> Result<String, Fail> {
     let mut out = String::new(alloc);
-    for line in 0..read.partial().shape().height() {
-        put_line(&mut out, read, line)?;
+    for line in 0..partial.shape().height() {
+        put_line(&mut out, partial, line)?;
     }
-    if let Some(report) = read.copy() {
+    if let Some(report) = report {
         let pieces = report.piece_count();
         let ended = report.ended();
         let count = report.count();
@@ -119,9 +122,23 @@ fn text_of(alloc: Global, read: &InputRead) -> Result<String, Fail> {
     Ok(out)
 }
 
-fn told(alloc: Global, read: Result<InputRead, InputFault>) -> Result<String, Fail> {
-    match read {
-        Ok(read) => text_of(alloc, &read),
+/// What is read of an input.
+fn read_so(alloc: Global, slices: Slices<'_>) -> Result<String, Fail> {
+    match read_input(alloc, &mut Counted::new(slices)) {
+        Ok(read) => text_of(alloc, read.partial(), read.copy()),
+        Err(fault) => Ok(format!(in alloc; "{fault:?}")?),
+    }
+}
+
+/// What a station for pictures of this height takes.
+fn taken_so(alloc: Global, height: u16, slices: Slices<'_>) -> Result<String, Fail> {
+    let shape = match Shape::new(8, 1, height, &[1]) {
+        Ok(shape) => shape,
+        Err(_) => return Err(Fail::from("no shape")),
+    };
+    let mut station = Station::new(alloc, shape);
+    match station.take_copy(&mut Counted::new(slices)) {
+        Ok(report) => text_of(alloc, station.partial(), Some(&report)),
         Err(fault) => Ok(format!(in alloc; "{fault:?}")?),
     }
 }
@@ -134,19 +151,40 @@ fn copies_in_reads_of_every_size(rt: HostRuntime) -> Result<(), Fail> {
         for (broken, wanted) in [(false, ending), (true, failing)] {
             for most in [1usize, 7, 4096] {
                 let bytes = &bytes;
-                let mut device = Counted::new(Slices {
-                    bytes,
-                    most,
-                    broken,
-                });
-                let read = read_input(alloc, &mut device);
-                assert_eq!(rt;
-                    told(alloc, read)?.as_str(),
-                    wanted,
-                    "of {text} in reads of {most}"
-                );
+                let read = read_so(
+                    alloc,
+                    Slices {
+                        bytes,
+                        most,
+                        broken,
+                    },
+                )?;
+                assert_eq!(rt; read.as_str(), wanted, "of {text} in reads of {most}");
+                let taken = taken_so(
+                    alloc,
+                    10,
+                    Slices {
+                        bytes,
+                        most,
+                        broken,
+                    },
+                )?;
+                assert_eq!(rt; taken.as_str(), wanted, "of {text} in reads of {most}");
             }
         }
     }
+    Ok(())
+}
+
+#[test]
+fn a_copy_of_another_shape(rt: HostRuntime) -> Result<(), Fail> {
+    let alloc = rt.alloc();
+    let bytes = bytes_of(alloc, TEN)?;
+    let slices = Slices {
+        bytes: &bytes,
+        most: 7,
+        broken: false,
+    };
+    assert_eq!(rt; taken_so(alloc, 9, slices)?.as_str(), "ShapeDiffers");
     Ok(())
 }
