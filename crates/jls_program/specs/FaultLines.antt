@@ -3,6 +3,7 @@ use Rattle.std.specs.Prelude.{ℕ, Bool, List, [], ◌++◌, codes, decimal, if�
 use Rattle.jls_marker.specs.Faults.{fault_number}
 use Rattle.jls_partial.specs.declared.text_fault.TextFault.{TextFault}
 use Rattle.jls_partial.specs.declared.text_fault.TextFault.TheVariants as text_fault
+use Rattle.jls_station.specs.declared.input.InputFault.{InputFault}
 use Rattle.jls_station.specs.declared.input.InputFault.TheVariants as fault
 use Rattle.jls_station.specs.declared.outcome.Cause.{Cause}
 use Rattle.jls_station.specs.declared.outcome.Cause.TheVariants as cause
@@ -42,13 +43,17 @@ unsettled_line id line disputed =
     codes "jls-salvage: line " ++ (decimal line ++ (codes " of component "
     ++ (decimal id ++ (if disputed then codes " is disputed\n" else codes " is missing\n"))))
 
+-- the line of an input of this name that is refused
+abbrev pub input_fault_line : List ℕ → InputFault → List ℕ
+input_fault_line name (fault.Text f) = text_fault_line name f
+input_fault_line name (fault.NoPicture f offset) = no_picture_line name (fault_number f) offset
+input_fault_line name (fault.Read stop offset) = codes "jls-salvage: " ++ (name ++ codes ": read failed\n")
+input_fault_line name fault.OutOfMemory = out_of_memory_line
+
 -- the line of a cause at an input or output of this name
 abbrev pub cause_line : List ℕ → Cause → List ℕ
 cause_line name cause.NotOpened = codes "jls-salvage: " ++ (name ++ codes ": cannot be opened\n")
-cause_line name (cause.Input (fault.Text f)) = text_fault_line name f
-cause_line name (cause.Input (fault.NoPicture f offset)) = no_picture_line name (fault_number f) offset
-cause_line name (cause.Input (fault.Read stop offset)) = codes "jls-salvage: " ++ (name ++ codes ": read failed\n")
-cause_line name (cause.Input fault.OutOfMemory) = out_of_memory_line
+cause_line name (cause.Input f) = input_fault_line name f
 cause_line name cause.ShapeDiffers = codes "jls-salvage: " ++ (name ++ codes ": shape differs\n")
 cause_line name (cause.Unsettled id line disputed) = unsettled_line id line disputed
 cause_line name cause.TooLarge = codes "jls-salvage: interval too large, give --ri\n"
