@@ -1,5 +1,4 @@
-use Rattle.std.proofs.Common.{◌∙◌, ◌≡◌, ap, refl, subst}
-use Rattle.std.specs.Prelude.{true}
+use Rattle.std.proofs.Common.{◌∙◌, ap, refl, subst}
 use Rattle.jls_device.specs.Event.{GrewBy}
 use Rattle.jls_station.specs.Outputs.{HandsOut}
 use Rattle.jls_partial.specs.Partial.{PartialPicture}
