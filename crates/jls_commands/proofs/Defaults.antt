@@ -37,3 +37,8 @@ defaults_are p low high =
     let passes : test p ≡ true =
     sym (get_or-map-range_with_len test 2 15 (p - 2) p true (omega (arith, low, high)) (omega (arith, low, high))) ∙ each (map test (range_with_len 2 15)) (p - 2) tested in
     in_range (in_force p 0 0 0 0 0) (param_fault (in_force p 0 0 0 0 0)) passes
+
+-- what is a value is no fault
+pub never_both : (r : Result CodingParameters ParamFault) (p : CodingParameters) (f : ParamFault) → r ≡ Ok p → r ≡ Err f → ⊥
+never_both (Ok q) p f d e = absurd cc
+never_both (Err g) p f d e = absurd cc

@@ -1,8 +1,5 @@
-use Rattle.std.proofs.Common.{◌≡◌, ◌∙◌, Result, Ok, Err, sym, arith}
-use Rattle.jls_values.specs.Params.{CodingParameters}
-use Rattle.jls_values.specs.ParamsOf.{in_force}
-use Rattle.jls_values.specs.declared.params.ParamFault.{ParamFault}
-use Rattle.jls_commands.proofs.Defaults.{defaults_are}
+use Rattle.std.proofs.Common.{◌∙◌, arith}
+use Rattle.jls_commands.proofs.Defaults.{defaults_are, never_both}
 use Rattle.jls_commands.proofs.writing.jls_options.Goals as goal
 
 pub unreachable-requires : goal.unreachable-requires
@@ -11,5 +8,4 @@ unreachable-requires c =
     let low = c.precision.ensures.ranges.precision_at_least in
     let high = c.precision.ensures.ranges.precision_at_most in
     let given = defaults_are c.precision.result (omega (arith, value, low)) (omega (arith, value, high)) in
-    let e : Ok {T = CodingParameters} {E = ParamFault} (in_force c.precision.result 0 0 0 0 0) ≡ Err c.in-Err.field-0 = sym given ∙ (sym c.new.ensures ∙ c.in-Err.is) in
-    absurd cc
+    never_both c.new.result _ c.in-Err.field-0 (c.new.ensures ∙ given) c.in-Err.is
