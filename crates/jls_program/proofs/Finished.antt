@@ -56,7 +56,7 @@ status_at_output name bytes _ _ (outputs.cut _ _ count writes h) = omega arith
 
 -- a file that does not go out has at least status 2
 status_at_file : (F : Type 0) (takes : Bool) (name bytes : List ℕ) (c : Cause) (events : List Event) → StopsAtFile F takes name bytes c events → 2 ≤ status_of_cause c
-status_at_file F takes name bytes _ _ (writing.too_large _ _ no) = omega arith
+status_at_file F takes name bytes _ _ (writing.too_large _ _ never) = omega arith
 status_at_file F takes name bytes c _ (writing.at_output _ _ _ events fit h) = let k = status_at_output name bytes c events h in omega (arith, k)
 status_at_file F takes name bytes _ _ (writing.no_memory _ _ count writes fit is lt h) = omega arith
 
