@@ -1,0 +1,6 @@
+mod CopiedLines
+mod FileLength
+mod Handing
+mod PackedLength
+mod ScanIds
+mod Scans
