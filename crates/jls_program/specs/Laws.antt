@@ -4,7 +4,6 @@ use Rattle.clap.specs.Words.{Text}
 use Rattle.jls_partial.specs.Partial.{PartialPicture}
 use Rattle.jls_partial.specs.Status.{IsSettled}
 use Rattle.jls_picture.specs.Picture.{picture_of}
-use Rattle.jls_picture.specs.Pnm.{pnm}
 use Rattle.jls_device.specs.Event.{Event, History, GrewBy}
 use Rattle.jls_device.specs.Writing.{Wrote}
 use Rattle.jls_station.specs.Given.{Given}
@@ -13,7 +12,10 @@ use Rattle.jls_station.specs.Joining.{JoinIsDone}
 use Rattle.jls_station.specs.Outputs.{HandsOut}
 use Rattle.jls_station.specs.declared.input.ReadStop.TheVariants.{Whole}
 use Rattle.jls_commands.specs.Telling.{lines}
-use Rattle.jls_words.specs.Asking.{ReadsAs, check, join, show, write_pnm}
+use Rattle.jls_commands.specs.WritingFiles.{file}
+use Rattle.jls_commands.specs.declared.writing.Format.{Format}
+use Rattle.jls_commands.specs.declared.writing.Format.TheVariants.{Pnm, Jls}
+use Rattle.jls_words.specs.Asking.{Asked, ReadsAs, check, join, show, write_pnm, write_jls}
 use Rattle.jls_program.specs.Runs.{Ran}
 
 -- a run of `join` that is done, as the history of the desk has it
@@ -59,30 +61,35 @@ DoneShowsRan =
     → (name : Text) → ReadsAs words (show name) → status ≤ 1
     → (g : Given) × TellRan false name g status desk desk' report report' × (faults' ≡ faults)
 
+-- words that ask for a file in this format
+abbrev pub written_as : Format → Text → Text → Asked
+written_as Pnm out name = write_pnm out name
+written_as (Jls line ri) out name = write_jls line ri out name
+
 -- a run of `write` that is done: the input was read whole, and each of its lines is settled; then the output was created, and
 -- handed exactly the file of the picture
-pub record WriteRan (out name : Text) (g : Given) (desk desk' : History) : Type 0 where
+pub record WriteRan (f : Format) (out name : Text) (g : Given) (desk desk' : History) : Type 0 where
   pub reading : List Event
   pub writing : List Event
   pub grew : desk' ≡ desk ++ (reading ++ writing)
   pub taken : IsTaken None name g reading
   pub whole : g.stop ≡ Whole
   pub settled : IsSettled g.partial
-  pub handed : HandsOut out (pnm (picture_of g.partial)) writing
+  pub handed : HandsOut out (file f (picture_of g.partial)) writing
 
--- Where the words ask for a PNM file and the status is 1, the input was taken, and nothing else was done with the desk: so no output
--- was created; and a line of what it gave is not settled
+-- Where the words ask for a file and the status is 1, the input was taken, and nothing else was done with the desk: so no output was
+-- created; and a line of what it gave is not settled
 abbrev pub UnsettledWritesStop : Type 0
 UnsettledWritesStop =
     (words : List Text) (status : ℕ) (desk desk' report report' faults faults' : History)
     → Ran words status desk desk' report report' faults faults'
-    → (out name : Text) → ReadsAs words (write_pnm out name) → status ≡ 1
+    → (f : Format) (out name : Text) → ReadsAs words (written_as f out name) → status ≡ 1
     → (g : Given) × GrewBy (IsTaken None name g) desk desk' × (IsSettled g.partial → ⊥)
 
--- Where the words ask for a PNM file and the status is 0, it is written; and nothing is reported or printed
+-- Where the words ask for a file and the status is 0, it is written; and nothing is reported or printed
 abbrev pub DoneWritesRan : Type 0
 DoneWritesRan =
     (words : List Text) (status : ℕ) (desk desk' report report' faults faults' : History)
     → Ran words status desk desk' report report' faults faults'
-    → (out name : Text) → ReadsAs words (write_pnm out name) → status ≡ 0
-    → (g : Given) × WriteRan out name g desk desk' × (report' ≡ report) × (faults' ≡ faults)
+    → (f : Format) (out name : Text) → ReadsAs words (written_as f out name) → status ≡ 0
+    → (g : Given) × WriteRan f out name g desk desk' × (report' ≡ report) × (faults' ≡ faults)

@@ -22,13 +22,13 @@ pub fn done_shows_ran()
     ensures { DoneShowsRan }
 {}
 
-/// If the words of a run ask for a PNM file and the run ends with status 0, the input was read whole, each of its lines is
+/// If the words of a run ask for a file and the run ends with status 0, the input was read whole, each of its lines is
 /// settled, the output was created after that and handed exactly the file, and nothing was reported or printed as a fault.
 pub fn done_writes_ran()
     ensures { DoneWritesRan }
 {}
 
-/// If the words of a run ask for a PNM file and the run ends with status 1, the input was taken, no output was created, and a
+/// If the words of a run ask for a file and the run ends with status 1, the input was taken, no output was created, and a
 /// line of what the input gave is not settled.
 pub fn unsettled_writes_stop()
     ensures { UnsettledWritesStop }

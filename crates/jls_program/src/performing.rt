@@ -25,5 +25,11 @@ pub(crate) fn perform<'a, D: Desk, W: Sink>(
         Asked::Join { out, first, others } => join(alloc, desk, out, first, others),
         Asked::Show { file } => show(alloc, desk, report, file),
         Asked::WritePnm { out, file } => write(alloc, desk, Format::Pnm, out, file),
+        Asked::WriteJls {
+            line,
+            ri,
+            out,
+            file,
+        } => write(alloc, desk, Format::Jls { line, ri }, out, file),
     }
 }

@@ -4,9 +4,10 @@ ghost use Rattle.std.specs.Prelude.{◌≡◌, ◌⊎◌, false, [], IfOk, IfErr
 ghost use Rattle.std.specs.String.{string_bytes};
 ghost use Rattle.clap.specs.Words.{app_of, fault_of, kind_of, new_app, rule_of, subcommand_of, subcommand_rows_of};
 ghost use Rattle.clap.specs.declared.builder.command.Command.TheViews.{out-Command};
-ghost use Rattle.jls_words.specs.Words.{as_rule, AreRefused, AreTaken, check_app, files_rule, join_app, salvage_app, show_app, word_rule, write_app};
+ghost use Rattle.jls_words.specs.Words.{as_rule, AreRefused, AreTaken, check_app, files_rule, ilv_rule, join_app, ri_rule, salvage_app, show_app, word_rule, write_app, write_options_app};
 
 use crate::texts;
+use clap::builder::ValueParser;
 use clap::error::ErrorKind;
 use clap::{Arg, ArgAction, ArgMatches, Command, Error};
 use std::alloc::{AllocError, Global};
@@ -34,6 +35,25 @@ fn format<'a>(alloc: Global) -> Arg<'a>
 {
     let format = Arg::new(alloc, "as").long("as").value_name("FORMAT");
     format.required(true).help(texts::AS_HELP)
+}
+
+/// The interleave mode of `write`.
+fn interleave<'a>(alloc: Global) -> Arg<'a>
+    ensures rule { rule_of result ≡ ilv_rule }
+    ensures local { result.global ≡ false }
+{
+    let mode = Arg::new(alloc, "ilv").long("ilv").value_name("MODE");
+    mode.default_value("none").help(texts::ILV_HELP)
+}
+
+/// The restart interval of `write`.
+fn restarts<'a>(alloc: Global) -> Arg<'a>
+    ensures rule { rule_of result ≡ ri_rule }
+    ensures local { result.global ≡ false }
+{
+    let rows = Arg::new(alloc, "ri").long("ri").value_name("N");
+    let bounded = rows.value_parser(ValueParser::unsigned(0, 65535));
+    bounded.default_value("0").help(texts::RI_HELP)
 }
 
 /// A command without arguments.
@@ -69,13 +89,23 @@ fn join_command<'a>(alloc: Global) -> Result<Command<'a>, AllocError>
     join.arg(files(alloc))
 }
 
-fn write_command<'a>(alloc: Global) -> Result<Command<'a>, AllocError>
-    ensures app { IfOk result (λ c. app_of c ≡ write_app) }
+/// The command `write` with its options.
+fn write_options<'a>(alloc: Global) -> Result<Command<'a>, AllocError>
+    ensures app { IfOk result (λ c. app_of c ≡ write_options_app) }
     ensures local { IfOk result (λ c. (out-Command c).has_globals ≡ false) }
 {
     let bare = bare(alloc, "write", texts::WRITE_ABOUT, texts::WRITE_NOTES);
     let formatted = bare.arg(format(alloc))?;
-    let write = formatted.arg(word(alloc, "OUT", texts::WRITE_OUT_HELP))?;
+    let interleaved = formatted.arg(interleave(alloc))?;
+    interleaved.arg(restarts(alloc))
+}
+
+fn write_command<'a>(alloc: Global) -> Result<Command<'a>, AllocError>
+    ensures app { IfOk result (λ c. app_of c ≡ write_app) }
+    ensures local { IfOk result (λ c. (out-Command c).has_globals ≡ false) }
+{
+    let options = write_options(alloc)?;
+    let write = options.arg(word(alloc, "OUT", texts::WRITE_OUT_HELP))?;
     write.arg(word(alloc, "FILE", texts::FILE_HELP))
 }
 

@@ -90,18 +90,22 @@ pub(crate) const WRITE_ABOUT: &str =
 pub(crate) const WRITE_NOTES: &str = "\
 Each line of FILE must have exactly one reading: nothing is guessed, and nothing chosen. As pnm a
 picture of one component becomes a PGM file, one of three a PPM file, and one of two or four a PAM file.
+As jls it becomes lossless JPEG-LS with the default parameters of its precision. With --ri a damaged
+byte costs at most the lines up to the next restart marker.
 
 Exit status:
   0  done
   1  a line has no reading, or several; OUT was not created
-  2  the words were not understood
+  2  the words were not understood; or as jls, more than 2^28 samples would stand between two
+     restart markers: give a smaller --ri
   3  FILE is no copy with a picture, and no partial picture; OUT was not created
   4  FILE can't be opened or read, OUT can't be created, or a write failed
   5  out of memory
 
 Examples:
   jls-salvage write --as pnm all.pgm all.jlsp
-  jls-salvage write --as pnm - all.jlsp > all.pgm";
+  jls-salvage write --as pnm - all.jlsp > all.pgm
+  jls-salvage write --as jls --ri 16 all.jls all.jlsp";
 
 pub(crate) const JOIN_OUT_HELP: &str =
     "The file to write, created or replaced once all FILEs are read; - is standard output";
@@ -114,4 +118,10 @@ pub(crate) const WRITE_OUT_HELP: &str =
 
 pub(crate) const FILE_HELP: &str = "The copy or partial picture; - is standard input";
 
-pub(crate) const AS_HELP: &str = "The format of OUT: pnm";
+pub(crate) const AS_HELP: &str = "The format of OUT: jls (JPEG-LS) or pnm";
+
+pub(crate) const ILV_HELP: &str =
+    "For jls: none, each component in a scan of its own, or line, all in one scan";
+
+pub(crate) const RI_HELP: &str =
+    "For jls: how many lines stand between two restart markers, 0 to 65535; 0 is no markers";

@@ -1,7 +1,7 @@
 //! The commands on one input: what they print, write and refuse.
 
 use super::memory::{GOOD, Manners};
-use super::run_words;
+use super::{copies, run_words};
 use std::alloc::Global;
 use std::process::Abort;
 use std::test::Fail;
@@ -91,7 +91,11 @@ const SHOWN: [(&str, u8, &str); 16] = [
 ];
 
 /// The words and the file that OUT is; the status is 0.
-const WRITTEN: [(&str, &[u8]); 7] = [
+const WRITTEN: [(&str, &[u8]); 11] = [
+    ("write --as jls OUT S", SETTLED_AS_JLS),
+    ("write --as jls --ri 1 OUT ten", copies::WHOLE),
+    ("write --as jls --ilv line OUT pair", PAIR_BY_LINE),
+    ("write --as jls OUT pair", PAIR_BY_NONE),
     ("write --as pnm OUT whole", TEN_AS_PNM),
     ("write --as pnm OUT S", b"P5\n1 1\n255\n\0"),
     ("write --as pnm - -", b"P5\n1 1\n255\n\0"),
@@ -107,10 +111,29 @@ const WRITTEN: [(&str, &[u8]); 7] = [
     ),
 ];
 
+const SETTLED_AS_JLS: &[u8] =
+    b"\xff\xd8\xff\xf7\0\x0b\x08\0\x01\0\x01\x01\x01\x11\0\xff\xda\0\x08\x01\x01\0\0\0\0\x80\xff\xd9";
+
+const PAIR_BY_LINE: &[u8] = b"\xff\xd8\xff\xf7\0\x0e\x08\0\x01\0\x01\x02\x01\x11\0\x02\x11\0\
+\xff\xda\0\x0a\x02\x01\0\x02\0\0\x01\0\x07\x16\xff\xd9";
+
+const PAIR_BY_NONE: &[u8] = b"\xff\xd8\xff\xf7\0\x0e\x08\0\x01\0\x01\x02\x01\x11\0\x02\x11\0\
+\xff\xda\0\x08\x01\x01\0\0\0\0\x07\xff\xda\0\x08\x01\x02\0\0\0\0\x07\xff\xd9";
+
 const TEN_AS_PNM: &[u8] = b"P5\n1 10\n255\n\0\x01\x02\x03\x04\x05\x06\x07\x08\x09";
 
 /// The words, the status, and the line on the fault output; nothing is created or reported.
-const REFUSED: [(&str, u8, &str); 11] = [
+const REFUSED: [(&str, u8, &str); 13] = [
+    (
+        "write --as jls OUT T",
+        1,
+        "line 0 of component 1 is disputed",
+    ),
+    (
+        "write --as jls --ilv sample OUT S",
+        2,
+        "unknown value, see jls-salvage write --help",
+    ),
     ("check copy", 3, "copy: no picture, fault 4 at 2"),
     ("check A", 4, "A: cannot be opened"),
     ("show cut", 3, "cut: bad text, truncated at 30"),

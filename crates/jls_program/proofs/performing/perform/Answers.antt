@@ -2,7 +2,7 @@ use Rattle.std.proofs.Common.{◌∷◌, None, ℕ, List, map, sym, subst}
 use Rattle.std.specs.Borrow.{Bor}
 use Rattle.jls_commands.specs.Histories.{GrewBoth}
 use Rattle.jls_commands.specs.WritingFiles.{WritesFile}
-use Rattle.jls_commands.specs.declared.writing.Format.TheVariants.{Pnm}
+use Rattle.jls_commands.specs.declared.writing.Format.TheVariants.{Pnm, Jls}
 use Rattle.jls_station.specs.Joining.{Joins}
 use Rattle.jls_words.specs.Asking.{asked_of}
 use Rattle.jls_words.specs.declared.asked.Asked.{Asked}
@@ -40,3 +40,12 @@ returns-in-WritePnm g c =
     let report = g.W.Device.history c.args.report.now in
     subst (λ (a : Asked). GrewBoth (CameOf (asked_of a) c.write.result) desk desk' report report) (sym c.in-WritePnm.is)
     (desk_alone (WritesFile Pnm c.in-WritePnm.out.now c.in-WritePnm.file.now c.write.result) desk desk' report c.write.ensures)
+
+pub returns-in-WriteJls : goal.returns-in-WriteJls
+returns-in-WriteJls g c =
+    let desk = g.D.Device.history c.args.desk.now in
+    let desk' = g.D.Device.history c.write-in-WriteJls.new.desk in
+    let report = g.W.Device.history c.args.report.now in
+    let format = Jls c.in-WriteJls.line c.in-WriteJls.ri in
+    subst (λ (a : Asked). GrewBoth (CameOf (asked_of a) c.write-in-WriteJls.result) desk desk' report report) (sym c.in-WriteJls.is)
+    (desk_alone (WritesFile format c.in-WriteJls.out.now c.in-WriteJls.file.now c.write-in-WriteJls.result) desk desk' report c.write-in-WriteJls.ensures)

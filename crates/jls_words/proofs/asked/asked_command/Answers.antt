@@ -46,9 +46,12 @@ returns-then-eq-4 c =
     let found = found_of c.in-Some.given.now in
     let rows = rows_of found in
     let format = c.get_str-format.ensures ∙ first_value-rows found (codes "as") in
-    let out = c.get_str-then-eq-4.ensures ∙ first_value-rows found (codes "OUT") in
-    let file = c.get_str-then-eq-4-2.ensures ∙ first_value-rows found (codes "FILE") in
+    let ilv = c.get_str-then-eq-4.ensures ∙ first_value-rows found (codes "ilv") in
+    let ri = c.get_str-then-eq-4-2.ensures ∙ first_value-rows found (codes "ri") in
+    let out = c.get_str-then-eq-4-3.ensures ∙ first_value-rows found (codes "OUT") in
+    let file = c.get_str-then-eq-4-4.ensures ∙ first_value-rows found (codes "FILE") in
+    let options = c.options_of-options.ensures ∙ (λ i. spec.options_of (ilv i) (ri i)) in
     let entered = entered_rows m name rows (sym c.in-Some.ensures.name) (sym c.in-Some.ensures.rows) in
     let named = asks_write name rows (sym c.eq.ensures ∙ c.if-eq.false) (sym c.eq-else-eq.ensures ∙ c.if-eq-2.false)
     (sym c.eq-else-eq-2.ensures ∙ c.if-eq-3.false) (sym c.eq-else-eq-3.ensures ∙ c.if-eq-4.true) in
-    c.asked_write.ensures ∙ ((λ i. spec.asked_write (format i) (out i) (file i)) ∙ sym (asked_entered m name rows _ entered named))
+    c.asked_write.ensures ∙ ((λ i. spec.asked_write (format i) (options i) (out i) (file i)) ∙ sym (asked_entered m name rows _ entered named))
