@@ -12,7 +12,8 @@ use Rattle.jls_headline.specs.Survives.{EachLineSurvives}
 use Rattle.jls_headline.specs.Stations.{HoldsExactly, TookInTheEnd, SameCopies}
 use Rattle.jls_headline.specs.ReadsAs.{IsPicture, GivesPicture, ReadsAs}
 
--- what two stations hold and hand out is the same, whatever the sources of their readings
+-- what two stations hold, report and show is the same, whatever the sources of their readings. Of texts, which have sources, and of
+-- JPEG-LS files nothing is said here
 pub record SayTheSame (station other : PartialPicture) : Type 0 where
   pub readings : station.readings ≡ other.readings
   pub report : report_text (report_of station) ≡ report_text (report_of other)
@@ -39,8 +40,8 @@ abbrev pub FilesReadAsOne : Type 0
 FilesReadAsOne = (file : List ℕ) (pic other : WholePicture) → IsPicture pic → IsPicture other
     → ReadsAs file pic → ReadsAs file other → pic ≡ other
 
--- Where every line of a picture survives in some copy that a station took, whatever else it took and whatever damaged intervals read
--- as, the station's lines are not all settled, or they are that picture
+-- Where every line of a picture survives in some copy that a station took, whatever other copies it took and whatever damaged
+-- intervals read as, the station's lines are not all settled, or they are that picture
 abbrev pub NeverAnotherPicture : Type 0
 NeverAnotherPicture =
     (pic : WholePicture) → IsPicture pic → (station : PartialPicture) (copies : List (List ℕ)) → TookInTheEnd station copies

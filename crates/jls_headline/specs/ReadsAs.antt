@@ -24,7 +24,7 @@ pub record IsPicture (pic : WholePicture) : Type 0 where
   pub components : length pic.lines ≡ length pic.shape.ids
   pub each : AllByRecursion (IsComponentIn pic.shape) pic.lines
 
--- each line that is held is settled, and this is the picture of them
+-- each line of the shape has exactly one reading, and this is the picture of them
 abbrev pub GivesPicture : PartialPicture → WholePicture → Type 0
 GivesPicture station pic = IsSettled station × (picture_of station ≡ pic)
 

@@ -38,7 +38,8 @@ HasReadingsOf p q = (p.shape ≡ q.shape) × (p.readings ≡ q.readings)
 
 -- A station, after calls: it took these copies, and it ran out of memory over those, of which it can have taken some readings.
 -- It begins with exactly the readings of some copies; a new one, with those of none.
--- A copy was taken where `take_copy` answered Ok, and copies were where `take` answered Ok for what holds exactly their readings
+-- A copy was taken where the station became the union of what it held and what was read of the copy; copies were taken where `take`
+-- answered Ok for what holds exactly their readings
 pub data Took : PartialPicture → List (List ℕ) → List (List ℕ) → Type 0 where
   began : (p : PartialPicture) (copies : List (List ℕ)) → HoldsExactly p copies → Took p copies []
   took_copy : (station taken : PartialPicture) (copies over : List (List ℕ)) (copy : List ℕ) (read : ReadCopy) → Took station copies over
