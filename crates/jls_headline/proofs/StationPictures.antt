@@ -6,6 +6,7 @@ use Rattle.jls_values.specs.Shape.{PictureShape}
 use Rattle.jls_partial.specs.Reading.{Reading, reading_of, reading_cmp}
 use Rattle.jls_partial.specs.Partial.{PartialPicture, readings_at}
 use Rattle.jls_partial.specs.Status.{status_of}
+use Rattle.jls_partial.specs.Text.{text}
 use Rattle.jls_partial.specs.declared.status.Status.TheVariants.{Settled}
 use Rattle.jls_copy.specs.Course.{Course}
 use Rattle.jls_copy.proofs.OneCourse.{one_course}
@@ -37,6 +38,7 @@ say_the_same station other e f =
       report = λ i. report_text (report_of (with_these (e i) (f i)));
       picture = λ i. picture_of (with_these (e i) (f i));
       pnm_file = λ i. pnm (picture_of (with_these (e i) (f i)));
+      of_same_sources = λ g. λ i. text (record { shape = e i; readings = f i; marks = g i });
     }
 
 pub same_copies_same_readings : SameCopiesSameReadings

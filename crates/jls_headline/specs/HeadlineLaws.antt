@@ -3,6 +3,7 @@ use Rattle.std.specs.Prelude.{◌≡◌, ℕ, List}
 use Rattle.std.specs.List.{AllByRecursion}
 use Rattle.jls_partial.specs.Partial.{PartialPicture}
 use Rattle.jls_partial.specs.Status.{IsSettled}
+use Rattle.jls_partial.specs.Text.{text}
 use Rattle.jls_picture.specs.Picture.{WholePicture, picture_of}
 use Rattle.jls_picture.specs.Pnm.{pnm}
 use Rattle.jls_report.specs.Report.{report_of}
@@ -12,13 +13,14 @@ use Rattle.jls_headline.specs.Survives.{EachLineSurvives}
 use Rattle.jls_headline.specs.Stations.{HoldsExactly, TookInTheEnd, SameCopies}
 use Rattle.jls_headline.specs.ReadsAs.{IsPicture, GivesPicture, ReadsAs}
 
--- what two stations hold, report and show is the same, whatever the sources of their readings. Of texts, which have sources, and of
--- JPEG-LS files nothing is said here
+-- what two stations hold, report and show is the same, whatever the sources of their readings; and where these are the same, so are
+-- their texts
 pub record SayTheSame (station other : PartialPicture) : Type 0 where
   pub readings : station.readings ≡ other.readings
   pub report : report_text (report_of station) ≡ report_text (report_of other)
   pub picture : picture_of station ≡ picture_of other
   pub pnm_file : pnm (picture_of station) ≡ pnm (picture_of other)
+  pub of_same_sources : station.marks ≡ other.marks → text station ≡ text other
 
 -- Stations of one shape that took the same copies, in any order and with any repeats, hold exactly the readings that those copies give,
 -- and say the same
