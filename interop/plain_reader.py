@@ -7,8 +7,9 @@ marker syntax of ITU-T T.81, annex B, and T.87, annex C, with these rules of thi
   those that the file ends in are dropped. Every other marker belongs to its piece.
 - The first piece is interval 0. The one behind RSTm is the next interval that RSTm can stand before. Where the scan has no such interval
   the piece is beyond, and counts for nothing.
+- Where the end of the file closes the last piece, and the piece doesn't read, its head counts: the lines that stand whole in it.
 
-`tell` gives all that a reader has to say of a file, as lines of text. A last piece that the end of the file cuts gives no lines.
+`tell` gives all that a reader has to say of a file, as lines of text.
 """
 import bisect
 import re
@@ -186,16 +187,19 @@ def intervals(file, scan, height):
 
 
 def readings_and_records(file, found):
-    """All (component, line, samples) that the pieces give, and (scan, interval, offset, kind) of those that give none."""
+    """All (component, line, samples) that the pieces give, and (scan, interval, offset, kind) of those that do not read."""
     readings, records = set(), []
     for at, scan in enumerate(found.scans):
         width, height, components = found.frame.width, found.frame.height, len(scan.components)
-        for number, is_there, offset, piece in intervals(file, scan, height):
+        numbered = intervals(file, scan, height)
+        last_offset = numbered[-1][2]
+        for number, is_there, offset, piece in numbered:
             rows = min(scan.rows, height - number * scan.rows)
             lines = plain_coder.read(scan.params, width, components, rows, piece) if is_there else "beyond"
             if isinstance(lines, str):
                 records.append((at, number, offset, lines))
-                continue
+                is_cut = is_there and offset == last_offset and not SCAN_END.search(file, scan.start)
+                lines = plain_coder.head(scan.params, width, components, rows, piece) if is_cut else []
             for i, line in enumerate(lines):
                 readings.add((scan.components[i % components], number * scan.rows + i // components, tuple(line)))
     return readings, records
