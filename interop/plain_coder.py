@@ -385,49 +385,109 @@ def head(params, width, components, rows, piece):
     """The head of a piece: the longest list of first lines with whose code its data bits begin, where these are a proper prefix of
     the code of some lines; else no line."""
     bits = data_bits(piece)
-    lines = None if bits is None else continued(params, width, components, rows * components, bits)
-    if lines is None:
+    interval = None if bits is None else cut_interval(params, width, components, rows * components, bits)
+    if interval is None:
         return []
-    wanted = code(params, width, components, lines)
-    assert len(bits) < len(wanted) and wanted[: len(bits)] == bits
-    codes = [code(params, width, components, lines[:number]) for number in range(len(lines))]
-    return lines[: max(number for number, first in enumerate(codes) if bits[: len(first)] == first)]
+    return [line for line in interval.lines if len(line) == width]
 
 
-def continued(params, width, components, count, bits):
-    """So many lines of whose code the bits are a proper prefix; None where there are no such lines."""
+def cut_interval(params, width, components, count, bits):
+    """The whole events at the front of the bits, where what is left of these begins an event that can come next; else None."""
     interval, at = Interval(params, width, components), 0
-    while at <= len(bits):
+    while True:
         if not interval.lines or len(interval.lines[-1]) == width:
             if len(interval.lines) == count:
                 return None
             interval.lines.append([])
-        for interval, event in next_events(interval):
-            if all(bit == wanted for bit, wanted in zip(bits[at:], event)):
-                at += len(event)
-                break
-        else:
+        after, left = copy.deepcopy(interval), Counted(bits[at:])
+        try:
+            read_event(after, left)
+        except NoLines:
+            return interval if begins_event(interval, bits[at:]) else None
+        if event_code(interval, after.lines[-1]) != bits[at : at + left.taken]:
             return None
-    lines = [line + [0] * (width - len(line)) for line in interval.lines]
-    return lines + [[0] * width for _ in range(count - len(lines))]
+        interval, at = after, at + left.taken
 
 
-def next_events(interval):
-    """Each event that can come next, as the interval after it and its bits: a column with each sample, or a run of each length."""
-    samples = range(interval.params.maxval + 1)
-    so_far, value = interval.lines[-1], interval.neighbours()[0]
-    if interval.context() is not None:
-        for sample in samples:
-            after = copy.deepcopy(interval)
-            yield after, regular_code(after, *after.context(), sample)
-        return
-    for count in range(interval.width - len(so_far)):
-        for sample in samples:
-            if sample != value:
-                after = copy.deepcopy(interval)
-                yield after, run_code(after, so_far + [value] * count + [sample])
-    after = copy.deepcopy(interval)
-    yield after, run_code(after, so_far + [value] * (interval.width - len(so_far)))
+class Counted:
+    """Gives bits in turn, and counts them."""
+
+    def __init__(self, bits):
+        self.bits, self.taken = bits, 0
+
+    def __iter__(self):
+        return self
+
+    def __next__(self):
+        if self.taken == len(self.bits):
+            raise StopIteration
+        self.taken += 1
+        return self.bits[self.taken - 1]
+
+
+def read_event(interval, left):
+    found = interval.context()
+    if found is None:
+        read_run(interval, left)
+    else:
+        cell, sign = found
+        read_sample(interval, left, cell, sign, interval.prediction(cell, sign), interval.params.limit)
+
+
+def event_code(interval, line):
+    """The bits of the event that brings the last line to these samples; None where no single event does."""
+    after, found = copy.deepcopy(interval), interval.context()
+    if found is not None:
+        return regular_code(after, *after.context(), line[-1])
+    value, begun = interval.neighbours()[0], len(interval.lines[-1])
+    if len(line) < interval.width and line[-1] == value or any(sample != value for sample in line[begun:-1]):
+        return None
+    return run_code(after, line)
+
+
+def begins_event(interval, bits):
+    """Whether the bits, which may be none, are the first ones, and not all, of an event that can come next."""
+    params = interval.params
+    found = interval.context()
+    if found is None:
+        return any(begins(bits, run) for run in runs(interval, bits))
+    cell = found[0]
+    return any(begins(bits, golomb(cell.k(), params.limit, params.qbpp, cell.mapped(error))) for error in errors(params))
+
+
+def begins(bits, whole):
+    return len(bits) < len(whole) and whole[: len(bits)] == bits
+
+
+def errors(params):
+    """Every error that a sample can have, after its reduction (A.4.5)."""
+    half = (params.range + 1) // 2
+    return range(half - params.range, half)
+
+
+def runs(interval, bits):
+    """The bits of the runs that can come next, of those that agree with the bits for as long as they have blocks and a count."""
+    params, so_far = interval.params, interval.lines[-1]
+    component, value = (len(interval.lines) - 1) % interval.components, interval.neighbours()[0]
+    for count in range(interval.width - len(so_far) + 1):
+        index, left, written = interval.run_index[component], count, []
+        while left >= 1 << ORDERS[index]:
+            written.append(1)
+            left -= 1 << ORDERS[index]
+            index = min(31, index + 1)
+        if count == interval.width - len(so_far):
+            yield written + [1] * (left > 0)
+            return
+        written += [0] + bits_of(left, ORDERS[index])
+        if not all(bit == wanted for bit, wanted in zip(bits, written)):
+            continue
+        after = copy.deepcopy(interval)
+        after.lines[-1] += [value] * count
+        cell, sign, prediction = after.interruption()
+        own = after.reduced(sign * (value - prediction))
+        for error in errors(params):
+            if error != own:
+                yield written + golomb(cell.k(), params.limit - ORDERS[index] - 1, params.qbpp, cell.mapped(error))
 
 
 # Tables ----------------------------------------------------------------------------------------------

@@ -8,7 +8,10 @@ marker syntax of ITU-T T.81, annex B, and T.87, annex C, with these rules of thi
 - The first piece is interval 0. The one behind RSTm is the next interval that RSTm can stand before. Where the scan has no such interval
   the piece is beyond, and counts for nothing.
 
-`tell` gives all that a reader has to say of a file, as lines of text. A last piece that the end of the file cuts gives no lines.
+- A last piece that the end of the file cuts gives its head: the first lines, as long as they are whole, if what is there of the piece can
+  be the front of some lines' code.
+
+`tell` gives all that a reader has to say of a file, as lines of text.
 """
 import bisect
 import re
@@ -190,12 +193,14 @@ def readings_and_records(file, found):
     readings, records = set(), []
     for at, scan in enumerate(found.scans):
         width, height, components = found.frame.width, found.frame.height, len(scan.components)
-        for number, is_there, offset, piece in intervals(file, scan, height):
+        numbered = intervals(file, scan, height)
+        for number, is_there, offset, piece in numbered:
             rows = min(scan.rows, height - number * scan.rows)
             lines = plain_coder.read(scan.params, width, components, rows, piece) if is_there else "beyond"
             if isinstance(lines, str):
                 records.append((at, number, offset, lines))
-                continue
+                is_cut = is_there and offset == numbered[-1][2] and not SCAN_END.search(file, scan.start)
+                lines = plain_coder.head(scan.params, width, components, rows, piece) if is_cut else []
             for i, line in enumerate(lines):
                 readings.add((scan.components[i % components], number * scan.rows + i // components, tuple(line)))
     return readings, records

@@ -4,7 +4,8 @@ use Rattle.std.proofs.lemmas.List.{append-nil}
 use Rattle.std.specs.Prelude.{codes}
 use Rattle.jls_device.specs.Event.{History, GrewBy}
 use Rattle.jls_device.specs.Writing.{Wrote, WroteFront}
-use Rattle.jls_station.specs.Inputs.{Given, IsTaken, StopsAt}
+use Rattle.jls_station.specs.Given.{Given}
+use Rattle.jls_station.specs.Inputs.{IsTaken, StopsAt}
 use Rattle.jls_station.specs.declared.outcome.Cause.TheVariants as cause
 use Rattle.jls_station.specs.declared.outcome.Refusal.{Refusal}
 use Rattle.jls_station.specs.declared.outcome.Outcome.TheVariants.{Done, Refused}
@@ -23,13 +24,13 @@ module _ (lines : Given → List ℕ) (name : List ℕ) (desk desk' report repor
   }
 
   module _ (g : Given) (taken : GrewBy (IsTaken None name g) desk desk') where
-    pub told_for_memory : (r : Refusal) → r.cause ≡ cause.OutOfMemory → GrewBoth (Tells lines name (Refused r)) desk desk' report report
-    told_for_memory r is = record {
+    pub told_for_memory : (r : Refusal) → r.name.now ≡ name → r.cause ≡ cause.OutOfMemory → GrewBoth (Tells lines name (Refused r)) desk desk' report report
+    told_for_memory r named is = record {
       desk_events = taken.events;
       report_events = [];
       desk_is = taken.grew;
       report_is = sym (append-nil report);
-      they_are = no_memory name r g taken.events is taken.they_are;
+      they_are = no_memory name r g taken.events named is taken.they_are;
     }
 
     pub told : (settled whole : Bool) (printed : List ℕ) → printed ≡ lines g → Says g settled whole → GrewBy (Wrote printed) report report'

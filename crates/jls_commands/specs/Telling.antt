@@ -1,21 +1,27 @@
 -- What comes of a command that tells what one input gave.
-use Rattle.std.specs.Prelude.{◌≡◌, ◌↔◌, ℕ, Bool, IsTrue, List, [], None, codes}
+use Rattle.std.specs.Prelude.{◌≡◌, ◌↔◌, ℕ, Bool, IsTrue, List, [], ◌++◌, None, codes, if◌then◌else◌}
 use Rattle.jls_partial.specs.Partial.{PartialPicture}
 use Rattle.jls_partial.specs.Status.{IsSettled}
 use Rattle.jls_report.specs.Report.{report_of}
 use Rattle.jls_report.specs.ReportText.{report_text}
 use Rattle.jls_device.specs.Event.{Event}
 use Rattle.jls_device.specs.Writing.{Wrote, WroteFront}
-use Rattle.jls_station.specs.Inputs.{Given, IsTaken, StopsAt}
+use Rattle.jls_station.specs.Given.{Given}
+use Rattle.jls_station.specs.Inputs.{IsTaken, StopsAt}
 use Rattle.jls_station.specs.declared.input.ReadStop.TheVariants.{Whole}
 use Rattle.jls_station.specs.declared.outcome.Cause.TheVariants as cause
 use Rattle.jls_station.specs.declared.outcome.Refusal.{Refusal}
 use Rattle.jls_station.specs.declared.outcome.Outcome.{Outcome}
 use Rattle.jls_station.specs.declared.outcome.Outcome.TheVariants.{Done, Refused}
+use Rattle.jls_commands.specs.Tracing.{trace_lines}
 
 -- the lines that tell what is known of a partial picture
 abbrev pub report_lines : PartialPicture → List ℕ
 report_lines p = report_text (report_of p)
+
+-- the lines that are printed of what an input gave: its trace, if that is asked for, and its report
+abbrev pub lines : Bool → Given → List ℕ
+lines traced g = (if traced then trace_lines g else []) ++ report_lines g.partial
 
 -- whether each line of what an input gave is settled, and whether it was read whole
 pub record Says (g : Given) (settled whole : Bool) : Type 0 where
@@ -32,7 +38,7 @@ pub data Tells (lines : Given → List ℕ) : List ℕ → Outcome → List Even
   at_input : (name : List ℕ) (r : Refusal) (reading : List Event)
       → r.name.now ≡ name → StopsAt None [] name r.cause reading → Tells lines name (Refused r) reading []
   no_memory : (name : List ℕ) (r : Refusal) (g : Given) (reading : List Event)
-      → r.cause ≡ cause.OutOfMemory → IsTaken None name g reading → Tells lines name (Refused r) reading []
+      → r.name.now ≡ name → r.cause ≡ cause.OutOfMemory → IsTaken None name g reading → Tells lines name (Refused r) reading []
   not_printed : (name : List ℕ) (r : Refusal) (g : Given) (count : ℕ) (reading writing : List Event)
       → r.name.now ≡ codes "-" → r.cause ≡ cause.NotWritten count → IsTaken None name g reading → WroteFront (lines g) count writing
       → Tells lines name (Refused r) reading writing

@@ -1,17 +1,22 @@
 -- What comes of the command `write`.
-use Rattle.std.specs.Prelude.{◌≡◌, ℕ, Bool, true, List, [], ◌++◌, None, get_or}
+use Rattle.std.specs.Prelude.{◌≡◌, ℕ, ◌<◌, Bool, true, false, List, [], ◌∷◌, ◌++◌, length, take, None, get_or}
 use Rattle.jls_partial.specs.Partial.{PartialPicture}
 use Rattle.jls_partial.specs.Status.{IsSettled}
 use Rattle.jls_report.specs.Lines.{is_disputed}
 use Rattle.jls_picture.specs.Picture.{WholePicture, picture_of}
+use Rattle.jls_picture.specs.Options.{WriteOptions, OptionsFit}
 use Rattle.jls_picture.specs.Pnm.{pnm}
+use Rattle.jls_file.specs.WrittenFile.{written_file}
+use Rattle.jls_values.specs.ParamsOf.{in_force}
 use Rattle.jls_picture.specs.Unsettled.{NamesFirstUnsettled}
 use Rattle.jls_picture.specs.declared.picture.PictureFault.{PictureFault}
 use Rattle.jls_picture.specs.declared.picture.PictureFault.TheVariants.{Unsettled}
 use Rattle.jls_picture.specs.declared.output.OutputFault.{OutputFault}
 use Rattle.jls_picture.specs.declared.output.OutputFault.TheVariants.{Write, OutOfMemory}
-use Rattle.jls_device.specs.Event.{Event}
-use Rattle.jls_station.specs.Inputs.{Given, IsTaken, StopsAt}
+use Rattle.jls_device.specs.Event.{Event, created}
+use Rattle.jls_device.specs.Writing.{Wrote}
+use Rattle.jls_station.specs.Given.{Given}
+use Rattle.jls_station.specs.Inputs.{IsTaken, StopsAt}
 use Rattle.jls_station.specs.Outputs.{HandsOut, StopsAtOutput}
 use Rattle.jls_station.specs.declared.outcome.Cause.{Cause}
 use Rattle.jls_station.specs.declared.outcome.Cause.TheVariants as cause
@@ -20,11 +25,43 @@ use Rattle.jls_station.specs.declared.outcome.Outcome.{Outcome}
 use Rattle.jls_station.specs.declared.outcome.Outcome.TheVariants.{Done, Refused}
 use Rattle.jls_commands.specs.Telling.{Says}
 use Rattle.jls_commands.specs.declared.writing.Format.{Format}
-use Rattle.jls_commands.specs.declared.writing.Format.TheVariants.{Pnm}
+use Rattle.jls_commands.specs.declared.writing.Format.TheVariants.{Pnm, Jls}
+
+-- ---- formats
+
+-- how a picture is written as JPEG-LS: with the default parameters of its precision (T.87 C.2.4.1.1.1)
+abbrev pub options_for : Bool → ℕ → WholePicture → WriteOptions
+options_for line ri picture = record {
+  line = line;
+  restart_interval = ri;
+  params = in_force picture.shape.precision 0 0 0 0 0;
+}
 
 -- the file of a picture
 abbrev pub file : Format → WholePicture → List ℕ
 file Pnm picture = pnm picture
+file (Jls line ri) picture = written_file picture (options_for line ri picture)
+
+-- whether it can be written so: as PNM each can
+abbrev pub Fits : Format → WholePicture → Type 0
+Fits Pnm picture = Unit {0}
+Fits (Jls line ri) picture = OptionsFit picture (options_for line ri picture)
+
+-- whether memory is taken while the file goes out
+abbrev pub takes_memory : Format → Bool
+takes_memory Pnm = false
+takes_memory (Jls line ri) = true
+
+-- the file of these bytes stops the command at an output of this name, for this cause: it can't be written, and nothing is created;
+-- the output stops it; or memory runs out when so many of the bytes went out, from the front on and not all
+pub data StopsAtFile (Fits : Type 0) (takes : Bool) : List ℕ → List ℕ → Cause → List Event → Type 0 where
+  too_large : (name bytes : List ℕ) → (Fits → ⊥) → StopsAtFile Fits takes name bytes cause.TooLarge []
+  at_output : (name bytes : List ℕ) (c : Cause) (events : List Event) → Fits → StopsAtOutput name bytes c events
+      → StopsAtFile Fits takes name bytes c events
+  no_memory : (name bytes : List ℕ) (count : ℕ) (writes : List Event) → Fits → takes ≡ true → count < length bytes
+      → Wrote (take count bytes) writes → StopsAtFile Fits takes name bytes cause.OutOfMemory (created name ∷ writes)
+
+-- ---- the command
 
 -- what is said of a line that is not settled: the identifier of its component, its number, and whether it has readings
 abbrev pub unsettled_cause : PartialPicture → PictureFault → Cause
@@ -36,17 +73,18 @@ cut_cause (Write count) = cause.NotWritten count
 cut_cause (OutOfMemory count) = cause.OutOfMemory
 
 -- What comes of `write` in this format with this output and this input: it is done, and the output was created when the input
--- was taken; the input stops it; the first line that is not settled does; or the output does
+-- was taken; the input stops it; the first line that is not settled does; or the file does
 pub data WritesFile : Format → List ℕ → List ℕ → Outcome → List Event → Type 0 where
   done : (f : Format) (out name : List ℕ) (g : Given) (whole : Bool) (reading writing : List Event)
-      → IsTaken None name g reading → IsSettled g.partial → Says g true whole → HandsOut out (file f (picture_of g.partial)) writing
+      → IsTaken None name g reading → IsSettled g.partial → Says g true whole → Fits f (picture_of g.partial)
+      → HandsOut out (file f (picture_of g.partial)) writing
       → WritesFile f out name (Done true whole) (reading ++ writing)
   at_input : (f : Format) (out name : List ℕ) (r : Refusal) (reading : List Event)
       → r.name.now ≡ name → StopsAt None [] name r.cause reading → WritesFile f out name (Refused r) reading
   unsettled : (f : Format) (out name : List ℕ) (r : Refusal) (g : Given) (fault : PictureFault) (reading : List Event)
-      → IsTaken None name g reading → NamesFirstUnsettled g.partial fault
+      → r.name.now ≡ name → IsTaken None name g reading → NamesFirstUnsettled g.partial fault
       → r.cause ≡ unsettled_cause g.partial fault → WritesFile f out name (Refused r) reading
-  at_output : (f : Format) (out name : List ℕ) (r : Refusal) (g : Given) (reading writing : List Event)
+  at_file : (f : Format) (out name : List ℕ) (r : Refusal) (g : Given) (reading writing : List Event)
       → r.name.now ≡ out → IsTaken None name g reading → IsSettled g.partial
-      → StopsAtOutput out (file f (picture_of g.partial)) r.cause writing
+      → StopsAtFile (Fits f (picture_of g.partial)) (takes_memory f) out (file f (picture_of g.partial)) r.cause writing
       → WritesFile f out name (Refused r) (reading ++ writing)

@@ -1,8 +1,9 @@
-//! The commands that take one input: `show` prints its report, and `write` writes its picture.
+//! The commands that take one input: `check` and `show` print what is known of it, and `write` writes its picture.
 #![tactic(auto)]
 
-mod showing;
+mod telling;
+mod tracing;
 mod writing;
 
-pub use showing::show;
+pub use telling::{check, show};
 pub use writing::{Format, write};

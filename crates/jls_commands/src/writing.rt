@@ -1,15 +1,20 @@
 //! The command `write`.
 
-ghost use Rattle.std.specs.Prelude.{◌≡◌, OnOk, IfErr};
+ghost use Rattle.std.specs.Prelude.{◌≡◌, true, OnOk, IfErr};
 ghost use Rattle.jls_device.specs.Event.{GrewBy};
 ghost use Rattle.jls_station.specs.Outputs.{HandsOut, StopsAtOutput};
 ghost use Rattle.jls_picture.specs.Unsettled.{NamesFirstUnsettled};
-ghost use Rattle.jls_commands.specs.WritingFiles.{cut_cause, file, unsettled_cause, WritesFile};
+ghost use Rattle.jls_file.specs.WrittenFile.{written_file};
+ghost use Rattle.jls_picture.specs.Options.{OptionsFit};
+ghost use Rattle.jls_picture.specs.Pnm.{pnm};
+ghost use Rattle.jls_commands.specs.WritingFiles.{cut_cause, file, Fits, options_for, StopsAtFile, takes_memory, unsettled_cause, WritesFile};
 
 use jls_device::Desk;
+use jls_file::write_jls;
 use jls_partial::Partial;
-use jls_picture::{OutputFault, Picture, PictureFault, write_pnm};
+use jls_picture::{Options, OutputFault, Picture, PictureFault, write_pnm};
 use jls_station::{Cause, Outcome, Refusal, open_and_read};
+use jls_values::Params;
 use std::alloc::Global;
 
 /// The format of a written picture.
@@ -17,6 +22,10 @@ use std::alloc::Global;
 pub enum Format {
     /// PGM for one component, PPM for three, and PAM for two and four.
     Pnm,
+    /// JPEG-LS with the default parameters of the precision (ITU-T T.87, C.2.4.1.1.1). With `line` all components stand in one
+    /// scan, line by line, and else each in one of its own. `ri` is the restart interval in rows, and 0 means that there are
+    /// no restart markers.
+    Jls { line: bool, ri: u16 },
 }
 
 /// The cause that names a line which isn't settled.
@@ -42,27 +51,78 @@ fn cut(fault: OutputFault) -> Cause
     }
 }
 
-/// Creates the output of this name and hands the file of the picture to it.
-fn hand_out<D: Desk>(
-    desk: &mut D,
-    format: Format,
-    name: &str,
-    picture: &Picture<'_>,
-) -> Result<(), Cause>
-    ensures written { OnOk result (GrewBy (HandsOut name.now (file format picture.now)) (D.history desk.old) (D.history desk.new)) }
+/// How a picture is written as JPEG-LS.
+fn jls_options(picture: &Picture<'_>, line: bool, ri: u16) -> Options
+    ensures { result ≡ options_for line ri picture.now }
+{
+    let params = match Params::new(picture.shape().precision(), 0, 0, 0, 0, 0) {
+        Ok(params) => params,
+        Err(_) => unreachable!(),
+    };
+    Options::new(line, ri, params)
+}
+
+/// Creates the output of this name and hands the PNM file of the picture to it.
+fn hand_out_pnm<D: Desk>(desk: &mut D, name: &str, picture: &Picture<'_>) -> Result<(), Cause>
+    ensures written { OnOk result (GrewBy (HandsOut name.now (pnm picture.now)) (D.history desk.old) (D.history desk.new)) }
     ensures stopped { IfErr result (λ cause.
-        GrewBy (StopsAtOutput name.now (file format picture.now) cause) (D.history desk.old) (D.history desk.new)) }
+        GrewBy (StopsAtOutput name.now (pnm picture.now) cause) (D.history desk.old) (D.history desk.new)) }
 {
     match desk.create_output(name) {
         Ok(()) => {}
         Err(_) => return Err(Cause::NotCreated),
     }
-    let handed = match format {
-        Format::Pnm => write_pnm(picture, desk),
-    };
-    match handed {
+    match write_pnm(picture, desk) {
         Ok(()) => Ok(()),
         Err(fault) => Err(cut(fault)),
+    }
+}
+
+/// Creates the output of this name and hands the JPEG-LS file of the picture to it, if the options fit.
+fn hand_out_jls<D: Desk>(
+    alloc: Global,
+    desk: &mut D,
+    options: &Options,
+    name: &str,
+    picture: &Picture<'_>,
+) -> Result<(), Cause>
+    ensures fit { OnOk result (OptionsFit picture.now options.now) }
+    ensures written { OnOk result (GrewBy (HandsOut name.now (written_file picture.now options.now)) (D.history desk.old) (D.history desk.new)) }
+    ensures stopped { IfErr result (λ cause. GrewBy (StopsAtFile (OptionsFit picture.now options.now) true name.now
+        (written_file picture.now options.now) cause) (D.history desk.old) (D.history desk.new)) }
+{
+    if !options.fits(picture) {
+        return Err(Cause::TooLarge);
+    }
+    match desk.create_output(name) {
+        Ok(()) => {}
+        Err(_) => return Err(Cause::NotCreated),
+    }
+    match write_jls(alloc, picture, options, desk) {
+        Ok(()) => Ok(()),
+        Err(fault) => Err(cut(fault)),
+    }
+}
+
+/// Creates the output of this name and hands the file of the picture to it, if it can be written so.
+fn hand_out<D: Desk>(
+    alloc: Global,
+    desk: &mut D,
+    format: Format,
+    name: &str,
+    picture: &Picture<'_>,
+) -> Result<(), Cause>
+    ensures fit { OnOk result (Fits format picture.now) }
+    ensures written { OnOk result (GrewBy (HandsOut name.now (file format picture.now)) (D.history desk.old) (D.history desk.new)) }
+    ensures stopped { IfErr result (λ cause. GrewBy (StopsAtFile (Fits format picture.now) (takes_memory format) name.now
+        (file format picture.now) cause) (D.history desk.old) (D.history desk.new)) }
+{
+    match format {
+        Format::Pnm => hand_out_pnm(desk, name, picture),
+        Format::Jls { line, ri } => {
+            let options = jls_options(picture, line, ri);
+            hand_out_jls(alloc, desk, &options, name, picture)
+        }
     }
 }
 
@@ -77,21 +137,22 @@ pub fn write<'a, D: Desk>(
 ) -> Outcome<'a>
     ensures { GrewBy (WritesFile format out.now file.now result) (D.history desk.old) (D.history desk.new) }
 {
-    let partial = match open_and_read(alloc, desk, file) {
-        Ok(partial) => partial,
+    let input = match open_and_read(alloc, desk, file) {
+        Ok(input) => input,
         Err(cause) => return Outcome::Refused(Refusal { name: file, cause }),
     };
-    let picture = match Picture::of(&partial) {
+    let partial = input.partial();
+    let picture = match Picture::of(partial) {
         Ok(picture) => picture,
         Err(fault) => {
-            let cause = unsettled(&partial, fault);
+            let cause = unsettled(partial, fault);
             return Outcome::Refused(Refusal { name: file, cause });
         }
     };
-    match hand_out(desk, format, out, &picture) {
+    match hand_out(alloc, desk, format, out, &picture) {
         Ok(()) => Outcome::Done {
             settled: true,
-            whole: true,
+            whole: input.is_whole(),
         },
         Err(cause) => Outcome::Refused(Refusal { name: out, cause }),
     }

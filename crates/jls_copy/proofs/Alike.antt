@@ -1,11 +1,11 @@
 -- Two FF bytes stand for any longer run: a piece with two FF in a row has no data bits, whatever stands round them.
-use Rattle.std.proofs.Common.{◌≡◌, ℕ, zero, suc, ◌+◌, ◌*◌, ◌<◌, ◌≤◌, Bool, true, false, not, ◌&&◌, List, [], ◌∷◌, ◌++◌, length, replicate, refl, sym, ap, ◌∙◌, subst, append_assoc, arith, ◌⊎◌, inl, inr}
+use Rattle.std.proofs.Common.{◌≡◌, ℕ, Bool, true, false, not, ◌&&◌, List, [], ◌∷◌, ◌++◌, refl, sym, ap, ◌∙◌, subst, inl, inr}
 use Rattle.jls_bits.specs.Bits.{is_whole, is_whole_after, ends_data}
-use Rattle.jls_interval.specs.Reads.{Reads, IsLong, IsBroken}
 use Rattle.jls_marker.specs.Scan.{Scan}
-use Rattle.jls_copy.specs.Numbers.{Interval, BeyondLast}
+use Rattle.jls_copy.specs.Numbers.{Interval}
 use Rattle.jls_copy.specs.ScanData.{fill_bytes}
 use Rattle.jls_copy.specs.Pieces.{Outcome, Lines, Fault, IsOutcomeAt}
+use Rattle.jls_copy.specs.CutPieces.{IsHeadAt}
 use Rattle.jls_copy.specs.ReaderState.{held_bytes}
 use Rattle.jls_copy.specs.Tells.{SameBytes, HeldIs}
 use Rattle.jls_copy.specs.declared.piece.PieceKind.TheVariants as kind
@@ -41,7 +41,7 @@ pub same_more : (told piece : List ℕ) (held : Held) (n b : ℕ) → HeldIs hel
 same_more told piece held n b h (inl e) = same_equal told piece n b e held h
 same_more told piece held n b h (inr e) = inr (unwhole_append 0 told (held_bytes held ++ b ∷ []) e.0, unwhole_append 0 piece (fill_bytes n ++ b ∷ []) e.1)
 
-never_both : (b : Bool) → b ≡ true → b ≡ false → ⊥
+pub never_both : (b : Bool) → b ≡ true → b ≡ false → ⊥
 never_both b e f = let g : true ≡ false = sym e ∙ f in cc
 
 -- and so has the same outcome
@@ -54,3 +54,9 @@ same_outcome s k told piece (Fault kind.Broken) (inr e) h = record {
   not_long = λ r. never_both (is_whole piece) r.begins.data_bits.whole e.1;
 }
 same_outcome s k told piece (Fault kind.Beyond) (inr e) h = h
+
+-- and the same head
+pub same_head : (s : Scan) (k : ℕ) (told piece : List ℕ) (head : List (List ℕ)) → SameBytes told piece → IsHeadAt s (Interval k) told head → IsHeadAt s (Interval k) piece head
+same_head s k told piece head (inl e) h = subst (λ bytes. IsHeadAt s (Interval k) bytes head) e h
+same_head s k told piece head (inr e) (inl h) = absurd (never_both (is_whole told) h.0 e.0)
+same_head s k told piece head (inr e) (inr h) = inr (e.1, h.1)

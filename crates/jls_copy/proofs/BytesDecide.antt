@@ -1,21 +1,25 @@
 -- What a copy gives is determined by its bytes.
-use Rattle.std.proofs.Common.{◌≡◌, ℕ, ◌*◌, ◌<◌, List, [], ◌∷◌, length, take, Option, Some, None, refl, sym, ap, ◌∙◌, subst, arith}
+use Rattle.std.proofs.Common.{◌≡◌, ℕ, ◌*◌, ◌<◌, inl, inr, Bool, true, false, List, [], ◌∷◌, ◌++◌, length, take, Option, Some, None, refl, sym, ap, ◌∙◌, subst, arith}
 use Rattle.std.specs.List.{AllByRecursion}
 use Rattle.jls_values.specs.OrderedSet as set
 use Rattle.jls_values.specs.Shape.{PictureShape}
-use Rattle.jls_partial.specs.Partial.{PartialPicture}
+use Rattle.jls_partial.specs.Partial.{PartialPicture, without_sources}
 use Rattle.jls_interval.specs.Reads.{Reads, IsLong}
+use Rattle.jls_bits.specs.Bits.{bits_read, is_whole}
+use Rattle.jls_interval.proofs.HeadLines.{one_head}
 use Rattle.jls_interval.proofs.PiecesReadOnce.{reads_once, read_not_long}
 use Rattle.jls_marker.specs.Scan.{Scan, IsScan, row_count}
 use Rattle.jls_marker.specs.declared.fault.MarkerFault.{MarkerFault}
 use Rattle.jls_copy.specs.Numbers.{PieceNumber, Interval, BeyondLast}
 use Rattle.jls_copy.specs.Pieces.{FoundPiece, pieces, Outcome, Lines, Fault, IsOutcomeAt, AreOutcomes, readings, records}
 use Rattle.jls_copy.specs.Course.{Course}
+use Rattle.jls_copy.specs.CutPieces.{closed_by_input, last_piece, cut_pieces, IsHeadAt, IsHeadOfCut, head_readings}
+use Rattle.std.specs.Prelude.{if◌then◌else◌}
+use Rattle.jls_copy.proofs.Alike.{never_both}
 use Rattle.jls_copy.specs.ReadCopy.{ReadCopy}
-use Rattle.jls_copy.specs.CopyReads.{CopyReads, CopyGivesNone, no_picture}
+use Rattle.jls_copy.specs.CopyReads.{CopyReads, no_picture}
 use Rattle.jls_copy.specs.CopyLaws.{BytesDecide}
 use Rattle.jls_copy.specs.declared.piece.PieceKind.TheVariants as kind
-use Rattle.jls_copy.specs.declared.reader.CopyFault.{CopyFault}
 use Rattle.jls_copy.specs.declared.reader.CopyFault.TheVariants.{NoPicture}
 use Rattle.jls_copy.proofs.OneCourse.{one_course}
 use Rattle.jls_copy.proofs.ScansOfCourse.{HasScan, course_has}
@@ -78,8 +82,34 @@ read_eq r s e f g h =
 some_is : (a b : PictureShape) → Some a ≡ Some b → a ≡ b
 some_is a b e = cc
 
-abbrev given : Course → PictureShape → List Outcome → PartialPicture
-given c shape os = record { shape = shape; readings = set.insert_all set.empty (readings (pieces c) os) }
+-- One head
+one_head_at : (s : Scan) (n : PieceNumber) (bytes : List ℕ) (a b : List (List ℕ)) → IsScan s → IsHeadAt s n bytes a → IsHeadAt s n bytes b → a ≡ b
+one_head_at s (Interval k) bytes a b ok (inl h) (inl r) =
+    one_head s.params s.width (length s.components) (row_count s k * length s.components) ok.params (let w = ok.width_at_least in omega arith) (bits_read bytes) a b h.1 r.1
+one_head_at s (Interval k) bytes a b ok (inl h) (inr r) = absurd (never_both (is_whole bytes) h.0 r.0)
+one_head_at s (Interval k) bytes a b ok (inr h) (inl r) = absurd (never_both (is_whole bytes) r.0 h.0)
+one_head_at s (Interval k) bytes a b ok (inr h) (inr r) = h.1 ∙ sym r.1
+one_head_at s (BeyondLast k) bytes a b ok h r = h ∙ sym r
+
+pub one_head_of_cut : (ps : List FoundPiece) (a b : List (List ℕ)) → AllByRecursion HasScan ps → IsHeadOfCut ps a → IsHeadOfCut ps b → a ≡ b
+one_head_of_cut [] a b ok h r = h ∙ sym r
+one_head_of_cut (p ∷ ps) a b ok h r = one_head_at p.plan p.number p.bytes a b ok.0 h r
+
+last_has : (ps : List FoundPiece) → AllByRecursion HasScan ps → AllByRecursion HasScan (last_piece ps)
+last_has [] ok = tt
+last_has (p ∷ []) ok = ok
+last_has (p ∷ q ∷ ps) ok = last_has (q ∷ ps) ok.1
+
+pub cut_has : (c : Course) → AllByRecursion HasScan (pieces c) → AllByRecursion HasScan (cut_pieces c)
+cut_has c ok = by (closed_by_input c.units)
+  where
+    by : (b : Bool) → AllByRecursion HasScan (if b then last_piece (pieces c) else [])
+    by true = last_has (pieces c) ok
+    by false = tt
+
+abbrev given : Course → PictureShape → List Outcome → List (List ℕ) → PartialPicture
+given c shape os head =
+    without_sources shape (set.insert_all set.empty (readings (pieces c) os ++ head_readings (cut_pieces c) head))
 
 one_reading : (bytes : List ℕ) → AllByRecursion (λ b. b < 256) bytes → (r s : ReadCopy) → CopyReads bytes r → CopyReads bytes s → r ≡ s
 one_reading bytes low r s k l =
@@ -87,9 +117,11 @@ one_reading bytes low r s k l =
     let shape = some_is k.shape l.shape (sym k.framed ∙ ap (λ (c : Course). c.headers.frame) same ∙ l.framed) in
     let each = subst (λ c. AreOutcomes (pieces c) l.outcomes) (sym same) l.each in
     let outcomes = one_outcomes (pieces k.course) k.outcomes l.outcomes (course_has bytes k.course low k.is_course) k.each each in
+    let heads = one_head_of_cut (cut_pieces k.course) k.head l.head (cut_has k.course (course_has bytes k.course low k.is_course)) k.head_is (subst (λ c. IsHeadOfCut (cut_pieces c) l.head) (sym same) l.head_is) in
     let told = ap (λ c. records (pieces c) k.outcomes) same ∙ ap (records (pieces l.course)) outcomes in
     read_eq r s
-    (k.partial_is ∙ ap (λ c. given c k.shape k.outcomes) same ∙ ap (λ x. given l.course x k.outcomes) shape ∙ ap (given l.course l.shape) outcomes ∙ sym l.partial_is)
+    (k.partial_is ∙ ap (λ c. given c k.shape k.outcomes k.head) same ∙ ap (λ x. given l.course x k.outcomes k.head) shape
+    ∙ ap (λ os. given l.course l.shape os k.head) outcomes ∙ ap (given l.course l.shape l.outcomes) heads ∙ sym l.partial_is)
     (k.pieces_are ∙ ap (take 4096) told ∙ sym l.pieces_are)
     (k.count_is ∙ ap length told ∙ sym l.count_is)
     (k.ended_is ∙ ap (λ (c : Course). c.end) same ∙ sym l.ended_is)

@@ -1,28 +1,23 @@
 -- What a reader answers is what the course of the copy gives.
-use Rattle.std.proofs.Common.{◌≡◌, ℕ, ◌<◌, List, [], ◌∷◌, ◌++◌, length, take, Option, Some, None, refl, sym, ◌∙◌, ap, subst}
+use Rattle.std.proofs.Common.{◌≡◌, ℕ, ◌<◌, List, [], ◌∷◌, ◌++◌, length, take, refl, sym, ◌∙◌, ap}
 use Rattle.std.specs.List.{AllByRecursion}
 use Rattle.jls_values.specs.OrderedSet as set
-use Rattle.jls_partial.specs.Reading as partial
 use Rattle.jls_marker.specs.Scan.{Scan}
 use Rattle.jls_copy.proofs.HeaderFacts.{fault_is_final}
 use Rattle.jls_copy.specs.Numbers.{PieceNumber, Interval, BeyondLast}
 use Rattle.jls_copy.specs.Pieces.{FoundPiece, Outcome, Lines, Fault, IsOutcome, IsOutcomeAt, readings_of, records_of}
 use Rattle.jls_copy.specs.Pieces.{AreOutcomes, readings, records}
-use Rattle.jls_copy.specs.Course.{Course, IsCourse}
 use Rattle.jls_copy.specs.Pieces.{pieces}
 use Rattle.jls_copy.specs.ReaderState.{reading}
 use Rattle.jls_copy.specs.Reader.{all_pieces}
-use Rattle.jls_copy.specs.Conclusion.{Concludes, SaysNone, is_final}
-use Rattle.jls_copy.specs.CopyReads.{CopyReads, CopyGivesNone, IsDone, is_final_end, no_picture}
-use Rattle.std.specs.Prelude.{Bool, true, false, Result, Err}
+use Rattle.jls_copy.specs.Conclusion.{SaysNone, is_final}
+use Rattle.jls_copy.specs.CopyReads.{CopyGivesNone, IsDone, is_final_end, no_picture}
+use Rattle.std.specs.Prelude.{Bool, true, false}
 use Rattle.jls_marker.specs.HeaderState.{HeaderState}
-use Rattle.jls_marker.specs.Headers.{headers_after}
 use Rattle.jls_copy.specs.Course.{EndsHere, at_eoi, at_eoi_before_a_frame, at_no_marker, at_unknown_code, at_short_length, at_refused_segment}
 use Rattle.jls_copy.specs.ReaderState.{end_at}
 use Rattle.jls_copy.specs.Tells.{Tells, EndedAt, ended, without_soi, without_ff}
 use Rattle.jls_copy.specs.declared.end.End.{End}
-use Rattle.jls_copy.specs.declared.end.End.TheVariants.{Eoi, Input, Header}
-use Rattle.jls_marker.specs.declared.fault.MarkerFault.{MarkerFault}
 use Rattle.jls_copy.specs.declared.place.Place.{Place}
 use Rattle.jls_copy.specs.declared.place.Place.TheVariants.{Start, AtMarker, AtLength, InLength, InPayload, InScan, Done}
 use Rattle.jls_copy.proofs.ReadingTells.{readings_tell}
@@ -31,10 +26,11 @@ use Rattle.jls_copy.specs.declared.reader.CopyFault.TheVariants.{NoPicture, OutO
 use Rattle.jls_copy.specs.Tells.{ToldAs, AlikePiece, AlikePieces}
 use Rattle.jls_copy.specs.ReaderLaws.{ConclusionTold}
 use Rattle.jls_copy.specs.declared.piece.PieceKind.TheVariants as kind
-use Rattle.jls_copy.specs.declared.piece.PieceRecord.{PieceRecord}
-use Rattle.jls_copy.specs.ReadCopy.{ReadCopy}
-use Rattle.jls_copy.proofs.Alike.{same_outcome}
+use Rattle.jls_copy.proofs.Alike.{same_outcome, same_head}
+use Rattle.jls_copy.specs.CutPieces.{IsHeadAt, IsHeadOfCut, head_readings, cut_pieces}
+use Rattle.jls_copy.specs.ReaderState.{closed_at_end}
 use Rattle.jls_copy.proofs.CourseTold.{course_told}
+use Rattle.jls_partial.specs.Partial.{without_sources}
 
 outcome_at : (s : Scan) (n : PieceNumber) (x w : List ℕ) (o : Outcome) → ToldAs n x w → IsOutcomeAt s n x o → IsOutcomeAt s n w o
 outcome_at s (Interval k) x w o t h = same_outcome s k x w o t h
@@ -66,6 +62,24 @@ all_alike (p ∷ ps) (q ∷ qs) (o ∷ os) a h =
       ap (λ t. t ++ records ps os) (records_alike p q o a.0) ∙ ap (λ t. records_of q o ++ t) r.2,
     )
 
+-- heads of pieces that are alike
+head_at : (s : Scan) (n : PieceNumber) (x w : List ℕ) (head : List (List ℕ)) → ToldAs n x w → IsHeadAt s n x head → IsHeadAt s n w head
+head_at s (Interval k) x w head t h = same_head s k x w head t h
+head_at s (BeyondLast k) x w head t h = h
+
+head_alike : (ps qs : List FoundPiece) (head : List (List ℕ)) → AlikePieces ps qs → IsHeadOfCut ps head → IsHeadOfCut qs head
+head_alike [] [] head a h = h
+head_alike [] (q ∷ qs) head a h = absurd a
+head_alike (p ∷ ps) [] head a h = absurd a
+head_alike (p ∷ ps) (q ∷ qs) head a h =
+    let now : IsHeadAt q.plan q.number p.bytes head = rw (a.0.plan_is, a.0.number_is) at h in head_at q.plan q.number p.bytes q.bytes head a.0.told_as now
+
+head_readings_alike : (ps qs : List FoundPiece) (head : List (List ℕ)) → AlikePieces ps qs → head_readings ps head ≡ head_readings qs head
+head_readings_alike [] [] head a = refl
+head_readings_alike [] (q ∷ qs) head a = absurd a
+head_readings_alike (p ∷ ps) [] head a = absurd a
+head_readings_alike (p ∷ ps) (q ∷ qs) head a = readings_alike p q (Lines head) a.0
+
 pub conclusion_told : ConclusionTold
 conclusion_told bytes low read k =
     let told = course_told bytes low in
@@ -77,7 +91,11 @@ conclusion_told bytes low read k =
       framed = ap (λ h. h.frame) told.2 ∙ k.framed;
       outcomes = k.outcomes;
       each = all.0;
-      partial_is = k.partial_is ∙ ap (λ rs. record { shape = k.shape; readings = set.insert_all set.empty rs }) all.1;
+      head = k.head;
+      head_is = head_alike (closed_at_end (reading bytes).state.place) (cut_pieces told.0) k.head told.5 k.head_is;
+      partial_is = k.partial_is
+          ∙ ap (λ rs. without_sources k.shape (set.insert_all set.empty (rs ++ head_readings (closed_at_end (reading bytes).state.place) k.head))) all.1
+          ∙ ap (λ rs. without_sources k.shape (set.insert_all set.empty (readings (pieces told.0) k.outcomes ++ rs))) (head_readings_alike (closed_at_end (reading bytes).state.place) (cut_pieces told.0) k.head told.5);
       pieces_are = k.pieces_are ∙ ap (take 4096) all.2;
       count_is = k.count_is ∙ ap length all.2;
       ended_is = k.ended_is ∙ sym told.3;

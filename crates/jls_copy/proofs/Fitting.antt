@@ -1,6 +1,6 @@
 -- The lines of an interval fit into the picture.
-use Rattle.std.proofs.Common.{◌≡◌, ℕ, zero, suc, ◌+◌, ◌-◌, ◌*◌, ◌^◌, ◌<◌, ◌≤◌, Bool, true, false, List, [], ◌∷◌, map, length, get_or, drop, Option, Some, None, refl, sym, ap, ◌∙◌, subst, arith, ◌⊎◌, inl, inr}
-use Rattle.std.specs.Prelude.{nat_le, ◌==◌, if◌then◌else◌, min}
+use Rattle.std.proofs.Common.{◌≡◌, ℕ, zero, suc, ◌+◌, ◌*◌, ◌^◌, ◌<◌, ◌≤◌, true, false, List, [], ◌∷◌, map, length, get_or, drop, None, refl, sym, ap, ◌∙◌, subst, arith, inl, inr}
+use Rattle.std.specs.Prelude.{nat_le, ◌==◌}
 use Rattle.std.specs.List.{AllByRecursion, list_any}
 use Rattle.std.proofs.lemmas.Bool.{cases_lt, cases_eq}
 use Rattle.std.proofs.lemmas.Bool.Decides.{nat_tests}
@@ -91,10 +91,10 @@ rows_in s k first = elim (cases_eq s.restart_interval 0) [
   | inr some ↦ (let test : (s.restart_interval == 0) ≡ false = grind (arith, nat_tests, some) in rw test (omega (arith, first)))
 ]
 
--- the lines that a piece of an interval reads as fit where they are placed
-pub lines_fit : (shape : PictureShape) (s : Scan) (k : ℕ) (lines : List (List ℕ)) → IsScan s → IsScanOf shape s → k < intervals s
-    → AreLines s.params s.width (row_count s k * length s.components) lines → FitFrom shape s.components (first_row s k) 0 lines
-lines_fit shape s k lines ok of_shape within are = record {
+-- the first lines of an interval fit where they are placed
+pub lines_fit : (shape : PictureShape) (s : Scan) (k count : ℕ) (lines : List (List ℕ)) → IsScan s → IsScanOf shape s → k < intervals s
+    → count ≤ row_count s k * length s.components → AreLines s.params s.width count lines → FitFrom shape s.components (first_row s k) 0 lines
+lines_fit shape s k n lines ok of_shape within few are = record {
   height_below = subst (λ height. height < 2 ^ 16) of_shape.height ok.height_below;
   components_in = of_shape.components_below;
   place_in = omega (arith, ok.components_at_least);
@@ -103,7 +103,7 @@ lines_fit shape s k lines ok of_shape within are = record {
       let all : (first_row s k + row_count s k) * length s.components ≤ s.height * length s.components = mul-le-mul_right (length s.components) rows in
       let parts = times_sum (first_row s k) (row_count s k) (length s.components) in
       let same : s.height * length s.components ≡ shape.height * length s.components = ap (λ height. height * length s.components) of_shape.height in
-      omega (arith, count, all, parts, same);
+      omega (arith, count, few, all, parts, same);
   each = line_fits shape s.params s.width lines ok.params of_shape.precision of_shape.width are.each;
 }
 

@@ -1,15 +1,14 @@
 -- One byte more, over what a reader holds.
-use Rattle.std.proofs.Common.{◌≡◌, ℕ, zero, suc, ◌+◌, ◌-◌, ◌^◌, ◌<◌, ◌≤◌, Bool, true, false, List, [], ◌∷◌, ◌++◌, take, length, Option, Some, None, refl, sym, ap, ◌∙◌, subst, append_assoc, add-zero, arith, length-append, ◌⊎◌, inl, inr}
+use Rattle.std.proofs.Common.{◌≡◌, ℕ, ◌+◌, ◌-◌, ◌^◌, ◌<◌, ◌≤◌, Bool, true, false, List, [], ◌∷◌, ◌++◌, take, length, Option, Some, None, refl, sym, ap, ◌∙◌, subst, append_assoc, arith, length-append, ◌⊎◌, inl, inr}
 use Rattle.std.proofs.lemmas.List.{append-nil, take_all, take-append-le, length-take}
 use Rattle.std.proofs.lemmas.Bool.{cases_lt}
 use Rattle.std.proofs.lemmas.Bool.Decides.{nat_tests}
 use Rattle.std.specs.Prelude.{nat_lt, ◌==◌, ◌*◌, cond, Result, Ok, Err, IfSome, IfOk, IfErr}
 use Rattle.jls_copy.proofs.HeaderFacts.{frame_kept}
-use Rattle.jls_copy.specs.Conclusion.{Concludes, SaysNone}
+use Rattle.jls_copy.specs.Conclusion.{SaysNone}
 use Rattle.jls_copy.specs.CopyReads.{no_picture}
-use Rattle.jls_copy.specs.ReaderState.{end_at, closed_at_end}
+use Rattle.jls_copy.specs.ReaderState.{end_at}
 use Rattle.jls_copy.specs.declared.end.End.{End}
-use Rattle.jls_copy.specs.ReadCopy.{ReadCopy}
 use Rattle.jls_copy.specs.declared.reader.CopyFault.{CopyFault}
 use Rattle.jls_copy.specs.declared.reader.CopyFault.TheVariants.{NoPicture, OutOfMemory}
 use Rattle.jls_marker.specs.declared.fault.MarkerFault.{MarkerFault}
@@ -17,17 +16,16 @@ use Rattle.std.specs.List.{AllByRecursion}
 use Rattle.jls_values.specs.OrderedSet as set
 use Rattle.jls_values.specs.OrderedSetLaws.{insert_all-append}
 use Rattle.jls_values.specs.Shape.{PictureShape}
-use Rattle.jls_partial.specs.Partial.{PartialPicture}
-use Rattle.jls_partial.specs.Reading as partial
+use Rattle.jls_partial.specs.Partial.{PartialPicture, without_sources}
 use Rattle.jls_marker.specs.HeaderState.{HeaderState}
 use Rattle.jls_marker.specs.Scan.{Scan}
 use Rattle.jls_marker.specs.Headers.{headers_after}
 use Rattle.jls_copy.specs.Pieces.{FoundPiece, Outcome, Lines, Fault, IsOutcome, readings_of, records_of}
-use Rattle.jls_copy.specs.Findings.{Adds, AddsOutcome, HoldsShape, with_readings, picture_of, kept_with}
+use Rattle.jls_copy.specs.Findings.{Adds, HoldsShape, with_readings, picture_of, kept_with}
 use Rattle.jls_copy.specs.Gathers.{Gathers}
 use Rattle.jls_copy.specs.Pieces.{AreOutcomes, readings, records}
-use Rattle.jls_copy.specs.ReaderState.{ReaderState, Step, Reading, reading, reading_with, reading_from, first_state, after_byte, step_from, closed_at, closed_by, class_of, segment_taken, length_known, payload_grown}
-use Rattle.jls_copy.specs.Machine.{state_of, IsBehind}
+use Rattle.jls_copy.specs.ReaderState.{Step, Reading, reading, reading_with, reading_from, after_byte, step_from, closed_at, segment_taken}
+use Rattle.jls_copy.specs.Machine.{state_of}
 use Rattle.jls_copy.specs.Reader.{IsReading}
 use Rattle.jls_copy.specs.Sound.{IsPlace}
 use Rattle.jls_copy.specs.declared.machine.Machine.{Machine}
@@ -35,9 +33,6 @@ use Rattle.jls_copy.specs.declared.findings.Findings.{Findings}
 use Rattle.jls_copy.specs.declared.piece.PieceRecord.{PieceRecord}
 use Rattle.jls_copy.specs.declared.place.Place.{Place}
 use Rattle.jls_copy.specs.declared.place.Place.TheVariants.{Start, AtMarker, AtLength, InLength, InPayload, InScan, Done}
-use Rattle.jls_copy.specs.declared.scan.ByteClass.{ByteClass}
-use Rattle.jls_copy.specs.declared.scan.ByteClass.TheVariants.{Fill, Mark, Stop, Data}
-use Rattle.jls_copy.specs.declared.scan.OpenScan.{OpenScan}
 use Rattle.jls_copy.proofs.Kept.{behind_some}
 
 -- reading is a fold: one byte more is one step more
@@ -48,19 +43,19 @@ from_snoc r (x ∷ bytes) b = from_snoc (reading_with r x) bytes b
 pub reading_snoc : (bytes : List ℕ) (b : ℕ) → reading (bytes ++ b ∷ []) ≡ reading_with (reading bytes) b
 reading_snoc bytes b = from_snoc _ bytes b
 
-are_more : (ps : List FoundPiece) (os : List Outcome) (p : FoundPiece) (o : Outcome) → AreOutcomes ps os → IsOutcome p o → AreOutcomes (ps ++ p ∷ []) (os ++ o ∷ [])
+pub are_more : (ps : List FoundPiece) (os : List Outcome) (p : FoundPiece) (o : Outcome) → AreOutcomes ps os → IsOutcome p o → AreOutcomes (ps ++ p ∷ []) (os ++ o ∷ [])
 are_more [] [] p o h i = (i, tt)
 are_more [] (x ∷ os) p o h i = absurd h
 are_more (x ∷ ps) [] p o h i = absurd h
 are_more (x ∷ ps) (y ∷ os) p o h i = (h.0, are_more ps os p o h.1 i)
 
-readings_more : (ps : List FoundPiece) (os : List Outcome) (p : FoundPiece) (o : Outcome) → AreOutcomes ps os → readings (ps ++ p ∷ []) (os ++ o ∷ []) ≡ readings ps os ++ readings_of p o
+pub readings_more : (ps : List FoundPiece) (os : List Outcome) (p : FoundPiece) (o : Outcome) → AreOutcomes ps os → readings (ps ++ p ∷ []) (os ++ o ∷ []) ≡ readings ps os ++ readings_of p o
 readings_more [] [] p o h = append-nil (readings_of p o)
 readings_more [] (x ∷ os) p o h = absurd h
 readings_more (x ∷ ps) [] p o h = absurd h
 readings_more (x ∷ ps) (y ∷ os) p o h = ap (λ t. readings_of x y ++ t) (readings_more ps os p o h.1) ∙ sym (append_assoc (readings_of x y) (readings ps os) (readings_of p o))
 
-records_more : (ps : List FoundPiece) (os : List Outcome) (p : FoundPiece) (o : Outcome) → AreOutcomes ps os → records (ps ++ p ∷ []) (os ++ o ∷ []) ≡ records ps os ++ records_of p o
+pub records_more : (ps : List FoundPiece) (os : List Outcome) (p : FoundPiece) (o : Outcome) → AreOutcomes ps os → records (ps ++ p ∷ []) (os ++ o ∷ []) ≡ records ps os ++ records_of p o
 records_more [] [] p o h = append-nil (records_of p o)
 records_more [] (x ∷ os) p o h = absurd h
 records_more (x ∷ ps) [] p o h = absurd h
@@ -81,11 +76,11 @@ kept_one xs r = by (cases_lt (length xs) 4096)
         let same : take 4096 (xs ++ r ∷ []) ≡ take 4096 xs = take-append-le 4096 xs (r ∷ []) h in
         rw (size, same) refl
 
-kept_more : (xs : List PieceRecord) (p : FoundPiece) (o : Outcome) → kept_with (take 4096 xs) (records_of p o) ≡ take 4096 (xs ++ records_of p o)
+pub kept_more : (xs : List PieceRecord) (p : FoundPiece) (o : Outcome) → kept_with (take 4096 xs) (records_of p o) ≡ take 4096 (xs ++ records_of p o)
 kept_more xs p (Lines lines) = sym (ap (take 4096) (append-nil xs))
 kept_more xs p (Fault f) = kept_one xs _
 
-none_some : {A : Type 0} (x : A) → ◌≡◌ {A = Option A} None (Some x) → ⊥
+pub none_some : {A : Type 0} (x : A) → ◌≡◌ {A = Option A} None (Some x) → ⊥
 none_some x e = cc
 
 -- one piece more
@@ -95,9 +90,9 @@ gathers_piece frame ps p old new g (shape, framed, o, is, adds) = record {
   each = are_more ps g.outcomes p o g.each is;
   picture_is = λ s e.
       let same : shape ≡ s = some_is shape s (sym framed ∙ e) in
-      subst (λ t. picture_of t new.partial ≡ record { shape = t; readings = set.insert_all set.empty (readings (ps ++ p ∷ []) (g.outcomes ++ o ∷ [])) }) same
+      subst (λ t. picture_of t new.partial ≡ without_sources t (set.insert_all set.empty (readings (ps ++ p ∷ []) (g.outcomes ++ o ∷ [])))) same
       (adds.picture_is ∙ ap (λ q. with_readings q (readings_of p o)) (g.picture_is shape framed)
-      ∙ ap (λ t. record { shape = shape; readings = t }) (sym (insert_all-append set.empty (readings ps g.outcomes) (readings_of p o)) ∙ ap (set.insert_all set.empty) (sym (readings_more ps g.outcomes p o g.each))));
+      ∙ ap (λ t. without_sources shape t) (sym (insert_all-append set.empty (readings ps g.outcomes) (readings_of p o)) ∙ ap (set.insert_all set.empty) (sym (readings_more ps g.outcomes p o g.each))));
   unframed = λ e. absurd (none_some shape (sym e ∙ framed));
   records_are = adds.records_are ∙ ap (λ xs. kept_with xs (records_of p o)) g.records_are ∙ kept_more (records ps g.outcomes) p o ∙ ap (take 4096) (sym (records_more ps g.outcomes p o g.each));
   count_is = adds.count_is ∙ ap (λ n. n + length (records_of p o)) g.count_is ∙ sym (length-append (records ps g.outcomes) (records_of p o)) ∙ ap length (sym (records_more ps g.outcomes p o g.each));
@@ -126,11 +121,11 @@ gathers_frame before now ps f stays g = record {
     some_is : (x y : PictureShape) → ◌≡◌ {A = Option PictureShape} (Some x) (Some y) → x ≡ y
     some_is x y e = cc
 
-    fresh : (s : PictureShape) (os : List Outcome) (p : Option PartialPicture) → (ps ≡ []) × (p ≡ None) → picture_of s p ≡ record { shape = s; readings = set.insert_all set.empty (readings ps os) }
+    fresh : (s : PictureShape) (os : List Outcome) (p : Option PartialPicture) → (ps ≡ []) × (p ≡ None) → picture_of s p ≡ without_sources s (set.insert_all set.empty (readings ps os))
     fresh s os p (e, i) = rw (e, i) refl
 
     picture : (b : Option PictureShape) → ((s : PictureShape) → b ≡ Some s → now ≡ Some s) → (h : Gathers b ps f) → (s : PictureShape) → now ≡ Some s
-        → picture_of s f.partial ≡ record { shape = s; readings = set.insert_all set.empty (readings ps h.outcomes) }
+        → picture_of s f.partial ≡ without_sources s (set.insert_all set.empty (readings ps h.outcomes))
     picture None st h s e = fresh s h.outcomes f.partial (h.unframed refl)
     picture (Some t) st h s e = h.picture_is s (ap Some (some_is t s (sym (st t refl) ∙ e)))
 
@@ -210,26 +205,6 @@ to_fed false bytes v P e f h = subst (λ o. IfSome o P) e h
 pub if_ok : {A B : Type 0} {P Q : A → Type 0} (r : Result A B) → ((x : A) → P x → Q x) → IfOk r P → IfOk r Q
 if_ok (Ok x) f p = f x p
 if_ok (Err e) f p = tt
-
--- the input ends
-pub concluding : (m n : Machine) (bytes : List ℕ) (e : End) (read : ReadCopy) → IsReading m bytes → e ≡ end_at m.place m.count → Adds m.headers.frame (closed_at_end m.place) m.findings n.findings → n.headers ≡ m.headers
-    → ((shape : PictureShape) × (n.headers.frame ≡ Some shape) × (read.partial ≡ picture_of shape n.findings.partial) × (read.pieces ≡ n.findings.records.items) × (read.piece_count ≡ n.findings.record_count) × (read.ended ≡ e))
-    → Concludes (reading bytes) read
-concluding m n bytes e read h end_is a same (shape, framed, p, q, r, s) =
-    let all : Gathers m.headers.frame ((reading bytes).pieces ++ closed_at_end m.place) n.findings = gathers_pieces m.headers.frame (reading bytes).pieces (closed_at_end m.place) m.findings n.findings h.gathers a in
-    let place_is : m.place ≡ (reading bytes).state.place = ap (λ t. t.place) h.state_is in
-    let now : Gathers m.headers.frame ((reading bytes).pieces ++ closed_at_end (reading bytes).state.place) n.findings = subst (λ t. Gathers m.headers.frame ((reading bytes).pieces ++ closed_at_end t) n.findings) place_is all in
-    let frame : m.headers.frame ≡ Some shape = ap (λ t. t.frame) (sym same) ∙ framed in
-    record {
-      shape = shape;
-      framed = ap (λ t. t.headers.frame) (sym h.state_is) ∙ frame;
-      outcomes = now.outcomes;
-      each = now.each;
-      partial_is = p ∙ now.picture_is shape frame;
-      pieces_are = q ∙ now.records_are;
-      count_is = r ∙ now.count_is;
-      ended_is = s ∙ end_is ∙ ap (λ t. end_at t.place t.count) h.state_is;
-    }
 
 pub if_err : {A B : Type 0} {P Q : B → Type 0} (r : Result A B) → ((x : B) → P x → Q x) → IfErr r P → IfErr r Q
 if_err (Ok x) f p = tt

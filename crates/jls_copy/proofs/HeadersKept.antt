@@ -1,5 +1,5 @@
 -- The headers of a course keep their ranges.
-use Rattle.std.proofs.Common.{◌≡◌, ℕ, ◌+◌, ◌^◌, ◌<◌, ◌≤◌, List, length, Option, Some, None, Result, Ok, Err, refl, sym, ap, ◌∙◌, subst, arith, ◌⊎◌, inl, inr}
+use Rattle.std.proofs.Common.{◌≡◌, ℕ, ◌+◌, ◌^◌, ◌<◌, ◌≤◌, List, length, Option, Some, None, Result, Ok, Err, refl, sym, ap, subst, arith, inl, inr}
 use Rattle.std.proofs.lemmas.Bool.{cases_eq, ltb-true}
 use Rattle.jls_values.specs.Shape.{PictureShape, IsShape}
 use Rattle.jls_marker.specs.HeaderState.{HeaderState, IsHeaderState, no_headers}
@@ -16,7 +16,7 @@ use Rattle.jls_marker.specs.declared.segment.Segment.{Segment}
 use Rattle.jls_marker.specs.declared.segment.Segment.TheVariants as segment
 use Rattle.jls_marker.proofs.FirstFailing.{fine, fine_is, all_pass}
 use Rattle.jls_marker.proofs.SegmentsRead.{is_payload}
-use Rattle.std.specs.Prelude.{is_none, List, [], ◌∷◌, Bool}
+use Rattle.std.specs.Prelude.{is_none, List, [], ◌∷◌}
 
 abbrev After : Type 0
 After = HeaderState × Option Scan

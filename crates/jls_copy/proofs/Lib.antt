@@ -13,7 +13,10 @@ mod TellsScan
 mod TellsSegment
 mod ReadingTells
 mod CourseTold
+mod DataBytes
 mod Gathering
+mod CutOutcomes
+mod CutGathering
 mod CopyTold
 pub mod HeadersKept
 pub mod ScansOfCourse

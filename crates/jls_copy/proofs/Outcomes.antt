@@ -1,5 +1,5 @@
 -- What a whole piece adds, from what its decoder answered.
-use Rattle.std.proofs.Common.{◌≡◌, ℕ, ◌+◌, ◌*◌, ◌<◌, Bool, List, [], ◌∷◌, ◌++◌, map, length, Option, Some, None, Result, Ok, Err, refl, sym, ap, ◌∙◌, subst, add-zero, arith}
+use Rattle.std.proofs.Common.{◌≡◌, ℕ, ◌+◌, ◌*◌, List, [], ◌∷◌, ◌++◌, map, length, Option, Some, Result, Ok, Err, refl, sym, ap, ◌∙◌, subst, add-zero}
 use Rattle.std.specs.Prelude.{OnOk, MatchOption}
 use Rattle.std.specs.declared.vec.Vec.{Vec}
 use Rattle.std.specs.declared.alloc.Global.{Global}
@@ -9,7 +9,7 @@ use Rattle.jls_interval.specs.Reads.{Reads, IsLong, IsBroken}
 use Rattle.jls_interval.specs.PieceFaults.{OutcomeIs}
 use Rattle.jls_interval.specs.declared.decode_piece.PieceFault.{PieceFault}
 use Rattle.jls_interval.specs.declared.decode_piece.PieceFault.TheVariants as piece_fault
-use Rattle.jls_marker.specs.Scan.{Scan, intervals, row_count, first_row}
+use Rattle.jls_marker.specs.Scan.{Scan, row_count, first_row}
 use Rattle.jls_interval.specs.IntervalBytes.{IntervalBytes}
 use Rattle.jls_copy.specs.Pieces.{placed, Lines, Fault}
 use Rattle.jls_copy.specs.Findings.{Adds, with_readings, picture_of, kept_with}

@@ -1,14 +1,14 @@
 -- The reader's place tells the course of the bytes so far, byte after byte.
-use Rattle.std.proofs.Common.{◌≡◌, ℕ, zero, suc, ◌+◌, ◌*◌, ◌<◌, ◌≢◌, Bool, true, false, List, [], ◌∷◌, ◌++◌, length, Some, None, add-zero, refl, sym, ◌∙◌, ap, subst, append_assoc, arith, ◌⊎◌, inl, inr, length-append}
+use Rattle.std.proofs.Common.{◌≡◌, ℕ, suc, ◌+◌, ◌<◌, true, false, List, [], ◌∷◌, ◌++◌, length, add-zero, refl, sym, ◌∙◌, ap, append_assoc, arith, inr, length-append}
 use Rattle.std.specs.Prelude.{is_some}
 use Rattle.std.proofs.lemmas.List.{append-nil}
 use Rattle.std.proofs.lemmas.Bool.{cases_eq, cases_Bool}
 use Rattle.std.specs.List.{AllByRecursion}
-use Rattle.jls_marker.specs.HeaderState.{HeaderState, no_headers}
+use Rattle.jls_marker.specs.HeaderState.{HeaderState}
 use Rattle.jls_marker.specs.MarkerCodes.{has_segment}
 use Rattle.jls_copy.specs.Pieces.{FoundPiece}
-use Rattle.jls_copy.specs.ScanData.{fill_bytes, ends_scan_data}
-use Rattle.jls_copy.specs.ReaderState.{ReaderState, Reading, reading, reading_from, reading_with, first_state, Step, step_from, closed_at}
+use Rattle.jls_copy.specs.ScanData.{fill_bytes}
+use Rattle.jls_copy.specs.ReaderState.{Reading, reading, reading_from, reading_with, first_state, Step, step_from, closed_at}
 use Rattle.jls_copy.specs.Tells.{Tells}
 use Rattle.jls_copy.specs.ReaderLaws.{ReadingTells}
 use Rattle.jls_copy.specs.declared.place.Place.{Place}

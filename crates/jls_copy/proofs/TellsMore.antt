@@ -1,24 +1,15 @@
 -- Each byte leads a reader on: its place tells the course of the bytes so far.
-use Rattle.std.proofs.Common.{◌≡◌, ℕ, zero, suc, ◌+◌, ◌-◌, ◌*◌, ◌/◌, ◌%◌, ◌^◌, ◌<◌, ◌≤◌, ◌≢◌, Bool, true, false, cond, List, [], ◌∷◌, ◌++◌, length, replicate, Option, Some, None, Result, Ok, Err, refl, sym, ◌∙◌, ap, subst, append_assoc, add-one, add-zero, arith, ◌⊎◌, inl, inr, length-append}
-use Rattle.std.specs.Prelude.{is_some, ◌==◌, nat_lt}
+use Rattle.std.proofs.Common.{◌≡◌, ℕ, zero, suc, ◌+◌, ◌-◌, ◌≢◌, Bool, true, false, List, [], ◌∷◌, ◌++◌, length, refl, sym, ◌∙◌, ap, subst, arith, ◌⊎◌, inl, inr}
+use Rattle.std.specs.Prelude.{is_some, ◌==◌}
 use Rattle.std.proofs.lemmas.List.{append-nil}
-use Rattle.std.proofs.lemmas.Grind.{flat_map-append}
-use Rattle.std.proofs.lemmas.Bool.{cases_eq, cases_Bool, cases_lt}
 use Rattle.std.proofs.lemmas.Bool.Decides.{nat_tests}
-use Rattle.std.specs.List.{flat_map, AllByRecursion}
-use Rattle.jls_copy.specs.ScanData.{fill_bytes, ClosedPiece, closed_bytes, IsClosedPiece, IsPiece, ends_scan_data, is_restart_code, closes_piece}
+use Rattle.jls_copy.specs.ScanData.{fill_bytes, ends_scan_data}
 use Rattle.jls_marker.specs.HeaderState.{HeaderState, no_headers}
-use Rattle.jls_marker.specs.Scan.{Scan, intervals}
 use Rattle.jls_marker.specs.MarkerCodes.{has_segment}
-use Rattle.jls_marker.specs.Headers.{headers_after}
 use Rattle.jls_copy.specs.Pieces.{FoundPiece}
-use Rattle.jls_copy.specs.Course.{CopyUnit, segment, scan, segment_bytes, unit_bytes, EndsHere, at_eoi, at_eoi_before_a_frame, at_no_marker, at_unknown_code, at_short_length, at_refused_segment}
+use Rattle.jls_copy.specs.Course.{CopyUnit, at_eoi, at_eoi_before_a_frame, at_no_marker, at_unknown_code}
 use Rattle.jls_copy.specs.ReaderState.{from_start, from_marker}
-use Rattle.jls_copy.specs.Tells.{Passed, passed_soi, passed_segment, passed_scan, Follows, AtSegment, InScanData, EndedAt, ended, without_soi, without_ff, Tells}
-use Rattle.jls_marker.specs.declared.fault.MarkerFault.TheVariants as fault
-use Rattle.jls_copy.specs.declared.end.End.TheVariants.{Eoi, Input, Header}
-use Rattle.jls_copy.specs.declared.place.Place.{Place}
-use Rattle.jls_copy.specs.declared.place.Place.TheVariants.{Start, AtMarker, AtLength, InLength, InPayload, InScan, Done}
+use Rattle.jls_copy.specs.Tells.{Passed, passed_soi, Follows, ended, without_soi, without_ff, Tells}
 
 -- one more fill byte at the end
 pub fill_more : (n : ℕ) (rest : List ℕ) → fill_bytes n ++ (255 ∷ rest) ≡ fill_bytes (suc n) ++ rest

@@ -1,5 +1,5 @@
 -- A byte of scan data, over what a reader's place tells.
-use Rattle.std.proofs.Common.{◌≡◌, ℕ, zero, suc, ◌+◌, ◌-◌, ◌<◌, ◌≤◌, ◌≢◌, Bool, true, false, cond, List, [], ◌∷◌, ◌++◌, length, Option, Some, None, Result, Ok, Err, refl, sym, ◌∙◌, ap, subst, append_assoc, add-zero, arith, ◌⊎◌, inl, inr, length-append}
+use Rattle.std.proofs.Common.{◌≡◌, ℕ, zero, suc, ◌+◌, ◌-◌, ◌<◌, ◌≢◌, true, false, List, [], ◌∷◌, ◌++◌, length, refl, sym, ◌∙◌, ap, subst, append_assoc, add-zero, arith, ◌⊎◌, inl, inr, length-append}
 use Rattle.std.specs.Prelude.{is_some, ◌==◌}
 use Rattle.std.proofs.lemmas.List.{append-nil}
 use Rattle.std.proofs.lemmas.Grind.{flat_map-append}
@@ -12,18 +12,16 @@ use Rattle.jls_copy.specs.Numbers.{PieceNumber, Interval, BeyondLast, number_beh
 use Rattle.jls_marker.specs.HeaderState.{HeaderState}
 use Rattle.jls_marker.specs.Scan.{Scan, intervals}
 use Rattle.jls_marker.specs.MarkerCodes.{has_segment}
-use Rattle.jls_marker.specs.Headers.{headers_after}
 use Rattle.jls_copy.specs.Pieces.{FoundPiece}
-use Rattle.jls_copy.specs.Course.{by_marker, CopyUnit, segment, scan, segment_bytes, unit_bytes}
+use Rattle.jls_copy.specs.Course.{by_marker, CopyUnit, scan, segment_bytes, unit_bytes}
 use Rattle.jls_copy.specs.Pieces.{pieces_from}
 use Rattle.jls_copy.specs.ReaderState as state
 use Rattle.jls_copy.specs.ReaderState.{class_of, one_more, held_bytes, piece_with, piece_opened, number_of, bytes_of, found, scan_with, scan_behind}
-use Rattle.jls_copy.specs.Tells.{SameBytes, HeldIs, ToldAs, IsTold, AlikePiece, AlikePieces, Passed, passed_scan, InScanData, ScanPieces, given_after, Tells}
+use Rattle.jls_copy.specs.Tells.{SameBytes, HeldIs, ToldAs, IsTold, AlikePiece, AlikePieces, Passed, passed_scan, InScanData, given_after, Tells}
 use Rattle.jls_copy.specs.declared.piece.OpenPiece.{OpenPiece}
 use Rattle.jls_copy.specs.declared.piece.OpenPiece.TheVariants as open_piece
 use Rattle.jls_copy.specs.declared.scan.Held.{Held}
 use Rattle.jls_copy.specs.declared.scan.Held.TheVariants.{Nothing, One, More}
-use Rattle.jls_copy.specs.declared.scan.ByteClass.{ByteClass}
 use Rattle.jls_copy.specs.declared.scan.ByteClass.TheVariants.{Fill, Mark, Stop, Data}
 use Rattle.jls_copy.specs.declared.scan.OpenScan.{OpenScan}
 use Rattle.jls_copy.proofs.Alike.{same_more}

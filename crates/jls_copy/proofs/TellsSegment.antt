@@ -1,8 +1,7 @@
 -- A segment, byte after byte, over what a reader's place tells.
-use Rattle.std.proofs.Common.{◌≡◌, ℕ, zero, suc, ◌+◌, ◌-◌, ◌*◌, ◌/◌, ◌%◌, ◌^◌, ◌<◌, ◌≤◌, ◌≢◌, Bool, true, false, cond, List, [], ◌∷◌, ◌++◌, length, Option, Some, None, Result, Ok, Err, refl, sym, ◌∙◌, ap, subst, append_assoc, arith, ◌⊎◌, inl, inr, length-append}
+use Rattle.std.proofs.Common.{◌≡◌, ℕ, ◌+◌, ◌*◌, ◌/◌, ◌%◌, ◌^◌, ◌<◌, ◌≤◌, ◌≢◌, Bool, true, false, cond, List, [], ◌∷◌, ◌++◌, length, Option, Some, None, Result, Ok, Err, refl, sym, ◌∙◌, ap, subst, append_assoc, arith, inl, length-append}
 use Rattle.std.specs.Prelude.{◌==◌, nat_lt}
 use Rattle.std.proofs.lemmas.List.{append-nil}
-use Rattle.std.proofs.lemmas.Bool.{cases_eq, cases_lt}
 use Rattle.std.proofs.lemmas.Bool.Decides.{nat_tests}
 use Rattle.jls_copy.specs.ScanData.{fill_bytes, ends_scan_data}
 use Rattle.jls_marker.specs.HeaderState.{HeaderState}
@@ -10,15 +9,13 @@ use Rattle.jls_marker.specs.Scan.{Scan}
 use Rattle.jls_marker.specs.MarkerCodes.{has_segment}
 use Rattle.jls_marker.specs.Headers.{headers_after}
 use Rattle.jls_copy.specs.Pieces.{FoundPiece}
-use Rattle.jls_copy.specs.Course.{CopyUnit, segment, scan, segment_bytes, unit_bytes, EndsHere, at_eoi, at_eoi_before_a_frame, at_no_marker, at_unknown_code, at_short_length, at_refused_segment}
+use Rattle.jls_copy.specs.Course.{CopyUnit, segment, segment_bytes, EndsHere, at_eoi, at_eoi_before_a_frame, at_no_marker, at_unknown_code, at_short_length, at_refused_segment}
 use Rattle.jls_copy.specs.ReaderState.{Step, segment_taken, length_known, payload_grown}
-use Rattle.jls_copy.specs.Tells.{Passed, passed_segment, passed_scan, Follows, AtSegment, InScanData, EndedAt, ended, without_soi, without_ff, Tells}
+use Rattle.jls_copy.specs.Tells.{Passed, passed_segment, Follows, EndedAt, ended, without_soi, without_ff, Tells}
 use Rattle.jls_marker.specs.declared.fault.MarkerFault.{MarkerFault}
 use Rattle.jls_marker.specs.declared.fault.MarkerFault.TheVariants as fault
 use Rattle.jls_copy.specs.declared.end.End.{End}
-use Rattle.jls_copy.specs.declared.end.End.TheVariants.{Eoi, Input, Header}
-use Rattle.jls_copy.specs.declared.place.Place.{Place}
-use Rattle.jls_copy.specs.declared.place.Place.TheVariants.{Start, AtMarker, AtLength, InLength, InPayload, InScan, Done}
+use Rattle.jls_copy.specs.declared.end.End.TheVariants.{Eoi, Header}
 
 abbrev TellsStep : Step → List FoundPiece → List ℕ → Type 0
 TellsStep s ps x = Tells s.place s.headers s.payload ps x

@@ -1,17 +1,19 @@
 -- What a reader answers when the input ends. It concerns no caller.
-use Rattle.std.specs.Prelude.{◌≡◌, ℕ, Bool, true, false, List, length, take, Option, Some, None}
+use Rattle.std.specs.Prelude.{◌≡◌, ℕ, Bool, true, false, List, ◌++◌, length, take, Some, None}
 use Rattle.jls_values.specs.OrderedSet as set
 use Rattle.jls_values.specs.Shape.{PictureShape}
 use Rattle.jls_copy.specs.Pieces.{Outcome}
 use Rattle.jls_copy.specs.Pieces.{AreOutcomes, readings, records}
+use Rattle.jls_copy.specs.CutPieces.{IsHeadOfCut, head_readings}
 use Rattle.jls_copy.specs.Reader.{all_pieces}
-use Rattle.jls_copy.specs.ReaderState.{Reading, end_at}
+use Rattle.jls_copy.specs.ReaderState.{Reading, end_at, closed_at_end}
 use Rattle.jls_copy.specs.ReadCopy.{ReadCopy}
 use Rattle.jls_copy.specs.CopyReads.{no_picture}
 use Rattle.jls_copy.specs.declared.reader.CopyFault.{CopyFault}
 use Rattle.jls_copy.specs.declared.reader.CopyFault.TheVariants.{NoPicture, OutOfMemory}
 use Rattle.jls_copy.specs.declared.place.Place.{Place}
 use Rattle.jls_copy.specs.declared.place.Place.TheVariants.{Start, AtMarker, AtLength, InLength, InPayload, InScan, Done}
+use Rattle.jls_partial.specs.Partial.{without_sources}
 
 abbrev pub is_final : Place → Bool
 is_final (Start fill) = false
@@ -28,7 +30,9 @@ pub record Concludes (r : Reading) (read : ReadCopy) : Type 0 where
   pub framed : r.state.headers.frame ≡ Some shape
   pub outcomes : List Outcome
   pub each : AreOutcomes (all_pieces r) outcomes
-  pub partial_is : read.partial ≡ record { shape = shape; readings = set.insert_all set.empty (readings (all_pieces r) outcomes) }
+  pub head : List (List ℕ)
+  pub head_is : IsHeadOfCut (closed_at_end r.state.place) head
+  pub partial_is : read.partial ≡ without_sources shape (set.insert_all set.empty (readings (all_pieces r) outcomes ++ head_readings (closed_at_end r.state.place) head))
   pub pieces_are : read.pieces ≡ take 4096 (records (all_pieces r) outcomes)
   pub count_is : read.piece_count ≡ length (records (all_pieces r) outcomes)
   pub ended_is : read.ended ≡ end_at r.state.place r.state.count

@@ -1,21 +1,23 @@
 -- What a whole copy gives: the readings and the records of its course. Where a definition says that there is a course, it is the only
 -- one that these bytes have (`OneCourse`).
-use Rattle.std.specs.Prelude.{◌≡◌, ℕ, Bool, true, false, List, length, take, Option, Some, None}
+use Rattle.std.specs.Prelude.{◌≡◌, ℕ, Bool, true, false, List, ◌++◌, length, take, Some, None}
 use Rattle.jls_values.specs.OrderedSet as set
 use Rattle.jls_values.specs.Shape.{PictureShape}
 use Rattle.jls_copy.specs.Course.{Course, IsCourse}
 use Rattle.jls_copy.specs.Pieces.{pieces}
 use Rattle.jls_copy.specs.Pieces.{Outcome}
 use Rattle.jls_copy.specs.Pieces.{AreOutcomes, readings, records}
+use Rattle.jls_copy.specs.CutPieces.{cut_pieces, IsHeadOfCut, head_readings}
 use Rattle.jls_copy.specs.declared.end.End.{End}
 use Rattle.jls_copy.specs.declared.end.End.TheVariants.{Eoi, Input, Header}
 use Rattle.jls_marker.specs.declared.fault.MarkerFault.TheVariants as fault
 use Rattle.jls_copy.specs.ReadCopy.{ReadCopy}
 use Rattle.jls_copy.specs.declared.reader.CopyFault.{CopyFault}
 use Rattle.jls_copy.specs.declared.reader.CopyFault.TheVariants.{NoPicture, OutOfMemory}
+use Rattle.jls_partial.specs.Partial.{without_sources}
 
--- the copy has a course with a frame, and what was read is the frame's shape with the readings of the course's pieces, the first 4,096
--- of its records, how many there are, and its end
+-- the copy has a course with a frame, and what was read is the frame's shape with the readings of the course's pieces and those of the
+-- head of the piece that the input's end closes, the first 4,096 of its records, how many there are, and its end
 pub record CopyReads (copy : List ℕ) (read : ReadCopy) : Type 0 where
   pub course : Course
   pub is_course : IsCourse copy course
@@ -23,7 +25,9 @@ pub record CopyReads (copy : List ℕ) (read : ReadCopy) : Type 0 where
   pub framed : course.headers.frame ≡ Some shape
   pub outcomes : List Outcome
   pub each : AreOutcomes (pieces course) outcomes
-  pub partial_is : read.partial ≡ record { shape = shape; readings = set.insert_all set.empty (readings (pieces course) outcomes) }
+  pub head : List (List ℕ)
+  pub head_is : IsHeadOfCut (cut_pieces course) head
+  pub partial_is : read.partial ≡ without_sources shape (set.insert_all set.empty (readings (pieces course) outcomes ++ head_readings (cut_pieces course) head))
   pub pieces_are : read.pieces ≡ take 4096 (records (pieces course) outcomes)
   pub count_is : read.piece_count ≡ length (records (pieces course) outcomes)
   pub ended_is : read.ended ≡ course.end

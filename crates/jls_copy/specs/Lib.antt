@@ -4,6 +4,7 @@ pub mod CutLaws
 pub mod Course
 pub mod CourseLaws
 pub mod Pieces
+pub mod CutPieces
 pub mod ReadCopy
 pub mod Fits
 pub mod Findings

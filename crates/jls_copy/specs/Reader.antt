@@ -1,18 +1,12 @@
 -- What a reader of a copy keeps true. It concerns no caller.
-use Rattle.std.specs.Prelude.{◌≡◌, ℕ, ◌^◌, ◌<◌, ◌≤◌, Bool, true, false, List, [], ◌∷◌, ◌++◌, length, take, Option, Some, None}
+use Rattle.std.specs.Prelude.{◌≡◌, ℕ, ◌^◌, ◌<◌, ◌≤◌, Bool, false, List, ◌++◌, length}
 use Rattle.std.specs.List.{AllByRecursion}
-use Rattle.jls_values.specs.OrderedSet as set
-use Rattle.jls_values.specs.Shape.{PictureShape}
-use Rattle.jls_partial.specs.Partial.{PartialPicture}
-use Rattle.jls_copy.specs.Pieces.{FoundPiece, Outcome}
-use Rattle.jls_copy.specs.ReaderState.{reading, Reading, closed_at_end, end_at}
+use Rattle.jls_copy.specs.Pieces.{FoundPiece}
+use Rattle.jls_copy.specs.ReaderState.{reading, Reading, closed_at_end}
 use Rattle.jls_copy.specs.Sound.{IsPlace}
 use Rattle.jls_copy.specs.Machine.{state_of, IsBehind}
 use Rattle.jls_copy.specs.Gathers.{Gathers}
-use Rattle.jls_copy.specs.Pieces.{AreOutcomes, readings, records}
 use Rattle.jls_copy.specs.declared.machine.Machine.{Machine}
-use Rattle.jls_copy.specs.declared.end.End.{End}
-use Rattle.jls_copy.specs.declared.piece.PieceRecord.{PieceRecord}
 
 -- the machine stands where these bytes lead, and holds what they give; and what it holds is bounded, beside its partial picture and
 -- the decoder of one piece

@@ -5,13 +5,14 @@ use Rattle.jls_copy.specs.Numbers.{Interval}
 use Rattle.jls_copy.specs.Pieces.{FoundPiece, Outcome, IsOutcomeAt, pieces}
 use Rattle.jls_marker.specs.HeaderState.{HeaderState}
 use Rattle.jls_marker.specs.Scan.{Scan}
+use Rattle.jls_copy.specs.CutPieces.{cut_pieces}
 use Rattle.jls_copy.specs.Course.{Course, IsCourse}
 use Rattle.jls_copy.specs.Reader.{all_pieces}
 use Rattle.jls_copy.specs.Conclusion.{Concludes}
 use Rattle.jls_copy.specs.CopyReads.{CopyReads}
 use Rattle.jls_copy.specs.ReadCopy.{ReadCopy}
 use Rattle.jls_copy.specs.declared.end.End.{End}
-use Rattle.jls_copy.specs.ReaderState.{reading, held_bytes, end_at}
+use Rattle.jls_copy.specs.ReaderState.{reading, held_bytes, end_at, closed_at_end}
 use Rattle.jls_copy.specs.ScanData.{fill_bytes}
 use Rattle.jls_copy.specs.Tells.{Tells, SameBytes, HeldIs, AlikePieces}
 use Rattle.jls_copy.specs.declared.scan.Held.{Held}
@@ -30,14 +31,15 @@ abbrev pub ReadingTells : Type 0
 ReadingTells = (bytes : List ℕ) → AllByRecursion (λ b. b < 256) bytes
     → Tells (reading bytes).state.place (reading bytes).state.headers (reading bytes).state.payload (reading bytes).pieces bytes
 
--- the bytes have a course with this end, these headers at last and pieces alike
-abbrev pub CourseIs : List ℕ → End → HeaderState → List FoundPiece → Type 0
-CourseIs bytes e headers ps = (c : Course) × IsCourse bytes c × (c.headers ≡ headers) × (c.end ≡ e) × AlikePieces ps (pieces c)
+-- the bytes have a course with this end, these headers at last and pieces alike, and such a piece that the input's end closes
+abbrev pub CourseIs : List ℕ → End → HeaderState → List FoundPiece → List FoundPiece → Type 0
+CourseIs bytes e headers ps cut =
+    (c : Course) × IsCourse bytes c × (c.headers ≡ headers) × (c.end ≡ e) × AlikePieces ps (pieces c) × AlikePieces cut (cut_pieces c)
 
 -- where a reader stands after some bytes tells their course
 abbrev pub CourseTold : Type 0
 CourseTold = (bytes : List ℕ) → AllByRecursion (λ b. b < 256) bytes
-    → CourseIs bytes (end_at (reading bytes).state.place (reading bytes).state.count) (reading bytes).state.headers (all_pieces (reading bytes))
+    → CourseIs bytes (end_at (reading bytes).state.place (reading bytes).state.count) (reading bytes).state.headers (all_pieces (reading bytes)) (closed_at_end (reading bytes).state.place)
 
 -- and what a reader answers is what the copy gives
 abbrev pub ConclusionTold : Type 0

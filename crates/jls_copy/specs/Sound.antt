@@ -1,5 +1,5 @@
 -- What a place meets: the last number and that of the open piece are numbers of intervals.
-use Rattle.std.specs.Prelude.{◌≡◌, ℕ, ◌+◌, ◌<◌, ◌≤◌, ◌^◌, List, [], length, Option, Some}
+use Rattle.std.specs.Prelude.{◌≡◌, ℕ, ◌+◌, ◌<◌, ◌^◌, List, length, Option, Some}
 use Rattle.jls_values.specs.Shape.{PictureShape}
 use Rattle.jls_marker.specs.Scan.{Scan, IsScanOf, intervals, row_count}
 use Rattle.jls_interval.specs.IntervalBytes.{IntervalBytes}

@@ -1,7 +1,7 @@
 //! What a copy gives: readings, and records of the pieces that give none.
 
-ghost use Rattle.std.specs.Prelude.{◌≡◌, ◌+◌, ◌*◌, ◌^◌, ◌≤◌, ◌<◌, ◌++◌, ◌∷◌, [], ℕ, OnOk, IfOk, length, map, take, Some, None};
-ghost use Rattle.jls_copy.specs.Findings.{with_readings, picture_of, HoldsShape, kept_with, Adds};
+ghost use Rattle.std.specs.Prelude.{◌≡◌, ◌≢◌, ◌+◌, ◌*◌, ◌^◌, ◌≤◌, ◌<◌, ◌++◌, ◌∷◌, [], ℕ, OnOk, IfOk, length, map, take, Some, None};
+ghost use Rattle.jls_copy.specs.Findings.{with_readings, picture_of, HoldsShape, kept_with, Adds, AddsCut, IsKindOf};
 ghost use Rattle.jls_copy.specs.Fits.{FitFrom};
 ghost use Rattle.jls_partial.specs.InsertFaults.{reading_fault};
 ghost use Rattle.jls_partial.specs.Partial.{with_reading};
@@ -12,7 +12,7 @@ ghost use Rattle.jls_copy.specs.ReaderState.{piece_found};
 ghost use Rattle.jls_copy.specs.Sound.{IsOpenPiece};
 
 use crate::piece::{OpenPiece, PieceKind, PieceRecord};
-use jls_interval::PieceFault;
+use jls_interval::{CutEnd, PieceFault};
 use jls_marker::ScanPlan;
 use jls_partial::{InsertFault, Partial};
 use jls_values::Shape;
@@ -61,6 +61,18 @@ fn take_lines(
     Ok(())
 }
 
+/// The kind of a fault of a piece.
+fn kind_of(fault: PieceFault) -> PieceKind
+    requires { fault ≢ PieceFault.OutOfMemory }
+    ensures { IsKindOf fault result }
+{
+    match fault {
+        PieceFault::Long => PieceKind::Long,
+        PieceFault::Broken => PieceKind::Broken,
+        PieceFault::OutOfMemory => unreachable!(),
+    }
+}
+
 impl Findings {
     /// Keeps a record, if fewer than 4,096 are kept, and counts it.
     fn note(&mut self, entry: PieceRecord) -> Result<(), AllocError>
@@ -76,7 +88,7 @@ impl Findings {
         Ok(())
     }
 
-    /// Takes the lines of an interval of a scan.
+    /// Takes the first lines of an interval of a scan, or all.
     fn take(
         &mut self,
         alloc: Global,
@@ -87,7 +99,7 @@ impl Findings {
     ) -> Result<(), AllocError>
         requires interval { interval < intervals plan.now }
         requires scan { IsScanOf shape.now plan.now }
-        requires lines { AreLines plan.now.params plan.now.width (row_count plan.now interval * length plan.now.components) (map (λ line. line.items) lines.now) }
+        requires lines { (count : ℕ) × (count ≤ row_count plan.now interval * length plan.now.components) × AreLines plan.now.params plan.now.width count (map (λ line. line.items) lines.now) }
         requires held { HoldsShape self.old.partial shape.now }
         ensures picture { OnOk result (self.new.partial ≡ Some (with_readings (picture_of shape.now self.old.partial) (placed plan.now.components (first_row plan.now interval) 0 (map (λ line. line.items) lines.now)))) }
         ensures records { OnOk result (self.new.records.items ≡ self.old.records.items) }
@@ -141,6 +153,67 @@ impl Findings {
                     kind: PieceKind::Broken,
                 }),
                 Err(PieceFault::OutOfMemory) => Err(AllocError),
+            },
+        }
+    }
+
+    /// Takes the lines of a head, and the record of its piece.
+    fn take_head(
+        &mut self,
+        alloc: Global,
+        shape: &Shape,
+        plan: &ScanPlan,
+        head: &[Vec<u16>],
+        entry: PieceRecord,
+    ) -> Result<(), AllocError>
+        requires count { self.old.record_count < 2 ^ 63 }
+        requires interval { entry.interval < intervals plan.now }
+        requires scan { IsScanOf shape.now plan.now }
+        requires lines { (count : ℕ) × (count ≤ row_count plan.now entry.interval * length plan.now.components) × AreLines plan.now.params plan.now.width count (map (λ line. line.items) head.now) }
+        requires held { HoldsShape self.old.partial shape.now }
+        ensures picture { OnOk result (self.new.partial ≡ Some (with_readings (picture_of shape.now self.old.partial) (placed plan.now.components (first_row plan.now entry.interval) 0 (map (λ line. line.items) head.now)))) }
+        ensures records { OnOk result (self.new.records.items ≡ kept_with self.old.records.items (entry ∷ [])) }
+        ensures count { OnOk result (self.new.record_count ≡ self.old.record_count + 1) }
+    {
+        self.take(alloc, shape, plan, entry.interval, head)?;
+        self.note(entry)
+    }
+
+    /// Takes what the piece of a scan gives that the input's end closes: where it gives no lines, those of its head.
+    pub(crate) fn close_cut(
+        &mut self,
+        alloc: Global,
+        shape: &Shape,
+        index: u8,
+        plan: &ScanPlan,
+        offset: u64,
+        piece: OpenPiece,
+    ) -> Result<(), AllocError>
+        requires count { self.old.record_count < 2 ^ 63 }
+        requires sound { IsOpenPiece plan.now piece }
+        requires scan { IsScanOf shape.now plan.now }
+        requires held { HoldsShape self.old.partial shape.now }
+        ensures { OnOk result (AddsCut (Some shape.now) (piece_found index plan.now offset piece ∷ []) self.old self.new) }
+    {
+        let _width = plan.width();
+        match piece {
+            OpenPiece::Beyond(interval) => self.note(PieceRecord {
+                scan: index,
+                interval,
+                offset,
+                kind: PieceKind::Beyond,
+            }),
+            OpenPiece::Within(interval, decoder) => match decoder.finish_cut()? {
+                CutEnd::Whole(lines) => self.take(alloc, shape, plan, interval, &lines),
+                CutEnd::Head(head, fault) => {
+                    let entry = PieceRecord {
+                        scan: index,
+                        interval,
+                        offset,
+                        kind: kind_of(fault),
+                    };
+                    self.take_head(alloc, shape, plan, &head, entry)
+                }
             },
         }
     }

@@ -3,7 +3,7 @@
 ghost use Rattle.std.specs.Prelude.{◌≡◌, ◌+◌, ◌-◌, ◌*◌, ◌^◌, ◌∷◌, ◌++◌, [], ◌<◌, ◌≤◌, ℕ, OnOk, IfOk, true, false, Some, None, is_some, length};
 ghost use Rattle.jls_copy.specs.ReaderState as state;
 ghost use Rattle.jls_copy.specs.Machine.{state_of, IsMachine, IsBehind};
-ghost use Rattle.jls_copy.specs.Findings.{Adds, HoldsShape};
+ghost use Rattle.jls_copy.specs.Findings.{Adds, AddsCut, HoldsShape};
 ghost use Rattle.jls_marker.specs.Scan.{intervals};
 ghost use Rattle.jls_copy.specs.Numbers.{number_behind};
 ghost use Rattle.jls_values.specs.Shape.{PictureShape};
@@ -284,8 +284,8 @@ impl Machine {
         }
     }
 
-    /// One byte more.
-    pub(crate) fn step(&mut self, byte: u8) -> Result<(), AllocError>
+    /// One byte that leads to another place.
+    fn step_on(&mut self, byte: u8) -> Result<(), AllocError>
         requires { IsMachine self.old }
         ensures state { OnOk result (state_of self.new ≡ state.after_byte (state_of self.old) byte) }
         ensures found { OnOk result (Adds self.old.headers.frame (state.closed_at self.old.place byte) self.old.findings self.new.findings) }
@@ -298,11 +298,51 @@ impl Machine {
         Ok(())
     }
 
+    /// One byte more.
+    pub(crate) fn step(&mut self, byte: u8) -> Result<(), AllocError>
+        requires { IsMachine self.old }
+        ensures state { OnOk result (state_of self.new ≡ state.after_byte (state_of self.old) byte) }
+        ensures found { OnOk result (Adds self.old.headers.frame (state.closed_at self.old.place byte) self.old.findings self.new.findings) }
+        ensures sound { OnOk result (IsPlace self.new.headers.frame self.new.place self.new.payload.items) }
+        ensures header_bytes { OnOk result (length self.new.payload.items ≤ 65535) }
+    {
+        if !self.place.take_data(byte)? {
+            return self.step_on(byte);
+        }
+        self.count += 1;
+        Ok(())
+    }
+
+    /// Takes what the piece gives that the input's end closes.
+    fn close_cut(
+        &mut self,
+        index: u8,
+        plan: &ScanPlan,
+        offset: u64,
+        piece: OpenPiece,
+    ) -> Result<(), AllocError>
+        requires count { self.old.findings.record_count < 2 ^ 63 }
+        requires sound { IsOpenPiece plan.now piece }
+        requires scan { IsOfFrame self.old.headers.frame plan.now }
+        requires held { (shape : PictureShape) → self.old.headers.frame ≡ Some shape → HoldsShape self.old.findings.partial shape }
+        ensures found { OnOk result (AddsCut self.old.headers.frame (state.piece_found index plan.now offset piece ∷ []) self.old.findings self.new.findings) }
+        ensures count { self.new.count ≡ self.old.count }
+        ensures headers { self.new.headers ≡ self.old.headers }
+        ensures payload { self.new.payload.items ≡ self.old.payload.items }
+    {
+        match self.headers.shape() {
+            None => unreachable!(),
+            Some(shape) => self
+                .findings
+                .close_cut(self.alloc, shape, index, plan, offset, piece),
+        }
+    }
+
     /// The input ends. Where it does is the answer.
     pub(crate) fn finish(&mut self) -> Result<End, AllocError>
         requires { IsMachine self.old }
         ensures end { IfOk result (λ e. e ≡ state.end_at self.old.place self.old.count) }
-        ensures found { OnOk result (Adds self.old.headers.frame (state.closed_at_end self.old.place) self.old.findings self.new.findings) }
+        ensures found { OnOk result (AddsCut self.old.headers.frame (state.closed_at_end self.old.place) self.old.findings self.new.findings) }
         ensures headers { OnOk result (self.new.headers ≡ self.old.headers) }
     {
         let place = mem::replace(&mut self.place, Place::Start(false));
@@ -324,7 +364,7 @@ impl Machine {
                     offset,
                     piece,
                 } = scan;
-                self.close(index, &plan, offset, piece)?;
+                self.close_cut(index, &plan, offset, piece)?;
                 Ok(End::Input(self.count))
             }
             Place::Done(end) => Ok(end),

@@ -31,6 +31,10 @@ pub mod HandBits
 pub mod Decoding
 pub mod IntervalReading
 pub mod Finishing
+pub mod CutSamples
+pub mod CutRuns
+pub mod CutEventHands
+pub mod CutStates
 pub mod PackedLines
 pub mod WrittenRuns
 pub mod EncodedEvents

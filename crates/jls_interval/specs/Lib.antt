@@ -23,3 +23,5 @@ pub mod SampleSteps
 pub mod Hands
 pub mod Decoding
 pub mod IntervalBytes
+pub mod CutHands
+pub mod CutEnds

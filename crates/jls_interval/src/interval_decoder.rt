@@ -1,13 +1,15 @@
 //! The lines of an interval, from bytes that come a few at a time.
 
-ghost use Rattle.std.specs.Prelude.{◌≡◌, ℕ, ◌*◌, ◌^◌, ◌<◌, ◌≤◌, ◌++◌, ◌+◌, true, [], ◌∷◌, Bool, List, length, Some, None, IsSome, map, OnOk, OnErr, IfSome, MatchOption, MatchResult};
+ghost use Rattle.std.specs.Prelude.{◌≡◌, ℕ, ◌*◌, ◌^◌, ◌<◌, ◌≤◌, ◌++◌, ◌+◌, true, [], ◌∷◌, Bool, List, length, Some, None, IsSome, IsErr, map, OnOk, OnErr, IfSome, IfNone, MatchOption, MatchResult};
 ghost use Rattle.std.specs.Option.{option_map};
 ghost use Rattle.jls_bits.specs.Bits.{bits_read, is_whole};
 ghost use Rattle.jls_values.specs.Params.{AreCodingParameters};
 ghost use Rattle.jls_interval.specs.Reads.{Reads};
 ghost use Rattle.jls_interval.specs.PieceFaults.{OutcomeIs};
+ghost use Rattle.jls_interval.specs.CutEnds.{CutEndIs};
 
 use crate::coder::Coder;
+use crate::cut_end::CutEnd;
 use crate::decode_piece::PieceFault;
 use crate::interval_reader::{IntervalReader, State};
 use crate::line_reader::{Hand, LineReader};
@@ -210,5 +212,32 @@ impl IntervalDecoder {
             (λ v. v.items) v.items ≡ lines) (λ fault. ⊥)) }
     {
         self.outcome()
+    }
+
+    /// What the bytes give where the input ends behind them: the lines that they read as, or why there are none, with the lines of
+    /// their head, as `finish` would answer. The only refusal is out of memory, where a push was refused. No memory is taken.
+    pub fn finish_cut(self) -> Result<CutEnd, AllocError>
+        ensures refused { IfNone self.bytes (IsErr result) }
+        ensures cut_end { IfSome self.bytes (λ bytes. MatchResult result (λ end. CutEndIs self.parameters self.width self.components (self.rows * self.components) bytes end) (λ _. ⊥)) }
+    {
+        if self.refused {
+            return Err(AllocError);
+        }
+        let IntervalDecoder { ended, reader, .. } = self;
+        if ended {
+            let none = Vec::new(reader.alloc);
+            return Ok(CutEnd::Head(none, PieceFault::Broken));
+        }
+        match reader.state {
+            State::Working => Ok(CutEnd::Head(reader.into_head(), PieceFault::Broken)),
+            State::Dead => Ok(CutEnd::Head(reader.into_head(), PieceFault::Broken)),
+            State::Over(extra) => {
+                if extra <= 7 {
+                    let IntervalReader { lines, .. } = reader;
+                    return Ok(CutEnd::Whole(lines));
+                }
+                Ok(CutEnd::Head(reader.into_head(), PieceFault::Long))
+            }
+        }
     }
 }

@@ -77,7 +77,7 @@ impl IntervalReader {
     }
 
     /// Whether lines are still to come.
-    fn is_working(&self) -> bool
+    pub(crate) fn is_working(&self) -> bool
         ensures { IsTrue result ↔ (self.now.state ≡ State.Working) }
     {
         matches!(self.state, State::Working)

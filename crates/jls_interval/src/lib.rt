@@ -3,6 +3,10 @@
 
 mod code_lengths;
 mod coder;
+mod cut_end;
+mod cut_event;
+mod cut_lines;
+mod cut_sample;
 mod decode_piece;
 mod encode;
 mod encode_line;
@@ -22,6 +26,7 @@ mod push_sample;
 mod run_index;
 mod run_reader;
 
+pub use cut_end::CutEnd;
 pub use decode_piece::{PieceFault, decode_interval};
 pub use encode::{encode_interval, packed_lines_read_back};
 pub use heads::{

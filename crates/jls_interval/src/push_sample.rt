@@ -36,7 +36,7 @@ pub(crate) enum SampleStep {
 }
 
 /// The sample of regular mode whose error is mapped to this number. None where there is none.
-fn sample_of(
+pub(crate) fn sample_of(
     coder: &Coder,
     neighbours: Neighbours,
     mode: RegularMode,
@@ -91,7 +91,12 @@ pub(crate) fn push_to_sample(
 
 /// The sample that interrupts a run, whose error is mapped to this number. None where there is none,
 /// and where the run would be interrupted by its own value.
-fn interruption_of(coder: &Coder, neighbours: Neighbours, order: u8, mapped: u32) -> Option<Sample>
+pub(crate) fn interruption_of(
+    coder: &Coder,
+    neighbours: Neighbours,
+    order: u8,
+    mapped: u32,
+) -> Option<Sample>
     requires order { order ≤ 15 }
     requires above { neighbours.rb ≤ coder.now.cells.parameters.maxval }
     requires code { has_golomb (run_k (is_same neighbours) (run_cell_at coder.now.cells (is_same neighbours))) (limit coder.now.cells.parameters - order - 1) (qbpp coder.now.cells.parameters) mapped ≡ true }

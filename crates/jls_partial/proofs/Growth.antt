@@ -1,82 +1,118 @@
--- Readings taken one after the other.
-use Rattle.std.proofs.Common.{◌≡◌, ℕ, zero, suc, ◌+◌, ◌-◌, ◌<◌, Bool, true, false, ◌||◌, List, [], ◌∷◌, ◌++◌, map, refl, ap, sym, subst, ◌∙◌, append_assoc, add-zero, arith}
-use Rattle.std.specs.List.{list_any}
-use Rattle.std.specs.Ordering.{eq_by_cmp}
-use Rattle.std.proofs.lemmas.Bool.{or_left}
-use Rattle.std.proofs.lemmas.List.{append-nil, map-append}
-use Rattle.std.proofs.lemmas.List.Folds.{list_any-append}
-use Rattle.jls_partial.specs.Merging.{with_all, line_readings, readings_of_lines, readings_of_components, Grows}
-use Rattle.jls_partial.specs.Partial.{PartialPicture, with_reading}
-use Rattle.jls_partial.specs.Reading.{Reading, reading_cmp, reading_of}
-use Rattle.jls_partial.specs.ReadingOrder.{reading_total}
-use Rattle.jls_values.specs.OrderedSet.{contains}
-use Rattle.jls_values.specs.OrderedSetLaws.{contains-insert_all, insert_all-append, or_assoc}
+-- Readings with sources that are taken one after the other.
+use Rattle.std.proofs.Common.{◌≡◌, ℕ, zero, suc, ◌+◌, ◌<◌, ◌||◌, List, [], ◌∷◌, ◌++◌, length, get_or, take, drop, map, Option, Some, refl, ap, sym, subst, ◌∙◌, append_assoc, arith}
+use Rattle.std.specs.Prelude.{IfSome, slice_get}
+use Rattle.std.proofs.lemmas.List.{append-nil, map-append, length-map, get_or-map, take_more, drop_more, take-append-drop}
+use Rattle.std.proofs.lemmas.List.Concat.{flat_map-cons}
+use Rattle.jls_values.specs.Join.{IsBelow, IsBetween}
+use Rattle.jls_values.specs.OrderedSet as set
+use Rattle.jls_values.specs.OrderedSetLaws.{same_set, contains-insert_all, contains-union, insert_all-append}
+use Rattle.jls_partial.specs.Entries.{Entry, kept_at_place, kept_readings, partial_of}
+use Rattle.jls_partial.specs.Held.{LineEntry, kept_entry}
+use Rattle.jls_partial.specs.LineSet.{PictureLines, kept_lines, line_sources}
+use Rattle.jls_partial.specs.Marks.{marks_of}
+use Rattle.jls_partial.specs.Merging.{TakesFront}
+use Rattle.jls_partial.specs.Packed.{Kept}
+use Rattle.jls_partial.specs.Partial.{PartialPicture, with_all, union, AreMarksHeld}
+use Rattle.jls_partial.specs.Reading.{Reading, reading_cmp}
+use Rattle.jls_partial.specs.ReadingOrder.{reading_total, reading_exact, marks_total, marks_exact}
+use Rattle.jls_partial.specs.Text.{entries}
+use Rattle.jls_partial.proofs.KeptEntries.{holds_reading, holds_mark, partial_again}
+use Rattle.jls_partial.proofs.MarkSets.{any_items, any_marks, front_above, marks_of-append}
 
--- two lists of readings, one after the other
-pub with_all-append : (p : PartialPicture) (xs ys : List Reading) → with_all p (xs ++ ys) ≡ with_all (with_all p xs) ys
-with_all-append p xs ys = ap (λ s. record { shape = p.shape; readings = s }) (insert_all-append p.readings xs ys)
-
--- one reading more of a line
-pub with_all-push : (p q : PartialPicture) (c l : ℕ) (xs : List (List ℕ)) (x : List ℕ) → q ≡ with_all p (map (reading_of c l) xs) → with_reading q c l x ≡ with_all p (map (reading_of c l) (xs ++ x ∷ []))
-with_all-push p q c l xs x is =
-    ap (λ (q : PartialPicture). with_reading q c l x) is
-    ∙ sym (with_all-append p (map (reading_of c l) xs) (reading_of c l x ∷ []))
-    ∙ ap (with_all p) (sym (map-append (reading_of c l) xs (x ∷ [])))
-
--- some of the readings are taken
-pub grows_front : (p : PartialPicture) (xs ys : List Reading) → Grows p (with_all p xs) (xs ++ ys)
-grows_front p xs ys = record {
-  shape = refl;
-  keeps = λ r h. contains-insert_all reading_total p.readings xs r ∙ or_left (contains p.readings r) _ h;
-  only = λ r h. ap (λ b. contains p.readings r || b) (list_any-append (eq_by_cmp reading_cmp r) xs ys)
-      ∙ sym (or_assoc (contains p.readings r) (list_any (eq_by_cmp reading_cmp r) xs) (list_any (eq_by_cmp reading_cmp r) ys))
-      ∙ or_left _ _ (sym (contains-insert_all reading_total p.readings xs r) ∙ h);
+-- two lists, one after the other
+pub with_all-append : (p : PartialPicture) (xs ys : List (Reading × List ℕ)) → with_all p (xs ++ ys) ≡ with_all (with_all p xs) ys
+with_all-append p xs ys = λ i. record {
+  shape = p.shape;
+  readings = (ap (set.insert_all p.readings) (map-append (λ (k : Reading × List ℕ). k.0) xs ys) ∙ insert_all-append p.readings (map (λ (k : Reading × List ℕ). k.0) xs) (map (λ (k : Reading × List ℕ). k.0) ys)) i;
+  marks = (ap (set.insert_all p.marks) (marks_of-append xs ys) ∙ insert_all-append p.marks (marks_of xs) (marks_of ys)) i;
 }
 
--- more is taken after the readings xs
-pub grows_then : (p q : PartialPicture) (xs ys zs : List Reading) → Grows (with_all p xs) q ys → Grows p q ((xs ++ ys) ++ zs)
-grows_then p q xs ys zs g = record {
-  shape = g.shape;
-  keeps = λ r h. g.keeps r (contains-insert_all reading_total p.readings xs r ∙ or_left (contains p.readings r) _ h);
-  only = λ r h.
-      let test = eq_by_cmp reading_cmp r in
-      ap (λ b. contains p.readings r || b) (list_any-append test (xs ++ ys) zs ∙ ap (λ b. b || list_any test zs) (list_any-append test xs ys))
-      ∙ regroup (contains p.readings r) (list_any test xs) (list_any test ys) (list_any test zs)
-      ∙ or_left _ _ (ap (λ b. b || list_any test ys) (sym (contains-insert_all reading_total p.readings xs r)) ∙ g.only r h);
+-- ---- the readings of a line
+
+-- the next of them
+module _ (L : PictureLines) (i : ℕ) (x ss : List ℕ) (lt : i < length (set.items L.lines)) (value : slice_get (set.items L.lines) i ≡ Some x) (own : IfSome (slice_get (set.items L.lines) i) (λ samples. ss ≡ line_sources L samples)) where
+  abbrev kept : List ℕ → Kept
+  kept y = (y, line_sources L y)
+
+  read : (xs : List (List ℕ)) (i : ℕ) → slice_get xs i ≡ Some x → get_or xs i x ≡ x
+  read [] i e = absurd cc
+  read (y ∷ xs) zero e = cc
+  read (y ∷ xs) (suc i) e = read xs i e
+
+  here : get_or (kept_lines L) i (kept x) ≡ (x, ss)
+  here =
+      let sources : ss ≡ line_sources L x = subst (λ (o : Option (List ℕ)). IfSome o (λ samples. ss ≡ line_sources L samples)) value own in
+      get_or-map kept (set.items L.lines) i x (kept x) lt ∙ ap kept (read (set.items L.lines) i value) ∙ ap (λ (ts : List ℕ). (x, ts)) (sym sources)
+
+  below : i < length (kept_lines L)
+  below = omega (arith, lt, length-map (set.items L.lines) kept)
+
+  pub kept_more : take (i + 1) (kept_lines L) ≡ take i (kept_lines L) ++ (x, ss) ∷ []
+  kept_more = take_more (kept_lines L) i (kept x) below ∙ ap (λ (k : Kept). take i (kept_lines L) ++ k ∷ []) here
+
+  pub kept_next : drop i (kept_lines L) ≡ (x, ss) ∷ drop (i + 1) (kept_lines L)
+  kept_next = drop_more (kept_lines L) i (kept x) below ∙ ap (λ (k : Kept). k ∷ drop (i + 1) (kept_lines L)) here
+
+-- ---- a front of all readings
+
+-- of all readings those before the ones that are left were taken
+pub record IsSoFar (old new : PartialPicture) (all left : List (Reading × List ℕ)) : Type 0 where
+  pub taken : List (Reading × List ℕ)
+  pub parts : all ≡ taken ++ left
+  pub new_is : new ≡ with_all old taken
+
+-- some more are taken
+pub more_so_far : (p q r : PartialPicture) (all ks left : List (Reading × List ℕ)) → IsSoFar p q all (ks ++ left) → r ≡ with_all q ks → IsSoFar p r all left
+more_so_far p q r all ks left h is = record {
+  taken = h.taken ++ ks;
+  parts = h.parts ∙ sym (append_assoc h.taken ks left);
+  new_is = is ∙ ap (λ (z : PartialPicture). with_all z ks) h.new_is ∙ sym (with_all-append p h.taken ks);
+}
+
+-- of the next a front is taken
+pub front_so_far : (p q r : PartialPicture) (all ks left : List (Reading × List ℕ)) → IsSoFar p q all (ks ++ left) → TakesFront q r ks → TakesFront p r all
+front_so_far p q r all ks left h f = record {
+  taken = h.taken ++ f.taken;
+  left = f.left ++ left;
+  parts = h.parts ∙ ap (λ t. h.taken ++ t) (ap (λ t. t ++ left) f.parts ∙ append_assoc f.taken f.left left) ∙ sym (append_assoc h.taken f.taken (f.left ++ left));
+  new_is = f.new_is ∙ ap (λ (z : PartialPicture). with_all z f.taken) h.new_is ∙ sym (with_all-append p h.taken f.taken);
+}
+
+-- the readings of the next entry come first
+pub next_entry : (e : LineEntry) (es : List LineEntry) → kept_readings (map kept_entry (e ∷ es)) ≡ map (kept_at_place e.0) (kept_lines e.1) ++ kept_readings (map kept_entry es)
+next_entry e es = flat_map-cons (λ (e : Entry). map (kept_at_place e.0) e.1) (kept_entry e) (map kept_entry es)
+
+-- ---- the union
+
+-- all readings of another picture make the union with it
+pub all_is_union : (p q : PartialPicture) → AreMarksHeld q → with_all p (kept_readings (entries q)) ≡ union p q
+all_is_union p q held = λ i. record {
+  shape = p.shape;
+  readings = same_set reading_total reading_exact (set.insert_all p.readings (map (λ k. k.0) ks)) (set.union p.readings q.readings) (λ r.
+      contains-insert_all reading_total p.readings (map (λ k. k.0) ks) r
+      ∙ ap (λ b. set.contains p.readings r || b) (any_items reading_cmp r ks ∙ sym (holds_reading q.shape (entries q) r) ∙ ap (λ (z : PartialPicture). set.contains z.readings r) (partial_again q held))
+      ∙ sym (contains-union reading_total p.readings q.readings r)) i;
+  marks = same_set marks_total marks_exact (set.insert_all p.marks (marks_of ks)) (set.union p.marks q.marks) (λ m.
+      contains-insert_all marks_total p.marks (marks_of ks) m
+      ∙ ap (λ b. set.contains p.marks m || b) (any_marks reading_cmp m.0 m.1 ks ∙ sym (holds_mark q.shape (entries q) m.0 m.1) ∙ ap (λ (z : PartialPicture). set.contains z.marks m) (partial_again q held))
+      ∙ sym (contains-union marks_total p.marks q.marks m)) i;
 }
   where
-    regroup : (a b c d : Bool) → (a || ((b || c) || d)) ≡ (((a || b) || c) || d)
-    regroup true b c d = refl
-    regroup false true c d = refl
-    regroup false false c d = refl
+    ks : List (Reading × List ℕ)
+    ks = kept_readings (entries q)
 
--- the first lines are a front of all lines
-pub lines_front : (p : PartialPicture) (c n k : ℕ) → (zs : List Reading) × (readings_of_lines p c (n + k) ≡ readings_of_lines p c n ++ zs)
-lines_front p c n zero = ([], ap (readings_of_lines p c) (add-zero n) ∙ sym (append-nil (readings_of_lines p c n)))
-lines_front p c n (suc k) =
-    let rest = lines_front p c n k in
-    let e : n + suc k ≡ suc (n + k) = omega arith in
-    (rest.0 ++ line_readings p c (n + k), ap (readings_of_lines p c) e ∙ ap (λ t. t ++ line_readings p c (n + k)) rest.1 ∙ append_assoc (readings_of_lines p c n) rest.0 (line_readings p c (n + k)))
+-- what is taken is above what was there
+above_old : (p : PartialPicture) (ks : List (Reading × List ℕ)) → IsBelow union p (with_all p ks)
+above_old p ks = λ i. record {
+  shape = p.shape;
+  readings = front_above reading_total reading_exact p.readings (map (λ k. k.0) ks) i;
+  marks = front_above marks_total marks_exact p.marks (marks_of ks) i;
+}
 
-pub components_front : (p : PartialPicture) (n k : ℕ) → (zs : List Reading) × (readings_of_components p (n + k) ≡ readings_of_components p n ++ zs)
-components_front p n zero = ([], ap (readings_of_components p) (add-zero n) ∙ sym (append-nil (readings_of_components p n)))
-components_front p n (suc k) =
-    let rest = components_front p n k in
-    let e : n + suc k ≡ suc (n + k) = omega arith in
-    (rest.0 ++ readings_of_lines p (n + k) p.shape.height, ap (readings_of_components p) e ∙ ap (λ t. t ++ readings_of_lines p (n + k) p.shape.height) rest.1 ∙ append_assoc (readings_of_components p n) rest.0 (readings_of_lines p (n + k) p.shape.height))
-
--- the lines before are taken whole, and of the next some readings
-pub grows_by_line : (p q r : PartialPicture) (c l n : ℕ) → l < n → q ≡ with_all p (readings_of_lines r c l) → (s : PartialPicture) → Grows q s (line_readings r c l) → Grows p s (readings_of_lines r c n)
-grows_by_line p q r c l n lt is s g =
-    let front = lines_front r c (suc l) (n - suc l) in
-    let e : suc l + (n - suc l) ≡ n = omega arith in
-    subst (Grows p s) (sym front.1 ∙ ap (readings_of_lines r c) e)
-    (grows_then p s (readings_of_lines r c l) (line_readings r c l) front.0 (subst (λ (z : PartialPicture). Grows z s (line_readings r c l)) is g))
-
--- the components before are taken whole, and of the next some readings
-pub grows_by_component : (p q r : PartialPicture) (c n : ℕ) → c < n → q ≡ with_all p (readings_of_components r c) → (s : PartialPicture) → Grows q s (readings_of_lines r c r.shape.height) → Grows p s (readings_of_components r n)
-grows_by_component p q r c n lt is s g =
-    let front = components_front r (suc c) (n - suc c) in
-    let e : suc c + (n - suc c) ≡ n = omega arith in
-    subst (Grows p s) (sym front.1 ∙ ap (readings_of_components r) e)
-    (grows_then p s (readings_of_components r c) (readings_of_lines r c r.shape.height) front.0 (subst (λ (z : PartialPicture). Grows z s (readings_of_lines r c r.shape.height)) is g))
+pub front_between : (p q r : PartialPicture) → AreMarksHeld q → TakesFront p r (kept_readings (entries q)) → IsBetween union p r (union p q)
+front_between p q r held f =
+    let whole : with_all (with_all p f.taken) f.left ≡ union p q = sym (with_all-append p f.taken f.left) ∙ ap (with_all p) (sym f.parts) ∙ all_is_union p q held in
+    subst (λ (z : PartialPicture). IsBetween union p z (union p q)) (sym f.new_is) (
+      above_old p f.taken,
+      subst (λ (z : PartialPicture). IsBelow union (with_all p f.taken) z) whole (above_old (with_all p f.taken) f.left),
+    )

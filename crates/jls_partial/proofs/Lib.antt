@@ -1,12 +1,16 @@
+pub mod BareEntries
 pub mod Entries
 pub mod Growth
+pub mod KeptEntries
 pub mod LineSets
+pub mod MarkSets
+pub mod Marked
 pub mod PackedLines
 pub mod PartialRows
 pub mod Parts
 pub mod ReadBack
-pub mod SameReadings
-pub mod TextEntries
+pub mod SameEntries
+pub mod Store
 pub mod TextFields
 pub mod TextLaws
 pub mod TextLoops
@@ -14,5 +18,3 @@ pub mod TextReadings
 pub mod TextRows
 pub mod Unions
 pub mod Views
-pub mod WrittenEntries
-pub mod Yielded

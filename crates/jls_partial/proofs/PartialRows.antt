@@ -2,13 +2,12 @@
 use Rattle.std.proofs.Common.{◌≡◌, List, [], ◌∷◌, map, Some, None, refl, ap}
 use Rattle.std.specs.Prelude.{filter, ◌&&◌, ◌==◌}
 use Rattle.std.specs.List.Sorted.{IsStrictlySortedBy}
-use Rattle.jls_values.specs.OrderedSet as set
 use Rattle.jls_values.specs.OrderedSetLaws.{items-from_list}
 use Rattle.jls_values.specs.Shape.{PictureShape}
 use Rattle.jls_partial.specs.declared.insert_fault.InsertFault.TheVariants.{Component, Line, Width, Sample}
 use Rattle.jls_partial.specs.declared.status.Status.TheVariants.{Missing, Settled, Disputed}
 use Rattle.jls_partial.specs.InsertFaults.{samples_fault, reading_fault}
-use Rattle.jls_partial.specs.Partial.{PartialPicture, with_reading, readings_at}
+use Rattle.jls_partial.specs.Partial.{PartialPicture, nothing_known, with_reading, readings_at}
 use Rattle.jls_partial.specs.Reading.{Reading, reading_of, reading_cmp}
 use Rattle.jls_partial.specs.ReadingOrder.{reading_total}
 use Rattle.jls_partial.specs.Status.{status_of}
@@ -44,7 +43,7 @@ sample_too_large = refl
 
 -- nothing is known of it
 abbrev nothing : PartialPicture
-nothing = record { shape = one_sample; readings = set.empty }
+nothing = nothing_known one_sample
 
 -- line 0 was read as 5
 abbrev five : PartialPicture

@@ -3,16 +3,19 @@ use Rattle.std.proofs.Common.{◌≡◌, ℕ, zero, suc, Bool, true, false, List
 use Rattle.std.specs.Prelude.{◌||◌, Contains}
 use Rattle.std.specs.Cmp.{both_ways}
 use Rattle.std.specs.List.{list_any}
+use Rattle.std.specs.List.Sorted.{IsStrictlySortedBy}
 use Rattle.std.specs.Ordering.{eq_by_cmp, is_eq}
 use Rattle.std.proofs.lemmas.Cmp.{tied_itself}
 use Rattle.std.proofs.lemmas.List.Elements.{All-contains}
 use Rattle.jls_values.specs.Join.{join_all}
+use Rattle.jls_values.specs.OrderedSet as set
 use Rattle.jls_values.specs.OrderedSet.{contains}
-use Rattle.jls_values.specs.OrderedSetLaws.{contains-union, same_set, or_false}
+use Rattle.jls_values.specs.OrderedSetLaws.{contains-union, same_set, or_false, items-from_list, union-associative}
 use Rattle.jls_partial.specs.Partial.{PartialPicture, readings_at, union, IsFitting}
-use Rattle.jls_partial.specs.Parts.{IsPartOf, EachLineSurvives, JoinsHoldExactly, PartsGiveThePicture}
+use Rattle.jls_partial.specs.Parts.{IsPartOf, EachLineSurvives, JoinsHoldExactly, JoinsHoldAllMarks, PartsGiveThePicture, all_marks}
+use Rattle.jls_partial.specs.Marks.{mark_cmp}
 use Rattle.jls_partial.specs.Reading.{Reading, reading_of, reading_cmp}
-use Rattle.jls_partial.specs.ReadingOrder.{reading_total, reading_exact, same_reading}
+use Rattle.jls_partial.specs.ReadingOrder.{reading_total, reading_exact, same_reading, marks_total, marks_exact}
 use Rattle.jls_partial.specs.Status.{status_of, IsSettled}
 use Rattle.jls_partial.specs.declared.status.Status.TheVariants.{Settled}
 use Rattle.jls_partial.proofs.Unions.{either, in_its_line, held_in_line, place_exists}
@@ -70,6 +73,16 @@ held_by_members first others component line samples =
     let r = reading_of component line samples in
     (λ h. held_of_member first others r h, λ m. member_held first others m.0 r m.1 m.2)
 
+-- ---- the marks of a join
+
+no_marks : set.items (set.empty {R = mark_cmp reading_cmp}) ≡ []
+unfolding IsStrictlySortedBy
+no_marks = items-from_list marks_total [] tt
+
+pub marks_of_join : JoinsHoldAllMarks
+marks_of_join first [] = sym (ap (set.insert_all first.marks) no_marks)
+marks_of_join first (q ∷ qs) = marks_of_join (union first q) qs ∙ union-associative marks_total marks_exact first.marks q.marks (all_marks qs)
+
 -- ---- the parts of one picture
 
 -- a join has the shape of the first
@@ -120,4 +133,4 @@ parts_join picture fitting settled first others are survives =
     let shape = shape_of_join first others ∙ (part_of picture first others are first (0, omega arith, refl)).shape in
     let readings = same_set reading_total reading_exact (join_all union first others).readings picture.readings
     (λ r. both_ways _ _ (nothing_else picture first others are r) (all_of_it picture first others are fitting settled survives r)) in
-    λ i. record { shape = shape i; readings = readings i }
+    λ i. record { shape = shape i; readings = readings i; marks = marks_of_join first others i }

@@ -14,15 +14,16 @@ use Rattle.std.proofs.lemmas.List.{append-nil}
 use Rattle.std.proofs.lemmas.List.Elements.{filter-append}
 use Rattle.std.proofs.lemmas.List.{map-append}
 use Rattle.std.proofs.lemmas.Cmp.{tied_itself, nat_cmp_total}
+use Rattle.jls_values.specs.OrderedSet.{OrderedSet, from_list, items}
 use Rattle.jls_values.specs.Shape.{PictureShape}
 use Rattle.jls_partial.specs.declared.place.Place.{Place}
-use Rattle.jls_partial.specs.Entries.{at_place, readings_of_entries, Entry}
-use Rattle.jls_partial.specs.Held.{samples_at, IsEntry, IsStore}
+use Rattle.jls_partial.specs.Entries.{at_place, readings_of_entries, BareEntry}
+use Rattle.jls_partial.specs.Held.{IsEntry, AreEntries}
 use Rattle.jls_partial.specs.Partial.{PartialPicture, readings_at}
 use Rattle.jls_partial.specs.Place.{place_cmp, place_of, place}
 use Rattle.jls_partial.specs.Reading.{Reading, reading_cmp}
 use Rattle.jls_partial.specs.ReadingOrder.{reading_total, same_place}
-use Rattle.jls_partial.proofs.Entries.{S, seen}
+use Rattle.jls_partial.proofs.Entries.{S, samples_at}
 use Rattle.jls_values.specs.OrderedSetLaws.{items-from_list, sorted-append}
 
 -- the readings at one place rise as their samples do
@@ -50,21 +51,21 @@ all-append : (P : Reading → Type 0) (xs ys : List Reading) → AllByRecursion 
 all-append P [] ys p q = q
 all-append P (x ∷ xs) ys p q = (p.0, all-append P xs ys p.1 q)
 
-below-entries : (r : Reading) (es : List Entry) → AllByRecursion (λ q. place_cmp (place_of r) q ≡ Less) (map (λ e. e.0) es) → AllByRecursion (λ s. reading_cmp r s ≡ Less) (readings_of_entries es)
+below-entries : (r : Reading) (es : List BareEntry) → AllByRecursion (λ q. place_cmp (place_of r) q ≡ Less) (map (λ e. e.0) es) → AllByRecursion (λ s. reading_cmp r s ≡ Less) (readings_of_entries es)
 below-entries r [] h = tt
 below-entries r (e ∷ es) h =
-    subst (AllByRecursion (λ s. reading_cmp r s ≡ Less)) (sym (flat_map-cons (λ (e : Entry). map (at_place e.0) e.1) e es))
+    subst (AllByRecursion (λ s. reading_cmp r s ≡ Less)) (sym (flat_map-cons (λ (e : BareEntry). map (at_place e.0) e.1) e es))
     (all-append (λ s. reading_cmp r s ≡ Less) (map (at_place e.0) e.1) (readings_of_entries es) (below-at_place r e.0 e.1 h.0) (below-entries r es h.1))
 
-at_place_below_entries : (p : Place) (xs : List (List ℕ)) (es : List Entry) → AllByRecursion (λ q. place_cmp p q ≡ Less) (map (λ e. e.0) es) → AllByRecursion (λ r. AllByRecursion (λ s. reading_cmp r s ≡ Less) (readings_of_entries es)) (map (at_place p) xs)
+at_place_below_entries : (p : Place) (xs : List (List ℕ)) (es : List BareEntry) → AllByRecursion (λ q. place_cmp p q ≡ Less) (map (λ e. e.0) es) → AllByRecursion (λ r. AllByRecursion (λ s. reading_cmp r s ≡ Less) (readings_of_entries es)) (map (at_place p) xs)
 at_place_below_entries p [] es h = tt
 at_place_below_entries p (x ∷ xs) es h = (below-entries (at_place p x) es h, at_place_below_entries p xs es h)
 
-pub sorted-entries : (shape : PictureShape) (es : List Entry) → IsStrictlySortedBy place_cmp (map (λ e. e.0) es) → AllByRecursion (IsEntry shape) es → IsStrictlySortedBy reading_cmp (readings_of_entries es)
+pub sorted-entries : (shape : PictureShape) (es : List BareEntry) → IsStrictlySortedBy place_cmp (map (λ e. e.0) es) → AllByRecursion (IsEntry shape) es → IsStrictlySortedBy reading_cmp (readings_of_entries es)
 unfolding IsStrictlySortedBy
 sorted-entries shape [] h k = tt
 sorted-entries shape (e ∷ es) h k =
-    subst (IsStrictlySortedBy reading_cmp) (sym (flat_map-cons (λ (e : Entry). map (at_place e.0) e.1) e es))
+    subst (IsStrictlySortedBy reading_cmp) (sym (flat_map-cons (λ (e : BareEntry). map (at_place e.0) e.1) e es))
     (sorted-append reading_total (map (at_place e.0) e.1) (readings_of_entries es) (sorted-at_place e.0 e.1 k.0.sorted) (sorted-entries shape es h.1 k.1) (at_place_below_entries e.0 e.1 es h.0))
 
 -- ---- the readings of one line
@@ -92,17 +93,17 @@ there_false c l p [] h = refl
 there_false c l p (x ∷ xs) h = rw h (there_false c l p xs h)
 
 -- no reading of a later place is there
-nothing_there : (c l : ℕ) (es : List Entry) → AllByRecursion (λ q. place_cmp (place c l) q ≡ Less) (map (λ e. e.0) es) → filter (is_there c l) (readings_of_entries es) ≡ []
+nothing_there : (c l : ℕ) (es : List BareEntry) → AllByRecursion (λ q. place_cmp (place c l) q ≡ Less) (map (λ e. e.0) es) → filter (is_there c l) (readings_of_entries es) ≡ []
 nothing_there c l [] h = refl
 nothing_there c l (e ∷ es) h =
-    ap (filter (is_there c l)) (flat_map-cons (λ (e : Entry). map (at_place e.0) e.1) e es) ∙ filter-append (is_there c l) (map (at_place e.0) e.1) (readings_of_entries es)
+    ap (filter (is_there c l)) (flat_map-cons (λ (e : BareEntry). map (at_place e.0) e.1) e es) ∙ filter-append (is_there c l) (map (at_place e.0) e.1) (readings_of_entries es)
     ∙ (λ i. there_false c l e.0 e.1 (eq_there c l e.0 ∙ ap is_eq h.0) i ++ nothing_there c l es h.1 i)
 
-pub kept_there : (c l : ℕ) (es : List Entry) → IsStrictlySortedBy place_cmp (map (λ e. e.0) es) → map (λ r. r.samples) (filter (is_there c l) (readings_of_entries es)) ≡ samples_at es (place c l)
+pub kept_there : (c l : ℕ) (es : List BareEntry) → IsStrictlySortedBy place_cmp (map (λ e. e.0) es) → map (λ r. r.samples) (filter (is_there c l) (readings_of_entries es)) ≡ samples_at es (place c l)
 unfolding IsStrictlySortedBy
 kept_there c l [] h = refl
 kept_there c l (e ∷ es) h =
-    ap (λ (t : List Reading). map (λ r. r.samples) t) (ap (filter (is_there c l)) (flat_map-cons (λ (e : Entry). map (at_place e.0) e.1) e es) ∙ filter-append (is_there c l) (map (at_place e.0) e.1) (readings_of_entries es))
+    ap (λ (t : List Reading). map (λ r. r.samples) t) (ap (filter (is_there c l)) (flat_map-cons (λ (e : BareEntry). map (at_place e.0) e.1) e es) ∙ filter-append (is_there c l) (map (at_place e.0) e.1) (readings_of_entries es))
     ∙ map-append (λ (r : Reading). r.samples) (filter (is_there c l) (map (at_place e.0) e.1)) (filter (is_there c l) (readings_of_entries es))
     ∙ elim (is_at (place_cmp (place c l)) e.0) as (λ b. is_at (place_cmp (place c l)) e.0 ≡ b →
     (map (λ r. r.samples) (filter (is_there c l) (map (at_place e.0) e.1)) ++ map (λ r. r.samples) (filter (is_there c l) (readings_of_entries es))) ≡ unwrap_or (cond b (Some e.1) (lookup (is_at (place_cmp (place c l))) es)) []) [
@@ -114,8 +115,8 @@ kept_there c l (e ∷ es) h =
     ] refl
 
 -- the readings of a line of the partial that is seen are what is kept at its place
-pub readings_kept : (shape : PictureShape) (es : List Entry) (p : PartialPicture) (c l : ℕ) → IsStore shape es → seen shape es ≡ p → readings_at p c l ≡ samples_at es (place c l)
+pub readings_kept : (shape : PictureShape) (es : List BareEntry) (p : PartialPicture) (c l : ℕ) → AreEntries shape es → from_list (readings_of_entries es) ≡ p.readings → readings_at p c l ≡ samples_at es (place c l)
 readings_kept shape es p c l kept is =
-    ap (λ (q : PartialPicture). readings_at q c l) (sym is)
+    ap (λ (s : OrderedSet reading_cmp). map (λ r. r.samples) (filter (is_there c l) (items s))) (sym is)
     ∙ ap (λ (rs : List Reading). map (λ r. r.samples) (filter (is_there c l) rs)) (items-from_list reading_total (readings_of_entries es) (sorted-entries shape es kept.sorted kept.each))
     ∙ kept_there c l es kept.sorted

@@ -12,8 +12,10 @@ use Rattle.jls_values.specs.declared.shape.ShapeFault.{ShapeFault}
 use Rattle.jls_values.specs.declared.shape.ShapeFault.TheVariants.{RepeatedId}
 use Rattle.jls_partial.specs.declared.text_fault.TextFault.{TextFault}
 use Rattle.jls_partial.specs.declared.text_fault.TextFault.TheVariants as fault
-use Rattle.jls_partial.specs.Text.{shape_text}
-use Rattle.jls_partial.specs.TextReading.{◌>>=◌, offset, byte_field, bytes_field, number_field, magic_field, unless_bad_shape, shape_or_fault, shape_fields}
+use Rattle.jls_partial.specs.declared.version.Version.{Version}
+use Rattle.jls_partial.specs.declared.version.Version.TheVariants.{One, Two}
+use Rattle.jls_partial.specs.Text.{version_byte, shape_text}
+use Rattle.jls_partial.specs.TextReading.{◌>>=◌, offset, byte_field, bytes_field, number_field, magic_field, version_field, unless_bad_shape, shape_or_fault, shape_fields}
 
 abbrev pub IsBytes : List ℕ → Type 0
 IsBytes bytes = (i : ℕ) → get_or bytes i 0 < 256
@@ -161,6 +163,30 @@ pub magic_again : (size : ℕ) (wanted rest : List ℕ) → magic_field size wan
 unfolding magic_field
 magic_again size [] rest = refl
 magic_again size (first ∷ others) rest = rw (byte_again size first (others ++ rest), eq-eqb first first refl) (magic_again size others rest)
+
+-- ---- the version
+
+version_takes_one : (n : ℕ) (a b : Bool) (d : TextFault) (rest : List ℕ) (x : Version × List ℕ) → eqb n 1 ≡ a → eqb n 2 ≡ b → cond a (Ok (One, rest)) (cond b (Ok (Two, rest)) (Err d)) ≡ Ok x → (version_byte x.0 ≡ n) × (rest ≡ x.1)
+version_takes_one n true b d rest x e f h =
+    let same = ok_is (One, rest) x h in
+    (sym (ap (λ (y : Version × List ℕ). version_byte y.0) same) ∙ sym (eqb-true n 1 e), ap (λ (y : Version × List ℕ). y.1) same)
+version_takes_one n false true d rest x e f h =
+    let same = ok_is (Two, rest) x h in
+    (sym (ap (λ (y : Version × List ℕ). version_byte y.0) same) ∙ sym (eqb-true n 2 f), ap (λ (y : Version × List ℕ). y.1) same)
+version_takes_one n false false d rest x e f h = absurd cc
+
+pub version_takes : (size : ℕ) (bytes : List ℕ) (x : Version × List ℕ) → IsBytes bytes → version_field size bytes ≡ Ok x → Takes bytes (version_byte x.0 ∷ []) x.1
+unfolding version_field
+version_takes size bytes x fits e =
+    let b = bind_ok (byte_field size bytes) (λ byte. cond (eqb byte.0 1) (Ok (One, byte.1)) (cond (eqb byte.0 2) (Ok (Two, byte.1)) (Err (fault.Magic (offset size bytes))))) x e in
+    let t = byte_takes size bytes b.0.0 b.0.1 fits b.1 in
+    let v = version_takes_one b.0.0 (eqb b.0.0 1) (eqb b.0.0 2) (fault.Magic (offset size bytes)) b.0.1 x refl refl b.2 in
+    subst (λ (n : ℕ). Takes bytes (n ∷ []) x.1) (sym v.0) (subst (λ (r : List ℕ). Takes bytes (b.0.0 ∷ []) r) v.1 t.0)
+
+pub version_again : (size : ℕ) (version : Version) (rest : List ℕ) → version_field size (version_byte version ∷ rest) ≡ Ok (version, rest)
+unfolding version_field byte_field
+version_again size One rest = refl
+version_again size Two rest = refl
 
 -- ---- the shape
 

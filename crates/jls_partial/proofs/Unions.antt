@@ -14,8 +14,8 @@ use Rattle.jls_partial.specs.declared.insert_fault.InsertFault.{InsertFault}
 use Rattle.jls_partial.specs.declared.insert_fault.InsertFault.TheVariants.{Component, Line}
 use Rattle.jls_partial.specs.Entries.{at_place}
 use Rattle.jls_partial.specs.InsertFaults.{reading_fault}
-use Rattle.jls_partial.specs.Merging.{with_all, line_readings, readings_of_lines, readings_of_components, Grows}
-use Rattle.jls_partial.specs.Partial.{PartialPicture, union}
+use Rattle.jls_partial.specs.Marking.{line_readings, readings_of_lines, readings_of_components}
+use Rattle.jls_partial.specs.Partial.{PartialPicture}
 use Rattle.jls_partial.specs.Place.{place_cmp, place_of, place}
 use Rattle.jls_partial.specs.Reading.{Reading, reading_cmp, reading_of}
 use Rattle.jls_partial.specs.ReadingOrder.{place_total, reading_total, reading_exact, same_place, same_reading}
@@ -67,7 +67,7 @@ either P true c f g e = f refl
 either P false c f g e = g e
 
 -- what stands in the first lines, or the first components, is held
-held_from_lines : (p : PartialPicture) (r : Reading) (c n : ℕ) → list_any (eq_by_cmp reading_cmp r) (readings_of_lines p c n) ≡ true → contains p.readings r ≡ true
+pub held_from_lines : (p : PartialPicture) (r : Reading) (c n : ℕ) → list_any (eq_by_cmp reading_cmp r) (readings_of_lines p c n) ≡ true → contains p.readings r ≡ true
 held_from_lines p r c zero e = absurd cc
 held_from_lines p r c (suc n) e =
     either _ _ _ (held_from_lines p r c n) (held_in_line p r c n) (sym (list_any-append (eq_by_cmp reading_cmp r) (readings_of_lines p c n) (line_readings p c n)) ∙ e)
@@ -101,33 +101,6 @@ components_hold p r (suc n) h lt line =
       | inl lt' ↦ or_left _ _ (components_hold p r n h lt' line)
       | inr le ↦ or_right (list_any test (readings_of_components p n)) _ (subst (λ (c : ℕ). list_any test (readings_of_lines p c p.shape.height) ≡ true) (omega arith) (lines_hold p r p.shape.height h line))
     ]
-
--- what is held is of the first n components, and of lines of the shape
-abbrev pub IsInside : PartialPicture → ℕ → Type 0
-IsInside q n = (r : Reading) → contains q.readings r ≡ true → (r.component < n) × (r.line < q.shape.height)
-
--- with all readings taken line by line, it is the union
-pub union_by_lines : (p q : PartialPicture) (n : ℕ) → IsInside q n → with_all p (readings_of_components q n) ≡ union p q
-union_by_lines p q n inside =
-    ap (λ s. record { shape = p.shape; readings = s }) (same_set reading_total reading_exact _ _ (λ r.
-    contains-insert_all reading_total p.readings (readings_of_components q n) r
-    ∙ ap (λ b. contains p.readings r || b) (both_ways _ _ (held_from_components q r n) (λ h. components_hold q r n h (inside r h).0 (inside r h).1))
-    ∙ sym (contains-union reading_total p.readings q.readings r)))
-
--- a picture that grew is above what it was, and below the union
-pub old_below : (p s : PartialPicture) (rs : List Reading) → Grows p s rs → IsBelow union p s
-old_below p s rs g = λ i. record {
-  shape = sym g.shape i;
-  readings = same_set reading_total reading_exact _ _ (λ r. contains-union reading_total p.readings s.readings r ∙ both_ways _ _ (either _ _ _ (g.keeps r) (λ h. h)) (or_right (contains p.readings r) (contains s.readings r))) i;
-}
-
-pub new_below : (p s q : PartialPicture) (n : ℕ) → Grows p s (readings_of_components q n) → IsBelow union s (union p q)
-new_below p s q n g = λ i. record {
-  shape = g.shape i;
-  readings = same_set reading_total reading_exact _ _ (λ r.
-      contains-union reading_total s.readings (union p q).readings r
-      ∙ both_ways _ _ (either _ _ _ (λ h. contains-union reading_total p.readings q.readings r ∙ either _ _ _ (or_left (contains p.readings r) (contains q.readings r)) (λ t. or_right (contains p.readings r) (contains q.readings r) (held_from_components q r n t)) (g.only r h)) (λ h. h)) (or_right (contains s.readings r) (contains (union p q).readings r))) i;
-}
 
 no_first_fault : (b : Bool) (f : InsertFault) (rest : Option InsertFault) → cond b (Some f) rest ≡ None → (b ≡ false) × (rest ≡ None)
 no_first_fault true f rest e = absurd cc

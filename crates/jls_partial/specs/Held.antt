@@ -1,35 +1,69 @@
--- What the program's store keeps for a partial picture: its entries, in the order of their places.
+-- What the program's store keeps for a partial picture: a set of lines for each place that has a reading, in the order of the places.
 use Rattle.std.specs.BTreeMap.{is_at}
-use Rattle.std.specs.BTreeSet.{insert_key}
 use Rattle.std.specs.Cmp.Lexicographic.{slice_cmp}
-use Rattle.std.specs.List.Sorted.{IsStrictlySortedBy}
 use Rattle.std.specs.List.{AllByRecursion}
+use Rattle.std.specs.List.Sorted.{IsStrictlySortedBy}
 use Rattle.std.specs.Map.{lookup}
 use Rattle.std.specs.Ordering.{nat_cmp}
-use Rattle.std.specs.Prelude.{◌≡◌, ℕ, ◌≤◌, ◌<◌, ◌^◌, None, Some, List, [], length, map, unwrap_or, if◌then◌else◌}
+use Rattle.std.specs.Prelude.{◌≡◌, ℕ, true, ◌≤◌, ◌<◌, ◌^◌, None, Some, List, [], ◌∷◌, length, map, unwrap_or, if◌then◌else◌}
+use Rattle.jls_values.specs.OrderedSet as set
 use Rattle.jls_values.specs.Shape.{PictureShape}
 use Rattle.jls_partial.specs.declared.place.Place.{Place}
-use Rattle.jls_partial.specs.Entries.{Entry}
-use Rattle.jls_partial.specs.InsertFaults.{reading_fault}
+use Rattle.jls_partial.specs.Entries.{BareEntry, Entry}
+use Rattle.jls_partial.specs.InsertFaults.{reading_fault, samples_fault}
+use Rattle.jls_partial.specs.LineSet.{PictureLines, AreLineMarksHeld, kept_lines, with_lines}
 use Rattle.jls_partial.specs.Place.{place_cmp}
 
 -- one line: it has a reading, its readings rise, they are few enough to be counted, and each fits the shape
-pub record IsEntry (shape : PictureShape) (e : Entry) : Type 0 where
+pub record IsEntry (shape : PictureShape) (e : BareEntry) : Type 0 where
   pub read : 1 ≤ length e.1
   pub sorted : IsStrictlySortedBy (slice_cmp nat_cmp) e.1
   pub countable : length e.1 < 2 ^ 64
   pub fitting : AllByRecursion (λ x. reading_fault shape e.0.component e.0.line x ≡ None) e.1
 
 -- the places rise, and so each line stands once
-pub record IsStore (shape : PictureShape) (entries : List Entry) : Type 0 where
+pub record AreEntries (shape : PictureShape) (entries : List BareEntry) : Type 0 where
   pub sorted : IsStrictlySortedBy place_cmp (map (λ e. e.0) entries)
   pub each : AllByRecursion (IsEntry shape) entries
 
--- the sample lists that are kept at a place
-abbrev pub samples_at : List Entry → Place → List (List ℕ)
-samples_at entries at = unwrap_or (lookup (is_at (place_cmp at)) entries) []
+-- what is kept of one line
+abbrev pub LineEntry : Type 0
+LineEntry = Place × PictureLines
 
--- at one place this sample list is kept too, as the only change there, and elsewhere nothing has changed
-abbrev pub PutsAt : List Entry → Place → List ℕ → List Entry → Type 0
-PutsAt old at samples new = (q : Place) → lookup (is_at (place_cmp q)) new
-    ≡ (if is_at (place_cmp at) q then Some (insert_key (slice_cmp nat_cmp) (samples_at old at) samples) else lookup (is_at (place_cmp q)) old)
+-- it as an entry, with the sources of each reading and without them
+abbrev pub kept_entry : LineEntry → Entry
+kept_entry e = (e.0, kept_lines e.1)
+
+abbrev pub bare_entry : LineEntry → BareEntry
+bare_entry e = (e.0, set.items e.1.lines)
+
+-- its lines are of the picture's precision and width, each source is of one of them, and has 32 bits
+pub record IsLineEntry (shape : PictureShape) (e : LineEntry) : Type 0 where
+  pub entry : IsEntry shape (bare_entry e)
+  pub precision : e.1.precision ≡ shape.precision
+  pub width : e.1.width ≡ shape.width
+  pub marks_held : AreLineMarksHeld e.1
+  pub small : (samples : List ℕ) (source : ℕ) → set.contains e.1.marks (samples, source) ≡ true → source < 2 ^ 32
+
+pub record IsStore (shape : PictureShape) (entries : List LineEntry) : Type 0 where
+  pub sorted : IsStrictlySortedBy place_cmp (map (λ e. e.0) entries)
+  pub each : AllByRecursion (IsLineEntry shape) entries
+
+-- these samples fit the lines
+abbrev pub FitsIn : PictureLines → List ℕ → Type 0
+FitsIn lines samples = samples_fault lines.precision lines.width samples ≡ None
+
+-- one line with its sources was put in; there are few enough lines to be counted, and each source is of one of them
+pub record PutsLine (old : PictureLines) (samples sources : List ℕ) (new : PictureLines) : Type 0 where
+  pub new_is : new ≡ with_lines old ((samples, sources) ∷ [])
+  pub countable : length (set.items new.lines) < 2 ^ 64
+  pub marks_held : AreLineMarksHeld new
+
+-- the lines at a place, or where there are none these
+abbrev pub lines_or : PictureLines → List LineEntry → Place → PictureLines
+lines_or none entries at = unwrap_or (lookup (is_at (place_cmp at)) entries) none
+
+-- at one place these lines are kept now, and elsewhere nothing has changed
+abbrev pub PutsAt : List LineEntry → Place → PictureLines → List LineEntry → Type 0
+PutsAt old at lines new = (q : Place) → lookup (is_at (place_cmp q)) new
+    ≡ (if is_at (place_cmp at) q then Some lines else lookup (is_at (place_cmp q)) old)

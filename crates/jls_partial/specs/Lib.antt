@@ -4,6 +4,7 @@ pub mod Held
 pub mod InsertFaults
 pub mod LineSet
 pub mod LineSetLaws
+pub mod Marking
 pub mod Marks
 pub mod MarkLaws
 pub mod Merging
@@ -19,4 +20,3 @@ pub mod Status
 pub mod Text
 pub mod TextInto
 pub mod TextReading
-pub mod Writing

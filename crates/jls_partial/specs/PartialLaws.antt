@@ -8,7 +8,7 @@ use Rattle.jls_values.specs.Shape.{PictureShape}
 use Rattle.jls_values.specs.SameShape.{same_shape}
 use Rattle.jls_values.specs.Join.{JoinLaws}
 use Rattle.jls_partial.specs.Partial.{has_same_shape, union}
-use Rattle.jls_partial.specs.ReadingOrder.{reading_total, reading_exact}
+use Rattle.jls_partial.specs.ReadingOrder.{reading_total, reading_exact, marks_total, marks_exact}
 use Rattle.jls_values.specs.OrderedSetLaws.{union-idempotent, union-commutative, union-associative}
 
 -- a number passes the test with itself
@@ -50,7 +50,19 @@ partial_laws = record {
   symmetric = λ x y. both_ways (has_same_shape x y) (has_same_shape y x) (shape_turned x.shape y.shape) (shape_turned y.shape x.shape);
   transitive = λ x y z f g. subst (λ (w : PictureShape). same_shape x.shape w ≡ true) (one_shape y.shape z.shape g) f;
   join_same_shape = λ x y f. shape_itself x.shape;
-  idempotent = λ x. ap (λ s. record { shape = x.shape; readings = s }) (union-idempotent reading_total reading_exact x.readings);
-  commutative = λ x y f. λ i. record { shape = one_shape x.shape y.shape f i; readings = union-commutative reading_total reading_exact x.readings y.readings i };
-  associative = λ x y z f g. ap (λ s. record { shape = x.shape; readings = s }) (union-associative reading_total reading_exact x.readings y.readings z.readings);
+  idempotent = λ x. λ i. record {
+    shape = x.shape;
+    readings = union-idempotent reading_total reading_exact x.readings i;
+    marks = union-idempotent marks_total marks_exact x.marks i;
+  };
+  commutative = λ x y f. λ i. record {
+    shape = one_shape x.shape y.shape f i;
+    readings = union-commutative reading_total reading_exact x.readings y.readings i;
+    marks = union-commutative marks_total marks_exact x.marks y.marks i;
+  };
+  associative = λ x y z f g. λ i. record {
+    shape = x.shape;
+    readings = union-associative reading_total reading_exact x.readings y.readings z.readings i;
+    marks = union-associative marks_total marks_exact x.marks y.marks z.marks i;
+  };
 }

@@ -8,6 +8,8 @@ use Rattle.std.specs.Cmp.Lexicographic.{slice_cmp}
 use Rattle.std.proofs.lemmas.Cmp.{nat_cmp_total, nat_list_cmp_total, on_total, then_total}
 use Rattle.std.proofs.lemmas.Map.Lookups.{CmpEqualImpliesEq, exact_unsigned, exact_bytes, exact_pairs}
 use Rattle.jls_partial.specs.declared.place.Place.{Place}
+use Rattle.jls_partial.specs.MarkLaws.{mark_total, mark_exact}
+use Rattle.jls_partial.specs.Marks.{mark_cmp}
 use Rattle.jls_partial.specs.Place.{place_cmp, place_of}
 use Rattle.jls_partial.specs.Reading.{Reading, reading_cmp}
 
@@ -64,3 +66,10 @@ same_samples x y e = exact_bytes x y (is_equal (slice_cmp nat_cmp x y) e)
 
 pub same_reading : (x y : Reading) → eq_by_cmp reading_cmp x y ≡ true → x ≡ y
 same_reading x y e = reading_exact x y (is_equal (reading_cmp x y) e)
+
+-- marks of readings are in a total order, and marks that tie are one
+pub marks_total : IsTotalOrder (mark_cmp reading_cmp)
+marks_total = mark_total reading_total
+
+pub marks_exact : CmpEqualImpliesEq (mark_cmp reading_cmp)
+marks_exact = mark_exact reading_exact

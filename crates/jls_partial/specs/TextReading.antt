@@ -7,13 +7,15 @@ use Rattle.std.specs.Ordering.{nat_cmp, is_lt}
 use Rattle.std.specs.Cmp.Lexicographic.{slice_cmp}
 use Rattle.jls_values.specs.Shape.{PictureShape}
 use Rattle.jls_values.specs.ShapeOf.{size_fault, shape_of}
-use Rattle.jls_values.specs.OrderedSet as set
 use Rattle.jls_partial.specs.declared.text_fault.TextFault.{TextFault}
 use Rattle.jls_partial.specs.declared.text_fault.TextFault.TheVariants as fault
 use Rattle.jls_partial.specs.declared.place.Place.{Place}
 use Rattle.jls_partial.specs.Place.{place_cmp}
 use Rattle.jls_partial.specs.Partial.{PartialPicture}
-use Rattle.jls_partial.specs.Entries.{Entry, readings_of_entries}
+use Rattle.jls_partial.specs.Entries.{Entry, partial_of}
+use Rattle.jls_partial.specs.Packed.{Kept}
+use Rattle.jls_partial.specs.declared.version.Version.{Version}
+use Rattle.jls_partial.specs.declared.version.Version.TheVariants.{One, Two}
 use Rattle.jls_partial.specs.Text.{magic}
 
 infixl 10 ◌>>=◌
@@ -59,11 +61,17 @@ magic_field size (wanted ∷ others) bytes = do
   first ← byte_field size bytes
   if first.0 == wanted then magic_field size others first.1 else Err (fault.Magic (offset size bytes))
 
+-- the version, whose byte is 1 or 2
+unfoldable pub version_field : ℕ → List ℕ → Result (Version × List ℕ) TextFault
+version_field size bytes = do
+  byte ← byte_field size bytes
+  if byte.0 == 1 then Ok (One, byte.1) else if byte.0 == 2 then Ok (Two, byte.1) else Err (fault.Magic (offset size bytes))
+
 -- ---- the shape
 
 -- where the fields of the shape begin
 abbrev pub shape_offset : ℕ
-shape_offset = length magic
+shape_offset = 5
 
 -- the value, or where there is a fault BadShape at the first field of the shape
 abbrev pub unless_bad_shape : {A E : Type 0} → Option E → A → Result A TextFault
@@ -114,12 +122,45 @@ reading_fields size shape before bytes = do
   samples ← samples_fields size (2 ^ shape.precision) shape.width bytes
   if is_above before samples.0 then Ok samples else Err (fault.Order (offset size bytes))
 
+-- whether a source is above the one before
+abbrev pub is_source_above : Option ℕ → ℕ → Bool
+is_source_above None source = true
+is_source_above (Some before) source = nat_lt before source
+
+-- a source, which has to be above the one before
+unfoldable pub source_field : ℕ → Option ℕ → List ℕ → Result (ℕ × List ℕ) TextFault
+source_field size before bytes = do
+  source ← number_field size w32 bytes
+  if is_source_above before source.0 then Ok source else Err (fault.Order (offset size bytes))
+
+-- n sources, each above the one before
+unfoldable pub sources_fields : ℕ → Option ℕ → ℕ → List ℕ → Result (List ℕ × List ℕ) TextFault
+sources_fields size before zero bytes = Ok ([], bytes)
+sources_fields size before (suc n) bytes = do
+  first ← source_field size before bytes
+  others ← sources_fields size (Some first.0) n first.1
+  Ok (first.0 ∷ others.0, others.1)
+
+-- the sources of a reading: in version 2 as many as their number says, in version 1 none
+unfoldable pub own_sources_fields : ℕ → Version → List ℕ → Result (List ℕ × List ℕ) TextFault
+own_sources_fields size One bytes = Ok ([], bytes)
+own_sources_fields size Two bytes = do
+  count ← number_field size w64 bytes
+  sources_fields size None count.0 count.1
+
+-- a reading with its sources
+unfoldable pub kept_fields : ℕ → Version → PictureShape → Option (List ℕ) → List ℕ → Result (Kept × List ℕ) TextFault
+kept_fields size version shape before bytes = do
+  samples ← reading_fields size shape before bytes
+  sources ← own_sources_fields size version samples.1
+  Ok ((samples.0, sources.0), sources.1)
+
 -- n readings of one line, each above the one before
-unfoldable pub readings_fields : ℕ → PictureShape → Option (List ℕ) → ℕ → List ℕ → Result (List (List ℕ) × List ℕ) TextFault
-readings_fields size shape before zero bytes = Ok ([], bytes)
-readings_fields size shape before (suc n) bytes = do
-  first ← reading_fields size shape before bytes
-  others ← readings_fields size shape (Some first.0) n first.1
+unfoldable pub readings_fields : ℕ → Version → PictureShape → Option (List ℕ) → ℕ → List ℕ → Result (List Kept × List ℕ) TextFault
+readings_fields size version shape before zero bytes = Ok ([], bytes)
+readings_fields size version shape before (suc n) bytes = do
+  first ← kept_fields size version shape before bytes
+  others ← readings_fields size version shape (Some first.0.0) n first.1
   Ok (first.0 ∷ others.0, others.1)
 
 -- ---- entries
@@ -145,34 +186,31 @@ count_field size bytes = do
   if count.0 == 0 then Err (fault.Count (offset size bytes)) else Ok count
 
 -- a place, and as many readings as the count says
-unfoldable pub entry_fields : ℕ → PictureShape → Option Place → List ℕ → Result (Entry × List ℕ) TextFault
-entry_fields size shape before bytes = do
+unfoldable pub entry_fields : ℕ → Version → PictureShape → Option Place → List ℕ → Result (Entry × List ℕ) TextFault
+entry_fields size version shape before bytes = do
   place ← place_fields size shape before bytes
   count ← count_field size place.1
-  readings ← readings_fields size shape None count.0 count.1
+  readings ← readings_fields size version shape None count.0 count.1
   Ok ((place.0, readings.0), readings.1)
 
 -- n entries, each of a line after that of the one before
-unfoldable pub entries_fields : ℕ → PictureShape → Option Place → ℕ → List ℕ → Result (List Entry × List ℕ) TextFault
-entries_fields size shape before zero bytes = Ok ([], bytes)
-entries_fields size shape before (suc n) bytes = do
-  first ← entry_fields size shape before bytes
-  others ← entries_fields size shape (Some first.0.0) n first.1
+unfoldable pub entries_fields : ℕ → Version → PictureShape → Option Place → ℕ → List ℕ → Result (List Entry × List ℕ) TextFault
+entries_fields size version shape before zero bytes = Ok ([], bytes)
+entries_fields size version shape before (suc n) bytes = do
+  first ← entry_fields size version shape before bytes
+  others ← entries_fields size version shape (Some first.0.0) n first.1
   Ok (first.0 ∷ others.0, others.1)
 
 -- ---- the text
 
--- the partial picture of a shape and entries
-abbrev pub partial_of : PictureShape → List Entry → PartialPicture
-partial_of shape es = record { shape = shape; readings = set.from_list (readings_of_entries es) }
-
 -- the shape, the entries, and the bytes after the last of these
 unfoldable pub text_fields : ℕ → List ℕ → Result (PictureShape × List Entry × List ℕ) TextFault
 text_fields size bytes = do
-  shape_bytes ← magic_field size magic bytes
-  shape ← shape_fields size shape_bytes
+  version_bytes ← magic_field size magic bytes
+  version ← version_field size version_bytes
+  shape ← shape_fields size version.1
   count ← number_field size w32 shape.1
-  entries ← entries_fields size shape.0 None count.0 count.1
+  entries ← entries_fields size version.0 shape.0 None count.0 count.1
   Ok (shape.0, entries.0, entries.1)
 
 -- the partial picture whose text the bytes are, or the first fault; after the last entry nothing may stand

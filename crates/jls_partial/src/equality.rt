@@ -1,52 +1,51 @@
 //! Whether two partial pictures are one.
 
-ghost use Rattle.jls_partial.specs.Equality.{SameLines, SameComponents};
-ghost use Rattle.jls_partial.specs.Partial.{readings_at};
-ghost use Rattle.std.specs.Prelude.{◌≡◌, ◌<◌, ◌↔◌, length, IsTrue};
+ghost use Rattle.jls_partial.specs.LineSet.{kept_lines};
+ghost use Rattle.jls_partial.specs.Text.{entries};
+ghost use Rattle.std.specs.Prelude.{◌≡◌, ◌↔◌, IsTrue};
 
+use crate::line_set::LineSet;
 use crate::partial::Partial;
 
-/// Whether a line has the same readings in both.
-fn same_line(one: &Partial, other: &Partial, component: u8, line: u16) -> bool
-    ensures { IsTrue result ↔ (readings_at one.now component line ≡ readings_at other.now component line) }
+/// Whether two lines have the same readings, with the same sources.
+fn same_line(one: &LineSet, other: &LineSet) -> bool
+    ensures { IsTrue result ↔ (kept_lines one.now ≡ kept_lines other.now) }
 {
-    let mut left = other.readings(component, line);
-    for samples in one.readings(component, line) {
-        let Some(others) = left.next() else {
+    if one.len() != other.len() {
+        return false;
+    }
+    for i in 0..one.len() {
+        let same_samples = one.get(i) == other.get(i);
+        if !same_samples {
+            return false;
+        }
+        let same_sources = one.sources(i) == other.sources(i);
+        if !same_sources {
+            return false;
+        }
+    }
+    true
+}
+
+/// Whether the same lines have readings in both, and the same ones.
+fn same_entries(one: &Partial, other: &Partial) -> bool
+    ensures { IsTrue result ↔ (entries one.now ≡ entries other.now) }
+{
+    let mut left = other.entries();
+    for (at, lines) in one.entries() {
+        let Some((other_at, others)) = left.next() else {
             return false;
         };
-        let same = samples == others;
-        if !same {
+        let same_place = *at == *other_at;
+        if !same_place {
+            return false;
+        }
+        let same_lines = same_line(lines, others);
+        if !same_lines {
             return false;
         }
     }
     left.next().is_none()
-}
-
-/// Whether each line of a component has the same readings in both.
-fn same_component(one: &Partial, other: &Partial, component: u8) -> bool
-    ensures { IsTrue result ↔ SameLines one.now other.now component one.now.shape.height }
-{
-    for line in 0..one.shape().height() {
-        let same = same_line(one, other, component, line);
-        if !same {
-            return false;
-        }
-    }
-    true
-}
-
-/// Whether each line of the first shape has the same readings in both.
-fn same_components(one: &Partial, other: &Partial) -> bool
-    ensures { IsTrue result ↔ SameComponents one.now other.now (length one.now.shape.ids) }
-{
-    for component in 0..one.shape().ids().len() as u8 {
-        let same = same_component(one, other, component);
-        if !same {
-            return false;
-        }
-    }
-    true
 }
 
 impl PartialEq for Partial {
@@ -57,7 +56,7 @@ impl PartialEq for Partial {
 
     ghost laws = { partial_equiv_from_equiv is_same_equivalence };
 
-    /// True exactly where the two are one: the same shape, and the same readings of each line.
+    /// True exactly where the two are one: the same shape, and the same readings of each line with the same sources.
     fn eq(&self, other: &Partial) -> bool
         ensures test { result ≡ is_same self.now other.now }
         ensures exactly { IsTrue result ↔ (self.now ≡ other.now) }
@@ -65,7 +64,7 @@ impl PartialEq for Partial {
         if *self.shape() != *other.shape() {
             return false;
         }
-        same_components(self, other)
+        same_entries(self, other)
     }
 }
 

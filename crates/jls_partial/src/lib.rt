@@ -5,16 +5,16 @@ mod equality;
 mod insert_fault;
 mod laws;
 mod line_set;
+mod marking;
 mod merging;
 mod packed;
 mod partial;
 mod place;
-mod readings;
-mod sample_lists;
 mod status;
 mod text_fault;
 mod text_fields;
 mod text_reading;
+mod version;
 mod writing;
 
 pub use insert_fault::InsertFault;

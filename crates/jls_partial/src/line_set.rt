@@ -78,6 +78,16 @@ impl LineSet {
         }
     }
 
+    /// Whether a line is held.
+    pub(crate) fn contains(&self, samples: &[u16]) -> bool
+        ensures { result ≡ set.contains self.now.lines samples.now }
+    {
+        match find(&self.index, &self.samples, self.width, samples) {
+            Ok(_) => true,
+            Err(_) => false,
+        }
+    }
+
     /// How many lines are held. Each source is of one of them.
     pub fn len(&self) -> usize
         ensures value { result ≡ length (set.items self.now.lines) }
@@ -105,7 +115,7 @@ impl LineSet {
     }
 
     /// Takes one line that fits, and adds these source numbers to its own.
-    fn take(&mut self, samples: &[u16], sources: &[u32]) -> Result<(), AllocError>
+    pub(crate) fn take(&mut self, samples: &[u16], sources: &[u32]) -> Result<(), AllocError>
         requires { samples_fault self.old.precision self.old.width samples.now ≡ None }
         ensures ok { OnOk result (self.new ≡ with_lines self.old ((samples.now, sources.now) ∷ [])) }
         ensures err { OnErr result (self.new ≡ self.old) }

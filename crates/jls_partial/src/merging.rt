@@ -1,49 +1,39 @@
 //! The union of partial pictures.
 
-ghost use Rattle.jls_partial.specs.Merging.{with_all, line_readings, readings_of_lines, readings_of_components, Grows};
-ghost use Rattle.std.specs.Prelude.{◌≡◌, ◌<◌, length, OnOk, OnErr};
+ghost use Rattle.jls_partial.specs.Entries.{kept_at_place, kept_readings};
+ghost use Rattle.jls_partial.specs.Held.{IsLineEntry};
+ghost use Rattle.jls_partial.specs.LineSet.{kept_lines};
+ghost use Rattle.jls_partial.specs.Merging.{TakesFront};
+ghost use Rattle.jls_partial.specs.Partial.{with_all};
+ghost use Rattle.jls_partial.specs.Text.{entries};
+ghost use Rattle.std.specs.Prelude.{◌≡◌, map, OnOk, OnErr};
 
+use crate::line_set::LineSet;
 use crate::partial::Partial;
+use crate::place::Place;
 use jls_values::{Merge, MergeFault};
 use std::alloc::AllocError;
 
-/// Takes the readings of one line.
-fn merge_line(
-    into: &mut Partial,
-    other: &Partial,
-    component: u8,
-    line: u16,
-) -> Result<(), AllocError>
-    ensures ok { OnOk result (into.new ≡ with_all into.old (line_readings other.now component line)) }
-    ensures err { OnErr result (Grows into.old into.new (line_readings other.now component line)) }
+/// Takes the readings of one line, with their sources.
+fn merge_line(into: &mut Partial, at: Place, lines: &LineSet) -> Result<(), AllocError>
+    requires { IsLineEntry into.old.shape (at, lines.now) }
+    ensures ok { OnOk result (into.new ≡ with_all into.old (map (kept_at_place at) (kept_lines lines.now))) }
+    ensures err { OnErr result (TakesFront into.old into.new (map (kept_at_place at) (kept_lines lines.now))) }
 {
-    for samples in other.readings(component, line) {
-        match into.insert(component, line, samples) {
-            Ok(_) => {}
-            Err(_) => return Err(AllocError),
-        }
+    for i in 0..lines.len() {
+        into.take(at, lines.get(i), lines.sources(i))?;
     }
     Ok(())
 }
 
-/// Takes the readings of one component.
-fn merge_component(into: &mut Partial, other: &Partial, component: u8) -> Result<(), AllocError>
-    ensures ok { OnOk result (into.new ≡ with_all into.old (readings_of_lines other.now component other.now.shape.height)) }
-    ensures err { OnErr result (Grows into.old into.new (readings_of_lines other.now component other.now.shape.height)) }
+/// Takes the readings of all lines.
+fn merge_entries(into: &mut Partial, other: &Partial) -> Result<(), AllocError>
+    requires { into.old.shape ≡ other.now.shape }
+    ensures ok { OnOk result (into.new ≡ with_all into.old (kept_readings (entries other.now))) }
+    ensures err { OnErr result (TakesFront into.old into.new (kept_readings (entries other.now))) }
 {
-    for line in 0..other.shape().height() {
-        merge_line(into, other, component, line)?;
-    }
-    Ok(())
-}
-
-/// Takes the readings of all components.
-fn merge_components(into: &mut Partial, other: &Partial) -> Result<(), AllocError>
-    ensures ok { OnOk result (into.new ≡ with_all into.old (readings_of_components other.now (length other.now.shape.ids))) }
-    ensures err { OnErr result (Grows into.old into.new (readings_of_components other.now (length other.now.shape.ids))) }
-{
-    for component in 0..other.shape().ids().len() as u8 {
-        merge_component(into, other, component)?;
+    for (at, lines) in other.entries() {
+        merge_line(into, *at, lines)?;
     }
     Ok(())
 }
@@ -58,14 +48,14 @@ impl Merge for Partial {
 
     ghost laws = { partial_laws };
 
-    /// Takes in the readings of `other`. At `ShapeDiffers` nothing has changed; after want of memory
-    /// all that was held is still held, with some of the other's readings, and the same call can be
+    /// Takes in the readings of `other`, and their sources. At `ShapeDiffers` nothing has changed; after want of memory
+    /// all that was held is still held, with some of the other's readings and their sources, and the same call can be
     /// made again.
     fn merge(&mut self, other: &Partial) -> Result<(), MergeFault> {
         if *self.shape() != *other.shape() {
             return Err(MergeFault::ShapeDiffers);
         }
-        match merge_components(self, other) {
+        match merge_entries(self, other) {
             Ok(()) => Ok(()),
             Err(_) => Err(MergeFault::OutOfMemory),
         }

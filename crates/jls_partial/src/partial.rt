@@ -1,32 +1,33 @@
 //! A partial picture over its store. What stands here is all that knows how readings are kept.
 
-ghost use Rattle.jls_values.specs.OrderedSet as set;
-ghost use Rattle.jls_partial.specs.Held.{samples_at, PutsAt};
+ghost use Rattle.jls_partial.specs.Entries.{at_place, partial_of};
+ghost use Rattle.jls_partial.specs.Held.{FitsIn, IsLineEntry, PutsAt, PutsLine, lines_or, kept_entry};
 ghost use Rattle.jls_partial.specs.InsertFaults.{reading_fault, Refuses};
-ghost use Rattle.jls_partial.specs.Partial.{holds, with_reading, readings_at, IsFitting, IsCountable};
+ghost use Rattle.jls_partial.specs.LineSet.{no_lines};
+ghost use Rattle.jls_partial.specs.Partial.{nothing_known, holds, with_reading, with_all, with_marks, readings_at, sources_at, IsFitting, IsCountable, AreMarksHeld, AreSourcesSmall};
 ghost use Rattle.jls_partial.specs.Place.{place_cmp};
+ghost use Rattle.jls_partial.specs.Text.{entries};
+ghost use Rattle.jls_values.specs.OrderedSet as set;
 ghost use Rattle.std.specs.BTreeMap.{IsOrdered};
-ghost use Rattle.std.specs.Cmp.Lexicographic.{slice_cmp};
-ghost use Rattle.std.specs.List.Sorted.{IsStrictlySortedBy};
-ghost use Rattle.std.specs.List.{list_any};
-ghost use Rattle.std.specs.Ordering.{nat_cmp, eq_by_cmp};
-ghost use Rattle.std.specs.Prelude.{◌≡◌, ◌<◌, ◌≤◌, ◌^◌, length, true, not, IfOk, OnOk, OnErr, IsOk, Some, None, slice_get};
+ghost use Rattle.std.specs.List.{AllByRecursion};
+ghost use Rattle.std.specs.Prelude.{◌≡◌, ◌<◌, ◌≤◌, ◌^◌, ◌∷◌, [], length, map, true, not, IfOk, IfSome, OnOk, OnErr, IsOk, Some, None, slice_get};
 
 use crate::insert_fault::{InsertFault, find_reading_fault};
+use crate::line_set::LineSet;
 use crate::place::Place;
-use crate::readings::Readings;
-use crate::sample_lists::SampleLists;
 use jls_values::Shape;
 use std::alloc::{AllocError, Global};
 use std::collections::BTreeMap;
+use std::collections::btree_map::Iter;
 use std::marker::Model;
 
 /// What is known of a picture: its shape, and a set of readings of its lines. A reading is what some
-/// copy of the picture says of one line; a line may have none, one or several.
+/// copy of the picture says of one line; a line may have none, one or several. Each reading keeps the set of source numbers
+/// under which it was taken.
 #[derive(Drop)]
 pub struct Partial {
     shape: Shape,
-    store: BTreeMap<Place, SampleLists>,
+    store: BTreeMap<Place, LineSet>,
     alloc: Global,
 }
 
@@ -37,84 +38,87 @@ impl Model for Partial {
 
     ghost coded = { coded_partial };
 
-    ghost use Rattle.jls_values.specs.OrderedSet as set;
-    ghost use Rattle.jls_partial.specs.Entries.{readings_of_entries};
-    ghost use Rattle.jls_partial.specs.Held.{IsStore};
+    ghost use Rattle.jls_partial.specs.Entries.{partial_of};
+    ghost use Rattle.jls_partial.specs.Held.{IsStore, kept_entry};
+    ghost use Rattle.std.specs.Prelude.{map};
 
-    ghost view = { λ a. record { shape = a.shape; readings = set.from_list (readings_of_entries a.store.entries) } };
+    ghost view = { λ a. partial_of a.shape (map kept_entry a.store.entries) };
 
     ghost invariant = { λ a. IsStore a.shape a.store.entries };
 }
 
-/// Keeps one more sample list at a place.
+/// Takes one line that fits, with these sources.
+fn take_line(lines: &mut LineSet, samples: &[u16], sources: &[u32]) -> Result<(), AllocError>
+    requires { FitsIn lines.old samples.now }
+    ensures ok { OnOk result (PutsLine lines.old samples.now sources.now lines.new) }
+    ensures err { OnErr result (lines.new ≡ lines.old) }
+{
+    lines.take(samples, sources)?;
+    // The length of a set of lines is a `usize`, and so it is countable.
+    prove!(lines.len() <= usize::MAX);
+    Ok(())
+}
+
+/// Keeps one more reading at a place, with these sources. `none` is what a place without readings has.
 fn put(
-    store: &mut BTreeMap<Place, SampleLists>,
-    alloc: Global,
+    store: &mut BTreeMap<Place, LineSet>,
+    none: LineSet,
     at: Place,
-    samples: Vec<u16>,
+    samples: &[u16],
+    sources: &[u32],
 ) -> Result<(), AllocError>
-    ensures ok { OnOk result (PutsAt store.old.entries at samples.items store.new.entries) }
-    ensures sorted { OnOk result (IsStrictlySortedBy (slice_cmp nat_cmp) (samples_at store.new.entries at)) }
-    ensures countable { OnOk result (length (samples_at store.new.entries at) < 2 ^ 64) }
+    requires { FitsIn (lines_or none store.old.entries at) samples.now }
+    ensures ok { OnOk result (PutsAt store.old.entries at (lines_or none store.new.entries at) store.new.entries) }
+    ensures lines { OnOk result (PutsLine (lines_or none store.old.entries at) samples.now sources.now (lines_or none store.new.entries at)) }
     ensures err { OnErr result (store.new.entries ≡ store.old.entries) }
     ensures ordered { IsOrdered place_cmp store.new }
 {
     match store.get_mut(&at) {
-        Some(lists) => lists.insert(samples)?,
+        Some(lines) => take_line(lines, samples, sources)?,
         None => {
-            let mut lists = SampleLists::new(alloc);
-            lists.insert(samples)?;
-            store.insert(at, lists)?;
+            let mut lines = none;
+            take_line(&mut lines, samples, sources)?;
+            store.insert(at, lines)?;
         }
     }
     Ok(())
 }
 
 /// Whether these samples are kept at a place.
-fn is_kept(store: &BTreeMap<Place, SampleLists>, at: Place, samples: &[u16]) -> bool
-    ensures { result ≡ list_any (eq_by_cmp (slice_cmp nat_cmp) samples.now) (samples_at store.now.entries at) }
+fn is_kept(store: &BTreeMap<Place, LineSet>, at: Place, samples: &[u16]) -> bool
+    ensures { result ≡ set.contains (lines_or (no_lines 0 0) store.now.entries at).lines samples.now }
 {
     match store.get(&at) {
-        Some(lists) => lists.contains(samples),
+        Some(lines) => lines.contains(samples),
         None => false,
     }
 }
 
-/// How many sample lists are kept at a place.
-fn count_at(store: &BTreeMap<Place, SampleLists>, at: Place) -> usize
-    ensures { result ≡ length (samples_at store.now.entries at) }
+/// How many readings are kept at a place.
+fn count_at(store: &BTreeMap<Place, LineSet>, at: Place) -> usize
+    ensures { result ≡ length (set.items (lines_or (no_lines 0 0) store.now.entries at).lines) }
 {
     match store.get(&at) {
-        Some(lists) => lists.len(),
+        Some(lines) => lines.len(),
         None => 0,
     }
 }
 
-/// The sample list at a place that has `i` others below it.
-fn list_at(store: &BTreeMap<Place, SampleLists>, at: Place, i: usize) -> &[u16]
-    requires { i < length (samples_at store.now.entries at) }
-    ensures { slice_get (samples_at store.now.entries at) i ≡ Some result.now }
+/// What is kept at a place that has a reading.
+fn lines_at(store: &BTreeMap<Place, LineSet>, at: Place) -> &LineSet
+    requires { 0 < length (set.items (lines_or (no_lines 0 0) store.now.entries at).lines) }
+    ensures { result.now ≡ lines_or (no_lines 0 0) store.now.entries at }
 {
     match store.get(&at) {
-        Some(lists) => lists.get(i),
+        Some(lines) => lines,
         None => unreachable!(),
-    }
-}
-
-/// The sample lists at a place.
-fn lists_at(store: &BTreeMap<Place, SampleLists>, at: Place) -> Readings<'_>
-    ensures { result ≡ samples_at store.now.entries at }
-{
-    match store.get(&at) {
-        Some(lists) => Readings::of(lists),
-        None => Readings::none(),
     }
 }
 
 impl Partial {
     /// A picture of this shape of which nothing is known. It takes no memory.
     pub fn empty(alloc: Global, shape: Shape) -> Partial
-        ensures { result ≡ record { shape = shape; readings = set.empty } }
+        ensures { result ≡ nothing_known shape }
     {
         Partial {
             shape,
@@ -123,17 +127,20 @@ impl Partial {
         }
     }
 
-    /// The shape. Each reading that is held fits it, and a line has fewer than 2^64 of them.
+    /// The shape. Each reading that is held fits it, and a line has fewer than 2^64 of them. Each source is of a reading that is
+    /// held, and has 32 bits.
     pub fn shape(&self) -> &Shape
         ensures value { result.now ≡ self.now.shape }
         ensures fitting { IsFitting self.now }
         ensures countable { IsCountable self.now }
+        ensures marks_held { AreMarksHeld self.now }
+        ensures sources_small { AreSourcesSmall self.now }
     {
         &self.shape
     }
 
     /// Takes one reading of a line: `samples` from left to right, in the component of index `component`.
-    /// True where it is new. The refusals come in the order of `InsertFault`, and change nothing; a
+    /// True where it is new; then it has no source. The refusals come in the order of `InsertFault`, and change nothing; a
     /// reading that is held already needs no memory.
     pub fn insert(&mut self, component: u8, line: u16, samples: &[u16]) -> Result<bool, InsertFault>
         ensures refused { Refuses (reading_fault self.old.shape component line samples.now) result }
@@ -146,12 +153,53 @@ impl Partial {
             return Err(fault);
         }
         let at = Place { component, line };
-        if is_kept(&self.store, at, samples) {
+        if self.has(at, samples) {
             return Ok(false);
         }
-        let samples = Vec::from_slice(self.alloc, samples)?;
-        put(&mut self.store, self.alloc, at, samples)?;
+        self.take(at, samples, &[])?;
         Ok(true)
+    }
+
+    /// Whether these samples are held as a reading of a line.
+    fn has(&self, at: Place, samples: &[u16]) -> bool
+        ensures value { result ≡ holds self.now at.component at.line samples.now }
+        ensures fitting { IsFitting self.now }
+    {
+        is_kept(&self.store, at, samples)
+    }
+
+    /// Takes one reading that fits, and adds these sources to its own.
+    pub(crate) fn take(
+        &mut self,
+        at: Place,
+        samples: &[u16],
+        sources: &[u32],
+    ) -> Result<(), AllocError>
+        requires { reading_fault self.old.shape at.component at.line samples.now ≡ None }
+        ensures ok { OnOk result (self.new ≡ with_all self.old ((at_place at samples.now, sources.now) ∷ [])) }
+        ensures err { OnErr result (self.new ≡ self.old) }
+    {
+        let none = LineSet::empty(self.alloc, self.shape.precision(), self.shape.width());
+        put(&mut self.store, none, at, samples, sources)?;
+        Ok(())
+    }
+
+    /// Adds a source to the reading of a line that has `i` others below it. In passing it takes memory for that reading.
+    pub(crate) fn mark_reading(
+        &mut self,
+        at: Place,
+        i: usize,
+        source: u32,
+    ) -> Result<(), AllocError>
+        requires component_in { at.component < length self.old.shape.ids }
+        requires line_in { at.line < self.old.shape.height }
+        requires i_in { i < length (readings_at self.old at.component at.line) }
+        ensures ok { OnOk result (IfSome (slice_get (readings_at self.old at.component at.line) i) (λ samples. self.new ≡ with_marks self.old source (at_place at samples ∷ []))) }
+        ensures err { OnErr result (self.new ≡ self.old) }
+    {
+        let samples = Vec::from_slice(self.alloc, self.reading(at.component, at.line, i))?;
+        self.take(at, &samples, &[source])?;
+        Ok(())
     }
 
     /// How many readings a line has.
@@ -164,8 +212,7 @@ impl Partial {
     }
 
     /// The reading of a line that has `i` others below it, lent from the store: readings stand in
-    /// ascending order of their samples, compared from the first one on. Each fits the shape. It walks
-    /// over the readings below that one.
+    /// ascending order of their samples, compared from the first one on. Each fits the shape.
     pub fn reading(&self, component: u8, line: u16, i: usize) -> &[u16]
         requires component_in { component < length self.now.shape.ids }
         requires line_in { line < self.now.shape.height }
@@ -173,13 +220,34 @@ impl Partial {
         ensures value { slice_get (readings_at self.now component line) i ≡ Some result.now }
         ensures fitting { reading_fault self.now.shape component line result.now ≡ None }
     {
-        list_at(&self.store, Place { component, line }, i)
+        lines_at(&self.store, Place { component, line }).get(i)
     }
 
-    /// The readings of a line one after the other, in the order of `reading`.
-    pub(crate) fn readings(&self, component: u8, line: u16) -> Readings<'_>
-        ensures { result ≡ readings_at self.now component line }
+    /// The source numbers of that reading in ascending order, lent from the store.
+    pub fn sources(&self, component: u8, line: u16, i: usize) -> &[u32]
+        requires component_in { component < length self.now.shape.ids }
+        requires line_in { line < self.now.shape.height }
+        requires i_in { i < length (readings_at self.now component line) }
+        ensures { IfSome (slice_get (readings_at self.now component line) i) (λ samples. result.now ≡ sources_at self.now component line samples) }
     {
-        lists_at(&self.store, Place { component, line })
+        lines_at(&self.store, Place { component, line }).sources(i)
+    }
+
+    /// The lines that have a reading, in the order of their places, each with what is kept of it.
+    pub(crate) fn entries(&self) -> Iter<'_, Place, LineSet>
+        ensures seen { partial_of self.now.shape (map kept_entry result) ≡ self.now }
+        ensures entries { map kept_entry result ≡ entries self.now }
+        ensures each { AllByRecursion (IsLineEntry self.now.shape) result }
+    {
+        self.store.iter()
+    }
+
+    /// How many lines have a reading.
+    pub(crate) fn entry_count(&self) -> u32
+        ensures { result ≡ length (entries self.now) }
+    {
+        // The shape has at most four components of fewer than 2^16 lines: the cast rests on it.
+        prove!(self.shape.ids().len() <= 4);
+        self.store.len() as u32
     }
 }

@@ -2,20 +2,32 @@ use crate::{InsertFault, LineSet, Partial, Status};
 use jls_values::{Merge, MergeFault, Shape, merge_all};
 use std::test::Fail;
 
-/// One line of one sample, which was read as 3 and as 5.
-const TWO_READINGS: [u8; 31] = [
-    0x4A, 0x4C, 0x53, 0x50, 1, 8, 0, 1, 0, 1, 1, 1, 0, 0, 0, 1, 0, 0, 0, 0, 0, 0, 0, 0, 0, 0, 2, 0,
-    3, 0, 5,
+/// One line of one sample, which was read as 3 and as 5, under no source.
+const TWO_READINGS: [u8; 47] = [
+    0x4A, 0x4C, 0x53, 0x50, 2, 8, 0, 1, 0, 1, 1, 1, 0, 0, 0, 1, 0, 0, 0, 0, 0, 0, 0, 0, 0, 0, 2, 0,
+    3, 0, 0, 0, 0, 0, 0, 0, 0, 0, 5, 0, 0, 0, 0, 0, 0, 0, 0,
 ];
 
 /// One line of one sample, which was read as 0.
-const ONE_READING: [u8; 29] = [
-    0x4A, 0x4C, 0x53, 0x50, 1, 8, 0, 1, 0, 1, 1, 1, 0, 0, 0, 1, 0, 0, 0, 0, 0, 0, 0, 0, 0, 0, 1, 0,
-    0,
+const ONE_READING: [u8; 37] = [
+    0x4A, 0x4C, 0x53, 0x50, 2, 8, 0, 1, 0, 1, 1, 1, 0, 0, 0, 1, 0, 0, 0, 0, 0, 0, 0, 0, 0, 0, 1, 0,
+    0, 0, 0, 0, 0, 0, 0, 0, 0,
+];
+
+/// One line of one sample, which was read as 3 under the sources 2 and 7.
+const TWO_SOURCES: [u8; 45] = [
+    0x4A, 0x4C, 0x53, 0x50, 2, 8, 0, 1, 0, 1, 1, 1, 0, 0, 0, 1, 0, 0, 0, 0, 0, 0, 0, 0, 0, 0, 1, 0,
+    3, 0, 0, 0, 0, 0, 0, 0, 2, 0, 0, 0, 2, 0, 0, 0, 7,
+];
+
+/// The same line, which was read as 3 under the source 7 and as 5 under none.
+const ONE_SOURCE: [u8; 51] = [
+    0x4A, 0x4C, 0x53, 0x50, 2, 8, 0, 1, 0, 1, 1, 1, 0, 0, 0, 1, 0, 0, 0, 0, 0, 0, 0, 0, 0, 0, 2, 0,
+    3, 0, 0, 0, 0, 0, 0, 0, 1, 0, 0, 0, 7, 0, 5, 0, 0, 0, 0, 0, 0, 0, 0,
 ];
 
 /// What stands before the entries of ten lines of one sample.
-const TEN_LINES: [u8; 16] = [0x4A, 0x4C, 0x53, 0x50, 1, 8, 0, 1, 0, 10, 1, 1, 0, 0, 0, 10];
+const TEN_LINES: [u8; 16] = [0x4A, 0x4C, 0x53, 0x50, 2, 8, 0, 1, 0, 10, 1, 1, 0, 0, 0, 10];
 
 #[test]
 fn two_readings_of_one_line(rt: HostRuntime) -> Result<(), Fail> {
@@ -61,6 +73,47 @@ fn merged_with_itself_and_again(rt: HostRuntime) -> Result<(), Fail> {
 }
 
 #[test]
+fn sources_of_one_partial(rt: HostRuntime) -> Result<(), Fail> {
+    let mut seven = Partial::empty(rt.alloc(), Shape::new(8, 1, 1, &[1])?);
+    seven.insert(0, 0, &[3])?;
+    let two = Partial::from_bytes(rt.alloc(), &seven.to_bytes(rt.alloc())?)?;
+    assert!(rt; seven == two);
+    seven.mark(7)?;
+    seven.mark(7)?;
+    assert!(rt; seven != two);
+    assert!(rt; !seven.insert(0, 0, &[3])?);
+    assert_eq!(rt; seven.count(0, 0), 1);
+    assert_eq!(rt; seven.sources(0, 0, 0), [7].as_slice());
+    seven.insert(0, 0, &[5])?;
+    assert_eq!(rt;
+        seven.to_bytes(rt.alloc())?.as_slice(),
+        ONE_SOURCE.as_slice()
+    );
+    assert!(rt; Partial::from_bytes(rt.alloc(), &ONE_SOURCE)? == seven);
+    Ok(())
+}
+
+#[test]
+fn sources_of_a_merge(rt: HostRuntime) -> Result<(), Fail> {
+    let mut seven = Partial::empty(rt.alloc(), Shape::new(8, 1, 1, &[1])?);
+    seven.insert(0, 0, &[3])?;
+    seven.mark(7)?;
+    let mut two = Partial::empty(rt.alloc(), Shape::new(8, 1, 1, &[1])?);
+    two.insert(0, 0, &[3])?;
+    two.mark(2)?;
+    two.merge(&seven)?;
+    seven.merge(&two)?;
+    assert!(rt; seven == two);
+    assert_eq!(rt; two.count(0, 0), 1);
+    assert_eq!(rt; two.sources(0, 0, 0), [2, 7].as_slice());
+    assert_eq!(rt;
+        two.to_bytes(rt.alloc())?.as_slice(),
+        TWO_SOURCES.as_slice()
+    );
+    Ok(())
+}
+
+#[test]
 fn one_reading(rt: HostRuntime) -> Result<(), Fail> {
     let mut one = Partial::empty(rt.alloc(), Shape::new(8, 1, 1, &[1])?);
     assert_eq!(rt; one.status(0, 0), Status::Missing);
@@ -92,6 +145,7 @@ fn ten_lines_from_two_halves(rt: HostRuntime) -> Result<(), Fail> {
     text.extend_from_slice(&TEN_LINES)?;
     for line in 0..10u8 {
         text.extend_from_slice(&[0, 0, line, 0, 0, 0, 0, 0, 0, 0, 1, 0, line])?;
+        text.extend_from_slice(&[0; 8])?;
     }
     assert_eq!(rt; odd.to_bytes(rt.alloc())?, text);
     Ok(())
@@ -103,7 +157,7 @@ fn nothing_known_of_one_to_four_components(rt: HostRuntime) -> Result<(), Fail> 
     for count in 1..5usize {
         let empty = Partial::empty(rt.alloc(), Shape::new(12, 513, 3, &ids[..count])?);
         let mut text = Vec::new(rt.alloc());
-        text.extend_from_slice(&[0x4A, 0x4C, 0x53, 0x50, 1, 12, 2, 1, 0, 3, count as u8])?;
+        text.extend_from_slice(&[0x4A, 0x4C, 0x53, 0x50, 2, 12, 2, 1, 0, 3, count as u8])?;
         text.extend_from_slice(&ids[..count])?;
         text.extend_from_slice(&[0, 0, 0, 0])?;
         assert_eq!(rt; empty.to_bytes(rt.alloc())?, text);

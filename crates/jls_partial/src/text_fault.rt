@@ -25,7 +25,8 @@ pub enum TextFault {
     /// An entry has no reading. The offset is that of the number of readings.
     #[error("bad count at {0}")]
     Count(u64),
-    /// A reading is not above the reading before it. The offset is that of the reading.
+    /// A reading is not above the reading before it, or a source not above the source before it. The offset is that of the
+    /// reading or the source.
     #[error("bad order at {0}")]
     Order(u64),
     /// A sample has more bits than the precision of the picture. The offset is that of the sample.

@@ -1,12 +1,13 @@
 //! The fields of a text, read from the front. `size` is the length of the whole text in bytes, so that
 //! what is left of it tells the offset.
 
-ghost use Rattle.jls_partial.specs.TextReading.{Gives, byte_field, bytes_field, number_field, magic_field, unless_bad_shape, shape_fields, sample_field, place_fields, count_field};
+ghost use Rattle.jls_partial.specs.TextReading.{Gives, byte_field, bytes_field, number_field, magic_field, version_field, unless_bad_shape, shape_fields, sample_field, source_field, place_fields, count_field};
 ghost use Rattle.std.specs.Int.{w16, w32, w64};
 ghost use Rattle.std.specs.Prelude.{◌≡◌};
 
 use crate::place::Place;
 use crate::text_fault::TextFault;
+use crate::version::Version;
 use jls_values::{Shape, ShapeFault};
 
 /// Where the fields of the shape begin, behind the magic and the version.
@@ -51,7 +52,8 @@ pub(crate) fn read_u32(size: u64, bytes: &[u8]) -> Result<(u32, &[u8]), TextFaul
     Ok((number, rest))
 }
 
-fn read_u64(size: u64, bytes: &[u8]) -> Result<(u64, &[u8]), TextFault>
+/// A number of eight bytes.
+pub(crate) fn read_u64(size: u64, bytes: &[u8]) -> Result<(u64, &[u8]), TextFault>
     ensures { Gives (λ x. (x.0, x.1.now)) result (number_field size w64 bytes.now) }
 {
     if bytes.len() < 8 {
@@ -91,6 +93,19 @@ pub(crate) fn read_magic<'a>(
         rest = after;
     }
     Ok(rest)
+}
+
+/// The version.
+#[tactic(auto, unfolding(crate::specs::TextReading::version_field))]
+pub(crate) fn read_version(size: u64, bytes: &[u8]) -> Result<(Version, &[u8]), TextFault>
+    ensures { Gives (λ x. (x.0, x.1.now)) result (version_field size bytes.now) }
+{
+    let (byte, rest) = read_byte(size, bytes)?;
+    match byte {
+        1 => Ok((Version::One, rest)),
+        2 => Ok((Version::Two, rest)),
+        _ => Err(TextFault::Magic(offset(size, bytes))),
+    }
 }
 
 /// `rest`, unless the fields of the shape have a fault.
@@ -138,6 +153,32 @@ pub(crate) fn read_sample(size: u64, limit: u32, bytes: &[u8]) -> Result<(u16, &
         return Err(TextFault::Sample(offset(size, bytes)));
     }
     Ok((sample, rest))
+}
+
+/// Whether a source is above the one before.
+fn is_source_above(before: Option<u32>, source: u32) -> bool
+    ensures { result ≡ Rattle.jls_partial.specs.TextReading.is_source_above before source }
+{
+    match before {
+        None => true,
+        Some(before) => before < source,
+    }
+}
+
+/// A source that is above the one before.
+#[tactic(auto, unfolding(crate::specs::TextReading::source_field))]
+pub(crate) fn read_source(
+    size: u64,
+    before: Option<u32>,
+    bytes: &[u8],
+) -> Result<(u32, &[u8]), TextFault>
+    ensures { Gives (λ x. (x.0, x.1.now)) result (source_field size before bytes.now) }
+{
+    let (source, rest) = read_u32(size, bytes)?;
+    if !is_source_above(before, source) {
+        return Err(TextFault::Order(offset(size, bytes)));
+    }
+    Ok((source, rest))
 }
 
 /// Whether an entry of this place may follow the entry before.

@@ -1,21 +1,20 @@
 //! Partial pictures from their texts.
 
-ghost use Rattle.jls_partial.specs.InsertFaults.{reading_fault};
-ghost use Rattle.jls_partial.specs.Partial.{PartialPicture, with_reading};
-ghost use Rattle.jls_partial.specs.Text.{IsPartial, text};
+ghost use Rattle.jls_partial.specs.Partial.{PartialPicture};
+ghost use Rattle.jls_partial.specs.Text.{IsTextOf};
 ghost use Rattle.jls_partial.specs.TextInto.{with_readings, with_entry, with_entries};
-ghost use Rattle.jls_partial.specs.TextReading.{Gives, samples_fields, reading_fields, readings_fields, entry_fields, entries_fields, read_text};
-ghost use Rattle.jls_partial.specs.declared.text_fault.TextFault.TheVariants.{OutOfMemory};
+ghost use Rattle.jls_partial.specs.TextReading.{Gives, samples_fields, reading_fields, sources_fields, own_sources_fields, kept_fields, readings_fields, entry_fields, entries_fields, read_text};
 ghost use Rattle.std.specs.Option.{option_map};
-ghost use Rattle.std.specs.Prelude.{◌≡◌, ◌<◌, ◌≤◌, ◌^◌, length, None, Ok, OnOk, IfOk, IfErr};
+ghost use Rattle.std.specs.Prelude.{◌≡◌, ◌<◌, length, None, Ok, IfOk};
 
-use crate::insert_fault::InsertFault;
 use crate::partial::Partial;
 use crate::place::Place;
 use crate::text_fault::TextFault;
 use crate::text_fields::{
-    offset, read_count, read_magic, read_place, read_sample, read_shape, read_u32,
+    offset, read_count, read_magic, read_place, read_sample, read_shape, read_source, read_u32,
+    read_u64, read_version,
 };
+use crate::version::Version;
 use jls_values::Shape;
 use std::alloc::Global;
 
@@ -68,37 +67,86 @@ fn read_reading<'a>(
     Ok((samples, rest))
 }
 
-/// Takes a reading that fits.
-fn take_reading(partial: &mut Partial, at: Place, samples: &[u16]) -> Result<(), TextFault>
-    requires { reading_fault partial.now.shape at.component at.line samples.now ≡ None }
-    ensures ok { OnOk result (partial.new ≡ with_reading partial.old at.component at.line samples.now) }
-    ensures err { IfErr result (λ e. e ≡ OutOfMemory) }
+/// As many sources as `count` says. The vector grows with the bytes that are there.
+fn read_sources(
+    alloc: Global,
+    size: u64,
+    count: u64,
+    bytes: &[u8],
+) -> Result<(Vec<u32>, &[u8]), TextFault>
+    ensures { Gives (λ x. (x.0.items, x.1.now)) result (sources_fields size None count bytes.now) }
 {
-    match partial.insert(at.component, at.line, samples) {
-        Ok(_) => Ok(()),
-        Err(InsertFault::OutOfMemory) => Err(TextFault::OutOfMemory),
-        Err(_) => unreachable!(),
+    let mut sources = Vec::new(alloc);
+    let mut before = None;
+    let mut rest = bytes;
+    for _ in 0..count {
+        let (source, after) = read_source(size, before, rest)?;
+        sources.push(source)?;
+        before = Some(source);
+        rest = after;
     }
+    Ok((sources, rest))
+}
+
+/// The sources of a reading, which version 1 does not have.
+#[tactic(auto, unfolding(crate::specs::TextReading::own_sources_fields))]
+fn read_own_sources(
+    alloc: Global,
+    size: u64,
+    version: Version,
+    bytes: &[u8],
+) -> Result<(Vec<u32>, &[u8]), TextFault>
+    ensures { Gives (λ x. (x.0.items, x.1.now)) result (own_sources_fields size version bytes.now) }
+{
+    match version {
+        Version::One => Ok((Vec::new(alloc), bytes)),
+        Version::Two => {
+            let (count, rest) = read_u64(size, bytes)?;
+            read_sources(alloc, size, count, rest)
+        }
+    }
+}
+
+/// What a text is read with: its length in bytes, its version, and the allocator.
+#[derive(Clone, Copy)]
+struct Form {
+    size: u64,
+    version: Version,
+    alloc: Global,
+}
+
+/// A reading that is above the one before, with its sources.
+#[tactic(auto, unfolding(crate::specs::TextReading::kept_fields))]
+fn read_kept<'a>(
+    form: Form,
+    shape: &Shape,
+    before: &Option<Vec<u16>>,
+    bytes: &'a [u8],
+) -> Result<(Vec<u16>, Vec<u32>, &'a [u8]), TextFault>
+    ensures { Gives (λ x. ((x.0.items, x.1.items), x.2.now)) result (kept_fields form.size form.version shape.now (option_map (λ v. v.items) before.now) bytes.now) }
+{
+    let (samples, behind) = read_reading(form.alloc, form.size, shape, before, bytes)?;
+    let (sources, rest) = read_own_sources(form.alloc, form.size, form.version, behind)?;
+    Ok((samples, sources, rest))
 }
 
 /// Takes the readings of one line, as many as `count` says.
 fn read_readings<'a>(
-    alloc: Global,
+    form: Form,
     partial: &mut Partial,
-    size: u64,
     at: Place,
     count: u64,
     bytes: &'a [u8],
 ) -> Result<&'a [u8], TextFault>
     requires component_in { at.component < length partial.now.shape.ids }
     requires line_in { at.line < partial.now.shape.height }
-    ensures { Gives (λ x. (partial.new, x.now)) result (with_readings partial.old at (readings_fields size partial.old.shape None count bytes.now)) }
+    ensures { Gives (λ x. (partial.new, x.now)) result (with_readings partial.old at (readings_fields form.size form.version partial.old.shape None count bytes.now)) }
 {
     let mut before = None;
     let mut rest = bytes;
     for _ in 0..count {
-        let (samples, after) = read_reading(alloc, size, partial.shape(), &before, rest)?;
-        take_reading(partial, at, &samples)?;
+        let (samples, sources, after) = read_kept(form, partial.shape(), &before, rest)?;
+        partial.take(at, &samples, &sources)?;
         before = Some(samples);
         rest = after;
     }
@@ -108,34 +156,32 @@ fn read_readings<'a>(
 /// Takes the readings of one entry.
 #[tactic(auto, unfolding(crate::specs::TextReading::entry_fields))]
 fn read_entry<'a>(
-    alloc: Global,
+    form: Form,
     partial: &mut Partial,
-    size: u64,
     before: Option<Place>,
     bytes: &'a [u8],
 ) -> Result<(Place, &'a [u8]), TextFault>
-    ensures { Gives (λ x. (partial.new, x.0, x.1.now)) result (with_entry partial.old (entry_fields size partial.old.shape before bytes.now)) }
+    ensures { Gives (λ x. (partial.new, x.0, x.1.now)) result (with_entry partial.old (entry_fields form.size form.version partial.old.shape before bytes.now)) }
 {
-    let (at, rest) = read_place(size, partial.shape(), before, bytes)?;
-    let (count, rest) = read_count(size, rest)?;
-    let rest = read_readings(alloc, partial, size, at, count, rest)?;
+    let (at, rest) = read_place(form.size, partial.shape(), before, bytes)?;
+    let (count, rest) = read_count(form.size, rest)?;
+    let rest = read_readings(form, partial, at, count, rest)?;
     Ok((at, rest))
 }
 
 /// Takes the readings of as many entries as `count` says.
 fn read_entries<'a>(
-    alloc: Global,
+    form: Form,
     partial: &mut Partial,
-    size: u64,
     count: u32,
     bytes: &'a [u8],
 ) -> Result<&'a [u8], TextFault>
-    ensures { Gives (λ x. (partial.new, x.now)) result (with_entries partial.old (entries_fields size partial.old.shape None count bytes.now)) }
+    ensures { Gives (λ x. (partial.new, x.now)) result (with_entries partial.old (entries_fields form.size form.version partial.old.shape None count bytes.now)) }
 {
     let mut before = None;
     let mut rest = bytes;
     for _ in 0..count {
-        let (at, after) = read_entry(alloc, partial, size, before, rest)?;
+        let (at, after) = read_entry(form, partial, before, rest)?;
         before = Some(at);
         rest = after;
     }
@@ -147,11 +193,17 @@ fn read_partial(alloc: Global, bytes: &[u8]) -> Result<Partial, TextFault>
     ensures { Gives (λ p. p) result (read_text bytes.now) }
 {
     let size = bytes.len() as u64;
-    let shape_bytes = read_magic(size, b"JLSP\x01", bytes)?;
+    let version_bytes = read_magic(size, b"JLSP", bytes)?;
+    let (version, shape_bytes) = read_version(size, version_bytes)?;
     let (shape, count_bytes) = read_shape(size, shape_bytes)?;
     let (count, entry_bytes) = read_u32(size, count_bytes)?;
     let mut partial = Partial::empty(alloc, shape);
-    let rest = read_entries(alloc, &mut partial, size, count, entry_bytes)?;
+    let form = Form {
+        size,
+        version,
+        alloc,
+    };
+    let rest = read_entries(form, &mut partial, count, entry_bytes)?;
     if !rest.is_empty() {
         return Err(TextFault::Trailing(offset(size, rest)));
     }
@@ -159,14 +211,14 @@ fn read_partial(alloc: Global, bytes: &[u8]) -> Result<Partial, TextFault>
 }
 
 impl Partial {
-    /// The partial picture whose text the bytes are, or the first fault from the front with its offset:
-    /// each field is judged as soon as all its bytes are there. Memory grows with the readings that are
-    /// there, not with the numbers that the text claims.
+    /// The partial picture whose text the bytes are, in version 1 or 2, or the first fault from the front with its offset:
+    /// each field is judged as soon as all its bytes are there. Readings of a text of version 1 have no source. Memory grows
+    /// with the readings and the sources that are there, not with the numbers that the text claims.
     pub fn from_bytes(alloc: Global, bytes: &[u8]) -> Result<Partial, TextFault>
-        // What is read has these bytes as its text.
-        ensures found { IfOk result (λ p. IsPartial p × (bytes.now ≡ text p)) }
+        // What is read has these bytes as a text.
+        ensures found { IfOk result (λ p. IsTextOf bytes.now p) }
         // Each text is read, unless memory runs out.
-        ensures only { (p : PartialPicture) → IsPartial p → bytes.now ≡ text p → Gives (λ q. q) result (Ok p) }
+        ensures only { (p : PartialPicture) → IsTextOf bytes.now p → Gives (λ q. q) result (Ok p) }
         // Which fault it is.
         ensures exact { Gives (λ q. q) result (read_text bytes.now) }
     {

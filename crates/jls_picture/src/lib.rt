@@ -9,7 +9,7 @@ mod pnm;
 mod pnm_header;
 
 pub use options::Options;
-pub use output::OutputFault;
+pub use output::{OutputFault, write_part};
 pub use picture::{Picture, PictureFault};
 pub use pnm::write_pnm;
 

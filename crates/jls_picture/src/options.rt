@@ -75,6 +75,27 @@ impl Options {
         Options { line, ri, params }
     }
 
+    /// Whether all components stand in one scan, line by line; else each has a scan of its own.
+    pub fn line(&self) -> bool
+        ensures { result ≡ self.now.line }
+    {
+        self.line
+    }
+
+    /// The restart interval in rows, or 0 where there are no restart markers.
+    pub fn restart_interval(&self) -> u16
+        ensures { result ≡ self.now.restart_interval }
+    {
+        self.ri
+    }
+
+    /// The coding parameters of all scans.
+    pub fn params(&self) -> Params
+        ensures { result ≡ self.now.params }
+    {
+        self.params
+    }
+
     /// How many components each scan has.
     fn components_of_scan(&self, shape: &Shape) -> u8
         ensures value { result ≡ spec.components_of_scan shape.now self.now }

@@ -17,8 +17,8 @@ pub enum OutputFault {
     OutOfMemory(u64),
 }
 
-/// Hands these bytes to a sink after `before` others, and answers how many have gone out then.
-pub(crate) fn write_part<W: Sink>(
+/// Hands these bytes to a sink after `before` others, and answers how many have gone out then. It takes no memory.
+pub fn write_part<W: Sink>(
     sink: &mut W,
     before: u64,
     bytes: &[u8],

@@ -5,9 +5,10 @@ use Rattle.std.proofs.lemmas.List.{append-nil}
 use Rattle.clap.specs.Words.{Text}
 use Rattle.jls_partial.specs.Partial.{PartialPicture}
 use Rattle.jls_partial.specs.Status.{IsSettled}
-use Rattle.jls_device.specs.Event.{Event, History, opened, not_opened, gave, read_failed, created, not_created, took, write_failed, bytes_taken}
+use Rattle.jls_device.specs.Event.{Event, History, GrewBy, opened, not_opened, gave, read_failed, created, not_created, took, write_failed, bytes_taken}
 use Rattle.jls_device.specs.Writing.{Printed, AreWrites}
-use Rattle.jls_station.specs.Inputs.{Given, StopsAt, not_there, refused, other_shape, no_memory}
+use Rattle.jls_station.specs.Given.{Given}
+use Rattle.jls_station.specs.Inputs.{IsTaken, StopsAt, not_there, refused, other_shape, no_memory}
 use Rattle.jls_station.specs.Joining as joining
 use Rattle.jls_station.specs.Joining.{JoinIsDone, Joins}
 use Rattle.jls_station.specs.Outputs as outputs
@@ -20,21 +21,24 @@ use Rattle.jls_station.specs.declared.input.InputFault.TheVariants as fault
 use Rattle.jls_station.specs.declared.outcome.Outcome.{Outcome}
 use Rattle.jls_station.specs.declared.outcome.Outcome.TheVariants.{Done}
 use Rattle.jls_commands.specs.Telling as telling
-use Rattle.jls_commands.specs.Telling.{Tells, report_lines}
+use Rattle.jls_commands.specs.Telling.{Tells, lines}
 use Rattle.jls_commands.specs.WritingFiles as writing
-use Rattle.jls_commands.specs.WritingFiles.{WritesFile, unsettled_cause}
+use Rattle.jls_commands.specs.WritingFiles.{WritesFile, StopsAtFile, unsettled_cause}
+use Rattle.jls_picture.specs.Unsettled.{NamesFirstUnsettled}
 use Rattle.jls_picture.specs.declared.picture.PictureFault.{PictureFault}
 use Rattle.jls_picture.specs.declared.picture.PictureFault.TheVariants.{Unsettled}
-use Rattle.jls_commands.specs.declared.writing.Format.TheVariants.{Pnm}
+use Rattle.jls_commands.specs.declared.writing.Format.{Format}
+use Rattle.jls_commands.specs.declared.writing.Format.TheVariants.{Pnm, Jls}
 use Rattle.jls_words.specs.Asking.{Asked, ReadsAs}
 use Rattle.jls_program.specs.FaultLines.{fault_line}
 use Rattle.jls_program.specs.Runs.{CameOf, Run, came_of, misused, helped, help_cut, nothing_begun, nothing_asked}
-use Rattle.jls_program.specs.Laws.{JoinRan, DoneJoinsRan, ShowRan, DoneShowsRan, WriteRan, DoneWritesRan}
+use Rattle.jls_program.specs.Laws.{JoinRan, DoneJoinsRan, TellRan, DoneChecksRan, DoneShowsRan, WriteRan, DoneWritesRan, UnsettledWritesStop, written_as}
 
 -- ---- what stops a command
 
 status_of_input_fault : (f : InputFault) → 3 ≤ status_of_cause (cause.Input f)
 status_of_input_fault (fault.Text f) = omega arith
+status_of_input_fault (fault.NoPicture f offset) = omega arith
 status_of_input_fault (fault.Read stop offset) = omega arith
 status_of_input_fault fault.OutOfMemory = omega arith
 
@@ -49,6 +53,12 @@ status_at_input source before name _ _ (no_memory _ _ _ g events h other) = omeg
 status_at_output : (name bytes : List ℕ) (c : Cause) (events : List Event) → StopsAtOutput name bytes c events → 3 ≤ status_of_cause c
 status_at_output name bytes _ _ (outputs.not_there _ _) = omega arith
 status_at_output name bytes _ _ (outputs.cut _ _ count writes h) = omega arith
+
+-- a file that does not go out has at least status 2
+status_at_file : (F : Type 0) (takes : Bool) (name bytes : List ℕ) (c : Cause) (events : List Event) → StopsAtFile F takes name bytes c events → 2 ≤ status_of_cause c
+status_at_file F takes name bytes _ _ (writing.too_large _ _ never) = omega arith
+status_at_file F takes name bytes c _ (writing.at_output _ _ _ events fit h) = let k = status_at_output name bytes c events h in omega (arith, k)
+status_at_file F takes name bytes _ _ (writing.no_memory _ _ count writes fit is lt h) = omega arith
 
 status_of_memory : (c : Cause) → c ≡ cause.OutOfMemory → 3 ≤ status_of_cause c
 status_of_memory c is = let e : status_of_cause c ≡ 5 = ap status_of_cause is in omega (arith, e)
@@ -129,10 +139,10 @@ join_finished out names _ events desk desk' (joining.at_input _ _ _ r _ h) e le 
 join_finished out names _ events desk desk' (joining.no_memory _ _ _ r p whole _ named is h) e le = let k = status_of_memory r.cause is in absurd (omega (arith, k, le))
 join_finished out names _ _ desk desk' (joining.at_output _ _ _ r p whole reading writing named h stops) e le = let k = status_at_output out _ r.cause writing stops in absurd (omega (arith, k, le))
 
-show_finished : (name : Text) (outcome : Outcome) (events reported : List Event) (desk desk' report report' : History) → Tells (λ g. report_lines g.partial) name outcome events reported
+tell_finished : (traced : Bool) (name : Text) (outcome : Outcome) (events reported : List Event) (desk desk' report report' : History) → Tells (lines traced) name outcome events reported
     → desk' ≡ desk ++ events → report' ≡ report ++ reported → status_of outcome ≤ 1
-    → (g : Given) × ShowRan name g (status_of outcome) desk desk' report report' × (fault_line outcome ≡ [])
-show_finished name _ events reported desk desk' report report' (telling.done _ g settled whole _ _ taken says wrote) e d le =
+    → (g : Given) × TellRan traced name g (status_of outcome) desk desk' report report' × (fault_line outcome ≡ [])
+tell_finished traced name _ events reported desk desk' report report' (telling.done _ g settled whole _ _ taken says wrote) e d le =
     let s = done_status settled whole g.partial says.settled_is le in (
       g,
       record {
@@ -143,23 +153,45 @@ show_finished name _ events reported desk desk' report report' (telling.done _ g
       },
       refl,
     )
-show_finished name _ events _ desk desk' report report' (telling.at_input _ r _ named h) e d le =
+tell_finished traced name _ events _ desk desk' report report' (telling.at_input _ r _ named h) e d le =
     let k = status_at_input None [] name r.cause events h in absurd (omega (arith, k, le))
-show_finished name _ events _ desk desk' report report' (telling.no_memory _ r g _ is taken) e d le = let k = status_of_memory r.cause is in absurd (omega (arith, k, le))
-show_finished name _ events reported desk desk' report report' (telling.not_printed _ r g count _ _ named is taken wrote) e d le =
+tell_finished traced name _ events _ desk desk' report report' (telling.no_memory _ r g _ named is taken) e d le = let k = status_of_memory r.cause is in absurd (omega (arith, k, le))
+tell_finished traced name _ events reported desk desk' report report' (telling.not_printed _ r g count _ _ named is taken wrote) e d le =
     let k = status_of_cut r.cause count is in absurd (omega (arith, k, le))
 
-write_finished : (out name : Text) (outcome : Outcome) (events : List Event) (desk desk' : History) → WritesFile Pnm out name outcome events → desk' ≡ desk ++ events → status_of outcome ≡ 0
-    → (g : Given) × WriteRan out name g desk desk' × (fault_line outcome ≡ [])
-write_finished out name _ _ desk desk' (writing.done _ _ _ g whole reading written taken settled says handed) e is =
+write_finished : (format : Format) (out name : Text) (outcome : Outcome) (events : List Event) (desk desk' : History) → WritesFile format out name outcome events → desk' ≡ desk ++ events → status_of outcome ≡ 0
+    → (g : Given) × WriteRan format out name g desk desk' × (fault_line outcome ≡ [])
+write_finished format out name _ _ desk desk' (writing.done _ _ _ g whole reading written taken settled says fit handed) e is =
     let s = done_status true whole g.partial says.settled_is (omega (arith, is)) in
     (g, record { reading = reading; writing = written; grew = e; taken = taken; whole = says.whole_is.0 s.1; settled = settled; handed = handed }, refl)
-write_finished out name _ events desk desk' (writing.at_input _ _ _ r _ named h) e is =
+write_finished format out name _ events desk desk' (writing.at_input _ _ _ r _ named h) e is =
     let k = status_at_input None [] name r.cause events h in absurd (omega (arith, k, is))
-write_finished out name _ events desk desk' (writing.unsettled _ _ _ r g f _ taken first because) e is =
+write_finished format out name _ events desk desk' (writing.unsettled _ _ _ r g f _ named taken first because) e is =
     let k = status_of_unsettled g.partial f r.cause because in absurd (omega (arith, k, is))
-write_finished out name _ _ desk desk' (writing.at_output _ _ _ r g reading written named taken settled stops) e is =
-    let k = status_at_output out _ r.cause written stops in absurd (omega (arith, k, is))
+write_finished format out name _ _ desk desk' (writing.at_file _ _ _ r g reading written named taken settled stops) e is =
+    let k = status_at_file _ _ out _ r.cause written stops in absurd (omega (arith, k, is))
+
+not_settled : (p : PartialPicture) (f : PictureFault) → NamesFirstUnsettled p f → IsSettled p → ⊥
+not_settled p (Unsettled component line) first settled =
+    first.first_line.unsettled (settled component first.first_line.component_in line first.first_line.line_in)
+
+write_stopped : (format : Format) (out name : Text) (outcome : Outcome) (events : List Event) (desk desk' : History) → WritesFile format out name outcome events → desk' ≡ desk ++ events → status_of outcome ≡ 1
+    → (g : Given) × GrewBy (IsTaken None name g) desk desk' × (IsSettled g.partial → ⊥)
+write_stopped format out name _ _ desk desk' (writing.done _ _ _ g whole reading written taken settled says fit handed) e is =
+    let s = done_status true whole g.partial says.settled_is (omega (arith, is)) in
+    let zero = s.0.1 settled in
+    absurd (omega (arith, is, zero))
+write_stopped format out name _ events desk desk' (writing.at_input _ _ _ r _ named h) e is =
+    let k = status_at_input None [] name r.cause events h in absurd (omega (arith, k, is))
+write_stopped format out name _ events desk desk' (writing.unsettled _ _ _ r g f _ named taken first because) e is =
+    (g, record { events = events; grew = e; they_are = taken }, not_settled g.partial f first)
+write_stopped format out name _ _ desk desk' (writing.at_file _ _ _ r g reading written named taken settled stops) e is =
+    let k = status_at_file _ _ out _ r.cause written stops in absurd (omega (arith, k, is))
+
+came_as : (format : Format) (out name : Text) (outcome : Outcome) (desk report : List Event) → CameOf (written_as format out name) outcome desk report
+    → WritesFile format out name outcome desk × (report ≡ [])
+came_as Pnm out name outcome desk report h = h
+came_as (Jls line ri) out name outcome desk report h = h
 
 -- ---- the laws
 
@@ -173,21 +205,37 @@ joins_finished words status desk desk' report report' faults faults' ran out nam
       unchanged faults faults' ran.fault_events ran.faults_are (none_printed ran.fault_events (subst (λ (line : List ℕ). Printed line ran.fault_events) f.2 c.printed)),
     )
 
+pub checks_finished : DoneChecksRan
+checks_finished words status desk desk' report report' faults faults' ran name k le =
+    let c = came_of_run words status ran.desk_events ran.report_events ran.fault_events ran.run _ k le in
+    let f = tell_finished true name c.outcome ran.desk_events ran.report_events desk desk' report report' c.came ran.desk_is ran.report_is (omega (arith, le, c.status_is)) in (
+      f.0,
+      subst (λ (s : ℕ). TellRan true name f.0 s desk desk' report report') (sym c.status_is) f.1,
+      unchanged faults faults' ran.fault_events ran.faults_are (none_printed ran.fault_events (subst (λ (line : List ℕ). Printed line ran.fault_events) f.2 c.printed)),
+    )
+
 pub shows_finished : DoneShowsRan
 shows_finished words status desk desk' report report' faults faults' ran name k le =
     let c = came_of_run words status ran.desk_events ran.report_events ran.fault_events ran.run _ k le in
-    let f = show_finished name c.outcome ran.desk_events ran.report_events desk desk' report report' c.came ran.desk_is ran.report_is (omega (arith, le, c.status_is)) in (
+    let f = tell_finished false name c.outcome ran.desk_events ran.report_events desk desk' report report' c.came ran.desk_is ran.report_is (omega (arith, le, c.status_is)) in (
       f.0,
-      subst (λ (s : ℕ). ShowRan name f.0 s desk desk' report report') (sym c.status_is) f.1,
+      subst (λ (s : ℕ). TellRan false name f.0 s desk desk' report report') (sym c.status_is) f.1,
       unchanged faults faults' ran.fault_events ran.faults_are (none_printed ran.fault_events (subst (λ (line : List ℕ). Printed line ran.fault_events) f.2 c.printed)),
     )
 
 pub writes_finished : DoneWritesRan
-writes_finished words status desk desk' report report' faults faults' ran out name k is =
+writes_finished words status desk desk' report report' faults faults' ran format out name k is =
     let c = came_of_run words status ran.desk_events ran.report_events ran.fault_events ran.run _ k (omega (arith, is)) in
-    let f = write_finished out name c.outcome ran.desk_events desk desk' c.came.0 ran.desk_is (omega (arith, is, c.status_is)) in (
+    let came = came_as format out name c.outcome ran.desk_events ran.report_events c.came in
+    let f = write_finished format out name c.outcome ran.desk_events desk desk' came.0 ran.desk_is (omega (arith, is, c.status_is)) in (
       f.0,
       f.1,
-      unchanged report report' ran.report_events ran.report_is c.came.1,
+      unchanged report report' ran.report_events ran.report_is came.1,
       unchanged faults faults' ran.fault_events ran.faults_are (none_printed ran.fault_events (subst (λ (line : List ℕ). Printed line ran.fault_events) f.2 c.printed)),
     )
+
+pub writes_stopped : UnsettledWritesStop
+writes_stopped words status desk desk' report report' faults faults' ran format out name k is =
+    let c = came_of_run words status ran.desk_events ran.report_events ran.fault_events ran.run _ k (omega (arith, is)) in
+    let came = came_as format out name c.outcome ran.desk_events ran.report_events c.came in
+    write_stopped format out name c.outcome ran.desk_events desk desk' came.0 ran.desk_is (omega (arith, is, c.status_is))

@@ -1,7 +1,9 @@
 -- The line on the fault output.
 use Rattle.std.specs.Prelude.{ℕ, Bool, List, [], ◌++◌, codes, decimal, if◌then◌else◌}
+use Rattle.jls_marker.specs.Faults.{fault_number}
 use Rattle.jls_partial.specs.declared.text_fault.TextFault.{TextFault}
 use Rattle.jls_partial.specs.declared.text_fault.TextFault.TheVariants as text_fault
+use Rattle.jls_station.specs.declared.input.InputFault.{InputFault}
 use Rattle.jls_station.specs.declared.input.InputFault.TheVariants as fault
 use Rattle.jls_station.specs.declared.outcome.Cause.{Cause}
 use Rattle.jls_station.specs.declared.outcome.Cause.TheVariants as cause
@@ -30,18 +32,28 @@ text_fault_line name (text_fault.Sample offset) = bad_text_line name (codes ": b
 text_fault_line name (text_fault.Trailing offset) = bad_text_line name (codes ": bad text, trailing at ") offset
 text_fault_line name text_fault.OutOfMemory = out_of_memory_line
 
+-- the line of a copy of this name in which no frame was taken: the number of its fault, and the offset
+abbrev pub no_picture_line : List ℕ → ℕ → ℕ → List ℕ
+no_picture_line name number offset =
+    codes "jls-salvage: " ++ (name ++ (codes ": no picture, fault " ++ (decimal number ++ (codes " at " ++ (decimal offset ++ codes "\n")))))
+
 -- the line of a picture's line that is disputed, or missing
 abbrev pub unsettled_line : ℕ → ℕ → Bool → List ℕ
 unsettled_line id line disputed =
     codes "jls-salvage: line " ++ (decimal line ++ (codes " of component "
     ++ (decimal id ++ (if disputed then codes " is disputed\n" else codes " is missing\n"))))
 
+-- the line of an input of this name that is refused
+abbrev pub input_fault_line : List ℕ → InputFault → List ℕ
+input_fault_line name (fault.Text f) = text_fault_line name f
+input_fault_line name (fault.NoPicture f offset) = no_picture_line name (fault_number f) offset
+input_fault_line name (fault.Read stop offset) = codes "jls-salvage: " ++ (name ++ codes ": read failed\n")
+input_fault_line name fault.OutOfMemory = out_of_memory_line
+
 -- the line of a cause at an input or output of this name
 abbrev pub cause_line : List ℕ → Cause → List ℕ
 cause_line name cause.NotOpened = codes "jls-salvage: " ++ (name ++ codes ": cannot be opened\n")
-cause_line name (cause.Input (fault.Text f)) = text_fault_line name f
-cause_line name (cause.Input (fault.Read stop offset)) = codes "jls-salvage: " ++ (name ++ codes ": read failed\n")
-cause_line name (cause.Input fault.OutOfMemory) = out_of_memory_line
+cause_line name (cause.Input f) = input_fault_line name f
 cause_line name cause.ShapeDiffers = codes "jls-salvage: " ++ (name ++ codes ": shape differs\n")
 cause_line name (cause.Unsettled id line disputed) = unsettled_line id line disputed
 cause_line name cause.TooLarge = codes "jls-salvage: interval too large, give --ri\n"

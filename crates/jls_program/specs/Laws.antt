@@ -1,18 +1,21 @@
 -- The laws of whole runs.
-use Rattle.std.specs.Prelude.{◌≡◌, ◌≤◌, ◌↔◌, ℕ, Bool, true, List, ◌++◌, None}
+use Rattle.std.specs.Prelude.{◌≡◌, ◌≤◌, ◌↔◌, ℕ, Bool, true, false, List, ◌++◌, None}
 use Rattle.clap.specs.Words.{Text}
 use Rattle.jls_partial.specs.Partial.{PartialPicture}
 use Rattle.jls_partial.specs.Status.{IsSettled}
 use Rattle.jls_picture.specs.Picture.{picture_of}
-use Rattle.jls_picture.specs.Pnm.{pnm}
 use Rattle.jls_device.specs.Event.{Event, History, GrewBy}
 use Rattle.jls_device.specs.Writing.{Wrote}
-use Rattle.jls_station.specs.Inputs.{Given, IsTaken}
+use Rattle.jls_station.specs.Given.{Given}
+use Rattle.jls_station.specs.Inputs.{IsTaken}
 use Rattle.jls_station.specs.Joining.{JoinIsDone}
 use Rattle.jls_station.specs.Outputs.{HandsOut}
 use Rattle.jls_station.specs.declared.input.ReadStop.TheVariants.{Whole}
-use Rattle.jls_commands.specs.Telling.{report_lines}
-use Rattle.jls_words.specs.Asking.{ReadsAs, join, show, write_pnm}
+use Rattle.jls_commands.specs.Telling.{lines}
+use Rattle.jls_commands.specs.WritingFiles.{file}
+use Rattle.jls_commands.specs.declared.writing.Format.{Format}
+use Rattle.jls_commands.specs.declared.writing.Format.TheVariants.{Pnm, Jls}
+use Rattle.jls_words.specs.Asking.{Asked, ReadsAs, check, join, show, write_pnm, write_jls}
 use Rattle.jls_program.specs.Runs.{Ran}
 
 -- a run of `join` that is done, as the history of the desk has it
@@ -32,13 +35,22 @@ DoneJoinsRan =
     → (out : Text) (names : List Text) → ReadsAs words (join out names) → status ≤ 1
     → (joined : PartialPicture) × JoinRan out names joined status desk desk' × (report' ≡ report) × (faults' ≡ faults)
 
--- a run of `show` that is done: the input was read whole, and nothing else was done with the desk; the report output was handed
--- exactly the report of what the input gave
-pub record ShowRan (name : Text) (g : Given) (status : ℕ) (desk desk' report report' : History) : Type 0 where
+-- a run of `check` or `show` that is done: the input was read whole, and nothing else was done with the desk; the report output was
+-- handed exactly the trace of what the input gave, if that was asked for, and its report
+pub record TellRan (traced : Bool) (name : Text) (g : Given) (status : ℕ) (desk desk' report report' : History) : Type 0 where
   pub taken : GrewBy (IsTaken None name g) desk desk'
   pub whole : g.stop ≡ Whole
-  pub printed : GrewBy (Wrote (report_lines g.partial)) report report'
+  pub printed : GrewBy (Wrote (lines traced g)) report report'
   pub status_is : (status ≡ 0) ↔ IsSettled g.partial
+
+-- Where the words ask for a trace and a report and the status is 0 or 1, they are printed, with status 0 exactly where each line is
+-- settled; and no fault is printed
+abbrev pub DoneChecksRan : Type 0
+DoneChecksRan =
+    (words : List Text) (status : ℕ) (desk desk' report report' faults faults' : History)
+    → Ran words status desk desk' report report' faults faults'
+    → (name : Text) → ReadsAs words (check name) → status ≤ 1
+    → (g : Given) × TellRan true name g status desk desk' report report' × (faults' ≡ faults)
 
 -- Where the words ask for a report and the status is 0 or 1, it is printed, with status 0 exactly where each line is settled;
 -- and no fault is printed
@@ -47,23 +59,37 @@ DoneShowsRan =
     (words : List Text) (status : ℕ) (desk desk' report report' faults faults' : History)
     → Ran words status desk desk' report report' faults faults'
     → (name : Text) → ReadsAs words (show name) → status ≤ 1
-    → (g : Given) × ShowRan name g status desk desk' report report' × (faults' ≡ faults)
+    → (g : Given) × TellRan false name g status desk desk' report report' × (faults' ≡ faults)
+
+-- words that ask for a file in this format
+abbrev pub written_as : Format → Text → Text → Asked
+written_as Pnm out name = write_pnm out name
+written_as (Jls line ri) out name = write_jls line ri out name
 
 -- a run of `write` that is done: the input was read whole, and each of its lines is settled; then the output was created, and
 -- handed exactly the file of the picture
-pub record WriteRan (out name : Text) (g : Given) (desk desk' : History) : Type 0 where
+pub record WriteRan (f : Format) (out name : Text) (g : Given) (desk desk' : History) : Type 0 where
   pub reading : List Event
   pub writing : List Event
   pub grew : desk' ≡ desk ++ (reading ++ writing)
   pub taken : IsTaken None name g reading
   pub whole : g.stop ≡ Whole
   pub settled : IsSettled g.partial
-  pub handed : HandsOut out (pnm (picture_of g.partial)) writing
+  pub handed : HandsOut out (file f (picture_of g.partial)) writing
 
--- Where the words ask for a PNM file and the status is 0, it is written; and nothing is reported or printed
+-- Where the words ask for a file and the status is 1, the input was taken, and nothing else was done with the desk: so no output was
+-- created; and a line of what it gave is not settled
+abbrev pub UnsettledWritesStop : Type 0
+UnsettledWritesStop =
+    (words : List Text) (status : ℕ) (desk desk' report report' faults faults' : History)
+    → Ran words status desk desk' report report' faults faults'
+    → (f : Format) (out name : Text) → ReadsAs words (written_as f out name) → status ≡ 1
+    → (g : Given) × GrewBy (IsTaken None name g) desk desk' × (IsSettled g.partial → ⊥)
+
+-- Where the words ask for a file and the status is 0, it is written; and nothing is reported or printed
 abbrev pub DoneWritesRan : Type 0
 DoneWritesRan =
     (words : List Text) (status : ℕ) (desk desk' report report' faults faults' : History)
     → Ran words status desk desk' report report' faults faults'
-    → (out name : Text) → ReadsAs words (write_pnm out name) → status ≡ 0
-    → (g : Given) × WriteRan out name g desk desk' × (report' ≡ report) × (faults' ≡ faults)
+    → (f : Format) (out name : Text) → ReadsAs words (written_as f out name) → status ≡ 0
+    → (g : Given) × WriteRan f out name g desk desk' × (report' ≡ report) × (faults' ≡ faults)

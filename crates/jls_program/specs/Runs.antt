@@ -8,18 +8,20 @@ use Rattle.jls_station.specs.Joining.{Joins}
 use Rattle.jls_station.specs.Outcomes.{status_of}
 use Rattle.jls_station.specs.declared.outcome.Cause.TheVariants as cause
 use Rattle.jls_station.specs.declared.outcome.Outcome.{Outcome}
-use Rattle.jls_commands.specs.Telling.{Tells, report_lines}
+use Rattle.jls_commands.specs.Telling.{Tells, lines}
 use Rattle.jls_commands.specs.WritingFiles.{WritesFile}
-use Rattle.jls_commands.specs.declared.writing.Format.TheVariants.{Pnm}
+use Rattle.jls_commands.specs.declared.writing.Format.TheVariants.{Pnm, Jls}
 use Rattle.jls_words.specs.Words.{AreRefused, is_help}
-use Rattle.jls_words.specs.Asking.{Asked, join, show, write_pnm, ReadsAs, AskForNothing}
+use Rattle.jls_words.specs.Asking.{Asked, check, join, show, write_pnm, write_jls, ReadsAs, AskForNothing}
 use Rattle.jls_program.specs.FaultLines.{cause_line, fault_line, out_of_memory_line, unknown_value_line}
 
 -- what came of what was asked, by the events of the desk and of the report output
 abbrev pub CameOf : Asked → Outcome → List Event → List Event → Type 0
+CameOf (check name) outcome desk report = Tells (lines true) name outcome desk report
 CameOf (join out names) outcome desk report = Joins None out names outcome desk × (report ≡ [])
-CameOf (show name) outcome desk report = Tells (λ g. report_lines g.partial) name outcome desk report
+CameOf (show name) outcome desk report = Tells (lines false) name outcome desk report
 CameOf (write_pnm out name) outcome desk report = WritesFile Pnm out name outcome desk × (report ≡ [])
+CameOf (write_jls line ri out name) outcome desk report = WritesFile (Jls line ri) out name outcome desk × (report ≡ [])
 
 -- a run over these words ends with this status; the events are those of the desk, of the report output and of the fault output
 pub data Run : List Text → ℕ → List Event → List Event → List Event → Type 0 where

@@ -9,5 +9,7 @@ mod program;
 #[cfg(test)]
 mod tests;
 
-pub use laws::{done_joins_ran, done_shows_ran, done_writes_ran};
+pub use laws::{
+    done_checks_ran, done_joins_ran, done_shows_ran, done_writes_ran, unsettled_writes_stop,
+};
 pub use program::run;

@@ -4,7 +4,7 @@ ghost use Rattle.jls_commands.specs.Histories.{GrewBoth};
 ghost use Rattle.jls_words.specs.Asking.{asked_of};
 ghost use Rattle.jls_program.specs.Runs.{CameOf};
 
-use jls_commands::{Format, show, write};
+use jls_commands::{Format, check, show, write};
 use jls_device::{Desk, Sink};
 use jls_station::{Outcome, join};
 use jls_words::Asked;
@@ -21,8 +21,15 @@ pub(crate) fn perform<'a, D: Desk, W: Sink>(
         (W.history report.old) (W.history report.new) }
 {
     match asked {
+        Asked::Check { file } => check(alloc, desk, report, file),
         Asked::Join { out, first, others } => join(alloc, desk, out, first, others),
         Asked::Show { file } => show(alloc, desk, report, file),
         Asked::WritePnm { out, file } => write(alloc, desk, Format::Pnm, out, file),
+        Asked::WriteJls {
+            line,
+            ri,
+            out,
+            file,
+        } => write(alloc, desk, Format::Jls { line, ri }, out, file),
     }
 }

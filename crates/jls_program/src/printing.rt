@@ -2,13 +2,15 @@
 
 ghost use Rattle.std.specs.Prelude.{◌≡◌, ◌++◌, codes, decimal};
 ghost use Rattle.jls_device.specs.Event.{GrewBy};
+ghost use Rattle.jls_marker.specs.Faults.{fault_number};
 ghost use Rattle.jls_device.specs.Writing.{Printed};
 ghost use Rattle.jls_station.specs.declared.outcome.Outcome.TheVariants.{Refused};
-ghost use Rattle.jls_program.specs.FaultLines.{cause_line, text_fault_line, fault_line, out_of_memory_line, unknown_value_line, unsettled_line};
+ghost use Rattle.jls_program.specs.FaultLines.{cause_line, input_fault_line, text_fault_line, fault_line, no_picture_line, out_of_memory_line, unknown_value_line, unsettled_line};
 ghost use Rattle.jls_program.specs.Lines.{bytes_of, digits_of, PrintsOn};
 
 use itoa::Buffer;
 use jls_device::{Sink, write_all};
+use jls_marker::MarkerFault;
 use jls_partial::TextFault;
 use jls_station::{Cause, InputFault, Outcome, Refusal};
 
@@ -48,6 +50,20 @@ fn numbered<'a>(name: &'a str, text: &'static str, number: u64) -> Line<'a>
         number: Some(number),
         between: "",
         second: None,
+        end: "\n",
+    }
+}
+
+/// The line of a copy in which no frame was taken.
+fn no_picture<'a>(name: &'a str, fault: MarkerFault, offset: u64) -> Line<'a>
+    ensures { bytes_of result ≡ no_picture_line name.now (fault_number fault) offset }
+{
+    Line {
+        name,
+        text: ": no picture, fault ",
+        number: Some(u64::from(fault.number())),
+        between: " at ",
+        second: Some(offset),
         end: "\n",
     }
 }
@@ -92,13 +108,23 @@ fn line_of_text_fault<'a>(name: &'a str, fault: TextFault) -> Line<'a>
     }
 }
 
+fn line_of_input_fault<'a>(name: &'a str, fault: InputFault) -> Line<'a>
+    ensures { bytes_of result ≡ input_fault_line name.now fault }
+{
+    match fault {
+        InputFault::Text(fault) => line_of_text_fault(name, fault),
+        InputFault::NoPicture(fault, offset) => no_picture(name, fault, offset),
+        InputFault::Read(_, _) => plain(name, ": read failed"),
+        InputFault::OutOfMemory => out_of_memory(),
+    }
+}
+
 fn line_of_cause<'a>(name: &'a str, cause: Cause) -> Line<'a>
     ensures { bytes_of result ≡ cause_line name.now cause }
 {
     match cause {
         Cause::NotOpened => plain(name, ": cannot be opened"),
-        Cause::Input(InputFault::Text(fault)) => line_of_text_fault(name, fault),
-        Cause::Input(InputFault::Read(_, _)) => plain(name, ": read failed"),
+        Cause::Input(fault) => line_of_input_fault(name, fault),
         Cause::ShapeDiffers => plain(name, ": shape differs"),
         Cause::Unsettled { id, line, disputed } => unsettled(id, line, disputed),
         Cause::TooLarge => plain("", "interval too large, give --ri"),
@@ -111,7 +137,7 @@ fn line_of_cause<'a>(name: &'a str, cause: Cause) -> Line<'a>
             second: None,
             end: " bytes\n",
         },
-        Cause::Input(InputFault::OutOfMemory) | Cause::OutOfMemory => out_of_memory(),
+        Cause::OutOfMemory => out_of_memory(),
     }
 }
 

@@ -4,7 +4,7 @@ use Rattle.std.specs.List.Sorted.{IsStrictlySortedBy}
 use Rattle.jls_values.specs.OrderedSet as set
 use Rattle.jls_values.specs.OrderedSetLaws.{items-from_list}
 use Rattle.jls_values.specs.Shape.{PictureShape}
-use Rattle.jls_partial.specs.Partial.{PartialPicture}
+use Rattle.jls_partial.specs.Partial.{PartialPicture, without_sources}
 use Rattle.jls_partial.specs.Reading.{Reading, reading_of, reading_cmp}
 use Rattle.jls_partial.specs.ReadingOrder.{reading_total}
 use Rattle.jls_report.specs.declared.entry.Entry.TheVariants.{Missing, Disputed}
@@ -24,7 +24,7 @@ unfolding IsStrictlySortedBy
 three_rise = ((refl, (refl, tt)), ((refl, tt), (tt, tt)))
 
 abbrev seven_missing : PartialPicture
-seven_missing = record { shape = ten_lines; readings = set.from_list three_read }
+seven_missing = without_sources ten_lines (set.from_list three_read)
 
 one_range : entries seven_missing ≡ Missing 0 1 7 ∷ []
 one_range = rw (items-from_list reading_total three_read three_rise) refl
@@ -45,7 +45,7 @@ unfolding IsStrictlySortedBy
 two_rise = ((refl, tt), (tt, tt))
 
 abbrev one_disputed : PartialPicture
-one_disputed = record { shape = four_lines; readings = set.from_list two_read }
+one_disputed = without_sources four_lines (set.from_list two_read)
 
 range_dispute_range : entries one_disputed ≡ Missing 0 0 0 ∷ Disputed 0 1 2 ∷ Missing 0 2 3 ∷ []
 range_dispute_range = rw (items-from_list reading_total two_read two_rise) refl

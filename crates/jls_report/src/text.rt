@@ -12,7 +12,7 @@ use jls_values::Shape;
 use std::alloc::{AllocError, Global};
 
 /// Appends a number in decimal.
-fn put_number(out: &mut Vec<u8>, n: u64) -> Result<(), AllocError>
+pub fn put_number(out: &mut Vec<u8>, n: u64) -> Result<(), AllocError>
     ensures { OnOk result (out.new.items ≡ out.old.items ++ decimal n) }
 {
     let mut buffer = Buffer::new();

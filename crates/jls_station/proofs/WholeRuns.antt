@@ -4,7 +4,7 @@ use Rattle.std.specs.Prelude.{◌↔◌, Contains, All}
 use Rattle.std.proofs.lemmas.Grind.{flat_map-append}
 use Rattle.std.proofs.lemmas.List.{append-nil}
 use Rattle.jls_values.specs.Join.{join_all, AllOfShape}
-use Rattle.jls_partial.specs.Parts.{IsPartOf, EachLineSurvives, PartsGiveThePicture}
+use Rattle.jls_partial.specs.Parts.{IsPartOf, EachLineSurvives, PartsGiveThePicture, sourced}
 use Rattle.jls_partial.specs.Partial.{PartialPicture, has_same_shape, union}
 use Rattle.jls_partial.specs.Status.{IsSettled}
 use Rattle.jls_partial.specs.Text.{text, IsPartial}
@@ -13,7 +13,7 @@ use Rattle.jls_device.specs.Writing.{AreWrites}
 use Rattle.jls_copy.specs.CopyLaws.{BytesDecide}
 use Rattle.jls_copy.specs.ReadCopy.{ReadCopy}
 use Rattle.jls_station.specs.Given.{Given, Gives, by_text, by_copy, GivesPartial, marked}
-use Rattle.jls_station.specs.Texts.{is_text}
+use Rattle.jls_station.specs.Texts.{is_text, IsTextOf}
 use Rattle.jls_station.specs.Reading.{AreBytes, GoesOn, StopsWith, IsRead}
 use Rattle.jls_station.specs.Inputs.{IsEnough, partials, IsTaken, IsUnionOf, AreOfOneShape, TakesInTurn}
 use Rattle.jls_station.specs.Joining.{JoinIsDone}
@@ -198,15 +198,15 @@ member_of_input source (x ∷ inputs) (q ∷ ps) bytes h (suc k, lt, e) =
     let m = member_of_input source inputs ps bytes h.2 (k, omega (arith, lt), e) in (m.0, (suc m.1.0, omega (arith, m.1.1), m.1.2), m.2)
 
 -- a text begins as one
-text_begins : (bytes : List ℕ) (p : PartialPicture) → bytes ≡ text p → is_text bytes ≡ true
-text_begins bytes p e = ap is_text e
+text_begins : (bytes : List ℕ) (p : PartialPicture) → IsTextOf bytes p → is_text bytes ≡ true
+text_begins bytes p is = ap is_text is.bytes_are
 
-module _ (apart : (p q : PartialPicture) → IsPartial p → IsPartial q → text p ≡ text q → p ≡ q) (decide : BytesDecide) where
+module _ (apart : (bytes : List ℕ) (p q : PartialPicture) → IsTextOf bytes p → IsTextOf bytes q → p ≡ q) (decide : BytesDecide) where
   -- what an input gives is decided by its bytes
   one_given : (source : Option ℕ) (bytes : List ℕ) (g g' : Given) → AreBytes bytes → Gives source bytes g → Gives source bytes g' → g.partial ≡ g'.partial
-  one_given source bytes _ _ low (by_text _ _ p is) (by_text _ _ q is') = apart p q is.partial is'.partial (sym is.bytes_are ∙ is'.bytes_are)
-  one_given source bytes _ _ low (by_text _ _ p is) (by_copy _ _ r stop copied reads) = not_so (sym copied ∙ text_begins bytes p is.bytes_are)
-  one_given source bytes _ _ low (by_copy _ _ r stop copied reads) (by_text _ _ p is) = not_so (sym copied ∙ text_begins bytes p is.bytes_are)
+  one_given source bytes _ _ low (by_text _ _ p is) (by_text _ _ q is') = apart bytes p q is is'
+  one_given source bytes _ _ low (by_text _ _ p is) (by_copy _ _ r stop copied reads) = not_so (sym copied ∙ text_begins bytes p is)
+  one_given source bytes _ _ low (by_copy _ _ r stop copied reads) (by_text _ _ p is) = not_so (sym copied ∙ text_begins bytes p is)
   one_given source bytes _ _ low (by_copy _ _ r stop copied reads) (by_copy _ _ r' stop' copied' reads') =
       ap (λ (x : ReadCopy). marked source x.partial) ((decide bytes low).one_reading r r' reads reads')
 
@@ -254,7 +254,7 @@ module _ (apart : (p q : PartialPicture) → IsPartial p → IsPartial q → tex
         (e, t.1 ∙ (ap (λ (p : PartialPicture). text p ∷ []) e ∙ sym t'.1))
 
   union_of_parts : PartsGiveThePicture → (picture joined : PartialPicture) → IsPartial picture → IsSettled picture → (ps : List PartialPicture) → IsUnionOf ps joined
-      → All (IsPartOf picture) ps → EachLineSurvives picture.shape ps → joined ≡ picture
+      → All (IsPartOf picture) ps → EachLineSurvives picture.shape ps → joined ≡ sourced ps picture
   union_of_parts join picture joined is settled [] u are survives = absurd u
   union_of_parts join picture joined is settled (p ∷ ps) u are survives = u ∙ join picture is.fitting settled p ps are survives
 

@@ -1,6 +1,6 @@
 -- What an input gives: a text its partial picture; a damaged copy, wherever its reading stopped, the readings of its course.
 use Rattle.std.specs.Prelude.{◌≡◌, ℕ, false, List, length, Option, Some, None}
-use Rattle.jls_partial.specs.Partial.{PartialPicture}
+use Rattle.jls_partial.specs.Partial.{PartialPicture, with_source}
 use Rattle.jls_copy.specs.CopyReads.{CopyReads}
 use Rattle.jls_copy.specs.ReadCopy.{ReadCopy}
 use Rattle.jls_copy.specs.declared.end.End.{End}
@@ -11,9 +11,10 @@ use Rattle.jls_station.specs.declared.input.ReadStop.TheVariants.{Whole}
 
 -- `source` is the number under which the readings of copies are taken, where there is one; a text has its own
 
--- with the source at each reading
+-- with the source at each reading, where there is one. (No command gives one yet)
 abbrev pub marked : Option ℕ → PartialPicture → PartialPicture
-marked source p = p
+marked None p = p
+marked (Some source) p = with_source p source
 
 -- what was found in a copy beside its readings: the records that are kept of faulty pieces, how many faulty pieces there were, and where
 -- the copy ended; and how many of its bytes were read

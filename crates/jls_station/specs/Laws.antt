@@ -1,6 +1,6 @@
 -- The laws of whole runs of `join`.
 use Rattle.std.specs.Prelude.{◌≡◌, ℕ, ◌↔◌, Bool, List, [], ◌∷◌, if◌then◌else◌, All, Contains, Option}
-use Rattle.jls_partial.specs.Parts.{IsPartOf, EachLineSurvives}
+use Rattle.jls_partial.specs.Parts.{IsPartOf, EachLineSurvives, sourced}
 use Rattle.jls_partial.specs.Partial.{PartialPicture}
 use Rattle.jls_partial.specs.Status.{IsSettled}
 use Rattle.jls_partial.specs.Text.{text, IsPartial}
@@ -47,7 +47,7 @@ SameInputsSameOutput =
     → (joined ≡ joined') × (output_bytes events ≡ output_bytes events')
 
 -- A run of `join` that is done and whose inputs, texts and copies, give parts of one picture, in which each line of it survives
--- somewhere: what it joins is that picture, and its output is handed the picture's text
+-- somewhere: what it joins is that picture, with the sources of all parts, and its output is handed the text of that
 abbrev pub SurvivingLinesGiveThePicture : Type 0
 SurvivingLinesGiveThePicture =
     (source : Option ℕ) (out : List ℕ) (names : List (List ℕ)) (joined : PartialPicture) (settled whole : Bool) (events : List Event)
@@ -55,4 +55,4 @@ SurvivingLinesGiveThePicture =
     → (picture : PartialPicture) → IsPartial picture → IsSettled picture
     → (parts : List PartialPicture) → All (IsPartOf picture) parts → EachLineSurvives picture.shape parts
     → AreInputsOf source (input_bytes events) parts
-    → (joined ≡ picture) × (output_bytes events ≡ text picture ∷ [])
+    → (joined ≡ sourced parts picture) × (output_bytes events ≡ text (sourced parts picture) ∷ [])

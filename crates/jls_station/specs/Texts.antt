@@ -1,7 +1,6 @@
 -- What is said of texts of partial pictures.
 use Rattle.std.specs.Prelude.{◌≡◌, ◌==◌, ℕ, Bool, false, List, [], ◌∷◌, Err}
-use Rattle.jls_partial.specs.Partial.{PartialPicture}
-use Rattle.jls_partial.specs.Text.{text, IsPartial}
+pub use Rattle.jls_partial.specs.Text.{IsTextOf}
 use Rattle.jls_partial.specs.TextReading.{read_text}
 use Rattle.jls_partial.specs.declared.text_fault.TextFault.{TextFault}
 
@@ -9,11 +8,6 @@ use Rattle.jls_partial.specs.declared.text_fault.TextFault.{TextFault}
 abbrev pub is_text : List ℕ → Bool
 is_text [] = false
 is_text (first ∷ bytes) = first == 0x4A
-
--- these bytes are a text of this partial picture
-pub record IsTextOf (bytes : List ℕ) (p : PartialPicture) : Type 0 where
-  pub partial : IsPartial p
-  pub bytes_are : bytes ≡ text p
 
 -- these bytes are no text, and this is their first fault
 abbrev pub IsNoText : List ℕ → TextFault → Type 0

@@ -2,9 +2,8 @@
 
 ghost use Rattle.std.specs.Prelude.{◌≡◌, ◌↔◌, true, false, OnOk, IsErrOf};
 ghost use Rattle.jls_values.specs.Join.{IsBetween};
-ghost use Rattle.jls_values.specs.OrderedSet as set;
 ghost use Rattle.jls_values.specs.declared.merge.MergeFault.TheVariants.{ShapeDiffers, OutOfMemory};
-ghost use Rattle.jls_partial.specs.Partial.{has_same_shape, union};
+ghost use Rattle.jls_partial.specs.Partial.{has_same_shape, nothing_known, union};
 
 use jls_partial::Partial;
 use jls_values::{Merge, MergeFault, Shape};
@@ -31,7 +30,7 @@ impl Model for Station {
 impl Station {
     /// A station for pictures of this shape, which holds nothing yet. It takes no memory.
     pub fn new(alloc: Global, shape: Shape) -> Station
-        ensures { result ≡ record { shape = shape; readings = set.empty } }
+        ensures { result ≡ nothing_known shape }
     {
         Station {
             held: Partial::empty(alloc, shape),

@@ -14,16 +14,17 @@ use std::test::Fail;
 
 /// A picture of one line with one sample: the line has the readings 3 and 5.
 const DISPUTED: &[u8] =
-    b"JLSP\x01\x08\0\x01\0\x01\x01\x01\0\0\0\x01\0\0\0\0\0\0\0\0\0\0\x02\0\x03\0\x05";
+    b"JLSP\x02\x08\0\x01\0\x01\x01\x01\0\0\0\x01\0\0\0\0\0\0\0\0\0\0\x02\0\x03\0\0\0\0\0\0\0\0\0\x05\0\0\0\0\0\0\0\0";
 /// The same line with the reading 0.
-const SETTLED: &[u8] = b"JLSP\x01\x08\0\x01\0\x01\x01\x01\0\0\0\x01\0\0\0\0\0\0\0\0\0\0\x01\0\0";
+const SETTLED: &[u8] =
+    b"JLSP\x02\x08\0\x01\0\x01\x01\x01\0\0\0\x01\0\0\0\0\0\0\0\0\0\0\x01\0\0\0\0\0\0\0\0\0\0";
 /// All three readings.
 const BOTH: &[u8] =
-    b"JLSP\x01\x08\0\x01\0\x01\x01\x01\0\0\0\x01\0\0\0\0\0\0\0\0\0\0\x03\0\0\0\x03\0\x05";
+    b"JLSP\x02\x08\0\x01\0\x01\x01\x01\0\0\0\x01\0\0\0\0\0\0\0\0\0\0\x03\0\0\0\0\0\0\0\0\0\0\0\x03\0\0\0\0\0\0\0\0\0\x05\0\0\0\0\0\0\0\0";
 /// No reading of that picture.
-const BARE: &[u8] = b"JLSP\x01\x08\0\x01\0\x01\x01\x01\0\0\0\0";
+const BARE: &[u8] = b"JLSP\x02\x08\0\x01\0\x01\x01\x01\0\0\0\0";
 /// No reading of a picture that has a component 2 in place of the component 1.
-const OTHER: &[u8] = b"JLSP\x01\x08\0\x01\0\x01\x01\x02\0\0\0\0";
+const OTHER: &[u8] = b"JLSP\x02\x08\0\x01\0\x01\x01\x02\0\0\0\0";
 
 /// A stream that gives its bytes and then fails.
 #[derive(Drop)]

@@ -6,16 +6,16 @@ use Rattle.clap.specs.declared.error.kind.ErrorKind.{ErrorKind}
 use Rattle.std.specs.Prelude.{IfOk, IfErr}
 use Rattle.clap.specs.Words.{App, FailsBy, HasKind, IsAmong, Kinds, Row, Text, all_of, fault_of, first_of, first_value, is_simple_and_free, kind_of, matched_of, raw_values, rows_of, takes}
 use Rattle.clap.specs.Matches.{subcommand_name_of}
-use Rattle.clap.specs.Simple.{subcommand_rows, subcommand_rows_of}
+use Rattle.clap.specs.Simple.{HasMatchesOf, subcommand_of, subcommand_rows, subcommand_rows_of}
 use Rattle.clap.specs.declared.parser.matches.ArgMatches.{ArgMatches}
 use Rattle.clap.specs.declared.parser.matches.ArgMatches.TheViews.{out-ArgMatches}
 use Rattle.clap.specs.declared.error.Error.{Error}
 use Rattle.clap.specs.declared.error.kind.ErrorKind.TheVariants as kind
 use Rattle.clap.specs.declared.parser.matches.Found.{Found}
 use Rattle.clap.proofs.WalkLemmas.{first_value-rows, raw_values-rows}
-use Rattle.jls_words.specs.Asking.{Asked, asked_by, asked_join, asked_show, asked_write}
+use Rattle.jls_words.specs.Asking.{Asked, asked_by, asked_check, asked_join, asked_show, asked_write, options_of}
 use Rattle.jls_words.specs.Words.{AreRefused, AreTaken, salvage_app}
-use Rattle.jls_words.proofs.WordsTaken.{is_simple_command}
+use Rattle.jls_words.proofs.WordsTaken.{is_simple_command, is_simple_program}
 
 -- the name and the rows, from both
 both_parts : {X : Type 0} (name_of : X → Text) (rows_in : X → List Row) (o : Option X) (name : Text) (rows : List Row)
@@ -34,18 +34,23 @@ entered_rows m name rows e h = both_parts _ _ (out-ArgMatches m).subcommand name
 
 -- what a command asks for, by its name
 module _ (name : Text) (rows : List Row) where
-  pub asks_join : bytes_eq name (codes "join") ≡ true → asked_by name rows ≡ asked_join (first_of (codes "OUT") rows) (all_of (codes "FILE") rows)
-  asks_join e = rw e refl
+  pub asks_check : bytes_eq name (codes "check") ≡ true → asked_by name rows ≡ asked_check (first_of (codes "FILE") rows)
+  asks_check e = rw e refl
 
-  pub asks_show : bytes_eq name (codes "join") ≡ false → bytes_eq name (codes "show") ≡ true → asked_by name rows ≡ asked_show (first_of (codes "FILE") rows)
-  asks_show d e = rw (d, e) refl
+  module _ (not_check : bytes_eq name (codes "check") ≡ false) where
+    pub asks_join : bytes_eq name (codes "join") ≡ true → asked_by name rows ≡ asked_join (first_of (codes "OUT") rows) (all_of (codes "FILE") rows)
+    asks_join e = rw (not_check, e) refl
 
-  pub asks_write : bytes_eq name (codes "join") ≡ false → bytes_eq name (codes "show") ≡ false → bytes_eq name (codes "write") ≡ true
-      → asked_by name rows ≡ asked_write (first_of (codes "as") rows) (first_of (codes "OUT") rows) (first_of (codes "FILE") rows)
-  asks_write d e f = rw (d, e, f) refl
+    module _ (not_join : bytes_eq name (codes "join") ≡ false) where
+      pub asks_show : bytes_eq name (codes "show") ≡ true → asked_by name rows ≡ asked_show (first_of (codes "FILE") rows)
+      asks_show e = rw (not_check, not_join, e) refl
 
-  pub asks_nothing : bytes_eq name (codes "join") ≡ false → bytes_eq name (codes "show") ≡ false → bytes_eq name (codes "write") ≡ false → asked_by name rows ≡ None
-  asks_nothing d e f = rw (d, e, f) refl
+      pub asks_write : bytes_eq name (codes "show") ≡ false → bytes_eq name (codes "write") ≡ true
+          → asked_by name rows ≡ asked_write (first_of (codes "as") rows) (options_of (first_of (codes "ilv") rows) (first_of (codes "ri") rows)) (first_of (codes "OUT") rows) (first_of (codes "FILE") rows)
+      asks_write d e = rw (not_check, not_join, d, e) refl
+
+      pub asks_nothing : bytes_eq name (codes "show") ≡ false → bytes_eq name (codes "write") ≡ false → asked_by name rows ≡ None
+      asks_nothing d e = rw (not_check, not_join, d, e) refl
 
 -- and so what the words ask for
 pub asked_entered : (m : ArgMatches) (name : Text) (rows : List Row) (a : Option Asked) → subcommand_rows_of m ≡ Some (name, rows) → asked_by name rows ≡ a
@@ -76,6 +81,12 @@ memory_or_not kind.DisplayVersion = inr (λ e. absurd cc)
 memory_or_not kind.Io = inr (λ e. absurd cc)
 memory_or_not kind.Format = inr (λ e. absurd cc)
 memory_or_not kind.OutOfMemory = inl refl
+
+-- the rows of the subcommand are those of the words
+pub rows_where_read : (app : App) (words : List Text) → app ≡ salvage_app → (r : Result ArgMatches Error) → IfOk r (λ m. HasMatchesOf app words m)
+    → IfOk r (λ m. subcommand_rows_of m ≡ subcommand_of salvage_app words)
+rows_where_read app words e (Ok m) h = (subst (λ (a : App). HasMatchesOf a words m) e h is_simple_program).1
+rows_where_read app words e (Err f) h = tt
 
 module _ {T : Type 0} (app : App) (words : List Text) (is_app : app ≡ salvage_app) where
   -- words that are read have no fault

@@ -1,10 +1,10 @@
 -- Words that clap does read as commands: the premises of the theorems on `run` hold of them.
-use Rattle.std.proofs.Common.{◌≡◌, true, List, [], ◌∷◌, refl, inl}
+use Rattle.std.proofs.Common.{◌≡◌, true, false, List, [], ◌∷◌, refl, inl}
 use Rattle.std.specs.Prelude.{codes}
-use Rattle.clap.specs.Words.{Text, is_simple_and_free}
+use Rattle.clap.specs.Words.{Text, is_simple, is_simple_and_free}
 use Rattle.clap.proofs.OnLiterals.{clap_on_literals}
 use Rattle.jls_words.specs.Words.{salvage_app}
-use Rattle.jls_words.specs.Asking.{ReadsAs, AskForNothing, join, show, write_pnm}
+use Rattle.jls_words.specs.Asking.{ReadsAs, AskForNothing, check, join, show, write_pnm, write_jls}
 
 -- `jls-salvage join OUT A B`
 abbrev pub two_files : List Text
@@ -14,9 +14,9 @@ two_files = codes "jls-salvage" ∷ codes "join" ∷ codes "OUT" ∷ codes "A" �
 abbrev pub dashes : List Text
 dashes = codes "jls-salvage" ∷ codes "join" ∷ codes "-" ∷ codes "-" ∷ []
 
--- `jls-salvage show A`
-abbrev pub one_file : List Text
-one_file = codes "jls-salvage" ∷ codes "show" ∷ codes "A" ∷ []
+-- `jls-salvage COMMAND A`
+abbrev pub one_file : Text → List Text
+one_file command = codes "jls-salvage" ∷ command ∷ codes "A" ∷ []
 
 -- `jls-salvage write --as FORMAT OUT A`
 abbrev pub as_format : Text → List Text
@@ -27,6 +27,10 @@ pub is_simple_command : is_simple_and_free salvage_app ≡ true
 unfolding clap_on_literals
 is_simple_command = refl
 
+pub is_simple_program : is_simple salvage_app ≡ true
+unfolding clap_on_literals
+is_simple_program = refl
+
 pub two_files-join : ReadsAs two_files (join (codes "OUT") (codes "A" ∷ codes "B" ∷ []))
 unfolding clap_on_literals
 two_files-join = record { taken = inl refl; asks = refl }
@@ -35,13 +39,30 @@ pub dashes-join : ReadsAs dashes (join (codes "-") (codes "-" ∷ []))
 unfolding clap_on_literals
 dashes-join = record { taken = inl refl; asks = refl }
 
-pub one_file-show : ReadsAs one_file (show (codes "A"))
+pub one_file-check : ReadsAs (one_file (codes "check")) (check (codes "A"))
+unfolding clap_on_literals
+one_file-check = record { taken = inl refl; asks = refl }
+
+pub one_file-show : ReadsAs (one_file (codes "show")) (show (codes "A"))
 unfolding clap_on_literals
 one_file-show = record { taken = inl refl; asks = refl }
 
 pub as_pnm-write : ReadsAs (as_format (codes "pnm")) (write_pnm (codes "OUT") (codes "A"))
 unfolding clap_on_literals
 as_pnm-write = record { taken = inl refl; asks = refl }
+
+as_jls-write : ReadsAs (as_format (codes "jls")) (write_jls false 0 (codes "OUT") (codes "A"))
+unfolding clap_on_literals
+as_jls-write = record { taken = inl refl; asks = refl }
+
+-- `jls-salvage write --as jls --ilv line --ri 12 OUT A`
+abbrev pub with_options : List Text
+with_options =
+    codes "jls-salvage" ∷ codes "write" ∷ codes "--as" ∷ codes "jls" ∷ codes "--ilv" ∷ codes "line" ∷ codes "--ri" ∷ codes "12" ∷ codes "OUT" ∷ codes "A" ∷ []
+
+pub with_options-write : ReadsAs with_options (write_jls true 12 (codes "OUT") (codes "A"))
+unfolding clap_on_literals
+with_options-write = record { taken = inl refl; asks = refl }
 
 -- a format that there is not
 pub as_gif-nothing : AskForNothing (as_format (codes "gif"))

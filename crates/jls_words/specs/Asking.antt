@@ -1,6 +1,8 @@
 -- What the words of a command line ask for.
-use Rattle.std.specs.Prelude.{◌≡◌, List, ◌∷◌, Option, Some, None, map, codes, if◌then◌else◌, option_map, option_and_then}
+use Rattle.std.specs.Prelude.{◌≡◌, ℕ, Bool, true, false, List, ◌∷◌, Option, Some, None, map, codes, if◌then◌else◌, option_map, option_and_then}
 use Rattle.std.specs.Str.{bytes_eq}
+use Rattle.std.specs.Str.Parse.{digits_value, without_leading_plus}
+use Rattle.clap.specs.ValueTests.{is_unsigned_in}
 use Rattle.clap.specs.Words.{Row, Text, all_of, first_of, subcommand_of}
 use Rattle.jls_words.specs.Words.{salvage_app, AreTaken}
 use Rattle.jls_words.specs.declared.asked.Asked.{Asked as AskedValue}
@@ -8,9 +10,12 @@ use Rattle.jls_words.specs.declared.asked.Asked.TheVariants as asked
 
 -- a command with its words: the output stands before the inputs
 pub data Asked : Type 0 where
+  check : Text → Asked
   join : Text → List Text → Asked
   show : Text → Asked
   write_pnm : Text → Text → Asked
+  -- as JPEG-LS: whether all components stand in one scan, by line; and the restart interval, 0 for none
+  write_jls : Bool → ℕ → Text → Text → Asked
 
 -- ---- by the values of a command's arguments
 
@@ -18,23 +23,48 @@ abbrev pub asked_join : Option Text → Option (List Text) → Option Asked
 asked_join (Some out) (Some (first ∷ others)) = Some (join out (first ∷ others))
 asked_join _ _ = None
 
+abbrev pub asked_check : Option Text → Option Asked
+asked_check file = option_map check file
+
 abbrev pub asked_show : Option Text → Option Asked
 asked_show file = option_map show file
 
--- the format that is asked for, OUT and FILE
-abbrev pub asked_write : Option Text → Option Text → Option Text → Option Asked
-asked_write (Some format) (Some out) (Some file) = if bytes_eq format (codes "pnm") then Some (write_pnm out file) else None
-asked_write _ _ _ = None
+-- whether the interleave mode of this name is by line
+abbrev pub is_by_line : Text → Option Bool
+is_by_line name = if bytes_eq name (codes "line") then Some true else if bytes_eq name (codes "none") then Some false else None
+
+-- the number that a text is, in decimal and up to a greatest
+abbrev pub number_up_to : ℕ → Text → Option ℕ
+number_up_to most value = if is_unsigned_in 0 most value then Some (digits_value 10 (without_leading_plus value)) else None
+
+abbrev pub both_of : Option Bool → Option ℕ → Option (Bool × ℕ)
+both_of (Some line) (Some n) = Some (line, n)
+both_of _ _ = None
+
+-- the interleave mode and the restart interval
+abbrev pub options_of : Option Text → Option Text → Option (Bool × ℕ)
+options_of (Some ilv) (Some ri) = both_of (is_by_line ilv) (number_up_to 65535 ri)
+options_of _ _ = None
+
+-- the format that is asked for, the options, OUT and FILE
+abbrev pub asked_write : Option Text → Option (Bool × ℕ) → Option Text → Option Text → Option Asked
+asked_write (Some format) (Some options) (Some out) (Some file) =
+    if bytes_eq format (codes "pnm") then Some (write_pnm out file)
+    else if bytes_eq format (codes "jls") then Some (write_jls options.0 options.1 out file)
+    else None
+asked_write _ _ _ _ = None
 
 -- ---- by what clap reads
 
 -- the command of this name, whose arguments have these values, asks for this
 abbrev pub asked_by : Text → List Row → Option Asked
 asked_by name rows =
-    if bytes_eq name (codes "join") then asked_join (first_of (codes "OUT") rows) (all_of (codes "FILE") rows)
+    if bytes_eq name (codes "check") then asked_check (first_of (codes "FILE") rows)
+    else if bytes_eq name (codes "join") then asked_join (first_of (codes "OUT") rows) (all_of (codes "FILE") rows)
     else if bytes_eq name (codes "show") then asked_show (first_of (codes "FILE") rows)
     else if bytes_eq name (codes "write") then
-    asked_write (first_of (codes "as") rows) (first_of (codes "OUT") rows) (first_of (codes "FILE") rows)
+    asked_write (first_of (codes "as") rows) (options_of (first_of (codes "ilv") rows) (first_of (codes "ri") rows))
+    (first_of (codes "OUT") rows) (first_of (codes "FILE") rows)
     else None
 
 -- what the words ask for, by the command that clap reads in them
@@ -54,5 +84,7 @@ pub record AskForNothing (words : List Text) : Type 0 where
 -- what is asked, as the code has it
 abbrev pub asked_of : AskedValue → Asked
 asked_of (asked.Join out first others) = join out.now (first.now ∷ map (λ f. f.now) others.now)
+asked_of (asked.Check file) = check file.now
 asked_of (asked.Show file) = show file.now
 asked_of (asked.WritePnm out file) = write_pnm out.now file.now
+asked_of (asked.WriteJls line ri out file) = write_jls line ri out.now file.now

@@ -3,13 +3,17 @@
 ghost use Rattle.std.specs.Prelude.{◌≡◌, ℕ, List, Some, map, option_map, option_and_then};
 ghost use Rattle.clap.specs.Words.{Text, subcommand_rows_of};
 ghost use Rattle.jls_words.specs.Asking as spec;
-ghost use Rattle.jls_words.specs.Asking.{asked_of};
+ghost use Rattle.jls_words.specs.Asking.{asked_of, number_up_to};
 
 use clap::ArgMatches;
 
 /// A command of the program with its words.
 #[derive(Clone, Copy, Debug, PartialEq, Eq)]
 pub enum Asked<'m, 'a> {
+    /// To print the trace and the report of the input.
+    Check {
+        file: &'a str,
+    },
     /// To join the inputs, of which there is a first.
     Join {
         out: &'a str,
@@ -25,6 +29,14 @@ pub enum Asked<'m, 'a> {
         out: &'a str,
         file: &'a str,
     },
+    /// To write it as JPEG-LS: with `line` all components stand in one scan, line by line, and else each in one of its own;
+    /// `ri` is the restart interval in rows, and 0 means that there are no restart markers.
+    WriteJls {
+        line: bool,
+        ri: u16,
+        out: &'a str,
+        file: &'a str,
+    },
 }
 
 fn asked_join<'m, 'a>(out: Option<&'a str>, files: Option<&'m [&'a str]>) -> Option<Asked<'m, 'a>>
@@ -37,6 +49,15 @@ fn asked_join<'m, 'a>(out: Option<&'a str>, files: Option<&'m [&'a str]>) -> Opt
     Some(Asked::Join { out, first, others })
 }
 
+fn asked_check<'m, 'a>(file: Option<&'a str>) -> Option<Asked<'m, 'a>>
+    ensures { option_map asked_of result ≡ spec.asked_check (option_map (λ s. s.now) file.entry) }
+{
+    match file {
+        Some(file) => Some(Asked::Check { file }),
+        None => None,
+    }
+}
+
 fn asked_show<'m, 'a>(file: Option<&'a str>) -> Option<Asked<'m, 'a>>
     ensures { option_map asked_of result ≡ spec.asked_show (option_map (λ s. s.now) file.entry) }
 {
@@ -46,19 +67,63 @@ fn asked_show<'m, 'a>(file: Option<&'a str>) -> Option<Asked<'m, 'a>>
     }
 }
 
+/// Whether the interleave mode of this name is by line.
+fn is_by_line(name: &str) -> Option<bool>
+    ensures { result ≡ spec.is_by_line name.now }
+{
+    if name == "line" {
+        Some(true)
+    } else if name == "none" {
+        Some(false)
+    } else {
+        None
+    }
+}
+
+/// The restart interval.
+fn restart_interval(value: &str) -> Option<u16>
+    ensures { result ≡ number_up_to 65535 value.now }
+{
+    match value.parse::<u16>() {
+        Ok(rows) => Some(rows),
+        Err(_) => None,
+    }
+}
+
+fn options_of(ilv: Option<&str>, ri: Option<&str>) -> Option<(bool, u16)>
+    ensures { result ≡ spec.options_of (option_map (λ s. s.now) ilv.entry) (option_map (λ s. s.now) ri.entry) }
+{
+    let (Some(ilv), Some(ri)) = (ilv, ri) else {
+        return None;
+    };
+    match (is_by_line(ilv), restart_interval(ri)) {
+        (Some(line), Some(rows)) => Some((line, rows)),
+        _ => None,
+    }
+}
+
 fn asked_write<'m, 'a>(
     format: Option<&'a str>,
+    options: Option<(bool, u16)>,
     out: Option<&'a str>,
     file: Option<&'a str>,
 ) -> Option<Asked<'m, 'a>>
     ensures { option_map asked_of result
-        ≡ spec.asked_write (option_map (λ s. s.now) format.entry) (option_map (λ s. s.now) out.entry) (option_map (λ s. s.now) file.entry) }
+        ≡ spec.asked_write (option_map (λ s. s.now) format.entry) options (option_map (λ s. s.now) out.entry) (option_map (λ s. s.now) file.entry) }
 {
-    let (Some(format), Some(out), Some(file)) = (format, out, file) else {
+    let (Some(format), Some((line, ri)), Some(out), Some(file)) = (format, options, out, file)
+    else {
         return None;
     };
     if format == "pnm" {
         Some(Asked::WritePnm { out, file })
+    } else if format == "jls" {
+        Some(Asked::WriteJls {
+            line,
+            ri,
+            out,
+            file,
+        })
     } else {
         None
     }
@@ -72,13 +137,16 @@ pub fn asked_command<'m, 'a>(matches: &'m ArgMatches<'a>) -> Option<Asked<'m, 'a
         Some((name, given)) => (name, given),
         None => return None,
     };
-    if name == "join" {
+    if name == "check" {
+        asked_check(given.get_str("FILE"))
+    } else if name == "join" {
         asked_join(given.get_str("OUT"), given.get_strs("FILE"))
     } else if name == "show" {
         asked_show(given.get_str("FILE"))
     } else if name == "write" {
         let format = given.get_str("as");
-        asked_write(format, given.get_str("OUT"), given.get_str("FILE"))
+        let options = options_of(given.get_str("ilv"), given.get_str("ri"));
+        asked_write(format, options, given.get_str("OUT"), given.get_str("FILE"))
     } else {
         None
     }

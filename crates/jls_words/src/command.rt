@@ -4,9 +4,10 @@ ghost use Rattle.std.specs.Prelude.{◌≡◌, ◌⊎◌, false, [], IfOk, IfErr
 ghost use Rattle.std.specs.String.{string_bytes};
 ghost use Rattle.clap.specs.Words.{app_of, fault_of, kind_of, new_app, rule_of, subcommand_of, subcommand_rows_of};
 ghost use Rattle.clap.specs.declared.builder.command.Command.TheViews.{out-Command};
-ghost use Rattle.jls_words.specs.Words.{as_rule, AreRefused, AreTaken, files_rule, join_app, salvage_app, show_app, word_rule, write_app};
+ghost use Rattle.jls_words.specs.Words.{as_rule, AreRefused, AreTaken, check_app, files_rule, ilv_rule, join_app, ri_rule, salvage_app, show_app, word_rule, write_app, write_options_app};
 
 use crate::texts;
+use clap::builder::ValueParser;
 use clap::error::ErrorKind;
 use clap::{Arg, ArgAction, ArgMatches, Command, Error};
 use std::alloc::{AllocError, Global};
@@ -36,12 +37,39 @@ fn format<'a>(alloc: Global) -> Arg<'a>
     format.required(true).help(texts::AS_HELP)
 }
 
+/// The interleave mode of `write`.
+fn interleave<'a>(alloc: Global) -> Arg<'a>
+    ensures rule { rule_of result ≡ ilv_rule }
+    ensures local { result.global ≡ false }
+{
+    let mode = Arg::new(alloc, "ilv").long("ilv").value_name("MODE");
+    mode.default_value("none").help(texts::ILV_HELP)
+}
+
+/// The restart interval of `write`.
+fn restarts<'a>(alloc: Global) -> Arg<'a>
+    ensures rule { rule_of result ≡ ri_rule }
+    ensures local { result.global ≡ false }
+{
+    let rows = Arg::new(alloc, "ri").long("ri").value_name("N");
+    let bounded = rows.value_parser(ValueParser::unsigned(0, 65535));
+    bounded.default_value("0").help(texts::RI_HELP)
+}
+
 /// A command without arguments.
 fn bare<'a>(alloc: Global, name: &'a str, about: &'a str, notes: &'a str) -> Command<'a>
     ensures app { app_of result ≡ new_app name.entry.now }
     ensures local { (out-Command result).has_globals ≡ false }
 {
     Command::new(alloc, name).about(about).after_help(notes)
+}
+
+fn check_command<'a>(alloc: Global) -> Result<Command<'a>, AllocError>
+    ensures app { IfOk result (λ c. app_of c ≡ check_app) }
+    ensures local { IfOk result (λ c. (out-Command c).has_globals ≡ false) }
+{
+    let check = bare(alloc, "check", texts::CHECK_ABOUT, texts::CHECK_NOTES);
+    check.arg(word(alloc, "FILE", texts::FILE_HELP))
 }
 
 fn show_command<'a>(alloc: Global) -> Result<Command<'a>, AllocError>
@@ -61,13 +89,23 @@ fn join_command<'a>(alloc: Global) -> Result<Command<'a>, AllocError>
     join.arg(files(alloc))
 }
 
-fn write_command<'a>(alloc: Global) -> Result<Command<'a>, AllocError>
-    ensures app { IfOk result (λ c. app_of c ≡ write_app) }
+/// The command `write` with its options.
+fn write_options<'a>(alloc: Global) -> Result<Command<'a>, AllocError>
+    ensures app { IfOk result (λ c. app_of c ≡ write_options_app) }
     ensures local { IfOk result (λ c. (out-Command c).has_globals ≡ false) }
 {
     let bare = bare(alloc, "write", texts::WRITE_ABOUT, texts::WRITE_NOTES);
     let formatted = bare.arg(format(alloc))?;
-    let write = formatted.arg(word(alloc, "OUT", texts::WRITE_OUT_HELP))?;
+    let interleaved = formatted.arg(interleave(alloc))?;
+    interleaved.arg(restarts(alloc))
+}
+
+fn write_command<'a>(alloc: Global) -> Result<Command<'a>, AllocError>
+    ensures app { IfOk result (λ c. app_of c ≡ write_app) }
+    ensures local { IfOk result (λ c. (out-Command c).has_globals ≡ false) }
+{
+    let options = write_options(alloc)?;
+    let write = options.arg(word(alloc, "OUT", texts::WRITE_OUT_HELP))?;
     write.arg(word(alloc, "FILE", texts::FILE_HELP))
 }
 
@@ -77,7 +115,8 @@ fn command<'a>(alloc: Global) -> Result<Command<'a>, AllocError>
 {
     let bare = bare(alloc, "jls-salvage", texts::ABOUT, texts::EXAMPLES);
     let salvage = bare.version("0.1.0").subcommand_required(true);
-    let shows = salvage.subcommand(show_command(alloc)?)?;
+    let checks = salvage.subcommand(check_command(alloc)?)?;
+    let shows = checks.subcommand(show_command(alloc)?)?;
     let joins = shows.subcommand(join_command(alloc)?)?;
     joins.subcommand(write_command(alloc)?)
 }

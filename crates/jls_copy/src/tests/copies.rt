@@ -7,7 +7,7 @@ use std::test::Fail;
 
 /// The bytes of a copy, and what it gives: its readings as component, line and samples, then each faulty piece as scan, interval,
 /// offset and kind, their number and the copy's end; or the fault for which it has no picture.
-const COPIES: [(&str, &str); 25] = [
+const COPIES: [(&str, &str); 32] = [
     // A picture of four lines.
     (
         "FF D8 FF F7 00 0B 08 00 04 00 04 01 01 11 00 FF DA 00 08 01 01 00 00 00 00 C0 00 00 6C 80 20 8E 01 C0 00 00 \
@@ -142,6 +142,41 @@ const COPIES: [(&str, &str); 25] = [
     (
         "FF D8 FF F7 00 0B 08 00 01 00 01 01 01 11 00 FF DA 00 08 01 01 00 00 00 00 80 FF D9 FF DA 00",
         "0.0=[0] | 0 Eoi(26)",
+    ),
+    // The input ends before the first bit of two lines.
+    (
+        "FF D8 FF F7 00 0B 08 00 02 00 01 01 01 11 00 FF DA 00 08 01 01 00 00 00 00",
+        "| 0 0 25 Broken; 1 Input(25)",
+    ),
+    // It ends in the zeros of line 1.
+    (
+        "FF D8 FF F7 00 0B 08 00 02 00 01 01 01 11 00 FF DA 00 08 01 01 00 00 00 00 50",
+        "0.0=[1] | 0 0 25 Broken; 1 Input(26)",
+    ),
+    // It ends in an escape of line 1 that can still be a number.
+    (
+        "FF D8 FF F7 00 0B 08 00 02 00 01 01 01 11 00 FF DA 00 08 01 01 00 00 00 00 50 00 00 15",
+        "0.0=[1] | 0 0 25 Broken; 1 Input(29)",
+    ),
+    // It ends in an escape that could only be a number which has a short code.
+    (
+        "FF D8 FF F7 00 0B 08 00 02 00 01 01 01 11 00 FF DA 00 08 01 01 00 00 00 00 50 00 00 10",
+        "| 0 0 25 Broken; 1 Input(29)",
+    ),
+    // Behind so many zeros that no code begins with them.
+    (
+        "FF D8 FF F7 00 0B 08 00 02 00 01 01 01 11 00 FF DA 00 08 01 01 00 00 00 00 50 00 00 00 00",
+        "| 0 0 25 Broken; 1 Input(30)",
+    ),
+    // FF bytes that end the input are dropped first.
+    (
+        "FF D8 FF F7 00 0B 08 00 02 00 01 01 01 11 00 FF DA 00 08 01 01 00 00 00 00 50 00 FF FF",
+        "0.0=[1] | 0 0 25 Broken; 1 Input(29)",
+    ),
+    // A marker closes the piece, which has no head then.
+    (
+        "FF D8 FF F7 00 0B 08 00 02 00 01 01 01 11 00 FF DA 00 08 01 01 00 00 00 00 50 00 FF D9",
+        "| 0 0 25 Broken; 1 Eoi(27)",
     ),
 ];
 
@@ -295,5 +330,33 @@ fn a_long_comment(rt: HostRuntime) -> Result<(), Fail> {
     bytes.extend_from_slice(&picture)?;
     let read = read_in_pieces(rt.alloc(), &bytes, 1000);
     assert_eq!(rt; told(rt.alloc(), read)?.as_str(), "0.0=[0] | 0 Eoi(65563)");
+    Ok(())
+}
+
+/// The copy of four lines, of which the input ends behind so many bytes of the scan data: 30 bytes and EOI.
+#[test]
+fn cut_copies(rt: HostRuntime) -> Result<(), Fail> {
+    let alloc = rt.alloc();
+    for left in 0..=31usize {
+        let end = 25 + left;
+        let mut bytes = bytes_of(alloc, COPIES[0].0)?;
+        bytes.truncate(end);
+        let lines = match left {
+            0..6 => "",
+            6..17 => "0.0=[0, 0, 90, 74] ",
+            17..26 => "0.0=[0, 0, 90, 74] 0.1=[68, 50, 43, 205] ",
+            26..30 => "0.0=[0, 0, 90, 74] 0.1=[68, 50, 43, 205] 0.2=[64, 145, 145, 145] ",
+            _ =>
+                "0.0=[0, 0, 90, 74] 0.1=[68, 50, 43, 205] 0.2=[64, 145, 145, 145] 0.3=[100, 145, 145, 145] ",
+        };
+        let record = if left < 30 { "0 0 25 Broken; 1" } else { "0" };
+        let wanted = format!(in alloc; "{lines}| {record} Input({end})")?;
+        let read = read_in_pieces(alloc, &bytes, 5);
+        assert_eq!(rt;
+            told(alloc, read)?.as_str(),
+            wanted.as_str(),
+            "of the first {end} bytes"
+        );
+    }
     Ok(())
 }

@@ -1,4 +1,4 @@
-//! Texts that were written out by hand, and what is wrong with each change of them.
+//! Texts that were written out by hand, and what is wrong with each change of them. All but one are of version 1.
 
 use crate::{Partial, TextFault};
 use jls_values::Shape;
@@ -9,6 +9,12 @@ use std::test::Fail;
 const TWO_READINGS: [u8; 31] = [
     0x4A, 0x4C, 0x53, 0x50, 1, 8, 0, 1, 0, 1, 1, 1, 0, 0, 0, 1, 0, 0, 0, 0, 0, 0, 0, 0, 0, 0, 2, 0,
     3, 0, 5,
+];
+
+/// The same picture, read as 3 under the sources 2 and 7, in version 2.
+const TWO_SOURCES: [u8; 45] = [
+    0x4A, 0x4C, 0x53, 0x50, 2, 8, 0, 1, 0, 1, 1, 1, 0, 0, 0, 1, 0, 0, 0, 0, 0, 0, 0, 0, 0, 0, 1, 0,
+    3, 0, 0, 0, 0, 0, 0, 0, 2, 0, 0, 0, 2, 0, 0, 0, 7,
 ];
 
 /// The components with the identifiers 1 and 2, one sample each: 7 and 9.
@@ -37,10 +43,41 @@ fn reads_a_text(rt: HostRuntime) -> Result<(), Fail> {
     wanted.insert(0, 0, &[3])?;
     let read = Partial::from_bytes(rt.alloc(), &TWO_READINGS)?;
     assert!(rt; read == wanted);
-    assert_eq!(rt;
-        read.to_bytes(rt.alloc())?.as_slice(),
-        TWO_READINGS.as_slice()
-    );
+    Ok(())
+}
+
+#[test]
+fn reads_the_sources_of_version_2(rt: HostRuntime) -> Result<(), Fail> {
+    let mut wanted = Partial::empty(rt.alloc(), Shape::new(8, 1, 1, &[1])?);
+    wanted.insert(0, 0, &[3])?;
+    wanted.mark(7)?;
+    wanted.mark(2)?;
+    assert!(rt; Partial::from_bytes(rt.alloc(), &TWO_SOURCES)? == wanted);
+    for (at, byte, fault) in [
+        (4, 1, TextFault::Trailing(29)),
+        (4, 3, TextFault::Magic(4)),
+        (36, 0, TextFault::Trailing(37)),
+        (36, 3, TextFault::Truncated(45)),
+        (40, 7, TextFault::Order(41)),
+        (44, 2, TextFault::Order(41)),
+        (44, 1, TextFault::Order(41)),
+    ] {
+        let mut text = TWO_SOURCES;
+        if let Some(old) = text.get_mut(at) {
+            *old = byte;
+        }
+        assert_eq!(rt;
+            fault_of(rt.alloc(), &text),
+            Some(fault),
+            "byte {at} is {byte}"
+        );
+    }
+    for length in 0..45 {
+        assert_eq!(rt;
+            fault_of(rt.alloc(), &TWO_SOURCES[..length]),
+            Some(TextFault::Truncated(length as u64))
+        );
+    }
     Ok(())
 }
 
@@ -98,7 +135,8 @@ fn finds_the_fault_of_one_byte(rt: HostRuntime) {
         (1, 0x4A, TextFault::Magic(1)),
         (2, 0x4A, TextFault::Magic(2)),
         (3, 0x4A, TextFault::Magic(3)),
-        (4, 2, TextFault::Magic(4)),
+        (4, 2, TextFault::Truncated(31)),
+        (4, 3, TextFault::Magic(4)),
         (5, 1, TextFault::BadShape(5)),
         (5, 17, TextFault::BadShape(5)),
         (7, 0, TextFault::BadShape(5)),

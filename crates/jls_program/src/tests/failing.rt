@@ -25,6 +25,22 @@ fn stops_where_a_read_fails(rt: HostRuntime) -> Result<(), Fail> {
     Ok(())
 }
 
+#[test]
+fn keeps_what_was_read_of_a_copy(rt: HostRuntime) -> Result<(), Fail> {
+    let manners = Manners {
+        reads_fail_at: Some(45),
+        ..GOOD
+    };
+    let found = run_words(rt.alloc(), "check whole", manners)?;
+    assert_eq!(rt; found.status, 4);
+    assert_eq!(rt;
+        found.report.as_slice(),
+        b"end input 45\nread failed 45\npicture 1x10, 8 bits, components 1\nsettled 5, missing 5, disputed 0\nmissing 1 5-9\n".as_slice()
+    );
+    assert!(rt; found.faults.is_empty());
+    Ok(())
+}
+
 /// OUT takes so many bytes, and the line says how many.
 fn check_write_failure(
     rt: &impl Abort,
@@ -50,7 +66,7 @@ fn check_write_failure(
 
 #[test]
 fn stops_where_a_write_fails(rt: HostRuntime) -> Result<(), Fail> {
-    for n in 0..31 {
+    for n in 0..47 {
         for most in [1, 7, usize::MAX] {
             check_write_failure(&rt, rt.alloc(), "join OUT T", most, &DISPUTED[..n])?;
         }

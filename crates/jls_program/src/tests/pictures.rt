@@ -1,26 +1,35 @@
-//! Partial pictures as files: four of one shape, others of other shapes, and bytes that are no text of one.
+//! Partial pictures as files: four of one shape, others of other shapes, and bytes that are no text of one; and copies.
 
+use super::copies;
 use super::memory::File;
 
-/// A picture of one line with one sample: the line has the readings 3 and 5.
-pub(super) const DISPUTED: &[u8] =
-    b"JLSP\x01\x08\0\x01\0\x01\x01\x01\0\0\0\x01\0\0\0\0\0\0\0\0\0\0\x02\0\x03\0\x05";
+/// A picture of one line with one sample: the line has the readings 3 and 5, under no source.
+pub(super) const DISPUTED: &[u8] = b"\
+JLSP\x02\x08\0\x01\0\x01\x01\x01\0\0\0\x01\0\0\0\0\0\0\0\0\0\0\x02\0\x03\0\0\0\0\0\0\0\0\0\x05\
+\0\0\0\0\0\0\0\0";
 /// The same line with the reading 0.
-const SETTLED: &[u8] = b"JLSP\x01\x08\0\x01\0\x01\x01\x01\0\0\0\x01\0\0\0\0\0\0\0\0\0\0\x01\0\0";
+const SETTLED: &[u8] = b"\
+JLSP\x02\x08\0\x01\0\x01\x01\x01\0\0\0\x01\0\0\0\0\0\0\0\0\0\0\x01\0\0\0\0\0\0\0\0\0\0";
 /// All three readings.
-const BOTH: &[u8] =
-    b"JLSP\x01\x08\0\x01\0\x01\x01\x01\0\0\0\x01\0\0\0\0\0\0\0\0\0\0\x03\0\0\0\x03\0\x05";
+const BOTH: &[u8] = b"\
+JLSP\x02\x08\0\x01\0\x01\x01\x01\0\0\0\x01\0\0\0\0\0\0\0\0\0\0\x03\0\0\0\0\0\0\0\0\0\0\0\x03\
+\0\0\0\0\0\0\0\0\0\x05\0\0\0\0\0\0\0\0";
 /// No reading of that picture.
-const BARE: &[u8] = b"JLSP\x01\x08\0\x01\0\x01\x01\x01\0\0\0\0";
+const BARE: &[u8] = b"JLSP\x02\x08\0\x01\0\x01\x01\x01\0\0\0\0";
 /// No reading of a picture that has a component 2 in place of the component 1.
-const OTHER: &[u8] = b"JLSP\x01\x08\0\x01\0\x01\x01\x02\0\0\0\0";
+const OTHER: &[u8] = b"JLSP\x02\x08\0\x01\0\x01\x01\x02\0\0\0\0";
+/// The readings 3 and 5 in version 1, as most pictures below are.
+const FIRST_VERSION: &[u8] =
+    b"JLSP\x01\x08\0\x01\0\x01\x01\x01\0\0\0\x01\0\0\0\0\0\0\0\0\0\0\x02\0\x03\0\x05";
 
-/// A picture of ten lines, each of one sample: its own number.
+/// A picture of ten lines, each of one sample: its own number, in version 2.
 const TEN: &[u8] = b"\
-JLSP\x01\x08\0\x01\0\x0a\x01\x01\0\0\0\x0a\0\0\0\0\0\0\0\0\0\0\x01\0\0\0\0\x01\0\0\0\0\0\0\
-\0\x01\0\x01\0\0\x02\0\0\0\0\0\0\0\x01\0\x02\0\0\x03\0\0\0\0\0\0\0\x01\0\x03\0\0\x04\0\0\0\
-\0\0\0\0\x01\0\x04\0\0\x05\0\0\0\0\0\0\0\x01\0\x05\0\0\x06\0\0\0\0\0\0\0\x01\0\x06\0\0\x07\
-\0\0\0\0\0\0\0\x01\0\x07\0\0\x08\0\0\0\0\0\0\0\x01\0\x08\0\0\x09\0\0\0\0\0\0\0\x01\0\x09";
+JLSP\x02\x08\0\x01\0\x0a\x01\x01\0\0\0\x0a\0\0\0\0\0\0\0\0\0\0\x01\0\0\0\0\0\0\0\0\0\0\0\0\
+\x01\0\0\0\0\0\0\0\x01\0\x01\0\0\0\0\0\0\0\0\0\0\x02\0\0\0\0\0\0\0\x01\0\x02\0\0\0\0\0\0\0\
+\0\0\0\x03\0\0\0\0\0\0\0\x01\0\x03\0\0\0\0\0\0\0\0\0\0\x04\0\0\0\0\0\0\0\x01\0\x04\0\0\0\0\
+\0\0\0\0\0\0\x05\0\0\0\0\0\0\0\x01\0\x05\0\0\0\0\0\0\0\0\0\0\x06\0\0\0\0\0\0\0\x01\0\x06\0\
+\0\0\0\0\0\0\0\0\0\x07\0\0\0\0\0\0\0\x01\0\x07\0\0\0\0\0\0\0\0\0\0\x08\0\0\0\0\0\0\0\x01\0\
+\x08\0\0\0\0\0\0\0\0\0\0\x09\0\0\0\0\0\0\0\x01\0\x09\0\0\0\0\0\0\0\0";
 /// The same with a second reading of the line 6, which is 8.
 const DOUBT: &[u8] = b"\
 JLSP\x01\x08\0\x01\0\x0a\x01\x01\0\0\0\x0a\0\0\0\0\0\0\0\0\0\0\x01\0\0\0\0\x01\0\0\0\0\0\0\
@@ -46,13 +55,14 @@ JLSP\x01\x08\0\x01\0\x01\x02\x01\x02\0\0\0\x02\0\0\0\0\0\0\0\0\0\0\x01\0\x0a\x01
 \0\0\0\0\x01\0\x0a";
 
 /// The files of the desk.
-pub(super) const FILES: [File<'static>; 24] = [
+pub(super) const FILES: [File<'static>; 33] = [
     ("T", DISPUTED),
     ("S", SETTLED),
     ("N", BARE),
     ("U", OTHER),
     ("-", SETTLED),
     ("both", BOTH),
+    ("first", FIRST_VERSION),
     ("ten", TEN),
     ("doubt", DOUBT),
     ("gap", GAP),
@@ -84,6 +94,10 @@ pub(super) const FILES: [File<'static>; 24] = [
         b"JLSP\x02\x08\0\x01\0\x01\x01\x01\0\0\0\x01\0\0\0\0\0\0\0\0\0\0\x02\0\x03\0\x05",
     ),
     (
+        "third",
+        b"JLSP\x03\x08\0\x01\0\x01\x01\x01\0\0\0\x01\0\0\0\0\0\0\0\0\0\0\x02\0\x03\0\x05",
+    ),
+    (
         "precision",
         b"JLSP\x01\x01\0\x01\0\x01\x01\x01\0\0\0\x01\0\0\0\0\0\0\0\0\0\0\x02\0\x03\0\x05",
     ),
@@ -95,6 +109,13 @@ pub(super) const FILES: [File<'static>; 24] = [
         "below",
         b"JLSP\x01\x08\0\x01\0\x01\x01\x01\0\0\0\x01\0\0\x01\0\0\0\0\0\0\0\x02\0\x03\0\x05",
     ),
+    ("whole", copies::WHOLE),
+    ("lost", copies::LOST),
+    ("struck", copies::STRUCK),
+    ("beyond", copies::BEYOND),
+    ("seven", copies::SEVEN),
+    ("near", copies::NEAR),
+    ("front", copies::FRONT),
     ("empty", b""),
     ("copy", b"\xff\xd8\xff\xd9"),
     ("dot", b"."),

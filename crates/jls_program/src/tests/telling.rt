@@ -1,13 +1,58 @@
 //! The commands on one input: what they print, write and refuse.
 
 use super::memory::{GOOD, Manners};
-use super::run_words;
+use super::{copies, run_words};
 use std::alloc::Global;
 use std::process::Abort;
 use std::test::Fail;
 
 /// The words and the report with its status.
-const SHOWN: [(&str, u8, &str); 7] = [
+const SHOWN: [(&str, u8, &str); 16] = [
+    (
+        "check whole",
+        0,
+        "end eoi 59\npicture 1x10, 8 bits, components 1\nsettled 10, missing 0, disputed 0\n",
+    ),
+    (
+        "check lost",
+        1,
+        "piece 0 3 40 long\nend eoi 57\npicture 1x10, 8 bits, components 1\nsettled 8, missing 2, disputed 0\nmissing 1 3-4\n",
+    ),
+    (
+        "check struck",
+        1,
+        "piece 0 2 37 broken\nend eoi 61\npicture 1x10, 8 bits, components 1\nsettled 9, missing 1, disputed 0\nmissing 1 2-2\n",
+    ),
+    (
+        "check beyond",
+        0,
+        "piece 0 14 61 beyond\nend eoi 61\npicture 1x10, 8 bits, components 1\nsettled 10, missing 0, disputed 0\n",
+    ),
+    (
+        "check seven",
+        1,
+        "end eoi 38\npicture 1x10, 8 bits, components 1\nsettled 3, missing 7, disputed 0\nmissing 1 1-7\n",
+    ),
+    (
+        "check near",
+        1,
+        "end fault 6 21\npicture 1x10, 8 bits, components 1\nsettled 0, missing 10, disputed 0\nmissing 1 0-9\n",
+    ),
+    (
+        "check front",
+        1,
+        "end input 45\npicture 1x10, 8 bits, components 1\nsettled 5, missing 5, disputed 0\nmissing 1 5-9\n",
+    ),
+    (
+        "show lost",
+        1,
+        "picture 1x10, 8 bits, components 1\nsettled 8, missing 2, disputed 0\nmissing 1 3-4\n",
+    ),
+    (
+        "check gap",
+        1,
+        "picture 1x10, 8 bits, components 1\nsettled 8, missing 2, disputed 0\nmissing 1 3-4\n",
+    ),
     (
         "show T",
         1,
@@ -46,7 +91,12 @@ const SHOWN: [(&str, u8, &str); 7] = [
 ];
 
 /// The words and the file that OUT is; the status is 0.
-const WRITTEN: [(&str, &[u8]); 6] = [
+const WRITTEN: [(&str, &[u8]); 11] = [
+    ("write --as jls OUT S", SETTLED_AS_JLS),
+    ("write --as jls --ri 1 OUT ten", copies::WHOLE),
+    ("write --as jls --ilv line OUT pair", PAIR_BY_LINE),
+    ("write --as jls OUT pair", PAIR_BY_NONE),
+    ("write --as pnm OUT whole", TEN_AS_PNM),
     ("write --as pnm OUT S", b"P5\n1 1\n255\n\0"),
     ("write --as pnm - -", b"P5\n1 1\n255\n\0"),
     ("write OUT ten --as=pnm", TEN_AS_PNM),
@@ -61,10 +111,31 @@ const WRITTEN: [(&str, &[u8]); 6] = [
     ),
 ];
 
+const SETTLED_AS_JLS: &[u8] =
+    b"\xff\xd8\xff\xf7\0\x0b\x08\0\x01\0\x01\x01\x01\x11\0\xff\xda\0\x08\x01\x01\0\0\0\0\x80\xff\xd9";
+
+const PAIR_BY_LINE: &[u8] = b"\xff\xd8\xff\xf7\0\x0e\x08\0\x01\0\x01\x02\x01\x11\0\x02\x11\0\
+\xff\xda\0\x0a\x02\x01\0\x02\0\0\x01\0\x07\x16\xff\xd9";
+
+const PAIR_BY_NONE: &[u8] = b"\xff\xd8\xff\xf7\0\x0e\x08\0\x01\0\x01\x02\x01\x11\0\x02\x11\0\
+\xff\xda\0\x08\x01\x01\0\0\0\0\x07\xff\xda\0\x08\x01\x02\0\0\0\0\x07\xff\xd9";
+
 const TEN_AS_PNM: &[u8] = b"P5\n1 10\n255\n\0\x01\x02\x03\x04\x05\x06\x07\x08\x09";
 
 /// The words, the status, and the line on the fault output; nothing is created or reported.
-const REFUSED: [(&str, u8, &str); 9] = [
+const REFUSED: [(&str, u8, &str); 13] = [
+    (
+        "write --as jls OUT T",
+        1,
+        "line 0 of component 1 is disputed",
+    ),
+    (
+        "write --as jls --ilv sample OUT S",
+        2,
+        "unknown value, see jls-salvage write --help",
+    ),
+    ("check copy", 3, "copy: no picture, fault 4 at 2"),
+    ("check A", 4, "A: cannot be opened"),
     ("show cut", 3, "cut: bad text, truncated at 30"),
     ("show A", 4, "A: cannot be opened"),
     (

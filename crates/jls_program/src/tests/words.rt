@@ -9,18 +9,21 @@ use std::io::Write;
 use std::test::Fail;
 
 /// Words and the status: 2 with a line on the fault output, or 0 with help or the version on the report output.
-const WORDS: [(&str, u8); 14] = [
+const WORDS: [(&str, u8); 17] = [
     ("", 2),
     ("join", 2),
     ("join OUT", 2),
     ("show", 2),
+    ("check", 2),
     ("show T S", 2),
     ("frobnicate T", 2),
     ("write OUT S", 2),
+    ("write --as jls --ri 65536 OUT S", 2),
     ("join --loud OUT T", 2),
     ("--help", 0),
     ("join --help", 0),
     ("show --help", 0),
+    ("check --help", 0),
     ("write --help", 0),
     ("help join", 0),
     ("--version", 0),

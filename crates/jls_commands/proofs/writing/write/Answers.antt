@@ -1,11 +1,12 @@
-use Rattle.std.proofs.Common.{refl, subst}
-use Rattle.std.specs.Prelude.{true}
+use Rattle.std.proofs.Common.{◌∙◌, ap, refl, subst}
 use Rattle.jls_device.specs.Event.{GrewBy}
-use Rattle.jls_station.specs.Inputs.{whole}
-use Rattle.jls_station.specs.Outputs.{HandsOut, StopsAtOutput}
-use Rattle.jls_picture.specs.Picture.{WholePicture}
-use Rattle.jls_commands.specs.WritingFiles.{file}
-use Rattle.jls_commands.proofs.Written.{stops_at_input, stops_unsettled, is_written, stops_at_output}
+use Rattle.jls_station.specs.Outputs.{HandsOut}
+use Rattle.jls_partial.specs.Partial.{PartialPicture}
+use Rattle.jls_partial.specs.Status.{IsSettled}
+use Rattle.jls_picture.specs.Picture.{WholePicture, picture_of}
+use Rattle.jls_picture.specs.Unsettled.{NamesFirstUnsettled}
+use Rattle.jls_commands.specs.WritingFiles.{file, Fits, takes_memory, StopsAtFile, unsettled_cause}
+use Rattle.jls_commands.proofs.Written.{stops_at_input, stops_unsettled, is_written, stops_at_file}
 use Rattle.jls_commands.proofs.writing.write.Goals as goal
 
 pub returns-in-Err : goal.returns-in-Err
@@ -16,21 +17,28 @@ returns-in-Err g c =
 pub returns-in-Err-of : goal.returns-in-Err-of
 returns-in-Err-of g c =
     let desk = g.D.Device.history in
-    stops_unsettled c.args.format c.args.out.now c.args.file.now (desk c.args.desk.now) (desk c.open_and_read.new.desk) (desk c.open_and_read.new.desk) (whole c.in-Ok.partial) c.in-Ok.ensures.taken
-    _ c.in-Err-of.fault c.in-Err-of.ensures.unsettled c.unsettled-cause.ensures
+    let is = c.partial-partial.ensures in
+    let first = subst (λ (p : PartialPicture). NamesFirstUnsettled p c.in-Err-of.fault) is c.in-Err-of.ensures.unsettled in
+    let because = c.unsettled-cause.ensures ∙ ap (λ (p : PartialPicture). unsettled_cause p c.in-Err-of.fault) is in
+    stops_unsettled c.args.format c.args.out.now c.args.file.now (desk c.args.desk.now) (desk c.open_and_read.new.desk) (desk c.open_and_read.new.desk) c.in-Ok.input c.in-Ok.ensures.taken
+    _ c.in-Err-of.fault refl first because
 
 pub returns-in-Ok-hand_out : goal.returns-in-Ok-hand_out
 returns-in-Ok-hand_out g c =
     let desk = g.D.Device.history in
+    let is = c.partial-partial.ensures in
+    let settled = subst IsSettled is c.in-Ok-of.ensures.settled in
     let handed = subst (λ (p : WholePicture). GrewBy (HandsOut c.args.out.now (file c.args.format p)) (desk c.open_and_read.new.desk) (desk c.hand_out.new.desk))
-    c.in-Ok-of.ensures.picture c.in-Ok-hand_out.ensures.written in
-    is_written c.args.format c.args.out.now c.args.file.now (desk c.args.desk.now) (desk c.open_and_read.new.desk) (desk c.hand_out.new.desk) (whole c.in-Ok.partial) c.in-Ok.ensures.taken
-    c.in-Ok-of.ensures.settled true (record { settled_is = (λ _. c.in-Ok-of.ensures.settled, λ _. refl); whole_is = (λ _. refl, λ _. refl) }) handed
+    (c.in-Ok-of.ensures.picture ∙ ap picture_of is) c.in-Ok-hand_out.ensures.written in
+    is_written c.args.format c.args.out.now c.args.file.now (desk c.args.desk.now) (desk c.open_and_read.new.desk) (desk c.hand_out.new.desk) c.in-Ok.input c.in-Ok.ensures.taken
+    settled c.is_whole.result (record { settled_is = (λ _. settled, λ _. refl); whole_is = c.is_whole.ensures })
+    (subst (Fits c.args.format) (c.in-Ok-of.ensures.picture ∙ ap picture_of is) c.in-Ok-hand_out.ensures.fit) handed
 
 pub returns : goal.returns
 returns g c =
     let desk = g.D.Device.history in
-    let stopped = subst (λ (p : WholePicture). GrewBy (StopsAtOutput c.args.out.now (file c.args.format p) c.in-Err-hand_out.cause) (desk c.open_and_read.new.desk) (desk c.hand_out.new.desk))
-    c.in-Ok-of.ensures.picture c.in-Err-hand_out.ensures.stopped in
-    stops_at_output c.args.format c.args.out.now c.args.file.now (desk c.args.desk.now) (desk c.open_and_read.new.desk) (desk c.hand_out.new.desk) (whole c.in-Ok.partial) c.in-Ok.ensures.taken
-    c.in-Ok-of.ensures.settled _ refl stopped
+    let is = c.partial-partial.ensures in
+    let stopped = subst (λ (p : WholePicture). GrewBy (StopsAtFile (Fits c.args.format p) (takes_memory c.args.format) c.args.out.now (file c.args.format p) c.in-Err-hand_out.cause) (desk c.open_and_read.new.desk) (desk c.hand_out.new.desk))
+    (c.in-Ok-of.ensures.picture ∙ ap picture_of is) c.in-Err-hand_out.ensures.stopped in
+    stops_at_file c.args.format c.args.out.now c.args.file.now (desk c.args.desk.now) (desk c.open_and_read.new.desk) (desk c.hand_out.new.desk) c.in-Ok.input c.in-Ok.ensures.taken
+    (subst IsSettled is c.in-Ok-of.ensures.settled) _ refl stopped

@@ -1,11 +1,6 @@
-use Rattle.std.proofs.Common.{◌≡◌, ◌+◌, ◌<◌, ℕ, Bool, true, false, List, [], ◌∷◌, drop, map, length, get_or, refl, sym, ap, ◌∙◌, subst, arith}
-use Rattle.std.specs.Prelude.{◌==◌}
+use Rattle.std.proofs.Common.{ap, ◌∙◌, subst, arith}
 use Rattle.std.proofs.lemmas.Bool.Decides.{nat_tests}
-use Rattle.jls_values.specs.Shape.{PictureShape}
-use Rattle.jls_partial.specs.InsertFaults.{reading_fault}
-use Rattle.jls_copy.specs.Findings.{with_readings}
 use Rattle.jls_copy.specs.Fits.{FitFrom}
-use Rattle.jls_copy.specs.Pieces.{placed}
 use Rattle.jls_copy.proofs.Fitting.{seen_drop, takes_here, fit_beside, fit_below}
 use Rattle.jls_copy.proofs.findings.take_lines.Goals as goal
 use Rattle.jls_copy.proofs.findings.take_lines.Goals.{then-place-components, else-place-components}

@@ -1,4 +1,4 @@
-use Rattle.std.proofs.Common.{◌≡◌, ℕ, ◌+◌, ◌≤◌, ◌++◌, length, sym, ap, ◌∙◌, arith, append_assoc, length-append}
+use Rattle.std.proofs.Common.{◌++◌, length, sym, ap, ◌∙◌, arith, append_assoc, length-append}
 use Rattle.jls_bits.specs.Bits.{bits}
 use Rattle.jls_bits.proofs.NumberBits.{length-bits}
 use Rattle.jls_interval.proofs.interval_decoder.append_byte.Goals as goal

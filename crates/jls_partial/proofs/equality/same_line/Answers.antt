@@ -1,30 +1,49 @@
-use Rattle.std.proofs.Common.{◌∙◌, ◌∷◌, List, ℕ, map, ap, sym}
-use Rattle.jls_partial.specs.Partial.{readings_at}
+use Rattle.std.proofs.Common.{◌≡◌, ◌∙◌, ◌<◌, ◌++◌, ◌∷◌, [], List, ℕ, length, take, ap, sym, arith}
+use Rattle.jls_values.specs.OrderedSet.{items}
+use Rattle.jls_partial.specs.LineSet.{kept_lines}
 use Rattle.jls_partial.specs.PartialLaws.{same_list}
-use Rattle.jls_partial.proofs.SameReadings.{same_next, same_end, apart_lists}
-use Rattle.jls_partial.proofs.Yielded.{yielded_more}
+use Rattle.jls_partial.specs.Packed.{Kept}
+use Rattle.jls_partial.proofs.Growth.{kept_more}
+use Rattle.jls_partial.proofs.SameEntries.{apart_lists, samples_same, sources_same}
 use Rattle.jls_partial.proofs.equality.same_line.Goals as goal
 
-pub returns-then-not-same : goal.returns-then-not-same
-returns-then-not-same c = (
+pub returns-then-not-same_samples : goal.returns-then-not-same_samples
+returns-then-not-same_samples c = (
   λ e. absurd cc,
-  λ same. absurd (apart_lists c.in-Some.samples.now c.in-Some-next.others.now (sym c.eq-same.ensures ∙ c.if-not-same.true)
-      (same_next (readings_at c.args.one.now c.args.component c.args.line) (readings_at c.args.other.now c.args.component c.args.line) (map (λ samples. samples.now) c.loop-samples.yielded) c.loop-samples.samples-iterator c.loop-samples.left
-      c.loop-samples.invariant.lent c.loop-samples.invariant.left c.in-Some.samples.now c.in-Some-next.others.now c.next.new.self c.next-in-loop-samples.new.self c.in-Some.ensures.steps c.in-Some-next.ensures.steps same)),
+  λ same. absurd (apart_lists c.get.result.now c.get-in-loop-i.result.now (sym c.eq-same_samples.ensures ∙ c.if-not-same_samples.true)
+      (samples_same c.args.one.now c.args.other.now c.loop-i.i c.get.result.now c.get-in-loop-i.result.now c.get.ensures.value c.get-in-loop-i.ensures.value same)),
 )
 
-pub loop-samples-preserved : goal.loop-samples-preserved
-loop-samples-preserved c =
-    let same = same_list c.in-Some.samples.now c.in-Some-next.others.now (sym c.eq-same.ensures ∙ c.if-not-same.false) in
-    record {
-      can_next = tt;
-      is_finite = tt;
-      lent = yielded_more (λ samples. samples.now) (readings_at c.args.one.now c.args.component c.args.line) c.loop-samples.yielded c.in-Some.samples c.loop-samples.samples-iterator c.next.new.self c.loop-samples.invariant.lent c.in-Some.ensures.steps;
-      left = yielded_more (λ samples. samples.now) (readings_at c.args.other.now c.args.component c.args.line) c.loop-samples.yielded c.in-Some.samples c.loop-samples.left c.next-in-loop-samples.new.self c.loop-samples.invariant.left
-          (c.in-Some-next.ensures.steps ∙ ap (λ (x : List ℕ). x ∷ c.next-in-loop-samples.new.self) (sym same));
-    }
+pub returns-then-not-same_sources : goal.returns-then-not-same_sources
+returns-then-not-same_sources c =
+    let L = c.args.one.now in
+    let M = c.args.other.now in
+    let i = c.loop-i.i in
+    let lens = c.if-len.false in
+    let l1 = c.len.ensures.value in
+    let l2 = c.len-2.ensures.value in
+    let end = c.len-i-end.ensures.value in
+    let lt : i < length (items L.lines) = omega (arith, end, c.loop-i-test.true) in
+    let lt' : i < length (items M.lines) = omega (arith, lens, l1, l2, lt) in (
+      λ e. absurd cc,
+      λ same. absurd (apart_lists c.sources.result.now c.sources-in-loop-i.result.now (sym c.eq-same_sources.ensures ∙ c.if-not-same_sources.true)
+          (sources_same L M i c.get.result.now c.get-in-loop-i.result.now c.sources.result.now c.sources-in-loop-i.result.now lt lt' c.get.ensures.value c.get-in-loop-i.ensures.value c.sources.ensures c.sources-in-loop-i.ensures same)),
+    )
 
-pub returns : goal.returns
-returns c =
-    same_end (readings_at c.args.one.now c.args.component c.args.line) (readings_at c.args.other.now c.args.component c.args.line) (map (λ samples. samples.now) c.loop-samples.yielded) c.loop-samples.samples-iterator c.loop-samples.left
-    c.loop-samples.invariant.lent c.loop-samples.invariant.left (λ samples. samples.now) c.next-2.result c.next-2.new.self c.is_none.result c.in-None.ensures.steps.0 c.next-2.ensures.steps c.is_none.ensures
+pub loop-i-preserved : goal.loop-i-preserved
+loop-i-preserved c =
+    let L = c.args.one.now in
+    let M = c.args.other.now in
+    let i = c.loop-i.i in
+    let lens = c.if-len.false in
+    let l1 = c.len.ensures.value in
+    let l2 = c.len-2.ensures.value in
+    let end = c.len-i-end.ensures.value in
+    let lt : i < length (items L.lines) = omega (arith, end, c.loop-i-test.true) in
+    let lt' : i < length (items M.lines) = omega (arith, lens, l1, l2, lt) in
+    let x = same_list c.get.result.now c.get-in-loop-i.result.now (sym c.eq-same_samples.ensures ∙ c.if-not-same_samples.false) in
+    let ss = same_list c.sources.result.now c.sources-in-loop-i.result.now (sym c.eq-same_sources.ensures ∙ c.if-not-same_sources.false) in
+    let k = λ (x ss : List ℕ). let k : Kept = (x, ss) in k in
+    kept_more L i c.get.result.now c.sources.result.now lt c.get.ensures.value c.sources.ensures
+    ∙ (λ j. c.loop-i.invariant j ++ k (x j) (ss j) ∷ [])
+    ∙ sym (kept_more M i c.get-in-loop-i.result.now c.sources-in-loop-i.result.now lt' c.get-in-loop-i.ensures.value c.sources-in-loop-i.ensures)

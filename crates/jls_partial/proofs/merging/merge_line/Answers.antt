@@ -1,30 +1,56 @@
-use Rattle.std.proofs.Common.{◌≡◌, ◌∙◌, ◌++◌, ◌∷◌, [], List, ℕ, map, ap, sym, subst}
-use Rattle.std.proofs.lemmas.List.{map-append}
-use Rattle.jls_partial.specs.Merging.{with_all, Grows}
-use Rattle.jls_partial.specs.Partial.{PartialPicture, readings_at}
-use Rattle.jls_partial.specs.Reading.{Reading, reading_of}
-use Rattle.jls_partial.proofs.Growth.{with_all-push, grows_front}
-use Rattle.jls_partial.proofs.Yielded.{yielded_more}
+use Rattle.std.proofs.Common.{◌≡◌, ◌<◌, ◌++◌, ◌∷◌, [], ◌∙◌, List, ℕ, None, length, map, take, drop, ap, sym, subst, arith}
+use Rattle.std.proofs.lemmas.List.{map-append, append-nil, length-map, take_at, take-append-drop}
+use Rattle.std.proofs.lemmas.Result.{err_from_is_err_and}
+use Rattle.jls_values.specs.OrderedSet.{items}
+use Rattle.jls_values.specs.Shape.{PictureShape}
+use Rattle.jls_partial.specs.Entries.{kept_at_place}
+use Rattle.jls_partial.specs.InsertFaults.{reading_fault}
+use Rattle.jls_partial.specs.LineSet.{kept_lines, line_sources}
+use Rattle.jls_partial.specs.Merging.{TakesFront}
+use Rattle.jls_partial.specs.Packed.{Kept}
+use Rattle.jls_partial.specs.Partial.{PartialPicture, with_all}
+use Rattle.jls_partial.proofs.Growth.{kept_more, with_all-append}
+use Rattle.jls_partial.proofs.Views.{all-slice_get}
 use Rattle.jls_partial.proofs.merging.merge_line.Goals as goal
 
-pub returns-in-Err-clause-err : goal.returns-in-Err-clause-err
-returns-in-Err-clause-err c =
-    let f = reading_of c.args.component c.args.line in
-    let taken = map (λ samples. samples.now) c.loop-samples.yielded in
-    let left = c.loop-samples.samples-iterator in
-    let whole : map f taken ++ map f left ≡ map f (readings_at c.args.other.now c.args.component c.args.line) = sym (map-append f taken left) ∙ ap (map f) (sym c.loop-samples.invariant.lent) in
-    subst (λ (q : PartialPicture). Grows c.args.into.now q (map f (readings_at c.args.other.now c.args.component c.args.line))) (sym (c.in-Err.ensures.unchanged ∙ c.loop-samples.invariant.taken))
-    (subst (λ (rs : List Reading). Grows c.args.into.now (with_all c.args.into.now (map f taken)) rs) whole
-    (grows_front c.args.into.now (map f taken) (map f left)))
+pub take-requires : goal.take-requires
+take-requires c =
+    subst (λ (s : PictureShape). reading_fault s c.args.at.component c.args.at.line c.get.result.now ≡ None) (sym (ap (λ (p : PartialPicture). p.shape) c.loop-i.invariant))
+    (all-slice_get (λ x. reading_fault c.args.into.now.shape c.args.at.component c.args.at.line x ≡ None) (items c.args.lines.now.lines) c.loop-i.i c.get.result.now c.requires.entry.fitting c.get.ensures.value)
 
-pub loop-samples-preserved : goal.loop-samples-preserved
-loop-samples-preserved c =
-    let taken = map (λ samples. samples.now) c.loop-samples.yielded in
-    record {
-      can_next = tt;
-      is_finite = tt;
-      lent = yielded_more (λ samples. samples.now) (readings_at c.args.other.now c.args.component c.args.line) c.loop-samples.yielded c.in-Some.samples c.loop-samples.samples-iterator c.next.new.self c.loop-samples.invariant.lent c.in-Some.ensures.steps;
-      taken = c.in-Ok.ensures.held
-          ∙ with_all-push c.args.into.now c.loop-samples.into c.args.component c.args.line taken c.in-Some.samples.now c.loop-samples.invariant.taken
-          ∙ ap (λ (xs : List (List ℕ)). with_all c.args.into.now (map (reading_of c.args.component c.args.line) xs)) (sym (map-append (λ samples. samples.now) c.loop-samples.yielded (c.in-Some.samples ∷ [])));
-    }
+pub returns-in_err-take-clause-err : goal.returns-in_err-take-clause-err
+returns-in_err-take-clause-err c =
+    let p = err_from_is_err_and c.from_residual.result c.from_residual.ensures.1 in
+    let f = kept_at_place c.args.at in
+    let ks = kept_lines c.args.lines.now in
+    let i = c.loop-i.i in
+    rw p.1 (record {
+      taken = map f (take i ks);
+      left = map f (drop i ks);
+      parts = ap (map f) (sym (take-append-drop i ks)) ∙ map-append f (take i ks) (drop i ks);
+      new_is = c.in_err-take.ensures.err ∙ c.loop-i.invariant;
+    })
+
+pub loop-i-preserved : goal.loop-i-preserved
+loop-i-preserved c =
+    let f = kept_at_place c.args.at in
+    let L = c.args.lines.now in
+    let ks = kept_lines L in
+    let i = c.loop-i.i in
+    let k : Kept = (c.get.result.now, c.sources.result.now) in
+    let end = c.len-i-end.ensures.value in
+    let lt : i < length (items L.lines) = omega (arith, end, c.loop-i-test.true) in
+    c.in_ok-take.ensures.ok
+    ∙ ap (λ (p : PartialPicture). with_all p (f k ∷ [])) c.loop-i.invariant
+    ∙ sym (with_all-append c.args.into.now (map f (take i ks)) (f k ∷ []))
+    ∙ ap (with_all c.args.into.now) (sym (ap (map f) (kept_more L i k.0 k.1 lt c.get.ensures.value c.sources.ensures) ∙ map-append f (take i ks) (k ∷ [])))
+
+pub returns-clause-ok : goal.returns-clause-ok
+returns-clause-ok c =
+    let L = c.args.lines.now in
+    let ks = kept_lines L in
+    let g = λ (y : List ℕ). let k : Kept = (y, line_sources L y) in k in
+    let many : length ks ≡ length (items L.lines) = length-map (items L.lines) g in
+    let end = c.len-i-end.ensures.value in
+    let all : length ks ≡ c.loop-i.i = omega (arith, many, end) in
+    c.loop-i.invariant ∙ ap (λ xs. with_all c.args.into.now (map (kept_at_place c.args.at) xs)) (ap (take c.loop-i.i) (sym (append-nil ks)) ∙ take_at ks [] c.loop-i.i all)

@@ -1,13 +1,8 @@
-use Rattle.std.proofs.Common.{◌≡◌, ◌++◌, map}
-use Rattle.jls_partial.specs.Merging.{with_all}
-use Rattle.jls_partial.specs.Partial.{readings_at}
-use Rattle.jls_partial.specs.Reading.{reading_of}
+use Rattle.std.proofs.Common.{◌≡◌, map, take}
+use Rattle.jls_partial.specs.Entries.{kept_at_place}
+use Rattle.jls_partial.specs.LineSet.{kept_lines}
+use Rattle.jls_partial.specs.Partial.{with_all}
 use Rattle.jls_partial.proofs.merging.merge_line.Given as goal
 
-abbrev pub invariant-loop-samples : goal.invariant-loop-samples
-invariant-loop-samples l = record {
-  can_next : (goal.iterator-loop-samples).can_next l.samples-iterator;
-  is_finite : (goal.iterator-loop-samples).is_finite l.samples-iterator;
-  lent : readings_at l.other l.component l.line ≡ map (λ samples. samples.now) l.yielded ++ l.samples-iterator;
-  taken : l.into ≡ with_all l.fn.into (map (reading_of l.component l.line) (map (λ samples. samples.now) l.yielded));
-}
+abbrev pub invariant-loop-i : goal.invariant-loop-i
+invariant-loop-i l = l.into ≡ with_all l.fn.into (map (kept_at_place l.at) (take l.i (kept_lines l.lines)))

@@ -11,9 +11,9 @@ returns-in_err-at c =
     let p = err_from_is_err_and c.from_residual.result c.from_residual.ensures.1 in
     let shape = c.args.partial.now.shape in
     let e = c.in_err-at.field-0.0 in
-    let failed : Fails e (with_entry c.loop.partial (entry_fields c.args.size shape c.loop.before c.loop.rest.now)) =
-    subst (λ (s : PictureShape). Fails e (with_entry c.loop.partial (entry_fields c.args.size s c.loop.before c.loop.rest.now))) c.loop.invariant.shape c.in_err-at.ensures in
-    rw (p.1, p.2) (entries_end e c.args.size shape c.loop.partial c.loop.before c.args.count c.loop.counter c.loop.rest.now (with_entries c.args.partial.now (entries_fields c.args.size shape None c.args.count c.args.bytes.now)) c.loop-test.true failed c.loop.invariant.same)
+    let failed : Fails e (with_entry c.loop.partial (entry_fields c.args.form.size c.args.form.version shape c.loop.before c.loop.rest.now)) =
+    subst (λ (s : PictureShape). Fails e (with_entry c.loop.partial (entry_fields c.args.form.size c.args.form.version s c.loop.before c.loop.rest.now))) c.loop.invariant.shape c.in_err-at.ensures in
+    rw (p.1, p.2) (entries_end e c.args.form.size c.args.form.version shape c.loop.partial c.loop.before c.args.count c.loop.counter c.loop.rest.now (with_entries c.args.partial.now (entries_fields c.args.form.size c.args.form.version shape None c.args.count c.args.bytes.now)) c.loop-test.true failed c.loop.invariant.same)
 
 pub loop-preserved : goal.loop-preserved
 loop-preserved c =
@@ -21,14 +21,14 @@ loop-preserved c =
     let q = c.read_entry.new.partial in
     let at = c.in_ok-at.at in
     let after = c.in_ok-at.after.now in
-    let total = with_entries c.args.partial.now (entries_fields c.args.size shape None c.args.count c.args.bytes.now) in
-    let read : with_entry c.loop.partial (entry_fields c.args.size shape c.loop.before c.loop.rest.now) ≡ Ok (q, at, after) =
-    subst (λ (s : PictureShape). with_entry c.loop.partial (entry_fields c.args.size s c.loop.before c.loop.rest.now) ≡ Ok (q, at, after)) c.loop.invariant.shape c.in_ok-at.ensures in
+    let total = with_entries c.args.partial.now (entries_fields c.args.form.size c.args.form.version shape None c.args.count c.args.bytes.now) in
+    let read : with_entry c.loop.partial (entry_fields c.args.form.size c.args.form.version shape c.loop.before c.loop.rest.now) ≡ Ok (q, at, after) =
+    subst (λ (s : PictureShape). with_entry c.loop.partial (entry_fields c.args.form.size c.args.form.version s c.loop.before c.loop.rest.now) ≡ Ok (q, at, after)) c.loop.invariant.shape c.in_ok-at.ensures in
     record {
-      shape = entry_keeps_shape c.args.size shape c.loop.partial q c.loop.before c.loop.rest.now at after read ∙ c.loop.invariant.shape;
-      same = entries_go_on c.args.size shape c.loop.partial q c.loop.before c.args.count c.loop.counter c.loop.rest.now at after total c.loop-test.true read c.loop.invariant.same;
+      shape = entry_keeps_shape c.args.form.size c.args.form.version shape c.loop.partial q c.loop.before c.loop.rest.now at after read ∙ c.loop.invariant.shape;
+      same = entries_go_on c.args.form.size c.args.form.version shape c.loop.partial q c.loop.before c.args.count c.loop.counter c.loop.rest.now at after total c.loop-test.true read c.loop.invariant.same;
     }
 
 pub returns : goal.returns
 returns c =
-    entries_done c.args.size c.args.partial.now.shape c.loop.partial c.loop.before c.args.count c.loop.counter c.loop.rest.now (with_entries c.args.partial.now (entries_fields c.args.size c.args.partial.now.shape None c.args.count c.args.bytes.now)) c.loop-test.false c.loop.invariant.same
+    entries_done c.args.form.size c.args.form.version c.args.partial.now.shape c.loop.partial c.loop.before c.args.count c.loop.counter c.loop.rest.now (with_entries c.args.partial.now (entries_fields c.args.form.size c.args.form.version c.args.partial.now.shape None c.args.count c.args.bytes.now)) c.loop-test.false c.loop.invariant.same

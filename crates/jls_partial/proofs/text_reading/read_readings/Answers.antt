@@ -1,14 +1,15 @@
-use Rattle.std.proofs.Common.{◌≡◌, ◌+◌, ◌-◌, ◌∙◌, ap, sym, subst, List, ℕ, None, Some, Ok}
+use Rattle.std.proofs.Common.{◌≡◌, ◌+◌, ◌-◌, ◌∙◌, ◌∷◌, [], ap, sym, subst, List, ℕ, None, Some, Ok}
 use Rattle.std.proofs.lemmas.Result.{err_from_is_err_and}
 use Rattle.std.specs.Option.{option_map}
 use Rattle.jls_values.specs.Shape.{PictureShape}
+use Rattle.jls_partial.specs.Entries.{at_place}
 use Rattle.jls_partial.specs.InsertFaults.{reading_fault}
-use Rattle.jls_partial.specs.Partial.{PartialPicture, with_reading}
+use Rattle.jls_partial.specs.Packed.{Kept}
+use Rattle.jls_partial.specs.Partial.{PartialPicture, with_all}
 use Rattle.jls_partial.specs.TextInto.{with_readings}
-use Rattle.jls_partial.specs.TextReading.{Fails, reading_fields, readings_fields}
+use Rattle.jls_partial.specs.TextReading.{Fails, kept_fields, readings_fields}
 use Rattle.jls_partial.proofs.TextLaws.{fits_there}
-use Rattle.jls_partial.proofs.TextLoops.{readings_go_on, readings_end, readings_done}
-use Rattle.jls_partial.proofs.TextReadings.{reading_fits}
+use Rattle.jls_partial.proofs.TextLoops.{kept_fits, with_kept, readings_go_on, readings_end, readings_done}
 use Rattle.jls_partial.proofs.text_reading.read_readings.Goals as goal
 
 pub returns-in_err-samples : goal.returns-in_err-samples
@@ -17,18 +18,23 @@ returns-in_err-samples c =
     let shape = c.args.partial.now.shape in
     let before = option_map (λ v. v.items) c.loop.before in
     let e = c.in_err-samples.field-0.0 in
-    let failed : Fails e (reading_fields c.args.size shape before c.loop.rest.now) =
-    subst (λ (s : PictureShape). Fails e (reading_fields c.args.size s before c.loop.rest.now)) (c.shape.ensures.value ∙ c.loop.invariant.shape) c.in_err-samples.ensures in
-    rw (p.1, p.2) (readings_end e c.args.size shape c.loop.partial c.args.at before c.args.count c.loop.counter c.loop.rest.now (with_readings c.args.partial.now c.args.at (readings_fields c.args.size shape None c.args.count c.args.bytes.now)) c.loop-test.true failed c.loop.invariant.same)
+    let size = c.args.form.size in
+    let version = c.args.form.version in
+    let failed : Fails e (kept_fields size version shape before c.loop.rest.now) =
+    subst (λ (s : PictureShape). Fails e (kept_fields size version s before c.loop.rest.now)) (c.shape.ensures.value ∙ c.loop.invariant.shape) c.in_err-samples.ensures in
+    rw (p.1, p.2) (readings_end e size version shape c.loop.partial c.args.at before c.args.count c.loop.counter c.loop.rest.now (with_readings c.args.partial.now c.args.at (readings_fields size version shape None c.args.count c.args.bytes.now)) c.loop-test.true failed c.loop.invariant.same)
 
-pub take_reading-requires : goal.take_reading-requires
-take_reading-requires c =
+pub take-requires : goal.take-requires
+take-requires c =
     let shape = c.args.partial.now.shape in
     let before = option_map (λ v. v.items) c.loop.before in
-    let xs = c.in_ok-samples.samples.items in
-    let read : reading_fields c.args.size shape before c.loop.rest.now ≡ Ok (xs, c.in_ok-samples.after.now) =
-    subst (λ (s : PictureShape). reading_fields c.args.size s before c.loop.rest.now ≡ Ok (xs, c.in_ok-samples.after.now)) (c.shape.ensures.value ∙ c.loop.invariant.shape) c.in_ok-samples.ensures in
-    let fits = fits_there shape c.args.at.component c.args.at.line xs c.requires.component_in c.requires.line_in (reading_fits c.args.size shape before c.loop.rest.now (xs, c.in_ok-samples.after.now) read) in
+    let size = c.args.form.size in
+    let version = c.args.form.version in
+    let k : Kept = (c.in_ok-samples.samples.items, c.in_ok-samples.sources.items) in
+    let after = c.in_ok-samples.after.now in
+    let read : kept_fields size version shape before c.loop.rest.now ≡ Ok (k, after) =
+    subst (λ (s : PictureShape). kept_fields size version s before c.loop.rest.now ≡ Ok (k, after)) (c.shape.ensures.value ∙ c.loop.invariant.shape) c.in_ok-samples.ensures in
+    let fits = fits_there shape c.args.at.component c.args.at.line k.0 c.requires.component_in c.requires.line_in (kept_fits size version shape before c.loop.rest.now (k, after) read) in
     subst (λ (s : PictureShape). reading_fault s c.args.at.component c.args.at.line c.deref.result.now ≡ None) (sym c.loop.invariant.shape)
     (subst (λ (ys : List ℕ). reading_fault shape c.args.at.component c.args.at.line ys ≡ None) (sym c.deref.ensures.value) fits)
 
@@ -36,18 +42,22 @@ pub loop-preserved : goal.loop-preserved
 loop-preserved c =
     let shape = c.args.partial.now.shape in
     let before = option_map (λ v. v.items) c.loop.before in
-    let xs = c.in_ok-samples.samples.items in
-    let total = with_readings c.args.partial.now c.args.at (readings_fields c.args.size shape None c.args.count c.args.bytes.now) in
-    let read : reading_fields c.args.size shape before c.loop.rest.now ≡ Ok (xs, c.in_ok-samples.after.now) =
-    subst (λ (s : PictureShape). reading_fields c.args.size s before c.loop.rest.now ≡ Ok (xs, c.in_ok-samples.after.now)) (c.shape.ensures.value ∙ c.loop.invariant.shape) c.in_ok-samples.ensures in
-    let taken : c.take_reading.new.partial ≡ with_reading c.loop.partial c.args.at.component c.args.at.line xs =
-    c.in_ok-take_reading.ensures.ok ∙ ap (with_reading c.loop.partial c.args.at.component c.args.at.line) c.deref.ensures.value in
+    let size = c.args.form.size in
+    let version = c.args.form.version in
+    let k : Kept = (c.in_ok-samples.samples.items, c.in_ok-samples.sources.items) in
+    let after = c.in_ok-samples.after.now in
+    let read : kept_fields size version shape before c.loop.rest.now ≡ Ok (k, after) =
+    subst (λ (s : PictureShape). kept_fields size version s before c.loop.rest.now ≡ Ok (k, after)) (c.shape.ensures.value ∙ c.loop.invariant.shape) c.in_ok-samples.ensures in
+    let total = with_readings c.args.partial.now c.args.at (readings_fields size version shape None c.args.count c.args.bytes.now) in
+    let taken : c.take.new.self ≡ with_kept c.loop.partial c.args.at k =
+    c.in_ok-take.ensures.ok ∙ (λ i. with_all c.loop.partial ((at_place c.args.at (c.deref.ensures.value i), c.deref-in-loop.ensures.value i) ∷ [])) in
     record {
       shape = ap (λ (q : PartialPicture). q.shape) taken ∙ c.loop.invariant.shape;
-      same = subst (λ (q : PartialPicture). with_readings q c.args.at (readings_fields c.args.size shape (Some xs) (c.args.count - (c.loop.counter + 1)) c.in_ok-samples.after.now) ≡ total) (sym taken)
-          (readings_go_on c.args.size shape c.loop.partial c.args.at before c.args.count c.loop.counter c.loop.rest.now xs c.in_ok-samples.after.now total c.loop-test.true read c.loop.invariant.same);
+      same = subst (λ (q : PartialPicture). with_readings q c.args.at (readings_fields size version shape (Some k.0) (c.args.count - (c.loop.counter + 1)) after) ≡ total) (sym taken)
+          (readings_go_on size version shape c.loop.partial c.args.at before c.args.count c.loop.counter c.loop.rest.now k after total c.loop-test.true read c.loop.invariant.same);
     }
 
 pub returns : goal.returns
 returns c =
-    readings_done c.args.size c.args.partial.now.shape c.loop.partial c.args.at (option_map (λ v. v.items) c.loop.before) c.args.count c.loop.counter c.loop.rest.now (with_readings c.args.partial.now c.args.at (readings_fields c.args.size c.args.partial.now.shape None c.args.count c.args.bytes.now)) c.loop-test.false c.loop.invariant.same
+    readings_done c.args.form.size c.args.form.version c.args.partial.now.shape c.loop.partial c.args.at (option_map (λ v. v.items) c.loop.before) c.args.count c.loop.counter c.loop.rest.now
+    (with_readings c.args.partial.now c.args.at (readings_fields c.args.form.size c.args.form.version c.args.partial.now.shape None c.args.count c.args.bytes.now)) c.loop-test.false c.loop.invariant.same

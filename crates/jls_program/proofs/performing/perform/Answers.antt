@@ -2,7 +2,7 @@ use Rattle.std.proofs.Common.{◌∷◌, None, ℕ, List, map, sym, subst}
 use Rattle.std.specs.Borrow.{Bor}
 use Rattle.jls_commands.specs.Histories.{GrewBoth}
 use Rattle.jls_commands.specs.WritingFiles.{WritesFile}
-use Rattle.jls_commands.specs.declared.writing.Format.TheVariants.{Pnm}
+use Rattle.jls_commands.specs.declared.writing.Format.TheVariants.{Pnm, Jls}
 use Rattle.jls_station.specs.Joining.{Joins}
 use Rattle.jls_words.specs.Asking.{asked_of}
 use Rattle.jls_words.specs.declared.asked.Asked.{Asked}
@@ -19,6 +19,13 @@ returns-in-Join g c =
     subst (λ (a : Asked). GrewBoth (CameOf (asked_of a) c.join.result) desk desk' report report) (sym c.in-Join.is)
     (desk_alone (Joins None c.in-Join.out.now names c.join.result) desk desk' report c.join.ensures)
 
+pub returns-in-Check : goal.returns-in-Check
+returns-in-Check g c =
+    let desk = g.D.Device.history in
+    let report = g.W.Device.history in
+    subst (λ (a : Asked). GrewBoth (CameOf (asked_of a) c.check.result) (desk c.args.desk.now) (desk c.check.new.desk) (report c.args.report.now) (report c.check.new.report))
+    (sym c.in-Check.is) c.check.ensures
+
 pub returns-in-Show : goal.returns-in-Show
 returns-in-Show g c =
     let desk = g.D.Device.history in
@@ -33,3 +40,12 @@ returns-in-WritePnm g c =
     let report = g.W.Device.history c.args.report.now in
     subst (λ (a : Asked). GrewBoth (CameOf (asked_of a) c.write.result) desk desk' report report) (sym c.in-WritePnm.is)
     (desk_alone (WritesFile Pnm c.in-WritePnm.out.now c.in-WritePnm.file.now c.write.result) desk desk' report c.write.ensures)
+
+pub returns-in-WriteJls : goal.returns-in-WriteJls
+returns-in-WriteJls g c =
+    let desk = g.D.Device.history c.args.desk.now in
+    let desk' = g.D.Device.history c.write-in-WriteJls.new.desk in
+    let report = g.W.Device.history c.args.report.now in
+    let format = Jls c.in-WriteJls.line c.in-WriteJls.ri in
+    subst (λ (a : Asked). GrewBoth (CameOf (asked_of a) c.write-in-WriteJls.result) desk desk' report report) (sym c.in-WriteJls.is)
+    (desk_alone (WritesFile format c.in-WriteJls.out.now c.in-WriteJls.file.now c.write-in-WriteJls.result) desk desk' report c.write-in-WriteJls.ensures)

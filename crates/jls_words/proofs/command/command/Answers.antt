@@ -2,7 +2,7 @@ use Rattle.std.proofs.Common.{◌≡◌, ◌∙◌, ap, codes, true}
 use Rattle.std.proofs.lemmas.Result.{IfOk-weaker}
 use Rattle.clap.specs.Words.{App, Shape, app_of, new_app, shape_of, with_subcommand}
 use Rattle.clap.specs.Simple.{app_of_fields}
-use Rattle.jls_words.specs.Words.{bare_app, join_app, show_app, write_app}
+use Rattle.jls_words.specs.Words.{bare_app, check_app, join_app, show_app, write_app}
 use Rattle.jls_words.proofs.command.command.Goals as goal
 
 -- `version`
@@ -24,9 +24,11 @@ pub returns : goal.returns
 returns c =
     let named : app_of c.version.result ≡ versioned (new_app (codes "jls-salvage")) = ap app_of_fields c.version.ensures ∙ ap versioned c.bare-bare.ensures.app in
     let bare : app_of c.subcommand_required-salvage.result ≡ bare_app = ap app_of_fields c.subcommand_required-salvage.ensures ∙ ap must_name named in
+    let check : shape_of c.in_ok-check_command.field-0 ≡ check_app.top = ap top_of c.in_ok-check_command.ensures.app in
     let show : shape_of c.in_ok-show_command.field-0 ≡ show_app.top = ap top_of c.in_ok-show_command.ensures.app in
     let join : shape_of c.in_ok-join_command.field-0 ≡ join_app.top = ap top_of c.in_ok-join_command.ensures.app in
     let write : shape_of c.in_ok-write_command.field-0 ≡ write_app.top = ap top_of c.in_ok-write_command.ensures.app in
-    let shows = one_more _ _ _ _ _ (c.in_ok-shows.ensures.shape c.in_ok-show_command.ensures.local) bare show in
+    let checks = one_more _ _ _ _ _ (c.in_ok-checks.ensures.shape c.in_ok-check_command.ensures.local) bare check in
+    let shows = one_more _ _ _ _ _ (c.in_ok-shows.ensures.shape c.in_ok-show_command.ensures.local) checks show in
     let joins = one_more _ _ _ _ _ (c.in_ok-joins.ensures.shape c.in_ok-join_command.ensures.local) shows join in
-    IfOk-weaker c.subcommand-3.result _ _ (λ r added. one_more _ _ _ _ _ (added.shape c.in_ok-write_command.ensures.local) joins write) c.subcommand-3.ensures
+    IfOk-weaker c.subcommand-4.result _ _ (λ r added. one_more _ _ _ _ _ (added.shape c.in_ok-write_command.ensures.local) joins write) c.subcommand-4.ensures

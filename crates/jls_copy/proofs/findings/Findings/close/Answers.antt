@@ -1,4 +1,4 @@
-use Rattle.std.proofs.Common.{map, subst, Err}
+use Rattle.std.proofs.Common.{subst, Err}
 use Rattle.jls_copy.proofs.Outcomes.{Finishes, on_ok3, beyond_adds, long_adds, broken_adds, lines_add}
 use Rattle.jls_copy.proofs.findings.Findings.close.Goals as goal
 

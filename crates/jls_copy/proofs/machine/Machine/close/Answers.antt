@@ -1,5 +1,3 @@
-use Rattle.std.proofs.Common.{◌≡◌, Some}
-use Rattle.jls_copy.specs.Findings.{HoldsShape}
 use Rattle.jls_copy.proofs.machine.Machine.close.Goals as goal
 
 pub close-requires-clause-held : goal.close-requires-clause-held

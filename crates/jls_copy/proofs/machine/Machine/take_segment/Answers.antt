@@ -1,4 +1,4 @@
-use Rattle.std.proofs.Common.{◌≡◌, Ok, ap, ◌∙◌, subst, sym}
+use Rattle.std.proofs.Common.{Ok, ap, ◌∙◌, subst, sym}
 use Rattle.jls_copy.specs.Sound.{IsOfFrame}
 use Rattle.jls_copy.proofs.HeaderFacts.{scan_is_of_frame}
 use Rattle.jls_copy.proofs.machine.Machine.take_segment.Goals as goal

@@ -1,4 +1,4 @@
-use Rattle.std.proofs.Common.{◌≡◌, ◌+◌, ◌-◌, ◌<◌, ◌≤◌, ◌^◌, length, arith}
+use Rattle.std.proofs.Common.{◌+◌, ◌-◌, ◌≤◌, ◌^◌, length, arith}
 use Rattle.jls_copy.proofs.Gathering.{held_shape, reading_more, of_fed}
 use Rattle.jls_copy.proofs.reader.CopyReader.feed_byte.Goals as goal
 

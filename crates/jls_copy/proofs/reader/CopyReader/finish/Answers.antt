@@ -1,6 +1,7 @@
-use Rattle.std.proofs.Common.{◌≡◌, ◌<◌, ◌^◌, arith}
+use Rattle.std.proofs.Common.{arith}
 use Rattle.jls_copy.specs.CopyReads.{CopyReads, CopyGivesNone}
-use Rattle.jls_copy.proofs.Gathering.{held_shape, concluding, saying_none, to_fed, if_ok, if_err}
+use Rattle.jls_copy.proofs.Gathering.{held_shape, saying_none, to_fed, if_ok, if_err}
+use Rattle.jls_copy.proofs.CutGathering.{concluding}
 use Rattle.jls_copy.proofs.CopyTold.{conclusion_told, none_told}
 use Rattle.jls_copy.proofs.reader.CopyReader.finish.Goals as goal
 

@@ -1,4 +1,4 @@
-use Rattle.std.proofs.Common.{◌≡◌, ap}
+use Rattle.std.proofs.Common.{ap}
 use Rattle.jls_copy.specs.CopyReads.{IsDone}
 use Rattle.jls_copy.proofs.Gathering.{fed_or_failed}
 use Rattle.jls_copy.proofs.CopyTold.{done_told}

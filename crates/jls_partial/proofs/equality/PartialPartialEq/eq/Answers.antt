@@ -1,8 +1,11 @@
 use Rattle.std.proofs.Common.{◌≡◌, ◌∙◌, true, ap, sym, subst}
 use Rattle.std.specs.Cmp.{both_ways}
+use Rattle.jls_partial.specs.Entries.{partial_of}
 use Rattle.jls_partial.specs.Equality.{is_same, is_same-itself, one_partial}
-use Rattle.jls_partial.specs.Partial.{PartialPicture, readings_at}
-use Rattle.jls_partial.proofs.SameReadings.{shapes_from_test, same_readings}
+use Rattle.jls_partial.specs.Partial.{PartialPicture}
+use Rattle.jls_partial.specs.Text.{entries}
+use Rattle.jls_partial.proofs.KeptEntries.{partial_again}
+use Rattle.jls_partial.proofs.SameEntries.{shapes_from_test}
 use Rattle.jls_partial.proofs.equality.PartialPartialEq.eq.Goals as goal
 
 pub returns-clause-exactly : goal.returns-clause-exactly
@@ -10,14 +13,14 @@ returns-clause-exactly c =
     let p = c.args.self.now in
     let q = c.args.other.now in
     let shape : p.shape ≡ q.shape = sym c.shape.ensures.value ∙ shapes_from_test c.shape.result.now c.shape-2.result.now c.ne.result c.ne.ensures c.if-ne.false ∙ c.shape-2.ensures.value in (
-      λ e. λ i. record { shape = shape i; readings = same_readings p q c.shape.ensures.fitting c.shape-2.ensures.fitting shape (c.same_components.ensures.0 e) i },
-      λ same. c.same_components.ensures.1 (λ k _ l _. ap (λ (z : PartialPicture). readings_at z k l) same),
+      λ e. sym (partial_again p c.shape.ensures.marks_held) ∙ (λ i. partial_of (shape i) (c.same_entries.ensures.0 e i)) ∙ partial_again q c.shape-2.ensures.marks_held,
+      λ same. c.same_entries.ensures.1 (ap entries same),
     )
 
 pub returns-clause-test : goal.returns-clause-test
 returns-clause-test c =
     let p = c.args.self.now in
     let exactly = returns-clause-exactly c in
-    both_ways c.same_components.result (is_same p c.args.other.now)
+    both_ways c.same_entries.result (is_same p c.args.other.now)
     (λ e. subst (λ (z : PartialPicture). is_same p z ≡ true) (exactly.0 e) (is_same-itself p))
     (λ e. exactly.1 (one_partial p c.args.other.now e))

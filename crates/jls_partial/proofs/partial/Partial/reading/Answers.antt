@@ -1,26 +1,33 @@
-use Rattle.std.proofs.Common.{◌≡◌, ◌<◌, ◌∙◌, ℕ, List, length, ap, subst, None}
+use Rattle.std.proofs.Common.{◌≡◌, ◌<◌, ◌∙◌, ℕ, List, length, ap, sym, subst, true, arith}
 use Rattle.std.specs.Prelude.{slice_get}
-use Rattle.jls_values.specs.Shape.{PictureShape}
-use Rattle.jls_partial.specs.Held.{samples_at}
-use Rattle.jls_partial.specs.InsertFaults.{reading_fault}
+use Rattle.jls_values.specs.OrderedSet as set
+use Rattle.jls_partial.specs.Held.{lines_or}
+use Rattle.jls_partial.specs.LineSet.{PictureLines, no_lines}
+use Rattle.jls_partial.specs.Partial.{holds}
 use Rattle.jls_partial.specs.Place.{place}
-use Rattle.jls_partial.proofs.Entries.{fit_at}
-use Rattle.jls_partial.proofs.Views.{all-slice_get}
-use Rattle.jls_partial.proofs.ReadBack.{readings_kept}
+use Rattle.jls_partial.proofs.Store.{readings_at_there, holds_there, fitting, got_held}
 use Rattle.jls_partial.proofs.partial.Partial.reading.Goals as goal
 
-pub list_at-requires : goal.list_at-requires
-list_at-requires c =
-    subst (λ (xs : List (List ℕ)). c.args.i < length xs) (readings_kept c.self.inside.shape c.self.inside.store.entries c.args.self.now c.args.component c.args.line c.self.invariant c.self.view_is) c.requires.i_in
+pub lines_at-requires : goal.lines_at-requires
+lines_at-requires c =
+    let below : c.args.i < length (set.items (lines_or (no_lines 0 0) c.self.inside.store.entries (place c.args.component c.args.line)).lines) =
+    subst (λ (xs : List (List ℕ)). c.args.i < length xs) (readings_at_there 0 0 c.self.inside.shape c.self.inside.store.entries c.self.invariant c.args.self.now c.self.view_is c.args.component c.args.line) c.requires.i_in in
+    omega (arith, below)
+
+pub get-requires : goal.get-requires
+get-requires c =
+    let below : c.args.i < length (set.items (lines_or (no_lines 0 0) c.self.inside.store.entries (place c.args.component c.args.line)).lines) =
+    subst (λ (xs : List (List ℕ)). c.args.i < length xs) (readings_at_there 0 0 c.self.inside.shape c.self.inside.store.entries c.self.invariant c.args.self.now c.self.view_is c.args.component c.args.line) c.requires.i_in in
+    subst (λ (L : PictureLines). c.args.i < length (set.items L.lines)) (sym c.lines_at.ensures) below
 
 pub returns-clause-value : goal.returns-clause-value
 returns-clause-value c =
-    ap (λ (xs : List (List ℕ)). slice_get xs c.args.i) (readings_kept c.self.inside.shape c.self.inside.store.entries c.args.self.now c.args.component c.args.line c.self.invariant c.self.view_is)
-    ∙ c.list_at.ensures
+    ap (λ (xs : List (List ℕ)). slice_get xs c.args.i) (readings_at_there 0 0 c.self.inside.shape c.self.inside.store.entries c.self.invariant c.args.self.now c.self.view_is c.args.component c.args.line)
+    ∙ ap (λ (L : PictureLines). slice_get (set.items L.lines) c.args.i) (sym c.lines_at.ensures) ∙ c.get.ensures.value
 
 pub returns-clause-fitting : goal.returns-clause-fitting
 returns-clause-fitting c =
-    let at = place c.args.component c.args.line in
-    subst (λ (s : PictureShape). reading_fault s c.args.component c.args.line c.list_at.result.now ≡ None) (ap (λ p. p.shape) c.self.view_is)
-    (all-slice_get (λ x. reading_fault c.self.inside.shape c.args.component c.args.line x ≡ None) (samples_at c.self.inside.store.entries at) c.args.i c.list_at.result.now
-    (fit_at c.self.inside.shape c.self.inside.store.entries at c.self.invariant) c.list_at.ensures)
+    let held : holds c.args.self.now c.args.component c.args.line c.get.result.now ≡ true =
+    holds_there 0 0 c.self.inside.shape c.self.inside.store.entries c.self.invariant c.args.self.now c.self.view_is c.args.component c.args.line c.get.result.now
+    ∙ ap (λ (L : PictureLines). set.contains L.lines c.get.result.now) (sym c.lines_at.ensures) ∙ got_held c.lines_at.result.now.lines c.args.i c.get.result.now c.get.ensures.value in
+    fitting 0 0 c.self.inside.shape c.self.inside.store.entries c.self.invariant c.args.self.now c.self.view_is c.args.component c.args.line c.get.result.now held

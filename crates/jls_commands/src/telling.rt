@@ -1,0 +1,113 @@
+//! The commands `check` and `show`.
+
+ghost use Rattle.std.specs.Prelude.{◌≡◌, ◌++◌, [], true, false, IfOk, OnOk, if◌then◌else◌};
+ghost use Rattle.jls_commands.specs.Histories.{GrewBoth};
+ghost use Rattle.jls_commands.specs.Telling.{lines, report_lines, Tells};
+ghost use Rattle.jls_commands.specs.Tracing.{trace_lines};
+
+use crate::tracing::put_trace;
+use jls_device::{Desk, Sink, write_all};
+use jls_partial::Partial;
+use jls_report::Report;
+use jls_station::{Cause, InputRead, Outcome, Refusal, open_and_read};
+use std::alloc::{AllocError, Global};
+
+/// The lines of the report of a partial picture.
+fn report_of(alloc: Global, partial: &Partial) -> Result<Vec<u8>, AllocError>
+    ensures { IfOk result (λ text. text.items ≡ report_lines partial.now) }
+{
+    let report = Report::of(alloc, partial)?;
+    report.to_text(alloc)
+}
+
+/// Appends the trace of an input, if it is a copy.
+fn put_input_trace(out: &mut Vec<u8>, input: &InputRead) -> Result<(), AllocError>
+    ensures { OnOk result (out.new.items ≡ out.old.items ++ trace_lines input.now) }
+{
+    match input.copy() {
+        Some(report) => put_trace(out, report),
+        None => Ok(()),
+    }
+}
+
+/// The trace of an input, if it is asked for.
+fn trace_of(alloc: Global, input: &InputRead, traced: bool) -> Result<Vec<u8>, AllocError>
+    ensures { IfOk result (λ text. text.items ≡ (if traced then trace_lines input.now else [])) }
+{
+    let mut out = Vec::new(alloc);
+    if !traced {
+        return Ok(out);
+    }
+    put_input_trace(&mut out, input)?;
+    Ok(out)
+}
+
+/// The lines that are printed of an input.
+fn lines_of(alloc: Global, input: &InputRead, traced: bool) -> Result<Vec<u8>, AllocError>
+    ensures { IfOk result (λ text. text.items ≡ lines traced input.now) }
+{
+    let mut out = trace_of(alloc, input, traced)?;
+    let text = report_of(alloc, input.partial())?;
+    out.extend_from_slice(&text)?;
+    Ok(out)
+}
+
+/// Reads one input and prints its trace, if that is asked for, and its report to the report output.
+fn tell<'a, D: Desk, W: Sink>(
+    alloc: Global,
+    desk: &mut D,
+    report: &mut W,
+    traced: bool,
+    file: &'a str,
+) -> Outcome<'a>
+    ensures { GrewBoth (Tells (lines traced) file.now result) (D.history desk.old) (D.history desk.new)
+        (W.history report.old) (W.history report.new) }
+{
+    let input = match open_and_read(alloc, desk, file) {
+        Ok(input) => input,
+        Err(cause) => return Outcome::Refused(Refusal { name: file, cause }),
+    };
+    let text = match lines_of(alloc, &input, traced) {
+        Ok(text) => text,
+        Err(_) => {
+            let cause = Cause::OutOfMemory;
+            return Outcome::Refused(Refusal { name: file, cause });
+        }
+    };
+    match write_all(report, &text) {
+        Ok(()) => Outcome::Done {
+            settled: input.partial().is_settled(),
+            whole: input.is_whole(),
+        },
+        Err(count) => {
+            let cause = Cause::NotWritten(count);
+            Outcome::Refused(Refusal { name: "-", cause })
+        }
+    }
+}
+
+/// The command `check`: reads one input and prints its trace, if it is a copy, and its report to the report output.
+pub fn check<'a, D: Desk, W: Sink>(
+    alloc: Global,
+    desk: &mut D,
+    report: &mut W,
+    file: &'a str,
+) -> Outcome<'a>
+    ensures { GrewBoth (Tells (lines true) file.now result) (D.history desk.old) (D.history desk.new)
+        (W.history report.old) (W.history report.new) }
+{
+    tell(alloc, desk, report, true, file)
+}
+
+/// The command `show`: reads one input and prints its report to the report output.
+pub fn show<'a, D: Desk, W: Sink>(
+    alloc: Global,
+    desk: &mut D,
+    report: &mut W,
+    file: &'a str,
+) -> Outcome<'a>
+    ensures { GrewBoth (Tells (lines false) file.now result) (D.history desk.old) (D.history desk.new)
+        (W.history report.old) (W.history report.new) }
+{
+    tell(alloc, desk, report, false, file)
+}

@@ -1,0 +1,123 @@
+-- What the piece adds that the input's end closes, from what its decoder answered.
+use Rattle.std.proofs.Common.{◌≡◌, ℕ, ◌+◌, ◌*◌, ◌<◌, ◌≤◌, List, [], ◌∷◌, map, length, Some, refl, sym, ap, ◌∙◌, subst, arith, inl, inr, length-append}
+use Rattle.std.specs.Prelude.{IfSome, min}
+use Rattle.std.proofs.lemmas.List.{append-nil}
+use Rattle.std.specs.declared.vec.Vec.{Vec}
+use Rattle.std.specs.declared.alloc.Global.{Global}
+use Rattle.jls_values.specs.Shape.{PictureShape}
+use Rattle.jls_values.specs.Params.{CodingParameters, AreCodingParameters}
+use Rattle.jls_bits.specs.Bits.{bits_read}
+use Rattle.jls_interval.specs.Lines.{AreLines}
+use Rattle.jls_interval.specs.Reads.{Reads}
+use Rattle.jls_interval.specs.Heads.{IsHeadOfPiece}
+use Rattle.jls_interval.specs.CutEnds.{CutEndIs}
+use Rattle.jls_interval.specs.IntervalBytes.{IntervalBytes}
+use Rattle.jls_interval.specs.declared.cut_end.CutEnd.{CutEnd}
+use Rattle.jls_interval.specs.declared.cut_end.CutEnd.TheVariants.{Whole, Head}
+use Rattle.jls_interval.specs.declared.decode_piece.PieceFault.{PieceFault}
+use Rattle.jls_interval.specs.declared.decode_piece.PieceFault.TheVariants as piece_fault
+use Rattle.jls_interval.proofs.CutStates.{over_head}
+use Rattle.jls_interval.proofs.HeadLines.{front_lines}
+use Rattle.jls_marker.specs.Scan.{Scan, IsScan, intervals, row_count, first_row}
+use Rattle.jls_copy.specs.Pieces.{placed, Lines, Fault}
+use Rattle.jls_copy.specs.Findings.{AddsCut, IsKindOf, with_readings, picture_of, kept_with}
+use Rattle.jls_copy.specs.ReaderState.{piece_found}
+use Rattle.jls_copy.specs.Sound.{IsDecodingOf, IsOpenPiece}
+use Rattle.jls_copy.specs.declared.piece.PieceKind.{PieceKind}
+use Rattle.jls_copy.specs.declared.piece.PieceKind.TheVariants as kind
+use Rattle.jls_copy.specs.declared.piece.OpenPiece.{OpenPiece}
+use Rattle.jls_copy.specs.declared.piece.OpenPiece.TheVariants.{Within, Beyond}
+use Rattle.jls_copy.specs.declared.findings.Findings.{Findings}
+use Rattle.jls_copy.proofs.Outcomes.{decoding_with, decoding_is}
+
+-- what `finish_cut` says of a decoder
+abbrev pub CutFinishes : IntervalBytes → CutEnd → Type 0
+CutFinishes d end = IfSome d.bytes (λ bytes. CutEndIs d.parameters d.width d.components (d.rows * d.components) bytes end)
+
+abbrev items : Vec (Vec ℕ Global) Global → List (List ℕ)
+items lines = map (λ line. line.items) lines.items
+
+-- a piece that reads has no head
+no_head : (p : CodingParameters) (w c n : ℕ) (bytes : List ℕ) (lines : List (List ℕ)) → AreCodingParameters p → 0 < w → Reads p w c n bytes lines → IsHeadOfPiece p w c n bytes []
+no_head p w c n bytes lines ok some r =
+    inl (r.begins.data_bits.whole, over_head p ok w c n some (bits_read bytes) lines (min 8 (length r.unread)) (record { unread = r.unread; are_lines = r.begins.are_lines; begins = r.begins.data_bits.read; counted = refl }))
+
+-- the lines of a head are first lines of an interval
+head_lines : (p : CodingParameters) (w c n : ℕ) (bytes : List ℕ) (head : List (List ℕ)) → IsHeadOfPiece p w c n bytes head → (count : ℕ) × (count ≤ n) × AreLines p w count head
+head_lines p w c n bytes head (inl (whole, inl (cut, f))) =
+    let l = length-append head f.begins.others in let e = ap length f.begins.lines_are in let k = cut.are_lines.count_is in
+    (length head, omega (arith, l, e, k), front_lines p w n cut.lines head f.begins.others cut.are_lines f.begins.lines_are)
+head_lines p w c n bytes head (inl (whole, inr (none, e))) = (0, omega arith, subst (AreLines p w 0) (sym e) (record { count_is = refl; each = tt }))
+head_lines p w c n bytes head (inr (none, e)) = (0, omega arith, subst (AreLines p w 0) (sym e) (record { count_is = refl; each = tt }))
+
+module _ (shape : PictureShape) (index : ℕ) (s : Scan) (offset k : ℕ) (old new : Findings) where
+  pub beyond_adds : (piece : OpenPiece) → piece ≡ Beyond k → new.partial ≡ old.partial
+      → new.records.items ≡ kept_with old.records.items (record { scan = index; interval = k; offset = offset; kind = kind.Beyond } ∷ []) → new.record_count ≡ old.record_count + 1
+      → AddsCut (Some shape) (piece_found index s offset piece ∷ []) old new
+  beyond_adds piece e p r c =
+      rw e (shape, refl, record { outcome = Fault kind.Beyond; is_outcome = tt; head = []; is_head = refl; picture_is = rw p refl; records_are = r; count_is = c })
+
+module _ (s : Scan) (k : ℕ) (d : IntervalBytes) (piece : OpenPiece) (is : piece ≡ Within k d) (sound : IsOpenPiece s piece) where
+  abbrev open_is : IsDecodingOf s k d
+  open_is = subst (IsOpenPiece s) is sound
+
+  abbrev told_bytes : List ℕ
+  told_bytes = open_is.bytes
+
+  abbrev count : ℕ
+  count = row_count s k * length s.components
+
+  whole : piece ≡ Within k (decoding_with s k told_bytes)
+  whole = is ∙ ap (Within k) (decoding_is s k d open_is)
+
+  said : (end : CutEnd) → CutFinishes d end → CutEndIs s.params s.width (length s.components) count told_bytes end
+  said end h = subst (λ x. CutFinishes x end) (decoding_is s k d open_is) h
+
+  pub cut_interval : k < intervals s
+  cut_interval = open_is.within
+
+  pub whole_lines : (lines : Vec (Vec ℕ Global) Global) → CutFinishes d (Whole lines) → (n : ℕ) × (n ≤ count) × AreLines s.params s.width n (items lines)
+  whole_lines lines h = (count, omega arith, (said (Whole lines) h).begins.are_lines)
+
+  pub not_memory : (head : Vec (Vec ℕ Global) Global) (fault : PieceFault) → CutFinishes d (Head head fault) → fault ≡ piece_fault.OutOfMemory → ⊥
+  not_memory head fault h e = said (Head head piece_fault.OutOfMemory) (subst (λ f. CutFinishes d (Head head f)) e h)
+
+  pub cut_lines : (head : Vec (Vec ℕ Global) Global) (fault : PieceFault) → CutFinishes d (Head head fault) → (n : ℕ) × (n ≤ count) × AreLines s.params s.width n (items head)
+  cut_lines head piece_fault.Long h = head_lines s.params s.width (length s.components) count told_bytes (items head) (said (Head head piece_fault.Long) h).1
+  cut_lines head piece_fault.Broken h = head_lines s.params s.width (length s.components) count told_bytes (items head) (said (Head head piece_fault.Broken) h).1
+  cut_lines head piece_fault.OutOfMemory h = absurd (said (Head head piece_fault.OutOfMemory) h)
+
+  module _ (ok : IsScan s) (shape : PictureShape) (index offset : ℕ) (old new : Findings) where
+    pub whole_adds : (lines : Vec (Vec ℕ Global) Global) → CutFinishes d (Whole lines)
+        → new.partial ≡ Some (with_readings (picture_of shape old.partial) (placed s.components (first_row s k) 0 (items lines)))
+        → new.records.items ≡ old.records.items → new.record_count ≡ old.record_count
+        → AddsCut (Some shape) (piece_found index s offset piece ∷ []) old new
+    whole_adds lines h p r c =
+        let now : Reads s.params s.width (length s.components) count told_bytes (items lines) = said (Whole lines) h in
+        let none = no_head s.params s.width (length s.components) count told_bytes (items lines) ok.params (let w = ok.width_at_least in omega arith) now in
+        let found = placed s.components (first_row s k) 0 (items lines) in
+        rw whole (
+          shape,
+          refl,
+          record {
+            outcome = Lines (items lines);
+            is_outcome = now;
+            head = [];
+            is_head = none;
+            picture_is = ap (picture_of shape) p ∙ ap (with_readings (picture_of shape old.partial)) (sym (append-nil found));
+            records_are = r;
+            count_is = (let e : old.record_count + 0 ≡ old.record_count = omega arith in c ∙ sym e);
+          },
+        )
+
+    pub head_adds : (head : Vec (Vec ℕ Global) Global) (fault : PieceFault) (f : PieceKind) → CutFinishes d (Head head fault) → IsKindOf fault f
+        → new.partial ≡ Some (with_readings (picture_of shape old.partial) (placed s.components (first_row s k) 0 (items head)))
+        → new.records.items ≡ kept_with old.records.items (record { scan = index; interval = k; offset = offset; kind = f } ∷ []) → new.record_count ≡ old.record_count + 1
+        → AddsCut (Some shape) (piece_found index s offset piece ∷ []) old new
+    head_adds head piece_fault.Long f h e p r c =
+        let now = said (Head head piece_fault.Long) h in
+        rw whole (shape, refl, record { outcome = Fault kind.Long; is_outcome = now.0; head = items head; is_head = now.1; picture_is = ap (picture_of shape) p; records_are = rw e at r; count_is = c })
+    head_adds head piece_fault.Broken f h e p r c =
+        let now = said (Head head piece_fault.Broken) h in
+        rw whole (shape, refl, record { outcome = Fault kind.Broken; is_outcome = now.0; head = items head; is_head = now.1; picture_is = ap (picture_of shape) p; records_are = rw e at r; count_is = c })
+    head_adds head piece_fault.OutOfMemory f h e p r c = absurd e

@@ -1,0 +1,7 @@
+mod CopiedLines
+mod FileLength
+mod Handing
+mod PackedLength
+mod ScanIds
+mod Scans
+mod WrittenFileExamples

@@ -1,0 +1,186 @@
+//! Small pictures and their files, worked out by hand.
+
+use crate::write_jls;
+use jls_device::Counted;
+use jls_partial::Partial;
+use jls_picture::{Options, OutputFault, Picture};
+use jls_values::{Params, Shape};
+use std::alloc::Global;
+use std::io;
+use std::io::Write;
+use std::process::Abort;
+use std::test::Fail;
+
+/// A writer into memory that takes so many bytes in a call, and so many in all.
+#[derive(Drop)]
+struct Limited {
+    held: Vec<u8>,
+    most: usize,
+    limit: usize,
+}
+
+impl Write for Limited {
+    fn write(&mut self, bytes: &[u8]) -> io::Result<usize> {
+        let room = self.limit.saturating_sub(self.held.len());
+        let n = bytes.len().min(self.most).min(room);
+        if n == 0 {
+            return Err(io::Error::from(io::ErrorKind::WriteZero));
+        }
+        self.held.extend_from_slice(&bytes[..n])?;
+        Ok(n)
+    }
+
+    fn flush(&mut self) -> io::Result<()> {
+        Ok(())
+    }
+}
+
+/// A picture of 8 bits: its width, identifiers and lines, row by row and in a row by component. The options that are not
+/// defaults, and the file.
+#[derive(Clone, Copy)]
+struct Row<'a> {
+    width: u16,
+    ids: &'a [u8],
+    lines: &'a [&'a [u16]],
+    line: bool,
+    ri: u16,
+    maxval: u16,
+    file: &'a [u8],
+}
+
+/// The picture is written as the file; a write that fails after n bytes is told, for each n.
+fn check(rt: &impl Abort, alloc: Global, row: &Row<'_>) -> Result<(), Fail> {
+    let components = row.ids.len();
+    if components == 0 {
+        return Ok(());
+    }
+    let height = u16::try_from(row.lines.len() / components)?;
+    let mut partial = Partial::empty(alloc, Shape::new(8, row.width, height, row.ids)?);
+    for (i, samples) in row.lines.iter().enumerate() {
+        partial.insert(
+            u8::try_from(i % components)?,
+            u16::try_from(i / components)?,
+            samples,
+        )?;
+    }
+    let picture = Picture::of(&partial).expect(rt, "a line is not settled");
+    let options = Options::new(row.line, row.ri, Params::new(8, row.maxval, 0, 0, 0, 0)?);
+    assert!(rt; options.fits(&picture));
+    for most in [1, usize::MAX] {
+        for n in 0..=row.file.len() {
+            let mut sink = Limited {
+                held: Vec::new(alloc),
+                most,
+                limit: n,
+            };
+            let result = write_jls(alloc, &picture, &options, &mut Counted::new(&mut sink));
+            let wanted = if n == row.file.len() {
+                Ok(())
+            } else {
+                Err(OutputFault::Write(n as u64))
+            };
+            assert_eq!(rt; result, wanted);
+            assert_eq!(rt; sink.held.as_slice(), &row.file[..n]);
+        }
+    }
+    Ok(())
+}
+
+/// One sample; four lines; two components in one scan and in two; a restart interval of one row, with ILV of one component;
+/// and a MAXVAL of 15, whose thresholds are no defaults.
+#[test]
+fn files(rt: HostRuntime) -> Result<(), Fail> {
+    let rows = [
+        Row {
+            width: 1,
+            ids: &[1],
+            lines: &[&[0]],
+            line: false,
+            ri: 0,
+            maxval: 0,
+            file: &[
+                0xFF, 0xD8, 0xFF, 0xF7, 0x00, 0x0B, 0x08, 0x00, 0x01, 0x00, 0x01, 0x01, 0x01, 0x11,
+                0x00, 0xFF, 0xDA, 0x00, 0x08, 0x01, 0x01, 0x00, 0x00, 0x00, 0x00, 0x80, 0xFF, 0xD9,
+            ],
+        },
+        Row {
+            width: 4,
+            ids: &[1],
+            lines: &[
+                &[0, 0, 90, 74],
+                &[68, 50, 43, 205],
+                &[64, 145, 145, 145],
+                &[100, 145, 145, 145],
+            ],
+            line: false,
+            ri: 0,
+            maxval: 0,
+            file: &[
+                0xFF, 0xD8, 0xFF, 0xF7, 0x00, 0x0B, 0x08, 0x00, 0x04, 0x00, 0x04, 0x01, 0x01, 0x11,
+                0x00, 0xFF, 0xDA, 0x00, 0x08, 0x01, 0x01, 0x00, 0x00, 0x00, 0x00, 0xC0, 0x00, 0x00,
+                0x6C, 0x80, 0x20, 0x8E, 0x01, 0xC0, 0x00, 0x00, 0x57, 0x40, 0x00, 0x00, 0x6E, 0xE6,
+                0x00, 0x00, 0x01, 0xBC, 0x18, 0x00, 0x00, 0x05, 0xD8, 0x00, 0x00, 0x91, 0x60, 0xFF,
+                0xD9,
+            ],
+        },
+        Row {
+            width: 1,
+            ids: &[1, 2],
+            lines: &[&[10], &[10]],
+            line: true,
+            ri: 0,
+            maxval: 0,
+            file: &[
+                0xFF, 0xD8, 0xFF, 0xF7, 0x00, 0x0E, 0x08, 0x00, 0x01, 0x00, 0x01, 0x02, 0x01, 0x11,
+                0x00, 0x02, 0x11, 0x00, 0xFF, 0xDA, 0x00, 0x0A, 0x02, 0x01, 0x00, 0x02, 0x00, 0x00,
+                0x01, 0x00, 0x07, 0x16, 0xFF, 0xD9,
+            ],
+        },
+        Row {
+            width: 1,
+            ids: &[1, 2],
+            lines: &[&[10], &[10]],
+            line: false,
+            ri: 0,
+            maxval: 0,
+            file: &[
+                0xFF, 0xD8, 0xFF, 0xF7, 0x00, 0x0E, 0x08, 0x00, 0x01, 0x00, 0x01, 0x02, 0x01, 0x11,
+                0x00, 0x02, 0x11, 0x00, 0xFF, 0xDA, 0x00, 0x08, 0x01, 0x01, 0x00, 0x00, 0x00, 0x00,
+                0x07, 0xFF, 0xDA, 0x00, 0x08, 0x01, 0x02, 0x00, 0x00, 0x00, 0x00, 0x07, 0xFF, 0xD9,
+            ],
+        },
+        Row {
+            width: 1,
+            ids: &[1],
+            lines: &[&[0], &[1], &[2], &[3], &[4], &[5], &[6], &[7], &[8], &[9]],
+            line: true,
+            ri: 1,
+            maxval: 0,
+            file: &[
+                0xFF, 0xD8, 0xFF, 0xF7, 0x00, 0x0B, 0x08, 0x00, 0x0A, 0x00, 0x01, 0x01, 0x01, 0x11,
+                0x00, 0xFF, 0xDD, 0x00, 0x04, 0x00, 0x01, 0xFF, 0xDA, 0x00, 0x08, 0x01, 0x01, 0x00,
+                0x00, 0x00, 0x00, 0x80, 0xFF, 0xD0, 0x50, 0xFF, 0xD1, 0x70, 0xFF, 0xD2, 0x28, 0xFF,
+                0xD3, 0x38, 0xFF, 0xD4, 0x14, 0xFF, 0xD5, 0x1C, 0xFF, 0xD6, 0x0A, 0xFF, 0xD7, 0x0E,
+                0xFF, 0xD0, 0x05, 0xFF, 0xD9,
+            ],
+        },
+        Row {
+            width: 1,
+            ids: &[1],
+            lines: &[&[15]],
+            line: false,
+            ri: 0,
+            maxval: 15,
+            file: &[
+                0xFF, 0xD8, 0xFF, 0xF7, 0x00, 0x0B, 0x08, 0x00, 0x01, 0x00, 0x01, 0x01, 0x01, 0x11,
+                0x00, 0xFF, 0xF8, 0x00, 0x0D, 0x01, 0x00, 0x0F, 0x00, 0x02, 0x00, 0x03, 0x00, 0x04,
+                0x00, 0x40, 0xFF, 0xDA, 0x00, 0x08, 0x01, 0x01, 0x00, 0x00, 0x00, 0x00, 0x40, 0xFF,
+                0xD9,
+            ],
+        },
+    ];
+    for row in &rows {
+        check(&rt, rt.alloc(), row)?;
+    }
+    Ok(())
+}

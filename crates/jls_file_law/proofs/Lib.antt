@@ -1,0 +1,5 @@
+mod Covering
+mod WrittenPieces
+mod WrittenScans
+mod WrittenUnits
+mod HeadsTaken

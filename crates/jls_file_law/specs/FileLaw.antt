@@ -1,0 +1,43 @@
+-- A written file is read back: its course, and what its pieces give.
+use Rattle.std.specs.Prelude.{◌≡◌, ℕ, ◌^◌, ◌<◌, List, [], length, Some}
+use Rattle.jls_values.specs.Shape.{IsShape}
+use Rattle.jls_values.specs.Params.{AreCodingParameters}
+use Rattle.jls_partial.specs.Reading.{Reading}
+use Rattle.jls_picture.specs.Picture.{WholePicture, line_of}
+use Rattle.jls_picture.specs.Options.{WriteOptions, OptionsFit}
+use Rattle.jls_copy.specs.Course.{Course, IsCourse}
+use Rattle.jls_copy.specs.Pieces.{pieces, Outcome, AreOutcomes, readings, records}
+use Rattle.jls_copy.specs.declared.end.End.TheVariants.{Eoi}
+use Rattle.jls_file.specs.WrittenFile.{written_file}
+use Rattle.jls_file_law.specs.Covering.{written_readings, AreThePicture}
+
+-- a picture in its ranges, each line as wide as the picture
+pub record IsWholePicture (pic : WholePicture) : Type 0 where
+  pub shape : IsShape pic.shape
+  pub widths : (component line : ℕ) → component < length pic.shape.ids → line < pic.shape.height
+      → length (line_of pic component line) ≡ pic.shape.width
+
+-- it can be written under these options
+pub record CanBeWritten (pic : WholePicture) (o : WriteOptions) : Type 0 where
+  pub whole : IsWholePicture pic
+  pub fit : OptionsFit pic o
+  pub params : AreCodingParameters o.params
+  pub restart_below : o.restart_interval < 2 ^ 32
+
+-- The bytes have a course, which takes the picture's shape and ends at EOI. Whatever its pieces are judged to be, and there is a
+-- judgement of each, they give these readings and no record
+pub record ReadsBack (pic : WholePicture) (copy : List ℕ) (rs : List Reading) : Type 0 where
+  pub course : Course
+  pub is_course : IsCourse copy course
+  pub framed : course.headers.frame ≡ Some pic.shape
+  pub offset : ℕ
+  pub ended : course.end ≡ Eoi offset
+  pub outcomes : List Outcome
+  pub some_outcomes : AreOutcomes (pieces course) outcomes
+  pub gives : (os : List Outcome) → AreOutcomes (pieces course) os
+      → (readings (pieces course) os ≡ rs) × (records (pieces course) os ≡ [])
+
+-- what is read back of a written file is the picture's lines, each once
+abbrev pub FileLaw : Type 0
+FileLaw = (pic : WholePicture) (o : WriteOptions) → CanBeWritten pic o
+    → ReadsBack pic (written_file pic o) (written_readings pic o) × AreThePicture pic (written_readings pic o)

@@ -1,0 +1,121 @@
+-- What is read of a copy is what the copy gives.
+use Rattle.std.proofs.Common.{◌≡◌, ℕ, ◌<◌, ◌≤◌, Bool, true, false, List, [], ◌∷◌, ◌++◌, length, Option, Some, refl, sym, ap, ◌∙◌, subst, arith, inl, inr}
+use Rattle.std.specs.Prelude.{◌↔◌, if◌then◌else◌}
+use Rattle.std.specs.List.{AllByRecursion, Contains}
+use Rattle.std.proofs.lemmas.List.Elements.{Contains-append_left, Contains-append_right, Contains-append_cases}
+use Rattle.jls_values.specs.OrderedSet as set
+use Rattle.jls_values.specs.Shape.{PictureShape}
+use Rattle.jls_partial.specs.Reading.{Reading}
+use Rattle.jls_partial.specs.Partial.{PartialPicture}
+use Rattle.jls_marker.specs.Scan.{Scan}
+use Rattle.jls_copy.specs.Numbers.{PieceNumber, Interval, BeyondLast}
+use Rattle.jls_copy.specs.Course.{Course}
+use Rattle.jls_copy.specs.CutPieces.{closed_by_input, last_piece, cut_pieces, IsHeadOfCut, head_readings}
+use Rattle.jls_copy.specs.CopyReads.{CopyReads}
+use Rattle.jls_copy.specs.ReadCopy.{ReadCopy}
+use Rattle.jls_copy.specs.Pieces.{FoundPiece, Outcome, Lines, Fault, IsOutcome, readings_at, readings_of, AreOutcomes, readings, pieces}
+use Rattle.jls_copy.proofs.OneCourse.{one_course}
+use Rattle.jls_copy.proofs.ScansOfCourse.{HasScan, course_has}
+use Rattle.jls_copy.proofs.BytesDecide.{one_outcome, one_head_of_cut, cut_has}
+use Rattle.jls_headline.specs.Gives.{PieceGives, HeadGives, CourseGives, Gives}
+use Rattle.jls_headline.specs.Stations.{HasShape}
+use Rattle.jls_headline.proofs.Members.{is_first, in_rest, none_in, first_or_rest}
+use Rattle.jls_headline.proofs.CutOff.{last_short}
+use Rattle.jls_headline.proofs.Held.{made_holds}
+
+abbrev some_shape : PictureShape → Option PictureShape
+some_shape shape = Some shape
+
+-- a piece that gives no lines gives no reading
+faults_give_none : (s : Scan) (n : PieceNumber) (r : Reading) (k : Outcome) → Contains (readings_at s n k) r → (lines : List (List ℕ)) × (k ≡ Lines lines)
+faults_give_none s n r (Lines lines) c = (lines, refl)
+faults_give_none s (Interval k) r (Fault f) c = absurd (none_in r c)
+faults_give_none s (BeyondLast k) r (Fault f) c = absurd (none_in r c)
+
+-- the readings of pieces that have these outcomes are what the pieces give
+listed : (ps : List FoundPiece) (os : List Outcome) (r : Reading) → AreOutcomes ps os → Contains (readings ps os) r → (p : FoundPiece) × Contains ps p × PieceGives p r
+listed [] os r are c = absurd (none_in r c)
+listed (p ∷ ps) [] r are c = absurd are
+listed (p ∷ ps) (o ∷ os) r are c =
+    elim (Contains-append_cases (readings_of p o) (readings ps os) r c) [
+      | inl here ↦ (
+          let f = faults_give_none p.plan p.number r o here in
+          (p, is_first p ps, record { lines = f.0; reads = subst (IsOutcome p) f.1 are.0; among = subst (λ x. Contains (readings_of p x) r) f.1 here }))
+      | inr later ↦ (let f = listed ps os r are.1 later in (f.0, in_rest f.0 p ps f.1, f.2))
+    ]
+
+given : (ps : List FoundPiece) (os : List Outcome) (p : FoundPiece) (r : Reading) → AllByRecursion HasScan ps → AreOutcomes ps os → Contains ps p → PieceGives p r → Contains (readings ps os) r
+given [] os p r ok are c g = absurd (none_in p c)
+given (q ∷ ps) [] p r ok are c g = absurd are
+given (q ∷ ps) (o ∷ os) p r ok are c g =
+    elim (first_or_rest p q ps c) [
+      | inl e ↦ Contains-append_left (readings_of q o) (readings ps os) r (own e)
+      | inr later ↦ Contains-append_right (readings_of q o) (readings ps os) r (given ps os p r ok.1 are.1 later g)
+    ]
+  where
+    own : q ≡ p → Contains (readings_of q o) r
+    own e =
+        let h : PieceGives q r = subst (λ x. PieceGives x r) (sym e) g in
+        subst (λ x. Contains (readings_of q x) r) (one_outcome q.plan q.number q.bytes (Lines h.lines) o ok.0 h.reads are.0) h.among
+
+-- The head of the piece that the input's end closes ---------------------------------------------------------------
+
+head_listed : (ps : List FoundPiece) (head : List (List ℕ)) (r : Reading) → IsHeadOfCut ps head → Contains (head_readings ps head) r
+    → (p : FoundPiece) × Contains ps p × HeadGives p r
+head_listed [] head r is c = absurd (none_in r c)
+head_listed (p ∷ ps) head r is c = (p, is_first p ps, record { head = head; is_head = is; among = c })
+
+head_given : (ps : List FoundPiece) (head : List (List ℕ)) (p : FoundPiece) (r : Reading) → length ps ≤ 1 → AllByRecursion HasScan ps → IsHeadOfCut ps head
+    → Contains ps p → HeadGives p r → Contains (head_readings ps head) r
+head_given [] head p r short ok is c g = absurd (none_in p c)
+head_given (q ∷ []) head p r short ok is c g =
+    elim (first_or_rest p q [] c) [
+      | inl e ↦ (
+          let h : HeadGives q r = subst (λ x. HeadGives x r) (sym e) g in
+          subst (λ x. Contains (readings_of q (Lines x)) r) (one_head_of_cut (q ∷ []) h.head head ok h.is_head is) h.among)
+      | inr later ↦ absurd (none_in p later)
+    ]
+head_given (q ∷ x ∷ ps) head p r short ok is c g = absurd (omega (arith, short))
+
+cut_short : (c : Course) → length (cut_pieces c) ≤ 1
+cut_short c = by (closed_by_input c.units)
+  where
+    by : (b : Bool) → length (if b then last_piece (pieces c) else []) ≤ 1
+    by true = last_short (pieces c)
+    by false = omega arith
+
+pub copy_gives : (copy : List ℕ) → AllByRecursion (λ b. b < 256) copy → (read : ReadCopy) → CopyReads copy read → (r : Reading)
+    → (set.contains read.partial.readings r ≡ true) ↔ Gives copy r
+copy_gives copy low read reads r = (there, back)
+  where
+    there : set.contains read.partial.readings r ≡ true → Gives copy r
+    there h =
+        let ps = pieces reads.course in
+        let cs = cut_pieces reads.course in
+        let told = made_holds (readings ps reads.outcomes ++ head_readings cs reads.head) r in
+        let c = told.0 (subst (λ (p : PartialPicture). set.contains p.readings r ≡ true) reads.partial_is h) in (
+          reads.course,
+          reads.is_course,
+          elim (Contains-append_cases (readings ps reads.outcomes) (head_readings cs reads.head) r c) [
+            | inl m ↦ inl (listed ps reads.outcomes r reads.each m)
+            | inr m ↦ inr (head_listed cs reads.head r reads.head_is m)
+          ],
+        )
+
+    back : Gives copy r → set.contains read.partial.readings r ≡ true
+    back (c, is, g) =
+        let ps = pieces reads.course in
+        let cs = cut_pieces reads.course in
+        let has = course_has copy reads.course low reads.is_course in
+        let told = made_holds (readings ps reads.outcomes ++ head_readings cs reads.head) r in
+        let own : CourseGives reads.course r = subst (λ x. CourseGives x r) (one_course copy c reads.course is reads.is_course) g in
+        subst (λ (p : PartialPicture). set.contains p.readings r ≡ true) (sym reads.partial_is)
+        (told.1 (elim own [
+          | inl m ↦ Contains-append_left (readings ps reads.outcomes) (head_readings cs reads.head) r (given ps reads.outcomes m.0 r has reads.each m.1 m.2)
+          | inr m ↦ Contains-append_right (readings ps reads.outcomes) (head_readings cs reads.head) r
+              (head_given cs reads.head m.0 r (cut_short reads.course) (cut_has reads.course has) reads.head_is m.1 m.2)
+        ]))
+
+pub copy_has_shape : (copy : List ℕ) (read : ReadCopy) → CopyReads copy read → HasShape read.partial.shape copy
+copy_has_shape copy read reads =
+    (reads.course, reads.is_course, reads.framed ∙ ap (λ (p : PartialPicture). some_shape p.shape) (sym reads.partial_is))

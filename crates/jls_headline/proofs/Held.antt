@@ -1,0 +1,160 @@
+-- What sets of readings hold, and lines with one reading.
+use Rattle.std.proofs.Common.{◌≡◌, ℕ, Bool, true, false, T, ◌&&◌, ◌||◌, List, [], ◌∷◌, map, refl, sym, ap, ◌∙◌, subst, arith, inl, inr}
+use Rattle.std.specs.Prelude.{filter, ◌==◌, ◌↔◌}
+use Rattle.std.specs.declared.cmp.Ordering.{Ordering}
+use Rattle.std.specs.declared.cmp.Ordering.TheVariants.{Less, Equal, Greater}
+use Rattle.std.specs.Ordering.{is_eq, is_lt, eq_by_cmp}
+use Rattle.std.specs.FinMap as fin
+use Rattle.std.specs.FinMap.Entries as sorted
+use Rattle.std.specs.List.{list_any, AllByRecursion, Contains}
+use Rattle.std.specs.List.Sorted.{IsStrictlySortedBy}
+use Rattle.std.proofs.lemmas.Bool.{and_parts, eqb-true, eq-eqb, cases_Bool}
+use Rattle.std.proofs.lemmas.Cmp.{tied_itself}
+use Rattle.jls_values.specs.OrderedSet as set
+use Rattle.jls_values.specs.OrderedSetLaws.{contains-items, contains-insert_all, contains-empty}
+use Rattle.jls_partial.specs.Partial.{PartialPicture, readings_at}
+use Rattle.jls_partial.specs.Reading.{Reading, reading_cmp, reading_of}
+use Rattle.jls_partial.specs.ReadingOrder.{reading_total, same_reading}
+use Rattle.jls_headline.proofs.Members.{is_first, in_rest, none_in, first_or_rest, in_map}
+
+abbrev pub ReadingSet : Type 0
+ReadingSet = set.OrderedSet reading_cmp
+
+-- what either of two tests tells
+pub either : (P : Type 0) (b c : Bool) → (b ≡ true → P) → (c ≡ true → P) → (b || c) ≡ true → P
+either P true c f g e = f refl
+either P false c f g e = g e
+
+pub or_first : (b c : Bool) → b ≡ true → (b || c) ≡ true
+or_first b c e = rw e refl
+
+pub or_second : (b c : Bool) → c ≡ true → (b || c) ≡ true
+or_second true c e = refl
+or_second false c e = e
+
+-- the test of a list tells its members
+pub any_of_member : (rs : List Reading) (r : Reading) → Contains rs r → list_any (eq_by_cmp reading_cmp r) rs ≡ true
+any_of_member [] r c = absurd (none_in r c)
+any_of_member (q ∷ qs) r c =
+    elim (first_or_rest r q qs c) [
+      | inl e ↦ or_first (eq_by_cmp reading_cmp r q) _ (subst (λ x. eq_by_cmp reading_cmp r x ≡ true) (sym e) (ap is_eq (tied_itself reading_total r)))
+      | inr later ↦ or_second (eq_by_cmp reading_cmp r q) _ (any_of_member qs r later)
+    ]
+
+pub member_of_any : (rs : List Reading) (r : Reading) → list_any (eq_by_cmp reading_cmp r) rs ≡ true → Contains rs r
+member_of_any [] r e = absurd cc
+member_of_any (q ∷ qs) r e =
+    either (Contains (q ∷ qs) r) (eq_by_cmp reading_cmp r q) (list_any (eq_by_cmp reading_cmp r) qs)
+    (λ here. subst (λ x. Contains (q ∷ qs) x) (sym (same_reading r q here)) (is_first q qs)) (λ later. in_rest r q qs (member_of_any qs r later)) e
+
+-- a set made of a list holds the members of the list
+pub made_holds : (rs : List Reading) (r : Reading) → (set.contains (set.insert_all {R = reading_cmp} set.empty rs) r ≡ true) ↔ Contains rs r
+made_holds rs r =
+    let told : set.contains (set.insert_all {R = reading_cmp} set.empty rs) r ≡ list_any (eq_by_cmp reading_cmp r) rs =
+    contains-insert_all reading_total set.empty rs r ∙ ap (λ b. b || list_any (eq_by_cmp reading_cmp r) rs) (contains-empty reading_cmp r) in
+    (λ h. member_of_any rs r (sym told ∙ h), λ c. told ∙ any_of_member rs r c)
+
+-- Items in order -------------------------------------------------------------------------------------------------
+
+both_pass : (a b : Bool) → T (a && b) → T a × T b
+both_pass true b h = (tt, h)
+both_pass false b h = absurd h
+
+less_from_test : (r : Ordering) → T (is_lt r) → r ≡ Less
+less_from_test Less h = refl
+less_from_test Equal h = absurd h
+less_from_test Greater h = absurd h
+
+below_from_test : {K X : Type 0} (R : K → K → Ordering) (k : K) (es : List (K × X)) → T (sorted.below_all R k es)
+    → AllByRecursion (λ y. R k y ≡ Less) (map (λ e. e.0) es)
+below_from_test R k [] h = tt
+below_from_test R k (e ∷ es) h =
+    let p = both_pass (is_lt (R k e.0)) (sorted.below_all R k es) h in (less_from_test (R k e.0) p.0, below_from_test R k es p.1)
+
+sorted_from_test : {K X : Type 0} (R : K → K → Ordering) (es : List (K × X)) → T (sorted.is_sorted R es)
+    → IsStrictlySortedBy R (map (λ e. e.0) es)
+unfolding IsStrictlySortedBy
+sorted_from_test R [] h = tt
+sorted_from_test R (e ∷ es) h =
+    let p = both_pass (sorted.below_all R e.0 es) (sorted.is_sorted R es) h in
+    (below_from_test R e.0 es p.0, sorted_from_test R es p.1)
+
+items_rise : (s : ReadingSet) → IsStrictlySortedBy reading_cmp (set.items s)
+items_rise s = sorted_from_test reading_cmp (fin.entries s) (fin.entries_sorted s)
+
+-- Lines with one reading -----------------------------------------------------------------------------------------
+
+not_below_itself : (r : Reading) → reading_cmp r r ≡ Less → ⊥
+not_below_itself r e = (let same : Less ≡ Equal = sym e ∙ tied_itself reading_total r in cc)
+
+abbrev is_there : ℕ → ℕ → Reading → Bool
+is_there component line r = r.component == component && r.line == line
+
+there_is : (component line : ℕ) (r : Reading) → is_there component line r ≡ true → (r.component ≡ component) × (r.line ≡ line)
+there_is component line r e =
+    let p = and_parts (r.component == component) (r.line == line) e in (eqb-true r.component component p.0, eqb-true r.line line p.1)
+
+eqb_itself : (n : ℕ) → (n == n) ≡ true
+eqb_itself n = eq-eqb n n refl
+
+is_itself : (component line : ℕ) (samples : List ℕ) → is_there component line (reading_of component line samples) ≡ true
+is_itself component line samples = rw (eqb_itself component, eqb_itself line) refl
+
+-- where all that stands above a reading and passes the test is that reading, nothing does
+none_passes : (pass : Reading → Bool) (r : Reading) (rs : List Reading) → AllByRecursion (λ y. reading_cmp r y ≡ Less) rs
+    → ((q : Reading) → Contains rs q → pass q ≡ true → q ≡ r) → filter pass rs ≡ []
+none_passes pass r [] above same = refl
+none_passes pass r (q ∷ qs) above same =
+    elim (cases_Bool (pass q)) [
+      | inl e ↦ absurd (not_below_itself r (subst (λ x. reading_cmp r x ≡ Less) (same q (is_first q qs) e) above.0))
+      | inr e ↦ rw e (none_passes pass r qs above.1 (λ x c. same x (in_rest x q qs c)))
+    ]
+
+-- of items in order of which one passes the test, and no other
+one_passes : (pass : Reading → Bool) (r : Reading) (rs : List Reading) → IsStrictlySortedBy reading_cmp rs → pass r ≡ true → Contains rs r
+    → ((q : Reading) → Contains rs q → pass q ≡ true → q ≡ r) → filter pass rs ≡ r ∷ []
+unfolding IsStrictlySortedBy
+one_passes pass r [] rise passes c same = absurd (none_in r c)
+one_passes pass r (q ∷ qs) rise passes c same =
+    elim (cases_Bool (pass q)) [
+      | inl e ↦ (
+          let is : q ≡ r = same q (is_first q qs) e in
+          let rest : filter pass qs ≡ [] = none_passes pass r qs (subst (λ x. AllByRecursion (λ y. reading_cmp x y ≡ Less) qs) is rise.0) (λ x m. same x (in_rest x q qs m)) in
+          rw (e, rest) (ap (λ x. x ∷ []) is))
+      | inr e ↦ (
+          elim (first_or_rest r q qs c) [
+            | inl is ↦ (let f : false ≡ true = sym e ∙ ap pass is ∙ passes in absurd cc)
+            | inr later ↦ rw e (one_passes pass r qs rise.1 passes later (λ x m. same x (in_rest x q qs m)))
+          ])
+    ]
+
+-- where a reading of a line is held, and no other, it is the one reading of the line
+pub one_reading : (p : PartialPicture) (component line : ℕ) (samples : List ℕ) → set.contains p.readings (reading_of component line samples) ≡ true
+    → ((r : Reading) → set.contains p.readings r ≡ true → r.component ≡ component → r.line ≡ line → r ≡ reading_of component line samples)
+    → readings_at p component line ≡ samples ∷ []
+one_reading p component line samples held same =
+    let r = reading_of component line samples in
+    let among : Contains (set.items p.readings) r = member_of_any (set.items p.readings) r (sym (contains-items p.readings r) ∙ held) in
+    let one = one_passes (is_there component line) r (set.items p.readings) (items_rise p.readings) (is_itself component line samples) among
+    (λ q c e. same q (contains-items p.readings q ∙ any_of_member (set.items p.readings) q c) (there_is component line q e).0 (there_is component line q e).1) in
+    ap (map (λ (x : Reading). x.samples)) one
+
+-- what is held is among the readings of its line
+held_among : (pass : Reading → Bool) (r : Reading) (rs : List Reading) → pass r ≡ true → Contains rs r → Contains (filter pass rs) r
+held_among pass r [] e c = absurd (none_in r c)
+held_among pass r (q ∷ qs) e c =
+    elim (cases_Bool (pass q)) [
+      | inl t ↦ rw t (elim (first_or_rest r q qs c) [ inl is ↦ (0, omega arith, is) | inr later ↦ in_rest r q (filter pass qs) (held_among pass r qs e later) ])
+      | inr t ↦ rw t (elim (first_or_rest r q qs c) [
+        | inl is ↦ (let f : false ≡ true = sym t ∙ ap pass is ∙ e in absurd cc)
+        | inr later ↦ held_among pass r qs e later
+      ])
+    ]
+
+pub is_at_line : (p : PartialPicture) (component line : ℕ) (samples : List ℕ) → set.contains p.readings (reading_of component line samples) ≡ true
+    → Contains (readings_at p component line) samples
+is_at_line p component line samples held =
+    let r = reading_of component line samples in
+    let among : Contains (set.items p.readings) r = member_of_any (set.items p.readings) r (sym (contains-items p.readings r) ∙ held) in
+    in_map (λ (x : Reading). x.samples) (filter (is_there component line) (set.items p.readings)) r
+    (held_among (is_there component line) r (set.items p.readings) (is_itself component line samples) among)

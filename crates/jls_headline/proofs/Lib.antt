@@ -1,0 +1,14 @@
+mod Members
+mod Numbered
+mod Placed
+mod CutOff
+mod LostIntervals
+mod ScansInRange
+mod Trims
+mod Held
+mod CopyGives
+mod SameCopies
+mod Stations
+mod Pictures
+mod StationPictures
+mod TwoLineExamples

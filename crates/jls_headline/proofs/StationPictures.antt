@@ -1,0 +1,93 @@
+-- What stations hold that took the same copies, and the picture that damaged copies give.
+use Rattle.std.proofs.Common.{◌≡◌, ℕ, zero, suc, ◌<◌, true, List, [], ◌∷◌, length, sym, ap, ◌∙◌, subst, arith}
+use Rattle.std.specs.List.{AllByRecursion, Contains}
+use Rattle.jls_values.specs.OrderedSet as set
+use Rattle.jls_values.specs.Shape.{PictureShape}
+use Rattle.jls_partial.specs.Reading.{Reading, reading_of, reading_cmp}
+use Rattle.jls_partial.specs.Partial.{PartialPicture, readings_at}
+use Rattle.jls_partial.specs.Status.{status_of}
+use Rattle.jls_partial.specs.Text.{text}
+use Rattle.jls_partial.specs.declared.status.Status.TheVariants.{Settled}
+use Rattle.jls_copy.specs.Course.{Course}
+use Rattle.jls_copy.proofs.OneCourse.{one_course}
+use Rattle.jls_picture.specs.Picture.{WholePicture, line_of, picture_of}
+use Rattle.jls_picture.specs.Pnm.{pnm}
+use Rattle.jls_report.specs.Report.{report_of}
+use Rattle.jls_report.specs.ReportText.{report_text}
+use Rattle.jls_headline.specs.PictureLines.{picture_reading}
+use Rattle.jls_headline.specs.Damaged.{Damaged}
+use Rattle.jls_headline.specs.Survives.{EachLineSurvives}
+use Rattle.jls_headline.specs.Stations.{HasShape, HoldsExactly}
+use Rattle.jls_headline.specs.ReadsAs.{IsPicture}
+use Rattle.jls_headline.specs.HeadlineLaws.{SayTheSame, SameCopiesSameReadings, DamagedCopiesGiveThePicture, NeverAnotherPicture}
+use Rattle.jls_headline.proofs.Members.{all_at}
+use Rattle.jls_headline.proofs.ScansInRange.{same_frame}
+use Rattle.jls_headline.proofs.LostIntervals.{damaged_copies_give_no_other, surviving_lines_are_given}
+use Rattle.jls_headline.proofs.Held.{one_reading, is_at_line}
+use Rattle.jls_headline.proofs.Stations.{took_holds, same_readings}
+use Rattle.jls_headline.proofs.Pictures.{gives_picture}
+
+-- The same copies ------------------------------------------------------------------------------------------------
+
+-- what is said of a station rests on its shape and its readings
+say_the_same : (station other : PartialPicture) → station.shape ≡ other.shape → station.readings ≡ other.readings → SayTheSame station other
+say_the_same station other e f =
+    let with_these = (λ (s : PictureShape) (rs : set.OrderedSet reading_cmp). record station { shape = s; readings = rs }) in
+    record {
+      readings = f;
+      report = λ i. report_text (report_of (with_these (e i) (f i)));
+      picture = λ i. picture_of (with_these (e i) (f i));
+      pnm_file = λ i. pnm (picture_of (with_these (e i) (f i)));
+      of_same_sources = λ g. λ i. text (record { shape = e i; readings = f i; marks = g i });
+    }
+
+pub same_copies_same_readings : SameCopiesSameReadings
+same_copies_same_readings station other copies others took took' shape same =
+    let h = took_holds station copies took in
+    let k = took_holds other others took' in
+    (h, k, say_the_same station other shape (same_readings station other copies others h k same.0 same.1))
+
+-- The picture ----------------------------------------------------------------------------------------------------
+
+-- a line that survives is held
+survivor_held : (pic : WholePicture) (station : PartialPicture) (copies : List (List ℕ)) → HoldsExactly station copies → EachLineSurvives pic copies
+    → (c y : ℕ) → c < length pic.shape.ids → y < pic.shape.height → set.contains station.readings (picture_reading pic c y) ≡ true
+survivor_held pic station copies h each c y l k =
+    let s = each c y l k in (h.readings (picture_reading pic c y)).1 (s.0, s.1, surviving_lines_are_given pic s.0 c y s.2)
+
+-- so the station is of the picture's shape
+same_shape : (pic : WholePicture) (station : PartialPicture) (copies : List (List ℕ)) → IsPicture pic → HoldsExactly station copies → EachLineSurvives pic copies → station.shape ≡ pic.shape
+same_shape pic station copies is h each =
+    let s = each 0 0 is.shape.ids_at_least is.shape.height_at_least in
+    let of = all_at (λ copy. AllByRecursion (λ b. b < 256) copy × HasShape station.shape copy) copies s.0 h.are_copies s.1 in
+    same_frame station.shape pic.shape (sym of.1.2 ∙ ap (λ (c : Course). c.headers.frame) (one_course s.0 of.1.0 s.2.course of.1.1 s.2.is_course) ∙ s.2.framed)
+
+pub damaged_copies_give_the_picture : DamagedCopiesGiveThePicture
+damaged_copies_give_the_picture pic is station copies took damaged each =
+    let h = took_holds station copies took in
+    gives_picture station pic is (same_shape pic station copies is h each)
+    (λ c y l k. one_reading station c y (line_of pic c y) (survivor_held pic station copies h each c y l k) (only h c y))
+  where
+    only : HoldsExactly station copies → (c y : ℕ) (r : Reading) → set.contains station.readings r ≡ true → r.component ≡ c → r.line ≡ y → r ≡ picture_reading pic c y
+    only h c y r held e f =
+        let from = (h.readings r).0 held in
+        let of = all_at (λ copy. AllByRecursion (λ b. b < 256) copy × HasShape station.shape copy) copies from.0 h.are_copies from.1 in
+        let is = damaged_copies_give_no_other pic from.0 of.0 (all_at (Damaged pic) copies from.0 damaged from.1) r from.2 in
+        let samples : r.samples ≡ line_of pic c y = is.2 ∙ ap (λ n. line_of pic n r.line) e ∙ ap (line_of pic c) f in
+        λ i. reading_of (e i) (f i) (samples i)
+
+-- the one reading of a settled line
+only_one : (xs : List (List ℕ)) (x : List ℕ) → status_of xs ≡ Settled → Contains xs x → xs ≡ x ∷ []
+only_one [] x s c = absurd cc
+only_one (y ∷ []) x s (zero, l, e) = ap (λ z. z ∷ []) e
+only_one (y ∷ []) x s (suc k, l, e) = absurd (omega (arith, l))
+only_one (y ∷ z ∷ zs) x s c = absurd cc
+
+pub never_another_picture : NeverAnotherPicture
+never_another_picture pic is station copies took each settled =
+    let h = took_holds station copies took in
+    let e = same_shape pic station copies is h each in
+    (gives_picture station pic is e
+    (λ c y l k. only_one (readings_at station c y) (line_of pic c y)
+    (settled c (subst (λ (s : PictureShape). c < length s.ids) (sym e) l) y (subst (λ (s : PictureShape). y < s.height) (sym e) k))
+    (is_at_line station c y (line_of pic c y) (survivor_held pic station copies h each c y l k)))).1

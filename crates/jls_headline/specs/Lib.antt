@@ -1,0 +1,10 @@
+pub mod PictureLines
+pub mod Gives
+pub mod Damaged
+pub mod Survives
+pub mod Trimmed
+pub mod ScanLaws
+pub mod LostIntervalLaws
+pub mod Stations
+pub mod ReadsAs
+pub mod HeadlineLaws

@@ -1,0 +1,34 @@
+-- What makes a picture, and when a station or a file gives a picture.
+use Rattle.std.specs.Prelude.{◌≡◌, ℕ, ◌^◌, ◌<◌, List, length, ◌↔◌}
+use Rattle.std.specs.List.{AllByRecursion}
+use Rattle.jls_values.specs.Shape.{PictureShape, IsShape}
+use Rattle.jls_partial.specs.Reading.{Reading}
+use Rattle.jls_partial.specs.Partial.{PartialPicture}
+use Rattle.jls_partial.specs.Status.{IsSettled}
+use Rattle.jls_picture.specs.Picture.{WholePicture, picture_of}
+use Rattle.jls_headline.specs.PictureLines.{IsLineOf}
+use Rattle.jls_headline.specs.Gives.{Gives}
+use Rattle.jls_headline.specs.Stations.{HasShape}
+
+-- a line has as many samples as the picture has columns, each of the picture's precision
+abbrev pub IsLineIn : PictureShape → List ℕ → Type 0
+IsLineIn shape line = (length line ≡ shape.width) × AllByRecursion (λ sample. sample < 2 ^ shape.precision) line
+
+-- a component has all lines
+abbrev pub IsComponentIn : PictureShape → List (List ℕ) → Type 0
+IsComponentIn shape lines = (length lines ≡ shape.height) × AllByRecursion (IsLineIn shape) lines
+
+-- a shape, and for each component its lines
+pub record IsPicture (pic : WholePicture) : Type 0 where
+  pub shape : IsShape pic.shape
+  pub components : length pic.lines ≡ length pic.shape.ids
+  pub each : AllByRecursion (IsComponentIn pic.shape) pic.lines
+
+-- each line of the shape has exactly one reading, and this is the picture of them
+abbrev pub GivesPicture : PartialPicture → WholePicture → Type 0
+GivesPicture station pic = IsSettled station × (picture_of station ≡ pic)
+
+-- the file's frame has the picture's shape, and its readings are the picture's lines and no others
+pub record ReadsAs (file : List ℕ) (pic : WholePicture) : Type 0 where
+  pub shape : HasShape pic.shape file
+  pub readings : (r : Reading) → Gives file r ↔ IsLineOf pic r

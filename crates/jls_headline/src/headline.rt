@@ -1,0 +1,29 @@
+//! What stations hold that took the same copies, and the picture that damaged copies give. Each law is a function that does nothing and
+//! whose contract is the law.
+
+ghost use Rattle.jls_headline.specs.HeadlineLaws.{SameCopiesSameReadings, DamagedCopiesGiveThePicture};
+ghost use Rattle.jls_headline.specs.HeadlineLaws.{FilesReadAsOne, NeverAnotherPicture};
+
+/// A law, the one that this product is trusted for. Stations of one shape that took the same copies, in any order and with any repeats,
+/// hold for every component and line the same readings, exactly the ones that those copies give; their reports, their pictures and the
+/// PNM files of these are the same. A copy is the bytes that its source gave, in whatever lengths. Where the copies are damaged copies
+/// of one picture and every line survives in some copy, each line of the station is settled, and they are that picture.
+///
+/// A damaged copy may have lost whole restart intervals, fewer than eight restart markers in a row before one that is seen. The markers
+/// that are seen must be true ones, and a piece that is damaged must read as no lines but the picture's: for pieces that were only cut
+/// off, or run on, this is proved (`trimmed_copies_are_damaged`).
+pub fn same_copies_give_the_picture()
+    ensures same { SameCopiesSameReadings }
+    ensures damaged { DamagedCopiesGiveThePicture }
+{}
+
+/// A law: a file reads as one picture at most.
+pub fn files_read_as_one()
+    ensures { FilesReadAsOne }
+{}
+
+/// A law: where every line of a picture survives in some copy that a station took, whatever other copies it took and whatever damaged
+/// intervals read as, not every line of the station is settled, or they are that picture.
+pub fn never_another_picture()
+    ensures { NeverAnotherPicture }
+{}

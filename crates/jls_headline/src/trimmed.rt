@@ -1,0 +1,18 @@
+//! The laws of trimmed pieces. Each is a function that does nothing and whose contract is the law.
+
+ghost use Rattle.jls_headline.specs.LostIntervalLaws.{TrimmedPiecesAreHarmless, TrimmedCopiesAreDamaged};
+ghost use Rattle.jls_headline.specs.LostIntervalLaws.{TrimmedPiecesHaveHeads, TrimmedPiecesHaveHeadsOfPicture};
+
+/// A law: a piece of which only the front came, or behind which bytes came, reads as the picture's lines or as none. Where it lacks a
+/// bit of their code its head is those of them that stand whole, and else empty.
+pub fn trimmed_pieces_are_harmless()
+    ensures lines { TrimmedPiecesAreHarmless }
+    ensures heads { TrimmedPiecesHaveHeads }
+    ensures first_lines { TrimmedPiecesHaveHeadsOfPicture }
+{}
+
+/// A law: a copy that has only lost intervals and been trimmed is a damaged copy, so that nothing has to be assumed of what its pieces
+/// read as.
+pub fn trimmed_copies_are_damaged()
+    ensures { TrimmedCopiesAreDamaged }
+{}

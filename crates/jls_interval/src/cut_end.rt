@@ -1,0 +1,13 @@
+//! What the bytes of an interval give where their end is cut off.
+
+use crate::decode_piece::PieceFault;
+
+/// What the bytes of an interval give where the input ends behind them.
+#[derive(Debug, PartialEq, Eq, Drop)]
+pub enum CutEnd {
+    /// The lines that they read as.
+    Whole(Vec<Vec<u16>>),
+    /// They read as no lines, for this fault, which is never `OutOfMemory`. The lines are those of their head: in order, row by row
+    /// and in a row by component, so they may end inside a row.
+    Head(Vec<Vec<u16>>, PieceFault),
+}
