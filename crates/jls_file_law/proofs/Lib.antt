@@ -3,3 +3,4 @@ mod WrittenPieces
 mod WrittenScans
 mod WrittenUnits
 mod HeadsTaken
+mod FileRead
