@@ -1,6 +1,6 @@
-mod Covering
+pub mod Covering
 mod WrittenPieces
 mod WrittenScans
 mod WrittenUnits
 mod HeadsTaken
-mod FileRead
+pub mod FileRead
