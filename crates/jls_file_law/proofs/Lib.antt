@@ -1,5 +1,6 @@
-mod Covering
+pub mod Covering
 mod WrittenPieces
 mod WrittenScans
 mod WrittenUnits
 mod HeadsTaken
+pub mod FileRead

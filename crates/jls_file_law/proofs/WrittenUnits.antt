@@ -1,5 +1,5 @@
 -- The course of a written file, where its segments are taken.
-use Rattle.std.proofs.Common.{◌≡◌, ℕ, zero, suc, ◌+◌, ◌-◌, ◌/◌, ◌%◌, ◌^◌, ◌<◌, ◌≤◌, true, List, [], ◌∷◌, ◌++◌, map, length, Some, None, Ok, refl, sym, ◌∙◌, ap, subst, append_assoc, get_or, arith}
+use Rattle.std.proofs.Common.{◌≡◌, ℕ, zero, suc, ◌+◌, ◌-◌, ◌/◌, ◌%◌, ◌^◌, ◌<◌, ◌≤◌, true, false, List, [], ◌∷◌, ◌++◌, map, length, Some, None, Ok, refl, sym, ◌∙◌, ap, subst, append_assoc, get_or, arith}
 use Rattle.std.specs.Prelude.{is_some}
 use Rattle.std.specs.Int.{w16, to_be_bytes}
 use Rattle.std.proofs.lemmas.Nat.{be_bytes_2}
@@ -16,6 +16,8 @@ use Rattle.jls_copy.specs.ScanData.{closed_bytes}
 use Rattle.jls_copy.specs.Numbers.{Interval}
 use Rattle.jls_copy.specs.Pieces.{pieces_from, pieces_in}
 use Rattle.jls_copy.specs.Course.{CopyUnit, segment, scan, by_marker, segment_bytes, unit_bytes, IsSegment, IsClosing, at_eoi, for_good, AreUnits, with_soi}
+use Rattle.jls_copy.specs.CutPieces.{is_cut, closed_by_input, cut_pieces}
+use Rattle.jls_copy.specs.declared.end.End.{End}
 use Rattle.jls_copy.specs.declared.end.End.TheVariants.{Eoi}
 use Rattle.jls_picture.specs.Picture.{WholePicture}
 use Rattle.jls_picture.specs.Options.{WriteOptions}
@@ -163,6 +165,24 @@ module _ (pic : WholePicture) (o : WriteOptions) where
       let r = pieces_behind before us (index + 0) (at + length (segment_bytes 0 (code_of x) (payload_of x))) in
       (r.0, let e : index + 0 + 0 ≡ index + 0 = omega arith in rw e at r.1)
 
+  -- the input's end closes none
+  none_cut : (us : List CopyUnit) → AllByRecursion (λ u. is_cut u ≡ false) us → closed_by_input us ≡ false
+  none_cut [] h = refl
+  none_cut (u ∷ []) h = h.0
+  none_cut (u ∷ v ∷ us) h = none_cut (v ∷ us) h.1
+
+  heads_uncut : (before : List Segment) → AllByRecursion (λ u. is_cut u ≡ false) (map head_unit before)
+  heads_uncut [] = tt
+  heads_uncut (x ∷ before) = (refl, heads_uncut before)
+
+  scans_uncut : (scans : List (List ℕ)) → AllByRecursion (λ u. is_cut u ≡ false) (map scan_unit scans)
+  scans_uncut [] = tt
+  scans_uncut (c ∷ scans) = (refl, scans_uncut scans)
+
+  uncut_pieces : (begin : ℕ) (us : List CopyUnit) (h : HeaderState) (e : End) → closed_by_input us ≡ false
+      → cut_pieces (record { begin = begin; units = us; headers = h; end = e }) ≡ []
+  uncut_pieces begin us h e none = rw none refl
+
   pub reads_back : CanBeWritten pic o → AreTaken → ReadsBack pic (written_file pic o) (written_readings pic o)
   reads_back can taken =
       let before = header_segments pic o in
@@ -178,6 +198,8 @@ module _ (pic : WholePicture) (o : WriteOptions) where
         is_course = with_soi 0 (flat_map bytes_of before ++ (flat_map scan_part scans ++ eoi)) us taken.last (Eoi (end_of 2 us))
             (from_heads no_headers 2 before taken.behind scans taken.last can.whole.shape.height_at_least taken.before taken.scans (ap is_some taken.framed));
         framed = taken.framed;
+        uncut = uncut_pieces 2 us taken.last (Eoi (end_of 2 us))
+            (none_cut us (all_append (λ u. is_cut u ≡ false) (map head_unit before) (map scan_unit scans) (heads_uncut before) (scans_uncut scans)));
         offset = end_of 2 us;
         ended = refl;
         outcomes = outs.0;

@@ -1,11 +1,15 @@
 -- A written file is read back: its course, and what its pieces give.
 use Rattle.std.specs.Prelude.{◌≡◌, ℕ, ◌^◌, ◌<◌, List, [], length, Some}
+use Rattle.jls_values.specs.OrderedSet as set
 use Rattle.jls_values.specs.Shape.{IsShape}
 use Rattle.jls_values.specs.Params.{AreCodingParameters}
 use Rattle.jls_partial.specs.Reading.{Reading}
 use Rattle.jls_picture.specs.Picture.{WholePicture, line_of}
 use Rattle.jls_picture.specs.Options.{WriteOptions, OptionsFit}
 use Rattle.jls_copy.specs.Course.{Course, IsCourse}
+use Rattle.jls_copy.specs.CutPieces.{cut_pieces}
+use Rattle.jls_copy.specs.CopyReads.{CopyReads}
+use Rattle.jls_copy.specs.ReadCopy.{ReadCopy}
 use Rattle.jls_copy.specs.Pieces.{pieces, Outcome, AreOutcomes, readings, records}
 use Rattle.jls_copy.specs.declared.end.End.TheVariants.{Eoi}
 use Rattle.jls_file.specs.WrittenFile.{written_file}
@@ -30,6 +34,7 @@ pub record ReadsBack (pic : WholePicture) (copy : List ℕ) (rs : List Reading) 
   pub course : Course
   pub is_course : IsCourse copy course
   pub framed : course.headers.frame ≡ Some pic.shape
+  pub uncut : cut_pieces course ≡ []
   pub offset : ℕ
   pub ended : course.end ≡ Eoi offset
   pub outcomes : List Outcome
@@ -41,3 +46,16 @@ pub record ReadsBack (pic : WholePicture) (copy : List ℕ) (rs : List Reading) 
 abbrev pub FileLaw : Type 0
 FileLaw = (pic : WholePicture) (o : WriteOptions) → CanBeWritten pic o
     → ReadsBack pic (written_file pic o) (written_readings pic o) × AreThePicture pic (written_readings pic o)
+
+-- what a reader of copies answers of it: the picture's shape, its lines as the only readings, no record, and the end at EOI
+pub record AnswersOnly (pic : WholePicture) (rs : List Reading) (read : ReadCopy) : Type 0 where
+  pub shape : read.partial.shape ≡ pic.shape
+  pub readings_are : read.partial.readings ≡ set.insert_all set.empty rs
+  pub no_records : read.pieces ≡ []
+  pub none_counted : read.piece_count ≡ 0
+  pub offset : ℕ
+  pub ended : read.ended ≡ Eoi offset
+
+abbrev pub FileIsRead : Type 0
+FileIsRead = (pic : WholePicture) (o : WriteOptions) → CanBeWritten pic o → (read : ReadCopy) → CopyReads (written_file pic o) read
+    → AnswersOnly pic (written_readings pic o) read

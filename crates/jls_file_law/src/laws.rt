@@ -1,7 +1,7 @@
 //! The laws of written files. Each is a function that does nothing and whose contract is the law.
 
 ghost use Rattle.jls_file_law.specs.Covering.{IntervalsAreRows, IntervalsCover, ContainsThePicture};
-ghost use Rattle.jls_file_law.specs.FileLaw.{FileLaw};
+ghost use Rattle.jls_file_law.specs.FileLaw.{FileLaw, FileIsRead};
 
 /// The intervals of a scan are its rows, each once and in order, for every restart interval.
 pub fn intervals_are_rows()
@@ -18,4 +18,10 @@ pub fn intervals_cover()
 /// and line once, and none is faulty.
 pub fn written_files_read_back()
     ensures { FileLaw }
+{}
+
+/// A reader of copies answers of a written file: the picture's shape, its lines as the only readings, no faulty piece, and the
+/// end at EOI.
+pub fn written_files_are_read()
+    ensures { FileIsRead }
 {}

@@ -3,4 +3,6 @@
 
 mod laws;
 
-pub use laws::{intervals_are_rows, intervals_cover, written_files_read_back};
+pub use laws::{
+    intervals_are_rows, intervals_cover, written_files_are_read, written_files_read_back,
+};

@@ -33,7 +33,7 @@ faults_give_none s (Interval k) r (Fault f) c = absurd (none_in r c)
 faults_give_none s (BeyondLast k) r (Fault f) c = absurd (none_in r c)
 
 -- the readings of pieces that have these outcomes are what the pieces give
-listed : (ps : List FoundPiece) (os : List Outcome) (r : Reading) → AreOutcomes ps os → Contains (readings ps os) r → (p : FoundPiece) × Contains ps p × PieceGives p r
+pub listed : (ps : List FoundPiece) (os : List Outcome) (r : Reading) → AreOutcomes ps os → Contains (readings ps os) r → (p : FoundPiece) × Contains ps p × PieceGives p r
 listed [] os r are c = absurd (none_in r c)
 listed (p ∷ ps) [] r are c = absurd are
 listed (p ∷ ps) (o ∷ os) r are c =

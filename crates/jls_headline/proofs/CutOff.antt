@@ -1,5 +1,5 @@
 -- The piece that the input's end closes, found among the units of its course.
-use Rattle.std.proofs.Common.{◌≡◌, ℕ, ◌+◌, ◌/◌, ◌%◌, ◌<◌, ◌≤◌, Bool, true, false, List, [], ◌∷◌, ◌++◌, length, refl, sym, ap, ◌∙◌, subst, arith, length-append, ◌⊎◌, inl, inr}
+use Rattle.std.proofs.Common.{◌≡◌, ℕ, ◌+◌, ◌/◌, ◌%◌, ◌≤◌, Bool, true, false, List, [], ◌∷◌, ◌++◌, length, refl, sym, ap, ◌∙◌, subst, arith, length-append, inl, inr}
 use Rattle.std.specs.Prelude.{if◌then◌else◌}
 use Rattle.std.specs.List.{AllByRecursion, Contains}
 use Rattle.std.proofs.lemmas.List.{append-nil}
@@ -9,7 +9,7 @@ use Rattle.jls_marker.specs.Scan.{Scan}
 use Rattle.jls_copy.specs.ScanData.{ClosedPiece, fill_bytes}
 use Rattle.jls_copy.specs.Numbers.{PieceNumber, Interval}
 use Rattle.jls_copy.specs.Course.{by_input, by_marker, CopyUnit, segment, scan, segment_bytes, scan_data_bytes, unit_bytes, IsUnit, AreUnits, Course, IsCourse, with_soi, with_another_marker, with_no_marker, with_fill_alone}
-use Rattle.jls_copy.specs.CutPieces.{is_cut, closed_by_input, last_piece, cut_pieces}
+use Rattle.jls_copy.specs.CutPieces.{is_cut, closed_by_input, last_piece}
 use Rattle.jls_copy.specs.Pieces.{FoundPiece, pieces_from, unit_pieces, scans_in, pieces_in}
 use Rattle.jls_copy.specs.declared.end.End.{End}
 use Rattle.jls_headline.proofs.Members.{first_or_rest, none_in}

@@ -10,5 +10,6 @@ mod CopyGives
 mod SameCopies
 mod Stations
 mod Pictures
+mod WrittenFiles
 mod StationPictures
 mod TwoLineExamples

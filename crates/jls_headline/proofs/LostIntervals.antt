@@ -11,11 +11,13 @@ use Rattle.jls_copy.specs.Course.{LastClosed, by_input, by_marker, CopyUnit, seg
 use Rattle.jls_copy.specs.Pieces.{FoundPiece, Lines, IsOutcomeAt, readings_at, unit_pieces, scans_in, pieces_in, pieces}
 use Rattle.jls_copy.proofs.OneCourse.{one_course}
 use Rattle.jls_picture.specs.Picture.{WholePicture}
-use Rattle.jls_headline.specs.PictureLines.{interval_lines, interval_readings, picture_reading, IsLineOf}
+use Rattle.jls_file.specs.WrittenFile.{interval_lines}
+use Rattle.jls_file_law.specs.Covering.{IsLineOf}
+use Rattle.jls_headline.specs.PictureLines.{placed_in_interval, picture_reading}
 use Rattle.jls_copy.specs.CutPieces.{is_cut, last_piece, cut_pieces, IsHeadAt}
 use Rattle.jls_headline.specs.Gives.{PieceGives, HeadGives, CourseGives, Gives}
 use Rattle.jls_headline.specs.Damaged.{ReadsAsPictureOrNone, HasHeadOfPicture, PiecesAre, last_number, DamagedUnit}
-use Rattle.jls_headline.specs.Survives.{SomePieceIs, ReadsWithLine, HeadHasLine, SurvivesInScan, SurvivesInUnit, Survives}
+use Rattle.jls_headline.specs.Survives.{SomePieceIs, ReadsWithLine, HeadHasLine, SurvivesInUnit, Survives}
 use Rattle.jls_headline.specs.ScanLaws.{IsScanUnder, ScanOfUnitIs}
 use Rattle.jls_headline.specs.LostIntervalLaws.{ReadsWith, HeadReadsWith, DamagedCopiesGiveExactly, DamagedCopiesGiveNoOther, SurvivingLinesAreGiven}
 use Rattle.jls_headline.proofs.Members.{all_at, all_append, first_or_rest, none_in}
@@ -50,7 +52,7 @@ module _ (pic : WholePicture) where
         k = k;
         numbered = refl;
         reads = subst (λ lines. IsOutcomeAt s (Interval k) bytes (Lines lines)) e g.reads;
-        among = subst (λ lines. Contains (interval_readings s k lines) r) e g.among;
+        among = subst (λ lines. Contains (placed_in_interval s k lines) r) e g.among;
       }
 
   exact_head : (s : Scan) (index at k : ℕ) (bytes : List ℕ) → HasHeadOfPicture pic s k bytes → ExactHead (found index s at k bytes)
@@ -61,7 +63,7 @@ module _ (pic : WholePicture) where
         numbered = refl;
         count = length g.head;
         is_head = subst (λ lines. IsHeadAt s (Interval k) bytes lines) e g.is_head;
-        among = subst (λ lines. Contains (interval_readings s k lines) r) e g.among;
+        among = subst (λ lines. Contains (placed_in_interval s k lines) r) e g.among;
       }
 
   -- and the other way round
@@ -147,13 +149,13 @@ module _ (pic : WholePicture) where
   module _ (s : Scan) (is : IsScanUnder pic.shape s) (index : ℕ) where
     in_picture : (at k : ℕ) (bytes : List ℕ) → (k < intervals s) × ReadsAsPictureOrNone pic s k bytes → InPicture (found index s at k bytes)
     in_picture at k bytes h r g =
-        are_lines_of pic s k r is.0 is.1 h.0 (subst (λ lines. Contains (interval_readings s k lines) r) (h.1 g.lines g.reads) g.among)
+        are_lines_of pic s k r is.0 is.1 h.0 (subst (λ lines. Contains (placed_in_interval s k lines) r) (h.1 g.lines g.reads) g.among)
 
     head_in_picture : (at k : ℕ) (bytes : List ℕ) → (k < intervals s) × HasHeadOfPicture pic s k bytes
         → HeadInPicture (found index s at k bytes)
     head_in_picture at k bytes h r g =
         are_lines_of pic s k r is.0 is.1 h.0
-        (first_among s.components (length g.head) (interval_lines pic s k) (first_row s k) 0 r (subst (λ lines. Contains (interval_readings s k lines) r) (h.1 g.head g.is_head) g.among))
+        (first_among s.components (length g.head) (interval_lines pic s k) (first_row s k) 0 r (subst (λ lines. Contains (placed_in_interval s k lines) r) (h.1 g.head g.is_head) g.among))
 
   unit_in_picture : (index at : ℕ) (u : CopyUnit) → DamagedHere u → AllByRecursion InPicture (unit_pieces index at u)
   unit_in_picture index at (segment fill code payload) d = tt

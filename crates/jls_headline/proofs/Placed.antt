@@ -10,8 +10,14 @@ use Rattle.jls_marker.specs.Scan.{Scan, IsScan, IsScanOf, first_row, row_count, 
 use Rattle.jls_marker.proofs.Intervals.{part_the_lines}
 use Rattle.jls_copy.specs.Pieces.{placed}
 use Rattle.jls_picture.specs.Picture.{WholePicture, line_of}
-use Rattle.jls_headline.specs.PictureLines.{rows_from, interval_lines, interval_readings, picture_reading, IsLineOf}
+use Rattle.jls_file.specs.WrittenFile.{row_lines, interval_lines}
+use Rattle.jls_file_law.specs.Covering.{IsLineOf}
+use Rattle.jls_headline.specs.PictureLines.{placed_in_interval, picture_reading}
 use Rattle.jls_headline.proofs.Members.{none_in, in_rest, first_or_rest, all_at, all_append, in_map, in_flat_map}
+
+-- so many rows of these components, from this row on
+abbrev rows_from : WholePicture → List ℕ → ℕ → ℕ → List (List ℕ)
+rows_from pic components row count = flat_map (row_lines pic components) (range_with_len row count)
 
 abbrev row_readings : WholePicture → List ℕ → ℕ → List Reading
 row_readings pic components row = map (λ c. picture_reading pic c row) components
@@ -93,15 +99,15 @@ first_among components (suc n) (line ∷ lines) row place r c =
 
 -- the interval's line is among its readings
 pub line_is_among : (pic : WholePicture) (s : Scan) (k component line : ℕ) → Contains s.components component → HasRow s k line
-    → Contains (interval_readings s k (interval_lines pic s k)) (picture_reading pic component line)
+    → Contains (placed_in_interval s k (interval_lines pic s k)) (picture_reading pic component line)
 line_is_among pic s k component line c h = line_among pic s.components component (first_row s k) (row_count s k) line c h.0 h.1
 
 -- a reading of the interval's lines is a line of the picture
 pub are_lines_of : (pic : WholePicture) (s : Scan) (k : ℕ) (r : Reading) → IsScan s → IsScanOf pic.shape s → k < intervals s
-    → Contains (interval_readings s k (interval_lines pic s k)) r → IsLineOf pic r
+    → Contains (placed_in_interval s k (interval_lines pic s k)) r → IsLineOf pic r
 unfolding IsIn
 are_lines_of pic s k r is of low c =
-    let at = all_at (IsIn pic (λ c. c < length pic.shape.ids) (first_row s k) (row_count s k)) (interval_readings s k (interval_lines pic s k)) r
+    let at = all_at (IsIn pic (λ c. c < length pic.shape.ids) (first_row s k) (row_count s k)) (placed_in_interval s k (interval_lines pic s k)) r
     (placed_are pic (λ c. c < length pic.shape.ids) s.components (first_row s k) (row_count s k) is.components_at_least of.components_below) c in
     let within = (part_the_lines s is.height_at_least).within r.line k low (at.1, at.2) in
     (at.0, subst (λ n. r.line < n) of.height within, at.3)

@@ -12,13 +12,14 @@ use Rattle.jls_copy.specs.Course.{Course}
 use Rattle.jls_copy.proofs.OneCourse.{one_course}
 use Rattle.jls_picture.specs.Picture.{WholePicture, line_of, picture_of}
 use Rattle.jls_picture.specs.Pnm.{pnm}
+use Rattle.jls_file.specs.WrittenFile.{written_file}
 use Rattle.jls_report.specs.Report.{report_of}
 use Rattle.jls_report.specs.ReportText.{report_text}
 use Rattle.jls_headline.specs.PictureLines.{picture_reading}
 use Rattle.jls_headline.specs.Damaged.{Damaged}
 use Rattle.jls_headline.specs.Survives.{EachLineSurvives}
 use Rattle.jls_headline.specs.Stations.{HasShape, HoldsExactly}
-use Rattle.jls_headline.specs.ReadsAs.{IsPicture}
+use Rattle.jls_headline.specs.ReadsAs.{IsPicture, GivesPicture}
 use Rattle.jls_headline.specs.HeadlineLaws.{SayTheSame, SameCopiesSameReadings, DamagedCopiesGiveThePicture, NeverAnotherPicture}
 use Rattle.jls_headline.proofs.Members.{all_at}
 use Rattle.jls_headline.proofs.ScansInRange.{same_frame}
@@ -26,6 +27,7 @@ use Rattle.jls_headline.proofs.LostIntervals.{damaged_copies_give_no_other, surv
 use Rattle.jls_headline.proofs.Held.{one_reading, is_at_line}
 use Rattle.jls_headline.proofs.Stations.{took_holds, same_readings}
 use Rattle.jls_headline.proofs.Pictures.{gives_picture}
+use Rattle.jls_headline.proofs.WrittenFiles.{files_read_as}
 
 -- The same copies ------------------------------------------------------------------------------------------------
 
@@ -38,6 +40,7 @@ say_the_same station other e f =
       report = λ i. report_text (report_of (with_these (e i) (f i)));
       picture = λ i. picture_of (with_these (e i) (f i));
       pnm_file = λ i. pnm (picture_of (with_these (e i) (f i)));
+      jls_file = λ o. λ i. written_file (picture_of (with_these (e i) (f i))) o;
       of_same_sources = λ g. λ i. text (record { shape = e i; readings = f i; marks = g i });
     }
 
@@ -65,8 +68,9 @@ same_shape pic station copies is h each =
 pub damaged_copies_give_the_picture : DamagedCopiesGiveThePicture
 damaged_copies_give_the_picture pic is station copies took damaged each =
     let h = took_holds station copies took in
-    gives_picture station pic is (same_shape pic station copies is h each)
-    (λ c y l k. one_reading station c y (line_of pic c y) (survivor_held pic station copies h each c y l k) (only h c y))
+    let gives : GivesPicture station pic = gives_picture station pic is (same_shape pic station copies is h each)
+    (λ c y l k. one_reading station c y (line_of pic c y) (survivor_held pic station copies h each c y l k) (only h c y)) in
+    (gives, files_read_as station pic is gives.1)
   where
     only : HoldsExactly station copies → (c y : ℕ) (r : Reading) → set.contains station.readings r ≡ true → r.component ≡ c → r.line ≡ y → r ≡ picture_reading pic c y
     only h c y r held e f =

@@ -18,7 +18,7 @@ use Rattle.jls_marker.specs.Scan.{row_count}
 use Rattle.jls_copy.specs.ScanData.{ClosedPiece}
 use Rattle.jls_copy.specs.Course.{CopyUnit, segment, scan, LastClosed, by_input, by_marker}
 use Rattle.jls_picture.specs.Picture.{WholePicture}
-use Rattle.jls_headline.specs.PictureLines.{interval_lines}
+use Rattle.jls_file.specs.WrittenFile.{interval_lines}
 use Rattle.jls_headline.specs.Damaged.{PiecesAre, last_number, WhereCutOff, ReadsAsPictureOrNone, HasHeadOfPicture, DamagedUnit}
 use Rattle.jls_headline.specs.Trimmed.{Trimmed, whole, front, longer, IsTrimmed, TrimmedUnit}
 use Rattle.jls_headline.specs.ScanLaws.{IsScanUnder, ScanOfUnitIs}

@@ -1,6 +1,6 @@
 -- A picture of two lines, and two copies of it of which each has lost another line: every premise of the laws is met. And what there is
 -- where a premise is not.
-use Rattle.std.proofs.Common.{◌≡◌, ℕ, zero, suc, ◌<◌, ◌≤◌, true, false, List, [], ◌∷◌, ◌++◌, map, length, replicate, Some, None, Ok, refl, sym, ap, subst, ◌∙◌, lit<, lit≤, arith, ◌⊎◌, inl, inr}
+use Rattle.std.proofs.Common.{◌≡◌, ℕ, zero, suc, ◌<◌, true, false, List, [], ◌∷◌, ◌++◌, map, replicate, Some, refl, sym, ap, subst, ◌∙◌, lit<, lit≤, arith, ◌⊎◌, inl, inr}
 use Rattle.std.specs.Prelude.{nat_lt, get_or}
 use Rattle.std.specs.List.{AllByRecursion, Contains, list_all}
 use Rattle.std.proofs.lemmas.Bool.{and_parts, ltb-true}
@@ -27,16 +27,16 @@ use Rattle.jls_marker.specs.MarkerCodes.{has_segment}
 use Rattle.jls_marker.specs.HeaderState.{HeaderState, no_headers}
 use Rattle.jls_marker.specs.Headers.{headers_after}
 use Rattle.jls_marker.specs.Scan.{Scan}
-use Rattle.jls_copy.specs.ScanData.{ClosedPiece, IsClosedPiece, IsPiece}
+use Rattle.jls_copy.specs.ScanData.{ClosedPiece}
 use Rattle.jls_copy.specs.Numbers.{Interval, mark_before}
-use Rattle.jls_copy.specs.Course.{by_marker, CopyUnit, segment, scan, AreUnits, Course, IsCourse, with_soi, at_eoi, for_good}
+use Rattle.jls_copy.specs.Course.{by_marker, CopyUnit, segment, scan, Course, IsCourse, with_soi, at_eoi, for_good}
 use Rattle.jls_copy.specs.Pieces.{pieces_from}
 use Rattle.jls_copy.specs.declared.end.End.TheVariants.{Eoi}
 use Rattle.jls_copy.specs.CopyReads.{CopyReads}
 use Rattle.jls_copy.specs.ReadCopy.{ReadCopy}
 use Rattle.jls_copy.proofs.OneCourse.{one_course}
 use Rattle.jls_picture.specs.Picture.{WholePicture}
-use Rattle.jls_headline.specs.PictureLines.{IsLineOf}
+use Rattle.jls_file_law.specs.Covering.{IsLineOf}
 use Rattle.jls_headline.specs.Gives.{Gives}
 use Rattle.jls_headline.specs.Damaged.{PiecesAre, Damaged}
 use Rattle.jls_headline.specs.Survives.{SomePieceIs, ReadsWithLine, SurvivesInUnit, Survives, EachLineSurvives}
@@ -341,8 +341,8 @@ took_both p a b e new ra rb =
 picture_comes_back : (p : PartialPicture) (a b : ReadCopy) → p.shape ≡ shape → p.readings ≡ set.empty → CopyReads first a → CopyReads second b
     → GivesPicture (union (union p b.partial) a.partial) pic
 picture_comes_back p a b e new ra rb =
-    damaged_copies_give_the_picture pic is_picture (union (union p b.partial) a.partial) (first ∷ second ∷ []) (took_both p a b e new ra rb)
-    both_are_damaged each_line_survives
+    (damaged_copies_give_the_picture pic is_picture (union (union p b.partial) a.partial) (first ∷ second ∷ []) (took_both p a b e new ra rb)
+    both_are_damaged each_line_survives).0
 
 -- Where a premise is not met -------------------------------------------------------------------------------------
 

@@ -7,7 +7,7 @@ use Rattle.jls_copy.specs.Numbers.{Interval, RiseByEightAtMost, mark_before}
 use Rattle.jls_copy.specs.Course.{LastClosed, by_input, by_marker, CopyUnit, segment, scan, Course, IsCourse}
 use Rattle.jls_copy.specs.Pieces.{Lines, IsOutcomeAt}
 use Rattle.jls_picture.specs.Picture.{WholePicture}
-use Rattle.jls_headline.specs.PictureLines.{interval_lines}
+use Rattle.jls_file.specs.WrittenFile.{interval_lines}
 use Rattle.jls_copy.specs.CutPieces.{IsHeadAt}
 
 -- What a piece reads as ----------------------------------------------------------------------------------------

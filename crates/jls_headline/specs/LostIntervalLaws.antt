@@ -10,7 +10,9 @@ use Rattle.jls_copy.specs.Numbers.{Interval, RiseByEightAtMost}
 use Rattle.jls_copy.specs.Course.{Course}
 use Rattle.jls_copy.specs.Pieces.{FoundPiece, pieces_from, pieces}
 use Rattle.jls_picture.specs.Picture.{WholePicture}
-use Rattle.jls_headline.specs.PictureLines.{interval_lines, interval_readings, picture_reading, IsLineOf}
+use Rattle.jls_file.specs.WrittenFile.{interval_lines}
+use Rattle.jls_file_law.specs.Covering.{IsLineOf}
+use Rattle.jls_headline.specs.PictureLines.{placed_in_interval, picture_reading}
 use Rattle.jls_copy.specs.CutPieces.{cut_pieces, IsHeadAt}
 use Rattle.jls_headline.specs.Gives.{CourseGives, Gives}
 use Rattle.jls_headline.specs.Damaged.{ReadsAsPicture, ReadsAsPictureOrNone, HasHeadOfPicture, PiecesAre, DamagedCourse, Damaged}
@@ -33,7 +35,7 @@ pub record ReadsWith (pic : WholePicture) (p : FoundPiece) (r : Reading) : Type 
   pub k : ℕ
   pub numbered : p.number ≡ Interval k
   pub reads : ReadsAsPicture pic p.plan k p.bytes
-  pub among : Contains (interval_readings p.plan k (interval_lines pic p.plan k)) r
+  pub among : Contains (placed_in_interval p.plan k (interval_lines pic p.plan k)) r
 
 -- the piece has the number of an interval, its head is the first of the picture's lines of it, and this is one of them
 pub record HeadReadsWith (pic : WholePicture) (p : FoundPiece) (r : Reading) : Type 0 where
@@ -41,7 +43,7 @@ pub record HeadReadsWith (pic : WholePicture) (p : FoundPiece) (r : Reading) : T
   pub numbered : p.number ≡ Interval k
   pub count : ℕ
   pub is_head : IsHeadAt p.plan (Interval k) p.bytes (take count (interval_lines pic p.plan k))
-  pub among : Contains (interval_readings p.plan k (take count (interval_lines pic p.plan k))) r
+  pub among : Contains (placed_in_interval p.plan k (take count (interval_lines pic p.plan k))) r
 
 -- A damaged copy gives exactly the picture's lines of the intervals whose piece reads, with those of the head
 abbrev pub DamagedCopiesGiveExactly : Type 0

@@ -2,11 +2,14 @@
 use Rattle.std.specs.Prelude.{◌≡◌, ℕ, ◌^◌, ◌<◌, List, length, ◌↔◌}
 use Rattle.std.specs.List.{AllByRecursion}
 use Rattle.jls_values.specs.Shape.{PictureShape, IsShape}
+use Rattle.jls_values.specs.Params.{AreCodingParameters}
 use Rattle.jls_partial.specs.Reading.{Reading}
 use Rattle.jls_partial.specs.Partial.{PartialPicture}
 use Rattle.jls_partial.specs.Status.{IsSettled}
 use Rattle.jls_picture.specs.Picture.{WholePicture, picture_of}
-use Rattle.jls_headline.specs.PictureLines.{IsLineOf}
+use Rattle.jls_picture.specs.Options.{WriteOptions, OptionsFit}
+use Rattle.jls_file.specs.WrittenFile.{written_file}
+use Rattle.jls_file_law.specs.Covering.{IsLineOf}
 use Rattle.jls_headline.specs.Gives.{Gives}
 use Rattle.jls_headline.specs.Stations.{HasShape}
 
@@ -32,3 +35,15 @@ GivesPicture station pic = IsSettled station × (picture_of station ≡ pic)
 pub record ReadsAs (file : List ℕ) (pic : WholePicture) : Type 0 where
   pub shape : HasShape pic.shape file
   pub readings : (r : Reading) → Gives file r ↔ IsLineOf pic r
+
+-- it reads as this picture, and as no other
+pub record ReadsAsOnly (file : List ℕ) (pic : WholePicture) : Type 0 where
+  pub reads : ReadsAs file pic
+  pub no_other : (other : WholePicture) → IsPicture other → ReadsAs file other → other ≡ pic
+
+-- each JPEG-LS file that is written of the station's picture, under options in their ranges that fit this one, reads as this one and
+-- as no other
+abbrev pub FilesReadAs : PartialPicture → WholePicture → Type 0
+FilesReadAs station pic =
+    (o : WriteOptions) → AreCodingParameters o.params → o.restart_interval < 2 ^ 32 → OptionsFit pic o
+    → ReadsAsOnly (written_file (picture_of station) o) pic

@@ -6,7 +6,7 @@ use Rattle.jls_copy.specs.ScanData.{ClosedPiece}
 use Rattle.jls_copy.specs.Numbers.{Interval, RiseByEightAtMost}
 use Rattle.jls_copy.specs.Course.{LastClosed, by_input, by_marker, CopyUnit, segment, scan, Course, IsCourse}
 use Rattle.jls_picture.specs.Picture.{WholePicture}
-use Rattle.jls_headline.specs.PictureLines.{interval_readings, picture_reading}
+use Rattle.jls_headline.specs.PictureLines.{placed_in_interval, picture_reading}
 use Rattle.jls_copy.specs.CutPieces.{IsHeadAt}
 use Rattle.jls_headline.specs.Damaged.{ReadsAsPicture, PiecesAre, last_number}
 
@@ -27,7 +27,7 @@ ReadsWithLine pic s component line k bytes = HasLine s component line k × Reads
 -- the input's end closes the piece, and its head, as that of interval k, has the picture's line
 abbrev pub HeadHasLine : WholePicture → Scan → ℕ → ℕ → ℕ → List ℕ → LastClosed → Type 0
 HeadHasLine pic s component line k bytes (by_input dropped) =
-    (head : List (List ℕ)) × IsHeadAt s (Interval k) bytes head × Contains (interval_readings s k head) (picture_reading pic component line)
+    (head : List (List ℕ)) × IsHeadAt s (Interval k) bytes head × Contains (placed_in_interval s k head) (picture_reading pic component line)
 HeadHasLine pic s component line k bytes by_marker = ⊥
 
 -- the marks are those of numbers that rise by one to eight each, and some piece, or the head of the last one, has the picture's line

@@ -8,7 +8,7 @@ use Rattle.jls_copy.specs.ScanData.{ClosedPiece}
 use Rattle.jls_copy.specs.Numbers.{RiseByEightAtMost}
 use Rattle.jls_copy.specs.Course.{CopyUnit, segment, scan, Course, IsCourse}
 use Rattle.jls_picture.specs.Picture.{WholePicture}
-use Rattle.jls_headline.specs.PictureLines.{interval_lines}
+use Rattle.jls_file.specs.WrittenFile.{interval_lines}
 use Rattle.jls_headline.specs.Damaged.{ReadsAsPicture, PiecesAre}
 
 -- the whole of the bytes, so many of them from the front on, or all of them and at least one more

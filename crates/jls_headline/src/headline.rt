@@ -5,9 +5,10 @@ ghost use Rattle.jls_headline.specs.HeadlineLaws.{SameCopiesSameReadings, Damage
 ghost use Rattle.jls_headline.specs.HeadlineLaws.{FilesReadAsOne, NeverAnotherPicture};
 
 /// A law, the one that this product is trusted for. Stations of one shape that took the same copies, in any order and with any repeats,
-/// hold for every component and line the same readings, exactly the ones that those copies give; their reports, their pictures and the
-/// PNM files of these are the same. A copy is the bytes that its source gave, in whatever lengths. Where the copies are damaged copies
-/// of one picture and every line survives in some copy, each line of the station is settled, and they are that picture.
+/// hold for every component and line the same readings, exactly the ones that those copies give; their reports, their pictures, and the
+/// PNM files and JPEG-LS files of these are the same. A copy is the bytes that its source gave, in whatever lengths. Where the copies
+/// are damaged copies of one picture and every line survives in some copy, each line of the station is settled, and they are that
+/// picture; and the JPEG-LS file that is written of it, under any options that fit, reads as that picture and no other.
 ///
 /// A damaged copy may have lost whole restart intervals, fewer than eight restart markers in a row before one that is seen. The markers
 /// that are seen must be true ones, and a piece that is damaged must read as no lines but the picture's: for pieces that were only cut
