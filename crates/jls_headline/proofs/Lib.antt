@@ -12,4 +12,6 @@ mod Stations
 mod Pictures
 mod WrittenFiles
 mod StationPictures
+mod InputBytes
+mod JoinRuns
 mod TwoLineExamples

@@ -8,3 +8,4 @@ pub mod LostIntervalLaws
 pub mod Stations
 pub mod ReadsAs
 pub mod HeadlineLaws
+pub mod RunLaws
