@@ -40,44 +40,44 @@ past_all (e ∷ events) rest h =
 
 -- The reads of an input ------------------------------------------------------------------------------------------
 
-reads_on : (fed : List ℕ) (reads : List Event) → GoesOn IsEnough fed reads → OpenNone reads
-reads_on fed [] h = tt
-reads_on fed (gave room bytes ∷ more) h = (refl, reads_on (fed ++ bytes) more h.3)
-reads_on fed (opened name ∷ more) h = absurd h
-reads_on fed (not_opened name ∷ more) h = absurd h
-reads_on fed (read_failed ∷ more) h = absurd h
-reads_on fed (created name ∷ more) h = absurd h
-reads_on fed (not_created name ∷ more) h = absurd h
-reads_on fed (took bytes ∷ more) h = absurd h
-reads_on fed (write_failed ∷ more) h = absurd h
+reads_on : (Enough : List ℕ → Type 0) (fed : List ℕ) (reads : List Event) → GoesOn Enough fed reads → OpenNone reads
+reads_on Enough fed [] h = tt
+reads_on Enough fed (gave room bytes ∷ more) h = (refl, reads_on Enough (fed ++ bytes) more h.3)
+reads_on Enough fed (opened name ∷ more) h = absurd h
+reads_on Enough fed (not_opened name ∷ more) h = absurd h
+reads_on Enough fed (read_failed ∷ more) h = absurd h
+reads_on Enough fed (created name ∷ more) h = absurd h
+reads_on Enough fed (not_created name ∷ more) h = absurd h
+reads_on Enough fed (took bytes ∷ more) h = absurd h
+reads_on Enough fed (write_failed ∷ more) h = absurd h
 
 -- the last read gave nothing
-last_read : (bytes : List ℕ) (last : List Event) (stop : ReadStop) → StopsWith IsEnough bytes last stop
+last_read : (Enough : List ℕ → Type 0) (bytes : List ℕ) (last : List Event) (stop : ReadStop) → StopsWith Enough bytes last stop
     → OpenNone last × (bytes_given last ≡ [])
-last_read bytes [] Whole h = (tt, refl)
-last_read bytes [] Turns h = (tt, refl)
-last_read bytes [] Failed h = absurd h
-last_read bytes (gave room [] ∷ []) Whole h = ((refl, tt), refl)
-last_read bytes (gave room [] ∷ []) Failed h = absurd h
-last_read bytes (gave room [] ∷ []) Turns h = absurd h
-last_read bytes (gave room [] ∷ e ∷ more) stop h = absurd h
-last_read bytes (gave room (b ∷ bs) ∷ more) stop h = absurd h
-last_read bytes (opened name ∷ more) stop h = absurd h
-last_read bytes (not_opened name ∷ more) stop h = absurd h
-last_read bytes (read_failed ∷ []) Failed h = ((refl, tt), refl)
-last_read bytes (read_failed ∷ []) Whole h = absurd h
-last_read bytes (read_failed ∷ []) Turns h = absurd h
-last_read bytes (read_failed ∷ e ∷ more) stop h = absurd h
-last_read bytes (created name ∷ more) stop h = absurd h
-last_read bytes (not_created name ∷ more) stop h = absurd h
-last_read bytes (took b ∷ more) stop h = absurd h
-last_read bytes (write_failed ∷ more) stop h = absurd h
+last_read Enough bytes [] Whole h = (tt, refl)
+last_read Enough bytes [] Turns h = (tt, refl)
+last_read Enough bytes [] Failed h = absurd h
+last_read Enough bytes (gave room [] ∷ []) Whole h = ((refl, tt), refl)
+last_read Enough bytes (gave room [] ∷ []) Failed h = absurd h
+last_read Enough bytes (gave room [] ∷ []) Turns h = absurd h
+last_read Enough bytes (gave room [] ∷ e ∷ more) stop h = absurd h
+last_read Enough bytes (gave room (b ∷ bs) ∷ more) stop h = absurd h
+last_read Enough bytes (opened name ∷ more) stop h = absurd h
+last_read Enough bytes (not_opened name ∷ more) stop h = absurd h
+last_read Enough bytes (read_failed ∷ []) Failed h = ((refl, tt), refl)
+last_read Enough bytes (read_failed ∷ []) Whole h = absurd h
+last_read Enough bytes (read_failed ∷ []) Turns h = absurd h
+last_read Enough bytes (read_failed ∷ e ∷ more) stop h = absurd h
+last_read Enough bytes (created name ∷ more) stop h = absurd h
+last_read Enough bytes (not_created name ∷ more) stop h = absurd h
+last_read Enough bytes (took b ∷ more) stop h = absurd h
+last_read Enough bytes (write_failed ∷ more) stop h = absurd h
 
-all_reads : (bytes : List ℕ) (reads : List Event) (stop : ReadStop) → IsRead IsEnough reads bytes stop
+pub all_reads : (Enough : List ℕ → Type 0) (bytes : List ℕ) (reads : List Event) (stop : ReadStop) → IsRead Enough reads bytes stop
     → OpenNone reads × (bytes_given reads ≡ bytes)
-all_reads bytes reads stop h =
-    let l = last_read bytes h.last stop h.stops in (
-      subst OpenNone (sym h.reads_are) (all_append (λ e. is_opening e ≡ false) h.on h.last (reads_on [] h.on h.goes_on) l.0),
+all_reads Enough bytes reads stop h =
+    let l = last_read Enough bytes h.last stop h.stops in (
+      subst OpenNone (sym h.reads_are) (all_append (λ e. is_opening e ≡ false) h.on h.last (reads_on Enough [] h.on h.goes_on) l.0),
       ap bytes_given h.reads_are ∙ flat_map-append bytes_given_by h.on h.last
           ∙ ap (λ (x : List ℕ). bytes_given h.on ++ x) l.1 ∙ append-nil (bytes_given h.on) ∙ sym h.bytes_are,
     )
@@ -91,7 +91,7 @@ ReadsNone rest = bytes_given (before_next is_opening rest) ≡ []
 one_input : (source : Option ℕ) (name : List ℕ) (g : Given) (mine rest : List Event) (h : IsTaken source name g mine) → ReadsNone rest
     → (input_bytes (mine ++ rest) ≡ h.give.bytes ∷ input_bytes rest) × ReadsNone (mine ++ rest)
 one_input source name g mine rest h none =
-    let reads = all_reads h.give.bytes h.reads g.stop h.give.is_read in
+    let reads = all_reads IsEnough h.give.bytes h.reads g.stop h.give.is_read in
     let past = past_all h.reads rest reads.0 in
     let given : bytes_given (before_next is_opening (h.reads ++ rest)) ≡ h.give.bytes =
     ap bytes_given past.0 ∙ flat_map-append bytes_given_by h.reads (before_next is_opening rest)

@@ -49,7 +49,7 @@ of_this : (bytes : List ℕ) (r : Reading) → ReadingsOf (bytes ∷ []) r → c
 of_this bytes r (other, c, g) =
     elim (first_or_rest other bytes [] c) [ inl e ↦ subst (λ x. copy.Gives x r) (sym e) g | inr later ↦ absurd (none_in other later) ]
 
-copy_holds : (source : Option ℕ) (bytes : List ℕ) (read : ReadCopy) → AreBytes bytes → CopyReads bytes read
+pub copy_holds : (source : Option ℕ) (bytes : List ℕ) (read : ReadCopy) → AreBytes bytes → CopyReads bytes read
     → HoldsExactly (marked source read.partial) (bytes ∷ [])
 copy_holds source bytes read low reads =
     let shape : HasShape (marked source read.partial).shape bytes =

@@ -14,4 +14,5 @@ mod WrittenFiles
 mod StationPictures
 mod InputBytes
 mod JoinRuns
+mod StationCalls
 mod TwoLineExamples

@@ -9,3 +9,4 @@ pub mod Stations
 pub mod ReadsAs
 pub mod HeadlineLaws
 pub mod RunLaws
+pub mod CallLaws
