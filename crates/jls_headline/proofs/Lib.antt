@@ -12,4 +12,7 @@ mod Stations
 mod Pictures
 mod WrittenFiles
 mod StationPictures
+mod InputBytes
+mod JoinRuns
+mod StationCalls
 mod TwoLineExamples

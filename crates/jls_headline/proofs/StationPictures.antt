@@ -32,7 +32,7 @@ use Rattle.jls_headline.proofs.WrittenFiles.{files_read_as}
 -- The same copies ------------------------------------------------------------------------------------------------
 
 -- what is said of a station rests on its shape and its readings
-say_the_same : (station other : PartialPicture) → station.shape ≡ other.shape → station.readings ≡ other.readings → SayTheSame station other
+pub say_the_same : (station other : PartialPicture) → station.shape ≡ other.shape → station.readings ≡ other.readings → SayTheSame station other
 say_the_same station other e f =
     let with_these = (λ (s : PictureShape) (rs : set.OrderedSet reading_cmp). record station { shape = s; readings = rs }) in
     record {

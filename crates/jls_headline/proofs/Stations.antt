@@ -46,6 +46,17 @@ of_one : (Claim : Type 0) (more copies : List (List ℕ)) (r : Reading) → (Rea
 of_one Claim more copies r f g (copy, c, h) =
     elim (Contains-append_cases more copies copy c) [ inl m ↦ f (copy, m, h) | inr m ↦ g (copy, m, h) ]
 
+-- a union holds exactly what both do
+pub union_holds : (p q : PartialPicture) (copies more : List (List ℕ)) → HoldsExactly p copies → HoldsExactly q more → q.shape ≡ p.shape
+    → HoldsExactly (union p q) (copies ++ more)
+union_holds p q copies more h k shape = record {
+  are_copies = all_append _ copies more h.are_copies (subst (λ s. AreCopies s more) shape k.are_copies);
+  readings = λ r. (
+    one_has (ReadingsOf (copies ++ more) r) p q r (λ m. of_first copies more r ((h.readings r).0 m)) (λ m. of_second copies more r ((k.readings r).0 m)),
+    of_one (has (union p q) r) copies more r (λ m. left_has p q r ((h.readings r).1 m)) (λ m. right_has p q r ((k.readings r).1 m)),
+  );
+}
+
 -- what holds after each call
 record Holds (station : PartialPicture) (copies over : List (List ℕ)) : Type 0 where
   are_copies : AreCopies station.shape copies

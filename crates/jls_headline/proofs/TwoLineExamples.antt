@@ -5,7 +5,6 @@ use Rattle.std.specs.Prelude.{nat_lt, get_or}
 use Rattle.std.specs.List.{AllByRecursion, Contains, list_all}
 use Rattle.std.proofs.lemmas.Bool.{and_parts, ltb-true}
 use Rattle.jls_values.specs.OrderedSet as set
-use Rattle.jls_values.specs.OrderedSetLaws.{contains-empty}
 use Rattle.jls_values.specs.Shape.{PictureShape}
 use Rattle.jls_values.specs.Params.{CodingParameters, least_from}
 use Rattle.jls_bits.specs.Bits.{bits, width_after, bits_read_after, ends_data, is_whole_after}
@@ -20,7 +19,7 @@ use Rattle.jls_interval.specs.Cells.{cell_before, run_cell_before}
 use Rattle.jls_interval.specs.Runs.{block_columns, full_blocks, blocks, run_index_before}
 use Rattle.jls_interval.specs.Code.{event_bits, bits_of_events, code}
 use Rattle.jls_interval.specs.Reads.{Reads}
-use Rattle.jls_partial.specs.Reading.{reading_of, reading_cmp}
+use Rattle.jls_partial.specs.Reading.{reading_of}
 use Rattle.jls_partial.specs.Partial.{PartialPicture, union}
 use Rattle.jls_marker.specs.ComponentIndex.{index_of}
 use Rattle.jls_marker.specs.MarkerCodes.{has_segment}
@@ -42,11 +41,12 @@ use Rattle.jls_headline.specs.Damaged.{PiecesAre, Damaged}
 use Rattle.jls_headline.specs.Survives.{SomePieceIs, ReadsWithLine, SurvivesInUnit, Survives, EachLineSurvives}
 use Rattle.jls_headline.specs.Trimmed.{whole, front, TrimmedCopy}
 use Rattle.jls_headline.specs.ReadsAs.{IsPicture, GivesPicture}
-use Rattle.jls_headline.specs.Stations.{HoldsExactly, began, took_copy, TookInTheEnd}
+use Rattle.jls_headline.specs.Stations.{began, took_copy, TookInTheEnd}
 use Rattle.jls_headline.proofs.Members.{none_in}
 use Rattle.jls_headline.proofs.CopyGives.{copy_has_shape}
 use Rattle.jls_headline.proofs.ScansInRange.{same_frame}
 use Rattle.jls_headline.proofs.StationPictures.{damaged_copies_give_the_picture}
+use Rattle.jls_headline.proofs.StationCalls.{holds_none}
 use Rattle.jls_headline.proofs.Trims.{trimmed_copies_are_damaged}
 
 -- The picture ----------------------------------------------------------------------------------------------------
@@ -311,15 +311,6 @@ each_line_survives (suc component) line c l = absurd (omega (arith, c))
 
 -- A new station that takes both has the picture ------------------------------------------------------------------
 
-new_station : (p : PartialPicture) → p.readings ≡ set.empty → HoldsExactly p []
-new_station p e = record {
-  are_copies = tt;
-  readings = λ r. (
-    λ h. (let none : false ≡ true = sym (contains-empty reading_cmp r) ∙ subst (λ rs. set.contains rs r ≡ true) e h in absurd cc),
-    λ g. absurd (none_in g.0 g.1),
-  );
-}
-
 -- what is read of a copy of this shape has the shape
 shape_read : (copy : List ℕ) (c : Course) (read : ReadCopy) → IsCourse copy c → c.headers.frame ≡ Some shape → CopyReads copy read → read.partial.shape ≡ shape
 shape_read copy c read is framed reads =
@@ -333,7 +324,7 @@ took_both p a b e new ra rb =
     let sb = shape_read second (course_with (lost_first ∷ []) (0x40 ∷ []) 34) b second_course refl rb ∙ sym e in (
       [],
       took_copy (union p b.partial) a.partial (second ∷ []) [] first a
-          (took_copy p b.partial [] [] second b (began p [] (new_station p new)) (bytes_of_test second refl) rb (refl, refl) sb)
+          (took_copy p b.partial [] [] second b (began p [] (holds_none p new)) (bytes_of_test second refl) rb (refl, refl) sb)
           (bytes_of_test first refl) ra (refl, refl) sa,
       λ copy c. absurd (none_in copy c),
     )

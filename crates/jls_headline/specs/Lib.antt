@@ -8,3 +8,5 @@ pub mod LostIntervalLaws
 pub mod Stations
 pub mod ReadsAs
 pub mod HeadlineLaws
+pub mod RunLaws
+pub mod CallLaws

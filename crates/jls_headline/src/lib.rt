@@ -2,14 +2,18 @@
 //! definitions and laws alone; each law is a function that does nothing and whose contract is the law.
 #![tactic(auto)]
 
+mod calls;
 mod headline;
 mod lost_intervals;
+mod runs;
 mod scans;
 mod trimmed;
 
+pub use calls::calls_tell_what_was_taken;
 pub use headline::{files_read_as_one, never_another_picture, same_copies_give_the_picture};
 pub use lost_intervals::{
     damaged_copies_give_the_picture, numbers_come_back, surviving_lines_are_given,
 };
+pub use runs::joined_copies_give_the_picture;
 pub use scans::scans_are_of_the_frame;
 pub use trimmed::{trimmed_copies_are_damaged, trimmed_pieces_are_harmless};

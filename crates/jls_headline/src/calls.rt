@@ -1,0 +1,15 @@
+//! The calls on a station. The law is a function that does nothing and whose contract is the law.
+
+ghost use Rattle.jls_headline.specs.CallLaws.{NewStationTookNothing, CopyIsTaken, CopyIsRefused};
+ghost use Rattle.jls_headline.specs.CallLaws.{PartialIsTaken, PartialIsRefused};
+
+/// A law: a new station took nothing. A station that answers a copy with Ok took the bytes that the reads of this call gave; one that
+/// refuses a copy took nothing, or ran out of memory over it. The same holds of partial pictures that hold exactly the readings of
+/// copies. So the clauses of each call on a station tell what it took.
+pub fn calls_tell_what_was_taken()
+    ensures new { NewStationTookNothing }
+    ensures taken { CopyIsTaken }
+    ensures refused { CopyIsRefused }
+    ensures joined { PartialIsTaken }
+    ensures not_joined { PartialIsRefused }
+{}
