@@ -63,7 +63,7 @@ copy_holds source bytes read low reads =
       );
     }
 
-no_text : {P : Type 0} (bytes : List ℕ) → is_text bytes ≡ false → is_text bytes ≡ true → P
+pub no_text : {P : Type 0} (bytes : List ℕ) → is_text bytes ≡ false → is_text bytes ≡ true → P
 no_text bytes e f = (let d : false ≡ true = sym e ∙ f in absurd cc)
 
 given_holds : (source : Option ℕ) (bytes : List ℕ) (p : PartialPicture) → AreBytes bytes → is_text bytes ≡ false → GivesPartial source bytes p
@@ -111,7 +111,7 @@ took_these : (p : PartialPicture) (copies : List (List ℕ)) → HoldsExactly p 
 took_these p copies h = ([], began p copies h, λ copy c. absurd (none_in copy c))
 
 -- a copy's first marker is SOI, with fill before it
-framed_is_no_text : (bytes : List ℕ) (c : Course) (f : PictureShape) → IsCourse bytes c → c.headers.frame ≡ Some f → is_text bytes ≡ false
+pub framed_is_no_text : (bytes : List ℕ) (c : Course) (f : PictureShape) → IsCourse bytes c → c.headers.frame ≡ Some f → is_text bytes ≡ false
 framed_is_no_text _ _ f (with_soi zero bytes units final e are) framed = refl
 framed_is_no_text _ _ f (with_soi (suc n) bytes units final e are) framed = refl
 framed_is_no_text _ _ f (with_another_marker n code bytes k l) framed = absurd cc
@@ -163,7 +163,7 @@ union_unmarked : (ps : List PartialPicture) (joined : PartialPicture) → AllByR
 union_unmarked [] joined h u = absurd u
 union_unmarked (p ∷ ps) joined h u = ap (λ (x : PartialPicture). x.marks) u ∙ joined_unmarked p ps h.0 h.1
 
-run_unmarked : (source : Option ℕ) (out : List ℕ) (names : List (List ℕ)) (joined : PartialPicture) (settled whole : Bool) (events : List Event)
+pub run_unmarked : (source : Option ℕ) (out : List ℕ) (names : List (List ℕ)) (joined : PartialPicture) (settled whole : Bool) (events : List Event)
     → JoinIsDone source out names joined settled whole events → AreNoTexts (input_bytes events) → source ≡ None → joined.marks ≡ set.empty
 run_unmarked source out names joined settled whole events h none e =
     let given = inputs_of_join source out names joined settled whole events h in

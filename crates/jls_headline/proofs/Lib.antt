@@ -14,5 +14,7 @@ mod WrittenFiles
 mod StationPictures
 mod InputBytes
 mod JoinRuns
+mod JoinedTexts
+mod JoinThenWrite
 mod StationCalls
 mod TwoLineExamples

@@ -9,4 +9,5 @@ pub mod Stations
 pub mod ReadsAs
 pub mod HeadlineLaws
 pub mod RunLaws
+pub mod JoinThenWrite
 pub mod CallLaws

@@ -1,6 +1,7 @@
 //! The headline for whole runs of `join`. Each law is a function that does nothing and whose contract is the law.
 
 ghost use Rattle.jls_headline.specs.RunLaws.{RunsHoldExactly, RunsSayTheSame, RunsGiveThePicture};
+ghost use Rattle.jls_headline.specs.JoinThenWrite.{WrittenJoinsAreThePicture, WrittenJoinsReadAsThePicture, WrittenJoinsAreSettled};
 
 /// A law: what a run of `join` joins that is done, and whose inputs are copies and no texts, holds exactly the readings that these copies
 /// give. Two such runs whose inputs were the same copies, in any order and with any repeats, join what holds and says the same, and
@@ -11,4 +12,14 @@ pub fn joined_copies_give_the_picture()
     ensures exactly { RunsHoldExactly }
     ensures same { RunsSayTheSame }
     ensures damaged { RunsGiveThePicture }
+{}
+
+/// A law: where the inputs of a run of `join` that is done are damaged copies of one picture in which every line survives, and the one
+/// input of a run of `write` gave the bytes that the `join` handed to its output, a `write` that is done handed exactly the file of
+/// that picture to its own output. As JPEG-LS, with any restart interval, this file reads as that picture and no other. And such a
+/// `write` isn't refused for a line that isn't settled.
+pub fn written_joins_read_as_the_picture()
+    ensures written { WrittenJoinsAreThePicture }
+    ensures reads { WrittenJoinsReadAsThePicture }
+    ensures settled { WrittenJoinsAreSettled }
 {}

@@ -1,0 +1,225 @@
+-- What comes of a `write` whose input gives what a `join` of damaged copies handed to its output.
+use Rattle.std.proofs.Common.{◌≡◌, ℕ, ◌-◌, ◌<◌, ◌≤◌, ◌^◌, ◌||◌, Bool, false, List, [], ◌∷◌, max, Option, Some, None, Ok, refl, sym, ap, ◌∙◌, subst, arith}
+use Rattle.std.specs.Prelude.{nat_lt}
+use Rattle.std.proofs.lemmas.Bool.Decides.{nat_tests}
+use Rattle.std.proofs.lemmas.List.{append-nil}
+use Rattle.jls_values.specs.Params.{CodingParameters, AreCodingParameters}
+use Rattle.jls_values.specs.ParamsOf.{in_force, param_fault, params_in_range}
+use Rattle.jls_values.specs.declared.params.ParamFault.{ParamFault}
+use Rattle.jls_partial.specs.Partial.{PartialPicture}
+use Rattle.jls_partial.specs.Status.{IsSettled}
+use Rattle.jls_partial.specs.Text.{text, IsTextOf}
+use Rattle.jls_partial.proofs.BareEntries.{first_none}
+use Rattle.jls_device.specs.Event.{Event}
+use Rattle.jls_picture.specs.Picture.{WholePicture, picture_of}
+use Rattle.jls_picture.specs.Options.{OptionsFit}
+use Rattle.jls_picture.specs.Unsettled.{NamesFirstUnsettled}
+use Rattle.jls_picture.specs.declared.picture.PictureFault.{PictureFault}
+use Rattle.jls_picture.specs.declared.picture.PictureFault.TheVariants as picture_fault
+use Rattle.jls_file.specs.WrittenFile.{written_file}
+use Rattle.jls_station.specs.Texts.{is_text}
+use Rattle.jls_station.specs.Given.{Given}
+use Rattle.jls_station.specs.Inputs.{IsTaken, StopsAt, not_there, refused, other_shape, no_memory}
+use Rattle.jls_station.specs.Outputs as output
+use Rattle.jls_station.specs.Laws.{input_bytes, output_bytes}
+use Rattle.jls_station.specs.declared.outcome.Cause.{Cause}
+use Rattle.jls_station.specs.declared.outcome.Cause.TheVariants.{Unsettled}
+use Rattle.jls_station.specs.declared.outcome.Outcome.{Outcome}
+use Rattle.jls_station.specs.declared.outcome.Outcome.TheVariants.{Done, Refused}
+use Rattle.jls_commands.specs.WritingFiles as writing
+use Rattle.jls_commands.specs.WritingFiles.{file, Fits, options_for, WritesFile, StopsAtFile}
+use Rattle.jls_commands.specs.declared.writing.Format.{Format}
+use Rattle.jls_commands.specs.declared.writing.Format.TheVariants.{Jls}
+use Rattle.jls_commands.proofs.Defaults.{defaults_are}
+use Rattle.jls_headline.specs.Damaged.{Damaged}
+use Rattle.jls_headline.specs.ReadsAs.{GivesPicture, FilesReadAs, ReadsAsOnly}
+use Rattle.jls_headline.specs.RunLaws.{AreNoTexts}
+use Rattle.jls_headline.specs.JoinThenWrite.{JoinsDamagedCopies, WrittenJoinsAreThePicture, WrittenJoinsReadAsThePicture, WrittenJoinsAreSettled}
+use Rattle.jls_headline.proofs.Members.{all_map}
+use Rattle.jls_headline.proofs.InputBytes.{ReadsNone, one_input, handed_out, output_of_join}
+use Rattle.jls_headline.proofs.JoinRuns.{framed_is_no_text, run_unmarked, runs_hold_exactly, runs_give_the_picture}
+use Rattle.jls_headline.proofs.JoinedTexts.{held_are_lines, its_text, text_given}
+
+-- The default parameters of a precision --------------------------------------------------------------------------
+
+in_bounds : (low high value : ℕ) → (nat_lt value low || nat_lt high value) ≡ false → (low ≤ value) × (value ≤ high)
+in_bounds low high value e = (grind (arith, nat_tests, e), grind (arith, nat_tests, e))
+
+without_fault : (p : CodingParameters) → param_fault p ≡ None → AreCodingParameters p
+without_fault p e =
+    let a = first_none (nat_lt p.precision 2 || nat_lt 16 p.precision) _ _ e in
+    let b = first_none (nat_lt p.maxval 1 || nat_lt (2 ^ p.precision - 1) p.maxval) _ _ a.1 in
+    let c = first_none (nat_lt p.t1 1 || nat_lt p.maxval p.t1) _ _ b.1 in
+    let d = first_none (nat_lt p.t2 p.t1 || nat_lt p.maxval p.t2) _ _ c.1 in
+    let f = first_none (nat_lt p.t3 p.t2 || nat_lt p.maxval p.t3) _ _ d.1 in
+    let g = first_none (nat_lt p.reset 3 || nat_lt (max 255 p.maxval) p.reset) _ _ f.1 in
+    let precision = in_bounds 2 16 p.precision a.0 in
+    let maxval = in_bounds 1 (2 ^ p.precision - 1) p.maxval b.0 in
+    let t1 = in_bounds 1 p.maxval p.t1 c.0 in
+    let t2 = in_bounds p.t1 p.maxval p.t2 d.0 in
+    let t3 = in_bounds p.t2 p.maxval p.t3 f.0 in
+    let reset = in_bounds 3 (max 255 p.maxval) p.reset g.0 in
+    record {
+      precision_at_least = precision.0;
+      precision_at_most = precision.1;
+      maxval_at_least = maxval.0;
+      maxval_below = below p.maxval (2 ^ p.precision) maxval.0 maxval.1;
+      t1_at_least = t1.0;
+      t2_at_least = t2.0;
+      t3_at_least = t3.0;
+      t3_at_most = t3.1;
+      reset_at_least = reset.0;
+      reset_at_most = reset.1;
+    }
+  where
+    below : (m n : ℕ) → 1 ≤ m → m ≤ n - 1 → m < n
+    below m n h k = omega (arith, h, k)
+
+passed : (p : CodingParameters) (f : Option ParamFault) → params_in_range p f ≡ Ok p → f ≡ None
+passed p None e = refl
+passed p (Some f) e = absurd cc
+
+defaults_in_range : (p : ℕ) → 2 ≤ p → p ≤ 16 → AreCodingParameters (in_force p 0 0 0 0 0)
+defaults_in_range p low high =
+    without_fault (in_force p 0 0 0 0 0) (passed (in_force p 0 0 0 0 0) (param_fault (in_force p 0 0 0 0 0)) (defaults_are p low high))
+
+-- What a write that is done did ----------------------------------------------------------------------------------
+
+-- an input was taken that is settled, and its file was handed out
+record DidWrite (f : Format) (events : List Event) : Type 0 where
+  name : List ℕ
+  g : Given
+  reading : List Event
+  is_taken : IsTaken None name g reading
+  bytes_are : input_bytes events ≡ is_taken.give.bytes ∷ []
+  fits : Fits f (picture_of g.partial)
+  handed : output_bytes events ≡ file f (picture_of g.partial) ∷ []
+
+IsDone : Outcome → Type 0
+IsDone (Done settled whole) = Unit {0}
+IsDone (Refused r) = ⊥
+
+did_write : (f : Format) (out name : List ℕ) (o : Outcome) (events : List Event) → IsDone o → WritesFile f out name o events → DidWrite f events
+unfolding IsDone
+did_write _ _ _ _ _ ends (writing.done f out name g whole reading handing taken settled says fits hands) =
+    let w = handed_out out (file f (picture_of g.partial)) handing hands in
+    let one = one_input None name g reading handing taken w.0 in
+    record {
+      name = name;
+      g = g;
+      reading = reading;
+      is_taken = taken;
+      bytes_are = one.0 ∙ ap (λ x. taken.give.bytes ∷ x) w.1;
+      fits = fits;
+      handed = one.2 ∙ w.2;
+    }
+did_write _ _ _ _ _ ends (writing.at_input f out name r reading e stops) = absurd ends
+did_write _ _ _ _ _ ends (writing.unsettled f out name r g fault reading e taken names is) = absurd ends
+did_write _ _ _ _ _ ends (writing.at_file f out name r g reading handing e taken settled stops) = absurd ends
+
+-- What was joined is the picture, and is read again --------------------------------------------------------------
+
+only_of : (x y : List ℕ) → x ∷ [] ≡ y ∷ [] → x ≡ y
+only_of x y e = cc
+
+module _ (pic : WholePicture) (joining : List Event) (j : JoinsDamagedCopies pic joining) where
+  none : AreNoTexts (input_bytes joining)
+  none =
+      all_map (Damaged pic) (λ bytes. is_text bytes ≡ false) (input_bytes joining)
+      (λ bytes d. framed_is_no_text bytes d.0 pic.shape d.1 d.2.framed) j.damaged
+
+  gives : GivesPicture j.joined pic × FilesReadAs j.joined pic
+  gives = runs_give_the_picture None j.out j.names j.joined j.settled j.whole joining j.is_done pic j.is_picture j.damaged j.each_line
+
+  text_is : IsTextOf (text j.joined) j.joined
+  text_is =
+      its_text pic j.is_picture j.joined gives.0
+      (held_are_lines pic j.joined (input_bytes joining)
+      (runs_hold_exactly None j.out j.names j.joined j.settled j.whole joining j.is_done none) j.damaged)
+      (run_unmarked None j.out j.names j.joined j.settled j.whole joining j.is_done none refl)
+
+  -- an input that gave the bytes of the output gave what was joined
+  read_again : (name : List ℕ) (g : Given) (reading events : List Event) (taken : IsTaken None name g reading)
+      → input_bytes events ≡ taken.give.bytes ∷ [] → input_bytes events ≡ output_bytes joining → g.partial ≡ j.joined
+  read_again name g reading events taken e same =
+      let is : taken.give.bytes ≡ text j.joined =
+      only_of taken.give.bytes (text j.joined)
+      (sym e ∙ same ∙ output_of_join None j.out j.names j.joined j.settled j.whole joining j.is_done) in
+      text_given taken.give.bytes j.joined g (subst (λ bytes. IsTextOf bytes j.joined) (sym is) text_is) taken.give.gives
+
+-- The laws -------------------------------------------------------------------------------------------------------
+
+pub written_joins_are_the_picture : WrittenJoinsAreThePicture
+unfolding IsDone
+written_joins_are_the_picture pic joining j f settled whole events w =
+    let did = did_write f w.out w.name (Done settled whole) events tt w.writes in
+    let same = read_again pic joining j did.name did.g did.reading events did.is_taken did.bytes_are w.same_bytes in
+    did.handed ∙ ap (λ x. file f x ∷ []) (ap picture_of same ∙ (gives pic joining j).0.1)
+
+pub written_joins_read_as_the_picture : WrittenJoinsReadAsThePicture
+unfolding IsDone
+written_joins_read_as_the_picture pic joining j line ri low settled whole events w =
+    let did = did_write (Jls line ri) w.out w.name (Done settled whole) events tt w.writes in
+    let same = read_again pic joining j did.name did.g did.reading events did.is_taken did.bytes_are w.same_bytes in
+    let is : picture_of did.g.partial ≡ pic = ap picture_of same ∙ (gives pic joining j).0.1 in
+    let fit : OptionsFit pic (options_for line ri pic) = subst (λ x. OptionsFit x (options_for line ri x)) is did.fits in
+    let shape = j.is_picture.shape in
+    let params = defaults_in_range pic.shape.precision shape.precision_at_least shape.precision_at_most in
+    let reads = (gives pic joining j).1 (options_for line ri pic) params low fit in (
+      file (Jls line ri) pic,
+      did.handed ∙ ap (λ x. file (Jls line ri) x ∷ []) is,
+      subst (λ x. ReadsAsOnly (written_file x (options_for line ri pic)) pic) (gives pic joining j).0.1 reads,
+    )
+
+-- Refusals -------------------------------------------------------------------------------------------------------
+
+IsUnsettledCause : Cause → Type 0
+IsUnsettledCause c = (id : ℕ) × (line : ℕ) × (disputed : Bool) × (c ≡ Unsettled id line disputed)
+
+not_at_input : (name : List ℕ) (c : Cause) (reading : List Event) → StopsAt None [] name c reading → IsUnsettledCause c → ⊥
+unfolding IsUnsettledCause
+not_at_input _ _ _ (not_there _ _ name) (id, line, disputed, e) = cc
+not_at_input _ _ _ (refused _ _ name f reads h) (id, line, disputed, e) = cc
+not_at_input _ _ _ (other_shape _ _ name g events taken other) (id, line, disputed, e) = cc
+not_at_input _ _ _ (no_memory _ _ name g events taken same) (id, line, disputed, e) = cc
+
+not_at_output : (name bytes : List ℕ) (c : Cause) (events : List Event) → output.StopsAtOutput name bytes c events → IsUnsettledCause c → ⊥
+unfolding IsUnsettledCause
+not_at_output _ _ _ _ (output.not_there name bytes) (id, line, disputed, e) = cc
+not_at_output _ _ _ _ (output.cut name bytes count writes wrote) (id, line, disputed, e) = cc
+
+not_at_file : (F : Type 0) (takes : Bool) (name bytes : List ℕ) (c : Cause) (events : List Event) → StopsAtFile F takes name bytes c events
+    → IsUnsettledCause c → ⊥
+unfolding IsUnsettledCause
+not_at_file F takes _ _ _ _ (writing.too_large name bytes unfit) (id, line, disputed, e) = cc
+not_at_file F takes _ _ _ _ (writing.at_output name bytes c events fits stops) u = not_at_output name bytes c events stops u
+not_at_file F takes _ _ _ _ (writing.no_memory name bytes count writes fits is below wrote) (id, line, disputed, e) = cc
+
+none_named : (p : PartialPicture) (fault : PictureFault) → IsSettled p → NamesFirstUnsettled p fault → ⊥
+none_named p (picture_fault.Unsettled component line) settled names =
+    names.first_line.unsettled (settled component names.first_line.component_in line names.first_line.line_in)
+
+IsRefusedFor : Outcome → Type 0
+IsRefusedFor (Done settled whole) = ⊥
+IsRefusedFor (Refused r) = IsUnsettledCause r.cause
+
+refused_as_unsettled : (pic : WholePicture) (joining : List Event) → JoinsDamagedCopies pic joining
+    → (f : Format) (out name : List ℕ) (o : Outcome) (events : List Event) → WritesFile f out name o events
+    → input_bytes events ≡ output_bytes joining → IsRefusedFor o → ⊥
+unfolding IsRefusedFor
+refused_as_unsettled pic joining j _ _ _ _ _ (writing.done f out name g whole reading handing taken settled says fits hands) same u = u
+refused_as_unsettled pic joining j _ _ _ _ _ (writing.at_input f out name r reading e stops) same u =
+    not_at_input name r.cause reading stops u
+refused_as_unsettled pic joining j _ _ _ _ _ (writing.unsettled f out name r g fault reading e taken names is) same u =
+    let quiet : ReadsNone [] = refl in
+    let one = one_input None name g reading [] taken quiet in
+    let bytes = ap input_bytes (sym (append-nil reading)) ∙ one.0 in
+    let p = read_again pic joining j name g reading reading taken bytes same in
+    none_named g.partial fault (subst IsSettled (sym p) (gives pic joining j).0.0) names
+refused_as_unsettled pic joining j _ _ _ _ _ (writing.at_file f out name r g reading handing e taken settled stops) same u =
+    not_at_file (Fits f (picture_of g.partial)) (writing.takes_memory f) out (file f (picture_of g.partial)) r.cause handing stops u
+
+pub written_joins_are_settled : WrittenJoinsAreSettled
+unfolding IsUnsettledCause IsRefusedFor
+written_joins_are_settled pic joining j f r events w id line disputed e =
+    refused_as_unsettled pic joining j f w.out w.name (Refused r) events w.writes w.same_bytes (id, line, disputed, e)

@@ -1,0 +1,59 @@
+-- The headline through the text that a run of `join` hands out: what a run of `write` makes of it.
+use Rattle.std.specs.Prelude.{◌≡◌, ℕ, ◌<◌, ◌^◌, Bool, List, [], ◌∷◌, None}
+use Rattle.std.specs.List.{AllByRecursion}
+use Rattle.jls_partial.specs.Partial.{PartialPicture}
+use Rattle.jls_device.specs.Event.{Event}
+use Rattle.jls_picture.specs.Picture.{WholePicture}
+use Rattle.jls_station.specs.Joining.{JoinIsDone}
+use Rattle.jls_station.specs.Laws.{input_bytes, output_bytes}
+use Rattle.jls_station.specs.declared.outcome.Cause.TheVariants.{Unsettled}
+use Rattle.jls_station.specs.declared.outcome.Refusal.{Refusal}
+use Rattle.jls_station.specs.declared.outcome.Outcome.{Outcome}
+use Rattle.jls_station.specs.declared.outcome.Outcome.TheVariants.{Done, Refused}
+use Rattle.jls_commands.specs.WritingFiles.{file, WritesFile}
+use Rattle.jls_commands.specs.declared.writing.Format.{Format}
+use Rattle.jls_commands.specs.declared.writing.Format.TheVariants.{Jls}
+use Rattle.jls_headline.specs.Damaged.{Damaged}
+use Rattle.jls_headline.specs.Survives.{EachLineSurvives}
+use Rattle.jls_headline.specs.ReadsAs.{IsPicture, ReadsAsOnly}
+
+-- a run of `join` that is done: its inputs gave damaged copies of this picture, and every line survives in some input
+pub record JoinsDamagedCopies (pic : WholePicture) (joining : List Event) : Type 0 where
+  pub is_picture : IsPicture pic
+  pub out : List ℕ
+  pub names : List (List ℕ)
+  pub joined : PartialPicture
+  pub settled : Bool
+  pub whole : Bool
+  pub is_done : JoinIsDone None out names joined settled whole joining
+  pub damaged : AllByRecursion (Damaged pic) (input_bytes joining)
+  pub each_line : EachLineSurvives pic (input_bytes joining)
+
+-- a run of `write` in this format, of which this came: its one input gave the bytes that the run of `join` handed to its one output
+pub record WritesWhatWasJoined (joining : List Event) (format : Format) (outcome : Outcome) (writing : List Event) : Type 0 where
+  pub out : List ℕ
+  pub name : List ℕ
+  pub writes : WritesFile format out name outcome writing
+  pub same_bytes : input_bytes writing ≡ output_bytes joining
+
+-- Where such a `write` is done, it handed the file of that picture to its output
+abbrev pub WrittenJoinsAreThePicture : Type 0
+WrittenJoinsAreThePicture =
+    (pic : WholePicture) (joining : List Event) → JoinsDamagedCopies pic joining
+    → (format : Format) (settled whole : Bool) (writing : List Event) → WritesWhatWasJoined joining format (Done settled whole) writing
+    → output_bytes writing ≡ file format pic ∷ []
+
+-- and as JPEG-LS, with any restart interval, what it handed to its output reads as that picture and as no other
+abbrev pub WrittenJoinsReadAsThePicture : Type 0
+WrittenJoinsReadAsThePicture =
+    (pic : WholePicture) (joining : List Event) → JoinsDamagedCopies pic joining
+    → (line : Bool) (ri : ℕ) → ri < 2 ^ 32 → (settled whole : Bool) (writing : List Event)
+    → WritesWhatWasJoined joining (Jls line ri) (Done settled whole) writing
+    → (bytes : List ℕ) × (output_bytes writing ≡ bytes ∷ []) × ReadsAsOnly bytes pic
+
+-- No such `write` is refused for a line that is not settled
+abbrev pub WrittenJoinsAreSettled : Type 0
+WrittenJoinsAreSettled =
+    (pic : WholePicture) (joining : List Event) → JoinsDamagedCopies pic joining
+    → (format : Format) (r : Refusal) (writing : List Event) → WritesWhatWasJoined joining format (Refused r) writing
+    → (id line : ℕ) (disputed : Bool) → r.cause ≡ Unsettled id line disputed → ⊥
