@@ -16,3 +16,4 @@ mod InputBytes
 mod JoinRuns
 mod StationCalls
 mod TwoLineExamples
+mod FileExamples
