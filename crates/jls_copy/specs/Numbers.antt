@@ -32,7 +32,7 @@ given_last last (Interval number) = number
 given_last last (BeyondLast number) = last
 
 -- The numbers that these marks give, one behind the other. The pieces of a course get theirs by the same rule (`pieces_from` of
--- `Pieces`); no law ties the two yet
+-- `Pieces`)
 abbrev pub numbers_behind : ℕ → ℕ → List ℕ → List PieceNumber
 numbers_behind intervals last [] = []
 numbers_behind intervals last (m ∷ marks) =

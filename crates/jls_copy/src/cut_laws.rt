@@ -15,8 +15,8 @@ pub fn numbers_are_least()
 {}
 
 /// A law of lists of marks: where fewer than eight restart markers in a row are lost, and every marker that is seen is a true
-/// one, those that are left give the pieces behind them the numbers that these have in the undamaged picture. No law ties
-/// these numbers to the pieces of a copy yet.
+/// one, those that are left give the pieces behind them the numbers that these have in the undamaged picture. That the pieces
+/// of a copy get these numbers is a law of the crate `jls_headline`.
 pub fn lost_marks_are_bridged()
     ensures { LostMarksAreBridged }
 {}
