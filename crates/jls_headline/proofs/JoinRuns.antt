@@ -67,8 +67,8 @@ copy_holds source bytes read low reads =
 no_text : {P : Type 0} (bytes : List ℕ) → is_text bytes ≡ false → is_text bytes ≡ true → P
 no_text bytes e f = (let d : false ≡ true = sym e ∙ f in absurd cc)
 
-given_holds : (source : Option ℕ) (bytes : List ℕ) (p : PartialPicture) → AreBytes bytes → is_text bytes ≡ false → GivesPartial source bytes p
-    → HoldsExactly p (bytes ∷ [])
+given_holds : (source : Option ℕ) (bytes : List ℕ) (p : PartialPicture) → AreBytes bytes → is_text bytes ≡ false
+    → GivesPartial source bytes p → HoldsExactly p (bytes ∷ [])
 given_holds source bytes p low none (g, gives, e) = by g gives e
   where
     by : (g : Given) → Gives source bytes g → g.partial ≡ p → HoldsExactly p (bytes ∷ [])
@@ -92,8 +92,9 @@ all_of_shape : (p q : PartialPicture) → p.shape ≡ q.shape → (xs : List Par
 all_of_shape p q e [] h = tt
 all_of_shape p q e (x ∷ xs) h = (subst (λ (s : PictureShape). same_shape s x.shape ≡ true) e h.0, all_of_shape p q e xs h.1)
 
-joined_holds : (source : Option ℕ) (p : PartialPicture) (ps : List PartialPicture) (copies inputs more : List (List ℕ)) → HoldsExactly p copies
-    → AreGiven source inputs ps → InputsStandFor inputs more → AllOfShape has_same_shape p ps → HoldsExactly (join_all union p ps) (copies ++ more)
+joined_holds : (source : Option ℕ) (p : PartialPicture) (ps : List PartialPicture) (copies inputs more : List (List ℕ))
+    → HoldsExactly p copies → AreGiven source inputs ps → InputsStandFor inputs more → AllOfShape has_same_shape p ps
+    → HoldsExactly (join_all union p ps) (copies ++ more)
 joined_holds source p [] copies [] more h given e shapes =
     subst (λ xs. HoldsExactly p (copies ++ xs)) (sym e) (subst (HoldsExactly p) (sym (append-nil copies)) h)
 joined_holds source p [] copies (bytes ∷ inputs) more h given stand shapes = absurd given
@@ -126,7 +127,8 @@ runs_with_texts_hold_exactly source out names joined settled whole events h copi
 
 pub runs_hold_exactly : RunsHoldExactly
 runs_hold_exactly source out names joined settled whole events h none =
-    runs_with_texts_hold_exactly source out names joined settled whole events h (input_bytes events) (copies_stand (input_bytes events) none)
+    runs_with_texts_hold_exactly source out names joined settled whole events h (input_bytes events)
+    (copies_stand (input_bytes events) none)
 
 took_these : (p : PartialPicture) (copies : List (List ℕ)) → HoldsExactly p copies → TookInTheEnd p copies
 took_these p copies h = ([], began p copies h, λ copy c. absurd (none_in copy c))
@@ -161,7 +163,8 @@ some_input source (p ∷ ps) joined [] given u = absurd given
 some_input source (p ∷ ps) joined (bytes ∷ inputs) given u = (bytes, is_first bytes inputs)
 
 one_shape_of : (bytes : List ℕ) (s t : PictureShape) → HasShape s bytes → HasShape t bytes → s ≡ t
-one_shape_of bytes s t (c, is, e) (d, is', f) = same_frame s t (sym e ∙ ap (λ (k : Course). k.headers.frame) (one_course bytes c d is is') ∙ f)
+one_shape_of bytes s t (c, is, e) (d, is', f) =
+    same_frame s t (sym e ∙ ap (λ (k : Course). k.headers.frame) (one_course bytes c d is is') ∙ f)
 
 shape_of_input : (p : PartialPicture) (copies : List (List ℕ)) (bytes : List ℕ) → HoldsExactly p copies → Contains copies bytes
     → HasShape p.shape bytes
@@ -189,8 +192,8 @@ union_unmarked : (ps : List PartialPicture) (joined : PartialPicture) → AllByR
 union_unmarked [] joined h u = absurd u
 union_unmarked (p ∷ ps) joined h u = ap (λ (x : PartialPicture). x.marks) u ∙ joined_unmarked p ps h.0 h.1
 
-run_unmarked : (source : Option ℕ) (out : List ℕ) (names : List (List ℕ)) (joined : PartialPicture) (settled whole : Bool) (events : List Event)
-    → JoinIsDone source out names joined settled whole events → AreNoTexts (input_bytes events) → source ≡ None → joined.marks ≡ set.empty
+run_unmarked : (source : Option ℕ) (out : List ℕ) (names : List (List ℕ)) (joined : PartialPicture) (settled whole : Bool)
+    (events : List Event) → JoinIsDone source out names joined settled whole events → AreNoTexts (input_bytes events) → source ≡ None → joined.marks ≡ set.empty
 run_unmarked source out names joined settled whole events h none e =
     let given = inputs_of_join source out names joined settled whole events h in
     union_unmarked (partials h.taken.givens) joined
@@ -208,7 +211,8 @@ runs_say_the_same source out names joined settled whole events h none source' ou
     one_shape_of there.0 joined.shape joined'.shape
     (same_copy_has_shape first.0 there.0 joined.shape there.2 (shape_of_input joined (input_bytes events) first.0 one first.1))
     (shape_of_input joined' (input_bytes events') there.0 other there.1) in
-    let said = say_the_same joined joined' shape (same_readings joined joined' (input_bytes events) (input_bytes events') one other same.0 same.1) in (
+    let readings = same_readings joined joined' (input_bytes events) (input_bytes events') one other same.0 same.1 in
+    let said = say_the_same joined joined' shape readings in (
       said,
       λ e e'. said.of_same_sources (run_unmarked source out names joined settled whole events h none e
           ∙ sym (run_unmarked source' out' names' joined' settled' whole' events' h' none' e')),
