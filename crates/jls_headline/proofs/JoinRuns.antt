@@ -11,6 +11,7 @@ use Rattle.jls_partial.specs.Reading.{Reading}
 use Rattle.jls_partial.specs.Partial.{PartialPicture, has_same_shape, union}
 use Rattle.jls_partial.specs.ReadingOrder.{marks_total, marks_exact}
 use Rattle.jls_partial.specs.PartialLaws.{one_shape}
+use Rattle.jls_partial.proofs.TextLaws.{one_text}
 use Rattle.jls_copy.specs.Course.{Course, IsCourse, with_soi, with_another_marker, with_no_marker, with_fill_alone}
 use Rattle.jls_copy.specs.CopyReads.{CopyReads}
 use Rattle.jls_copy.specs.ReadCopy.{ReadCopy}
@@ -25,7 +26,7 @@ use Rattle.jls_station.specs.Laws.{input_bytes}
 use Rattle.jls_headline.specs.Gives as copy
 use Rattle.jls_headline.specs.Damaged.{Damaged}
 use Rattle.jls_headline.specs.Stations.{ReadingsOf, HasShape, HoldsExactly, began, TookInTheEnd}
-use Rattle.jls_headline.specs.RunLaws.{AreNoTexts, RunsHoldExactly, RunsSayTheSame, RunsGiveThePicture}
+use Rattle.jls_headline.specs.RunLaws.{AreNoTexts, InputStandsFor, InputsStandFor, RunsHoldExactly, RunsWithTextsHoldExactly, RunsSayTheSame, RunsGiveThePicture, RunsWithTextsGiveThePicture}
 use Rattle.jls_headline.proofs.Members.{is_first, none_in, first_or_rest, all_at, all_map}
 use Rattle.jls_headline.proofs.ScansInRange.{same_frame}
 use Rattle.jls_headline.proofs.CopyGives.{copy_gives, copy_has_shape}
@@ -66,13 +67,23 @@ copy_holds source bytes read low reads =
 pub no_text : {P : Type 0} (bytes : List ℕ) → is_text bytes ≡ false → is_text bytes ≡ true → P
 no_text bytes e f = (let d : false ≡ true = sym e ∙ f in absurd cc)
 
-given_holds : (source : Option ℕ) (bytes : List ℕ) (p : PartialPicture) → AreBytes bytes → is_text bytes ≡ false → GivesPartial source bytes p
-    → HoldsExactly p (bytes ∷ [])
+given_holds : (source : Option ℕ) (bytes : List ℕ) (p : PartialPicture) → AreBytes bytes → is_text bytes ≡ false
+    → GivesPartial source bytes p → HoldsExactly p (bytes ∷ [])
 given_holds source bytes p low none (g, gives, e) = by g gives e
   where
     by : (g : Given) → Gives source bytes g → g.partial ≡ p → HoldsExactly p (bytes ∷ [])
     by _ (by_text _ _ q is) e = no_text bytes none (ap is_text is.bytes_are)
     by _ (by_copy _ _ read stop copied reads) e = subst (λ x. HoldsExactly x (bytes ∷ [])) e (copy_holds source bytes read low reads)
+
+-- a text has one partial picture
+given_stands : (source : Option ℕ) (bytes : List ℕ) (p : PartialPicture) (copies : List (List ℕ)) → AreBytes bytes
+    → GivesPartial source bytes p → InputStandsFor bytes copies → HoldsExactly p copies
+given_stands source bytes p copies low given (inl (none, e)) = subst (HoldsExactly p) (sym e) (given_holds source bytes p low none given)
+given_stands source bytes p copies low (g, gives, e) (inr (q, is, h)) = by g gives e
+  where
+    by : (g : Given) → Gives source bytes g → g.partial ≡ p → HoldsExactly p copies
+    by _ (by_text _ _ q' is') e = subst (λ x. HoldsExactly x copies) (one_text bytes q q' is is' ∙ e) h
+    by _ (by_copy _ _ read stop copied reads) e = no_text bytes copied (ap is_text is.bytes_are)
 
 -- All inputs -----------------------------------------------------------------------------------------------------
 
@@ -81,31 +92,43 @@ all_of_shape : (p q : PartialPicture) → p.shape ≡ q.shape → (xs : List Par
 all_of_shape p q e [] h = tt
 all_of_shape p q e (x ∷ xs) h = (subst (λ (s : PictureShape). same_shape s x.shape ≡ true) e h.0, all_of_shape p q e xs h.1)
 
-joined_holds : (source : Option ℕ) (p : PartialPicture) (ps : List PartialPicture) (copies inputs : List (List ℕ)) → HoldsExactly p copies
-    → AreGiven source inputs ps → AreNoTexts inputs → AllOfShape has_same_shape p ps → HoldsExactly (join_all union p ps) (copies ++ inputs)
-joined_holds source p [] copies [] h given none shapes = subst (HoldsExactly p) (sym (append-nil copies)) h
-joined_holds source p [] copies (bytes ∷ inputs) h given none shapes = absurd given
-joined_holds source p (q ∷ qs) copies [] h given none shapes = absurd given
-joined_holds source p (q ∷ qs) copies (bytes ∷ inputs) h given none shapes =
-    let k = given_holds source bytes q given.0 none.0 given.1 in
-    let both = union_holds p q copies (bytes ∷ []) h k (sym (one_shape p.shape q.shape shapes.0)) in
-    subst (HoldsExactly (join_all union (union p q) qs)) (append_assoc copies (bytes ∷ []) inputs)
-    (joined_holds source (union p q) qs (copies ++ bytes ∷ []) inputs both given.2 none.1 (all_of_shape p (union p q) refl qs shapes.1))
+joined_holds : (source : Option ℕ) (p : PartialPicture) (ps : List PartialPicture) (copies inputs more : List (List ℕ))
+    → HoldsExactly p copies → AreGiven source inputs ps → InputsStandFor inputs more → AllOfShape has_same_shape p ps
+    → HoldsExactly (join_all union p ps) (copies ++ more)
+joined_holds source p [] copies [] more h given e shapes =
+    subst (λ xs. HoldsExactly p (copies ++ xs)) (sym e) (subst (HoldsExactly p) (sym (append-nil copies)) h)
+joined_holds source p [] copies (bytes ∷ inputs) more h given stand shapes = absurd given
+joined_holds source p (q ∷ qs) copies [] more h given stand shapes = absurd given
+joined_holds source p (q ∷ qs) copies (bytes ∷ inputs) more h given (mine, rest, e, one, others) shapes =
+    let k = given_stands source bytes q mine given.0 given.1 one in
+    let both = union_holds p q copies mine h k (sym (one_shape p.shape q.shape shapes.0)) in
+    subst (HoldsExactly (join_all union (union p q) qs)) (append_assoc copies mine rest ∙ ap (λ xs. copies ++ xs) (sym e))
+    (joined_holds source (union p q) qs (copies ++ mine) inputs rest both given.2 others (all_of_shape p (union p q) refl qs shapes.1))
 
-union_of_inputs : (source : Option ℕ) (ps : List PartialPicture) (joined : PartialPicture) (inputs : List (List ℕ)) → AreGiven source inputs ps
-    → AreNoTexts inputs → AreOfOneShape ps → IsUnionOf ps joined → HoldsExactly joined inputs
-union_of_inputs source [] joined inputs given none shapes u = absurd u
-union_of_inputs source (p ∷ ps) joined [] given none shapes u = absurd given
-union_of_inputs source (p ∷ ps) joined (bytes ∷ inputs) given none shapes u =
-    subst (λ x. HoldsExactly x (bytes ∷ inputs)) (sym u)
-    (joined_holds source p ps (bytes ∷ []) inputs (given_holds source bytes p given.0 none.0 given.1) given.2 none.1 shapes)
+union_of_inputs : (source : Option ℕ) (ps : List PartialPicture) (joined : PartialPicture) (inputs copies : List (List ℕ))
+    → AreGiven source inputs ps → InputsStandFor inputs copies → AreOfOneShape ps → IsUnionOf ps joined → HoldsExactly joined copies
+union_of_inputs source [] joined inputs copies given stand shapes u = absurd u
+union_of_inputs source (p ∷ ps) joined [] copies given stand shapes u = absurd given
+union_of_inputs source (p ∷ ps) joined (bytes ∷ inputs) copies given (mine, rest, e, one, others) shapes u =
+    let h = joined_holds source p ps mine inputs rest (given_stands source bytes p mine given.0 given.1 one) given.2 others shapes in
+    subst (λ x. HoldsExactly x copies) (sym u) (subst (HoldsExactly (join_all union p ps)) (sym e) h)
+
+-- copies stand for themselves
+copies_stand : (inputs : List (List ℕ)) → AreNoTexts inputs → InputsStandFor inputs inputs
+copies_stand [] none = refl
+copies_stand (bytes ∷ inputs) none = (bytes ∷ [], inputs, refl, inl (none.0, refl), copies_stand inputs none.1)
 
 -- The laws -------------------------------------------------------------------------------------------------------
 
+pub runs_with_texts_hold_exactly : RunsWithTextsHoldExactly
+runs_with_texts_hold_exactly source out names joined settled whole events h copies stand =
+    union_of_inputs source (partials h.taken.givens) joined (input_bytes events) copies
+    (inputs_of_join source out names joined settled whole events h) stand h.taken.taken.one_shape h.taken.union_is
+
 pub runs_hold_exactly : RunsHoldExactly
 runs_hold_exactly source out names joined settled whole events h none =
-    union_of_inputs source (partials h.taken.givens) joined (input_bytes events)
-    (inputs_of_join source out names joined settled whole events h) none h.taken.taken.one_shape h.taken.union_is
+    runs_with_texts_hold_exactly source out names joined settled whole events h (input_bytes events)
+    (copies_stand (input_bytes events) none)
 
 took_these : (p : PartialPicture) (copies : List (List ℕ)) → HoldsExactly p copies → TookInTheEnd p copies
 took_these p copies h = ([], began p copies h, λ copy c. absurd (none_in copy c))
@@ -118,13 +141,18 @@ framed_is_no_text _ _ f (with_another_marker n code bytes k l) framed = absurd c
 framed_is_no_text _ _ f (with_no_marker b bytes k) framed = absurd cc
 framed_is_no_text _ _ f (with_fill_alone n) framed = absurd cc
 
+pub runs_with_texts_give_the_picture : RunsWithTextsGiveThePicture
+runs_with_texts_give_the_picture source out names joined settled whole events h copies stand pic is damaged each =
+    damaged_copies_give_the_picture pic is joined copies
+    (took_these joined copies (runs_with_texts_hold_exactly source out names joined settled whole events h copies stand)) damaged each
+
 pub runs_give_the_picture : RunsGiveThePicture
 runs_give_the_picture source out names joined settled whole events h pic is damaged each =
     let none : AreNoTexts (input_bytes events) =
     all_map (Damaged pic) (λ bytes. is_text bytes ≡ false) (input_bytes events)
     (λ bytes d. framed_is_no_text bytes d.0 pic.shape d.1 d.2.framed) damaged in
-    damaged_copies_give_the_picture pic is joined (input_bytes events)
-    (took_these joined (input_bytes events) (runs_hold_exactly source out names joined settled whole events h none)) damaged each
+    runs_with_texts_give_the_picture source out names joined settled whole events h (input_bytes events)
+    (copies_stand (input_bytes events) none) pic is damaged each
 
 -- Two runs -------------------------------------------------------------------------------------------------------
 
@@ -135,7 +163,8 @@ some_input source (p ∷ ps) joined [] given u = absurd given
 some_input source (p ∷ ps) joined (bytes ∷ inputs) given u = (bytes, is_first bytes inputs)
 
 one_shape_of : (bytes : List ℕ) (s t : PictureShape) → HasShape s bytes → HasShape t bytes → s ≡ t
-one_shape_of bytes s t (c, is, e) (d, is', f) = same_frame s t (sym e ∙ ap (λ (k : Course). k.headers.frame) (one_course bytes c d is is') ∙ f)
+one_shape_of bytes s t (c, is, e) (d, is', f) =
+    same_frame s t (sym e ∙ ap (λ (k : Course). k.headers.frame) (one_course bytes c d is is') ∙ f)
 
 shape_of_input : (p : PartialPicture) (copies : List (List ℕ)) (bytes : List ℕ) → HoldsExactly p copies → Contains copies bytes
     → HasShape p.shape bytes
@@ -163,8 +192,8 @@ union_unmarked : (ps : List PartialPicture) (joined : PartialPicture) → AllByR
 union_unmarked [] joined h u = absurd u
 union_unmarked (p ∷ ps) joined h u = ap (λ (x : PartialPicture). x.marks) u ∙ joined_unmarked p ps h.0 h.1
 
-pub run_unmarked : (source : Option ℕ) (out : List ℕ) (names : List (List ℕ)) (joined : PartialPicture) (settled whole : Bool) (events : List Event)
-    → JoinIsDone source out names joined settled whole events → AreNoTexts (input_bytes events) → source ≡ None → joined.marks ≡ set.empty
+pub run_unmarked : (source : Option ℕ) (out : List ℕ) (names : List (List ℕ)) (joined : PartialPicture) (settled whole : Bool)
+    (events : List Event) → JoinIsDone source out names joined settled whole events → AreNoTexts (input_bytes events) → source ≡ None → joined.marks ≡ set.empty
 run_unmarked source out names joined settled whole events h none e =
     let given = inputs_of_join source out names joined settled whole events h in
     union_unmarked (partials h.taken.givens) joined
@@ -182,7 +211,8 @@ runs_say_the_same source out names joined settled whole events h none source' ou
     one_shape_of there.0 joined.shape joined'.shape
     (same_copy_has_shape first.0 there.0 joined.shape there.2 (shape_of_input joined (input_bytes events) first.0 one first.1))
     (shape_of_input joined' (input_bytes events') there.0 other there.1) in
-    let said = say_the_same joined joined' shape (same_readings joined joined' (input_bytes events) (input_bytes events') one other same.0 same.1) in (
+    let readings = same_readings joined joined' (input_bytes events) (input_bytes events') one other same.0 same.1 in
+    let said = say_the_same joined joined' shape readings in (
       said,
       λ e e'. said.of_same_sources (run_unmarked source out names joined settled whole events h none e
           ∙ sym (run_unmarked source' out' names' joined' settled' whole' events' h' none' e')),

@@ -1,4 +1,4 @@
--- What comes of a `write` whose input gives what a `join` of damaged copies handed to its output.
+-- What comes of a `write` whose input gives what a `join` of damaged copies handed to its output: the picture, read again.
 use Rattle.std.proofs.Common.{◌≡◌, ℕ, ◌-◌, ◌<◌, ◌≤◌, ◌^◌, ◌||◌, Bool, false, List, [], ◌∷◌, max, Option, Some, None, Ok, refl, sym, ap, ◌∙◌, subst, arith}
 use Rattle.std.specs.Prelude.{nat_lt}
 use Rattle.std.proofs.lemmas.Bool.Decides.{nat_tests}
@@ -99,7 +99,8 @@ IsDone : Outcome → Type 0
 IsDone (Done settled whole) = Unit {0}
 IsDone (Refused r) = ⊥
 
-did_write : (f : Format) (out name : List ℕ) (o : Outcome) (events : List Event) → IsDone o → WritesFile f out name o events → DidWrite f events
+did_write : (f : Format) (out name : List ℕ) (o : Outcome) (events : List Event) → IsDone o → WritesFile f out name o events
+    → DidWrite f events
 unfolding IsDone
 did_write _ _ _ _ _ ends (writing.done f out name g whole reading handing taken settled says fits hands) =
     let w = handed_out out (file f (picture_of g.partial)) handing hands in

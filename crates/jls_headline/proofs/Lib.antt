@@ -18,3 +18,4 @@ mod JoinedTexts
 mod JoinThenWrite
 mod StationCalls
 mod TwoLineExamples
+mod FileExamples

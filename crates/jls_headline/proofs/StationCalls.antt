@@ -55,4 +55,5 @@ pub copy_is_refused : CopyIsRefused
 copy_is_refused _ _ _ _ _ copies over took (gives_none source old f reads stops) = inl took
 copy_is_refused _ _ _ _ _ copies over took (other_shape source old p report reads gives differs) = inl took
 copy_is_refused _ _ _ _ _ copies over took (no_memory source old new p report reads gives same between) =
-    inr (refl, partial_is_refused old p new (bytes_given reads ∷ []) copies over took (given_by_reads source p report reads gives) same between)
+    let held = given_by_reads source p report reads gives in
+    inr (refl, partial_is_refused old p new (bytes_given reads ∷ []) copies over took held same between)

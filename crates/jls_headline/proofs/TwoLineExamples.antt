@@ -40,7 +40,7 @@ use Rattle.jls_headline.specs.Gives.{Gives}
 use Rattle.jls_headline.specs.Damaged.{PiecesAre, Damaged}
 use Rattle.jls_headline.specs.Survives.{SomePieceIs, ReadsWithLine, SurvivesInUnit, Survives, EachLineSurvives}
 use Rattle.jls_headline.specs.Trimmed.{whole, front, TrimmedCopy}
-use Rattle.jls_headline.specs.ReadsAs.{IsPicture, GivesPicture}
+use Rattle.jls_headline.specs.ReadsAs.{IsPicture, GivesPicture, FilesReadAs}
 use Rattle.jls_headline.specs.Stations.{began, took_copy, TookInTheEnd}
 use Rattle.jls_headline.proofs.Members.{none_in}
 use Rattle.jls_headline.proofs.CopyGives.{copy_has_shape}
@@ -51,11 +51,11 @@ use Rattle.jls_headline.proofs.Trims.{trimmed_copies_are_damaged}
 
 -- The picture ----------------------------------------------------------------------------------------------------
 
-abbrev shape : PictureShape
+abbrev pub shape : PictureShape
 shape = record { precision = 8; width = 1; height = 2; ids = 1 ∷ [] }
 
 -- a column of the samples 0 and 255
-abbrev pic : WholePicture
+abbrev pub pic : WholePicture
 pic = record { shape = shape; lines = ((0 ∷ []) ∷ (255 ∷ []) ∷ []) ∷ [] }
 
 is_picture : IsPicture pic
@@ -78,7 +78,7 @@ is_picture = record {
 
 -- The copies -----------------------------------------------------------------------------------------------------
 
-abbrev bits_8 : CodingParameters
+abbrev pub bits_8 : CodingParameters
 bits_8 = record { precision = 8; maxval = 255; t1 = 3; t2 = 7; t3 = 21; reset = 64 }
 
 -- one scan, with a restart interval for each line
@@ -99,11 +99,11 @@ copy_with cut =
     ∷ 0xFF ∷ 0xDA ∷ 0 ∷ 8 ∷ 1 ∷ 1 ∷ 0 ∷ 0 ∷ 0 ∷ 0 ∷ (cut ++ 0xFF ∷ 0xD9 ∷ [])
 
 -- the first has line 0 alone: the mark and the second interval are lost
-abbrev first : List ℕ
+abbrev pub first : List ℕ
 first = copy_with (0x80 ∷ [])
 
 -- the second has line 1 alone: the first interval's byte is lost
-abbrev second : List ℕ
+abbrev pub second : List ℕ
 second = copy_with (0xFF ∷ 0xD0 ∷ 0x40 ∷ [])
 
 -- the third has another line in place of line 0
@@ -329,11 +329,11 @@ took_both p a b e new ra rb =
       λ copy c. absurd (none_in copy c),
     )
 
-picture_comes_back : (p : PartialPicture) (a b : ReadCopy) → p.shape ≡ shape → p.readings ≡ set.empty → CopyReads first a → CopyReads second b
-    → GivesPicture (union (union p b.partial) a.partial) pic
+pub picture_comes_back : (p : PartialPicture) (a b : ReadCopy) → p.shape ≡ shape → p.readings ≡ set.empty → CopyReads first a → CopyReads second b
+    → GivesPicture (union (union p b.partial) a.partial) pic × FilesReadAs (union (union p b.partial) a.partial) pic
 picture_comes_back p a b e new ra rb =
-    (damaged_copies_give_the_picture pic is_picture (union (union p b.partial) a.partial) (first ∷ second ∷ []) (took_both p a b e new ra rb)
-    both_are_damaged each_line_survives).0
+    damaged_copies_give_the_picture pic is_picture (union (union p b.partial) a.partial) (first ∷ second ∷ []) (took_both p a b e new ra rb)
+    both_are_damaged each_line_survives
 
 -- Where a premise is not met -------------------------------------------------------------------------------------
 

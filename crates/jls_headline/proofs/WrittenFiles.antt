@@ -70,7 +70,8 @@ module _ (pic : WholePicture) (file : List ℕ) (rs : List Reading) (w : ReadsBa
 
   listed_is_given : (r : Reading) → Contains rs r → CourseGives w.course r
   listed_is_given r c =
-      inl (listed (pieces w.course) w.outcomes r w.some_outcomes (subst (λ xs. Contains xs r) (sym (w.gives w.outcomes w.some_outcomes).0) c))
+      inl (listed (pieces w.course) w.outcomes r w.some_outcomes
+      (subst (λ xs. Contains xs r) (sym (w.gives w.outcomes w.some_outcomes).0) c))
 
   reads_as : AreThePicture pic rs → ReadsAs file pic
   reads_as are = record { shape = (w.course, w.is_course, w.framed); readings = λ r. (there r, back r) }

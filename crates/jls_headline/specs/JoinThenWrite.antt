@@ -29,7 +29,7 @@ pub record JoinsDamagedCopies (pic : WholePicture) (joining : List Event) : Type
   pub damaged : AllByRecursion (Damaged pic) (input_bytes joining)
   pub each_line : EachLineSurvives pic (input_bytes joining)
 
--- a run of `write` in this format, of which this came: its one input gave the bytes that the run of `join` handed to its one output
+-- a run of `write` in this format, and what came of it: its one input gave the bytes that the run of `join` handed to its one output
 pub record WritesWhatWasJoined (joining : List Event) (format : Format) (outcome : Outcome) (writing : List Event) : Type 0 where
   pub out : List ℕ
   pub name : List ℕ

@@ -1,11 +1,11 @@
--- The headline for whole runs of `join` whose inputs are copies.
-use Rattle.std.specs.Prelude.{◌≡◌, ℕ, Bool, false, List, Option, None}
+-- The headline for whole runs of `join`, whose inputs are copies, or copies and texts.
+use Rattle.std.specs.Prelude.{◌≡◌, ℕ, Bool, false, List, [], ◌∷◌, ◌++◌, Option, None, ◌⊎◌}
 use Rattle.std.specs.List.{AllByRecursion}
 use Rattle.jls_partial.specs.Partial.{PartialPicture}
 use Rattle.jls_partial.specs.Text.{text}
 use Rattle.jls_device.specs.Event.{Event}
 use Rattle.jls_picture.specs.Picture.{WholePicture}
-use Rattle.jls_station.specs.Texts.{is_text}
+use Rattle.jls_station.specs.Texts.{is_text, IsTextOf}
 use Rattle.jls_station.specs.Joining.{JoinIsDone}
 use Rattle.jls_station.specs.Laws.{input_bytes}
 use Rattle.jls_headline.specs.Damaged.{Damaged}
@@ -25,8 +25,26 @@ RunsHoldExactly =
     → JoinIsDone source out names joined settled whole events → AreNoTexts (input_bytes events)
     → HoldsExactly joined (input_bytes events)
 
--- Two such runs whose inputs were the same copies, in any order and with any repeats, join what holds and says the same. Where neither
--- had a source, it has the same text
+-- which copies an input stands for: a copy for itself, and a text for those of which its partial picture holds exactly the readings
+abbrev pub InputStandsFor : List ℕ → List (List ℕ) → Type 0
+InputStandsFor bytes copies =
+    ((is_text bytes ≡ false) × (copies ≡ bytes ∷ [])) ⊎ ((p : PartialPicture) × IsTextOf bytes p × HoldsExactly p copies)
+
+-- these copies, side by side, are those that the inputs stand for
+abbrev pub InputsStandFor : List (List ℕ) → List (List ℕ) → Type 0
+InputsStandFor [] copies = copies ≡ []
+InputsStandFor (bytes ∷ inputs) copies =
+    (mine : List (List ℕ)) × (more : List (List ℕ)) × (copies ≡ mine ++ more) × InputStandsFor bytes mine × InputsStandFor inputs more
+
+-- What a run of `join` joins that is done, whose inputs are copies and texts, holds exactly the readings of the copies that they stand for
+abbrev pub RunsWithTextsHoldExactly : Type 0
+RunsWithTextsHoldExactly =
+    (source : Option ℕ) (out : List ℕ) (names : List (List ℕ)) (joined : PartialPicture) (settled whole : Bool) (events : List Event)
+    → JoinIsDone source out names joined settled whole events
+    → (copies : List (List ℕ)) → InputsStandFor (input_bytes events) copies → HoldsExactly joined copies
+
+-- Two runs that are done, and whose inputs are copies and no texts, the same ones in any order and with any repeats, join what holds and
+-- says the same. Where neither had a source, it has the same text
 abbrev pub RunsSayTheSame : Type 0
 RunsSayTheSame =
     (source : Option ℕ) (out : List ℕ) (names : List (List ℕ)) (joined : PartialPicture) (settled whole : Bool) (events : List Event)
@@ -44,4 +62,13 @@ RunsGiveThePicture =
     (source : Option ℕ) (out : List ℕ) (names : List (List ℕ)) (joined : PartialPicture) (settled whole : Bool) (events : List Event)
     → JoinIsDone source out names joined settled whole events
     → (pic : WholePicture) → IsPicture pic → AllByRecursion (Damaged pic) (input_bytes events) → EachLineSurvives pic (input_bytes events)
+    → GivesPicture joined pic × FilesReadAs joined pic
+
+-- so too where the inputs are copies and texts, and it is so of the copies that they stand for
+abbrev pub RunsWithTextsGiveThePicture : Type 0
+RunsWithTextsGiveThePicture =
+    (source : Option ℕ) (out : List ℕ) (names : List (List ℕ)) (joined : PartialPicture) (settled whole : Bool) (events : List Event)
+    → JoinIsDone source out names joined settled whole events
+    → (copies : List (List ℕ)) → InputsStandFor (input_bytes events) copies
+    → (pic : WholePicture) → IsPicture pic → AllByRecursion (Damaged pic) copies → EachLineSurvives pic copies
     → GivesPicture joined pic × FilesReadAs joined pic

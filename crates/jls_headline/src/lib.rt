@@ -14,6 +14,9 @@ pub use headline::{files_read_as_one, never_another_picture, same_copies_give_th
 pub use lost_intervals::{
     damaged_copies_give_the_picture, numbers_come_back, surviving_lines_are_given,
 };
-pub use runs::{joined_copies_give_the_picture, written_joins_read_as_the_picture};
+pub use runs::{
+    joined_copies_give_the_picture, joined_texts_give_the_picture,
+    written_joins_read_as_the_picture,
+};
 pub use scans::scans_are_of_the_frame;
 pub use trimmed::{trimmed_copies_are_damaged, trimmed_pieces_are_harmless};

@@ -1,6 +1,7 @@
-//! The headline for whole runs of `join`. Each law is a function that does nothing and whose contract is the law.
+//! The headline for whole runs of `join`, and of `write` after it. Each law is a function that does nothing and whose contract is the law.
 
 ghost use Rattle.jls_headline.specs.RunLaws.{RunsHoldExactly, RunsSayTheSame, RunsGiveThePicture};
+ghost use Rattle.jls_headline.specs.RunLaws.{RunsWithTextsHoldExactly, RunsWithTextsGiveThePicture};
 ghost use Rattle.jls_headline.specs.JoinThenWrite.{WrittenJoinsAreThePicture, WrittenJoinsReadAsThePicture, WrittenJoinsAreSettled};
 
 /// A law: what a run of `join` joins that is done, and whose inputs are copies and no texts, holds exactly the readings that these copies
@@ -12,6 +13,13 @@ pub fn joined_copies_give_the_picture()
     ensures exactly { RunsHoldExactly }
     ensures same { RunsSayTheSame }
     ensures damaged { RunsGiveThePicture }
+{}
+
+/// A law: the same where texts are among the inputs, each of which stands for the copies of which its partial picture holds exactly the
+/// readings. So stations that hand on what they hold as texts come to what all their copies give.
+pub fn joined_texts_give_the_picture()
+    ensures exactly { RunsWithTextsHoldExactly }
+    ensures damaged { RunsWithTextsGiveThePicture }
 {}
 
 /// A law: where the inputs of a run of `join` that is done are damaged copies of one picture in which every line survives, and the one
