@@ -4,7 +4,7 @@ use Rattle.jls_bits.specs.Bits.{is_whole, is_whole_after, ends_data}
 use Rattle.jls_marker.specs.Scan.{Scan}
 use Rattle.jls_copy.specs.Numbers.{Interval}
 use Rattle.jls_copy.specs.ScanData.{fill_bytes}
-use Rattle.jls_copy.specs.Pieces.{Outcome, Lines, Fault, IsOutcomeAt}
+use Rattle.jls_copy.specs.Pieces.{PieceOutcome, Lines, Fault, IsOutcomeAt}
 use Rattle.jls_copy.specs.CutPieces.{IsHeadAt}
 use Rattle.jls_copy.specs.ReaderState.{held_bytes}
 use Rattle.jls_copy.specs.Tells.{SameBytes, HeldIs}
@@ -45,7 +45,7 @@ pub never_both : (b : Bool) → b ≡ true → b ≡ false → ⊥
 never_both b e f = let g : true ≡ false = sym e ∙ f in cc
 
 -- and so has the same outcome
-pub same_outcome : (s : Scan) (k : ℕ) (told piece : List ℕ) (o : Outcome) → SameBytes told piece → IsOutcomeAt s (Interval k) told o → IsOutcomeAt s (Interval k) piece o
+pub same_outcome : (s : Scan) (k : ℕ) (told piece : List ℕ) (o : PieceOutcome) → SameBytes told piece → IsOutcomeAt s (Interval k) told o → IsOutcomeAt s (Interval k) piece o
 same_outcome s k told piece o (inl e) h = subst (λ bytes. IsOutcomeAt s (Interval k) bytes o) e h
 same_outcome s k told piece (Lines lines) (inr e) h = absurd (never_both (is_whole told) h.begins.data_bits.whole e.0)
 same_outcome s k told piece (Fault kind.Long) (inr e) h = absurd (never_both (is_whole told) h.begins.data_bits.whole e.0)

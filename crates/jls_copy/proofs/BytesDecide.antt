@@ -11,7 +11,7 @@ use Rattle.jls_interval.proofs.PiecesReadOnce.{reads_once, read_not_long}
 use Rattle.jls_marker.specs.Scan.{Scan, IsScan, row_count}
 use Rattle.jls_marker.specs.declared.fault.MarkerFault.{MarkerFault}
 use Rattle.jls_copy.specs.Numbers.{PieceNumber, Interval, BeyondLast}
-use Rattle.jls_copy.specs.Pieces.{FoundPiece, pieces, Outcome, Lines, Fault, IsOutcomeAt, AreOutcomes, readings, records}
+use Rattle.jls_copy.specs.Pieces.{FoundPiece, pieces, PieceOutcome, Lines, Fault, IsOutcomeAt, AreOutcomes, readings, records}
 use Rattle.jls_copy.specs.Course.{Course}
 use Rattle.jls_copy.specs.CutPieces.{closed_by_input, last_piece, cut_pieces, IsHeadAt, IsHeadOfCut, head_readings}
 use Rattle.std.specs.Prelude.{if◌then◌else◌}
@@ -36,7 +36,7 @@ module _ (s : Scan) (ok : IsScan s) (k : ℕ) (bytes : List ℕ) where
   not_long : (a : List (List ℕ)) → Reads s.params s.width (length s.components) count bytes a → IsLong s.params s.width (length s.components) count bytes → ⊥
   not_long a h l = read_not_long s.params ok.params s.width (length s.components) count (let w = ok.width_at_least in omega arith) bytes a h l
 
-  within : (o p : Outcome) → IsOutcomeAt s (Interval k) bytes o → IsOutcomeAt s (Interval k) bytes p → o ≡ p
+  within : (o p : PieceOutcome) → IsOutcomeAt s (Interval k) bytes o → IsOutcomeAt s (Interval k) bytes p → o ≡ p
   within (Lines a) (Lines b) h r = ap Lines (one_list a b h r)
   within (Lines a) (Fault kind.Long) h r = absurd (not_long a h r)
   within (Lines a) (Fault kind.Broken) h r = absurd (r.not_read a h)
@@ -51,7 +51,7 @@ module _ (s : Scan) (ok : IsScan s) (k : ℕ) (bytes : List ℕ) where
   within (Fault kind.Broken) (Fault kind.Beyond) h r = absurd r
   within (Fault kind.Beyond) p h r = absurd h
 
-  beyond : (o p : Outcome) → IsOutcomeAt s (BeyondLast k) bytes o → IsOutcomeAt s (BeyondLast k) bytes p → o ≡ p
+  beyond : (o p : PieceOutcome) → IsOutcomeAt s (BeyondLast k) bytes o → IsOutcomeAt s (BeyondLast k) bytes p → o ≡ p
   beyond (Lines a) p h r = absurd h
   beyond (Fault kind.Long) p h r = absurd h
   beyond (Fault kind.Broken) p h r = absurd h
@@ -60,11 +60,11 @@ module _ (s : Scan) (ok : IsScan s) (k : ℕ) (bytes : List ℕ) where
   beyond (Fault kind.Beyond) (Fault kind.Broken) h r = absurd r
   beyond (Fault kind.Beyond) (Fault kind.Beyond) h r = refl
 
-pub one_outcome : (s : Scan) (n : PieceNumber) (bytes : List ℕ) (o p : Outcome) → IsScan s → IsOutcomeAt s n bytes o → IsOutcomeAt s n bytes p → o ≡ p
+pub one_outcome : (s : Scan) (n : PieceNumber) (bytes : List ℕ) (o p : PieceOutcome) → IsScan s → IsOutcomeAt s n bytes o → IsOutcomeAt s n bytes p → o ≡ p
 one_outcome s (Interval k) bytes o p ok h r = within s ok k bytes o p h r
 one_outcome s (BeyondLast k) bytes o p ok h r = beyond s ok k bytes o p h r
 
-pub one_outcomes : (ps : List FoundPiece) (os qs : List Outcome) → AllByRecursion HasScan ps → AreOutcomes ps os → AreOutcomes ps qs → os ≡ qs
+pub one_outcomes : (ps : List FoundPiece) (os qs : List PieceOutcome) → AllByRecursion HasScan ps → AreOutcomes ps os → AreOutcomes ps qs → os ≡ qs
 one_outcomes [] [] [] ok h r = refl
 one_outcomes [] [] (q ∷ qs) ok h r = absurd r
 one_outcomes [] (o ∷ os) qs ok h r = absurd h
@@ -107,7 +107,7 @@ cut_has c ok = by (closed_by_input c.units)
     by true = last_has (pieces c) ok
     by false = tt
 
-abbrev given : Course → PictureShape → List Outcome → List (List ℕ) → PartialPicture
+abbrev given : Course → PictureShape → List PieceOutcome → List (List ℕ) → PartialPicture
 given c shape os head =
     without_sources shape (set.insert_all set.empty (readings (pieces c) os ++ head_readings (cut_pieces c) head))
 

@@ -5,7 +5,7 @@ use Rattle.jls_values.specs.OrderedSet as set
 use Rattle.jls_marker.specs.Scan.{Scan}
 use Rattle.jls_copy.proofs.HeaderFacts.{fault_is_final}
 use Rattle.jls_copy.specs.Numbers.{PieceNumber, Interval, BeyondLast}
-use Rattle.jls_copy.specs.Pieces.{FoundPiece, Outcome, Lines, Fault, IsOutcome, IsOutcomeAt, readings_of, records_of}
+use Rattle.jls_copy.specs.Pieces.{FoundPiece, PieceOutcome, Lines, Fault, IsOutcome, IsOutcomeAt, readings_of, records_of}
 use Rattle.jls_copy.specs.Pieces.{AreOutcomes, readings, records}
 use Rattle.jls_copy.specs.Pieces.{pieces}
 use Rattle.jls_copy.specs.ReaderState.{reading}
@@ -32,25 +32,25 @@ use Rattle.jls_copy.specs.ReaderState.{closed_at_end}
 use Rattle.jls_copy.proofs.CourseTold.{course_told}
 use Rattle.jls_partial.specs.Partial.{without_sources}
 
-outcome_at : (s : Scan) (n : PieceNumber) (x w : List ℕ) (o : Outcome) → ToldAs n x w → IsOutcomeAt s n x o → IsOutcomeAt s n w o
+outcome_at : (s : Scan) (n : PieceNumber) (x w : List ℕ) (o : PieceOutcome) → ToldAs n x w → IsOutcomeAt s n x o → IsOutcomeAt s n w o
 outcome_at s (Interval k) x w o t h = same_outcome s k x w o t h
 outcome_at s (BeyondLast k) x w (Lines lines) t h = h
 outcome_at s (BeyondLast k) x w (Fault kind.Long) t h = h
 outcome_at s (BeyondLast k) x w (Fault kind.Broken) t h = h
 outcome_at s (BeyondLast k) x w (Fault kind.Beyond) t h = h
 
-outcome_alike : (p q : FoundPiece) (o : Outcome) → AlikePiece p q → IsOutcome p o → IsOutcome q o
+outcome_alike : (p q : FoundPiece) (o : PieceOutcome) → AlikePiece p q → IsOutcome p o → IsOutcome q o
 outcome_alike p q o a h =
     let now : IsOutcomeAt q.plan q.number p.bytes o = rw (a.plan_is, a.number_is) at h in outcome_at q.plan q.number p.bytes q.bytes o a.told_as now
 
-readings_alike : (p q : FoundPiece) (o : Outcome) → AlikePiece p q → readings_of p o ≡ readings_of q o
+readings_alike : (p q : FoundPiece) (o : PieceOutcome) → AlikePiece p q → readings_of p o ≡ readings_of q o
 readings_alike p q o a = rw (a.plan_is, a.number_is) refl
 
-records_alike : (p q : FoundPiece) (o : Outcome) → AlikePiece p q → records_of p o ≡ records_of q o
+records_alike : (p q : FoundPiece) (o : PieceOutcome) → AlikePiece p q → records_of p o ≡ records_of q o
 records_alike p q (Lines lines) a = refl
 records_alike p q (Fault f) a = rw (a.scan_is, a.number_is, a.offset_is) refl
 
-all_alike : (ps qs : List FoundPiece) (os : List Outcome) → AlikePieces ps qs → AreOutcomes ps os → AreOutcomes qs os × (readings ps os ≡ readings qs os) × (records ps os ≡ records qs os)
+all_alike : (ps qs : List FoundPiece) (os : List PieceOutcome) → AlikePieces ps qs → AreOutcomes ps os → AreOutcomes qs os × (readings ps os ≡ readings qs os) × (records ps os ≡ records qs os)
 all_alike [] [] os a h = (h, refl, refl)
 all_alike [] (q ∷ qs) os a h = absurd a
 all_alike (p ∷ ps) [] os a h = absurd a

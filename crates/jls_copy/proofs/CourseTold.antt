@@ -7,7 +7,7 @@ use Rattle.jls_copy.specs.Numbers.{PieceNumber, Interval}
 use Rattle.jls_marker.specs.HeaderState.{HeaderState}
 use Rattle.jls_marker.specs.Scan.{Scan}
 use Rattle.jls_copy.specs.Pieces.{FoundPiece}
-use Rattle.jls_copy.specs.Course.{by_input, by_marker, CopyUnit, segment, scan, segment_bytes, unit_bytes, AreUnits, Ends, for_good, with_the_input, in_a_unit, fill_alone, marker_alone, half_a_length, short_payload, IsCourse, with_soi, with_another_marker, with_no_marker, with_fill_alone}
+use Rattle.jls_copy.specs.Course.{by_input, by_marker, CopyUnit, segment, scan, segment_unit_bytes, unit_bytes, AreUnits, Ends, for_good, with_the_input, in_a_unit, fill_alone, marker_alone, half_a_length, short_payload, IsCourse, with_soi, with_another_marker, with_no_marker, with_fill_alone}
 use Rattle.jls_copy.specs.Pieces.{pieces_in, pieces_from, unit_pieces, scans_in}
 use Rattle.jls_copy.specs.CutPieces.{is_cut, closed_by_input, last_piece}
 use Rattle.std.specs.Prelude.{if◌then◌else◌}
@@ -55,11 +55,11 @@ cut_has_pieces : (index at : ℕ) (us : List CopyUnit) → closed_by_input us �
 cut_has_pieces index at [] e = absurd cc
 cut_has_pieces index at (segment fill code payload ∷ []) e = absurd cc
 cut_has_pieces index at (scan fill code payload plan closed last closing ∷ us) e =
-    let p = some_pieces index plan 0 (Interval 0) (at + length (segment_bytes fill code payload)) closed last in
+    let p = some_pieces index plan 0 (Interval 0) (at + length (segment_unit_bytes fill code payload)) closed last in
     let more : List FoundPiece = pieces_in (index + 1) (at + length (unit_bytes (scan fill code payload plan closed last closing))) us in
     (p.0, p.1 ++ more, ap (λ xs. xs ++ more) p.2)
 cut_has_pieces index at (segment fill code payload ∷ v ∷ us) e =
-    cut_has_pieces (index + 0) (at + length (segment_bytes fill code payload)) (v ∷ us) e
+    cut_has_pieces (index + 0) (at + length (segment_unit_bytes fill code payload)) (v ∷ us) e
 
 -- it is the last piece of all
 cut_is : (index at : ℕ) (us : List CopyUnit) → (if closed_by_input us then last_piece (pieces_in index at us) else []) ≡ cut_in index at us
@@ -91,19 +91,19 @@ passed_course _ _ _ _ _ (passed_soi n x w) rest vs last e qs cut y fol from alik
       subst (AlikePieces cut) (sym (cut_is 0 (n + 2) vs)) (rw size at alike_cut),
     )
 passed_course _ _ _ _ _ (passed_segment x h us ps behind p n code payload after z known small fol0 e0 w) rest vs last e qs cut y fol from alike alike_cut is =
-    let size : length z ≡ length x + length (segment_bytes n code payload) = ap length w ∙ length-append x (segment_bytes n code payload) in
+    let size : length z ≡ length x + length (segment_unit_bytes n code payload) = ap length w ∙ length-append x (segment_unit_bytes n code payload) in
     let scans : after.scans ≡ h.scans + 0 = scans_none h after code payload e0 ∙ sym (add-zero h.scans) in
-    passed_course x h us ps behind p (segment_bytes n code payload ++ rest) (segment n code payload ∷ vs) last e qs cut y
+    passed_course x h us ps behind p (segment_unit_bytes n code payload ++ rest) (segment n code payload ∷ vs) last e qs cut y
     (λ k. (n, code, _, append_assoc (fill_bytes n) _ rest, fol0 k))
     (after, rest, refl, ((known, small), e0), rw size at from) (rw (size, scans) at alike)
-    (subst (AlikePieces cut) (sym (cut_behind h.scans (length x) (segment n code payload) vs refl)) (rw (size, scans) at alike_cut)) (is ∙ rw w (append_assoc x (segment_bytes n code payload) rest))
+    (subst (AlikePieces cut) (sym (cut_behind h.scans (length x) (segment n code payload) vs refl)) (rw (size, scans) at alike_cut)) (is ∙ rw w (append_assoc x (segment_unit_bytes n code payload) rest))
 passed_course _ _ _ _ _ (passed_scan x h us ps behind p n code payload after z known small fol0 s e0 closed w0 fs each piece alike0 w) rest vs last e qs cut y fol from alike alike_cut is =
     let unit : CopyUnit = scan n code payload s closed w0 by_marker in
     let size : length z ≡ length x + length (unit_bytes unit) = ap length w ∙ length-append x (unit_bytes unit) in
     let scans : after.scans ≡ h.scans + 1 = scans_one h after code payload s e0 in
     let f = fol refl in
     rw append_assoc (passed_course x h us ps behind p (unit_bytes unit ++ rest) (unit ∷ vs) last e (fs ++ qs) cut y
-    (λ k. (n, code, _, append_assoc (segment_bytes n code payload) _ rest ∙ append_assoc (fill_bytes n) _ _, fol0 k))
+    (λ k. (n, code, _, append_assoc (segment_unit_bytes n code payload) _ rest ∙ append_assoc (fill_bytes n) _ _, fol0 k))
     (after, rest, refl, ((known, small), e0, each, piece, record { fill = f.0; code = f.1; behind = f.2; bytes_are = f.3; ends = f.4 }), rw size at from)
     (alike_append fs _ qs _ alike0 (rw (size, scans) at alike))
     (subst (AlikePieces cut) (sym (cut_behind h.scans (length x) unit vs refl)) (rw (size, scans) at alike_cut)) (is ∙ rw w (append_assoc x (unit_bytes unit) rest)))
@@ -132,10 +132,10 @@ told (InScan o) h payload ps x d =
     let unit : CopyUnit = scan d.fill d.code d.payload o.plan d.closed d.piece (by_input d.held) in
     let all : x ≡ d.before ++ unit_bytes unit = d.whole in
     let size : length x ≡ length d.before + length (unit_bytes unit) = ap length all ∙ length-append d.before (unit_bytes unit) in
-    let last : AlikePieces (d.here ++ found o ∷ []) (pieces_from d.old.scans o.plan 0 (Interval 0) (length d.before + length (segment_bytes d.fill d.code d.payload)) d.closed d.piece) =
+    let last : AlikePieces (d.here ++ found o ∷ []) (pieces_from d.old.scans o.plan 0 (Interval 0) (length d.before + length (segment_unit_bytes d.fill d.code d.payload)) d.closed d.piece) =
     subst (AlikePieces (d.here ++ found o ∷ [])) (sym (d.pieces_are d.piece)) (alike_more d.here d.front (found o) _ d.here_alike (alike_now o h ps x d 0)) in
     let pieces_is : d.earlier ++ (d.here ++ found o ∷ []) ≡ ps ++ found o ∷ [] = rw d.found_are (sym (append_assoc d.earlier d.here (found o ∷ []))) in
-    let all_of : List FoundPiece = pieces_from d.old.scans o.plan 0 (Interval 0) (length d.before + length (segment_bytes d.fill d.code d.payload)) d.closed d.piece in
+    let all_of : List FoundPiece = pieces_from d.old.scans o.plan 0 (Interval 0) (length d.before + length (segment_unit_bytes d.fill d.code d.payload)) d.closed d.piece in
     let here : FoundPiece = record { scan = d.old.scans; plan = o.plan; number = number_of o.piece; offset = o.offset; bytes = d.piece } in
     let cut : AlikePieces (found o ∷ []) (last_piece all_of) = subst (AlikePieces (found o ∷ [])) (sym (ap last_piece (d.pieces_are d.piece) ∙ last_behind d.front here [])) (alike_now o h ps x d 0, tt) in
     subst (λ qs. CourseIs x (Input (length x)) h qs (found o ∷ [])) pieces_is

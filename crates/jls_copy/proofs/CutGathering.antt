@@ -5,7 +5,7 @@ use Rattle.jls_values.specs.OrderedSet as set
 use Rattle.jls_values.specs.OrderedSetLaws.{insert_all-append}
 use Rattle.jls_values.specs.Shape.{PictureShape}
 use Rattle.jls_partial.specs.Reading as partial
-use Rattle.jls_copy.specs.Pieces.{FoundPiece, Outcome, Lines, AreOutcomes, readings, records, readings_of, records_of}
+use Rattle.jls_copy.specs.Pieces.{FoundPiece, PieceOutcome, Lines, AreOutcomes, readings, records, readings_of, records_of}
 use Rattle.jls_copy.specs.CutPieces.{IsHeadOfCut, head_readings}
 use Rattle.jls_copy.specs.Findings.{AddsCut, with_readings, picture_of, kept_with}
 use Rattle.jls_copy.specs.Gathers.{Gathers}
@@ -21,7 +21,7 @@ use Rattle.jls_partial.specs.Partial.{without_sources}
 
 -- what is kept is what the pieces give, with the readings of the head of the last one
 record CutGathers (frame : Option PictureShape) (ps qs : List FoundPiece) (f : Findings) : Type 0 where
-  outcomes : List Outcome
+  outcomes : List PieceOutcome
   each : AreOutcomes (ps ++ qs) outcomes
   head : List (List ℕ)
   head_is : IsHeadOfCut qs head

@@ -2,7 +2,7 @@
 use Rattle.std.proofs.Common.{◌≡◌, ℕ, ◌+◌, ◌/◌, ◌%◌, ◌<◌, true, List, [], ◌∷◌, ◌++◌, length, sym, ap, ◌∙◌, subst, append_assoc, arith, length-append}
 use Rattle.jls_marker.specs.HeaderState.{HeaderState, no_headers}
 use Rattle.jls_copy.specs.ScanData.{fill_bytes}
-use Rattle.jls_copy.specs.Course.{LastClosed, by_input, by_marker, CopyUnit, segment, scan, segment_bytes, unit_bytes, IsClosing, IsUnit, EndsHere, at_eoi, at_eoi_before_a_frame, at_no_marker, at_unknown_code, at_short_length, at_refused_segment, Ends, for_good, with_the_input, in_a_unit, AreUnits, without_units, IsCourse, with_soi, with_another_marker, with_no_marker, with_fill_alone}
+use Rattle.jls_copy.specs.Course.{LastClosed, by_input, by_marker, CopyUnit, segment, scan, segment_unit_bytes, unit_bytes, IsClosing, IsUnit, EndsHere, at_eoi, at_eoi_before_a_frame, at_no_marker, at_unknown_code, at_short_length, at_refused_segment, Ends, for_good, with_the_input, in_a_unit, AreUnits, without_units, IsCourse, with_soi, with_another_marker, with_no_marker, with_fill_alone}
 use Rattle.jls_copy.specs.CopyReads.{is_final_end}
 use Rattle.jls_copy.specs.CopyLaws.{FinalEndsStay}
 use Rattle.jls_copy.specs.declared.end.End.{End}
@@ -13,9 +13,9 @@ use Rattle.jls_marker.specs.declared.fault.MarkerFault.TheVariants as fault
 some_behind : (xs : List ℕ) (y : ℕ) (ys : List ℕ) → 0 < length (xs ++ y ∷ ys)
 some_behind xs y ys = let e = length-append xs (y ∷ ys) in omega arith
 
-some_segment : (n code : ℕ) (payload more : List ℕ) → 0 < length (segment_bytes n code payload ++ more)
+some_segment : (n code : ℕ) (payload more : List ℕ) → 0 < length (segment_unit_bytes n code payload ++ more)
 some_segment n code payload more =
-    let e = length-append (segment_bytes n code payload) more in
+    let e = length-append (segment_unit_bytes n code payload) more in
     let s = some_behind (fill_bytes n) 255 (code ∷ (length payload + 2) / 256 ∷ (length payload + 2) % 256 ∷ payload) in omega arith
 
 stops_some : (h : HeaderState) (at : ℕ) (x : List ℕ) (e : End) → EndsHere h at x e → 0 < length x
@@ -38,7 +38,7 @@ stops_more _ _ _ more _ (at_unknown_code h at n code after p q r) =
 stops_more _ _ _ more _ (at_short_length h at n code a b after p q) =
     subst (λ y. EndsHere h at y (Header fault.Length (at + n))) (sym (append_assoc (fill_bytes n) (255 ∷ code ∷ a ∷ b ∷ after) more)) (at_short_length h at n code a b (after ++ more) p q)
 stops_more _ _ _ more _ (at_refused_segment h at n code payload after f p r) =
-    subst (λ y. EndsHere h at y (Header f (at + n))) (sym (append_assoc (segment_bytes n code payload) after more)) (at_refused_segment h at n code payload (after ++ more) f p r)
+    subst (λ y. EndsHere h at y (Header f (at + n))) (sym (append_assoc (segment_unit_bytes n code payload) after more)) (at_refused_segment h at n code payload (after ++ more) f p r)
 
 -- bytes that something stands in, and that end a copy for good
 record Stays (P : List ℕ → Type 0) (x more : List ℕ) : Type 0 where

@@ -20,7 +20,7 @@ use Rattle.jls_partial.specs.Partial.{PartialPicture, without_sources}
 use Rattle.jls_marker.specs.HeaderState.{HeaderState}
 use Rattle.jls_marker.specs.Scan.{Scan}
 use Rattle.jls_marker.specs.Headers.{headers_after}
-use Rattle.jls_copy.specs.Pieces.{FoundPiece, Outcome, Lines, Fault, IsOutcome, readings_of, records_of}
+use Rattle.jls_copy.specs.Pieces.{FoundPiece, PieceOutcome, Lines, Fault, IsOutcome, readings_of, records_of}
 use Rattle.jls_copy.specs.Findings.{Adds, HoldsShape, with_readings, picture_of, kept_with}
 use Rattle.jls_copy.specs.Gathers.{Gathers}
 use Rattle.jls_copy.specs.Pieces.{AreOutcomes, readings, records}
@@ -43,19 +43,19 @@ from_snoc r (x ∷ bytes) b = from_snoc (reading_with r x) bytes b
 pub reading_snoc : (bytes : List ℕ) (b : ℕ) → reading (bytes ++ b ∷ []) ≡ reading_with (reading bytes) b
 reading_snoc bytes b = from_snoc _ bytes b
 
-pub are_more : (ps : List FoundPiece) (os : List Outcome) (p : FoundPiece) (o : Outcome) → AreOutcomes ps os → IsOutcome p o → AreOutcomes (ps ++ p ∷ []) (os ++ o ∷ [])
+pub are_more : (ps : List FoundPiece) (os : List PieceOutcome) (p : FoundPiece) (o : PieceOutcome) → AreOutcomes ps os → IsOutcome p o → AreOutcomes (ps ++ p ∷ []) (os ++ o ∷ [])
 are_more [] [] p o h i = (i, tt)
 are_more [] (x ∷ os) p o h i = absurd h
 are_more (x ∷ ps) [] p o h i = absurd h
 are_more (x ∷ ps) (y ∷ os) p o h i = (h.0, are_more ps os p o h.1 i)
 
-pub readings_more : (ps : List FoundPiece) (os : List Outcome) (p : FoundPiece) (o : Outcome) → AreOutcomes ps os → readings (ps ++ p ∷ []) (os ++ o ∷ []) ≡ readings ps os ++ readings_of p o
+pub readings_more : (ps : List FoundPiece) (os : List PieceOutcome) (p : FoundPiece) (o : PieceOutcome) → AreOutcomes ps os → readings (ps ++ p ∷ []) (os ++ o ∷ []) ≡ readings ps os ++ readings_of p o
 readings_more [] [] p o h = append-nil (readings_of p o)
 readings_more [] (x ∷ os) p o h = absurd h
 readings_more (x ∷ ps) [] p o h = absurd h
 readings_more (x ∷ ps) (y ∷ os) p o h = ap (λ t. readings_of x y ++ t) (readings_more ps os p o h.1) ∙ sym (append_assoc (readings_of x y) (readings ps os) (readings_of p o))
 
-pub records_more : (ps : List FoundPiece) (os : List Outcome) (p : FoundPiece) (o : Outcome) → AreOutcomes ps os → records (ps ++ p ∷ []) (os ++ o ∷ []) ≡ records ps os ++ records_of p o
+pub records_more : (ps : List FoundPiece) (os : List PieceOutcome) (p : FoundPiece) (o : PieceOutcome) → AreOutcomes ps os → records (ps ++ p ∷ []) (os ++ o ∷ []) ≡ records ps os ++ records_of p o
 records_more [] [] p o h = append-nil (records_of p o)
 records_more [] (x ∷ os) p o h = absurd h
 records_more (x ∷ ps) [] p o h = absurd h
@@ -76,7 +76,7 @@ kept_one xs r = by (cases_lt (length xs) 4096)
         let same : take 4096 (xs ++ r ∷ []) ≡ take 4096 xs = take-append-le 4096 xs (r ∷ []) h in
         rw (size, same) refl
 
-pub kept_more : (xs : List PieceRecord) (p : FoundPiece) (o : Outcome) → kept_with (take 4096 xs) (records_of p o) ≡ take 4096 (xs ++ records_of p o)
+pub kept_more : (xs : List PieceRecord) (p : FoundPiece) (o : PieceOutcome) → kept_with (take 4096 xs) (records_of p o) ≡ take 4096 (xs ++ records_of p o)
 kept_more xs p (Lines lines) = sym (ap (take 4096) (append-nil xs))
 kept_more xs p (Fault f) = kept_one xs _
 
@@ -121,7 +121,7 @@ gathers_frame before now ps f stays g = record {
     some_is : (x y : PictureShape) → ◌≡◌ {A = Option PictureShape} (Some x) (Some y) → x ≡ y
     some_is x y e = cc
 
-    fresh : (s : PictureShape) (os : List Outcome) (p : Option PartialPicture) → (ps ≡ []) × (p ≡ None) → picture_of s p ≡ without_sources s (set.insert_all set.empty (readings ps os))
+    fresh : (s : PictureShape) (os : List PieceOutcome) (p : Option PartialPicture) → (ps ≡ []) × (p ≡ None) → picture_of s p ≡ without_sources s (set.insert_all set.empty (readings ps os))
     fresh s os p (e, i) = rw (e, i) refl
 
     picture : (b : Option PictureShape) → ((s : PictureShape) → b ≡ Some s → now ≡ Some s) → (h : Gathers b ps f) → (s : PictureShape) → now ≡ Some s
@@ -155,7 +155,7 @@ frame_stays (InScan scan) count h payload b s f = f
 frame_stays (Done e) count h payload b s f = f
 
 -- a piece adds one record at most
-one_at_most : (p : FoundPiece) (o : Outcome) → length (records_of p o) ≤ 1
+one_at_most : (p : FoundPiece) (o : PieceOutcome) → length (records_of p o) ≤ 1
 one_at_most p (Lines lines) = omega arith
 one_at_most p (Fault f) = omega arith
 

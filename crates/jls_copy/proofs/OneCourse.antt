@@ -13,7 +13,7 @@ use Rattle.jls_marker.specs.Scan.{Scan}
 use Rattle.jls_marker.specs.declared.fault.MarkerFault.{MarkerFault}
 use Rattle.jls_marker.specs.declared.fault.MarkerFault.TheVariants as fault
 use Rattle.jls_copy.specs.ScanData.{fill_bytes, ClosedPiece, ScanEnd, at_input, at_marker, end_bytes, IsCut, IsClosedPiece, IsPiece}
-use Rattle.jls_copy.specs.Course.{LastClosed, by_input, by_marker, CopyUnit, segment, scan, segment_bytes, scan_data_bytes, unit_bytes, IsClosing, IsUnit, IsPartOfUnit, fill_alone, marker_alone, half_a_length, short_payload, EndsHere, at_eoi, at_eoi_before_a_frame, at_no_marker, at_unknown_code, at_short_length, at_refused_segment, Ends, for_good, with_the_input, in_a_unit, AreUnits, Course, without_units, IsCourse, with_soi, with_another_marker, with_no_marker, with_fill_alone}
+use Rattle.jls_copy.specs.Course.{LastClosed, by_input, by_marker, CopyUnit, segment, scan, segment_unit_bytes, scan_data_bytes, unit_bytes, IsClosing, IsUnit, IsPartOfUnit, fill_alone, marker_alone, half_a_length, short_payload, EndsHere, at_eoi, at_eoi_before_a_frame, at_no_marker, at_unknown_code, at_short_length, at_refused_segment, Ends, for_good, with_the_input, in_a_unit, AreUnits, Course, without_units, IsCourse, with_soi, with_another_marker, with_no_marker, with_fill_alone}
 use Rattle.jls_copy.specs.CourseLaws.{OneCourse}
 use Rattle.jls_copy.specs.declared.end.End.{End}
 use Rattle.jls_copy.specs.declared.end.End.TheVariants.{Eoi, Input, Header}
@@ -116,7 +116,7 @@ taken_payload n payload rest e =
     rw (back, two, room, front, tail) refl
 
 read_segment : (h : HeaderState) (at total n code : ℕ) (payload rest : List ℕ) → has_segment code ≡ true
-    → after_marker h at total (marker_at (segment_bytes n code payload ++ rest)) ≡ after_taken n code payload rest at (headers_after h code payload)
+    → after_marker h at total (marker_at (segment_unit_bytes n code payload ++ rest)) ≡ after_taken n code payload rest at (headers_after h code payload)
 read_segment h at total n code payload rest s =
     let size : ℕ = length payload + 2 in
     ap (λ t. after_marker h at total (marker_at t)) (append_assoc (fill_bytes n) (255 ∷ code ∷ size / 256 ∷ size % 256 ∷ payload) rest)
@@ -135,7 +135,7 @@ step_is h at (segment n code payload) after rest x e (known, t) =
     ap (λ y. after_marker h at (at + length x) (marker_at y)) e ∙ read_segment h at (at + length x) n code payload rest known.0 ∙ ap (after_taken n code payload rest at) t
 step_is h at (scan n code payload s closed last closing) after rest x e (known, t, each, piece, behind) =
     let left = scan_data_bytes closed last closing ++ rest in
-    ap (λ y. after_marker h at (at + length x) (marker_at y)) (e ∙ append_assoc (segment_bytes n code payload) (scan_data_bytes closed last closing) rest)
+    ap (λ y. after_marker h at (at + length x) (marker_at y)) (e ∙ append_assoc (segment_unit_bytes n code payload) (scan_data_bytes closed last closing) rest)
     ∙ read_segment h at (at + length x) n code payload left known.0 ∙ ap (after_taken n code payload left at) t
 
 stops_step : (h : HeaderState) (at total : ℕ) (x : List ℕ) (e : End) → EndsHere h at x e → after_marker h at total (marker_at x) ≡ ends e

@@ -8,7 +8,7 @@ use Rattle.jls_marker.proofs.HeaderSteps.{scans_are_in_range}
 use Rattle.jls_copy.specs.ScanData.{fill_bytes, ClosedPiece, closed_bytes}
 use Rattle.jls_copy.specs.Numbers.{PieceNumber, number_behind, given_last}
 use Rattle.jls_copy.specs.Pieces.{FoundPiece, pieces_from, pieces_in, pieces}
-use Rattle.jls_copy.specs.Course.{CopyUnit, segment, scan, segment_bytes, scan_data_bytes, AreUnits, Course, IsCourse, with_soi, with_another_marker, with_no_marker, with_fill_alone}
+use Rattle.jls_copy.specs.Course.{CopyUnit, segment, scan, segment_unit_bytes, scan_data_bytes, AreUnits, Course, IsCourse, with_soi, with_another_marker, with_no_marker, with_fill_alone}
 use Rattle.jls_copy.specs.declared.end.End.{End}
 use Rattle.jls_copy.proofs.HeadersKept.{headers_kept, no_headers_kept}
 
@@ -32,21 +32,21 @@ pieces_have index s last number at (c ∷ closed) bytes ok =
     let next = number_behind (intervals s) last c.mark in
     (ok, pieces_have index s (given_last last next) next (at + length (closed_bytes c)) closed bytes ok)
 
-payload_bytes : (fill code : ℕ) (payload : List ℕ) → AreBytes (segment_bytes fill code payload) → AreBytes payload
+payload_bytes : (fill code : ℕ) (payload : List ℕ) → AreBytes (segment_unit_bytes fill code payload) → AreBytes payload
 payload_bytes fill code payload h = (byte_parts (fill_bytes fill) _ h).1.1.1.1.1
 
 units_have : (h : HeaderState) (at : ℕ) (bytes : List ℕ) (us : List CopyUnit) (final : HeaderState) (e : End) (index begin : ℕ) → IsHeaderState h → AreBytes bytes
     → AreUnits h at bytes us final e → AllByRecursion HasScan (pieces_in index begin us)
 units_have h at bytes [] final e index begin is low u = tt
 units_have h at bytes (segment fill code payload ∷ us) final e index begin is low (after, rest, whole, unit, more) =
-    let parts = byte_parts (segment_bytes fill code payload) rest (subst AreBytes whole low) in
-    units_have after (at + length (segment_bytes fill code payload)) rest us final e (index + 0) (begin + length (segment_bytes fill code payload)) (headers_kept h after code payload None is (payload_bytes fill code payload parts.0) unit.1) parts.1 more
+    let parts = byte_parts (segment_unit_bytes fill code payload) rest (subst AreBytes whole low) in
+    units_have after (at + length (segment_unit_bytes fill code payload)) rest us final e (index + 0) (begin + length (segment_unit_bytes fill code payload)) (headers_kept h after code payload None is (payload_bytes fill code payload parts.0) unit.1) parts.1 more
 units_have h at bytes (scan fill code payload plan closed last closing ∷ us) final e index begin is low (after, rest, whole, unit, more) =
-    let parts = byte_parts (segment_bytes fill code payload ++ scan_data_bytes closed last closing) rest (subst AreBytes whole low) in
-    let in_segment = payload_bytes fill code payload (byte_parts (segment_bytes fill code payload) (scan_data_bytes closed last closing) parts.0).0 in
+    let parts = byte_parts (segment_unit_bytes fill code payload ++ scan_data_bytes closed last closing) rest (subst AreBytes whole low) in
+    let in_segment = payload_bytes fill code payload (byte_parts (segment_unit_bytes fill code payload) (scan_data_bytes closed last closing) parts.0).0 in
     both_have (pieces_from index plan 0 _ _ closed last) _
     (pieces_have index plan 0 _ _ closed last (scans_are_in_range h after code payload plan is in_segment unit.1))
-    (units_have after (at + length (segment_bytes fill code payload ++ scan_data_bytes closed last closing)) rest us final e (index + 1) (begin + length (segment_bytes fill code payload ++ scan_data_bytes closed last closing)) (headers_kept h after code payload (Some plan) is in_segment unit.1) parts.1 more)
+    (units_have after (at + length (segment_unit_bytes fill code payload ++ scan_data_bytes closed last closing)) rest us final e (index + 1) (begin + length (segment_unit_bytes fill code payload ++ scan_data_bytes closed last closing)) (headers_kept h after code payload (Some plan) is in_segment unit.1) parts.1 more)
 
 -- each piece of a course is
 pub course_has : (bytes : List ℕ) (c : Course) → AreBytes bytes → IsCourse bytes c → AllByRecursion HasScan (pieces c)

@@ -13,7 +13,7 @@ use Rattle.jls_marker.specs.HeaderState.{HeaderState}
 use Rattle.jls_marker.specs.Scan.{Scan, intervals}
 use Rattle.jls_marker.specs.MarkerCodes.{has_segment}
 use Rattle.jls_copy.specs.Pieces.{FoundPiece}
-use Rattle.jls_copy.specs.Course.{by_marker, CopyUnit, scan, segment_bytes, unit_bytes}
+use Rattle.jls_copy.specs.Course.{by_marker, CopyUnit, scan, segment_unit_bytes, unit_bytes}
 use Rattle.jls_copy.specs.Pieces.{pieces_from}
 use Rattle.jls_copy.specs.ReaderState as state
 use Rattle.jls_copy.specs.ReaderState.{class_of, one_more, held_bytes, piece_with, piece_opened, number_of, bytes_of, found, scan_with, scan_behind}
@@ -127,7 +127,7 @@ opened_as s (BeyondLast k) = tt
 
 module _ (o : OpenScan) (h : HeaderState) (ps : List FoundPiece) (x : List ℕ) (d : InScanData o h ps x) (b : ℕ) where
   start_length : ℕ
-  start_length = length d.before + length (segment_bytes d.fill d.code d.payload)
+  start_length = length d.before + length (segment_unit_bytes d.fill d.code d.payload)
 
   fill_tells : b ≡ 255 → InScanData (record o { held = one_more o.held }) h (ps ++ []) (x ++ b ∷ [])
   fill_tells e = record {
@@ -207,11 +207,11 @@ module _ (o : OpenScan) (h : HeaderState) (ps : List FoundPiece) (x : List ℕ) 
       let back : 208 + (b - 208) ≡ b = grind (arith, nat_tests) in
       let closing : ClosedPiece = record { piece = d.piece; fill = m; mark = b - 208 } in
       let given : o.last ≡ given_after (intervals o.plan) 0 d.closed = d.given_is in
-      let bytes : x ++ b ∷ [] ≡ d.before ++ (segment_bytes d.fill d.code d.payload ++ (flat_map closed_bytes (d.closed ++ closing ∷ []) ++ ([] ++ []))) =
+      let bytes : x ++ b ∷ [] ≡ d.before ++ (segment_unit_bytes d.fill d.code d.payload ++ (flat_map closed_bytes (d.closed ++ closing ∷ []) ++ ([] ++ []))) =
       ap (λ y. y ++ b ∷ []) d.whole ∙ rw hm (simp (append_assoc, append-nil, flat_map-append, ← fill_more m) (rw back refl)) in
-      let size : count + 1 ≡ length d.before + length (segment_bytes d.fill d.code d.payload) + length (flat_map closed_bytes (d.closed ++ closing ∷ [])) =
+      let size : count + 1 ≡ length d.before + length (segment_unit_bytes d.fill d.code d.payload) + length (flat_map closed_bytes (d.closed ++ closing ∷ [])) =
       ap (λ n. n + 1) c ∙ sym (length-append x (b ∷ [])) ∙ ap length bytes ∙ length-append d.before _
-      ∙ (omega (arith, length-append (segment_bytes d.fill d.code d.payload) (flat_map closed_bytes (d.closed ++ closing ∷ []) ++ []), ap length (append-nil (flat_map closed_bytes (d.closed ++ closing ∷ []))))) in
+      ∙ (omega (arith, length-append (segment_unit_bytes d.fill d.code d.payload) (flat_map closed_bytes (d.closed ++ closing ∷ []) ++ []), ap length (append-nil (flat_map closed_bytes (d.closed ++ closing ∷ []))))) in
       let number : PieceNumber = number_behind (intervals o.plan) o.last (b - 208) in
       record {
         before = d.before;
@@ -234,7 +234,7 @@ module _ (o : OpenScan) (h : HeaderState) (ps : List FoundPiece) (x : List ℕ) 
         piece_is = tt;
         front = d.front ++ record { scan = d.old.scans; plan = o.plan; number = number_of o.piece; offset = o.offset; bytes = d.piece } ∷ [];
         pieces_are = λ w.
-            pieces_snoc d.old.scans o.plan 0 (Interval 0) (length d.before + length (segment_bytes d.fill d.code d.payload)) d.closed closing w
+            pieces_snoc d.old.scans o.plan 0 (Interval 0) (length d.before + length (segment_unit_bytes d.fill d.code d.payload)) d.closed closing w
             ∙ rw (d.pieces_are d.piece, opened_number, ← given, size) (ap (λ k. (d.front ++ record { scan = d.old.scans; plan = o.plan; number = number_of o.piece; offset = o.offset; bytes = d.piece } ∷ [])
             ++ record { scan = d.old.scans; plan = o.plan; number = number; offset = k; bytes = w } ∷ []) (shut d.before closing));
         given_is = rw (given_snoc, ← given) refl;
@@ -249,8 +249,8 @@ module _ (o : OpenScan) (h : HeaderState) (ps : List FoundPiece) (x : List ℕ) 
         whole = bytes;
       }
     where
-      shut : (before : List ℕ) (closing : ClosedPiece) → length d.before + length (segment_bytes d.fill d.code d.payload) + length (flat_map closed_bytes d.closed) + length (closed_bytes closing)
-          ≡ length d.before + length (segment_bytes d.fill d.code d.payload) + length (flat_map closed_bytes (d.closed ++ closing ∷ []))
+      shut : (before : List ℕ) (closing : ClosedPiece) → length d.before + length (segment_unit_bytes d.fill d.code d.payload) + length (flat_map closed_bytes d.closed) + length (closed_bytes closing)
+          ≡ length d.before + length (segment_unit_bytes d.fill d.code d.payload) + length (flat_map closed_bytes (d.closed ++ closing ∷ []))
       shut before closing = rw (flat_map-append, append-nil) (omega (arith, length-append (flat_map closed_bytes d.closed) (closed_bytes closing)))
 
   stop_tells : (payload : List ℕ) (m count : ℕ) → d.held ≡ suc m → b ≢ 255 → ends_scan_data b ≡ true → count ≡ length x
@@ -258,7 +258,7 @@ module _ (o : OpenScan) (h : HeaderState) (ps : List FoundPiece) (x : List ℕ) 
   stop_tells payload m count hm ne s c =
       let unit : CopyUnit = scan d.fill d.code d.payload o.plan d.closed d.piece by_marker in
       let y : List ℕ = d.before ++ unit_bytes unit in
-      let alike : AlikePieces (d.here ++ found o ∷ []) (pieces_from d.old.scans o.plan 0 (Interval 0) (length d.before + length (segment_bytes d.fill d.code d.payload)) d.closed d.piece) =
+      let alike : AlikePieces (d.here ++ found o ∷ []) (pieces_from d.old.scans o.plan 0 (Interval 0) (length d.before + length (segment_unit_bytes d.fill d.code d.payload)) d.closed d.piece) =
       subst (AlikePieces (d.here ++ found o ∷ [])) (sym (d.pieces_are d.piece)) (alike_more d.here d.front (found o) _ d.here_alike alike_now) in
       let passed : Passed y h (d.units ++ unit ∷ []) (d.earlier ++ (d.here ++ found o ∷ [])) true =
       passed_scan d.before d.old d.units d.earlier d.behind d.passed d.fill d.code d.payload h y d.known d.size d.follows o.plan d.plan_is d.closed d.piece (d.here ++ found o ∷ []) d.each d.piece_is alike refl in

@@ -9,7 +9,7 @@ use Rattle.jls_marker.specs.Scan.{Scan}
 use Rattle.jls_marker.specs.MarkerCodes.{has_segment}
 use Rattle.jls_marker.specs.Headers.{headers_after}
 use Rattle.jls_copy.specs.Pieces.{FoundPiece}
-use Rattle.jls_copy.specs.Course.{CopyUnit, segment, segment_bytes, EndsHere, at_eoi, at_eoi_before_a_frame, at_no_marker, at_unknown_code, at_short_length, at_refused_segment}
+use Rattle.jls_copy.specs.Course.{CopyUnit, segment, segment_unit_bytes, EndsHere, at_eoi, at_eoi_before_a_frame, at_no_marker, at_unknown_code, at_short_length, at_refused_segment}
 use Rattle.jls_copy.specs.ReaderState.{Step, segment_taken, length_known, payload_grown}
 use Rattle.jls_copy.specs.Tells.{Passed, passed_segment, Follows, EndedAt, ended, without_soi, without_ff, Tells}
 use Rattle.jls_marker.specs.declared.fault.MarkerFault.{MarkerFault}
@@ -27,15 +27,15 @@ cond_tells false s t ps x p q = q refl
 module _ (before : List ℕ) (h : HeaderState) (us : List CopyUnit) (ps : List FoundPiece) (behind : Bool) (passed : Passed before h us ps behind)
     (fill code : ℕ) (known : has_segment code ≡ true) (follows : behind ≡ true → ends_scan_data code ≡ true) where
   -- a whole segment
-  taken : (payload x : List ℕ) (count marker : ℕ) → x ≡ before ++ segment_bytes fill code payload → length payload + 2 < 2 ^ 16 → count + 1 ≡ length x → marker ≡ length before + fill
+  taken : (payload x : List ℕ) (count marker : ℕ) → x ≡ before ++ segment_unit_bytes fill code payload → length payload + 2 < 2 ^ 16 → count + 1 ≡ length x → marker ≡ length before + fill
       → (r : Result (HeaderState × Option Scan) MarkerFault) → headers_after h code payload ≡ r → TellsStep (segment_taken count h payload marker r) ps x
   taken payload x count marker w small c m (Err f) e =
-      rw m (ended before h us ps behind (segment_bytes fill code payload) x _ passed w (λ k. (fill, code, _, refl, follows k))
-      (subst (λ y. EndsHere h (length before) y (Header f (length before + fill))) (append-nil (segment_bytes fill code payload)) (at_refused_segment h (length before) fill code payload [] f (known, small) e)))
+      rw m (ended before h us ps behind (segment_unit_bytes fill code payload) x _ passed w (λ k. (fill, code, _, refl, follows k))
+      (subst (λ y. EndsHere h (length before) y (Header f (length before + fill))) (append-nil (segment_unit_bytes fill code payload)) (at_refused_segment h (length before) fill code payload [] f (known, small) e)))
   taken payload x count marker w small c m (Ok (after, None)) e =
       (us ++ segment fill code payload ∷ [], passed_segment before h us ps behind passed fill code payload after x known small follows e w)
   taken payload x count marker w small c m (Ok (after, Some s)) e =
-      let at : count + 1 ≡ length before + length (segment_bytes fill code payload) = c ∙ ap length w ∙ length-append before (segment_bytes fill code payload) in
+      let at : count + 1 ≡ length before + length (segment_unit_bytes fill code payload) = c ∙ ap length w ∙ length-append before (segment_unit_bytes fill code payload) in
       record {
         before = before;
         old = h;
@@ -66,7 +66,7 @@ module _ (before : List ℕ) (h : HeaderState) (us : List CopyUnit) (ps : List F
         held = 0;
         held_is = refl;
         found_are = sym (append-nil ps);
-        whole = w ∙ ap (λ y. before ++ y) (sym (append-nil (segment_bytes fill code payload)));
+        whole = w ∙ ap (λ y. before ++ y) (sym (append-nil (segment_unit_bytes fill code payload)));
       }
 
   -- the second byte of a length
@@ -143,7 +143,7 @@ stops_on _ _ b _ _ (at_unknown_code h at n code more p q r) =
 stops_on _ _ b _ _ (at_short_length h at n code u v more p q) =
     subst (λ y. EndsHere h at y (Header fault.Length (at + n))) (simp append_assoc refl) (at_short_length h at n code u v (more ++ b ∷ []) p q)
 stops_on _ _ b _ _ (at_refused_segment h at n code payload more f p r) =
-    subst (λ y. EndsHere h at y (Header f (at + n))) (sym (append_assoc (segment_bytes n code payload) more (b ∷ []))) (at_refused_segment h at n code payload (more ++ b ∷ []) f p r)
+    subst (λ y. EndsHere h at y (Header f (at + n))) (sym (append_assoc (segment_unit_bytes n code payload) more (b ∷ []))) (at_refused_segment h at n code payload (more ++ b ∷ []) f p r)
 
 follows_on : (behind : Bool) (tail : List ℕ) (b : ℕ) → Follows behind tail → Follows behind (tail ++ b ∷ [])
 follows_on behind tail b f = λ k. let g = f k in (g.0, g.1, g.2 ++ b ∷ [], rw g.3 (simp append_assoc refl), g.4)

@@ -2,7 +2,7 @@
 use Rattle.std.specs.Prelude.{◌≡◌, ℕ, Bool, true, false, List, ◌++◌, length, take, Some, None}
 use Rattle.jls_values.specs.OrderedSet as set
 use Rattle.jls_values.specs.Shape.{PictureShape}
-use Rattle.jls_copy.specs.Pieces.{Outcome}
+use Rattle.jls_copy.specs.Pieces.{PieceOutcome}
 use Rattle.jls_copy.specs.Pieces.{AreOutcomes, readings, records}
 use Rattle.jls_copy.specs.CutPieces.{IsHeadOfCut, head_readings}
 use Rattle.jls_copy.specs.Reader.{all_pieces}
@@ -28,7 +28,7 @@ is_final (Done e) = true
 pub record Concludes (r : Reading) (read : ReadCopy) : Type 0 where
   pub shape : PictureShape
   pub framed : r.state.headers.frame ≡ Some shape
-  pub outcomes : List Outcome
+  pub outcomes : List PieceOutcome
   pub each : AreOutcomes (all_pieces r) outcomes
   pub head : List (List ℕ)
   pub head_is : IsHeadOfCut (closed_at_end r.state.place) head

@@ -5,7 +5,7 @@ use Rattle.jls_values.specs.OrderedSet as set
 use Rattle.jls_values.specs.Shape.{PictureShape}
 use Rattle.jls_copy.specs.Course.{Course, IsCourse}
 use Rattle.jls_copy.specs.Pieces.{pieces}
-use Rattle.jls_copy.specs.Pieces.{Outcome}
+use Rattle.jls_copy.specs.Pieces.{PieceOutcome}
 use Rattle.jls_copy.specs.Pieces.{AreOutcomes, readings, records}
 use Rattle.jls_copy.specs.CutPieces.{cut_pieces, IsHeadOfCut, head_readings}
 use Rattle.jls_copy.specs.declared.end.End.{End}
@@ -23,7 +23,7 @@ pub record CopyReads (copy : List ℕ) (read : ReadCopy) : Type 0 where
   pub is_course : IsCourse copy course
   pub shape : PictureShape
   pub framed : course.headers.frame ≡ Some shape
-  pub outcomes : List Outcome
+  pub outcomes : List PieceOutcome
   pub each : AreOutcomes (pieces course) outcomes
   pub head : List (List ℕ)
   pub head_is : IsHeadOfCut (cut_pieces course) head

@@ -24,8 +24,8 @@ pub data CopyUnit : Type 0 where
   scan : ℕ → ℕ → List ℕ → Scan → List ClosedPiece → List ℕ → LastClosed → CopyUnit
 
 -- the length counts itself and the payload
-abbrev pub segment_bytes : ℕ → ℕ → List ℕ → List ℕ
-segment_bytes fill code payload =
+abbrev pub segment_unit_bytes : ℕ → ℕ → List ℕ → List ℕ
+segment_unit_bytes fill code payload =
     let size : ℕ = length payload + 2 in fill_bytes fill ++ (0xFF ∷ code ∷ size / 256 ∷ size % 256 ∷ payload)
 
 abbrev pub dropped_bytes : LastClosed → List ℕ
@@ -36,8 +36,8 @@ abbrev pub scan_data_bytes : List ClosedPiece → List ℕ → LastClosed → Li
 scan_data_bytes closed last closing = flat_map closed_bytes closed ++ (last ++ dropped_bytes closing)
 
 abbrev pub unit_bytes : CopyUnit → List ℕ
-unit_bytes (segment fill code payload) = segment_bytes fill code payload
-unit_bytes (scan fill code payload plan closed last closing) = segment_bytes fill code payload ++ scan_data_bytes closed last closing
+unit_bytes (segment fill code payload) = segment_unit_bytes fill code payload
+unit_bytes (scan fill code payload plan closed last closing) = segment_unit_bytes fill code payload ++ scan_data_bytes closed last closing
 
 -- a marker that ends scan data begins these bytes
 pub record BeginsWithEnd (bytes : List ℕ) : Type 0 where
@@ -53,14 +53,14 @@ IsClosing (by_input count) rest = rest ≡ []
 IsClosing by_marker rest = BeginsWithEnd rest
 
 -- the length of a segment with this payload has two bytes, and the code is that of a segment
-abbrev pub IsSegment : ℕ → List ℕ → Type 0
-IsSegment code payload = (has_segment code ≡ true) × (length payload + 2 < 2 ^ 16)
+abbrev pub IsWholeSegment : ℕ → List ℕ → Type 0
+IsWholeSegment code payload = (has_segment code ≡ true) × (length payload + 2 < 2 ^ 16)
 
 -- under the headers `before` the unit is one without fault, which leaves the headers `after`, and these bytes can follow it
 abbrev pub IsUnit : HeaderState → CopyUnit → HeaderState → List ℕ → Type 0
-IsUnit before (segment fill code payload) after rest = IsSegment code payload × (headers_after before code payload ≡ Ok (after, None))
+IsUnit before (segment fill code payload) after rest = IsWholeSegment code payload × (headers_after before code payload ≡ Ok (after, None))
 IsUnit before (scan fill code payload plan closed last closing) after rest =
-    IsSegment code payload × (headers_after before code payload ≡ Ok (after, Some plan))
+    IsWholeSegment code payload × (headers_after before code payload ≡ Ok (after, Some plan))
     × AllByRecursion IsClosedPiece closed × IsPiece last × IsClosing closing rest
 
 -- less than a unit, where the input ends: bytes 0xFF alone; a marker that a segment follows; one byte of the length; or less than the payload
@@ -83,8 +83,8 @@ pub data EndsHere : HeaderState → ℕ → List ℕ → End → Type 0 where
       → EndsHere h at (fill_bytes n ++ (0xFF ∷ code ∷ more)) (Header fault.UnknownMarker (at + n))
   at_short_length : (h : HeaderState) (at n code high low : ℕ) (more : List ℕ) → has_segment code ≡ true → 256 * high + low < 2
       → EndsHere h at (fill_bytes n ++ (0xFF ∷ code ∷ high ∷ low ∷ more)) (Header fault.Length (at + n))
-  at_refused_segment : (h : HeaderState) (at n code : ℕ) (payload more : List ℕ) (f : MarkerFault) → IsSegment code payload
-      → headers_after h code payload ≡ Err f → EndsHere h at (segment_bytes n code payload ++ more) (Header f (at + n))
+  at_refused_segment : (h : HeaderState) (at n code : ℕ) (payload more : List ℕ) (f : MarkerFault) → IsWholeSegment code payload
+      → headers_after h code payload ≡ Err f → EndsHere h at (segment_unit_bytes n code payload ++ more) (Header f (at + n))
 
 -- what stands behind the last unit, at this offset, ends the copy so. An end of the input can be undone by more bytes
 pub data Ends : HeaderState → ℕ → List ℕ → End → Type 0 where

@@ -2,14 +2,14 @@
 use Rattle.std.specs.Prelude.{◌≡◌, List, [], length, take, Option, Some, None}
 use Rattle.jls_values.specs.OrderedSet as set
 use Rattle.jls_values.specs.Shape.{PictureShape}
-use Rattle.jls_copy.specs.Pieces.{FoundPiece, Outcome, AreOutcomes, readings, records}
+use Rattle.jls_copy.specs.Pieces.{FoundPiece, PieceOutcome, AreOutcomes, readings, records}
 use Rattle.jls_copy.specs.Findings.{picture_of}
 use Rattle.jls_copy.specs.declared.findings.Findings.{Findings}
 use Rattle.jls_partial.specs.Partial.{without_sources}
 
 -- what is kept is what the pieces give, of a picture that has this frame
 pub record Gathers (frame : Option PictureShape) (ps : List FoundPiece) (f : Findings) : Type 0 where
-  pub outcomes : List Outcome
+  pub outcomes : List PieceOutcome
   pub each : AreOutcomes ps outcomes
   pub picture_is : (shape : PictureShape) → frame ≡ Some shape
       → picture_of shape f.partial ≡ without_sources shape (set.insert_all set.empty (readings ps outcomes))

@@ -5,7 +5,7 @@ use Rattle.jls_partial.specs.Reading.{Reading, reading_of}
 use Rattle.jls_marker.specs.Scan.{Scan, intervals, first_row, row_count}
 use Rattle.jls_copy.specs.ScanData.{ClosedPiece, closed_bytes}
 use Rattle.jls_copy.specs.Numbers.{PieceNumber, Interval, BeyondLast, number_behind, given_last}
-use Rattle.jls_copy.specs.Course.{CopyUnit, segment, scan, segment_bytes, unit_bytes, Course}
+use Rattle.jls_copy.specs.Course.{CopyUnit, segment, scan, segment_unit_bytes, unit_bytes, Course}
 use Rattle.jls_copy.specs.declared.piece.PieceKind.{PieceKind}
 use Rattle.jls_copy.specs.declared.piece.PieceKind.TheVariants as kind
 use Rattle.jls_copy.specs.declared.piece.PieceRecord.{PieceRecord}
@@ -33,7 +33,7 @@ pieces_from index plan last number at (c ∷ closed) bytes =
 abbrev pub unit_pieces : ℕ → ℕ → CopyUnit → List FoundPiece
 unit_pieces index at (segment fill code payload) = []
 unit_pieces index at (scan fill code payload plan closed last closing) =
-    pieces_from index plan 0 (Interval 0) (at + length (segment_bytes fill code payload)) closed last
+    pieces_from index plan 0 (Interval 0) (at + length (segment_unit_bytes fill code payload)) closed last
 
 abbrev pub scans_in : CopyUnit → ℕ
 scans_in (segment fill code payload) = 0
@@ -50,12 +50,12 @@ pieces c = pieces_in 0 c.begin c.units
 -- What they give --------------------------------------------------------------------------------------------------
 
 -- what a piece gives: the lines that it reads as, or why it reads as none
-pub data Outcome : Type 0 where
-  Lines : List (List ℕ) → Outcome
-  Fault : PieceKind → Outcome
+pub data PieceOutcome : Type 0 where
+  Lines : List (List ℕ) → PieceOutcome
+  Fault : PieceKind → PieceOutcome
 
 -- the bytes, as the piece of this number of a scan, have this outcome. A piece beyond the last interval isn't decoded
-abbrev pub IsOutcomeAt : Scan → PieceNumber → List ℕ → Outcome → Type 0
+abbrev pub IsOutcomeAt : Scan → PieceNumber → List ℕ → PieceOutcome → Type 0
 IsOutcomeAt s (Interval k) bytes (Lines lines) =
     Reads s.params s.width (length s.components) (row_count s k * length s.components) bytes lines
 IsOutcomeAt s (Interval k) bytes (Fault kind.Long) =
@@ -68,7 +68,7 @@ IsOutcomeAt s (BeyondLast k) bytes (Fault kind.Long) = ⊥
 IsOutcomeAt s (BeyondLast k) bytes (Fault kind.Broken) = ⊥
 IsOutcomeAt s (BeyondLast k) bytes (Fault kind.Beyond) = Unit {0}
 
-abbrev pub IsOutcome : FoundPiece → Outcome → Type 0
+abbrev pub IsOutcome : FoundPiece → PieceOutcome → Type 0
 IsOutcome p o = IsOutcomeAt p.plan p.number p.bytes o
 
 -- lines as readings: row by row, and in a row by component, from this row on and from this place among the scan's components on
@@ -79,39 +79,39 @@ placed components row place (line ∷ lines) =
     ∷ placed components (if place + 1 == length components then row + 1 else row) (if place + 1 == length components then 0 else place + 1) lines
 
 -- the readings that an outcome gives
-abbrev pub readings_at : Scan → PieceNumber → Outcome → List Reading
-readings_at s (Interval k) (Lines lines) = placed s.components (first_row s k) 0 lines
-readings_at s (Interval k) (Fault _) = []
-readings_at s (BeyondLast k) o = []
+abbrev pub outcome_readings : Scan → PieceNumber → PieceOutcome → List Reading
+outcome_readings s (Interval k) (Lines lines) = placed s.components (first_row s k) 0 lines
+outcome_readings s (Interval k) (Fault _) = []
+outcome_readings s (BeyondLast k) o = []
 
-abbrev pub readings_of : FoundPiece → Outcome → List Reading
-readings_of p o = readings_at p.plan p.number o
+abbrev pub readings_of : FoundPiece → PieceOutcome → List Reading
+readings_of p o = outcome_readings p.plan p.number o
 
 abbrev pub value_of : PieceNumber → ℕ
 value_of (Interval k) = k
 value_of (BeyondLast k) = k
 
 -- the record of a piece that gives no lines
-abbrev pub records_of : FoundPiece → Outcome → List PieceRecord
+abbrev pub records_of : FoundPiece → PieceOutcome → List PieceRecord
 records_of p (Lines lines) = []
 records_of p (Fault f) = record { scan = p.scan; interval = value_of p.number; offset = p.offset; kind = f } ∷ []
 
 -- Of many pieces --------------------------------------------------------------------------------------------------
 
 -- these are the outcomes of the pieces, one of each
-abbrev pub AreOutcomes : List FoundPiece → List Outcome → Type 0
+abbrev pub AreOutcomes : List FoundPiece → List PieceOutcome → Type 0
 AreOutcomes [] [] = Unit {0}
 AreOutcomes (p ∷ ps) (o ∷ os) = IsOutcome p o × AreOutcomes ps os
 AreOutcomes [] (o ∷ os) = ⊥
 AreOutcomes (p ∷ ps) [] = ⊥
 
 -- the readings and the records that they give
-abbrev pub readings : List FoundPiece → List Outcome → List Reading
+abbrev pub readings : List FoundPiece → List PieceOutcome → List Reading
 readings [] os = []
 readings (p ∷ ps) [] = []
 readings (p ∷ ps) (o ∷ os) = readings_of p o ++ readings ps os
 
-abbrev pub records : List FoundPiece → List Outcome → List PieceRecord
+abbrev pub records : List FoundPiece → List PieceOutcome → List PieceRecord
 records [] os = []
 records (p ∷ ps) [] = []
 records (p ∷ ps) (o ∷ os) = records_of p o ++ records ps os

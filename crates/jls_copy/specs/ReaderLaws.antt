@@ -2,7 +2,7 @@
 use Rattle.std.specs.Prelude.{◌≡◌, ℕ, ◌<◌, List, [], ◌∷◌, ◌++◌}
 use Rattle.std.specs.List.{AllByRecursion}
 use Rattle.jls_copy.specs.Numbers.{Interval}
-use Rattle.jls_copy.specs.Pieces.{FoundPiece, Outcome, IsOutcomeAt, pieces}
+use Rattle.jls_copy.specs.Pieces.{FoundPiece, PieceOutcome, IsOutcomeAt, pieces}
 use Rattle.jls_marker.specs.HeaderState.{HeaderState}
 use Rattle.jls_marker.specs.Scan.{Scan}
 use Rattle.jls_copy.specs.CutPieces.{cut_pieces}
@@ -24,7 +24,7 @@ ToldGoesOn = (told piece : List ℕ) (held : Held) (n b : ℕ) → HeldIs held n
 
 -- and has the same outcome
 abbrev pub SameOutcome : Type 0
-SameOutcome = (s : Scan) (k : ℕ) (told piece : List ℕ) (o : Outcome) → SameBytes told piece → IsOutcomeAt s (Interval k) told o → IsOutcomeAt s (Interval k) piece o
+SameOutcome = (s : Scan) (k : ℕ) (told piece : List ℕ) (o : PieceOutcome) → SameBytes told piece → IsOutcomeAt s (Interval k) told o → IsOutcomeAt s (Interval k) piece o
 
 -- the reader's place tells the course of the bytes so far
 abbrev pub ReadingTells : Type 0

@@ -9,7 +9,7 @@ use Rattle.jls_marker.specs.Scan.{Scan, intervals}
 use Rattle.jls_marker.specs.MarkerCodes.{has_segment}
 use Rattle.jls_marker.specs.Headers.{headers_after}
 use Rattle.jls_copy.specs.Pieces.{FoundPiece}
-use Rattle.jls_copy.specs.Course.{by_marker, CopyUnit, segment, scan, segment_bytes, unit_bytes, EndsHere}
+use Rattle.jls_copy.specs.Course.{by_marker, CopyUnit, segment, scan, segment_unit_bytes, unit_bytes, EndsHere}
 use Rattle.jls_copy.specs.Pieces.{pieces_from}
 use Rattle.jls_copy.specs.ReaderState.{number_of, bytes_of}
 use Rattle.jls_marker.specs.declared.fault.MarkerFault.TheVariants as fault
@@ -67,12 +67,12 @@ pub data Passed : List ℕ → HeaderState → List CopyUnit → List FoundPiece
   passed_segment : (x : List ℕ) (h : HeaderState) (us : List CopyUnit) (ps : List FoundPiece) (behind : Bool) → Passed x h us ps behind
       → (n code : ℕ) (payload : List ℕ) (after : HeaderState) (y : List ℕ) → has_segment code ≡ true → length payload + 2 < 2 ^ 16
       → (behind ≡ true → ends_scan_data code ≡ true) → headers_after h code payload ≡ Ok (after, None)
-      → y ≡ x ++ segment_bytes n code payload → Passed y after (us ++ segment n code payload ∷ []) ps false
+      → y ≡ x ++ segment_unit_bytes n code payload → Passed y after (us ++ segment n code payload ∷ []) ps false
   passed_scan : (x : List ℕ) (h : HeaderState) (us : List CopyUnit) (ps : List FoundPiece) (behind : Bool) → Passed x h us ps behind
       → (n code : ℕ) (payload : List ℕ) (after : HeaderState) (y : List ℕ) → has_segment code ≡ true → length payload + 2 < 2 ^ 16
       → (behind ≡ true → ends_scan_data code ≡ true) → (s : Scan) → headers_after h code payload ≡ Ok (after, Some s)
       → (closed : List ClosedPiece) (last : List ℕ) (fs : List FoundPiece) → AllByRecursion IsClosedPiece closed → IsPiece last
-      → AlikePieces fs (pieces_from h.scans s 0 (Interval 0) (length x + length (segment_bytes n code payload)) closed last)
+      → AlikePieces fs (pieces_from h.scans s 0 (Interval 0) (length x + length (segment_unit_bytes n code payload)) closed last)
       → y ≡ x ++ unit_bytes (scan n code payload s closed last by_marker) → Passed y after (us ++ scan n code payload s closed last by_marker ∷ []) (ps ++ fs) true
 
 -- behind whole units and fill bytes stands the marker of a segment, and this much of it
@@ -117,9 +117,9 @@ pub record InScanData (open_scan : OpenScan) (h : HeaderState) (ps : List FoundP
   pub piece : List ℕ
   pub piece_is : IsPiece piece
   pub front : List FoundPiece
-  pub pieces_are : ScanPieces old.scans open_scan.plan (length before + length (segment_bytes fill code payload)) closed front (number_of open_scan.piece) open_scan.offset
+  pub pieces_are : ScanPieces old.scans open_scan.plan (length before + length (segment_unit_bytes fill code payload)) closed front (number_of open_scan.piece) open_scan.offset
   pub given_is : open_scan.last ≡ given_after (intervals open_scan.plan) 0 closed
-  pub offset_is : open_scan.offset ≡ length before + length (segment_bytes fill code payload) + length (flat_map closed_bytes closed)
+  pub offset_is : open_scan.offset ≡ length before + length (segment_unit_bytes fill code payload) + length (flat_map closed_bytes closed)
   pub here : List FoundPiece
   pub here_alike : AlikePieces here front
   pub told_as : ToldAs (number_of open_scan.piece) (bytes_of open_scan.piece) piece
@@ -127,7 +127,7 @@ pub record InScanData (open_scan : OpenScan) (h : HeaderState) (ps : List FoundP
   pub held : ℕ
   pub held_is : HeldIs open_scan.held held
   pub found_are : ps ≡ earlier ++ here
-  pub whole : x ≡ before ++ (segment_bytes fill code payload ++ (flat_map closed_bytes closed ++ (piece ++ fill_bytes held)))
+  pub whole : x ≡ before ++ (segment_unit_bytes fill code payload ++ (flat_map closed_bytes closed ++ (piece ++ fill_bytes held)))
 
 -- the end stands at a marker place behind whole units, or there was no SOI
 pub data EndedAt : End → HeaderState → List FoundPiece → List ℕ → Type 0 where

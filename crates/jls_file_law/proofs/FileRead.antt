@@ -7,7 +7,7 @@ use Rattle.jls_partial.specs.Reading.{Reading}
 use Rattle.jls_partial.specs.Partial.{PartialPicture}
 use Rattle.jls_copy.specs.Course.{Course}
 use Rattle.jls_copy.specs.CutPieces.{cut_pieces, head_readings}
-use Rattle.jls_copy.specs.Pieces.{FoundPiece, Outcome, pieces, AreOutcomes, readings, records}
+use Rattle.jls_copy.specs.Pieces.{FoundPiece, PieceOutcome, pieces, AreOutcomes, readings, records}
 use Rattle.jls_copy.specs.CopyReads.{CopyReads}
 use Rattle.jls_copy.specs.ReadCopy.{ReadCopy}
 use Rattle.jls_copy.proofs.OneCourse.{one_course}
@@ -28,7 +28,7 @@ without_head : (ps : List FoundPiece) (head : List (List ℕ)) (given rs : List 
 without_head [] head given rs e none = append-nil given ∙ e
 without_head (p ∷ ps) head given rs e none = absurd cc
 
-abbrev GiveOnly : List Reading → List FoundPiece → List Outcome → Type 0
+abbrev GiveOnly : List Reading → List FoundPiece → List PieceOutcome → Type 0
 GiveOnly rs ps os = (readings ps os ≡ rs) × (records ps os ≡ [])
 
 module _ (pic : WholePicture) (copy : List ℕ) (rs : List Reading) (w : ReadsBack pic copy rs) (read : ReadCopy)

@@ -17,7 +17,7 @@ use Rattle.jls_interval.proofs.PiecesReadOnce.{reads_once, read_not_long}
 use Rattle.jls_copy.specs.ScanData.{IsPiece, closes_piece}
 use Rattle.jls_marker.specs.Scan.{Scan, row_count, first_row}
 use Rattle.jls_copy.specs.Numbers.{Interval}
-use Rattle.jls_copy.specs.Pieces.{Outcome, Lines, Fault, IsOutcomeAt}
+use Rattle.jls_copy.specs.Pieces.{PieceOutcome, Lines, Fault, IsOutcomeAt}
 use Rattle.jls_copy.specs.declared.piece.PieceKind.TheVariants as kind
 use Rattle.jls_picture.specs.Picture.{WholePicture, line_of}
 use Rattle.jls_picture.specs.Options.{WriteOptions}
@@ -103,7 +103,7 @@ module _ (pic : WholePicture) (o : WriteOptions) (can : CanBeWritten pic o) (com
   pub reads_lines : IsOutcomeAt plan (Interval k) (interval_code pic plan k) (Lines (interval_lines pic plan k))
   reads_lines = packed_reads o.params pic.shape.width (length components) (row_count plan k * length components) (interval_lines pic plan k) intervals_fit
 
-  pub only_lines : (out : Outcome) → IsOutcomeAt plan (Interval k) (interval_code pic plan k) out → out ≡ Lines (interval_lines pic plan k)
+  pub only_lines : (out : PieceOutcome) → IsOutcomeAt plan (Interval k) (interval_code pic plan k) out → out ≡ Lines (interval_lines pic plan k)
   only_lines (Lines lines) h =
       ap Lines (reads_once o.params can.params pic.shape.width (length components) (row_count plan k * length components) can.whole.shape.width_at_least (interval_code pic plan k) lines (interval_lines pic plan k) h reads_lines)
   only_lines (Fault kind.Long) h =

@@ -9,7 +9,7 @@ use Rattle.jls_partial.specs.Reading.{Reading}
 use Rattle.jls_marker.specs.Scan.{Scan, intervals}
 use Rattle.jls_copy.specs.ScanData.{ClosedPiece, closed_bytes, IsClosedPiece, IsPiece}
 use Rattle.jls_copy.specs.Numbers.{PieceNumber, Interval, BeyondLast, number_behind, next_number}
-use Rattle.jls_copy.specs.Pieces.{FoundPiece, Outcome, Lines, IsOutcome, readings_of, AreOutcomes, readings, records, pieces_from}
+use Rattle.jls_copy.specs.Pieces.{FoundPiece, PieceOutcome, Lines, IsOutcome, readings_of, AreOutcomes, readings, records, pieces_from}
 use Rattle.jls_picture.specs.Picture.{WholePicture}
 use Rattle.jls_picture.specs.Options.{WriteOptions}
 use Rattle.jls_file.specs.WrittenFile.{interval_lines, interval_code, restart_marker, before_interval, marked_interval, scan_of}
@@ -63,7 +63,7 @@ number_is n k h =
 -- a piece is that of an interval, and is judged to be the picture's lines of it and nothing else
 abbrev pub GivesLines : WholePicture → FoundPiece → Type 0
 GivesLines pic p =
-    (k : ℕ) × (p.number ≡ Interval k) × IsOutcome p (Lines (interval_lines pic p.plan k)) × ((out : Outcome) → IsOutcome p out → out ≡ Lines (interval_lines pic p.plan k))
+    (k : ℕ) × (p.number ≡ Interval k) × IsOutcome p (Lines (interval_lines pic p.plan k)) × ((out : PieceOutcome) → IsOutcome p out → out ≡ Lines (interval_lines pic p.plan k))
 
 abbrev lines_at : WholePicture → Scan → PieceNumber → List Reading
 lines_at pic s (Interval k) = interval_readings pic s k
@@ -76,7 +76,7 @@ module _ (pic : WholePicture) where
   one_gives : (p : FoundPiece) (k : ℕ) (n : PieceNumber) → p.number ≡ n → n ≡ Interval k → readings_of p (Lines (interval_lines pic p.plan k)) ≡ lines_of pic p
   one_gives p k n e f = let g = e ∙ f in rw g refl
 
-  pub all_give : (ps : List FoundPiece) (os : List Outcome) → AllByRecursion (GivesLines pic) ps → AreOutcomes ps os
+  pub all_give : (ps : List FoundPiece) (os : List PieceOutcome) → AllByRecursion (GivesLines pic) ps → AreOutcomes ps os
       → (readings ps os ≡ flat_map (lines_of pic) ps) × (records ps os ≡ [])
   all_give [] [] h are = (refl, refl)
   all_give [] (out ∷ os) h are = absurd are
@@ -86,7 +86,7 @@ module _ (pic : WholePicture) where
       let rest = all_give ps os h.1 are.1 in
       (rw is (ap (λ t. t ++ readings ps os) (one_gives p h.0.0 p.number refl h.0.1) ∙ ap (λ t. lines_of pic p ++ t) rest.0), rw is rest.1)
 
-  pub some_outcomes : (ps : List FoundPiece) → AllByRecursion (GivesLines pic) ps → (os : List Outcome) × AreOutcomes ps os
+  pub some_outcomes : (ps : List FoundPiece) → AllByRecursion (GivesLines pic) ps → (os : List PieceOutcome) × AreOutcomes ps os
   some_outcomes [] h = ([], tt)
   some_outcomes (p ∷ ps) h = let rest = some_outcomes ps h.1 in (Lines (interval_lines pic p.plan h.0.0) ∷ rest.0, (h.0.2, rest.1))
 

@@ -15,7 +15,7 @@ use Rattle.jls_marker.proofs.Intervals as marker
 use Rattle.jls_copy.specs.ScanData.{closed_bytes}
 use Rattle.jls_copy.specs.Numbers.{Interval}
 use Rattle.jls_copy.specs.Pieces.{pieces_from, pieces_in}
-use Rattle.jls_copy.specs.Course.{CopyUnit, segment, scan, by_marker, segment_bytes, unit_bytes, IsSegment, IsClosing, at_eoi, for_good, AreUnits, with_soi}
+use Rattle.jls_copy.specs.Course.{CopyUnit, segment, scan, by_marker, segment_unit_bytes, unit_bytes, IsWholeSegment, IsClosing, at_eoi, for_good, AreUnits, with_soi}
 use Rattle.jls_copy.specs.CutPieces.{is_cut, closed_by_input, cut_pieces}
 use Rattle.jls_copy.specs.declared.end.End.{End}
 use Rattle.jls_copy.specs.declared.end.End.TheVariants.{Eoi}
@@ -41,20 +41,20 @@ two_fit a b p q (suc (suc i)) = omega arith
 two_bytes : (n : ℕ) → n < 2 ^ 16 → to_be_bytes w16 n ≡ n / 256 ∷ n % 256 ∷ []
 two_bytes n h = be_bytes_2 (n / 256 ∷ n % 256 ∷ []) n refl (two_fit (n / 256) (n % 256) (omega (arith, h)) (omega arith)) (omega arith)
 
-segment_is : (s : Segment) → length (payload_of s) + 2 < 2 ^ 16 → bytes_of s ≡ segment_bytes 0 (code_of s) (payload_of s)
+segment_is : (s : Segment) → length (payload_of s) + 2 < 2 ^ 16 → bytes_of s ≡ segment_unit_bytes 0 (code_of s) (payload_of s)
 segment_is s short = ap (λ t. 0xFF ∷ code_of s ∷ (t ++ payload_of s)) (two_bytes (length (payload_of s) + 2) short)
 
 -- the segments before the scans are taken, one behind the other
 abbrev pub Steps : HeaderState → List Segment → HeaderState → Type 0
 Steps h [] last = last ≡ h
-Steps h (s ∷ more) last = (after : HeaderState) × IsSegment (code_of s) (payload_of s) × (headers_after h (code_of s) (payload_of s) ≡ Ok (after, None)) × Steps after more last
+Steps h (s ∷ more) last = (after : HeaderState) × IsWholeSegment (code_of s) (payload_of s) × (headers_after h (code_of s) (payload_of s) ≡ Ok (after, None)) × Steps after more last
 
 module _ (pic : WholePicture) (o : WriteOptions) where
   -- and those of the scans, each of which begins the scan that is meant
   abbrev pub ScanSteps : HeaderState → List (List ℕ) → HeaderState → Type 0
   ScanSteps h [] last = last ≡ h
   ScanSteps h (components ∷ more) last =
-      (after : HeaderState) × IsSegment 0xDA (payload_of (scan_segment pic components))
+      (after : HeaderState) × IsWholeSegment 0xDA (payload_of (scan_segment pic components))
       × (headers_after h 0xDA (payload_of (scan_segment pic components)) ≡ Ok (after, Some (scan_of pic o components))) × ScanSteps after more last
 
   pub record AreTaken : Type 0 where
@@ -96,7 +96,7 @@ module _ (pic : WholePicture) (o : WriteOptions) where
       let n = intervals s - 1 in
       let some = some_interval components h in
       let all : intervals s ≡ suc n = omega (arith, some) in
-      let head : List ℕ = segment_bytes 0 0xDA (payload_of (scan_segment pic components)) in
+      let head : List ℕ = segment_unit_bytes 0 0xDA (payload_of (scan_segment pic components)) in
       let later : List ℕ = flat_map (marked_interval pic s) (range_with_len (0 + 1) n) in
       ap (λ m. flat_map (marked_interval pic s) (range_with_len 0 m)) all
       ∙ append_assoc (bytes_of (scan_segment pic components)) (interval_code pic s 0) later
@@ -162,7 +162,7 @@ module _ (pic : WholePicture) (o : WriteOptions) where
   pieces_behind : (before : List Segment) (us : List CopyUnit) (index at : ℕ) → (at' : ℕ) × (pieces_in index at (map head_unit before ++ us) ≡ pieces_in (index + 0) at' us)
   pieces_behind [] us index at = (at, let e : index + 0 ≡ index = omega arith in rw e refl)
   pieces_behind (x ∷ before) us index at =
-      let r = pieces_behind before us (index + 0) (at + length (segment_bytes 0 (code_of x) (payload_of x))) in
+      let r = pieces_behind before us (index + 0) (at + length (segment_unit_bytes 0 (code_of x) (payload_of x))) in
       (r.0, let e : index + 0 + 0 ≡ index + 0 = omega arith in rw e at r.1)
 
   -- the input's end closes none

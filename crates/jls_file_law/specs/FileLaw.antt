@@ -10,7 +10,7 @@ use Rattle.jls_copy.specs.Course.{Course, IsCourse}
 use Rattle.jls_copy.specs.CutPieces.{cut_pieces}
 use Rattle.jls_copy.specs.CopyReads.{CopyReads}
 use Rattle.jls_copy.specs.ReadCopy.{ReadCopy}
-use Rattle.jls_copy.specs.Pieces.{pieces, Outcome, AreOutcomes, readings, records}
+use Rattle.jls_copy.specs.Pieces.{pieces, PieceOutcome, AreOutcomes, readings, records}
 use Rattle.jls_copy.specs.declared.end.End.TheVariants.{Eoi}
 use Rattle.jls_file.specs.WrittenFile.{written_file}
 use Rattle.jls_file_law.specs.Covering.{written_readings, AreThePicture}
@@ -37,9 +37,9 @@ pub record ReadsBack (pic : WholePicture) (copy : List ℕ) (rs : List Reading) 
   pub uncut : cut_pieces course ≡ []
   pub offset : ℕ
   pub ended : course.end ≡ Eoi offset
-  pub outcomes : List Outcome
+  pub outcomes : List PieceOutcome
   pub some_outcomes : AreOutcomes (pieces course) outcomes
-  pub gives : (os : List Outcome) → AreOutcomes (pieces course) os
+  pub gives : (os : List PieceOutcome) → AreOutcomes (pieces course) os
       → (readings (pieces course) os ≡ rs) × (records (pieces course) os ≡ [])
 
 -- what is read back of a written file is the picture's lines, each once

@@ -13,7 +13,7 @@ use Rattle.jls_copy.specs.Course.{Course}
 use Rattle.jls_copy.specs.CutPieces.{closed_by_input, last_piece, cut_pieces, IsHeadOfCut, head_readings}
 use Rattle.jls_copy.specs.CopyReads.{CopyReads}
 use Rattle.jls_copy.specs.ReadCopy.{ReadCopy}
-use Rattle.jls_copy.specs.Pieces.{FoundPiece, Outcome, Lines, Fault, IsOutcome, readings_at, readings_of, AreOutcomes, readings, pieces}
+use Rattle.jls_copy.specs.Pieces.{FoundPiece, PieceOutcome, Lines, Fault, IsOutcome, outcome_readings, readings_of, AreOutcomes, readings, pieces}
 use Rattle.jls_copy.proofs.OneCourse.{one_course}
 use Rattle.jls_copy.proofs.ScansOfCourse.{HasScan, course_has}
 use Rattle.jls_copy.proofs.BytesDecide.{one_outcome, one_head_of_cut, cut_has}
@@ -27,13 +27,13 @@ abbrev some_shape : PictureShape → Option PictureShape
 some_shape shape = Some shape
 
 -- a piece that gives no lines gives no reading
-faults_give_none : (s : Scan) (n : PieceNumber) (r : Reading) (k : Outcome) → Contains (readings_at s n k) r → (lines : List (List ℕ)) × (k ≡ Lines lines)
+faults_give_none : (s : Scan) (n : PieceNumber) (r : Reading) (k : PieceOutcome) → Contains (outcome_readings s n k) r → (lines : List (List ℕ)) × (k ≡ Lines lines)
 faults_give_none s n r (Lines lines) c = (lines, refl)
 faults_give_none s (Interval k) r (Fault f) c = absurd (none_in r c)
 faults_give_none s (BeyondLast k) r (Fault f) c = absurd (none_in r c)
 
 -- the readings of pieces that have these outcomes are what the pieces give
-pub listed : (ps : List FoundPiece) (os : List Outcome) (r : Reading) → AreOutcomes ps os → Contains (readings ps os) r → (p : FoundPiece) × Contains ps p × PieceGives p r
+pub listed : (ps : List FoundPiece) (os : List PieceOutcome) (r : Reading) → AreOutcomes ps os → Contains (readings ps os) r → (p : FoundPiece) × Contains ps p × PieceGives p r
 listed [] os r are c = absurd (none_in r c)
 listed (p ∷ ps) [] r are c = absurd are
 listed (p ∷ ps) (o ∷ os) r are c =
@@ -44,7 +44,7 @@ listed (p ∷ ps) (o ∷ os) r are c =
       | inr later ↦ (let f = listed ps os r are.1 later in (f.0, in_rest f.0 p ps f.1, f.2))
     ]
 
-given : (ps : List FoundPiece) (os : List Outcome) (p : FoundPiece) (r : Reading) → AllByRecursion HasScan ps → AreOutcomes ps os → Contains ps p → PieceGives p r → Contains (readings ps os) r
+given : (ps : List FoundPiece) (os : List PieceOutcome) (p : FoundPiece) (r : Reading) → AllByRecursion HasScan ps → AreOutcomes ps os → Contains ps p → PieceGives p r → Contains (readings ps os) r
 given [] os p r ok are c g = absurd (none_in p c)
 given (q ∷ ps) [] p r ok are c g = absurd are
 given (q ∷ ps) (o ∷ os) p r ok are c g =

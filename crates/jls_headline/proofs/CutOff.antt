@@ -8,7 +8,7 @@ use Rattle.jls_marker.specs.HeaderState.{HeaderState, no_headers}
 use Rattle.jls_marker.specs.Scan.{Scan}
 use Rattle.jls_copy.specs.ScanData.{ClosedPiece, fill_bytes}
 use Rattle.jls_copy.specs.Numbers.{PieceNumber, Interval}
-use Rattle.jls_copy.specs.Course.{by_input, by_marker, CopyUnit, segment, scan, segment_bytes, scan_data_bytes, unit_bytes, IsUnit, AreUnits, Course, IsCourse, with_soi, with_another_marker, with_no_marker, with_fill_alone}
+use Rattle.jls_copy.specs.Course.{by_input, by_marker, CopyUnit, segment, scan, segment_unit_bytes, scan_data_bytes, unit_bytes, IsUnit, AreUnits, Course, IsCourse, with_soi, with_another_marker, with_no_marker, with_fill_alone}
 use Rattle.jls_copy.specs.CutPieces.{is_cut, closed_by_input, last_piece}
 use Rattle.jls_copy.specs.Pieces.{FoundPiece, pieces_from, unit_pieces, scans_in, pieces_in}
 use Rattle.jls_copy.specs.declared.end.End.{End}
@@ -42,7 +42,7 @@ closed_some : (us : List CopyUnit) (index at : ℕ) → closed_by_input us ≡ t
 closed_some [] index at e = absurd cc
 closed_some (segment fill code payload ∷ []) index at e = absurd cc
 closed_some (scan fill code payload s closed last (by_input n) ∷ []) index at e =
-    let r = some_pieces index s 0 (Interval 0) (at + length (segment_bytes fill code payload)) closed last in
+    let r = some_pieces index s 0 (Interval 0) (at + length (segment_unit_bytes fill code payload)) closed last in
     (r.0, r.1 ++ [], ap (λ ps. ps ++ []) r.2)
 closed_some (scan fill code payload s closed last by_marker ∷ []) index at e = absurd cc
 closed_some (u ∷ v ∷ us) index at e =
@@ -91,17 +91,17 @@ all_cut Q U f (u ∷ v ∷ us) index at h =
 
 -- A unit that is cut is the last one ---------------------------------------------------------------------------------
 
-no_segment : (n code : ℕ) (payload more : List ℕ) → segment_bytes n code payload ++ more ≡ [] → ⊥
+no_segment : (n code : ℕ) (payload more : List ℕ) → segment_unit_bytes n code payload ++ more ≡ [] → ⊥
 no_segment n code payload more e =
-    let k = ap length e in let a = length-append (segment_bytes n code payload) more in
+    let k = ap length e in let a = length-append (segment_unit_bytes n code payload) more in
     let b = length-append (fill_bytes n) (255 ∷ code ∷ (length payload + 2) / 256 ∷ (length payload + 2) % 256 ∷ payload) in omega (arith, k, a, b)
 
 no_unit : (u : CopyUnit) (more : List ℕ) → unit_bytes u ++ more ≡ [] → ⊥
 no_unit (segment fill code payload) more e = no_segment fill code payload more e
 no_unit (scan fill code payload s closed last closing) more e =
-    let k = ap length e in let a = length-append (segment_bytes fill code payload ++ scan_data_bytes closed last closing) more in
-    let b = length-append (segment_bytes fill code payload) (scan_data_bytes closed last closing) in
-    no_segment fill code payload [] (empty (segment_bytes fill code payload ++ []) (omega (arith, k, a, b, length-append (segment_bytes fill code payload) [])))
+    let k = ap length e in let a = length-append (segment_unit_bytes fill code payload ++ scan_data_bytes closed last closing) more in
+    let b = length-append (segment_unit_bytes fill code payload) (scan_data_bytes closed last closing) in
+    no_segment fill code payload [] (empty (segment_unit_bytes fill code payload ++ []) (omega (arith, k, a, b, length-append (segment_unit_bytes fill code payload) [])))
   where
     empty : (xs : List ℕ) → length xs ≡ 0 → xs ≡ []
     empty [] e = refl

@@ -7,8 +7,8 @@ use Rattle.jls_marker.specs.HeaderState.{no_headers}
 use Rattle.jls_marker.specs.Scan.{Scan, intervals, first_row}
 use Rattle.jls_copy.specs.ScanData.{ClosedPiece}
 use Rattle.jls_copy.specs.Numbers.{Interval, RiseByEightAtMost}
-use Rattle.jls_copy.specs.Course.{LastClosed, by_input, by_marker, CopyUnit, segment, scan, segment_bytes, unit_bytes, Course}
-use Rattle.jls_copy.specs.Pieces.{FoundPiece, Lines, IsOutcomeAt, readings_at, unit_pieces, scans_in, pieces_in, pieces}
+use Rattle.jls_copy.specs.Course.{LastClosed, by_input, by_marker, CopyUnit, segment, scan, segment_unit_bytes, unit_bytes, Course}
+use Rattle.jls_copy.specs.Pieces.{FoundPiece, Lines, IsOutcomeAt, outcome_readings, unit_pieces, scans_in, pieces_in, pieces}
 use Rattle.jls_copy.proofs.OneCourse.{one_course}
 use Rattle.jls_picture.specs.Picture.{WholePicture}
 use Rattle.jls_file.specs.WrittenFile.{interval_lines}
@@ -71,14 +71,14 @@ module _ (pic : WholePicture) where
   gives_read p r h = record {
     lines = interval_lines pic p.plan h.k;
     reads = subst (λ n. IsOutcomeAt p.plan n p.bytes (Lines (interval_lines pic p.plan h.k))) (sym h.numbered) h.reads;
-    among = subst (λ n. Contains (readings_at p.plan n (Lines (interval_lines pic p.plan h.k))) r) (sym h.numbered) h.among;
+    among = subst (λ n. Contains (outcome_readings p.plan n (Lines (interval_lines pic p.plan h.k))) r) (sym h.numbered) h.among;
   }
 
   gives_head : (p : FoundPiece) (r : Reading) → HeadReadsWith pic p r → HeadGives p r
   gives_head p r h = record {
     head = take h.count (interval_lines pic p.plan h.k);
     is_head = subst (λ n. IsHeadAt p.plan n p.bytes (take h.count (interval_lines pic p.plan h.k))) (sym h.numbered) h.is_head;
-    among = subst (λ n. Contains (readings_at p.plan n (Lines (take h.count (interval_lines pic p.plan h.k)))) r) (sym h.numbered) h.among;
+    among = subst (λ n. Contains (outcome_readings p.plan n (Lines (take h.count (interval_lines pic p.plan h.k)))) r) (sym h.numbered) h.among;
   }
 
 -- Pieces of a course -----------------------------------------------------------------------------------------------
@@ -113,13 +113,13 @@ module _ (pic : WholePicture) where
   unit_is_exact : (index at : ℕ) (u : CopyUnit) → DamagedUnit pic u → AllByRecursion (Exact pic) (unit_pieces index at u)
   unit_is_exact index at (segment fill code payload) d = tt
   unit_is_exact index at (scan fill code payload s closed last closing) d =
-      each_found (ReadsAsPictureOrNone pic s) (Exact pic) s index (exact pic s index) (at + length (segment_bytes fill code payload)) 0 closed last d.numbers d.rise d.pieces_are
+      each_found (ReadsAsPictureOrNone pic s) (Exact pic) s index (exact pic s index) (at + length (segment_unit_bytes fill code payload)) 0 closed last d.numbers d.rise d.pieces_are
 
   cut_is_exact : (index at : ℕ) (u : CopyUnit) → DamagedUnit pic u → is_cut u ≡ true → AllByRecursion (ExactHead pic) (last_piece (unit_pieces index at u))
   cut_is_exact index at (segment fill code payload) d cut = absurd cc
   cut_is_exact index at (scan fill code payload s closed last by_marker) d cut = absurd cc
   cut_is_exact index at (scan fill code payload s closed last (by_input dropped)) d cut =
-      last_found (HasHeadOfPicture pic s) (ExactHead pic) s index (exact_head pic s index) (at + length (segment_bytes fill code payload)) 0 closed last d.numbers d.rise
+      last_found (HasHeadOfPicture pic s) (ExactHead pic) s index (exact_head pic s index) (at + length (segment_unit_bytes fill code payload)) 0 closed last d.numbers d.rise
       (marks_alone (ReadsAsPictureOrNone pic s) 0 closed last d.numbers d.pieces_are) d.head
 
 pub damaged_copies_give_exactly : DamagedCopiesGiveExactly
@@ -160,14 +160,14 @@ module _ (pic : WholePicture) where
   unit_in_picture : (index at : ℕ) (u : CopyUnit) → DamagedHere u → AllByRecursion InPicture (unit_pieces index at u)
   unit_in_picture index at (segment fill code payload) d = tt
   unit_in_picture index at (scan fill code payload s closed last closing) (d, is) =
-      each_found (λ k bytes. (k < intervals s) × ReadsAsPictureOrNone pic s k bytes) InPicture s index (in_picture s is index) (at + length (segment_bytes fill code payload)) 0 closed last d.numbers d.rise
+      each_found (λ k bytes. (k < intervals s) × ReadsAsPictureOrNone pic s k bytes) InPicture s index (in_picture s is index) (at + length (segment_unit_bytes fill code payload)) 0 closed last d.numbers d.rise
       (numbers_low (intervals s) (ReadsAsPictureOrNone pic s) 0 closed last d.numbers is.0.some_interval d.rise d.pieces_are)
 
   cut_in_picture : (index at : ℕ) (u : CopyUnit) → DamagedHere u → is_cut u ≡ true → AllByRecursion HeadInPicture (last_piece (unit_pieces index at u))
   cut_in_picture index at (segment fill code payload) d cut = absurd cc
   cut_in_picture index at (scan fill code payload s closed last by_marker) d cut = absurd cc
   cut_in_picture index at (scan fill code payload s closed last (by_input dropped)) (d, is) cut =
-      last_found (λ k bytes. (k < intervals s) × HasHeadOfPicture pic s k bytes) HeadInPicture s index (head_in_picture s is index) (at + length (segment_bytes fill code payload)) 0 closed last d.numbers d.rise
+      last_found (λ k bytes. (k < intervals s) × HasHeadOfPicture pic s k bytes) HeadInPicture s index (head_in_picture s is index) (at + length (segment_unit_bytes fill code payload)) 0 closed last d.numbers d.rise
       (marks_alone (ReadsAsPictureOrNone pic s) 0 closed last d.numbers d.pieces_are) (last_low (intervals s) 0 d.numbers is.0.some_interval d.rise, d.head)
 
   course_in_picture : (c : Course) → AllByRecursion DamagedHere c.units → (r : Reading) → CourseGives c r → IsLineOf pic r
@@ -205,7 +205,7 @@ module _ (pic : WholePicture) (component line : ℕ) where
       → PieceOf (scan fill code payload s closed last closing) ⊎ HeadOf (scan fill code payload s closed last closing)
   scan_gives fill code payload s closed last closing numbers rise marks (inl some) =
       inl (λ index at.
-      let f = some_found (ReadsWithLine pic s component line) s index closed (at + length (segment_bytes fill code payload)) 0 last numbers rise marks some in (
+      let f = some_found (ReadsWithLine pic s component line) s index closed (at + length (segment_unit_bytes fill code payload)) 0 last numbers rise marks some in (
         found index s f.0 f.1 f.2,
         f.3,
         record { lines = interval_lines pic s f.1; reads = f.4.1; among = line_is_among pic s f.1 component line f.4.0.0 f.4.0.1 },
@@ -215,7 +215,7 @@ module _ (pic : WholePicture) (component line : ℕ) where
       inr (
         refl,
         λ index at.
-            let f = last_is_found s index closed (at + length (segment_bytes fill code payload)) 0 last numbers rise marks in
+            let f = last_is_found s index closed (at + length (segment_unit_bytes fill code payload)) 0 last numbers rise marks in
             (found index s f.0 (last_number 0 numbers) last, f.1, record { head = head; is_head = is; among = c }),
       )
 

@@ -8,7 +8,7 @@ use Rattle.jls_marker.specs.Headers.{headers_after}
 use Rattle.jls_marker.specs.SegmentLaws.{AreBytes}
 use Rattle.jls_marker.proofs.HeaderSteps.{frame_stays, scans_begin, scans_are_in_range}
 use Rattle.jls_copy.specs.ScanData.{fill_bytes}
-use Rattle.jls_copy.specs.Course.{CopyUnit, segment, scan, segment_bytes, scan_data_bytes, AreUnits, with_soi, with_another_marker, with_no_marker, with_fill_alone}
+use Rattle.jls_copy.specs.Course.{CopyUnit, segment, scan, segment_unit_bytes, scan_data_bytes, AreUnits, with_soi, with_another_marker, with_no_marker, with_fill_alone}
 use Rattle.jls_copy.specs.declared.end.End.{End}
 use Rattle.jls_copy.proofs.HeadersKept.{headers_kept, no_headers_kept}
 use Rattle.jls_headline.specs.ScanLaws.{IsScanUnder, ScanOfUnitIs, ScansAreOfTheFrame}
@@ -20,9 +20,9 @@ some_frame f = Some f
 pub same_frame : (f g : PictureShape) → some_frame f ≡ Some g → f ≡ g
 same_frame f g e = cc
 
-payload_low : (fill code : ℕ) (payload more : List ℕ) → AreBytes (segment_bytes fill code payload ++ more) → AreBytes payload
+payload_low : (fill code : ℕ) (payload more : List ℕ) → AreBytes (segment_unit_bytes fill code payload ++ more) → AreBytes payload
 payload_low fill code payload more low =
-    (all_back (λ b. b < 256) (fill_bytes fill) _ (all_front (λ b. b < 256) (segment_bytes fill code payload) more low)).1.1.1.1
+    (all_back (λ b. b < 256) (fill_bytes fill) _ (all_front (λ b. b < 256) (segment_unit_bytes fill code payload) more low)).1.1.1.1
 
 -- the units leave a frame that was taken before them
 frame_through : (units : List CopyUnit) (h : HeaderState) (at : ℕ) (bytes : List ℕ) (final : HeaderState) (e : End) (f : PictureShape)
@@ -47,16 +47,16 @@ units_are : (units : List CopyUnit) (h : HeaderState) (at : ℕ) (bytes : List �
     → AreUnits h at bytes units final e → final.frame ≡ Some f → IsShape f × AllByRecursion (ScanOfUnitIs (IsScanUnder f)) units
 units_are [] h at bytes final e f is low p framed = (is.frame f (ap (λ (x : HeaderState). x.frame) (sym p.0) ∙ framed), tt)
 units_are (segment fill code payload ∷ units) h at bytes final e f is low (after, rest, whole, u, p) framed =
-    let all : AreBytes (segment_bytes fill code payload ++ rest) = subst AreBytes whole low in
+    let all : AreBytes (segment_unit_bytes fill code payload ++ rest) = subst AreBytes whole low in
     let kept = headers_kept h after code payload None is (payload_low fill code payload rest all) u.1 in
-    let later = units_are units after _ rest final e f kept (all_back (λ b. b < 256) (segment_bytes fill code payload) rest all) p framed in
+    let later = units_are units after _ rest final e f kept (all_back (λ b. b < 256) (segment_unit_bytes fill code payload) rest all) p framed in
     (later.0, (tt, later.1))
 units_are (scan fill code payload s closed last closing ∷ units) h at bytes final e f is low (after, rest, whole, u, p) framed =
     let cut : List ℕ = scan_data_bytes closed last closing in
-    let all : AreBytes ((segment_bytes fill code payload ++ cut) ++ rest) = subst AreBytes whole low in
-    let own = payload_low fill code payload cut (all_front (λ b. b < 256) (segment_bytes fill code payload ++ cut) rest all) in
+    let all : AreBytes ((segment_unit_bytes fill code payload ++ cut) ++ rest) = subst AreBytes whole low in
+    let own = payload_low fill code payload cut (all_front (λ b. b < 256) (segment_unit_bytes fill code payload ++ cut) rest all) in
     let kept = headers_kept h after code payload (Some s) is own u.1 in
-    let later = units_are units after _ rest final e f kept (all_back (λ b. b < 256) (segment_bytes fill code payload ++ cut) rest all) p framed in
+    let later = units_are units after _ rest final e f kept (all_back (λ b. b < 256) (segment_unit_bytes fill code payload ++ cut) rest all) p framed in
     (later.0, (scan_is_under h after code payload s _ rest units final e f is own u.1 p framed, later.1))
 
 none_framed : (f : PictureShape) → no_headers.frame ≡ Some f → ⊥
