@@ -1,9 +1,13 @@
 pub mod Contexts
+mod ErrorExamples
+mod ExampleScans
 pub mod GolombLaws
 pub mod Gradients
+mod InterruptionExamples
+mod ModeExamples
+mod RegularExamples
 pub mod Remainders
 pub mod Samples
 pub mod Sizes
-mod Rows
 pub mod Updates
 pub mod Writes
