@@ -4,7 +4,7 @@ use Rattle.std.specs.Prelude.{ℤ, pos, negsuc}
 use Rattle.std.specs.List.{fold}
 use Rattle.jls_values.specs.Params.{least_from}
 use Rattle.jls_context.specs.declared.regular.Cell.{Cell}
-use Rattle.jls_context.specs.Regular.{golomb_k, initial_cell, regular_k, regular_mapped, updated}
+use Rattle.jls_context.specs.Regular.{golomb_k, initial_magnitudes, initial_cell, regular_k, regular_mapped, updated}
 use Rattle.jls_context.proofs.ExampleScans.{eight_bits, one_bit}
 
 abbrev cell : ℕ → ℕ → ℤ → ℤ → Cell
@@ -14,6 +14,10 @@ cell magnitudes occurrences bias correction =
 -- a cell of 8 bits after these errors
 abbrev after : ℕ → List ℤ → Cell
 after reset errors = fold (updated reset) (initial_cell (eight_bits reset)) errors
+
+-- floor((RANGE + 32) / 64), but at least 2: RANGE is 256, 160, 159 and 2
+first_magnitudes : map (λ maxval. initial_magnitudes (record one_bit { maxval = maxval })) (255 ∷ 159 ∷ 158 ∷ 1 ∷ []) ≡ 4 ∷ 3 ∷ 2 ∷ 2 ∷ []
+first_magnitudes = refl
 
 fresh_k : regular_k (after 64 []) ≡ 2
 unfolding golomb_k least_from
@@ -34,6 +38,11 @@ error_of_minus_18 = refl
 k_after_minus_18 : regular_k (after 64 (negsuc 17 ∷ [])) ≡ 4
 unfolding updated golomb_k least_from
 k_after_minus_18 = refl
+
+-- N is 2 and B is -2: a B of -N is below its range
+bias_at_its_bound : after 64 (negsuc 1 ∷ []) ≡ cell 6 2 (pos 0) (negsuc 0)
+unfolding updated
+bias_at_its_bound = refl
 
 abbrev thrice_8 : List ℤ
 thrice_8 = pos 8 ∷ pos 8 ∷ pos 8 ∷ pos 0 ∷ pos 0 ∷ []

@@ -1,5 +1,5 @@
 -- Histories that grew, put together.
-use Rattle.std.proofs.Common.{◌≡◌, List, [], ◌∷◌, ◌++◌, sym, ap, ◌∙◌, append_assoc}
+use Rattle.std.proofs.Common.{◌≡◌, List, [], ◌++◌, sym, ap, ◌∙◌, append_assoc}
 use Rattle.std.proofs.lemmas.List.{append-nil}
 use Rattle.jls_device.specs.Event.{Event, History, GrewBy}
 
@@ -21,7 +21,3 @@ grew_on A B C old mid new join h k = record {
 -- the same growth, seen as another
 pub grew_as : (A B : List Event → Type 0) (old new : History) → ((events : List Event) → A events → B events) → GrewBy A old new → GrewBy B old new
 grew_as A B old new see h = record { events = h.events; grew = h.grew; they_are = see h.events h.they_are }
-
--- one event
-pub grew_by_one : (old new : History) (e : Event) → new ≡ old ++ e ∷ [] → GrewBy (λ events. events ≡ e ∷ []) old new
-grew_by_one old new e is = record { events = e ∷ []; grew = is; they_are = (λ _. e ∷ []) }

@@ -57,12 +57,5 @@ module _ (old mid new : History) where
   pub one_write_more : (a b : List ℕ) → GrewBy (Wrote a) old mid → 0 < length b → new ≡ mid ++ took b ∷ [] → GrewBy (Wrote (a ++ b)) old new
   one_write_more a b h lt e = written_on a b h (record { events = took b ∷ []; grew = e; they_are = one_write b lt })
 
-  pub cut_by_failure : (bytes : List ℕ) (count : ℕ) → GrewBy (Wrote (take count bytes)) old mid → count < length bytes → new ≡ mid ++ write_failed ∷ []
-      → GrewBy (WroteFront bytes count) old new
-  cut_by_failure bytes count h lt e =
-      grew_on (Wrote (take count bytes)) (λ events. events ≡ write_failed ∷ []) (WroteFront bytes count) old mid new
-      (λ a b w is. record { writes = a; events_are = ap (λ (x : List Event). a ++ x) is; wrote = w; not_all = lt })
-      h (record { events = write_failed ∷ []; grew = e; they_are = refl })
-
 pub nothing_written : (h : History) → GrewBy (Wrote []) h h
 nothing_written h = grew_not (Wrote []) h wrote_nothing

@@ -41,11 +41,14 @@ restored_again (not_created name) = refl
 restored_again (took bytes) = refl
 restored_again write_failed = refl
 
+abbrev coded_text : Coded (List ℕ)
+coded_text = coded_list coded_ℕ
+
 abbrev coded_texts : Coded Texts
-coded_texts = coded⊎ (coded⊎ (coded_list coded_ℕ) (coded_list coded_ℕ)) (coded⊎ (coded⊎ (coded_list coded_ℕ) (coded_list coded_ℕ)) (coded_list coded_ℕ))
+coded_texts = coded⊎ (coded⊎ coded_text coded_text) (coded⊎ (coded⊎ coded_text coded_text) coded_text)
 
 abbrev pub coded_event : Coded Event
-coded_event = code_by Stored (coded⊎ coded_texts (coded⊎ (coded× coded_ℕ (coded_list coded_ℕ)) coded_bool)) stored restored restored_again
+coded_event = code_by Stored (coded⊎ coded_texts (coded⊎ (coded× coded_ℕ coded_text) coded_bool)) stored restored restored_again
 
 abbrev pub coded_history : Coded History
 coded_history = coded_list coded_event

@@ -26,8 +26,9 @@ pub trait Open {
 /// buffered, so what a write took has gone to the writer. A read while no input is open gives 0 bytes, and a write while no
 /// output is open fails; the stream behind is not asked.
 ///
-/// Contracts speak of what is noted. That each call asks the stream or the files behind it for just that, once and by the same
-/// name, no contract says: it is read here.
+/// Contracts speak of what is noted. Where the bytes behind the device are known, as those of a list in memory, what is noted is
+/// what they lose or gain (`reads_give_the_content`, `writes_are_held`). That each call asks the stream or the files behind it only
+/// once, and by the same name, no contract says: it is read here.
 #[derive(Drop)]
 pub struct Counted<T> {
     inner: T,
@@ -41,7 +42,8 @@ impl<T> Device for Counted<T> {
 impl<T> Counted<T> {
     /// The device over this reader or writer, which is open from the start and has no name.
     pub fn new(inner: T) -> Counted<T>
-        ensures { ⟦<Counted<T> as Device>⟧.history result ≡ opened [] ∷ created [] ∷ [] }
+        ensures history { ⟦<Counted<T> as Device>⟧.history result ≡ opened [] ∷ created [] ∷ [] }
+        ensures over { result.inner ≡ inner }
     {
         let mut counted = Counted::closed(inner);
         counted.ledger.note(Noted::Opened(""));
@@ -51,7 +53,8 @@ impl<T> Counted<T> {
 
     /// The desk over these files, of which none is open yet.
     pub fn closed(inner: T) -> Counted<T>
-        ensures { ⟦<Counted<T> as Device>⟧.history result ≡ [] }
+        ensures history { ⟦<Counted<T> as Device>⟧.history result ≡ [] }
+        ensures over { result.inner ≡ inner }
     {
         Counted {
             inner,

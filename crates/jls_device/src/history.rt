@@ -12,51 +12,61 @@ use std::marker::Model;
 pub(crate) enum Noted<'a> {
     /// The input of this name was opened.
     Opened(&'a str),
+    /// The input of this name was not opened.
     NotOpened(&'a str),
     /// A read into a buffer of this length gave these bytes.
     Gave(usize, &'a [u8]),
+    /// A read failed.
     ReadFailed,
     /// The output of this name was created.
     Created(&'a str),
+    /// The output of this name was not created.
     NotCreated(&'a str),
     /// A write took these bytes.
     Took(&'a [u8]),
+    /// A write failed.
     WriteFailed,
 }
 
 impl Noted<'_> {
     ghost use Rattle.jls_device.specs.Noted.{event_of};
 
+    /// Whether an input was opened.
     pub(crate) fn is_opening(&self) -> bool
         ensures { result ≡ is_opening (event_of self.now) }
     {
         matches!(self, Noted::Opened(_))
     }
 
+    /// Whether an output was created.
     pub(crate) fn is_creation(&self) -> bool
         ensures { result ≡ is_creation (event_of self.now) }
     {
         matches!(self, Noted::Created(_))
     }
 
+    /// Whether it is a read, one that failed among them.
     pub(crate) fn is_read(&self) -> bool
         ensures { result ≡ is_read (event_of self.now) }
     {
         matches!(self, Noted::Gave(_, _) | Noted::ReadFailed)
     }
 
+    /// Whether a read failed.
     pub(crate) fn is_failed_read(&self) -> bool
         ensures { result ≡ is_failed_read (event_of self.now) }
     {
         matches!(self, Noted::ReadFailed)
     }
 
+    /// Whether a write failed.
     pub(crate) fn is_failed_write(&self) -> bool
         ensures { result ≡ is_failed_write (event_of self.now) }
     {
         matches!(self, Noted::WriteFailed)
     }
 
+    /// Whether an input could not be opened, or an output not created.
     pub(crate) fn is_failed_opening(&self) -> bool
         ensures { result ≡ is_failed_opening (event_of self.now) }
     {

@@ -68,24 +68,28 @@ impl Ledger {
         self.has_output = self.has_output || event.is_creation();
     }
 
+    /// How many reads there were.
     pub(crate) fn reads(&self) -> u64
         ensures { result ≡ count_of is_read self.now }
     {
         self.reads
     }
 
+    /// How many reads failed.
     pub(crate) fn read_failures(&self) -> u64
         ensures { result ≡ count_of is_failed_read self.now }
     {
         self.read_failures
     }
 
+    /// How many writes failed.
     pub(crate) fn write_failures(&self) -> u64
         ensures { result ≡ count_of is_failed_write self.now }
     {
         self.write_failures
     }
 
+    /// How many inputs could not be opened, and outputs not created.
     pub(crate) fn open_failures(&self) -> u64
         ensures { result ≡ count_of is_failed_opening self.now }
     {

@@ -1,0 +1,45 @@
+//! Laws of devices over bytes in memory. Each is the contract of a function that makes one call.
+
+ghost use Rattle.std.specs.Prelude.{◌≡◌, ◌<◌, ℕ, List, length, IfOk};
+ghost use Rattle.jls_device.specs.Event.{bytes_given};
+ghost use Rattle.jls_device.specs.Remaining.{HasGiven, HasTaken};
+
+use crate::counted::Counted;
+use crate::device::{Device, Sink, SinkFault, Source, SourceFault};
+
+/// A source over bytes in memory begins with all of them left.
+pub fn source_over_bytes<'a>(bytes: &'a [u8]) -> Counted<&'a [u8]>
+    ensures { HasGiven bytes.now (⟦<Counted<&'a [u8]> as Device>⟧.history result) (⟦<Counted<&'a [u8]> as Source>⟧.remaining result) }
+{
+    Counted::new(bytes)
+}
+
+/// A sink over a list in memory begins with what the list holds.
+pub fn sink_over_list(list: Vec<u8>) -> Counted<Vec<u8>>
+    ensures { HasTaken list.items (⟦<Counted<Vec<u8>> as Device>⟧.history result) (⟦<Counted<Vec<u8>> as Sink>⟧.contents result) }
+{
+    Counted::new(list)
+}
+
+/// Where the bytes behind a source are known, all reads together give exactly these bytes, in their order: each read keeps that,
+/// and where a read meets the end they were all given.
+pub fn reads_give_the_content<S: Source>(
+    source: &mut S,
+    into: &mut [u8],
+) -> Result<usize, SourceFault>
+    ensures given { (content : List ℕ) → HasGiven content (S.history source.old) (S.remaining source.old)
+        → HasGiven content (S.history source.new) (S.remaining source.new) }
+    ensures end { (content : List ℕ) → HasGiven content (S.history source.old) (S.remaining source.old)
+        → IfOk result (λ n. n ≡ 0 → 0 < length into.new → bytes_given (S.history source.new) ≡ content) }
+{
+    source.read_some(into)
+}
+
+/// Where the bytes that a sink holds are known, it holds exactly what it held before and what all writes took, in their order:
+/// each write keeps that.
+pub fn writes_are_held<W: Sink>(sink: &mut W, bytes: &[u8]) -> Result<usize, SinkFault>
+    ensures { (before : List ℕ) → HasTaken before (W.history sink.old) (W.contents sink.old)
+        → HasTaken before (W.history sink.new) (W.contents sink.new) }
+{
+    sink.write_some(bytes)
+}
