@@ -17,7 +17,7 @@ use Rattle.jls_copy.specs.Pieces.{FoundPiece, Outcome, Lines, Fault, IsOutcome, 
 use Rattle.jls_copy.proofs.OneCourse.{one_course}
 use Rattle.jls_copy.proofs.ScansOfCourse.{HasScan, course_has}
 use Rattle.jls_copy.proofs.BytesDecide.{one_outcome, one_head_of_cut, cut_has}
-use Rattle.jls_headline.specs.Gives.{PieceGives, HeadGives, CourseGives, Gives}
+use Rattle.jls_headline.specs.Gives.{PieceGives, HeadGives, CourseGives, GivesReading}
 use Rattle.jls_headline.specs.Stations.{HasShape}
 use Rattle.jls_headline.proofs.Members.{is_first, in_rest, none_in, first_or_rest}
 use Rattle.jls_headline.proofs.CutOff.{last_short}
@@ -85,10 +85,10 @@ cut_short c = by (closed_by_input c.units)
     by false = omega arith
 
 pub copy_gives : (copy : List ℕ) → AllByRecursion (λ b. b < 256) copy → (read : ReadCopy) → CopyReads copy read → (r : Reading)
-    → (set.contains read.partial.readings r ≡ true) ↔ Gives copy r
+    → (set.contains read.partial.readings r ≡ true) ↔ GivesReading copy r
 copy_gives copy low read reads r = (there, back)
   where
-    there : set.contains read.partial.readings r ≡ true → Gives copy r
+    there : set.contains read.partial.readings r ≡ true → GivesReading copy r
     there h =
         let ps = pieces reads.course in
         let cs = cut_pieces reads.course in
@@ -102,7 +102,7 @@ copy_gives copy low read reads r = (there, back)
           ],
         )
 
-    back : Gives copy r → set.contains read.partial.readings r ≡ true
+    back : GivesReading copy r → set.contains read.partial.readings r ≡ true
     back (c, is, g) =
         let ps = pieces reads.course in
         let cs = cut_pieces reads.course in

@@ -23,7 +23,7 @@ use Rattle.jls_station.specs.Reading.{AreBytes}
 use Rattle.jls_station.specs.Inputs.{partials, AreOfOneShape, IsUnionOf}
 use Rattle.jls_station.specs.Joining.{JoinIsDone}
 use Rattle.jls_station.specs.Laws.{input_bytes}
-use Rattle.jls_headline.specs.Gives as copy
+use Rattle.jls_headline.specs.Gives.{GivesReading}
 use Rattle.jls_headline.specs.Damaged.{Damaged}
 use Rattle.jls_headline.specs.Stations.{ReadingsOf, HasShape, HoldsExactly, began, TookInTheEnd}
 use Rattle.jls_headline.specs.RunLaws.{AreNoTexts, InputStandsFor, InputsStandFor, RunsHoldExactly, RunsWithTextsHoldExactly, RunsSayTheSame, RunsGiveThePicture, RunsWithTextsGiveThePicture}
@@ -46,9 +46,9 @@ marked_readings : (source : Option ℕ) (p : PartialPicture) → (marked source 
 marked_readings None p = refl
 marked_readings (Some source) p = refl
 
-of_this : (bytes : List ℕ) (r : Reading) → ReadingsOf (bytes ∷ []) r → copy.Gives bytes r
+of_this : (bytes : List ℕ) (r : Reading) → ReadingsOf (bytes ∷ []) r → GivesReading bytes r
 of_this bytes r (other, c, g) =
-    elim (first_or_rest other bytes [] c) [ inl e ↦ subst (λ x. copy.Gives x r) (sym e) g | inr later ↦ absurd (none_in other later) ]
+    elim (first_or_rest other bytes [] c) [ inl e ↦ subst (λ x. GivesReading x r) (sym e) g | inr later ↦ absurd (none_in other later) ]
 
 pub copy_holds : (source : Option ℕ) (bytes : List ℕ) (read : ReadCopy) → AreBytes bytes → CopyReads bytes read
     → HoldsExactly (marked source read.partial) (bytes ∷ [])

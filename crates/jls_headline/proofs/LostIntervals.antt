@@ -15,7 +15,7 @@ use Rattle.jls_file.specs.WrittenFile.{interval_lines}
 use Rattle.jls_file_law.specs.Covering.{IsLineOf}
 use Rattle.jls_headline.specs.PictureLines.{placed_in_interval, picture_reading}
 use Rattle.jls_copy.specs.CutPieces.{is_cut, last_piece, cut_pieces, IsHeadAt}
-use Rattle.jls_headline.specs.Gives.{PieceGives, HeadGives, CourseGives, Gives}
+use Rattle.jls_headline.specs.Gives.{PieceGives, HeadGives, CourseGives, GivesReading}
 use Rattle.jls_headline.specs.Damaged.{ReadsAsPictureOrNone, HasHeadOfPicture, PiecesAre, last_number, DamagedUnit}
 use Rattle.jls_headline.specs.Survives.{SomePieceIs, ReadsWithLine, HeadHasLine, SurvivesInUnit, Survives}
 use Rattle.jls_headline.specs.ScanLaws.{IsScanUnder, ScanOfUnitIs}
@@ -223,7 +223,7 @@ module _ (pic : WholePicture) (component line : ℕ) where
   unit_gives (segment fill code payload) v = absurd v
   unit_gives (scan fill code payload s closed last closing) v = scan_gives fill code payload s closed last closing v.numbers v.rise v.marks v.there
 
-  gives : (copy : List ℕ) (v : Survives pic copy component line) → PieceOf v.unit ⊎ HeadOf v.unit → Gives copy reading
+  gives : (copy : List ℕ) (v : Survives pic copy component line) → PieceOf v.unit ⊎ HeadOf v.unit → GivesReading copy reading
   gives copy v (inl piece) =
       let at = unit_stands 0 v.course.begin v.course.units v.unit v.among in
       let given = piece at.0 at.1 in

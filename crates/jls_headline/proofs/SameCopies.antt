@@ -6,19 +6,19 @@ use Rattle.jls_copy.specs.Course.{Course}
 use Rattle.jls_copy.specs.CopyReads.{IsDone}
 use Rattle.jls_copy.proofs.OneCourse.{one_course}
 use Rattle.jls_copy.proofs.FinalEnds.{final_ends_stay}
-use Rattle.jls_headline.specs.Gives.{CourseGives, Gives}
+use Rattle.jls_headline.specs.Gives.{CourseGives, GivesReading}
 use Rattle.jls_headline.specs.Stations.{ReadingsOf, HasShape, IsSameCopy, AreAmong}
 
 -- a copy that is done gives what it gives with anything behind it
-gives_behind : (front behind behind' : List ℕ) (r : Reading) → IsDone front true → Gives (front ++ behind) r → Gives (front ++ behind') r
+gives_behind : (front behind behind' : List ℕ) (r : Reading) → IsDone front true → GivesReading (front ++ behind) r → GivesReading (front ++ behind') r
 gives_behind front behind behind' r (c, is, done) (d, is', g) =
     let same : d ≡ c = one_course (front ++ behind) d c is' (final_ends_stay front behind c is (sym done)) in
     (c, final_ends_stay front behind' c is (sym done), subst (λ x. CourseGives x r) same g)
 
-pub same_copy_gives : (copy other : List ℕ) (r : Reading) → IsSameCopy copy other → Gives copy r → Gives other r
-same_copy_gives copy other r (inl e) g = subst (λ x. Gives x r) e g
+pub same_copy_gives : (copy other : List ℕ) (r : Reading) → IsSameCopy copy other → GivesReading copy r → GivesReading other r
+same_copy_gives copy other r (inl e) g = subst (λ x. GivesReading x r) e g
 same_copy_gives copy other r (inr (front, behind, behind', done, e, f)) g =
-    subst (λ x. Gives x r) (sym f) (gives_behind front behind behind' r done (subst (λ x. Gives x r) e g))
+    subst (λ x. GivesReading x r) (sym f) (gives_behind front behind behind' r done (subst (λ x. GivesReading x r) e g))
 
 -- what copies give, the same copies give
 pub among_gives : (copies others : List (List ℕ)) (r : Reading) → AreAmong copies others → ReadingsOf copies r → ReadingsOf others r

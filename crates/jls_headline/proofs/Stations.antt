@@ -12,7 +12,7 @@ use Rattle.jls_partial.specs.ReadingOrder.{reading_total, reading_exact}
 use Rattle.jls_partial.specs.Partial.{PartialPicture, union}
 use Rattle.jls_copy.specs.CopyReads.{CopyReads}
 use Rattle.jls_copy.specs.ReadCopy.{ReadCopy}
-use Rattle.jls_headline.specs.Gives.{Gives}
+use Rattle.jls_headline.specs.Gives.{GivesReading}
 use Rattle.jls_headline.specs.Stations.{ReadingsOf, HasShape, AreCopies, HoldsExactly, HasReadingsOf, Took, began, took_copy, took_partial, ran_out, AreAmong, TookInTheEnd}
 use Rattle.jls_headline.proofs.Members.{is_first, in_rest, first_or_rest, all_append}
 use Rattle.jls_headline.proofs.Held.{either, or_first, or_second}
@@ -74,10 +74,10 @@ after_copy station taken copies over copy read h low reads same shape = record {
       (λ t. inl (copy, is_first copy copies, (copy_gives copy low read reads r).0 (subst (λ rs. set.contains rs r ≡ true) same.1 t))) m;
 }
   where
-    there : (r : Reading) (other : List ℕ) → Contains (copy ∷ copies) other → Gives other r → has (union station taken) r
+    there : (r : Reading) (other : List ℕ) → Contains (copy ∷ copies) other → GivesReading other r → has (union station taken) r
     there r other c g =
         elim (first_or_rest other copy copies c) [
-          | inl e ↦ right_has station taken r (subst (λ rs. set.contains rs r ≡ true) (sym same.1) ((copy_gives copy low read reads r).1 (subst (λ x. Gives x r) (sym e) g)))
+          | inl e ↦ right_has station taken r (subst (λ rs. set.contains rs r ≡ true) (sym same.1) ((copy_gives copy low read reads r).1 (subst (λ x. GivesReading x r) (sym e) g)))
           | inr later ↦ left_has station taken r (h.there r (other, later, g))
         ]
 

@@ -36,7 +36,7 @@ use Rattle.jls_copy.specs.ReadCopy.{ReadCopy}
 use Rattle.jls_copy.proofs.OneCourse.{one_course}
 use Rattle.jls_picture.specs.Picture.{WholePicture}
 use Rattle.jls_file_law.specs.Covering.{IsLineOf}
-use Rattle.jls_headline.specs.Gives.{Gives}
+use Rattle.jls_headline.specs.Gives.{GivesReading}
 use Rattle.jls_headline.specs.Damaged.{PiecesAre, Damaged}
 use Rattle.jls_headline.specs.Survives.{SomePieceIs, ReadsWithLine, SurvivesInUnit, Survives, EachLineSurvives}
 use Rattle.jls_headline.specs.Trimmed.{whole, front, TrimmedCopy}
@@ -362,7 +362,7 @@ line_1_is_lost v =
     of_units u (suc (suc (suc n)), l, e) s = absurd (omega (arith, l))
 
 -- a piece that reads as another line gives that line: the third copy is no damaged copy of the picture
-third_gives_another : Gives third (reading_of 0 0 (1 ∷ []))
+third_gives_another : GivesReading third (reading_of 0 0 (1 ∷ []))
 third_gives_another = (
   course_with [] (0x50 ∷ []) 32,
   third_course,

@@ -15,7 +15,7 @@ use Rattle.jls_file_law.specs.Covering.{IsLineOf, AreThePicture}
 use Rattle.jls_file_law.specs.FileLaw.{IsWholePicture, CanBeWritten, ReadsBack}
 use Rattle.jls_file_law.proofs.Covering.{contains_the_picture}
 use Rattle.jls_file_law.proofs.FileRead.{file_law}
-use Rattle.jls_headline.specs.Gives.{PieceGives, CourseGives, Gives}
+use Rattle.jls_headline.specs.Gives.{PieceGives, CourseGives, GivesReading}
 use Rattle.jls_headline.specs.ReadsAs.{IsLineIn, IsComponentIn, IsPicture, ReadsAs, ReadsAsOnly, FilesReadAs}
 use Rattle.jls_headline.proofs.Members.{none_in, first_or_rest}
 use Rattle.jls_headline.proofs.CopyGives.{listed}
@@ -76,12 +76,12 @@ module _ (pic : WholePicture) (file : List ℕ) (rs : List Reading) (w : ReadsBa
   reads_as : AreThePicture pic rs → ReadsAs file pic
   reads_as are = record { shape = (w.course, w.is_course, w.framed); readings = λ r. (there r, back r) }
     where
-      there : (r : Reading) → Gives file r → IsLineOf pic r
+      there : (r : Reading) → GivesReading file r → IsLineOf pic r
       there r (c, is, g) =
           (contains_the_picture pic rs are r).0
           (given_is_listed r (subst (λ (k : Course). CourseGives k r) (one_course file c w.course is w.is_course) g))
 
-      back : (r : Reading) → IsLineOf pic r → Gives file r
+      back : (r : Reading) → IsLineOf pic r → GivesReading file r
       back r is = (w.course, w.is_course, listed_is_given r ((contains_the_picture pic rs are r).1 is))
 
 -- The files of a station's picture -------------------------------------------------------------------------------

@@ -24,5 +24,5 @@ CourseGives c r =
     ((p : FoundPiece) × Contains (pieces c) p × PieceGives p r) ⊎ ((p : FoundPiece) × Contains (cut_pieces c) p × HeadGives p r)
 
 -- the copy gives it
-abbrev pub Gives : List ℕ → Reading → Type 0
-Gives copy r = (c : Course) × IsCourse copy c × CourseGives c r
+abbrev pub GivesReading : List ℕ → Reading → Type 0
+GivesReading copy r = (c : Course) × IsCourse copy c × CourseGives c r

@@ -14,7 +14,7 @@ use Rattle.jls_file.specs.WrittenFile.{interval_lines}
 use Rattle.jls_file_law.specs.Covering.{IsLineOf}
 use Rattle.jls_headline.specs.PictureLines.{placed_in_interval, picture_reading}
 use Rattle.jls_copy.specs.CutPieces.{cut_pieces, IsHeadAt}
-use Rattle.jls_headline.specs.Gives.{CourseGives, Gives}
+use Rattle.jls_headline.specs.Gives.{CourseGives, GivesReading}
 use Rattle.jls_headline.specs.Damaged.{ReadsAsPicture, ReadsAsPictureOrNone, HasHeadOfPicture, PiecesAre, DamagedCourse, Damaged}
 use Rattle.jls_headline.specs.Survives.{Survives}
 use Rattle.jls_headline.specs.Trimmed.{IsTrimmed, LacksABit, TrimmedCopy}
@@ -57,13 +57,13 @@ DamagedCopiesGiveExactly =
 abbrev pub DamagedCopiesGiveNoOther : Type 0
 DamagedCopiesGiveNoOther =
     (pic : WholePicture) (copy : List ℕ) → AllByRecursion (λ b. b < 256) copy → Damaged pic copy
-    → (r : Reading) → Gives copy r → IsLineOf pic r
+    → (r : Reading) → GivesReading copy r → IsLineOf pic r
 
 -- a line that survives in a copy is given by it, damaged or not
 abbrev pub SurvivingLinesAreGiven : Type 0
 SurvivingLinesAreGiven =
     (pic : WholePicture) (copy : List ℕ) (component line : ℕ)
-    → Survives pic copy component line → Gives copy (picture_reading pic component line)
+    → Survives pic copy component line → GivesReading copy (picture_reading pic component line)
 
 -- Trimmed pieces -----------------------------------------------------------------------------------------------
 

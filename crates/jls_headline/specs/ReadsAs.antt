@@ -10,7 +10,7 @@ use Rattle.jls_picture.specs.Picture.{WholePicture, picture_of}
 use Rattle.jls_picture.specs.Options.{WriteOptions, OptionsFit}
 use Rattle.jls_file.specs.WrittenFile.{written_file}
 use Rattle.jls_file_law.specs.Covering.{IsLineOf}
-use Rattle.jls_headline.specs.Gives.{Gives}
+use Rattle.jls_headline.specs.Gives.{GivesReading}
 use Rattle.jls_headline.specs.Stations.{HasShape}
 
 -- a line has as many samples as the picture has columns, each of the picture's precision
@@ -34,7 +34,7 @@ GivesPicture station pic = IsSettled station × (picture_of station ≡ pic)
 -- the file's frame has the picture's shape, and its readings are the picture's lines and no others
 pub record ReadsAs (file : List ℕ) (pic : WholePicture) : Type 0 where
   pub shape : HasShape pic.shape file
-  pub readings : (r : Reading) → Gives file r ↔ IsLineOf pic r
+  pub readings : (r : Reading) → GivesReading file r ↔ IsLineOf pic r
 
 -- it reads as this picture, and as no other
 pub record ReadsAsOnly (file : List ℕ) (pic : WholePicture) : Type 0 where

@@ -9,13 +9,13 @@ use Rattle.jls_partial.specs.Partial.{PartialPicture, union}
 use Rattle.jls_copy.specs.Course.{Course, IsCourse}
 use Rattle.jls_copy.specs.CopyReads.{CopyReads, IsDone}
 use Rattle.jls_copy.specs.ReadCopy.{ReadCopy}
-use Rattle.jls_headline.specs.Gives.{Gives}
+use Rattle.jls_headline.specs.Gives.{GivesReading}
 
 -- Exactly the readings of copies -------------------------------------------------------------------------------
 
 -- what one of these copies gives
 abbrev pub ReadingsOf : List (List ℕ) → Reading → Type 0
-ReadingsOf copies r = (copy : List ℕ) × Contains copies copy × Gives copy r
+ReadingsOf copies r = (copy : List ℕ) × Contains copies copy × GivesReading copy r
 
 -- the course of the copy takes a frame of this shape
 abbrev pub HasShape : PictureShape → List ℕ → Type 0

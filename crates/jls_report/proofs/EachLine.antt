@@ -6,11 +6,11 @@ use Rattle.std.proofs.lemmas.Bool.{and_parts, eqb-true, ne_eqb, leb-true, le-leb
 use Rattle.std.proofs.lemmas.List.Sums.{sum_by-append, sum_by-cons}
 use Rattle.jls_partial.specs.Partial.{PartialPicture}
 use Rattle.jls_partial.specs.PartialLaws.{eqb_itself}
-use Rattle.jls_report.specs.declared.entry.Entry.{Entry}
-use Rattle.jls_report.specs.declared.entry.Entry.TheVariants.{Missing, Disputed}
-use Rattle.jls_report.specs.Lines.{components, lines, reading_count, is_missing, is_settled, is_disputed}
+use Rattle.jls_report.specs.declared.entry.ReportEntry.{ReportEntry}
+use Rattle.jls_report.specs.declared.entry.ReportEntry.TheVariants.{Missing, Disputed}
+use Rattle.jls_report.specs.Lines.{components, lines, reading_count, is_missing, is_settled_line, is_disputed}
 use Rattle.jls_report.specs.Ranges.{IsLongestRange, EachLineOnce, speaks_of}
-use Rattle.jls_report.specs.Report.{begins_range, missing_from, entries_at, component_entries, entries}
+use Rattle.jls_report.specs.Report.{begins_range, missing_from, entries_at, component_entries, report_entries}
 use Rattle.jls_report.proofs.LongestRanges.{range_is_longest, no_range, first_or}
 
 -- ---- counting in a list that is made number by number
@@ -151,10 +151,10 @@ module _ (p : PartialPicture) (component line : ℕ) (component_in : component <
   abbrev last_of : ℕ → ℕ → ℕ
   last_of c l = l + missing_from p c l - 1
 
-  abbrev range_at : ℕ → ℕ → Entry
+  abbrev range_at : ℕ → ℕ → ReportEntry
   range_at c l = Missing c l (last_of c l)
 
-  abbrev dispute_at : ℕ → ℕ → Entry
+  abbrev dispute_at : ℕ → ℕ → ReportEntry
   dispute_at c l = Disputed c l (reading_count p c l)
 
   spoken_is : (c l : ℕ) → spoken c l
@@ -174,7 +174,7 @@ module _ (p : PartialPicture) (component line : ℕ) (component_in : component <
   )
 
   -- all entries that speak of the line, if none but those that begin with this one do
-  total : (l : ℕ) → l < p.shape.height → ((k : ℕ) → k < p.shape.height → (k ≡ l → ⊥) → Unspoken component k) → count_by (speaks_of component line) (entries p) ≡ spoken component l
+  total : (l : ℕ) → l < p.shape.height → ((k : ℕ) → k < p.shape.height → (k ≡ l → ⊥) → Unspoken component k) → count_by (speaks_of component line) (report_entries p) ≡ spoken component l
   total l within others =
       let in_component : (c : ℕ) → count_by (speaks_of component line) (component_entries p c) ≡ sum_by (spoken c) (lines p.shape) = λ c. count_over (speaks_of component line) (entries_at p c) (lines p.shape) in
       let c_is : 0 + component ≡ component = omega arith in
@@ -200,7 +200,7 @@ module _ (p : PartialPicture) (component line : ℕ) (component_in : component <
   read_line some l within begins speaks =
       let none = eqb-true (reading_count p component line) 0 (is_missing_there l within begins speaks).1 in omega (arith, none)
 
-  settled_line : reading_count p component line ≡ 1 → count_by (speaks_of component line) (entries p) ≡ 0
+  settled_line : reading_count p component line ≡ 1 → count_by (speaks_of component line) (report_entries p) ≡ 0
   settled_line one =
       total line line_in (λ k within ne. silent k within) ∙ unspoken component line (silent line line_in)
     where
@@ -214,7 +214,7 @@ module _ (p : PartialPicture) (component line : ℕ) (component_in : component <
             omega (arith, several, same),
       )
 
-  disputed_line : 2 ≤ reading_count p component line → count_by (speaks_of component line) (entries p) ≡ 1
+  disputed_line : 2 ≤ reading_count p component line → count_by (speaks_of component line) (report_entries p) ≡ 1
   disputed_line several =
       total line line_in (λ k within ne. (read_line (omega arith) k within, λ disputed speaks. ne (is_line component line component k (reading_count p component k) speaks).1))
       ∙ spoken_is component line
@@ -237,7 +237,7 @@ module _ (p : PartialPicture) (component line : ℕ) (component_in : component <
           is_missing_at (inl before) = at.each (last + 1) (let rising = range.rising in omega arith) before
           is_missing_at (inr reached) = let same : last + 1 ≡ line = omega arith in ap (is_missing p component) same ∙ missing
 
-  missing_line : reading_count p component line ≡ 0 → count_by (speaks_of component line) (entries p) ≡ 1
+  missing_line : reading_count p component line ≡ 0 → count_by (speaks_of component line) (report_entries p) ≡ 1
   missing_line none =
       let missing : is_missing p component line ≡ true = ap (λ n. n == 0) none in
       let start = beginning (is_missing p component) line in
@@ -277,16 +277,16 @@ pub each_line_once : EachLineOnce
 each_line_once p component line component_in line_in =
     one_way (three_ways (reading_count p component line))
   where
-    one_way : (reading_count p component line ≡ 0) ⊎ ((reading_count p component line ≡ 1) ⊎ (2 ≤ reading_count p component line)) → one_if (is_settled p component line) + count_by (speaks_of component line) (entries p) ≡ 1
+    one_way : (reading_count p component line ≡ 0) ⊎ ((reading_count p component line ≡ 1) ⊎ (2 ≤ reading_count p component line)) → one_if (is_settled_line p component line) + count_by (speaks_of component line) (report_entries p) ≡ 1
     one_way (inl none) =
-        let settled : is_settled p component line ≡ false = ne_eqb (reading_count p component line) 1 (λ e. omega arith) in
-        let zero_settled : one_if (is_settled p component line) ≡ 0 = ap one_if settled in
+        let settled : is_settled_line p component line ≡ false = ne_eqb (reading_count p component line) 1 (λ e. omega arith) in
+        let zero_settled : one_if (is_settled_line p component line) ≡ 0 = ap one_if settled in
         omega (arith, zero_settled, missing_line p component line component_in line_in none)
     one_way (inr (inl one)) =
-        let settled : is_settled p component line ≡ true = ap (λ n. n == 1) one in
-        let one_settled : one_if (is_settled p component line) ≡ 1 = ap one_if settled in
+        let settled : is_settled_line p component line ≡ true = ap (λ n. n == 1) one in
+        let one_settled : one_if (is_settled_line p component line) ≡ 1 = ap one_if settled in
         omega (arith, one_settled, settled_line p component line component_in line_in one)
     one_way (inr (inr several)) =
-        let settled : is_settled p component line ≡ false = ne_eqb (reading_count p component line) 1 (λ e. omega arith) in
-        let zero_settled : one_if (is_settled p component line) ≡ 0 = ap one_if settled in
+        let settled : is_settled_line p component line ≡ false = ne_eqb (reading_count p component line) 1 (λ e. omega arith) in
+        let zero_settled : one_if (is_settled_line p component line) ≡ 0 = ap one_if settled in
         omega (arith, zero_settled, disputed_line p component line component_in line_in several)

@@ -6,11 +6,11 @@ use Rattle.std.proofs.lemmas.Bool.{and_parts, ne_eqb, leb-true, le-leb}
 use Rattle.std.proofs.lemmas.List.FromFn.{get_or-range_with_len, length-range_with_len}
 use Rattle.std.proofs.lemmas.List.Sums.{prefix_len_passes, prefix_len_stops, prefix_len-le-length}
 use Rattle.jls_partial.specs.Partial.{PartialPicture}
-use Rattle.jls_report.specs.declared.entry.Entry.{Entry}
-use Rattle.jls_report.specs.declared.entry.Entry.TheVariants.{Missing, Disputed}
+use Rattle.jls_report.specs.declared.entry.ReportEntry.{ReportEntry}
+use Rattle.jls_report.specs.declared.entry.ReportEntry.TheVariants.{Missing, Disputed}
 use Rattle.jls_report.specs.Lines.{reading_count, is_missing, is_disputed}
 use Rattle.jls_report.specs.Ranges.{IsLongestRange, IsDisputedLine, RangesAreLongest, DisputedAreListed}
-use Rattle.jls_report.specs.Report.{begins_range, missing_from, entries_at, component_entries, entries}
+use Rattle.jls_report.specs.Report.{begins_range, missing_from, entries_at, component_entries, report_entries}
 use Rattle.jls_report.proofs.Members.{found_over, member_over, one_of, first_of_two, second_of_two}
 use Rattle.jls_report.proofs.RangeEnds.{prefix_is}
 
@@ -109,7 +109,7 @@ longest_ends p component first last range =
 -- ---- the laws
 
 -- an entry of a report begins with a line of a component
-pub found_at : (p : PartialPicture) (e : Entry) → Contains (entries p) e → (component line : ℕ) × (component < length p.shape.ids) × (line < p.shape.height) × Contains (entries_at p component line) e
+pub found_at : (p : PartialPicture) (e : ReportEntry) → Contains (report_entries p) e → (component line : ℕ) × (component < length p.shape.ids) × (line < p.shape.height) × Contains (entries_at p component line) e
 found_at p e there =
     let of_component = found_over (component_entries p) 0 (length p.shape.ids) e there in
     let of_line = found_over (entries_at p of_component.0) 0 p.shape.height e of_component.2 in
@@ -117,7 +117,7 @@ found_at p e there =
     let line_in : of_line.0 < p.shape.height = omega (arith, of_line.1) in
     (of_component.0, of_line.0, component_in, line_in, of_line.2)
 
-pub listed_at : (p : PartialPicture) (e : Entry) (component line : ℕ) → component < length p.shape.ids → line < p.shape.height → Contains (entries_at p component line) e → Contains (entries p) e
+pub listed_at : (p : PartialPicture) (e : ReportEntry) (component line : ℕ) → component < length p.shape.ids → line < p.shape.height → Contains (entries_at p component line) e → Contains (report_entries p) e
 listed_at p e component line component_in line_in here =
     let c_is : 0 + component ≡ component = omega arith in
     let l_is : 0 + line ≡ line = omega arith in

@@ -2,10 +2,10 @@
 use Rattle.std.proofs.Common.{ℕ, zero, suc, ◌+◌, ◌-◌, ◌<◌, Bool, true, false, cond, List, [], ◌∷◌, ◌++◌, length, arith}
 use Rattle.std.specs.List.{range_with_len, flat_map, AllByRecursion}
 use Rattle.jls_partial.specs.Partial.{PartialPicture}
-use Rattle.jls_report.specs.declared.entry.Entry.{Entry}
-use Rattle.jls_report.specs.declared.entry.Entry.TheVariants.{Missing, Disputed}
+use Rattle.jls_report.specs.declared.entry.ReportEntry.{ReportEntry}
+use Rattle.jls_report.specs.declared.entry.ReportEntry.TheVariants.{Missing, Disputed}
 use Rattle.jls_report.specs.Lines.{reading_count, is_disputed}
-use Rattle.jls_report.specs.Report.{begins_range, missing_from, entries_at, component_entries, entries, component_of, AreOfShape}
+use Rattle.jls_report.specs.Report.{begins_range, missing_from, entries_at, component_entries, report_entries, component_of, AreOfShape}
 
 all-append : {X : Type 0} (P : X → Type 0) (xs ys : List X) → AllByRecursion P xs → AllByRecursion P ys → AllByRecursion P (xs ++ ys)
 all-append P [] ys p q = q
@@ -16,7 +16,7 @@ all-over P f a zero each = tt
 all-over P f a (suc n) each =
     all-append P (f a) (flat_map f (range_with_len (a + 1) n)) (each a (omega arith)) (all-over P f (a + 1) n (λ k below. each k (omega arith)))
 
-abbrev IsOf : ℕ → Entry → Type 0
+abbrev IsOf : ℕ → ReportEntry → Type 0
 IsOf n e = component_of e < n
 
 -- the entry of a line, whichever it is
@@ -26,7 +26,7 @@ either_is n component first last line readings true d within = (within, tt)
 either_is n component first last line readings false true within = (within, tt)
 either_is n component first last line readings false false within = tt
 
-pub of_shape : (p : PartialPicture) → AreOfShape p.shape (entries p)
+pub of_shape : (p : PartialPicture) → AreOfShape p.shape (report_entries p)
 of_shape p =
     let n : ℕ = length p.shape.ids in
     all-over (IsOf n) (component_entries p) 0 n (λ component below.

@@ -7,8 +7,8 @@ use Rattle.jls_values.specs.Shape.{PictureShape}
 use Rattle.jls_partial.specs.Partial.{PartialPicture, without_sources}
 use Rattle.jls_partial.specs.Reading.{Reading, reading_of, reading_cmp}
 use Rattle.jls_partial.specs.ReadingOrder.{reading_total}
-use Rattle.jls_report.specs.declared.entry.Entry.TheVariants.{Missing, Disputed}
-use Rattle.jls_report.specs.Report.{entries, report_of}
+use Rattle.jls_report.specs.declared.entry.ReportEntry.TheVariants.{Missing, Disputed}
+use Rattle.jls_report.specs.Report.{report_entries, report_of}
 
 -- ten lines of one sample of 8 bits
 abbrev ten_lines : PictureShape
@@ -26,7 +26,7 @@ three_rise = ((refl, (refl, tt)), ((refl, tt), (tt, tt)))
 abbrev seven_missing : PartialPicture
 seven_missing = without_sources ten_lines (set.from_list three_read)
 
-one_range : entries seven_missing ≡ Missing 0 1 7 ∷ []
+one_range : report_entries seven_missing ≡ Missing 0 1 7 ∷ []
 one_range = rw (items-from_list reading_total three_read three_rise) refl
 
 its_report : report_of seven_missing ≡ record { shape = ten_lines; settled = 3; missing = 7; disputed = 0; entries = Missing 0 1 7 ∷ [] }
@@ -47,7 +47,7 @@ two_rise = ((refl, tt), (tt, tt))
 abbrev one_disputed : PartialPicture
 one_disputed = without_sources four_lines (set.from_list two_read)
 
-range_dispute_range : entries one_disputed ≡ Missing 0 0 0 ∷ Disputed 0 1 2 ∷ Missing 0 2 3 ∷ []
+range_dispute_range : report_entries one_disputed ≡ Missing 0 0 0 ∷ Disputed 0 1 2 ∷ Missing 0 2 3 ∷ []
 range_dispute_range = rw (items-from_list reading_total two_read two_rise) refl
 
 that_report : report_of one_disputed ≡ record { shape = four_lines; settled = 0; missing = 3; disputed = 1; entries = Missing 0 0 0 ∷ Disputed 0 1 2 ∷ Missing 0 2 3 ∷ [] }

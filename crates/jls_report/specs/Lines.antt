@@ -19,8 +19,8 @@ reading_count p component line = length (readings_at p component line)
 abbrev pub is_missing : PartialPicture → ℕ → ℕ → Bool
 is_missing p component line = reading_count p component line == 0
 
-abbrev pub is_settled : PartialPicture → ℕ → ℕ → Bool
-is_settled p component line = reading_count p component line == 1
+abbrev pub is_settled_line : PartialPicture → ℕ → ℕ → Bool
+is_settled_line p component line = reading_count p component line == 1
 
 abbrev pub is_disputed : PartialPicture → ℕ → ℕ → Bool
 is_disputed p component line = nat_lt 1 (reading_count p component line)

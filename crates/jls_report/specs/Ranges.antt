@@ -1,10 +1,10 @@
 -- What the entries of a report say of each line.
 use Rattle.std.specs.Prelude.{◌≡◌, ℕ, ◌+◌, ◌*◌, ◌<◌, ◌≤◌, ◌↔◌, Bool, true, false, ◌&&◌, ◌==◌, nat_le, length, count_by, Contains, if◌then◌else◌}
 use Rattle.jls_partial.specs.Partial.{PartialPicture}
-use Rattle.jls_report.specs.declared.entry.Entry.{Entry}
-use Rattle.jls_report.specs.declared.entry.Entry.TheVariants.{Missing, Disputed}
-use Rattle.jls_report.specs.Lines.{line_count, reading_count, is_missing, is_settled, is_disputed}
-use Rattle.jls_report.specs.Report.{entries}
+use Rattle.jls_report.specs.declared.entry.ReportEntry.{ReportEntry}
+use Rattle.jls_report.specs.declared.entry.ReportEntry.TheVariants.{Missing, Disputed}
+use Rattle.jls_report.specs.Lines.{line_count, reading_count, is_missing, is_settled_line, is_disputed}
+use Rattle.jls_report.specs.Report.{report_entries}
 
 -- a longest range of missing lines: its lines are all missing, and the line above it and the line below it, where there are
 -- such, are not
@@ -26,25 +26,25 @@ pub record IsDisputedLine (p : PartialPicture) (component line readings : ℕ) :
 -- the ranges of a report are the longest ranges of missing lines, and no others
 abbrev pub RangesAreLongest : Type 0
 RangesAreLongest = (p : PartialPicture) (component first last : ℕ)
-    → Contains (entries p) (Missing component first last) ↔ IsLongestRange p component first last
+    → Contains (report_entries p) (Missing component first last) ↔ IsLongestRange p component first last
 
 -- its disputed lines are those of the picture, and no others
 abbrev pub DisputedAreListed : Type 0
 DisputedAreListed = (p : PartialPicture) (component line readings : ℕ)
-    → Contains (entries p) (Disputed component line readings) ↔ IsDisputedLine p component line readings
+    → Contains (report_entries p) (Disputed component line readings) ↔ IsDisputedLine p component line readings
 
 -- whether an entry speaks of a line
-abbrev pub speaks_of : ℕ → ℕ → Entry → Bool
+abbrev pub speaks_of : ℕ → ℕ → ReportEntry → Bool
 speaks_of component line (Missing c first last) = c == component && (nat_le first line && nat_le line last)
 speaks_of component line (Disputed c l readings) = c == component && l == line
 
 -- each line is settled, or an entry speaks of it: one of these holds, and no second entry speaks of it
 abbrev pub EachLineOnce : Type 0
 EachLineOnce = (p : PartialPicture) (component line : ℕ) → component < length p.shape.ids → line < p.shape.height
-    → (if is_settled p component line then 1 else 0) + count_by (speaks_of component line) (entries p) ≡ 1
+    → (if is_settled_line p component line then 1 else 0) + count_by (speaks_of component line) (report_entries p) ≡ 1
 
 -- the three numbers are those of all lines
 abbrev pub CountsAreAllLines : Type 0
 CountsAreAllLines = (p : PartialPicture) →
-    line_count p.shape (is_settled p) + line_count p.shape (is_missing p) + line_count p.shape (is_disputed p)
+    line_count p.shape (is_settled_line p) + line_count p.shape (is_missing p) + line_count p.shape (is_disputed p)
     ≡ length p.shape.ids * p.shape.height

@@ -3,8 +3,8 @@
 use Rattle.std.specs.Prelude.{ℕ, List, ◌++◌, codes, decimal, get_or}
 use Rattle.std.specs.List.{flat_map, join_by}
 use Rattle.jls_values.specs.Shape.{PictureShape}
-use Rattle.jls_report.specs.declared.entry.Entry.{Entry}
-use Rattle.jls_report.specs.declared.entry.Entry.TheVariants.{Missing, Disputed}
+use Rattle.jls_report.specs.declared.entry.ReportEntry.{ReportEntry}
+use Rattle.jls_report.specs.declared.entry.ReportEntry.TheVariants.{Missing, Disputed}
 use Rattle.jls_report.specs.Report.{PictureReport}
 
 -- the identifier of a component, of which there are these
@@ -26,7 +26,7 @@ counts_line r =
     codes "settled " ++ decimal r.settled ++ codes ", missing " ++ decimal r.missing
     ++ codes ", disputed " ++ decimal r.disputed ++ codes "\n"
 
-abbrev pub entry_line : List ℕ → Entry → List ℕ
+abbrev pub entry_line : List ℕ → ReportEntry → List ℕ
 entry_line ids (Missing component first last) =
     codes "missing " ++ id_text ids component ++ codes " " ++ decimal first ++ codes "-" ++ decimal last ++ codes "\n"
 entry_line ids (Disputed component line readings) =

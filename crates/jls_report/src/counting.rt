@@ -1,6 +1,6 @@
 //! Counting lines by their status.
 
-ghost use Rattle.jls_report.specs.Lines.{line_count, lines, is_settled, is_missing, is_disputed};
+ghost use Rattle.jls_report.specs.Lines.{line_count, lines, is_settled_line, is_missing, is_disputed};
 ghost use Rattle.std.specs.Prelude.{◌≡◌, ◌<◌, ◌≤◌, length, count_by};
 
 use jls_partial::Partial;
@@ -23,7 +23,7 @@ const NONE: Counts = Counts {
 #[tactic(auto, using(crate::proofs::OneMore::count_by_more))]
 fn count_component(partial: &Partial, component: u8) -> Counts
     requires { component < length partial.now.shape.ids }
-    ensures settled { result.settled ≡ count_by (is_settled partial.now component) (lines partial.now.shape) }
+    ensures settled { result.settled ≡ count_by (is_settled_line partial.now component) (lines partial.now.shape) }
     ensures missing { result.missing ≡ count_by (is_missing partial.now component) (lines partial.now.shape) }
     ensures disputed { result.disputed ≡ count_by (is_disputed partial.now component) (lines partial.now.shape) }
     ensures settled_within { result.settled ≤ partial.now.shape.height }
@@ -44,7 +44,7 @@ fn count_component(partial: &Partial, component: u8) -> Counts
 /// The numbers over all components.
 #[tactic(auto, using(crate::proofs::OneMore::sum_by_more))]
 pub(crate) fn count_lines(partial: &Partial) -> Counts
-    ensures settled { result.settled ≡ line_count partial.now.shape (is_settled partial.now) }
+    ensures settled { result.settled ≡ line_count partial.now.shape (is_settled_line partial.now) }
     ensures missing { result.missing ≡ line_count partial.now.shape (is_missing partial.now) }
     ensures disputed { result.disputed ≡ line_count partial.now.shape (is_disputed partial.now) }
 {

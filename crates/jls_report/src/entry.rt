@@ -2,7 +2,7 @@
 
 /// What a report says of lines that aren't settled. A component is named by its index in the frame.
 #[derive(Clone, Copy, Debug, PartialEq, Eq)]
-pub enum Entry {
+pub enum ReportEntry {
     /// The lines from `first` to `last` have no reading. The lines next to them have readings, or there are none.
     Missing {
         component: u8,

@@ -1,11 +1,11 @@
 //! Finding the longest ranges of missing lines, and the disputed lines.
 
 ghost use Rattle.jls_report.specs.Lines.{is_missing};
-ghost use Rattle.jls_report.specs.Report.{missing_from, entries_at, component_entries, entries};
+ghost use Rattle.jls_report.specs.Report.{missing_from, entries_at, component_entries, report_entries};
 ghost use Rattle.std.specs.Option.{option_to_list};
 ghost use Rattle.std.specs.Prelude.{◌≡◌, ◌+◌, ◌-◌, ◌<◌, ◌++◌, true, length, IfOk, OnOk};
 
-use crate::entry::Entry;
+use crate::entry::ReportEntry;
 use jls_partial::Partial;
 use std::alloc::{AllocError, Global};
 
@@ -35,14 +35,14 @@ fn end_of_range(partial: &Partial, component: u8, first: u16) -> u16
 }
 
 /// The entry that begins with a line, where one does.
-fn entry_at(partial: &Partial, component: u8, line: u16) -> Option<Entry>
+fn entry_at(partial: &Partial, component: u8, line: u16) -> Option<ReportEntry>
     requires component_in { component < length partial.now.shape.ids }
     requires line_in { line < partial.now.shape.height }
     ensures { option_to_list result ≡ entries_at partial.now component line }
 {
     if begins_range(partial, component, line) {
         let last = end_of_range(partial, component, line);
-        return Some(Entry::Missing {
+        return Some(ReportEntry::Missing {
             component,
             first: line,
             last,
@@ -50,7 +50,7 @@ fn entry_at(partial: &Partial, component: u8, line: u16) -> Option<Entry>
     }
     match partial.count(component, line) {
         0 | 1 => None,
-        readings => Some(Entry::Disputed {
+        readings => Some(ReportEntry::Disputed {
             component,
             line,
             readings,
@@ -60,7 +60,7 @@ fn entry_at(partial: &Partial, component: u8, line: u16) -> Option<Entry>
 
 /// Appends the entry that begins with a line, where one does.
 fn push_line(
-    found: &mut Vec<Entry>,
+    found: &mut Vec<ReportEntry>,
     partial: &Partial,
     component: u8,
     line: u16,
@@ -80,7 +80,7 @@ fn push_line(
 
 /// Appends the entries of a component.
 fn push_component(
-    found: &mut Vec<Entry>,
+    found: &mut Vec<ReportEntry>,
     partial: &Partial,
     component: u8,
 ) -> Result<(), AllocError>
@@ -95,8 +95,8 @@ fn push_component(
 
 /// The entries of all components.
 #[tactic(auto, using(crate::proofs::OneMore::flat_map_more))]
-pub(crate) fn find_entries(alloc: Global, partial: &Partial) -> Result<Vec<Entry>, AllocError>
-    ensures { IfOk result (λ found. found.items ≡ entries partial.now) }
+pub(crate) fn find_entries(alloc: Global, partial: &Partial) -> Result<Vec<ReportEntry>, AllocError>
+    ensures { IfOk result (λ found. found.items ≡ report_entries partial.now) }
 {
     let mut found = Vec::new(alloc);
     for component in 0..partial.shape().ids().len() as u8 {

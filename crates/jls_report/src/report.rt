@@ -4,7 +4,7 @@ ghost use Rattle.jls_report.specs.Report.{report_of, AreOfShape};
 ghost use Rattle.std.specs.Prelude.{◌≡◌, IfOk};
 
 use crate::counting::{Counts, count_lines};
-use crate::entry::Entry;
+use crate::entry::ReportEntry;
 use crate::ranges::find_entries;
 use jls_partial::Partial;
 use jls_values::Shape;
@@ -17,7 +17,7 @@ use std::marker::Model;
 pub struct Report {
     shape: Shape,
     counts: Counts,
-    entries: Vec<Entry>,
+    entries: Vec<ReportEntry>,
 }
 
 impl Model for Report {
@@ -79,7 +79,7 @@ impl Report {
 
     /// The longest ranges of missing lines and the disputed lines, by component in the order of the frame, and then by
     /// line. Each is of a component of the shape.
-    pub fn entries(&self) -> &[Entry]
+    pub fn entries(&self) -> &[ReportEntry]
         ensures value { result.now ≡ self.now.entries }
         ensures of_shape { AreOfShape self.now.shape self.now.entries }
     {

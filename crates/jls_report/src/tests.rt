@@ -1,6 +1,6 @@
 //! Reports of small pictures, worked out by hand.
 
-use crate::{Entry, Report};
+use crate::{Report, ReportEntry};
 use jls_partial::Partial;
 use jls_values::Shape;
 use std::alloc::Global;
@@ -132,12 +132,12 @@ fn as_a_value(rt: HostRuntime) -> Result<(), Fail> {
     let partial = partial_of(alloc, 4, &[5], &[(0, 2, 1), (0, 2, 2), (0, 3, 0)])?;
     let report = Report::of(alloc, &partial)?;
     let entries = [
-        Entry::Missing {
+        ReportEntry::Missing {
             component: 0,
             first: 0,
             last: 1,
         },
-        Entry::Disputed {
+        ReportEntry::Disputed {
             component: 0,
             line: 2,
             readings: 2,

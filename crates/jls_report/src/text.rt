@@ -5,7 +5,7 @@ ghost use Rattle.jls_report.specs.ReportText.{size_text, precision_text, shape_l
 ghost use Rattle.std.specs.List.{flat_map, join_by, AllByRecursion};
 ghost use Rattle.std.specs.Prelude.{◌≡◌, ◌<◌, ◌≤◌, ◌++◌, length, codes, decimal, IfOk, OnOk};
 
-use crate::entry::Entry;
+use crate::entry::ReportEntry;
 use crate::report::Report;
 use itoa::Buffer;
 use jls_values::Shape;
@@ -82,12 +82,12 @@ fn put_counts(out: &mut Vec<u8>, report: &Report) -> Result<(), AllocError>
 }
 
 /// Appends a word, two numbers, and what stands between them: the identifier is that of the component.
-fn put_entry(out: &mut Vec<u8>, ids: &[u8], entry: Entry) -> Result<(), AllocError>
+fn put_entry(out: &mut Vec<u8>, ids: &[u8], entry: ReportEntry) -> Result<(), AllocError>
     requires { component_of entry < length ids.now }
     ensures { OnOk result (out.new.items ≡ out.old.items ++ entry_line ids.now entry) }
 {
     match entry {
-        Entry::Missing {
+        ReportEntry::Missing {
             component,
             first,
             last,
@@ -99,7 +99,7 @@ fn put_entry(out: &mut Vec<u8>, ids: &[u8], entry: Entry) -> Result<(), AllocErr
             out.extend_from_slice(b"-")?;
             put_number(out, u64::from(last))?;
         }
-        Entry::Disputed {
+        ReportEntry::Disputed {
             component,
             line,
             readings,
@@ -118,7 +118,7 @@ fn put_entry(out: &mut Vec<u8>, ids: &[u8], entry: Entry) -> Result<(), AllocErr
 
 /// Appends the lines of the entries.
 #[tactic(auto, using(crate::proofs::OneMore::flat_map_take_more))]
-fn put_entries(out: &mut Vec<u8>, ids: &[u8], entries: &[Entry]) -> Result<(), AllocError>
+fn put_entries(out: &mut Vec<u8>, ids: &[u8], entries: &[ReportEntry]) -> Result<(), AllocError>
     requires { AllByRecursion (λ entry. component_of entry < length ids.now) entries.now }
     ensures { OnOk result (out.new.items ≡ out.old.items ++ flat_map (entry_line ids.now) entries.now) }
 {
