@@ -23,7 +23,8 @@ fn push_row(
     requires row { row < part.now.picture.now.shape.height }
     ensures lines { OnOk result (map (λ v. v.items) lines.new.items
         ≡ map (λ v. v.items) lines.old.items ++ spec.row_lines part.now.picture.now (range_with_len part.now.first part.now.count) row) }
-    ensures each { OnOk result (AllByRecursion (IsLine part.now.options.params part.now.picture.now.shape.width) (map (λ v. v.items) lines.old.items)
+    ensures each { OnOk result (
+        AllByRecursion (IsLine part.now.options.params part.now.picture.now.shape.width) (map (λ v. v.items) lines.old.items)
         → AllByRecursion (IsLine part.now.options.params part.now.picture.now.shape.width) (map (λ v. v.items) lines.new.items)) }
 {
     for component in part.first..part.first + part.count {
@@ -43,8 +44,10 @@ fn copied_rows(
     requires order { first ≤ end }
     requires end { end ≤ part.now.picture.now.shape.height }
     ensures lines { IfOk result (λ lines. map (λ v. v.items) lines.items
-        ≡ flat_map (spec.row_lines part.now.picture.now (range_with_len part.now.first part.now.count)) (range_with_len first (end - first))) }
-    ensures each { IfOk result (λ lines. AllByRecursion (IsLine part.now.options.params part.now.picture.now.shape.width) (map (λ v. v.items) lines.items)) }
+        ≡ flat_map (spec.row_lines part.now.picture.now (range_with_len part.now.first part.now.count))
+        (range_with_len first (end - first))) }
+    ensures each { IfOk result (λ lines.
+        AllByRecursion (IsLine part.now.options.params part.now.picture.now.shape.width) (map (λ v. v.items) lines.items)) }
 {
     let mut lines = Vec::new(alloc);
     for row in first..end {
@@ -61,7 +64,9 @@ pub(crate) fn interval_code(
 ) -> Result<Vec<u8>, AllocError>
     requires part { IsScanFrom part.now.picture.now part.now.options part.now.first part.now.count }
     requires interval { interval < intervals (scan_from part.now.picture.now part.now.options part.now.first part.now.count) }
-    ensures { IfOk result (λ bytes. bytes.items ≡ spec.interval_code part.now.picture.now (scan_from part.now.picture.now part.now.options part.now.first part.now.count) interval) }
+    ensures { IfOk result (λ bytes. bytes.items
+        ≡ spec.interval_code part.now.picture.now
+        (scan_from part.now.picture.now part.now.options part.now.first part.now.count) interval) }
 {
     let (first, end) = part.rows(interval);
     let lines = copied_rows(alloc, part, first, end)?;
@@ -72,7 +77,8 @@ pub(crate) fn interval_code(
 /// SOS of the scan.
 fn scan_header(alloc: Global, part: &ScanPart<'_, '_>) -> Result<Vec<u8>, AllocError>
     requires part { IsScanFrom part.now.picture.now part.now.options part.now.first part.now.count }
-    ensures { IfOk result (λ bytes. bytes.items ≡ spec.bytes_of (spec.scan_segment part.now.picture.now (range_with_len part.now.first part.now.count))) }
+    ensures { IfOk result (λ bytes. bytes.items
+        ≡ spec.bytes_of (spec.scan_segment part.now.picture.now (range_with_len part.now.first part.now.count))) }
 {
     let first = usize::from(part.first);
     let ids = &part.picture.shape().ids()[first..first + usize::from(part.count)];
@@ -91,7 +97,9 @@ pub(crate) fn before_interval(
     interval: u32,
 ) -> Result<Vec<u8>, AllocError>
     requires part { IsScanFrom part.now.picture.now part.now.options part.now.first part.now.count }
-    ensures { IfOk result (λ bytes. bytes.items ≡ spec.before_interval part.now.picture.now (scan_from part.now.picture.now part.now.options part.now.first part.now.count) interval) }
+    ensures { IfOk result (λ bytes. bytes.items
+        ≡ spec.before_interval part.now.picture.now
+        (scan_from part.now.picture.now part.now.options part.now.first part.now.count) interval) }
 {
     if interval == 0 {
         return scan_header(alloc, part);

@@ -53,7 +53,8 @@ impl<'a, 'b> ScanPart<'a, 'b> {
     pub(crate) fn rows(&self, interval: u32) -> (u16, u16)
         requires { interval < intervals (scan_from self.now.picture.now self.now.options self.now.first self.now.count) }
         ensures first { result.0 ≡ first_row (scan_from self.now.picture.now self.now.options self.now.first self.now.count) interval }
-        ensures count { result.1 ≡ result.0 + row_count (scan_from self.now.picture.now self.now.options self.now.first self.now.count) interval }
+        ensures count { result.1
+            ≡ result.0 + row_count (scan_from self.now.picture.now self.now.options self.now.first self.now.count) interval }
         ensures within { result.1 ≤ self.now.picture.now.shape.height }
     {
         let height = u32::from(self.picture.shape().height());

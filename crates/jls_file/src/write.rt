@@ -24,8 +24,12 @@ fn marked_interval(
 ) -> Result<(Vec<u8>, Vec<u8>), AllocError>
     requires part { IsScanFrom part.now.picture.now part.now.options part.now.first part.now.count }
     requires interval { interval < intervals (scan_from part.now.picture.now part.now.options part.now.first part.now.count) }
-    ensures before { IfOk result (λ both. both.0.items ≡ spec.before_interval part.now.picture.now (scan_from part.now.picture.now part.now.options part.now.first part.now.count) interval) }
-    ensures code { IfOk result (λ both. both.1.items ≡ spec.interval_code part.now.picture.now (scan_from part.now.picture.now part.now.options part.now.first part.now.count) interval) }
+    ensures before { IfOk result (λ both. both.0.items
+        ≡ spec.before_interval part.now.picture.now
+        (scan_from part.now.picture.now part.now.options part.now.first part.now.count) interval) }
+    ensures code { IfOk result (λ both. both.1.items
+        ≡ spec.interval_code part.now.picture.now
+        (scan_from part.now.picture.now part.now.options part.now.first part.now.count) interval) }
 {
     let code = interval_code(alloc, part, interval)?;
     let before = before_interval(alloc, part, interval)?;
@@ -44,11 +48,15 @@ fn write_interval<W: Sink>(
     requires interval { interval < intervals (scan_from part.now.picture.now part.now.options part.now.first part.now.count) }
     requires early { before < 2 ^ 62 }
     ensures count { IfOk result (λ count. count ≡ before
-        + length (spec.marked_interval part.now.picture.now (scan_from part.now.picture.now part.now.options part.now.first part.now.count) interval)) }
+        + length (spec.marked_interval part.now.picture.now
+        (scan_from part.now.picture.now part.now.options part.now.first part.now.count) interval)) }
     ensures all { OnOk result (HandedOut (W.history sink.old) (W.history sink.new) (W.contents sink.old) (W.contents sink.new)
-        (spec.marked_interval part.now.picture.now (scan_from part.now.picture.now part.now.options part.now.first part.now.count) interval)) }
-    ensures stops { IfErr result (λ fault. StopsIn fault before (W.history sink.old) (W.history sink.new) (W.contents sink.old) (W.contents sink.new)
-        (spec.marked_interval part.now.picture.now (scan_from part.now.picture.now part.now.options part.now.first part.now.count) interval)) }
+        (spec.marked_interval part.now.picture.now
+        (scan_from part.now.picture.now part.now.options part.now.first part.now.count) interval)) }
+    ensures stops { IfErr result (λ fault. StopsIn fault before
+        (W.history sink.old) (W.history sink.new) (W.contents sink.old) (W.contents sink.new)
+        (spec.marked_interval part.now.picture.now
+        (scan_from part.now.picture.now part.now.options part.now.first part.now.count) interval)) }
 {
     match marked_interval(alloc, part, interval) {
         Err(_) => Err(OutputFault::OutOfMemory(before)),
@@ -72,7 +80,8 @@ fn write_scan<W: Sink>(
         + length (spec.scan_bytes part.now.picture.now (scan_from part.now.picture.now part.now.options part.now.first part.now.count))) }
     ensures all { OnOk result (HandedOut (W.history sink.old) (W.history sink.new) (W.contents sink.old) (W.contents sink.new)
         (spec.scan_bytes part.now.picture.now (scan_from part.now.picture.now part.now.options part.now.first part.now.count))) }
-    ensures stops { IfErr result (λ fault. StopsIn fault before (W.history sink.old) (W.history sink.new) (W.contents sink.old) (W.contents sink.new)
+    ensures stops { IfErr result (λ fault. StopsIn fault before
+        (W.history sink.old) (W.history sink.new) (W.contents sink.old) (W.contents sink.new)
         (spec.scan_bytes part.now.picture.now (scan_from part.now.picture.now part.now.options part.now.first part.now.count))) }
 {
     let mut count = before;
@@ -96,7 +105,8 @@ fn write_scans<W: Sink>(
     ensures count { IfOk result (λ count. count ≡ before + length (spec.scans_bytes picture.now options.now)) }
     ensures all { OnOk result (HandedOut (W.history sink.old) (W.history sink.new) (W.contents sink.old) (W.contents sink.new)
         (spec.scans_bytes picture.now options.now)) }
-    ensures stops { IfErr result (λ fault. StopsIn fault before (W.history sink.old) (W.history sink.new) (W.contents sink.old) (W.contents sink.new)
+    ensures stops { IfErr result (λ fault. StopsIn fault before
+        (W.history sink.old) (W.history sink.new) (W.contents sink.old) (W.contents sink.new)
         (spec.scans_bytes picture.now options.now)) }
 {
     let components = components_of_scan(picture, options);
@@ -125,7 +135,8 @@ pub fn write_jls<W: Sink>(
     requires { OptionsFit picture.now options.now }
     ensures all { OnOk result (HandedOut (W.history sink.old) (W.history sink.new) (W.contents sink.old) (W.contents sink.new)
         (spec.written_file picture.now options.now)) }
-    ensures stops { IfErr result (λ fault. StopsIn fault 0 (W.history sink.old) (W.history sink.new) (W.contents sink.old) (W.contents sink.new)
+    ensures stops { IfErr result (λ fault. StopsIn fault 0
+        (W.history sink.old) (W.history sink.new) (W.contents sink.old) (W.contents sink.new)
         (spec.written_file picture.now options.now)) }
 {
     match header_bytes(alloc, picture, options) {

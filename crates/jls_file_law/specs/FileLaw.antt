@@ -1,10 +1,10 @@
 -- A written file is read back: its course, and what its pieces give.
-use Rattle.std.specs.Prelude.{◌≡◌, ℕ, ◌^◌, ◌<◌, List, [], length, Some}
+use Rattle.std.specs.Prelude.{◌≡◌, ℕ, ◌^◌, ◌<◌, List, [], Some}
 use Rattle.jls_values.specs.OrderedSet as set
-use Rattle.jls_values.specs.Shape.{IsShape}
 use Rattle.jls_values.specs.Params.{AreCodingParameters}
 use Rattle.jls_partial.specs.Reading.{Reading}
-use Rattle.jls_picture.specs.Picture.{WholePicture, line_of}
+use Rattle.jls_picture.specs.Picture.{WholePicture}
+use Rattle.jls_picture.specs.WholePictures.{IsWholePicture}
 use Rattle.jls_picture.specs.Options.{WriteOptions, OptionsFit}
 use Rattle.jls_copy.specs.Course.{Course, IsCourse}
 use Rattle.jls_copy.specs.CutPieces.{cut_pieces}
@@ -14,12 +14,6 @@ use Rattle.jls_copy.specs.Pieces.{pieces, PieceOutcome, AreOutcomes, readings, r
 use Rattle.jls_copy.specs.declared.end.End.TheVariants.{Eoi}
 use Rattle.jls_file.specs.WrittenFile.{written_file}
 use Rattle.jls_file_law.specs.Covering.{written_readings, AreThePicture}
-
--- a picture in its ranges, each line as wide as the picture
-pub record IsWholePicture (pic : WholePicture) : Type 0 where
-  pub shape : IsShape pic.shape
-  pub widths : (component line : ℕ) → component < length pic.shape.ids → line < pic.shape.height
-      → length (line_of pic component line) ≡ pic.shape.width
 
 -- it can be written under these options
 pub record CanBeWritten (pic : WholePicture) (o : WriteOptions) : Type 0 where

@@ -16,7 +16,7 @@ use Rattle.jls_headline.proofs.TwoLineExamples.{shape, pic, bits_8, first, secon
 abbrev options : WriteOptions
 options = record { line = false; restart_interval = 1; params = bits_8 }
 
-are_parameters : AreCodingParameters bits_8
+pub are_parameters : AreCodingParameters bits_8
 are_parameters = record {
   precision_at_least = lit≤ tt;
   precision_at_most = lit≤ tt;

@@ -4,17 +4,19 @@ use Rattle.std.specs.Prelude.{filter, ◌==◌, ◌↔◌}
 use Rattle.std.specs.declared.cmp.Ordering.{Ordering}
 use Rattle.std.specs.declared.cmp.Ordering.TheVariants.{Less, Equal, Greater}
 use Rattle.std.specs.Ordering.{is_eq, is_lt, eq_by_cmp}
+use Rattle.std.specs.Cmp.{IsTotalOrder}
 use Rattle.std.specs.FinMap as fin
 use Rattle.std.specs.FinMap.Entries as sorted
 use Rattle.std.specs.List.{list_any, AllByRecursion, Contains}
 use Rattle.std.specs.List.Sorted.{IsStrictlySortedBy}
 use Rattle.std.proofs.lemmas.Bool.{and_parts, eqb-true, eq-eqb, cases_Bool}
 use Rattle.std.proofs.lemmas.Cmp.{tied_itself}
+use Rattle.std.proofs.lemmas.Map.Lookups.{CmpEqualImpliesEq}
 use Rattle.jls_values.specs.OrderedSet as set
 use Rattle.jls_values.specs.OrderedSetLaws.{contains-items, contains-insert_all, contains-empty}
 use Rattle.jls_partial.specs.Partial.{PartialPicture, readings_at}
 use Rattle.jls_partial.specs.Reading.{Reading, reading_cmp, reading_of}
-use Rattle.jls_partial.specs.ReadingOrder.{reading_total, same_reading}
+use Rattle.jls_partial.specs.ReadingOrder.{reading_total, reading_exact}
 use Rattle.jls_headline.proofs.Members.{is_first, in_rest, none_in, first_or_rest, in_map}
 
 abbrev pub ReadingSet : Type 0
@@ -33,26 +35,48 @@ or_second true c e = refl
 or_second false c e = e
 
 -- the test of a list tells its members
+module _ {K : Type 0} {R : K → K → Ordering} (total : IsTotalOrder R) (exact : CmpEqualImpliesEq R) where
+  one_item : (x y : K) → eq_by_cmp R x y ≡ true → x ≡ y
+  one_item x y e = exact x y (equal (R x y) e)
+    where
+      equal : (o : Ordering) → is_eq o ≡ true → o ≡ Equal
+      equal Less e = absurd cc
+      equal Equal e = refl
+      equal Greater e = absurd cc
+
+  pub any_of_item : (ks : List K) (k : K) → Contains ks k → list_any (eq_by_cmp R k) ks ≡ true
+  any_of_item [] k c = absurd (none_in k c)
+  any_of_item (q ∷ qs) k c =
+      elim (first_or_rest k q qs c) [
+        | inl e ↦ or_first (eq_by_cmp R k q) _ (subst (λ x. eq_by_cmp R k x ≡ true) (sym e) (ap is_eq (tied_itself total k)))
+        | inr later ↦ or_second (eq_by_cmp R k q) _ (any_of_item qs k later)
+      ]
+
+  pub item_of_any : (ks : List K) (k : K) → list_any (eq_by_cmp R k) ks ≡ true → Contains ks k
+  item_of_any [] k e = absurd cc
+  item_of_any (q ∷ qs) k e =
+      either (Contains (q ∷ qs) k) (eq_by_cmp R k q) (list_any (eq_by_cmp R k) qs)
+      (λ here. subst (λ x. Contains (q ∷ qs) x) (sym (one_item k q here)) (is_first q qs)) (λ later. in_rest k q qs (item_of_any qs k later)) e
+
+  -- a set made of a list holds the members of the list
+  pub set_of_list_holds : (ks : List K) (k : K) → (set.contains (set.insert_all {R = R} set.empty ks) k ≡ true) ↔ Contains ks k
+  set_of_list_holds ks k =
+      let told : set.contains (set.insert_all {R = R} set.empty ks) k ≡ list_any (eq_by_cmp R k) ks =
+      contains-insert_all total set.empty ks k ∙ ap (λ b. b || list_any (eq_by_cmp R k) ks) (contains-empty R k) in
+      (λ h. item_of_any ks k (sym told ∙ h), λ c. told ∙ any_of_item ks k c)
+
+  -- what a set holds are its items
+  pub set_holds_items : (s : set.OrderedSet R) (k : K) → (set.contains s k ≡ true) ↔ Contains (set.items s) k
+  set_holds_items s k = (λ h. item_of_any (set.items s) k (sym (contains-items s k) ∙ h), λ c. contains-items s k ∙ any_of_item (set.items s) k c)
+
 pub any_of_member : (rs : List Reading) (r : Reading) → Contains rs r → list_any (eq_by_cmp reading_cmp r) rs ≡ true
-any_of_member [] r c = absurd (none_in r c)
-any_of_member (q ∷ qs) r c =
-    elim (first_or_rest r q qs c) [
-      | inl e ↦ or_first (eq_by_cmp reading_cmp r q) _ (subst (λ x. eq_by_cmp reading_cmp r x ≡ true) (sym e) (ap is_eq (tied_itself reading_total r)))
-      | inr later ↦ or_second (eq_by_cmp reading_cmp r q) _ (any_of_member qs r later)
-    ]
+any_of_member = any_of_item reading_total reading_exact
 
-pub member_of_any : (rs : List Reading) (r : Reading) → list_any (eq_by_cmp reading_cmp r) rs ≡ true → Contains rs r
-member_of_any [] r e = absurd cc
-member_of_any (q ∷ qs) r e =
-    either (Contains (q ∷ qs) r) (eq_by_cmp reading_cmp r q) (list_any (eq_by_cmp reading_cmp r) qs)
-    (λ here. subst (λ x. Contains (q ∷ qs) x) (sym (same_reading r q here)) (is_first q qs)) (λ later. in_rest r q qs (member_of_any qs r later)) e
+member_of_any : (rs : List Reading) (r : Reading) → list_any (eq_by_cmp reading_cmp r) rs ≡ true → Contains rs r
+member_of_any = item_of_any reading_total reading_exact
 
--- a set made of a list holds the members of the list
 pub made_holds : (rs : List Reading) (r : Reading) → (set.contains (set.insert_all {R = reading_cmp} set.empty rs) r ≡ true) ↔ Contains rs r
-made_holds rs r =
-    let told : set.contains (set.insert_all {R = reading_cmp} set.empty rs) r ≡ list_any (eq_by_cmp reading_cmp r) rs =
-    contains-insert_all reading_total set.empty rs r ∙ ap (λ b. b || list_any (eq_by_cmp reading_cmp r) rs) (contains-empty reading_cmp r) in
-    (λ h. member_of_any rs r (sym told ∙ h), λ c. told ∙ any_of_member rs r c)
+made_holds = set_of_list_holds reading_total reading_exact
 
 -- Items in order -------------------------------------------------------------------------------------------------
 

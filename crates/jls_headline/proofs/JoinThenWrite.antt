@@ -37,7 +37,7 @@ use Rattle.jls_headline.specs.RunLaws.{AreNoTexts}
 use Rattle.jls_headline.specs.JoinThenWrite.{JoinsDamagedCopies, WrittenJoinsAreThePicture, WrittenJoinsReadAsThePicture, WrittenJoinsAreSettled}
 use Rattle.jls_headline.proofs.Members.{all_map}
 use Rattle.jls_headline.proofs.InputBytes.{ReadsNone, one_input, handed_out, output_of_join}
-use Rattle.jls_headline.proofs.JoinRuns.{framed_is_no_text, run_unmarked, runs_hold_exactly, runs_give_the_picture}
+use Rattle.jls_headline.proofs.JoinRuns.{framed_is_no_text, marks_of_run, runs_hold_exactly, runs_give_the_picture}
 use Rattle.jls_headline.proofs.JoinedTexts.{held_are_lines, its_text, text_given}
 
 -- The default parameters of a precision --------------------------------------------------------------------------
@@ -130,14 +130,15 @@ module _ (pic : WholePicture) (joining : List Event) (j : JoinsDamagedCopies pic
       (λ bytes d. framed_is_no_text bytes d.0 pic.shape d.1 d.2.framed) j.damaged
 
   gives : GivesPicture j.joined pic × FilesReadAs j.joined pic
-  gives = runs_give_the_picture None j.out j.names j.joined j.settled j.whole joining j.is_done pic j.is_picture j.damaged j.each_line
+  gives = runs_give_the_picture j.source j.out j.names j.joined j.settled j.whole joining j.is_done pic j.is_picture j.damaged j.each_line
 
   text_is : IsTextOf (text j.joined) j.joined
   text_is =
       its_text pic j.is_picture j.joined gives.0
       (held_are_lines pic j.joined (input_bytes joining)
-      (runs_hold_exactly None j.out j.names j.joined j.settled j.whole joining j.is_done none) j.damaged)
-      (run_unmarked None j.out j.names j.joined j.settled j.whole joining j.is_done none refl)
+      (runs_hold_exactly j.source j.out j.names j.joined j.settled j.whole joining j.is_done none) j.damaged)
+      (λ r source held. let m = marks_of_run j.source j.out j.names j.joined j.settled j.whole joining j.is_done none r source held in
+      (m.0, j.small source m.1))
 
   -- an input that gave the bytes of the output gave what was joined
   read_again : (name : List ℕ) (g : Given) (reading events : List Event) (taken : IsTaken None name g reading)
@@ -145,7 +146,7 @@ module _ (pic : WholePicture) (joining : List Event) (j : JoinsDamagedCopies pic
   read_again name g reading events taken e same =
       let is : taken.give.bytes ≡ text j.joined =
       only_of taken.give.bytes (text j.joined)
-      (sym e ∙ same ∙ output_of_join None j.out j.names j.joined j.settled j.whole joining j.is_done) in
+      (sym e ∙ same ∙ output_of_join j.source j.out j.names j.joined j.settled j.whole joining j.is_done) in
       text_given taken.give.bytes j.joined g (subst (λ bytes. IsTextOf bytes j.joined) (sym is) text_is) taken.give.gives
 
 -- The laws -------------------------------------------------------------------------------------------------------

@@ -5,11 +5,10 @@ use Rattle.std.specs.List.{list_any, AllByRecursion, Contains}
 use Rattle.std.proofs.lemmas.Bool.{cases_Bool, and_parts, eqb-true}
 use Rattle.std.proofs.lemmas.Bool.Decides.{nat_tests}
 use Rattle.jls_values.specs.OrderedSet as set
-use Rattle.jls_values.specs.OrderedSetLaws.{contains-items, contains-empty}
+use Rattle.jls_values.specs.OrderedSetLaws.{contains-items}
 use Rattle.jls_values.specs.Shape.{PictureShape, IsShape}
 use Rattle.jls_partial.specs.InsertFaults.{reading_fault, samples_fault}
-use Rattle.jls_partial.specs.Marks.{mark_cmp}
-use Rattle.jls_partial.specs.Reading.{Reading, reading_of, reading_cmp}
+use Rattle.jls_partial.specs.Reading.{Reading, reading_of}
 use Rattle.jls_partial.specs.Partial.{PartialPicture, readings_at}
 use Rattle.jls_partial.specs.Status.{status_of}
 use Rattle.jls_partial.specs.declared.status.Status.TheVariants.{Settled}
@@ -22,7 +21,8 @@ use Rattle.jls_station.specs.Texts.{is_text}
 use Rattle.jls_station.specs.Given.{Given, Gives, by_text, by_copy}
 use Rattle.jls_headline.specs.Damaged.{Damaged}
 use Rattle.jls_headline.specs.Stations.{HasShape, HoldsExactly}
-use Rattle.jls_headline.specs.ReadsAs.{IsLineIn, IsPicture, GivesPicture}
+use Rattle.jls_picture.specs.WholePictures.{IsLineIn, IsPicture}
+use Rattle.jls_headline.specs.ReadsAs.{GivesPicture}
 use Rattle.jls_headline.proofs.Members.{is_first, in_rest, all_at}
 use Rattle.jls_headline.proofs.Held.{any_of_member}
 use Rattle.jls_headline.proofs.LostIntervals.{damaged_copies_give_no_other}
@@ -100,16 +100,10 @@ held_are_lines pic p copies h damaged r held =
     damaged_copies_give_no_other pic from.0 of.0 (all_at (Damaged pic) copies from.0 damaged from.1) r from.2
 
 module _ (pic : WholePicture) (is : IsPicture pic) (p : PartialPicture) (gives : GivesPicture p pic)
-    (lines : (r : Reading) → set.contains p.readings r ≡ true → IsLineOf pic r) (unmarked : p.marks ≡ set.empty) where
+    (lines : (r : Reading) → set.contains p.readings r ≡ true → IsLineOf pic r)
+    (marks : (r : Reading) (source : ℕ) → set.contains p.marks (r, source) ≡ true → (set.contains p.readings r ≡ true) × (source < 2 ^ 32)) where
   same_shape : p.shape ≡ pic.shape
   same_shape = ap (λ (x : WholePicture). x.shape) gives.1
-
-  no_mark : {P : Type 0} (r : Reading) (source : ℕ) → set.contains p.marks (r, source) ≡ true → P
-  no_mark r source h =
-      let none : set.contains p.marks (r, source) ≡ false =
-      ap (λ (marks : set.OrderedSet (mark_cmp reading_cmp)). set.contains marks (r, source)) unmarked
-      ∙ contains-empty (mark_cmp reading_cmp) (r, source) in
-      let d : false ≡ true = sym none ∙ h in absurd cc
 
   few_readings : (component line : ℕ) → length (readings_at p component line) < 2 ^ 64
   few_readings component line =
@@ -139,8 +133,8 @@ module _ (pic : WholePicture) (is : IsPicture pic) (p : PartialPicture) (gives :
     fitting = λ component line samples held. subst (λ s. reading_fault s component line samples ≡ None) (sym same_shape)
         (picture_line_fits pic is (reading_of component line samples) (lines (reading_of component line samples) held));
     countable = few_readings;
-    marks_held = λ r source h. no_mark r source h;
-    sources_small = λ r source h. no_mark r source h;
+    marks_held = λ r source h. (marks r source h).0;
+    sources_small = λ r source h. (marks r source h).1;
   }
 
   -- its byte is 2

@@ -8,7 +8,9 @@ mod Trims
 mod Held
 mod CopyGives
 mod SameCopies
+mod Unions
 mod Stations
+mod SourcedStations
 mod Pictures
 mod WrittenFiles
 mod StationPictures
@@ -19,3 +21,4 @@ mod JoinThenWrite
 mod StationCalls
 mod TwoLineExamples
 mod FileExamples
+mod PremiseExamples

@@ -9,7 +9,8 @@ use Rattle.jls_copy.specs.Course.{Course}
 use Rattle.jls_copy.proofs.OneCourse.{one_course}
 use Rattle.jls_picture.specs.Picture.{WholePicture, line_of, settled_line}
 use Rattle.jls_headline.specs.PictureLines.{picture_reading}
-use Rattle.jls_headline.specs.ReadsAs.{IsComponentIn, IsPicture, GivesPicture}
+use Rattle.jls_picture.specs.WholePictures.{IsComponentIn, IsPicture}
+use Rattle.jls_headline.specs.ReadsAs.{GivesPicture}
 use Rattle.jls_headline.specs.HeadlineLaws.{FilesReadAsOne}
 use Rattle.jls_headline.proofs.ScansInRange.{same_frame}
 

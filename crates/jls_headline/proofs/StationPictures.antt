@@ -19,7 +19,8 @@ use Rattle.jls_headline.specs.PictureLines.{picture_reading}
 use Rattle.jls_headline.specs.Damaged.{Damaged}
 use Rattle.jls_headline.specs.Survives.{EachLineSurvives}
 use Rattle.jls_headline.specs.Stations.{HasShape, HoldsExactly}
-use Rattle.jls_headline.specs.ReadsAs.{IsPicture, GivesPicture}
+use Rattle.jls_picture.specs.WholePictures.{IsPicture}
+use Rattle.jls_headline.specs.ReadsAs.{GivesPicture}
 use Rattle.jls_headline.specs.HeadlineLaws.{SayTheSame, SameCopiesSameReadings, DamagedCopiesGiveThePicture, NeverAnotherPicture}
 use Rattle.jls_headline.proofs.Members.{all_at}
 use Rattle.jls_headline.proofs.ScansInRange.{same_frame}

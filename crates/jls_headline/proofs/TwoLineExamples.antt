@@ -40,7 +40,8 @@ use Rattle.jls_headline.specs.Gives.{GivesReading}
 use Rattle.jls_headline.specs.Damaged.{PiecesAre, Damaged}
 use Rattle.jls_headline.specs.Survives.{SomePieceIs, ReadsWithLine, SurvivesInUnit, Survives, EachLineSurvives}
 use Rattle.jls_headline.specs.Trimmed.{whole, front, TrimmedCopy}
-use Rattle.jls_headline.specs.ReadsAs.{IsPicture, GivesPicture, FilesReadAs}
+use Rattle.jls_picture.specs.WholePictures.{IsPicture}
+use Rattle.jls_headline.specs.ReadsAs.{GivesPicture, FilesReadAs}
 use Rattle.jls_headline.specs.Stations.{began, took_copy, TookInTheEnd}
 use Rattle.jls_headline.proofs.Members.{none_in}
 use Rattle.jls_headline.proofs.CopyGives.{copy_has_shape}
@@ -54,9 +55,12 @@ use Rattle.jls_headline.proofs.Trims.{trimmed_copies_are_damaged}
 abbrev pub shape : PictureShape
 shape = record { precision = 8; width = 1; height = 2; ids = 1 ∷ [] }
 
--- a column of the samples 0 and 255
+-- a column of the samples 0 and 255, and perhaps lines of more components than the shape has
+abbrev pub pic_and : List (List (List ℕ)) → WholePicture
+pic_and more = record { shape = shape; lines = ((0 ∷ []) ∷ (255 ∷ []) ∷ []) ∷ more }
+
 abbrev pub pic : WholePicture
-pic = record { shape = shape; lines = ((0 ∷ []) ∷ (255 ∷ []) ∷ []) ∷ [] }
+pic = pic_and []
 
 is_picture : IsPicture pic
 is_picture = record {
@@ -123,14 +127,14 @@ abbrev units_with : List ClosedPiece → List ℕ → List CopyUnit
 units_with closed last =
     segment 0 0xF7 frame_payload ∷ segment 0 0xDD (0 ∷ 1 ∷ []) ∷ scan 0 0xDA scan_payload plan closed last by_marker ∷ []
 
-abbrev course_with : List ClosedPiece → List ℕ → ℕ → Course
+abbrev pub course_with : List ClosedPiece → List ℕ → ℕ → Course
 course_with closed last end = record { begin = 2; units = units_with closed last; headers = final; end = Eoi end }
 
 abbrev lost_first : ClosedPiece
 lost_first = record { piece = []; fill = 0; mark = 0 }
 
 -- these copies have these courses
-first_course : IsCourse first (course_with [] (0x80 ∷ []) 32)
+pub first_course : IsCourse first (course_with [] (0x80 ∷ []) 32)
 unfolding headers_after index_of has_segment
 first_course =
     with_soi 0 _ (units_with [] (0x80 ∷ [])) final (Eoi 32) (
@@ -230,8 +234,8 @@ pieces_read = record {
 -- The premises are met -------------------------------------------------------------------------------------------
 
 -- each copy has only lost intervals and been trimmed: of the second's first piece no byte is left
-first_is_trimmed : TrimmedCopy pic first
-first_is_trimmed = (
+first_is_trimmed : (more : List (List (List ℕ))) → TrimmedCopy (pic_and more) first
+first_is_trimmed more = (
   course_with [] (0x80 ∷ []) 32,
   first_course,
   record {
@@ -240,8 +244,8 @@ first_is_trimmed = (
   },
 )
 
-second_is_trimmed : TrimmedCopy pic second
-second_is_trimmed = (
+second_is_trimmed : (more : List (List (List ℕ))) → TrimmedCopy (pic_and more) second
+second_is_trimmed more = (
   course_with (lost_first ∷ []) (0x40 ∷ []) 34,
   second_course,
   record {
@@ -268,23 +272,23 @@ second_is_trimmed = (
 )
 
 -- so they are damaged copies
-abbrev AreBytes : List ℕ → Type 0
+abbrev pub AreBytes : List ℕ → Type 0
 AreBytes copy = AllByRecursion (λ b. b < 256) copy
 
 -- a list of numbers that pass the test are bytes
-bytes_of_test : (bytes : List ℕ) → list_all (λ b. nat_lt b 256) bytes ≡ true → AreBytes bytes
+pub bytes_of_test : (bytes : List ℕ) → list_all (λ b. nat_lt b 256) bytes ≡ true → AreBytes bytes
 bytes_of_test [] e = tt
 bytes_of_test (b ∷ bytes) e = let p = and_parts (nat_lt b 256) (list_all (λ c. nat_lt c 256) bytes) e in (ltb-true _ _ p.0, bytes_of_test bytes p.1)
 
-both_are_damaged : AllByRecursion (Damaged pic) (first ∷ second ∷ [])
-both_are_damaged = (
-  trimmed_copies_are_damaged pic first (bytes_of_test first refl) first_is_trimmed,
-  (trimmed_copies_are_damaged pic second (bytes_of_test second refl) second_is_trimmed, tt),
+pub both_are_damaged : (more : List (List (List ℕ))) → AllByRecursion (Damaged (pic_and more)) (first ∷ second ∷ [])
+both_are_damaged more = (
+  trimmed_copies_are_damaged (pic_and more) first (bytes_of_test first refl) (first_is_trimmed more),
+  (trimmed_copies_are_damaged (pic_and more) second (bytes_of_test second refl) (second_is_trimmed more), tt),
 )
 
 -- and each line survives in one of them
-line_0 : Survives pic first 0 0
-line_0 = record {
+pub line_0 : (more : List (List (List ℕ))) → Survives (pic_and more) first 0 0
+line_0 more = record {
   course = course_with [] (0x80 ∷ []) 32;
   is_course = first_course;
   framed = refl;
@@ -293,8 +297,8 @@ line_0 = record {
   there = record { numbers = []; rise = tt; marks = tt; there = inl (((0, lit< tt, refl), (lit≤ tt, lit< tt)), pieces_read.zero_read) };
 }
 
-line_1 : Survives pic second 0 1
-line_1 = record {
+line_1 : (more : List (List (List ℕ))) → Survives (pic_and more) second 0 1
+line_1 more = record {
   course = course_with (lost_first ∷ []) (0x40 ∷ []) 34;
   is_course = second_course;
   framed = refl;
@@ -303,21 +307,21 @@ line_1 = record {
   there = record { numbers = 1 ∷ []; rise = (lit< tt, lit≤ tt, lit< tt, tt); marks = (tt, refl, tt); there = inl (inr (((0, lit< tt, refl), (lit≤ tt, lit< tt)), pieces_read.largest_read)) };
 }
 
-each_line_survives : EachLineSurvives pic (first ∷ second ∷ [])
-each_line_survives zero zero c l = (first, (0, lit< tt, refl), line_0)
-each_line_survives zero (suc zero) c l = (second, (1, lit< tt, refl), line_1)
-each_line_survives zero (suc (suc line)) c l = absurd (omega (arith, l))
-each_line_survives (suc component) line c l = absurd (omega (arith, c))
+pub each_line_survives : (more : List (List (List ℕ))) → EachLineSurvives (pic_and more) (first ∷ second ∷ [])
+each_line_survives more zero zero c l = (first, (0, lit< tt, refl), line_0 more)
+each_line_survives more zero (suc zero) c l = (second, (1, lit< tt, refl), line_1 more)
+each_line_survives more zero (suc (suc line)) c l = absurd (omega (arith, l))
+each_line_survives more (suc component) line c l = absurd (omega (arith, c))
 
 -- A new station that takes both has the picture ------------------------------------------------------------------
 
 -- what is read of a copy of this shape has the shape
-shape_read : (copy : List ℕ) (c : Course) (read : ReadCopy) → IsCourse copy c → c.headers.frame ≡ Some shape → CopyReads copy read → read.partial.shape ≡ shape
+pub shape_read : (copy : List ℕ) (c : Course) (read : ReadCopy) → IsCourse copy c → c.headers.frame ≡ Some shape → CopyReads copy read → read.partial.shape ≡ shape
 shape_read copy c read is framed reads =
     let s = copy_has_shape copy read reads in
     same_frame read.partial.shape shape (sym s.2 ∙ ap (λ (d : Course). d.headers.frame) (one_course copy s.0 c s.1 is) ∙ framed)
 
-took_both : (p : PartialPicture) (a b : ReadCopy) → p.shape ≡ shape → p.readings ≡ set.empty → CopyReads first a → CopyReads second b
+pub took_both : (p : PartialPicture) (a b : ReadCopy) → p.shape ≡ shape → p.readings ≡ set.empty → CopyReads first a → CopyReads second b
     → TookInTheEnd (union (union p b.partial) a.partial) (first ∷ second ∷ [])
 took_both p a b e new ra rb =
     let sa = shape_read first (course_with [] (0x80 ∷ []) 32) a first_course refl ra ∙ sym e in
@@ -333,7 +337,7 @@ pub picture_comes_back : (p : PartialPicture) (a b : ReadCopy) → p.shape ≡ s
     → GivesPicture (union (union p b.partial) a.partial) pic × FilesReadAs (union (union p b.partial) a.partial) pic
 picture_comes_back p a b e new ra rb =
     damaged_copies_give_the_picture pic is_picture (union (union p b.partial) a.partial) (first ∷ second ∷ []) (took_both p a b e new ra rb)
-    both_are_damaged each_line_survives
+    (both_are_damaged []) (each_line_survives [])
 
 -- Where a premise is not met -------------------------------------------------------------------------------------
 

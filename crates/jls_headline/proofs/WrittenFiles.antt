@@ -7,16 +7,17 @@ use Rattle.jls_values.specs.Shape.{PictureShape}
 use Rattle.jls_partial.specs.Reading.{Reading}
 use Rattle.jls_partial.specs.Partial.{PartialPicture}
 use Rattle.jls_copy.specs.Course.{Course}
-use Rattle.jls_copy.specs.Pieces.{FoundPiece, PieceOutcome, Lines, pieces, AreOutcomes, readings_of, readings}
+use Rattle.jls_copy.specs.Pieces.{FoundPiece, Outcome, Lines, pieces, AreOutcomes, readings_of, readings}
 use Rattle.jls_copy.proofs.OneCourse.{one_course}
 use Rattle.jls_picture.specs.Picture.{WholePicture, line_of, picture_of}
 use Rattle.jls_file.specs.WrittenFile.{written_file}
 use Rattle.jls_file_law.specs.Covering.{IsLineOf, AreThePicture}
-use Rattle.jls_file_law.specs.FileLaw.{IsWholePicture, CanBeWritten, ReadsBack}
+use Rattle.jls_file_law.specs.FileLaw.{CanBeWritten, ReadsBack}
 use Rattle.jls_file_law.proofs.Covering.{contains_the_picture}
 use Rattle.jls_file_law.proofs.FileRead.{file_law}
 use Rattle.jls_headline.specs.Gives.{PieceGives, CourseGives, GivesReading}
-use Rattle.jls_headline.specs.ReadsAs.{IsLineIn, IsComponentIn, IsPicture, ReadsAs, ReadsAsOnly, FilesReadAs}
+use Rattle.jls_picture.specs.WholePictures.{IsLineIn, IsComponentIn, IsPicture, IsWholePicture}
+use Rattle.jls_headline.specs.ReadsAs.{ReadsAs, ReadsAsOnly, FilesReadBack, FilesReadAs}
 use Rattle.jls_headline.proofs.Members.{none_in, first_or_rest}
 use Rattle.jls_headline.proofs.CopyGives.{listed}
 use Rattle.jls_headline.proofs.Pictures.{heights, files_read_as_one}
@@ -47,8 +48,8 @@ is_whole pic is = record { shape = is.shape; widths = widths }
 -- What a file that is read back gives ----------------------------------------------------------------------------
 
 -- outcomes of which one is this piece's own
-with_own : (ps : List FoundPiece) (os : List PieceOutcome) (p : FoundPiece) (r : Reading) → AreOutcomes ps os → Contains ps p → PieceGives p r
-    → (others : List PieceOutcome) × AreOutcomes ps others × Contains (readings ps others) r
+with_own : (ps : List FoundPiece) (os : List Outcome) (p : FoundPiece) (r : Reading) → AreOutcomes ps os → Contains ps p → PieceGives p r
+    → (others : List Outcome) × AreOutcomes ps others × Contains (readings ps others) r
 with_own [] os p r are c g = absurd (none_in p c)
 with_own (q ∷ ps) [] p r are c g = absurd are
 with_own (q ∷ ps) (o ∷ os) p r are c g =
@@ -89,9 +90,12 @@ module _ (pic : WholePicture) (file : List ℕ) (rs : List Reading) (w : ReadsBa
 reads_as_only : (file : List ℕ) (pic : WholePicture) → IsPicture pic → ReadsAs file pic → ReadsAsOnly file pic
 reads_as_only file pic is r = record { reads = r; no_other = λ other is' r'. files_read_as_one file other pic is' is r' r }
 
-pub files_read_as : (station : PartialPicture) (pic : WholePicture) → IsPicture pic → picture_of station ≡ pic → FilesReadAs station pic
-files_read_as station pic is e o params below fit =
+pub files_read_back : (pic : WholePicture) → IsPicture pic → FilesReadBack pic
+files_read_back pic is o params below fit =
     let can : CanBeWritten pic o = record { whole = is_whole pic is; fit = fit; params = params; restart_below = below } in
     let law = file_law pic o can in
-    subst (λ x. ReadsAsOnly (written_file x o) pic) (sym e)
-    (reads_as_only (written_file pic o) pic is (reads_as pic (written_file pic o) _ law.0 law.1))
+    reads_as_only (written_file pic o) pic is (reads_as pic (written_file pic o) _ law.0 law.1)
+
+pub files_read_as : (station : PartialPicture) (pic : WholePicture) → IsPicture pic → picture_of station ≡ pic → FilesReadAs station pic
+files_read_as station pic is e o params below fit =
+    subst (λ x. ReadsAsOnly (written_file x o) pic) (sym e) (files_read_back pic is o params below fit)

@@ -13,7 +13,8 @@ use Rattle.jls_report.specs.ReportText.{report_text}
 use Rattle.jls_headline.specs.Damaged.{Damaged}
 use Rattle.jls_headline.specs.Survives.{EachLineSurvives}
 use Rattle.jls_headline.specs.Stations.{HoldsExactly, TookInTheEnd, SameCopies}
-use Rattle.jls_headline.specs.ReadsAs.{IsPicture, GivesPicture, ReadsAs, FilesReadAs}
+use Rattle.jls_picture.specs.WholePictures.{IsPicture}
+use Rattle.jls_headline.specs.ReadsAs.{GivesPicture, ReadsAs, FilesReadAs}
 
 -- What two stations hold, report and show is the same, whatever the sources of their readings, and so are the files that are written of
 -- it, as PNM and, under equal options, as JPEG-LS. Where the sources are the same, so are the texts

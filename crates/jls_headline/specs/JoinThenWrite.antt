@@ -1,5 +1,5 @@
 -- The headline through the text that a run of `join` hands out: what a run of `write` makes of it.
-use Rattle.std.specs.Prelude.{◌≡◌, ℕ, ◌<◌, ◌^◌, Bool, List, [], ◌∷◌, None}
+use Rattle.std.specs.Prelude.{◌≡◌, ℕ, ◌<◌, ◌^◌, Bool, List, [], ◌∷◌, Option, Some}
 use Rattle.std.specs.List.{AllByRecursion}
 use Rattle.jls_partial.specs.Partial.{PartialPicture}
 use Rattle.jls_device.specs.Event.{Event}
@@ -15,17 +15,21 @@ use Rattle.jls_commands.specs.declared.writing.Format.{Format}
 use Rattle.jls_commands.specs.declared.writing.Format.TheVariants.{Jls}
 use Rattle.jls_headline.specs.Damaged.{Damaged}
 use Rattle.jls_headline.specs.Survives.{EachLineSurvives}
-use Rattle.jls_headline.specs.ReadsAs.{IsPicture, ReadsAsOnly}
+use Rattle.jls_picture.specs.WholePictures.{IsPicture}
+use Rattle.jls_headline.specs.ReadsAs.{ReadsAsOnly}
 
--- a run of `join` that is done: its inputs gave damaged copies of this picture, and every line survives in some input
+-- a run of `join` that is done, under a source or none: its inputs gave damaged copies of this picture, and every line survives in some
+-- input. A source of the program has 32 bits
 pub record JoinsDamagedCopies (pic : WholePicture) (joining : List Event) : Type 0 where
   pub is_picture : IsPicture pic
+  pub source : Option ℕ
+  pub small : (number : ℕ) → source ≡ Some number → number < 2 ^ 32
   pub out : List ℕ
   pub names : List (List ℕ)
   pub joined : PartialPicture
   pub settled : Bool
   pub whole : Bool
-  pub is_done : JoinIsDone None out names joined settled whole joining
+  pub is_done : JoinIsDone source out names joined settled whole joining
   pub damaged : AllByRecursion (Damaged pic) (input_bytes joining)
   pub each_line : EachLineSurvives pic (input_bytes joining)
 

@@ -6,8 +6,10 @@ pub mod Trimmed
 pub mod ScanLaws
 pub mod LostIntervalLaws
 pub mod Stations
+pub mod Sources
 pub mod ReadsAs
 pub mod HeadlineLaws
 pub mod RunLaws
 pub mod JoinThenWrite
 pub mod CallLaws
+pub mod SourceLaws

@@ -1,5 +1,5 @@
 -- The headline for whole runs of `join`, whose inputs are copies, or copies and texts.
-use Rattle.std.specs.Prelude.{◌≡◌, ℕ, Bool, false, List, [], ◌∷◌, ◌++◌, Option, None, ◌⊎◌}
+use Rattle.std.specs.Prelude.{◌≡◌, ℕ, Bool, false, List, [], ◌∷◌, ◌++◌, Option, ◌⊎◌}
 use Rattle.std.specs.List.{AllByRecursion}
 use Rattle.jls_partial.specs.Partial.{PartialPicture}
 use Rattle.jls_partial.specs.Text.{text}
@@ -7,12 +7,15 @@ use Rattle.jls_device.specs.Event.{Event}
 use Rattle.jls_picture.specs.Picture.{WholePicture}
 use Rattle.jls_station.specs.Texts.{is_text, IsTextOf}
 use Rattle.jls_station.specs.Joining.{JoinIsDone}
-use Rattle.jls_station.specs.Laws.{input_bytes}
+use Rattle.jls_station.specs.Laws.{input_bytes, output_bytes}
 use Rattle.jls_headline.specs.Damaged.{Damaged}
 use Rattle.jls_headline.specs.Survives.{EachLineSurvives}
 use Rattle.jls_headline.specs.Stations.{HoldsExactly, SameCopies}
-use Rattle.jls_headline.specs.ReadsAs.{IsPicture, GivesPicture, FilesReadAs}
+use Rattle.jls_picture.specs.WholePictures.{IsPicture}
+use Rattle.jls_headline.specs.ReadsAs.{GivesPicture, FilesReadAs}
 use Rattle.jls_headline.specs.HeadlineLaws.{SayTheSame}
+use Rattle.jls_headline.specs.Sources.{SourcedCopy, HoldsExactlyUnder, SameCopiesUnder}
+use Rattle.jls_headline.specs.SourceLaws.{sourced_copy}
 
 -- none of these is read as a text
 abbrev pub AreNoTexts : List (List ℕ) → Type 0
@@ -31,10 +34,13 @@ InputStandsFor bytes copies =
     ((is_text bytes ≡ false) × (copies ≡ bytes ∷ [])) ⊎ ((p : PartialPicture) × IsTextOf bytes p × HoldsExactly p copies)
 
 -- these copies, side by side, are those that the inputs stand for
+abbrev pub InputsStand : {C : Type 0} → (List ℕ → List C → Type 0) → List (List ℕ) → List C → Type 0
+InputsStand StandsFor [] copies = copies ≡ []
+InputsStand {C} StandsFor (bytes ∷ inputs) copies =
+    (mine : List C) × (more : List C) × (copies ≡ mine ++ more) × StandsFor bytes mine × InputsStand StandsFor inputs more
+
 abbrev pub InputsStandFor : List (List ℕ) → List (List ℕ) → Type 0
-InputsStandFor [] copies = copies ≡ []
-InputsStandFor (bytes ∷ inputs) copies =
-    (mine : List (List ℕ)) × (more : List (List ℕ)) × (copies ≡ mine ++ more) × InputStandsFor bytes mine × InputsStandFor inputs more
+InputsStandFor inputs copies = InputsStand InputStandsFor inputs copies
 
 -- What a run of `join` joins that is done, whose inputs are copies and texts, holds exactly the readings of the copies that they stand for
 abbrev pub RunsWithTextsHoldExactly : Type 0
@@ -44,7 +50,7 @@ RunsWithTextsHoldExactly =
     → (copies : List (List ℕ)) → InputsStandFor (input_bytes events) copies → HoldsExactly joined copies
 
 -- Two runs that are done, and whose inputs are copies and no texts, the same ones in any order and with any repeats, join what holds and
--- says the same. Where neither had a source, it has the same text
+-- says the same. Where both had the same source, or none, it has the same text
 abbrev pub RunsSayTheSame : Type 0
 RunsSayTheSame =
     (source : Option ℕ) (out : List ℕ) (names : List (List ℕ)) (joined : PartialPicture) (settled whole : Bool) (events : List Event)
@@ -53,7 +59,7 @@ RunsSayTheSame =
     (events' : List Event)
     → JoinIsDone source' out' names' joined' settled' whole' events' → AreNoTexts (input_bytes events')
     → SameCopies (input_bytes events) (input_bytes events')
-    → SayTheSame joined joined' × (source ≡ None → source' ≡ None → text joined ≡ text joined')
+    → SayTheSame joined joined' × (source ≡ source' → text joined ≡ text joined')
 
 -- Where the inputs of a run that is done are damaged copies of one picture and every line survives in some input, each line of what it
 -- joins is settled, and they are that picture; and the JPEG-LS file that is written of it reads as that picture and no other
@@ -72,3 +78,36 @@ RunsWithTextsGiveThePicture =
     → (copies : List (List ℕ)) → InputsStandFor (input_bytes events) copies
     → (pic : WholePicture) → IsPicture pic → AllByRecursion (Damaged pic) copies → EachLineSurvives pic copies
     → GivesPicture joined pic × FilesReadAs joined pic
+
+-- Sources --------------------------------------------------------------------------------------------------------
+
+-- which copies under sources an input of a run stands for: a copy for itself, under the source of the run, and a text, which has its own
+-- sources, for those of which its partial picture holds exactly the readings, each under exactly their sources
+abbrev pub InputStandsUnder : Option ℕ → List ℕ → List SourcedCopy → Type 0
+InputStandsUnder source bytes copies =
+    ((is_text bytes ≡ false) × (copies ≡ sourced_copy source bytes ∷ []))
+    ⊎ ((p : PartialPicture) × IsTextOf bytes p × HoldsExactlyUnder p copies)
+
+abbrev pub InputsStandUnder : Option ℕ → List (List ℕ) → List SourcedCopy → Type 0
+InputsStandUnder source inputs copies = InputsStand (InputStandsUnder source) inputs copies
+
+-- What a run of `join` joins that is done holds exactly the readings of the copies that its inputs stand for, each under exactly the
+-- sources of those that give it
+abbrev pub RunsHoldExactlyUnder : Type 0
+RunsHoldExactlyUnder =
+    (source : Option ℕ) (out : List ℕ) (names : List (List ℕ)) (joined : PartialPicture) (settled whole : Bool) (events : List Event)
+    → JoinIsDone source out names joined settled whole events
+    → (copies : List SourcedCopy) → InputsStandUnder source (input_bytes events) copies → HoldsExactlyUnder joined copies
+
+-- Two such runs of one shape whose inputs stand for the same copies under the same sources, in any order and with any repeats, join what
+-- is the same, and hand the same bytes to their outputs
+abbrev pub RunsUnderSourcesHandOutTheSame : Type 0
+RunsUnderSourcesHandOutTheSame =
+    (source : Option ℕ) (out : List ℕ) (names : List (List ℕ)) (joined : PartialPicture) (settled whole : Bool) (events : List Event)
+    → JoinIsDone source out names joined settled whole events
+    → (source' : Option ℕ) (out' : List ℕ) (names' : List (List ℕ)) (joined' : PartialPicture) (settled' whole' : Bool)
+    (events' : List Event)
+    → JoinIsDone source' out' names' joined' settled' whole' events'
+    → (copies others : List SourcedCopy) → InputsStandUnder source (input_bytes events) copies
+    → InputsStandUnder source' (input_bytes events') others → joined.shape ≡ joined'.shape → SameCopiesUnder copies others
+    → (joined ≡ joined') × (output_bytes events ≡ output_bytes events')

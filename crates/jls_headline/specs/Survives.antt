@@ -27,7 +27,8 @@ ReadsWithLine pic s component line k bytes = HasLine s component line k × Reads
 -- the input's end closes the piece, and its head, as that of interval k, has the picture's line
 abbrev pub HeadHasLine : WholePicture → Scan → ℕ → ℕ → ℕ → List ℕ → LastClosed → Type 0
 HeadHasLine pic s component line k bytes (by_input dropped) =
-    (head : List (List ℕ)) × IsHeadAt s (Interval k) bytes head × Contains (placed_in_interval s k head) (picture_reading pic component line)
+    (head : List (List ℕ)) × IsHeadAt s (Interval k) bytes head
+    × Contains (placed_in_interval s k head) (picture_reading pic component line)
 HeadHasLine pic s component line k bytes by_marker = ⊥
 
 -- the marks are those of numbers that rise by one to eight each, and some piece, or the head of the last one, has the picture's line

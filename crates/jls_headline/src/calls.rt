@@ -2,6 +2,8 @@
 
 ghost use Rattle.jls_headline.specs.CallLaws.{NewStationTookNothing, CopyIsTaken, CopyIsRefused};
 ghost use Rattle.jls_headline.specs.CallLaws.{PartialIsTaken, PartialIsRefused};
+ghost use Rattle.jls_headline.specs.SourceLaws.{NewStationTookNothingUnder, CopyIsTakenUnder, CopyIsRefusedUnder};
+ghost use Rattle.jls_headline.specs.SourceLaws.{PartialIsTakenUnder, PartialIsRefusedUnder, SourcesAside};
 
 /// A law: a new station took nothing. A station that answers a copy with Ok took the bytes that the reads of this call gave; one that
 /// refuses a copy took nothing, or ran out of memory over it. The same holds of partial pictures that hold exactly the readings of
@@ -12,4 +14,15 @@ pub fn calls_tell_what_was_taken()
     ensures refused { CopyIsRefused }
     ensures joined { PartialIsTaken }
     ensures not_joined { PartialIsRefused }
+{}
+
+/// A law: so they tell under which sources, each copy under the source of its call. And what is said of copies under sources is said of
+/// these copies alone.
+pub fn calls_tell_the_sources()
+    ensures new { NewStationTookNothingUnder }
+    ensures taken { CopyIsTakenUnder }
+    ensures refused { CopyIsRefusedUnder }
+    ensures joined { PartialIsTakenUnder }
+    ensures not_joined { PartialIsRefusedUnder }
+    ensures aside { SourcesAside }
 {}

@@ -1,13 +1,18 @@
-//! What stations hold that took the same copies, and the picture that damaged copies give. Each law is a function that does nothing and
-//! whose contract is the law.
+//! What stations hold that took the same copies, the picture that damaged copies give, and files of pictures. Each law is a function that
+//! changes nothing and whose contract is the law.
 
 ghost use Rattle.jls_headline.specs.HeadlineLaws.{SameCopiesSameReadings, DamagedCopiesGiveThePicture};
 ghost use Rattle.jls_headline.specs.HeadlineLaws.{FilesReadAsOne, NeverAnotherPicture};
+ghost use Rattle.jls_headline.specs.ReadsAs.{FilesReadBack};
+ghost use Rattle.jls_headline.specs.SourceLaws.{SameSourcesSameText};
+
+use jls_picture::{Picture, pictures_are_whole};
 
 /// A law, the one that this product is trusted for. Stations of one shape that took the same copies, in any order and with any repeats,
 /// hold for every component and line the same readings, exactly the ones that those copies give; their reports, their pictures, and the
-/// PNM files and JPEG-LS files of these are the same. A copy is the bytes that its source gave, in whatever lengths. Where the copies
-/// are damaged copies of one picture and every line survives in some copy, each line of the station is settled, and they are that
+/// PNM files and JPEG-LS files of these are the same. Taken under the same sources, the stations and their texts are the same, and each
+/// reading has exactly the sources of the copies that give it. A copy is the bytes that its source gave, in whatever lengths. Where the
+/// copies are damaged copies of one picture and every line survives in some copy, each line of the station is settled, and they are that
 /// picture; and the JPEG-LS file that is written of it, under any options that fit, reads as that picture and no other.
 ///
 /// A damaged copy may have lost whole restart intervals, fewer than eight restart markers in a row before one that is seen. The markers
@@ -15,8 +20,16 @@ ghost use Rattle.jls_headline.specs.HeadlineLaws.{FilesReadAsOne, NeverAnotherPi
 /// off, or run on, this is proved (`trimmed_copies_are_damaged`).
 pub fn same_copies_give_the_picture()
     ensures same { SameCopiesSameReadings }
+    ensures same_sources { SameSourcesSameText }
     ensures damaged { DamagedCopiesGiveThePicture }
 {}
+
+/// A law: the JPEG-LS file of each picture that `Picture::of` answers, under any options that fit it, reads as that picture and no other.
+pub fn written_pictures_read_back(picture: &Picture<'_>)
+    ensures { FilesReadBack picture.now }
+{
+    pictures_are_whole(picture);
+}
 
 /// A law: a file reads as one picture at most.
 pub fn files_read_as_one()

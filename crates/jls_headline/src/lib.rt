@@ -9,8 +9,11 @@ mod runs;
 mod scans;
 mod trimmed;
 
-pub use calls::calls_tell_what_was_taken;
-pub use headline::{files_read_as_one, never_another_picture, same_copies_give_the_picture};
+pub use calls::{calls_tell_the_sources, calls_tell_what_was_taken};
+pub use headline::{
+    files_read_as_one, never_another_picture, same_copies_give_the_picture,
+    written_pictures_read_back,
+};
 pub use lost_intervals::{
     damaged_copies_give_the_picture, numbers_come_back, surviving_lines_are_given,
 };

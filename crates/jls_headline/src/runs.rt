@@ -2,13 +2,14 @@
 
 ghost use Rattle.jls_headline.specs.RunLaws.{RunsHoldExactly, RunsSayTheSame, RunsGiveThePicture};
 ghost use Rattle.jls_headline.specs.RunLaws.{RunsWithTextsHoldExactly, RunsWithTextsGiveThePicture};
+ghost use Rattle.jls_headline.specs.RunLaws.{RunsHoldExactlyUnder, RunsUnderSourcesHandOutTheSame};
 ghost use Rattle.jls_headline.specs.JoinThenWrite.{WrittenJoinsAreThePicture, WrittenJoinsReadAsThePicture, WrittenJoinsAreSettled};
 
 /// A law: what a run of `join` joins that is done, and whose inputs are copies and no texts, holds exactly the readings that these copies
 /// give. Two such runs whose inputs were the same copies, in any order and with any repeats, join what holds and says the same, and
-/// without sources hand out the same text. Where the inputs are damaged copies of one picture and every line survives in some input,
-/// each line of what is joined is settled, and they are that picture; and the JPEG-LS file that is written of it, under any options
-/// that fit, reads as that picture and no other.
+/// under the same source, or none, have the same text. Where the inputs are damaged copies of one picture and every line survives in
+/// some input, each line of what is joined is settled, and they are that picture; and the JPEG-LS file that is written of it, under any
+/// options that fit, reads as that picture and no other.
 pub fn joined_copies_give_the_picture()
     ensures exactly { RunsHoldExactly }
     ensures same { RunsSayTheSame }
@@ -17,8 +18,12 @@ pub fn joined_copies_give_the_picture()
 
 /// A law: the same where texts are among the inputs, each of which stands for the copies of which its partial picture holds exactly the
 /// readings. So stations that hand on what they hold as texts come to what all their copies give.
+/// Each reading has exactly the sources of the copies that give it, where texts stand for copies under sources; and two such runs of one
+/// shape, over the same copies under the same sources, hand the same bytes to their outputs.
 pub fn joined_texts_give_the_picture()
     ensures exactly { RunsWithTextsHoldExactly }
+    ensures sources { RunsHoldExactlyUnder }
+    ensures same { RunsUnderSourcesHandOutTheSame }
     ensures damaged { RunsWithTextsGiveThePicture }
 {}
 

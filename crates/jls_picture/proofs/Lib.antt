@@ -2,3 +2,4 @@ pub mod Handing
 pub mod Lending
 pub mod OneMore
 pub mod Sizes
+pub mod WholePictures

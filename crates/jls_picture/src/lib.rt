@@ -10,7 +10,7 @@ mod pnm_header;
 
 pub use options::Options;
 pub use output::{OutputFault, write_part};
-pub use picture::{Picture, PictureFault};
+pub use picture::{Picture, PictureFault, pictures_are_whole};
 pub use pnm::write_pnm;
 
 #[cfg(test)]

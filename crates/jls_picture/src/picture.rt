@@ -4,6 +4,7 @@ ghost use Rattle.jls_partial.specs.Partial.{readings_at};
 ghost use Rattle.jls_partial.specs.Status.{IsComponentSettled, IsSettled};
 ghost use Rattle.jls_picture.specs.Picture.{picture_of, line_of};
 ghost use Rattle.jls_picture.specs.Unsettled.{IsFirstUnsettledLine, IsFirstUnsettled, NamesFirstUnsettled};
+ghost use Rattle.jls_picture.specs.WholePictures.{IsPicture, IsWholePicture};
 ghost use Rattle.std.specs.List.{AllByRecursion};
 ghost use Rattle.std.specs.Prelude.{◌≡◌, ◌≢◌, ◌<◌, ◌^◌, ℕ, length, IfOk, IfErr, OnOk, MatchOption};
 
@@ -93,4 +94,13 @@ impl<'a> Picture<'a> {
     {
         self.partial.reading(component, line, 0)
     }
+}
+
+/// A law: each value of this type is a picture in its ranges, of which no line is left out. So what `Picture::of` answers meets the
+/// premises of the laws on pictures and their files.
+pub fn pictures_are_whole(picture: &Picture<'_>)
+    ensures picture { IsPicture picture.now }
+    ensures whole { IsWholePicture picture.now }
+{
+    let _ids = picture.partial.shape().ids();
 }

@@ -50,94 +50,110 @@ fn written(
     (result, sink.held)
 }
 
+/// A picture: its precision, width, identifiers and lines, row by row and in a row by component. And its file.
+#[derive(Clone, Copy)]
+struct Row<'a> {
+    precision: u8,
+    width: u16,
+    ids: &'a [u8],
+    lines: &'a [&'a [u16]],
+    file: &'a [u8],
+}
+
 /// The lines are written as this file, and a write that fails after n bytes is told, for each n.
-fn check(
-    rt: &impl Abort,
-    alloc: Global,
-    shape: Shape,
-    lines: &[&[u16]],
-    file: &[u8],
-) -> Result<(), Fail> {
-    let components = shape.ids().len();
-    let mut partial = Partial::empty(alloc, shape);
-    for (i, samples) in lines.iter().enumerate() {
-        let component = u8::try_from(i % components)?;
-        let line = u16::try_from(i / components)?;
-        partial.insert(component, line, samples)?;
+fn check(rt: &impl Abort, alloc: Global, row: &Row<'_>) -> Result<(), Fail> {
+    let components = row.ids.len();
+    if components == 0 {
+        return Ok(());
+    }
+    let height = u16::try_from(row.lines.len() / components)?;
+    let mut partial = Partial::empty(
+        alloc,
+        Shape::new(row.precision, row.width, height, row.ids)?,
+    );
+    for (i, samples) in row.lines.iter().enumerate() {
+        partial.insert(
+            u8::try_from(i % components)?,
+            u16::try_from(i / components)?,
+            samples,
+        )?;
     }
     let picture = Picture::of(&partial).expect(rt, "a line is not settled");
     for most in [1, 7, usize::MAX] {
-        let (result, bytes) = written(alloc, &picture, most, usize::MAX);
-        assert_eq!(rt; result, Ok(()));
-        assert_eq!(rt; bytes.as_slice(), file);
-        for n in 0..file.len() {
+        for n in 0..=row.file.len() {
             let (result, bytes) = written(alloc, &picture, most, n);
-            assert_eq!(rt; result, Err(OutputFault::Write(n as u64)));
-            assert_eq!(rt; bytes.as_slice(), &file[..n]);
+            let wanted = if n == row.file.len() {
+                Ok(())
+            } else {
+                Err(OutputFault::Write(n as u64))
+            };
+            assert_eq!(rt; result, wanted);
+            assert_eq!(rt; bytes.as_slice(), &row.file[..n]);
         }
     }
     Ok(())
 }
 
+/// One component with samples of two bytes and of one, three, and two and four.
 #[test]
-fn one_component(rt: HostRuntime) -> Result<(), Fail> {
-    let alloc = rt.alloc();
-    check(
-        &rt,
-        alloc,
-        Shape::new(16, 1, 1, &[1])?,
-        &[&[65535]],
-        b"P5\n1 1\n65535\n\xFF\xFF",
-    )?;
-    check(
-        &rt,
-        alloc,
-        Shape::new(9, 2, 1, &[1])?,
-        &[&[258, 3]],
-        b"P5\n2 1\n511\n\x01\x02\x00\x03",
-    )?;
-    check(
-        &rt,
-        alloc,
-        Shape::new(8, 1, 10, &[1])?,
-        &[&[0], &[1], &[2], &[3], &[4], &[5], &[6], &[7], &[8], &[9]],
-        b"P5\n1 10\n255\n\x00\x01\x02\x03\x04\x05\x06\x07\x08\x09",
-    )
-}
-
-#[test]
-fn several_components(rt: HostRuntime) -> Result<(), Fail> {
-    let alloc = rt.alloc();
-    check(
-        &rt,
-        alloc,
-        Shape::new(8, 1, 1, &[1, 2])?,
-        &[&[10], &[10]],
-        b"P7\nWIDTH 1\nHEIGHT 1\nDEPTH 2\nMAXVAL 255\nENDHDR\n\x0A\x0A",
-    )?;
-    check(
-        &rt,
-        alloc,
-        Shape::new(8, 4, 1, &[1, 2, 3])?,
-        &[&[0, 0, 0, 0], &[0, 0, 0, 0], &[0, 0, 0, 0]],
-        b"P6\n4 1\n255\n\x00\x00\x00\x00\x00\x00\x00\x00\x00\x00\x00\x00",
-    )?;
-    check(
-        &rt,
-        alloc,
-        Shape::new(2, 2, 2, &[9, 8, 7, 6])?,
-        &[
-            &[0, 1],
-            &[1, 2],
-            &[2, 3],
-            &[3, 0],
-            &[3, 3],
-            &[2, 2],
-            &[1, 1],
-            &[0, 0],
-        ],
-        b"P7\nWIDTH 2\nHEIGHT 2\nDEPTH 4\nMAXVAL 3\nENDHDR\n\x00\x01\x02\x03\x01\x02\x03\x00\x03\x02\x01\x00\x03\x02\x01\x00",
-    )
+fn files(rt: HostRuntime) -> Result<(), Fail> {
+    let rows = [
+        Row {
+            precision: 16,
+            width: 1,
+            ids: &[1],
+            lines: &[&[65535]],
+            file: b"P5\n1 1\n65535\n\xFF\xFF",
+        },
+        Row {
+            precision: 9,
+            width: 2,
+            ids: &[1],
+            lines: &[&[258, 3]],
+            file: b"P5\n2 1\n511\n\x01\x02\x00\x03",
+        },
+        Row {
+            precision: 8,
+            width: 1,
+            ids: &[1],
+            lines: &[&[0], &[1], &[2], &[3], &[4], &[5], &[6], &[7], &[8], &[9]],
+            file: b"P5\n1 10\n255\n\x00\x01\x02\x03\x04\x05\x06\x07\x08\x09",
+        },
+        Row {
+            precision: 8,
+            width: 1,
+            ids: &[1, 2],
+            lines: &[&[10], &[10]],
+            file: b"P7\nWIDTH 1\nHEIGHT 1\nDEPTH 2\nMAXVAL 255\nENDHDR\n\x0A\x0A",
+        },
+        Row {
+            precision: 8,
+            width: 4,
+            ids: &[1, 2, 3],
+            lines: &[&[0, 0, 0, 0], &[0, 0, 0, 0], &[0, 0, 0, 0]],
+            file: b"P6\n4 1\n255\n\x00\x00\x00\x00\x00\x00\x00\x00\x00\x00\x00\x00",
+        },
+        Row {
+            precision: 2,
+            width: 2,
+            ids: &[9, 8, 7, 6],
+            lines: &[
+                &[0, 1],
+                &[1, 2],
+                &[2, 3],
+                &[3, 0],
+                &[3, 3],
+                &[2, 2],
+                &[1, 1],
+                &[0, 0],
+            ],
+            file: b"P7\nWIDTH 2\nHEIGHT 2\nDEPTH 4\nMAXVAL 3\nENDHDR\n\x00\x01\x02\x03\x01\x02\x03\x00\x03\x02\x01\x00\x03\x02\x01\x00",
+        },
+    ];
+    for row in &rows {
+        check(&rt, rt.alloc(), row)?;
+    }
+    Ok(())
 }
 
 #[test]

@@ -1,6 +1,7 @@
 //! The program over a desk in memory: what it writes and prints, and how it ends.
 
 mod copies;
+mod cutting;
 mod failing;
 mod joining;
 mod memory;

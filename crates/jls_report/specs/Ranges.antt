@@ -1,5 +1,6 @@
 -- What the entries of a report say of each line.
-use Rattle.std.specs.Prelude.{◌≡◌, ℕ, ◌+◌, ◌*◌, ◌<◌, ◌≤◌, ◌↔◌, Bool, true, false, ◌&&◌, ◌==◌, nat_le, length, count_by, Contains, if◌then◌else◌}
+use Rattle.std.specs.Prelude.{◌≡◌, ℕ, ◌+◌, ◌*◌, ◌<◌, ◌≤◌, ◌↔◌, Bool, true, false, ◌&&◌}
+use Rattle.std.specs.Prelude.{◌==◌, nat_le, length, count_by, Contains, if◌then◌else◌}
 use Rattle.jls_partial.specs.Partial.{PartialPicture}
 use Rattle.jls_report.specs.declared.entry.ReportEntry.{ReportEntry}
 use Rattle.jls_report.specs.declared.entry.ReportEntry.TheVariants.{Missing, Disputed}

@@ -42,7 +42,7 @@ fn keeps_what_was_read_of_a_copy(rt: HostRuntime) -> Result<(), Fail> {
 }
 
 /// OUT takes so many bytes, and the line says how many.
-fn check_write_failure(
+pub(super) fn check_write_failure(
     rt: &impl Abort,
     alloc: Global,
     words: &str,

@@ -1,0 +1,180 @@
+-- What there is where a premise of the laws on stations and files is not met. `TwoLineExamples` has those on marks, refusal and survival.
+use Rattle.std.proofs.Common.{◌≡◌, ℕ, zero, suc, ◌<◌, ◌≤◌, Bool, true, false, List, [], ◌∷◌, ◌++◌, length, map, replicate, refl, sym, ap, subst, ◌∙◌, lit<, lit≤, arith, inl}
+use Rattle.std.specs.Prelude.{get_or}
+use Rattle.std.specs.List.{range_with_len}
+use Rattle.std.proofs.lemmas.List.FromFn.{length-map-range_with_len}
+use Rattle.jls_values.specs.OrderedSet as set
+use Rattle.jls_values.specs.OrderedSetLaws.{contains-empty}
+use Rattle.jls_values.specs.Join.{IsBetween}
+use Rattle.jls_values.specs.Params.{least_from}
+use Rattle.jls_values.specs.SameShape.{same_shape}
+use Rattle.jls_bits.specs.Bits.{bits, width_after, bits_read, bits_read_after, ends_data, is_whole, is_whole_after}
+use Rattle.jls_bits.specs.Golomb.{golomb}
+use Rattle.jls_context.specs.Mode.{quantized_gradient, is_negative, context}
+use Rattle.jls_context.specs.Errors.{modulo_reduced}
+use Rattle.jls_context.specs.Prediction.{corrected_prediction}
+use Rattle.jls_context.specs.Regular.{golomb_k, updated}
+use Rattle.jls_context.specs.Interruption.{run_updated}
+use Rattle.jls_interval.specs.Events.{events_from, events_after}
+use Rattle.jls_interval.specs.Cells.{cell_before, run_cell_before}
+use Rattle.jls_interval.specs.Runs.{block_columns, full_blocks, blocks, run_index_before}
+use Rattle.jls_interval.specs.Code.{event_bits, bits_of_events, code}
+use Rattle.jls_interval.specs.Heads.{BeginsWithFirst, AreWholeLines}
+use Rattle.jls_interval.specs.Laws.{IsCutCode}
+use Rattle.jls_interval.proofs.HeadLines.{read_has_none}
+use Rattle.jls_values.specs.Shape.{PictureShape}
+use Rattle.jls_partial.specs.Partial.{PartialPicture, nothing_known, has_same_shape, union}
+use Rattle.jls_partial.specs.PartialLaws.{partial_laws, shape_itself}
+use Rattle.jls_partial.specs.Reading.{reading_cmp}
+use Rattle.jls_marker.specs.Scan.{Scan}
+use Rattle.jls_copy.specs.CopyReads.{CopyReads}
+use Rattle.jls_copy.specs.CutPieces.{IsHeadAt}
+use Rattle.jls_copy.specs.Numbers.{Interval}
+use Rattle.jls_copy.specs.ReadCopy.{ReadCopy}
+use Rattle.jls_picture.specs.Picture.{WholePicture, line_of, settled_line, picture_of}
+use Rattle.jls_headline.specs.Damaged.{ReadsAsPictureOrNone, HasHeadOfPicture}
+use Rattle.jls_headline.specs.PictureLines.{picture_reading}
+use Rattle.jls_headline.specs.Stations.{HoldsExactly, began, ran_out, Took, TookInTheEnd}
+use Rattle.jls_headline.specs.ReadsAs.{GivesPicture, ReadsAs}
+use Rattle.jls_headline.proofs.Members.{none_in}
+use Rattle.jls_headline.proofs.CopyGives.{copy_gives}
+use Rattle.jls_headline.proofs.LostIntervals.{surviving_lines_are_given}
+use Rattle.jls_headline.proofs.StationCalls.{holds_none}
+use Rattle.jls_headline.proofs.Stations.{copy_holds}
+use Rattle.jls_headline.proofs.FileExamples.{are_parameters}
+use Rattle.jls_headline.proofs.TwoLineExamples.{shape, bits_8, pic_and, pic, first, first_course, course_with, bytes_of_test, shape_read, line_0}
+
+-- A picture has no more lines than its shape ---------------------------------------------------------------------
+
+-- with a component that its shape doesn't have; the two copies are damaged copies of it too, and each line survives in one of them
+-- (`both_are_damaged`, `each_line_survives`)
+abbrev longer : WholePicture
+longer = pic_and ([] ∷ [])
+
+-- no station gives it
+longer_is_never_given : (p : PartialPicture) → GivesPicture p longer → ⊥
+longer_is_never_given p g =
+    let ids : length p.shape.ids ≡ 1 = ap (λ (x : WholePicture). length x.shape.ids) g.1 in
+    let lines : length (map (λ c. map (settled_line p c) (range_with_len 0 p.shape.height)) (range_with_len 0 (length p.shape.ids))) ≡ 2 =
+    ap (λ (x : WholePicture). length x.lines) g.1 in
+    let same = length-map-range_with_len (λ c. map (settled_line p c) (range_with_len 0 p.shape.height)) 0 (length p.shape.ids) in
+    omega (arith, ids, lines, same)
+
+-- and a file that reads as the picture reads as this one too
+same_lines : (component line : ℕ) → component < 1 → line_of longer component line ≡ line_of pic component line
+same_lines zero line l = refl
+same_lines (suc component) line l = absurd (omega (arith, l))
+
+reads_as_longer : (file : List ℕ) → ReadsAs file pic → ReadsAs file longer
+reads_as_longer file reads = record {
+  shape = reads.shape;
+  readings = λ r. (
+    λ g. (let is = (reads.readings r).0 g in (is.0, is.1, is.2 ∙ sym (same_lines r.component r.line is.0))),
+    λ is. (reads.readings r).1 (is.0, is.1, is.2 ∙ same_lines r.component r.line is.0),
+  );
+}
+
+longer_is_another : pic ≡ longer → ⊥
+longer_is_another e = (let n : 1 ≡ 2 = ap (λ (x : WholePicture). length x.lines) e in omega (arith, n))
+
+-- Stations of two shapes -----------------------------------------------------------------------------------------
+
+abbrev taller : PictureShape
+taller = record { precision = 8; width = 1; height = 3; ids = 1 ∷ [] }
+
+-- both took the same copies, which are none
+new_took_none : (s : PictureShape) → TookInTheEnd (nothing_known s) []
+new_took_none s = ([], began (nothing_known s) [] (holds_none (nothing_known s) refl), λ copy c. absurd (none_in copy c))
+
+shapes_differ : picture_of (nothing_known shape) ≡ picture_of (nothing_known taller) → ⊥
+shapes_differ e = (let n : 2 ≡ 3 = ap (λ (p : WholePicture). p.shape.height) e in omega (arith, n))
+
+-- Stations that took other copies, and such as ran out of memory -------------------------------------------------
+
+-- what was read of the first copy has its line 0
+read_of_first : (a : ReadCopy) → CopyReads first a → set.contains a.partial.readings (picture_reading pic 0 0) ≡ true
+read_of_first a reads =
+    (copy_gives first (bytes_of_test first refl) a reads (picture_reading pic 0 0)).1 (surviving_lines_are_given pic first 0 0 (line_0 []))
+
+-- so a station that took it holds what a new one doesn't
+first_is_not_none : (a : ReadCopy) → CopyReads first a → a.partial.readings ≡ set.empty → ⊥
+first_is_not_none a reads e =
+    (let held = read_of_first a reads in
+    let none : false ≡ true = sym (contains-empty reading_cmp (picture_reading pic 0 0)) ∙ subst (λ rs. set.contains rs (picture_reading pic 0 0) ≡ true) e held in cc)
+
+-- a station that ran out of memory over the first copy, and didn't take it again, can hold all of it, and took none
+abbrev known : PartialPicture
+known = nothing_known shape
+
+between : (p q : PartialPicture) → p.shape ≡ q.shape → IsBetween union p (union p q) (union p q)
+between p q e =
+    let same : has_same_shape p q ≡ true = subst (λ (s : PictureShape). same_shape p.shape s ≡ true) e (shape_itself p.shape) in
+    (sym (partial_laws.associative p p q (shape_itself p.shape) same) ∙ ap (λ (x : PartialPicture). union x q) (partial_laws.idempotent p), partial_laws.idempotent (union p q))
+
+ran_out_over_first : (a : ReadCopy) → CopyReads first a → Took (union known a.partial) [] (first ∷ [])
+ran_out_over_first a reads =
+    let same = shape_read first (course_with [] (0x80 ∷ []) 32) a first_course refl reads in
+    ran_out known (union known a.partial) a.partial [] [] (first ∷ []) (began known [] (holds_none known refl))
+    (copy_holds a.partial first a (bytes_of_test first refl) reads (refl, refl)) same (between known a.partial (sym same))
+
+holds_more : (p : PartialPicture) → set.contains p.readings (picture_reading pic 0 0) ≡ true → HoldsExactly p [] → ⊥
+holds_more p held h = (let from = (h.readings (picture_reading pic 0 0)).0 held in none_in from.0 from.1)
+
+-- A piece that the input's end cuts off, with another line at its front -------------------------------------------
+
+-- both lines in one interval
+abbrev both_lines : Scan
+both_lines = record { components = 0 ∷ []; params = bits_8; width = 1; height = 2; restart_interval = 0 }
+
+-- 0x50 is the sample 1, and then what the code of a 9 below it begins with
+abbrev one_and_nine : List (List ℕ)
+one_and_nine = (1 ∷ []) ∷ (9 ∷ []) ∷ []
+
+record CutOff : Type 0 where
+  cut : IsCutCode bits_8 1 1 2 (bits_read (0x50 ∷ []))
+  lines_are : cut.lines ≡ one_and_nine
+  begins : BeginsWithFirst bits_8 1 1 (bits_read (0x50 ∷ [])) one_and_nine ((1 ∷ []) ∷ [])
+  not_both : (unread : List Bool) → bits_read (0x50 ∷ []) ≡ code bits_8 1 1 one_and_nine ++ unread → ⊥
+  whole : is_whole (0x50 ∷ []) ≡ true
+
+cut_off : CutOff
+unfolding least_from bits width_after golomb quantized_gradient is_negative context modulo_reduced corrected_prediction golomb_k updated run_updated events_from events_after cell_before run_cell_before block_columns full_blocks blocks run_index_before event_bits bits_of_events code bits_read_after is_whole_after ends_data
+cut_off = record {
+  cut = record {
+    lines = one_and_nine;
+    are_lines = record { count_is = refl; each = ((refl, (lit≤ tt, tt)), ((refl, (lit≤ tt, tt)), tt)) };
+    missing = true;
+    more_missing = false ∷ false ∷ [];
+    code_is = refl;
+  };
+  lines_are = refl;
+  begins = record { others = (9 ∷ []) ∷ []; lines_are = refl; unread = replicate 4 false; given_is = refl };
+  not_both = λ unread e. (let n = ap length e in omega (arith, n));
+  whole = refl;
+}
+
+-- of the first lines of these two that the bits begin with, the longest list is the first line
+longest : (first : List (List ℕ)) → BeginsWithFirst bits_8 1 1 (bits_read (0x50 ∷ [])) one_and_nine first → length first ≤ 1
+longest [] b = lit≤ tt
+longest (x ∷ []) b = lit≤ tt
+longest (x ∷ y ∷ []) b =
+    let both : one_and_nine ≡ x ∷ y ∷ b.others = b.lines_are in
+    let none : [] ≡ b.others = cc in
+    let same : x ∷ y ∷ [] ≡ one_and_nine = sym (both ∙ ap (λ (zs : List (List ℕ)). x ∷ y ∷ zs) (sym none)) in
+    absurd (cut_off.not_both b.unread (b.given_is ∙ ap (λ (lines : List (List ℕ)). code bits_8 1 1 lines ++ b.unread) same))
+longest (x ∷ y ∷ z ∷ zs) b = absurd (let n = ap length b.lines_are in omega (arith, n))
+
+-- so its head is another line than the picture's
+another_head : IsHeadAt both_lines (Interval 0) (0x50 ∷ []) ((1 ∷ []) ∷ [])
+another_head =
+    let own : AreWholeLines bits_8 1 1 (bits_read (0x50 ∷ [])) one_and_nine ((1 ∷ []) ∷ []) = record { begins = cut_off.begins; longest = longest } in
+    inl (cut_off.whole, inl (cut_off.cut, subst (λ lines. AreWholeLines bits_8 1 1 (bits_read (0x50 ∷ [])) lines ((1 ∷ []) ∷ [])) (sym cut_off.lines_are) own))
+
+no_head_of_the_picture : HasHeadOfPicture pic both_lines 0 (0x50 ∷ []) → ⊥
+no_head_of_the_picture h =
+    (let e = ap (λ (lines : List (List ℕ)). get_or (get_or lines 0 []) 0 0) (h ((1 ∷ []) ∷ []) another_head) in omega (arith, e))
+
+-- though it reads as no lines
+reads_as_none : ReadsAsPictureOrNone pic both_lines 0 (0x50 ∷ [])
+reads_as_none lines reads =
+    absurd (let e = ap length (read_has_none bits_8 1 1 2 are_parameters (lit< tt) (0x50 ∷ []) lines ((1 ∷ []) ∷ []) reads another_head) in omega (arith, e))

@@ -1,0 +1,25 @@
+-- What makes a picture: its values are in their ranges, and no line is left out (T.87 C.2.2).
+use Rattle.std.specs.Prelude.{◌≡◌, ℕ, ◌^◌, ◌<◌, List, length}
+use Rattle.std.specs.List.{AllByRecursion}
+use Rattle.jls_values.specs.Shape.{PictureShape, IsShape}
+use Rattle.jls_picture.specs.Picture.{WholePicture, line_of}
+
+-- a line has as many samples as the picture has columns, each of the picture's precision
+abbrev pub IsLineIn : PictureShape → List ℕ → Type 0
+IsLineIn shape line = (length line ≡ shape.width) × AllByRecursion (λ sample. sample < 2 ^ shape.precision) line
+
+-- a component has all lines
+abbrev pub IsComponentIn : PictureShape → List (List ℕ) → Type 0
+IsComponentIn shape lines = (length lines ≡ shape.height) × AllByRecursion (IsLineIn shape) lines
+
+-- a shape, and for each component its lines
+pub record IsPicture (pic : WholePicture) : Type 0 where
+  pub shape : IsShape pic.shape
+  pub components : length pic.lines ≡ length pic.shape.ids
+  pub each : AllByRecursion (IsComponentIn pic.shape) pic.lines
+
+-- a shape, and where there is a line, as many samples as the picture has columns: all that a file needs to be read back
+pub record IsWholePicture (pic : WholePicture) : Type 0 where
+  pub shape : IsShape pic.shape
+  pub widths : (component line : ℕ) → component < length pic.shape.ids → line < pic.shape.height
+      → length (line_of pic component line) ≡ pic.shape.width
