@@ -18,7 +18,7 @@ use crate::version::Version;
 use jls_values::Shape;
 use std::alloc::Global;
 
-/// As many samples as `count` says. The vector grows with the bytes that are there.
+/// As many samples as `count` says. Room is made for those whose bytes are there.
 fn read_samples(
     alloc: Global,
     size: u64,
@@ -28,11 +28,11 @@ fn read_samples(
 ) -> Result<(Vec<u16>, &[u8]), TextFault>
     ensures { GivesText (λ x. (x.0.items, x.1.now)) result (samples_fields size limit count bytes.now) }
 {
-    let mut samples = Vec::new(alloc);
+    let mut samples = Vec::with_capacity(alloc, (bytes.len() / 2).min(count as usize))?;
     let mut rest = bytes;
     for _ in 0..count {
         let (sample, after) = read_sample(size, limit, rest)?;
-        samples.push(sample)?;
+        samples.push_reserved(sample);
         rest = after;
     }
     Ok((samples, rest))
