@@ -65,7 +65,8 @@ pub(crate) fn put(
     sources: SourceSet,
 ) -> Result<(), AllocError>
     requires { at ≤ vec_len index.old }
-    ensures index_ok { OnOk result (index.new.items ≡ insert index.old.items at (record { start = length packed.old.items; sources = sources })) }
+    ensures index_ok { OnOk result
+        (index.new.items ≡ insert index.old.items at (record { start = length packed.old.items; sources = sources })) }
     ensures packed_ok { OnOk result (packed.new.items ≡ packed.old.items ++ samples.now) }
     ensures index_err { OnErr result (index.new.items ≡ index.old.items) }
     ensures packed_err { OnErr result (packed.new.items ≡ packed.old.items) }

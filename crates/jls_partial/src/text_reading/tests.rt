@@ -10,13 +10,13 @@ use std::test::Fail;
 const TWO_READINGS: &[u8] =
     b"JLSP\x01\x08\0\x01\0\x01\x01\x01\0\0\0\x01\0\0\0\0\0\0\0\0\0\0\x02\0\x03\0\x05";
 
-/// The components with the identifiers 1 and 2, one sample each, in version 1: 7 and 9.
+/// The components with the identifiers R and G, one sample each, in version 1: 65 and 66, the bytes of A and B.
 const TWO_COMPONENTS: &[u8] =
-    b"JLSP\x01\x08\0\x01\0\x01\x02\x01\x02\0\0\0\x02\0\0\0\0\0\0\0\0\0\0\x01\0\x07\x01\0\0\0\0\0\0\0\0\0\x01\0\x09";
+    b"JLSP\x01\x08\0\x01\0\x01\x02RG\0\0\0\x02\0\0\0\0\0\0\0\0\0\0\x01\0A\x01\0\0\0\0\0\0\0\0\0\x01\0B";
 
 /// The same in version 2.
 const TWO_COMPONENTS_2: &[u8] =
-    b"JLSP\x02\x08\0\x01\0\x01\x02\x01\x02\0\0\0\x02\0\0\0\0\0\0\0\0\0\0\x01\0\x07\0\0\0\0\0\0\0\0\x01\0\0\0\0\0\0\0\0\0\x01\0\x09\0\0\0\0\0\0\0\0";
+    b"JLSP\x02\x08\0\x01\0\x01\x02RG\0\0\0\x02\0\0\0\0\0\0\0\0\0\0\x01\0A\0\0\0\0\0\0\0\0\x01\0\0\0\0\0\0\0\0\0\x01\0B\0\0\0\0\0\0\0\0";
 
 /// A line of two samples with the readings 3, 5 and 3, 6, in version 1.
 const TWO_SAMPLES: &[u8] =
