@@ -14,7 +14,8 @@ use Rattle.jls_partial.specs.Status.{status_of}
 use Rattle.jls_partial.specs.declared.status.Status.TheVariants.{Settled}
 use Rattle.jls_partial.specs.Text.{text, IsPartial, IsTextOf}
 use Rattle.jls_partial.specs.TextReading.{byte_field, version_field}
-use Rattle.jls_partial.proofs.TextLaws.{fits_there, one_text}
+use Rattle.jls_partial.proofs.TextEntries.{fits_there}
+use Rattle.jls_partial.proofs.TextLaws.{one_text}
 use Rattle.jls_picture.specs.Picture.{WholePicture, line_of}
 use Rattle.jls_file_law.specs.Covering.{IsLineOf}
 use Rattle.jls_station.specs.Texts.{is_text}

@@ -2,6 +2,7 @@ pub mod BareEntries
 pub mod Entries
 pub mod Growth
 pub mod KeptEntries
+pub mod LineMarks
 pub mod LineSets
 pub mod MarkSets
 pub mod Marked
@@ -11,6 +12,7 @@ pub mod Parts
 pub mod ReadBack
 pub mod SameEntries
 pub mod Store
+pub mod TextEntries
 pub mod TextFields
 pub mod TextLaws
 pub mod TextLoops

@@ -1,9 +1,9 @@
 -- Sets of lines: what is kept, what one line more leaves, and lines taken one after the other.
 use Rattle.std.proofs.Common.{◌≡◌, ℕ, zero, suc, ◌+◌, ◌*◌, ◌<◌, ◌≤◌, Bool, true, false, not, cond, eqb, ◌&&◌, ◌||◌, List, [], ◌∷◌, ◌++◌, length, get_or, set, take, drop, map, Option, Some, None, refl, ap, sym, subst, ◌∙◌, append_assoc, arith}
-use Rattle.std.specs.Prelude.{IfSome, filter, slice_get}
+use Rattle.std.specs.Prelude.{IfSome, slice_get}
 use Rattle.std.specs.declared.cmp.Ordering.{Ordering}
-use Rattle.std.specs.declared.cmp.Ordering.TheVariants.{Less, Equal, Greater}
-use Rattle.std.specs.Cmp.{IsTotalOrder, both_ways}
+use Rattle.std.specs.declared.cmp.Ordering.TheVariants.{Less}
+use Rattle.std.specs.Cmp.{IsTotalOrder}
 use Rattle.std.specs.Cmp.Lexicographic.{slice_cmp}
 use Rattle.std.specs.List.{list_any, insert, AllByRecursion}
 use Rattle.std.specs.List.Sorted.{IsStrictlySortedBy}
@@ -12,23 +12,22 @@ use Rattle.std.proofs.Math.Seq.{map-set_same}
 use Rattle.std.proofs.lemmas.Bool.{and_parts, eqb-true}
 use Rattle.std.proofs.lemmas.Cmp.{tied_itself, eq_by_cmp_equiv, nat_cmp_total, nat_list_cmp_total}
 use Rattle.std.proofs.lemmas.List.{map-set, map-append, length-map, length-set, get_or-map, take_more}
-use Rattle.std.proofs.lemmas.List.Folds.{list_any-append}
 use Rattle.std.proofs.lemmas.Map.Lookups.{CmpEqualImpliesEq, exact_unsigned}
 use Rattle.jls_values.specs.Join.{IsBelow}
 use Rattle.jls_values.specs.OrderedSet as sets
 use Rattle.jls_values.specs.OrderedSetLaws.{items-from_list, same_set, contains-insert, contains-insert_all, contains-from_list, contains-items, contains-union, contains-empty, insert_all-append}
-use Rattle.jls_values.specs.SourceList.{IsSourceList}
 use Rattle.jls_partial.specs.declared.packed.Slot.{Slot}
 use Rattle.jls_partial.specs.declared.insert_fault.InsertFault.{InsertFault}
 use Rattle.jls_partial.specs.InsertFaults.{samples_fault}
-use Rattle.jls_partial.specs.LineSet.{PictureLines, with_line, with_lines, line_sources, union_of_lines, has_same_line_shape, AreLineMarksHeld, kept_lines as kept_lines_of}
+use Rattle.jls_partial.specs.LineSet.{PictureLines, with_lines, line_sources, union_of_lines, has_same_line_shape, AreLineMarksHeld, kept_lines as kept_lines_of}
 use Rattle.jls_partial.specs.LineSetLaws.{lines_total, lines_exact, line_marks_total, line_marks_exact}
 use Rattle.jls_partial.specs.Marks.{mark_cmp, marks_of}
-use Rattle.jls_partial.specs.MarkLaws.{eq_mark, contains-sources_of}
-use Rattle.jls_partial.specs.Packed.{Kept, kept_of, lines_of, IsPacked, IsGap}
+use Rattle.jls_partial.specs.MarkLaws.{contains-sources_of}
+use Rattle.jls_partial.specs.Packed.{Kept, kept_of, lines_of, IsGap}
 use Rattle.jls_partial.specs.PackedLines.{seen_lines, IsLineSet}
 use Rattle.jls_partial.specs.ReadingOrder.{same_samples}
-use Rattle.jls_partial.proofs.PackedLines.{kept_more, lines_more, packed_more, all-insert, any-insert, from_list-insert, gap-new, there-held, kept_lines, length-kept, inside_at, line_at}
+use Rattle.jls_partial.proofs.PackedLines.{kept_more, lines_more, packed_more, all-insert, from_list-insert, gap-new, there-held, kept_lines, length-kept, inside_at, line_at}
+use Rattle.jls_partial.proofs.LineMarks.{has_mark, any_marks, marks_hold, or_none, marks-insert, marks-set}
 
 abbrev S : List ℕ → List ℕ → Ordering
 S = slice_cmp nat_cmp
@@ -77,92 +76,6 @@ insert-held s x h = same_set lines_total lines_exact _ _ (λ q. contains-insert 
           | true ↦ λ e. sym h ∙ ap (sets.contains s) (sym (same_samples q x e))
           | false ↦ λ e. refl
         ] refl
-
--- ---- marks
-
-any_map_mark : (k l : List ℕ) (s : ℕ) (ss : List ℕ) → list_any (eq_by_cmp (mark_cmp S) (k, s)) (map (λ t. (l, t)) ss) ≡ (eq_by_cmp S k l && list_any (eq_by_cmp nat_cmp s) ss)
-any_map_mark k l s [] = none (eq_by_cmp S k l)
-  where
-    none : (b : Bool) → false ≡ (b && false)
-    none true = refl
-    none false = refl
-any_map_mark k l s (t ∷ ss) =
-    (λ i. eq_mark S k l s t i || any_map_mark k l s ss i) ∙ both (eq_by_cmp S k l) (eq_by_cmp nat_cmp s t) (list_any (eq_by_cmp nat_cmp s) ss)
-  where
-    both : (b c d : Bool) → ((b && c) || (b && d)) ≡ (b && (c || d))
-    both true c d = refl
-    both false c d = refl
-
--- whether a list of lines with sources has a mark
-abbrev pub has_mark : List ℕ → ℕ → List Kept → Bool
-has_mark x s ks = list_any (λ k. eq_by_cmp S x k.0 && list_any (eq_by_cmp nat_cmp s) k.1) ks
-
-pub any_marks : (x : List ℕ) (s : ℕ) (ks : List Kept) → list_any (eq_by_cmp (mark_cmp S) (x, s)) (marks_of ks) ≡ has_mark x s ks
-any_marks x s [] = refl
-any_marks x s (k ∷ ks) =
-    list_any-append (eq_by_cmp (mark_cmp S) (x, s)) (map (λ t. (k.0, t)) k.1) (marks_of ks)
-    ∙ (λ i. any_map_mark x k.0 s k.1 i || any_marks x s ks i)
-
--- what the set of the marks of a list contains
-pub marks_hold : (ks : List Kept) (x : List ℕ) (s : ℕ) → sets.contains (sets.from_list {R = mark_cmp S} (marks_of ks)) (x, s) ≡ has_mark x s ks
-marks_hold ks x s = contains-from_list line_marks_total (marks_of ks) (x, s) ∙ any_marks x s ks
-
-or_none : (b : Bool) → (b || false) ≡ b
-or_none true = refl
-or_none false = refl
-
-or_turn : (a b : Bool) → (a || b) ≡ (b || a)
-or_turn true true = refl
-or_turn true false = refl
-or_turn false true = refl
-or_turn false false = refl
-
--- a line put in with its sources
-pub marks-insert : (ks : List Kept) (i : ℕ) (x ss : List ℕ) → i ≤ length ks
-    → sets.from_list {R = mark_cmp S} (marks_of (insert ks i (x, ss))) ≡ sets.insert_all (sets.from_list {R = mark_cmp S} (marks_of ks)) (marks_of ((x, ss) ∷ []))
-marks-insert ks i x ss le = same_set line_marks_total line_marks_exact _ _ (λ m.
-    marks_hold (insert ks i (x, ss)) m.0 m.1
-    ∙ any-insert (λ k. eq_by_cmp S m.0 k.0 && list_any (eq_by_cmp nat_cmp m.1) k.1) ks i (x, ss) le
-    ∙ or_turn (eq_by_cmp S m.0 x && list_any (eq_by_cmp nat_cmp m.1) ss) (has_mark m.0 m.1 ks)
-    ∙ (λ j. sym (marks_hold ks m.0 m.1) j || sym (or_none (eq_by_cmp S m.0 x && list_any (eq_by_cmp nat_cmp m.1) ss)) j)
-    ∙ ap (λ b. sets.contains (sets.from_list {R = mark_cmp S} (marks_of ks)) m || b) (sym (any_marks m.0 m.1 ((x, ss) ∷ [])))
-    ∙ sym (contains-insert_all line_marks_total (sets.from_list (marks_of ks)) (marks_of ((x, ss) ∷ [])) m))
-
--- a line whose sources became more
-has-set : (ks : List Kept) (i : ℕ) (x old new ss : List ℕ) (d : Kept) (y : List ℕ) (s : ℕ) → i < length ks → get_or ks i d ≡ (x, old)
-    → list_any (eq_by_cmp nat_cmp s) new ≡ (list_any (eq_by_cmp nat_cmp s) old || list_any (eq_by_cmp nat_cmp s) ss) → has_mark y s (set ks i (x, new)) ≡ (has_mark y s ks || (eq_by_cmp S y x && list_any (eq_by_cmp nat_cmp s) ss))
-has-set [] i x old new ss d y s lt is more = absurd (omega arith)
-has-set (k ∷ ks) zero x old new ss d y s lt is more =
-    ap (λ b. (eq_by_cmp S y x && b) || has_mark y s ks) more
-    ∙ spread (eq_by_cmp S y x) (list_any (eq_by_cmp nat_cmp s) old) (list_any (eq_by_cmp nat_cmp s) ss) (has_mark y s ks)
-    ∙ ap (λ (j : Kept). ((eq_by_cmp S y j.0 && list_any (eq_by_cmp nat_cmp s) j.1) || has_mark y s ks) || (eq_by_cmp S y x && list_any (eq_by_cmp nat_cmp s) ss)) (sym is)
-  where
-    spread : (a b c d : Bool) → ((a && (b || c)) || d) ≡ (((a && b) || d) || (a && c))
-    spread true true true d = refl
-    spread true true false d = refl
-    spread true false true true = refl
-    spread true false true false = refl
-    spread true false false true = refl
-    spread true false false false = refl
-    spread false b c true = refl
-    spread false b c false = refl
-has-set (k ∷ ks) (suc i) x old new ss d y s lt is more =
-    ap (λ b. (eq_by_cmp S y k.0 && list_any (eq_by_cmp nat_cmp s) k.1) || b) (has-set ks i x old new ss d y s (omega arith) is more)
-    ∙ regroup (eq_by_cmp S y k.0 && list_any (eq_by_cmp nat_cmp s) k.1) (has_mark y s ks) (eq_by_cmp S y x && list_any (eq_by_cmp nat_cmp s) ss)
-  where
-    regroup : (a b c : Bool) → (a || (b || c)) ≡ ((a || b) || c)
-    regroup true b c = refl
-    regroup false b c = refl
-
-pub marks-set : (ks : List Kept) (i : ℕ) (x : List ℕ) (old : sets.OrderedSet nat_cmp) (ss : List ℕ) (d : Kept) → i < length ks → get_or ks i d ≡ (x, sets.items old)
-    → sets.from_list {R = mark_cmp S} (marks_of (set ks i (x, sets.items (sets.insert_all old ss)))) ≡ sets.insert_all (sets.from_list {R = mark_cmp S} (marks_of ks)) (marks_of ((x, ss) ∷ []))
-marks-set ks i x old ss d lt is = same_set line_marks_total line_marks_exact _ _ (λ m.
-    marks_hold (set ks i (x, sets.items (sets.insert_all old ss))) m.0 m.1
-    ∙ has-set ks i x (sets.items old) (sets.items (sets.insert_all old ss)) ss d m.0 m.1 lt is
-    (sym (contains-items (sets.insert_all old ss) m.1) ∙ contains-insert_all nat_cmp_total old ss m.1 ∙ ap (λ b. b || list_any (eq_by_cmp nat_cmp m.1) ss) (contains-items old m.1))
-    ∙ (λ j. sym (marks_hold ks m.0 m.1) j || sym (or_none (eq_by_cmp S m.0 x && list_any (eq_by_cmp nat_cmp m.1) ss)) j)
-    ∙ ap (λ b. sets.contains (sets.from_list {R = mark_cmp S} (marks_of ks)) m || b) (sym (any_marks m.0 m.1 ((x, ss) ∷ [])))
-    ∙ sym (contains-insert_all line_marks_total (sets.from_list (marks_of ks)) (marks_of ((x, ss) ∷ [])) m))
 
 -- ---- one line more
 

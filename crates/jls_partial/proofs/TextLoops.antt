@@ -1,8 +1,8 @@
 -- Reading one thing after the other, as a loop does.
-use Rattle.std.proofs.Common.{◌≡◌, ℕ, suc, ◌-◌, ◌+◌, ◌≤◌, ◌<◌, List, [], ◌∷◌, ◌++◌, map, length, Option, Some, None, Result, Ok, Err, refl, sym, ap, subst, ◌∙◌, append_assoc, arith}
-use Rattle.std.proofs.lemmas.Bool.{eq-eqb, ne_eqb}
-use Rattle.std.proofs.lemmas.List.{append-nil}
-use Rattle.std.specs.Int.{w32}
+use Rattle.std.proofs.Common.{◌≡◌, ℕ, suc, ◌-◌, ◌+◌, ◌≤◌, ◌<◌, List, [], ◌∷◌, ◌++◌, map, length, take, drop, cond, leb, ltb, Option, Some, None, Result, Ok, Err, refl, sym, ap, subst, ◌∙◌, append_assoc, arith}
+use Rattle.std.proofs.lemmas.Bool.{eq-eqb, ltb-false, ne_eqb}
+use Rattle.std.proofs.lemmas.List.{append-nil, length-drop}
+use Rattle.std.specs.Int.{w16, w32, from_be_bytes}
 use Rattle.std.proofs.lemmas.List.Concat.{flat_map-cons}
 use Rattle.jls_values.specs.Shape.{PictureShape}
 use Rattle.jls_partial.specs.declared.place.Place.{Place}
@@ -18,7 +18,7 @@ use Rattle.jls_partial.specs.TextInto.{with_readings, with_entry, with_entries}
 use Rattle.jls_partial.specs.Text.{magic}
 use Rattle.jls_partial.specs.TextReading.{◌>>=◌, Fails, offset, byte_field, number_field, magic_field, version_field, shape_fields, sample_field, samples_fields, source_field, sources_fields, reading_fields, own_sources_fields, kept_fields, readings_fields, entry_fields, entries_fields, text_fields, read_text}
 use Rattle.jls_partial.proofs.Growth.{with_all-append}
-use Rattle.jls_partial.proofs.TextFields.{bind_ok, ok_is, magic_then}
+use Rattle.jls_partial.proofs.TextFields.{bind_ok, guard_ok, ok_is, magic_then}
 use Rattle.jls_partial.proofs.TextReadings.{reading_fits}
 
 -- no fault, or one that reading gives: a fault of a later step is that of the whole
@@ -69,6 +69,17 @@ after_samples front read = read >>= λ x. Ok (front ++ x.0, x.1)
 regroup_samples : (front : List ℕ) (x : ℕ) (read : Result (List ℕ × List ℕ) TextFault) → after_samples front (read >>= λ y. Ok (x ∷ y.0, y.1)) ≡ after_samples (front ++ x ∷ []) read
 regroup_samples front x (Ok y) = ap (λ (xs : List ℕ). Ok (xs, y.1)) (sym (append_assoc front (x ∷ []) y.0))
 regroup_samples front x (Err f) = refl
+
+-- a sample that is read has taken two bytes
+pub sample_len : (size limit : ℕ) (bytes : List ℕ) (x : ℕ) (after : List ℕ) → sample_field size limit bytes ≡ Ok (x, after) → length bytes ≡ length after + 2
+unfolding sample_field
+sample_len size limit bytes x after e =
+    let a = bind_ok (number_field size w16 bytes) (λ s. cond (leb limit s.0) (Err (fault.Sample (offset size bytes))) (Ok s)) (x, after) e in
+    let g = guard_ok (ltb (length bytes) 2) (fault.Truncated size) (from_be_bytes w16 (take 2 bytes), drop 2 bytes) a.0 a.1 in
+    let h = guard_ok (leb limit a.0.0) (fault.Sample (offset size bytes)) a.0 (x, after) a.2 in
+    let long : 2 ≤ length bytes = ltb-false _ _ g.0 in
+    let rest : length (drop 2 bytes) ≡ length after = ap (λ (p : ℕ × List ℕ). length p.1) (g.1 ∙ h.1) in
+    omega (arith, long, rest, length-drop 2 bytes)
 
 pub samples_go_on : (size limit : ℕ) (front : List ℕ) (count i : ℕ) (bytes : List ℕ) (x : ℕ) (after : List ℕ) (total : Result (List ℕ × List ℕ) TextFault) → i < count → sample_field size limit bytes ≡ Ok (x, after)
     → after_samples front (samples_fields size limit (count - i) bytes) ≡ total → after_samples (front ++ x ∷ []) (samples_fields size limit (count - (i + 1)) after) ≡ total

@@ -48,12 +48,14 @@ module _ {K : Type 0} {R : K → K → Ordering} (o : IsTotalOrder R) (exact : C
   -- sets whose items the test finds equal are one
   same_sets : (s t : set.OrderedSet R) → pointwise (eq_by_cmp R) (set.items s) (set.items t) ≡ true → s ≡ t
   same_sets s t e =
-      same_set o exact s t (λ k. contains-items s k ∙ ap (list_any (eq_by_cmp R k)) (same_items (set.items s) (set.items t) e) ∙ sym (contains-items t k))
+      same_set o exact s t (λ k. contains-items s k ∙ ap (list_any (eq_by_cmp R k)) (same_items (set.items s) (set.items t) e)
+      ∙ sym (contains-items t k))
 
 -- a partial picture passes the test with itself
 pub are_same_pictures-itself : (p : PartialPicture) → are_same_pictures p p ≡ true
 are_same_pictures-itself p =
-    rw (shape_itself p.shape, items_themselves reading_total reading_exact (set.items p.readings)) (items_themselves marks_total marks_exact (set.items p.marks))
+    rw (shape_itself p.shape, items_themselves reading_total reading_exact (set.items p.readings))
+    (items_themselves marks_total marks_exact (set.items p.marks))
 
 -- partial pictures that pass the test are one
 pub one_partial : (p q : PartialPicture) → are_same_pictures p q ≡ true → p ≡ q

@@ -19,7 +19,8 @@ pub record PictureLines : Type 0 where
 abbrev pub coded_lines : Coded PictureLines
 coded_lines = code_by (ℕ × (ℕ × (set.OrderedSet (slice_cmp nat_cmp) × set.OrderedSet (mark_cmp (slice_cmp nat_cmp)))))
     (coded× coded_ℕ (coded× coded_ℕ (coded× (set.code (coded_list coded_ℕ)) (set.code (coded× (coded_list coded_ℕ) coded_ℕ)))))
-    (λ s. (s.precision, (s.width, (s.lines, s.marks)))) (λ p. record { precision = p.0; width = p.1.0; lines = p.1.1.0; marks = p.1.1.1 }) (λ _. refl)
+    (λ s. (s.precision, (s.width, (s.lines, s.marks)))) (λ p. record { precision = p.0; width = p.1.0; lines = p.1.1.0; marks = p.1.1.1 })
+    (λ _. refl)
 
 -- no line
 abbrev pub no_lines : ℕ → ℕ → PictureLines
@@ -35,7 +36,12 @@ with_line s samples = record { precision = s.precision; width = s.width; lines =
 
 -- with all of these lines and their source numbers
 abbrev pub with_lines : PictureLines → List (List ℕ × List ℕ) → PictureLines
-with_lines s ks = record { precision = s.precision; width = s.width; lines = set.insert_all s.lines (map (λ k. k.0) ks); marks = set.insert_all s.marks (marks_of ks) }
+with_lines s ks = record {
+  precision = s.precision;
+  width = s.width;
+  lines = set.insert_all s.lines (map (λ k. k.0) ks);
+  marks = set.insert_all s.marks (marks_of ks);
+}
 
 -- all lines in ascending order, each with its sources
 abbrev pub kept_lines : PictureLines → List (List ℕ × List ℕ)
@@ -47,7 +53,12 @@ AreLineMarksHeld s = (samples : List ℕ) (source : ℕ) → set.contains s.mark
 
 -- what either of two of one precision and width holds
 abbrev pub union_of_lines : PictureLines → PictureLines → PictureLines
-union_of_lines s t = record { precision = s.precision; width = s.width; lines = set.union s.lines t.lines; marks = set.union s.marks t.marks }
+union_of_lines s t = record {
+  precision = s.precision;
+  width = s.width;
+  lines = set.union s.lines t.lines;
+  marks = set.union s.marks t.marks;
+}
 
 -- whether both have one precision and one width, and so can be joined
 abbrev pub has_same_line_shape : PictureLines → PictureLines → Bool

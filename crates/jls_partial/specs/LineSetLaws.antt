@@ -58,7 +58,22 @@ line_set_laws = record {
   symmetric = λ x y. both_ways (has_same_line_shape x y) (has_same_line_shape y x) (test_turned x y) (test_turned y x);
   transitive = test_along;
   join_same_shape = λ x y e. itself x;
-  idempotent = λ x. λ i. record { precision = x.precision; width = x.width; lines = union-idempotent lines_total lines_exact x.lines i; marks = union-idempotent line_marks_total line_marks_exact x.marks i };
-  commutative = λ x y e. let p = agree x y e in λ i. record { precision = p.0 i; width = p.1 i; lines = union-commutative lines_total lines_exact x.lines y.lines i; marks = union-commutative line_marks_total line_marks_exact x.marks y.marks i };
-  associative = λ x y z e f. λ i. record { precision = x.precision; width = x.width; lines = union-associative lines_total lines_exact x.lines y.lines z.lines i; marks = union-associative line_marks_total line_marks_exact x.marks y.marks z.marks i };
+  idempotent = λ x. λ i. record {
+    precision = x.precision;
+    width = x.width;
+    lines = union-idempotent lines_total lines_exact x.lines i;
+    marks = union-idempotent line_marks_total line_marks_exact x.marks i;
+  };
+  commutative = λ x y e. let p = agree x y e in λ i. record {
+    precision = p.0 i;
+    width = p.1 i;
+    lines = union-commutative lines_total lines_exact x.lines y.lines i;
+    marks = union-commutative line_marks_total line_marks_exact x.marks y.marks i;
+  };
+  associative = λ x y z e f. λ i. record {
+    precision = x.precision;
+    width = x.width;
+    lines = union-associative lines_total lines_exact x.lines y.lines z.lines i;
+    marks = union-associative line_marks_total line_marks_exact x.marks y.marks z.marks i;
+  };
 }

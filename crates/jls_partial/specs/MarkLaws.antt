@@ -21,7 +21,8 @@ pub mark_exact : {K : Type 0} {R : K → K → Ordering} → CmpEqualImpliesEq R
 mark_exact {K} {R} exact a b h = exact_pairs R nat_cmp exact exact_unsigned a b h
 
 -- two marks are one exactly if they have one item and one number
-pub eq_mark : {K : Type 0} (R : K → K → Ordering) (k l : K) (s t : ℕ) → eq_by_cmp (mark_cmp R) (k, s) (l, t) ≡ (eq_by_cmp R k l && eq_by_cmp nat_cmp s t)
+pub eq_mark : {K : Type 0} (R : K → K → Ordering) (k l : K) (s t : ℕ) → eq_by_cmp (mark_cmp R) (k, s) (l, t)
+    ≡ (eq_by_cmp R k l && eq_by_cmp nat_cmp s t)
 eq_mark R k l s t = both (R k l) (nat_cmp s t)
   where
     both : (r q : Ordering) → is_eq (ordering_then r q) ≡ (is_eq r && is_eq q)
@@ -30,15 +31,25 @@ eq_mark R k l s t = both (R k l) (nat_cmp s t)
     both Greater q = refl
 
 -- a number is among the sources of an item exactly if the item has that mark
-any_of_item : {K : Type 0} (R : K → K → Ordering) (k : K) (s : ℕ) (ms : List (K × ℕ)) → list_any (eq_by_cmp nat_cmp s) (map (λ m. m.1) (filter (λ m. eq_by_cmp R k m.0) ms)) ≡ list_any (eq_by_cmp (mark_cmp R) (k, s)) ms
+any_of_item : {K : Type 0} (R : K → K → Ordering) (k : K) (s : ℕ) (ms : List (K × ℕ))
+    → list_any (eq_by_cmp nat_cmp s) (map (λ m. m.1) (filter (λ m. eq_by_cmp R k m.0) ms)) ≡ list_any (eq_by_cmp (mark_cmp R) (k, s)) ms
 any_of_item R k s [] = refl
 any_of_item {K} R k s (m ∷ ms) =
     elim (eq_by_cmp R k m.0) as (λ b. eq_by_cmp R k m.0 ≡ b →
-    list_any (eq_by_cmp nat_cmp s) (map (λ (m : K × ℕ). m.1) (cond b (m ∷ filter (λ (m : K × ℕ). eq_by_cmp R k m.0) ms) (filter (λ (m : K × ℕ). eq_by_cmp R k m.0) ms))) ≡ (eq_by_cmp (mark_cmp R) (k, s) m || list_any (eq_by_cmp (mark_cmp R) (k, s)) ms)) [
-      | true ↦ λ e. (λ i. eq_by_cmp nat_cmp s m.1 || any_of_item R k s ms i) ∙ ap (λ b. b || list_any (eq_by_cmp (mark_cmp R) (k, s)) ms) (sym (eq_mark R k m.0 s m.1 ∙ ap (λ b. b && eq_by_cmp nat_cmp s m.1) e))
-      | false ↦ λ e. any_of_item R k s ms ∙ ap (λ b. b || list_any (eq_by_cmp (mark_cmp R) (k, s)) ms) (sym (eq_mark R k m.0 s m.1 ∙ ap (λ b. b && eq_by_cmp nat_cmp s m.1) e))
+    list_any (eq_by_cmp nat_cmp s)
+    (map (λ (m : K × ℕ). m.1) (cond b (m ∷ filter (λ (m : K × ℕ). eq_by_cmp R k m.0) ms)
+    (filter (λ (m : K × ℕ). eq_by_cmp R k m.0) ms)))
+    ≡ (eq_by_cmp (mark_cmp R) (k, s) m || list_any (eq_by_cmp (mark_cmp R) (k, s)) ms)) [
+      | true ↦ λ e. (λ i. eq_by_cmp nat_cmp s m.1 || any_of_item R k s ms i)
+          ∙ ap (λ b. b || list_any (eq_by_cmp (mark_cmp R) (k, s)) ms)
+          (sym (eq_mark R k m.0 s m.1 ∙ ap (λ b. b && eq_by_cmp nat_cmp s m.1) e))
+      | false ↦ λ e. any_of_item R k s ms
+          ∙ ap (λ b. b || list_any (eq_by_cmp (mark_cmp R) (k, s)) ms)
+          (sym (eq_mark R k m.0 s m.1 ∙ ap (λ b. b && eq_by_cmp nat_cmp s m.1) e))
     ] refl
 
 pub contains-sources_of : {K : Type 0} (R : K → K → Ordering) (marks : set.OrderedSet (mark_cmp R)) (k : K) (s : ℕ)
-    → set.contains (set.from_list {R = nat_cmp} (map (λ m. m.1) (filter (λ m. eq_by_cmp R k m.0) (set.items marks)))) s ≡ set.contains marks (k, s)
-contains-sources_of R marks k s = contains-from_list nat_cmp_total _ s ∙ any_of_item R k s (set.items marks) ∙ sym (contains-items marks (k, s))
+    → set.contains (set.from_list {R = nat_cmp} (map (λ m. m.1) (filter (λ m. eq_by_cmp R k m.0) (set.items marks)))) s
+    ≡ set.contains marks (k, s)
+contains-sources_of R marks k s = contains-from_list nat_cmp_total _ s ∙ any_of_item R k s (set.items marks)
+    ∙ sym (contains-items marks (k, s))

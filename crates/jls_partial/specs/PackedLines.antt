@@ -10,7 +10,12 @@ use Rattle.jls_partial.specs.Packed.{kept_of, lines_of, IsPacked}
 
 -- the set that they are seen as
 abbrev pub seen_lines : ℕ → ℕ → List ℕ → List Slot → PictureLines
-seen_lines precision width packed slots = record { precision = precision; width = width; lines = set.from_list (lines_of width packed slots); marks = set.from_list (marks_of (kept_of width packed slots)) }
+seen_lines precision width packed slots = record {
+  precision = precision;
+  width = width;
+  lines = set.from_list (lines_of width packed slots);
+  marks = set.from_list (marks_of (kept_of width packed slots));
+}
 
 -- the lines are packed, and each fits the precision and the width
 pub record IsLineSet (precision width : ℕ) (packed : List ℕ) (slots : List Slot) : Type 0 where

@@ -19,7 +19,8 @@ pub record PartialPicture : Type 0 where
 -- the checker's logic stores a shape as its four parts
 abbrev pub coded_shape : Coded PictureShape
 coded_shape = code_by (ℕ × (ℕ × (ℕ × List ℕ))) (coded× coded_ℕ (coded× coded_ℕ (coded× coded_ℕ (coded_list coded_ℕ))))
-    (λ s. (s.precision, (s.width, (s.height, s.ids)))) (λ p. record { precision = p.0; width = p.1.0; height = p.1.1.0; ids = p.1.1.1 }) (λ _. refl)
+    (λ s. (s.precision, (s.width, (s.height, s.ids)))) (λ p. record { precision = p.0; width = p.1.0; height = p.1.1.0; ids = p.1.1.1 })
+    (λ _. refl)
 
 -- and a partial picture as its three parts
 abbrev pub coded_partial : Coded PartialPicture
@@ -71,7 +72,8 @@ readings_at p component line = map (λ r. r.samples) (filter (λ r. r.component 
 
 -- each reading that is held fits the shape
 abbrev pub IsFitting : PartialPicture → Type 0
-IsFitting p = (component line : ℕ) (samples : List ℕ) → holds p component line samples ≡ true → reading_fault p.shape component line samples ≡ None
+IsFitting p = (component line : ℕ) (samples : List ℕ)
+    → holds p component line samples ≡ true → reading_fault p.shape component line samples ≡ None
 
 -- each line has fewer than 2^64 readings, so that their number fits into eight bytes
 abbrev pub IsCountable : PartialPicture → Type 0

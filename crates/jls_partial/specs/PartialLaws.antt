@@ -20,7 +20,8 @@ pub same_list : (xs ys : List ℕ) → pointwise nat_eq xs ys ≡ true → xs �
 same_list [] [] e = refl
 same_list [] (y ∷ ys) e = absurd cc
 same_list (x ∷ xs) [] e = absurd cc
-same_list (x ∷ xs) (y ∷ ys) e = let p = and_parts (nat_eq x y) (pointwise nat_eq xs ys) e in (λ i. eqb-true x y p.0 i ∷ same_list xs ys p.1 i)
+same_list (x ∷ xs) (y ∷ ys) e = let p = and_parts (nat_eq x y) (pointwise nat_eq xs ys) e in
+    (λ i. eqb-true x y p.0 i ∷ same_list xs ys p.1 i)
 
 -- a list passes the test with itself
 pub itself_list : (xs : List ℕ) → pointwise nat_eq xs xs ≡ true
@@ -33,7 +34,12 @@ one_shape s t e =
     let p = and_parts _ (pointwise nat_eq s.ids t.ids) e in
     let q = and_parts _ (s.height == t.height) p.0 in
     let r = and_parts (s.precision == t.precision) (s.width == t.width) q.0 in
-    λ i. record { precision = eqb-true s.precision t.precision r.0 i; width = eqb-true s.width t.width r.1 i; height = eqb-true s.height t.height q.1 i; ids = same_list s.ids t.ids p.1 i }
+    λ i. record {
+      precision = eqb-true s.precision t.precision r.0 i;
+      width = eqb-true s.width t.width r.1 i;
+      height = eqb-true s.height t.height q.1 i;
+      ids = same_list s.ids t.ids p.1 i;
+    }
 
 -- a shape passes the test with itself
 pub shape_itself : (s : PictureShape) → same_shape s s ≡ true

@@ -11,7 +11,8 @@ use Rattle.jls_partial.specs.Status.{IsSettled}
 -- it has the picture's shape, and says of a line nothing that the picture does not say
 pub record IsPartOf (picture part : PartialPicture) : Type 0 where
   pub shape : part.shape ≡ picture.shape
-  pub readings : (component line : ℕ) (samples : List ℕ) → holds part component line samples ≡ true → holds picture component line samples ≡ true
+  pub readings : (component line : ℕ) (samples : List ℕ)
+      → holds part component line samples ≡ true → holds picture component line samples ≡ true
 
 -- one of these partial pictures has a reading of the line
 abbrev pub IsHeld : List PartialPicture → ℕ → ℕ → Type 0
@@ -36,7 +37,8 @@ all_marks (p ∷ ps) = set.union p.marks (all_marks ps)
 
 -- a join has the marks of all of its members, and no others
 abbrev pub JoinsHoldAllMarks : Type 0
-JoinsHoldAllMarks = (first : PartialPicture) (others : List PartialPicture) → (join_all union first others).marks ≡ all_marks (first ∷ others)
+JoinsHoldAllMarks = (first : PartialPicture) (others : List PartialPicture) → (join_all union first others).marks
+    ≡ all_marks (first ∷ others)
 
 -- the picture, with the sources that these give its readings
 abbrev pub sourced : List PartialPicture → PartialPicture → PartialPicture

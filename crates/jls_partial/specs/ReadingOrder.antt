@@ -19,11 +19,13 @@ place_total = then_total (on_total (λ (p : Place). p.component) nat_cmp_total) 
 
 -- places that tie are one
 pub place_exact : CmpEqualImpliesEq place_cmp
-place_exact a b h = ap (λ (p : ℕ × ℕ). record { component = p.0; line = p.1 }) (exact_pairs nat_cmp nat_cmp exact_unsigned exact_unsigned (a.component, a.line) (b.component, b.line) h)
+place_exact a b h = ap (λ (p : ℕ × ℕ). record { component = p.0; line = p.1 })
+    (exact_pairs nat_cmp nat_cmp exact_unsigned exact_unsigned (a.component, a.line) (b.component, b.line) h)
 
 -- readings are in a total order
 pub reading_total : IsTotalOrder reading_cmp
-reading_total = then_total (on_total (λ (r : Reading). r.component) nat_cmp_total) (then_total (on_total (λ (r : Reading). r.line) nat_cmp_total) (on_total (λ (r : Reading). r.samples) nat_list_cmp_total))
+reading_total = then_total (on_total (λ (r : Reading). r.component) nat_cmp_total)
+    (then_total (on_total (λ (r : Reading). r.line) nat_cmp_total) (on_total (λ (r : Reading). r.samples) nat_list_cmp_total))
 
 -- the order of what follows the component
 abbrev rest_cmp : ℕ × List ℕ → ℕ × List ℕ → Ordering
@@ -47,7 +49,8 @@ three Equal Greater t = refl
 three Greater s t = refl
 
 -- two readings are one exactly if they have one place and one list of samples
-pub eq_reading : (r : Reading) (p : Place) (x : List ℕ) → eq_by_cmp reading_cmp r (record { component = p.component; line = p.line; samples = x })
+pub eq_reading : (r : Reading) (p : Place) (x : List ℕ)
+    → eq_by_cmp reading_cmp r (record { component = p.component; line = p.line; samples = x })
     ≡ (eq_by_cmp place_cmp (place_of r) p && eq_by_cmp (slice_cmp nat_cmp) r.samples x)
 eq_reading r p x = three (nat_cmp r.component p.component) (nat_cmp r.line p.line) (slice_cmp nat_cmp r.samples x)
 

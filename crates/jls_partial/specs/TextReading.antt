@@ -1,7 +1,8 @@
 -- Reading a text from the front, with the first fault that is met and its offset.
 -- Each reader answers a value and the bytes after it, or a fault; the magic has no value. `size` is the length of the
 -- whole text, so that the offset of what is next is the size less the length of what is left.
-use Rattle.std.specs.Prelude.{◌≡◌, ℕ, zero, suc, ◌-◌, ◌^◌, Bool, true, ◌&&◌, ◌==◌, nat_lt, nat_le, List, [], ◌∷◌, length, take, drop, Option, Some, None, Result, Ok, Err, if◌then◌else◌}
+use Rattle.std.specs.Prelude.{◌≡◌, ℕ, zero, suc, ◌-◌, ◌^◌, Bool, true, ◌&&◌, ◌==◌, nat_lt, nat_le, List, [], ◌∷◌, length, take, drop}
+use Rattle.std.specs.Prelude.{Option, Some, None, Result, Ok, Err, if◌then◌else◌}
 use Rattle.std.specs.Int.{Width, w16, w32, w64, byte_len, from_be_bytes}
 use Rattle.std.specs.Ordering.{nat_cmp, is_lt}
 use Rattle.std.specs.Cmp.Lexicographic.{slice_cmp}
@@ -168,7 +169,8 @@ readings_fields size version shape before (suc n) bytes = do
 -- whether an entry of this line may follow the entry before: the picture has the line, and it is after that of the entry before
 abbrev pub may_follow : PictureShape → Option Place → Place → Bool
 may_follow shape None place = nat_lt place.component (length shape.ids) && nat_lt place.line shape.height
-may_follow shape (Some before) place = is_lt (place_cmp before place) && (nat_lt place.component (length shape.ids) && nat_lt place.line shape.height)
+may_follow shape (Some before) place = is_lt (place_cmp before place)
+    && (nat_lt place.component (length shape.ids) && nat_lt place.line shape.height)
 
 -- the line of an entry
 unfoldable pub place_fields : ℕ → PictureShape → Option Place → List ℕ → Result (Place × List ℕ) TextFault

@@ -1,7 +1,8 @@
 //! Sets of lines of one width.
 
 ghost use Rattle.jls_partial.specs.InsertFaults.{samples_fault, Refuses};
-ghost use Rattle.jls_partial.specs.LineSet.{no_lines, line_sources, AreLineMarksHeld, with_line, with_lines, union_of_lines, has_same_line_shape};
+ghost use Rattle.jls_partial.specs.LineSet.{no_lines, line_sources, AreLineMarksHeld, with_line, with_lines, union_of_lines};
+ghost use Rattle.jls_partial.specs.LineSet.{has_same_line_shape};
 ghost use Rattle.jls_values.specs.Join.{IsBetween};
 ghost use Rattle.jls_values.specs.OrderedSet as set;
 ghost use Rattle.std.specs.Prelude.{◌≡◌, ◌<◌, ◌≤◌, ◌∷◌, [], length, true, not, IfOk, IfSome, OnOk, OnErr, IsOk, None, Some, slice_get};

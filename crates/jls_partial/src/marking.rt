@@ -24,7 +24,8 @@ fn mark_line(partial: &mut Partial, component: u8, line: u16, source: u32) -> Re
 /// Adds a source to each reading of a component.
 fn mark_component(partial: &mut Partial, component: u8, source: u32) -> Result<(), AllocError>
     requires { component < length partial.old.shape.ids }
-    ensures ok { OnOk result (partial.new ≡ with_marks partial.old source (readings_of_lines partial.old component partial.old.shape.height)) }
+    ensures ok { OnOk result (partial.new
+        ≡ with_marks partial.old source (readings_of_lines partial.old component partial.old.shape.height)) }
     ensures err { OnErr result (MarksSome partial.old source partial.new) }
 {
     for line in 0..partial.shape().height() {
@@ -35,7 +36,8 @@ fn mark_component(partial: &mut Partial, component: u8, source: u32) -> Result<(
 
 /// Adds a source to each reading.
 fn mark_components(partial: &mut Partial, source: u32) -> Result<(), AllocError>
-    ensures ok { OnOk result (partial.new ≡ with_marks partial.old source (readings_of_components partial.old (length partial.old.shape.ids))) }
+    ensures ok { OnOk result (partial.new
+        ≡ with_marks partial.old source (readings_of_components partial.old (length partial.old.shape.ids))) }
     ensures err { OnErr result (MarksSome partial.old source partial.new) }
     ensures fitting { IsFitting partial.old }
 {

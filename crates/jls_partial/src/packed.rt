@@ -55,7 +55,8 @@ pub(crate) fn find(
     Err(low)
 }
 
-/// Puts a line at its place in the index. All room is made before anything changes.
+/// Puts a line at its place in the index. All room is made before anything changes. A first line gets no more room than it needs,
+/// since most sets stay with one.
 pub(crate) fn put(
     index: &mut Vec<Slot>,
     packed: &mut Vec<u16>,
@@ -64,12 +65,16 @@ pub(crate) fn put(
     sources: SourceSet,
 ) -> Result<(), AllocError>
     requires { at ≤ vec_len index.old }
-    ensures index_ok { OnOk result (index.new.items ≡ insert index.old.items at (record { start = length packed.old.items; sources = sources })) }
+    ensures index_ok { OnOk result
+        (index.new.items ≡ insert index.old.items at (record { start = length packed.old.items; sources = sources })) }
     ensures packed_ok { OnOk result (packed.new.items ≡ packed.old.items ++ samples.now) }
     ensures index_err { OnErr result (index.new.items ≡ index.old.items) }
     ensures packed_err { OnErr result (packed.new.items ≡ packed.old.items) }
 {
     packed.reserve(samples.len())?;
+    if index.is_empty() {
+        index.reserve_exact(1)?;
+    }
     let start = packed.len();
     index.insert(at, Slot { start, sources })?;
     match packed.extend_from_slice(samples) {

@@ -4,13 +4,15 @@ ghost use Rattle.jls_partial.specs.Entries.{at_place, partial_of};
 ghost use Rattle.jls_partial.specs.Held.{FitsIn, IsLineEntry, PutsAt, PutsLine, lines_or, kept_entry};
 ghost use Rattle.jls_partial.specs.InsertFaults.{reading_fault, Refuses};
 ghost use Rattle.jls_partial.specs.LineSet.{no_lines};
-ghost use Rattle.jls_partial.specs.Partial.{nothing_known, holds, with_reading, with_all, with_marks, readings_at, sources_at, IsFitting, IsCountable, AreMarksHeld, AreSourcesSmall};
+ghost use Rattle.jls_partial.specs.Partial.{nothing_known, holds, with_reading, with_all, with_marks, readings_at, sources_at, IsFitting};
+ghost use Rattle.jls_partial.specs.Partial.{IsCountable, AreMarksHeld, AreSourcesSmall};
 ghost use Rattle.jls_partial.specs.Place.{place_cmp};
 ghost use Rattle.jls_partial.specs.Text.{entries};
 ghost use Rattle.jls_values.specs.OrderedSet as set;
 ghost use Rattle.std.specs.BTreeMap.{IsOrdered};
 ghost use Rattle.std.specs.List.{AllByRecursion};
-ghost use Rattle.std.specs.Prelude.{◌≡◌, ◌<◌, ◌≤◌, ◌^◌, ◌∷◌, [], length, map, true, not, IfOk, IfSome, OnOk, OnErr, IsOk, Some, None, slice_get};
+ghost use Rattle.std.specs.Prelude.{◌≡◌, ◌<◌, ◌≤◌, ◌^◌, ◌∷◌, [], length, map, true, not, IfOk, IfSome, OnOk, OnErr, IsOk, Some, None};
+ghost use Rattle.std.specs.Prelude.{slice_get};
 
 use crate::insert_fault::{InsertFault, find_reading_fault};
 use crate::line_set::LineSet;
@@ -69,7 +71,8 @@ fn put(
 ) -> Result<(), AllocError>
     requires { FitsIn (lines_or none store.old.entries at) samples.now }
     ensures ok { OnOk result (PutsAt store.old.entries at (lines_or none store.new.entries at) store.new.entries) }
-    ensures lines { OnOk result (PutsLine (lines_or none store.old.entries at) samples.now sources.now (lines_or none store.new.entries at)) }
+    ensures lines { OnOk result (PutsLine (lines_or none store.old.entries at) samples.now sources.now
+        (lines_or none store.new.entries at)) }
     ensures err { OnErr result (store.new.entries ≡ store.old.entries) }
     ensures ordered { IsOrdered place_cmp store.new }
 {
@@ -194,7 +197,8 @@ impl Partial {
         requires component_in { at.component < length self.old.shape.ids }
         requires line_in { at.line < self.old.shape.height }
         requires i_in { i < length (readings_at self.old at.component at.line) }
-        ensures ok { OnOk result (IfSome (slice_get (readings_at self.old at.component at.line) i) (λ samples. self.new ≡ with_marks self.old source (at_place at samples ∷ []))) }
+        ensures ok { OnOk result (IfSome (slice_get (readings_at self.old at.component at.line) i)
+            (λ samples. self.new ≡ with_marks self.old source (at_place at samples ∷ []))) }
         ensures err { OnErr result (self.new ≡ self.old) }
     {
         let samples = Vec::from_slice(self.alloc, self.reading(at.component, at.line, i))?;
@@ -228,7 +232,8 @@ impl Partial {
         requires component_in { component < length self.now.shape.ids }
         requires line_in { line < self.now.shape.height }
         requires i_in { i < length (readings_at self.now component line) }
-        ensures { IfSome (slice_get (readings_at self.now component line) i) (λ samples. result.now ≡ sources_at self.now component line samples) }
+        ensures { IfSome (slice_get (readings_at self.now component line) i)
+            (λ samples. result.now ≡ sources_at self.now component line samples) }
     {
         lines_at(&self.store, Place { component, line }).sources(i)
     }

@@ -1,7 +1,8 @@
 //! The fields of a text, read from the front. `size` is the length of the whole text in bytes, so that
 //! what is left of it tells the offset.
 
-ghost use Rattle.jls_partial.specs.TextReading.{GivesText, byte_field, bytes_field, number_field, magic_field, version_field, unless_bad_shape, shape_fields, sample_field, source_field, place_fields, count_field};
+ghost use Rattle.jls_partial.specs.TextReading.{GivesText, byte_field, bytes_field, number_field, magic_field, version_field};
+ghost use Rattle.jls_partial.specs.TextReading.{unless_bad_shape, shape_fields, sample_field, source_field, place_fields, count_field};
 ghost use Rattle.std.specs.Int.{w16, w32, w64};
 ghost use Rattle.std.specs.Prelude.{◌≡◌};
 

@@ -3,7 +3,8 @@
 ghost use Rattle.jls_partial.specs.Partial.{PartialPicture};
 ghost use Rattle.jls_partial.specs.Text.{IsTextOf};
 ghost use Rattle.jls_partial.specs.TextInto.{with_readings, with_entry, with_entries};
-ghost use Rattle.jls_partial.specs.TextReading.{GivesText, samples_fields, reading_fields, sources_fields, own_sources_fields, kept_fields, readings_fields, entry_fields, entries_fields, read_text};
+ghost use Rattle.jls_partial.specs.TextReading.{GivesText, samples_fields, reading_fields, sources_fields, own_sources_fields, kept_fields};
+ghost use Rattle.jls_partial.specs.TextReading.{readings_fields, entry_fields, entries_fields, read_text};
 ghost use Rattle.std.specs.Option.{option_map};
 ghost use Rattle.std.specs.Prelude.{◌≡◌, ◌<◌, length, None, Ok, IfOk};
 
@@ -18,7 +19,7 @@ use crate::version::Version;
 use jls_values::Shape;
 use std::alloc::Global;
 
-/// As many samples as `count` says. The vector grows with the bytes that are there.
+/// As many samples as `count` says. Room is made for those whose bytes are there.
 fn read_samples(
     alloc: Global,
     size: u64,
@@ -28,11 +29,11 @@ fn read_samples(
 ) -> Result<(Vec<u16>, &[u8]), TextFault>
     ensures { GivesText (λ x. (x.0.items, x.1.now)) result (samples_fields size limit count bytes.now) }
 {
-    let mut samples = Vec::new(alloc);
+    let mut samples = Vec::with_capacity(alloc, (bytes.len() / 2).min(count as usize))?;
     let mut rest = bytes;
     for _ in 0..count {
         let (sample, after) = read_sample(size, limit, rest)?;
-        samples.push(sample)?;
+        samples.push_reserved(sample);
         rest = after;
     }
     Ok((samples, rest))
@@ -57,7 +58,8 @@ fn read_reading<'a>(
     before: &Option<Vec<u16>>,
     bytes: &'a [u8],
 ) -> Result<(Vec<u16>, &'a [u8]), TextFault>
-    ensures { GivesText (λ x. (x.0.items, x.1.now)) result (reading_fields size shape.now (option_map (λ v. v.items) before.now) bytes.now) }
+    ensures { GivesText (λ x. (x.0.items, x.1.now)) result
+        (reading_fields size shape.now (option_map (λ v. v.items) before.now) bytes.now) }
 {
     let limit = 2u32.pow(shape.precision() as u32);
     let (samples, rest) = read_samples(alloc, size, limit, shape.width(), bytes)?;
@@ -123,7 +125,8 @@ fn read_kept<'a>(
     before: &Option<Vec<u16>>,
     bytes: &'a [u8],
 ) -> Result<(Vec<u16>, Vec<u32>, &'a [u8]), TextFault>
-    ensures { GivesText (λ x. ((x.0.items, x.1.items), x.2.now)) result (kept_fields form.size form.version shape.now (option_map (λ v. v.items) before.now) bytes.now) }
+    ensures { GivesText (λ x. ((x.0.items, x.1.items), x.2.now)) result
+        (kept_fields form.size form.version shape.now (option_map (λ v. v.items) before.now) bytes.now) }
 {
     let (samples, behind) = read_reading(form.alloc, form.size, shape, before, bytes)?;
     let (sources, rest) = read_own_sources(form.alloc, form.size, form.version, behind)?;
@@ -140,7 +143,8 @@ fn read_readings<'a>(
 ) -> Result<&'a [u8], TextFault>
     requires component_in { at.component < length partial.now.shape.ids }
     requires line_in { at.line < partial.now.shape.height }
-    ensures { GivesText (λ x. (partial.new, x.now)) result (with_readings partial.old at (readings_fields form.size form.version partial.old.shape None count bytes.now)) }
+    ensures { GivesText (λ x. (partial.new, x.now)) result
+        (with_readings partial.old at (readings_fields form.size form.version partial.old.shape None count bytes.now)) }
 {
     let mut before = None;
     let mut rest = bytes;
@@ -161,7 +165,8 @@ fn read_entry<'a>(
     before: Option<Place>,
     bytes: &'a [u8],
 ) -> Result<(Place, &'a [u8]), TextFault>
-    ensures { GivesText (λ x. (partial.new, x.0, x.1.now)) result (with_entry partial.old (entry_fields form.size form.version partial.old.shape before bytes.now)) }
+    ensures { GivesText (λ x. (partial.new, x.0, x.1.now)) result
+        (with_entry partial.old (entry_fields form.size form.version partial.old.shape before bytes.now)) }
 {
     let (at, rest) = read_place(form.size, partial.shape(), before, bytes)?;
     let (count, rest) = read_count(form.size, rest)?;
@@ -176,7 +181,8 @@ fn read_entries<'a>(
     count: u32,
     bytes: &'a [u8],
 ) -> Result<&'a [u8], TextFault>
-    ensures { GivesText (λ x. (partial.new, x.now)) result (with_entries partial.old (entries_fields form.size form.version partial.old.shape None count bytes.now)) }
+    ensures { GivesText (λ x. (partial.new, x.now)) result
+        (with_entries partial.old (entries_fields form.size form.version partial.old.shape None count bytes.now)) }
 {
     let mut before = None;
     let mut rest = bytes;

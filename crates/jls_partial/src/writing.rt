@@ -19,8 +19,11 @@ const MAGIC: [u8; 5] = [b'J', b'L', b'S', b'P', 2];
 fn put_samples(out: &mut Vec<u8>, samples: &[u16]) -> Result<(), AllocError>
     ensures { OnOk result (out.new.items ≡ out.old.items ++ samples_text samples.now) }
 {
+    out.reserve(samples.len() * 2)?;
     for sample in samples {
-        out.extend_from_slice(&sample.to_be_bytes())?;
+        let [high, low] = sample.to_be_bytes();
+        out.push_reserved(high);
+        out.push_reserved(low);
     }
     Ok(())
 }

@@ -1,5 +1,6 @@
 -- The laws of ordered sets: what each operation contains, that sets with the same items are equal, and that union is a join.
-use Rattle.std.proofs.Common.{◌≡◌, Bool, true, false, cond, ◌||◌, List, [], ◌∷◌, ◌++◌, map, length, Option, Some, None, refl, ap, sym, subst, ◌∙◌, arith}
+use Rattle.std.proofs.Common.{◌≡◌, Bool, true, false, cond, ◌||◌, List, [], ◌∷◌, ◌++◌, map, length, Option, Some, None, refl, ap, sym}
+use Rattle.std.proofs.Common.{subst, ◌∙◌, arith}
 use Rattle.std.specs.Prelude.{is_some}
 use Rattle.std.specs.declared.cmp.Ordering.{Ordering}
 use Rattle.std.specs.declared.cmp.Ordering.TheVariants.{Less}
@@ -62,9 +63,12 @@ module _ {K : Type 0} {R : K → K → Ordering} (o : IsTotalOrder R) where
   contains-insert s k q = ap is_some (fin.get-insert o s k tt q) ∙ some_or _ _
 
   -- what is contained after the insertion of a list
-  pub contains-insert_all : (s : OrderedSet R) (ks : List K) (q : K) → contains (insert_all s ks) q ≡ (contains s q || list_any (eq_by_cmp R q) ks)
+  pub contains-insert_all : (s : OrderedSet R) (ks : List K) (q : K) → contains (insert_all s ks) q
+      ≡ (contains s q || list_any (eq_by_cmp R q) ks)
   contains-insert_all s [] q = sym (or_false (contains s q))
-  contains-insert_all s (k ∷ ks) q = contains-insert_all (insert s k) ks q ∙ ap (λ b. b || list_any (eq_by_cmp R q) ks) (contains-insert s k q) ∙ or_turn (eq_by_cmp R q k) (contains s q) (list_any (eq_by_cmp R q) ks)
+  contains-insert_all s (k ∷ ks) q = contains-insert_all (insert s k) ks q
+      ∙ ap (λ b. b || list_any (eq_by_cmp R q) ks) (contains-insert s k q)
+      ∙ or_turn (eq_by_cmp R q k) (contains s q) (list_any (eq_by_cmp R q) ks)
 
   -- what the set of a list contains
   pub contains-from_list : (ks : List K) (q : K) → contains (from_list {R = R} ks) q ≡ list_any (eq_by_cmp R q) ks
@@ -92,10 +96,12 @@ module _ {K : Type 0} {R : K → K → Ordering} (o : IsTotalOrder R) where
   -- the set of a list in order has that list as its items
   pub items-from_list : (ks : List K) → IsStrictlySortedBy R ks → items (from_list {R = R} ks) ≡ ks
   unfolding IsStrictlySortedBy
-  items-from_list [] h = no_entries (fin.entries (fin.empty {R = R})) (sym (fin.len-entries (fin.empty {R = R})) ∙ fin.len-empty R (Unit {0}))
+  items-from_list [] h = no_entries (fin.entries (fin.empty {R = R}))
+      (sym (fin.len-entries (fin.empty {R = R})) ∙ fin.len-empty R (Unit {0}))
   items-from_list (k ∷ ks) h =
       let rest = items-from_list ks h.1 in
-      ap (map (λ e. e.0)) (fin.entries-insert o (from_list ks) k tt ∙ put_first k (fin.entries (from_list {R = R} ks)) (subst (AllByRecursion (λ y. R k y ≡ Less)) (sym rest) h.0))
+      ap (map (λ e. e.0)) (fin.entries-insert o (from_list ks) k tt
+      ∙ put_first k (fin.entries (from_list {R = R} ks)) (subst (AllByRecursion (λ y. R k y ≡ Less)) (sym rest) h.0))
       ∙ ap (λ (t : List K). k ∷ t) rest
 
   -- a fact of the items of both lists
@@ -104,7 +110,8 @@ module _ {K : Type 0} {R : K → K → Ordering} (o : IsTotalOrder R) where
   all-append P (x ∷ xs) ys p q = (p.0, all-append P xs ys p.1 q)
 
   -- two lists in order, of which the first is below the second, are one list in order
-  pub sorted-append : (xs ys : List K) → IsStrictlySortedBy R xs → IsStrictlySortedBy R ys → AllByRecursion (λ x. AllByRecursion (λ y. R x y ≡ Less) ys) xs → IsStrictlySortedBy R (xs ++ ys)
+  pub sorted-append : (xs ys : List K) → IsStrictlySortedBy R xs → IsStrictlySortedBy R ys
+      → AllByRecursion (λ x. AllByRecursion (λ y. R x y ≡ Less) ys) xs → IsStrictlySortedBy R (xs ++ ys)
   unfolding IsStrictlySortedBy
   sorted-append [] ys h k a = k
   sorted-append (x ∷ xs) ys h k a = (all-append (λ y. R x y ≡ Less) xs ys h.0 a.0, sorted-append xs ys h.1 k a.1)
@@ -115,12 +122,17 @@ module _ {K : Type 0} {R : K → K → Ordering} (o : IsTotalOrder R) where
     union-idempotent s = same_set exact _ _ (λ q. contains-union s s q ∙ or_itself (contains s q))
 
     pub union-commutative : (s t : OrderedSet R) → union s t ≡ union t s
-    union-commutative s t = same_set exact _ _ (λ q. contains-union s t q ∙ or_comm (contains s q) (contains t q) ∙ sym (contains-union t s q))
+    union-commutative s t = same_set exact _ _
+        (λ q. contains-union s t q ∙ or_comm (contains s q) (contains t q) ∙ sym (contains-union t s q))
 
     pub union-associative : (s t u : OrderedSet R) → union (union s t) u ≡ union s (union t u)
-    union-associative s t u = same_set exact _ _ (λ q. contains-union (union s t) u q ∙ ap (λ b. b || contains u q) (contains-union s t q) ∙ or_assoc (contains s q) (contains t q) (contains u q) ∙ ap (λ b. contains s q || b) (sym (contains-union t u q)) ∙ sym (contains-union s (union t u) q))
+    union-associative s t u = same_set exact _ _
+        (λ q. contains-union (union s t) u q ∙ ap (λ b. b || contains u q) (contains-union s t q)
+        ∙ or_assoc (contains s q) (contains t q) (contains u q) ∙ ap (λ b. contains s q || b) (sym (contains-union t u q))
+        ∙ sym (contains-union s (union t u) q))
 
 -- to insert two lists is to insert one after the other
-pub insert_all-append : {K : Type 0} {R : K → K → Ordering} (s : OrderedSet R) (xs ys : List K) → insert_all s (xs ++ ys) ≡ insert_all (insert_all s xs) ys
+pub insert_all-append : {K : Type 0} {R : K → K → Ordering} (s : OrderedSet R) (xs ys : List K) → insert_all s (xs ++ ys)
+    ≡ insert_all (insert_all s xs) ys
 insert_all-append s [] ys = refl
 insert_all-append s (x ∷ xs) ys = insert_all-append (insert s x) xs ys

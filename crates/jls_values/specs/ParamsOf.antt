@@ -1,6 +1,7 @@
 -- The parameters in force where some values are given, or the first value that breaks its range. A 0 asks
 -- for the default (T.87, C.2.4.1.1.1, at NEAR 0).
-use Rattle.std.specs.Prelude.{ℕ, ◌+◌, ◌-◌, ◌*◌, ◌/◌, ◌^◌, min, max, Bool, ◌||◌, nat_lt, nat_le, ◌==◌, Option, Some, None, Result, Ok, Err, if◌then◌else◌}
+use Rattle.std.specs.Prelude.{ℕ, ◌+◌, ◌-◌, ◌*◌, ◌/◌, ◌^◌, min, max, Bool, ◌||◌, nat_lt, nat_le, ◌==◌, Option, Some, None, Result, Ok, Err}
+use Rattle.std.specs.Prelude.{if◌then◌else◌}
 use Rattle.jls_values.specs.declared.params.ParamFault.{ParamFault}
 use Rattle.jls_values.specs.declared.params.ParamFault.TheVariants.{Precision, MaxVal, T1, T2, T3, Reset}
 use Rattle.jls_values.specs.Params.{CodingParameters}

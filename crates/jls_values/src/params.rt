@@ -49,7 +49,8 @@ impl Model for Params {
 
     ghost view = { λ a. record { precision = a.precision; maxval = a.maxval; t1 = a.t1; t2 = a.t2; t3 = a.t3; reset = a.reset } };
 
-    ghost invariant = { λ a. AreCodingParameters (record { precision = a.precision; maxval = a.maxval; t1 = a.t1; t2 = a.t2; t3 = a.t3; reset = a.reset }) };
+    ghost invariant = { λ a. AreCodingParameters
+        (record { precision = a.precision; maxval = a.maxval; t1 = a.t1; t2 = a.t2; t3 = a.t3; reset = a.reset }) };
 
     ghost inverse = { λ p. record { precision = p.precision; maxval = p.maxval; t1 = p.t1; t2 = p.t2; t3 = p.t3; reset = p.reset } };
 }
@@ -136,7 +137,8 @@ fn range_fault(
     requires at_least { 2 ≤ precision }
     requires at_most { precision ≤ 16 }
     ensures value { result ≡ param_fault (record { precision = precision; maxval = maxval; t1 = t1; t2 = t2; t3 = t3; reset = reset }) }
-    ensures in_range { IfNone result (AreCodingParameters (record { precision = precision; maxval = maxval; t1 = t1; t2 = t2; t3 = t3; reset = reset })) }
+    ensures in_range { IfNone result
+        (AreCodingParameters (record { precision = precision; maxval = maxval; t1 = t1; t2 = t2; t3 = t3; reset = reset })) }
 {
     if maxval < 1 || maxval > largest_sample(precision) {
         Some(ParamFault::MaxVal)

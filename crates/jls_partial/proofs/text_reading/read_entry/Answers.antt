@@ -1,6 +1,6 @@
 use Rattle.std.proofs.Common.{subst, ◌<◌, length}
 use Rattle.jls_values.specs.Shape.{PictureShape}
-use Rattle.jls_partial.proofs.TextLaws.{place_inside}
+use Rattle.jls_partial.proofs.TextEntries.{place_inside}
 use Rattle.jls_partial.proofs.text_reading.read_entry.Goals as goal
 
 pub read_readings-requires-clause-component_in : goal.read_readings-requires-clause-component_in

@@ -8,7 +8,7 @@ use Rattle.jls_partial.specs.Packed.{Kept}
 use Rattle.jls_partial.specs.Partial.{PartialPicture, with_all}
 use Rattle.jls_partial.specs.TextInto.{with_readings}
 use Rattle.jls_partial.specs.TextReading.{Fails, kept_fields, readings_fields}
-use Rattle.jls_partial.proofs.TextLaws.{fits_there}
+use Rattle.jls_partial.proofs.TextEntries.{fits_there}
 use Rattle.jls_partial.proofs.TextLoops.{kept_fits, with_kept, readings_go_on, readings_end, readings_done}
 use Rattle.jls_partial.proofs.text_reading.read_readings.Goals as goal
 
