@@ -55,6 +55,7 @@ impl CodeState {
 
     /// Takes bits from the front of a chunk until the code is whole or refused, or no bit is left. Behind a refusal the
     /// rest of the chunk is of no use.
+    #[inline(always)]
     pub fn push_chunk(self, k: u8, g: u8, qbpp: u8, chunk: &mut Chunk) -> CodeStep
         requires k { k ≤ 16 }
         requires qbpp { (1 ≤ qbpp) × (qbpp ≤ 16) }
@@ -96,6 +97,7 @@ impl CodeState {
 }
 
 /// Takes bits from the front of a chunk, one after another.
+#[inline(never)]
 fn push_bit_by_bit(state: CodeState, k: u8, g: u8, qbpp: u8, chunk: &mut Chunk) -> CodeStep
     requires k { k ≤ 16 }
     requires qbpp { (1 ≤ qbpp) × (qbpp ≤ 16) }

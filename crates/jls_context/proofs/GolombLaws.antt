@@ -1,10 +1,15 @@
 -- The k of Golomb codes.
-use Rattle.std.proofs.Common.{◌≡◌, ℕ, zero, suc, ◌+◌, ◌*◌, ◌^◌, ◌<◌, ◌≤◌, Bool, true, false, eqb, leb, refl, sym, ap, ◌∙◌, arith, inl, inr}
-use Rattle.std.proofs.lemmas.Bool.{cases_Bool, le-leb, lt-leb, ne_eqb}
+use Rattle.std.proofs.Common.{◌≡◌, ℕ, zero, suc, ◌+◌, ◌-◌, ◌*◌, ◌%◌, ◌^◌, ◌<◌, ◌≤◌, Bool, true, false, eqb, leb, ltb, refl, sym, ap, ◌∙◌, arith, inl, inr}
+use mir.Val.{bool_byte}
+use Rattle.std.specs.Prelude.{max}
+use Rattle.std.proofs.lemmas.Bool.{cases_Bool, cases_lt, le-leb, lt-leb, lt-ltb, le-ltb, ne_eqb}
+use Rattle.std.proofs.Math.Nat.{le-max_left, le-max_right, max-eq_left, max-eq_right, mod-eq_of_lt}
+use Rattle.std.proofs.lemmas.Nat.{pow_pos, pow-add, mul-le}
+use Rattle.std.proofs.Math.Pow.{pow_mono}
 use Rattle.std.proofs.lemmas.Grind.{pow_more}
 use Rattle.jls_values.proofs.Least.{least_from-first}
 use Rattle.jls_values.specs.Params.{least_from}
-use Rattle.jls_context.specs.Regular.{golomb_k}
+use Rattle.jls_context.specs.Regular.{golomb_k, IsGolombK}
 
 pub self-lt-pow : (n : ℕ) → n < 2 ^ n
 self-lt-pow zero = omega arith
@@ -45,3 +50,63 @@ golomb_k_is_zero n (suc a) =
           let later = least_from-at_least (λ k. leb (suc a) (n * 2 ^ k)) a 1 in
           rw (short, e) (ne_eqb _ 0 (λ z. omega arith))
     ]
+
+-- M is the larger of A and N, and 2^e and 2^f are the largest powers of 2 in M and N
+module _ (n a m e f : ℕ) (larger : m ≡ max a n) (low : 2 ^ f ≤ n) (high : n < 2 * 2 ^ f) (from : 2 ^ e ≤ m) (to : m < 2 * 2 ^ e) where
+  n_within : n ≤ m
+  n_within = rw larger (le-max_right a n)
+
+  a_within : a ≤ m
+  a_within = rw larger (le-max_left a n)
+
+  pub order_within : f ≤ e
+  order_within =
+      let within = n_within in
+      elim (cases_lt e f) [ inl h ↦ (let p : 2 ^ (e + 1) ≤ 2 ^ f = pow_mono {i = e + 1} {j = f} (omega arith) in let q = pow_more 2 e in absurd (omega arith)) | inr h ↦ h ]
+
+  -- N brought to the power of 2 in M
+  raised_within : (2 ^ e ≤ n * 2 ^ (e - f)) × (n * 2 ^ (e - f) < 2 * 2 ^ e)
+  raised_within =
+      let within = order_within in let d : ℕ = e - f in let sum : e ≡ f + d = omega arith in
+      let parts : 2 ^ e ≡ 2 ^ f * 2 ^ d = ap (λ x. 2 ^ x) sum ∙ pow-add 2 f d in
+      let least : 2 ^ f * 2 ^ d ≤ n * 2 ^ d = mul-le (2 ^ f) (2 ^ d) n (2 ^ d) low (omega arith) in
+      let most : (n + 1) * 2 ^ d ≤ 2 * 2 ^ f * 2 ^ d = mul-le (n + 1) (2 ^ d) (2 * 2 ^ f) (2 ^ d) (omega arith) (omega arith) in
+      let some = pow_pos d in (omega arith, omega arith)
+
+  -- it fits 32 bits where M does
+  pub raised_fits : e < 32 → n * 2 ^ (e - f) % 4294967296 ≡ n * 2 ^ (e - f)
+  raised_fits small =
+      let within = raised_within in let p : 2 ^ e ≤ 2 ^ 31 = pow_mono {i = e} {j = 31} (omega arith) in mod-eq_of_lt (omega arith)
+
+  -- fewer steps leave N too small
+  raised_before : (j : ℕ) → j < e - f → n * 2 ^ j < a
+  raised_before j below =
+      let within = raised_within in
+      let once : 2 ^ (f + 1) ≤ 2 ^ e = pow_mono {i = f + 1} {j = e} (omega arith) in let twice = pow_more 2 f in
+      let is_a : m ≡ a = elim (cases_lt a n) [ inl h ↦ (let e : max a n ≡ n = max-eq_right (omega arith) in absurd (omega arith)) | inr h ↦ larger ∙ max-eq_left h ] in
+      let next : 2 ^ (j + 1) ≤ 2 ^ (e - f) = pow_mono {i = j + 1} {j = e - f} (omega arith) in let double = pow_more 2 j in
+      let grown : n * 2 ^ (j + 1) ≤ n * 2 ^ (e - f) = mul-le n (2 ^ (j + 1)) n (2 ^ (e - f)) (omega arith) next in
+      let as_double : n * 2 ^ (j + 1) ≡ n * 2 ^ j * 2 = rw double (omega arith) in
+      omega arith
+
+  -- k is the difference of the two, or one more
+  pub order_is_k : IsGolombK n a (e - f + bool_byte (ltb (n * 2 ^ (e - f)) a))
+  order_is_k =
+      elim (cases_lt (n * 2 ^ (e - f)) a) [
+        | inl short ↦
+            let test : ltb (n * 2 ^ (e - f)) a ≡ true = lt-ltb (n * 2 ^ (e - f)) a short in
+            let within = raised_within in let at_most = a_within in let double = pow_more 2 (e - f) in
+            let as_double : n * 2 ^ (e - f + 1) ≡ n * 2 ^ (e - f) * 2 = rw double (omega arith) in
+            rw test (record { enough = omega arith; least = λ j below. elim (cases_lt j (e - f)) [ inl h ↦ raised_before j h | inr h ↦ (let same : j ≡ e - f = omega arith in rw same short) ] })
+        | inr enough ↦
+            let test : ltb (n * 2 ^ (e - f)) a ≡ false = le-ltb (n * 2 ^ (e - f)) a enough in
+            let plain : e - f + 0 ≡ e - f = omega arith in
+            rw (test, plain) (record { enough = enough; least = raised_before })
+      ]
+
+-- a number that is k
+pub golomb_k_is : (n a k : ℕ) → 1 ≤ n → IsGolombK n a k → golomb_k n a ≡ k
+golomb_k_is n a k some is = golomb_k-least n a k some is.enough is.least
+
+pub k_at_most : (n a k : ℕ) → a ≤ n * 2 ^ 16 → IsGolombK n a k → k ≤ 16
+k_at_most n a k few is = elim (cases_lt 16 k) [ inl h ↦ (let below = is.least 16 h in absurd (omega arith)) | inr h ↦ h ]

@@ -1,9 +1,10 @@
 -- Quantized gradients: their range, and what their weighed sum says of SIGN and the context.
-use Rattle.std.proofs.Common.{◌≡◌, ℕ, zero, suc, ◌-◌, ◌<◌, ◌≤◌, Bool, true, false, eqb, ltb, [], ◌∷◌, refl, ap, sym, ◌∙◌, arith, inl, inr}
+use Rattle.std.proofs.Common.{◌≡◌, ℕ, zero, suc, ◌+◌, ◌-◌, ◌<◌, ◌≤◌, Bool, true, false, eqb, ltb, leb, [], ◌∷◌, refl, ap, sym, ◌∙◌, arith, inl, inr}
 use Rattle.std.specs.Prelude.{ℤ, pos, negsuc, ◌-ℤ◌, neg_ℤ, ◌≤ℤ◌, ◌<ℤ◌, unsigned_abs, int_lt}
 use Rattle.std.proofs.lemmas.Int.{ints}
-use Rattle.std.proofs.lemmas.Bool.{cases_Bool, cases_lt, eq-eqb, ne_eqb, false≢true}
-use Rattle.jls_values.specs.Params.{CodingParameters}
+use mir.Val.{bool_byte}
+use Rattle.std.proofs.lemmas.Bool.{cases_Bool, cases_lt, eq-eqb, ne_eqb, le-leb, lt-leb, lt-ltb, le-ltb, false≢true}
+use Rattle.jls_values.specs.Params.{CodingParameters, AreCodingParameters}
 use Rattle.jls_context.specs.declared.mode.Neighbours.{Neighbours}
 use Rattle.jls_context.specs.Mode.{with_sign, is_run_mode, quantized_size, quantized_gradient, quantized_gradients, is_first_negative, is_negative, weighed, context, IsRegularMode}
 
@@ -20,7 +21,7 @@ gradient_above p to from h =
     let size : unsigned_abs (pos to -ℤ pos from) ≡ to - from = omega (arith, ints) in rw (negative, size) refl
 
 -- five steps
-size_range : (p : CodingParameters) (n : ℕ) → quantized_size p n ≤ 4
+pub size_range : (p : CodingParameters) (n : ℕ) → quantized_size p n ≤ 4
 size_range p n =
     elim (cases_Bool (eqb n 0)) [
       | inl e ↦ rw e (omega arith)
@@ -32,6 +33,28 @@ size_range p n =
         ]
       ]
     ]
+
+-- the five steps counted: one for each bound that the size reaches
+steps_reached : (p : CodingParameters) (n : ℕ) → AreCodingParameters p
+    → bool_byte (leb 1 n) + bool_byte (leb p.t1 n) + bool_byte (leb p.t2 n) + bool_byte (leb p.t3 n) ≡ quantized_size p n
+steps_reached p n are =
+    elim (cases_lt 0 n) [
+      | inr z ↦ (let e = eq-eqb n 0 (omega arith) in let a = lt-leb 1 n (omega arith) in let b = lt-leb p.t1 n (omega arith) in let c = lt-leb p.t2 n (omega arith) in let d = lt-leb p.t3 n (omega arith) in rw (e, a, b, c, d) refl)
+      | inl s ↦ (let e = ne_eqb n 0 (λ h. omega arith) in let a = le-leb 1 n (omega arith) in elim (cases_lt n p.t1) [
+        | inl f ↦ (let b = lt-leb p.t1 n f in let c = lt-leb p.t2 n (omega arith) in let d = lt-leb p.t3 n (omega arith) in let x = lt-ltb n p.t1 f in rw (e, a, b, c, d, x) refl)
+        | inr f ↦ (let b = le-leb p.t1 n f in let x = le-ltb n p.t1 f in elim (cases_lt n p.t2) [
+          | inl g ↦ (let c = lt-leb p.t2 n g in let d = lt-leb p.t3 n (omega arith) in let y = lt-ltb n p.t2 g in rw (e, a, b, c, d, x, y) refl)
+          | inr g ↦ (let c = le-leb p.t2 n g in let y = le-ltb n p.t2 g in elim (cases_lt n p.t3) [
+            | inl h ↦ (let d = lt-leb p.t3 n h in let z = lt-ltb n p.t3 h in rw (e, a, b, c, d, x, y, z) refl)
+            | inr h ↦ (let d = le-leb p.t3 n h in let z = le-ltb n p.t3 h in rw (e, a, b, c, d, x, y, z) refl)
+          ])
+        ])
+      ])
+    ]
+
+pub steps_counted : (p : CodingParameters) (n a b c : ℕ) → AreCodingParameters p → a ≡ p.t1 → b ≡ p.t2 → c ≡ p.t3
+    → bool_byte (leb 1 n) + bool_byte (leb a n) + bool_byte (leb b n) + bool_byte (leb c n) ≡ quantized_size p n
+steps_counted p n a b c are d e f = rw (d, e, f) (steps_reached p n are)
 
 -- only 0 has the size 0
 size_zero : (p : CodingParameters) (n : ℕ) → 0 < n → quantized_size p n ≡ 0 → ⊥

@@ -5,6 +5,7 @@ pub mod GolombLaws
 pub mod Gradients
 mod InterruptionExamples
 mod ModeExamples
+pub mod Predictions
 mod RegularExamples
 pub mod Remainders
 pub mod Samples

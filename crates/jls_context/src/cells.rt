@@ -65,6 +65,7 @@ impl Cells {
     }
 
     /// The mode of a sample with Ra to its left, Rb above, Rc above to the left and Rd above to the right (A.3).
+    #[inline(always)]
     pub fn mode(&self, ra: u16, rb: u16, rc: u16, rd: u16) -> Mode
         ensures { let near : Neighbours = record { ra = ra; rb = rb; rc = rc; rd = rd } in IsMode self.now.parameters near result }
     {

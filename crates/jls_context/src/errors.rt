@@ -1,6 +1,6 @@
 //! Errors of predictions, modulo RANGE, and the numbers that they are mapped to.
 
-ghost use Rattle.std.specs.Prelude.{◌≡◌, ℕ, ◌+◌, ◌/◌, ◌^◌, ◌≤◌, IsTrue, ◌↔◌, pos, negsuc, neg_ℤ, ◌≤ℤ◌, ◌<ℤ◌};
+ghost use Rattle.std.specs.Prelude.{◌≡◌, ℕ, ◌+◌, ◌*◌, ◌/◌, ◌^◌, ◌≤◌, IsTrue, ◌↔◌, pos, negsuc, neg_ℤ, ◌≤ℤ◌, ◌<ℤ◌};
 ghost use Rattle.std.specs.Int.{int_rem_euclid};
 ghost use Rattle.jls_values.specs.Params.{range};
 ghost use Rattle.jls_context.specs.Errors.{IsError, IsModuloReduced, modulo_reduced, prediction_error};
@@ -33,6 +33,23 @@ pub(crate) fn is_error(params: &Params, error: i32) -> bool
     limit - range_of(params) <= error && error < limit
 }
 
+/// The remainder modulo RANGE of a number that is at most RANGE away from 0 to MAXVAL, without a division.
+fn remainder(maxval: u16, value: i32) -> u16
+    requires at_least { neg_ℤ (pos (maxval + 1)) ≤ℤ value }
+    requires below { value <ℤ pos (2 * (maxval + 1)) }
+    ensures value { pos result ≡ int_rem_euclid value (pos (maxval + 1)) }
+    ensures at_most { result ≤ maxval }
+{
+    let range = i32::from(maxval) + 1;
+    if value < 0 {
+        (value + range) as u16
+    } else if value < range {
+        value as u16
+    } else {
+        (value - range) as u16
+    }
+}
+
 /// The error that is congruent to the difference modulo RANGE.
 pub(crate) fn reduced(params: &Params, difference: i32) -> i32
     requires above { neg_ℤ (pos (range params.now)) <ℤ difference }
@@ -40,23 +57,12 @@ pub(crate) fn reduced(params: &Params, difference: i32) -> i32
     ensures value { result ≡ modulo_reduced params.now difference }
     ensures reduced { IsModuloReduced params.now difference result }
 {
-    let range = range_of(params);
-    let remainder = difference.rem_euclid(range);
+    let remainder = i32::from(remainder(params.maxval(), difference));
     if remainder < error_limit(params) {
         remainder
     } else {
-        remainder - range
+        remainder - range_of(params)
     }
-}
-
-/// The remainder of a number modulo RANGE.
-fn remainder(value: i32, range: i32) -> u16
-    requires at_least { pos 1 ≤ℤ range }
-    requires at_most { range ≤ℤ pos (2 ^ 16) }
-    ensures value { pos result ≡ int_rem_euclid value range }
-    ensures below { pos result <ℤ range }
-{
-    value.rem_euclid(range) as u16
 }
 
 /// The sample with this error against its prediction.
@@ -68,8 +74,8 @@ pub(crate) fn restored(params: &Params, prediction: u16, negative: bool, error: 
     ensures only { (other : ℕ) → other ≤ params.now.maxval → prediction_error params.now negative other prediction ≡ error
         → other ≡ result }
 {
-    let range = range_of(params);
-    remainder(i32::from(prediction) + with_sign(negative, error), range)
+    let maxval = params.maxval();
+    remainder(maxval, i32::from(prediction) + with_sign(negative, error))
 }
 
 /// The number that an error is mapped to.

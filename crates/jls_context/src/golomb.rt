@@ -11,13 +11,8 @@ pub(crate) fn golomb_k(occurrences: u32, magnitudes: u32) -> u8
     ensures least { IsGolombK occurrences magnitudes result }
     ensures at_most { result ≤ 16 }
 {
-    let mut k = 0;
-    let mut product = u64::from(occurrences);
-    while k < 16 && product < u64::from(magnitudes) {
-        k += 1;
-        product *= 2;
-    }
-    k
+    let order = (magnitudes.max(occurrences).ilog2() - occurrences.ilog2()) as u8;
+    order + ((occurrences << order) < magnitudes) as u8
 }
 
 /// Whether k is 0, which is so exactly where N is at least A: then k itself isn't computed.

@@ -53,17 +53,11 @@ fn quantized_size(params: &Params, size: u16) -> i32
     ensures at_least { pos 0 ≤ℤ result }
     ensures at_most { result ≤ℤ pos 4 }
 {
-    if size == 0 {
-        0
-    } else if size < params.t1() {
-        1
-    } else if size < params.t2() {
-        2
-    } else if size < params.t3() {
-        3
-    } else {
-        4
-    }
+    let steps = (size >= 1) as u8
+        + (size >= params.t1()) as u8
+        + (size >= params.t2()) as u8
+        + (size >= params.t3()) as u8;
+    i32::from(steps)
 }
 
 /// The quantized gradient from one sample to another.
@@ -72,11 +66,8 @@ fn quantized_gradient(params: &Params, to: u16, from: u16) -> i32
     ensures at_least { negsuc 3 ≤ℤ result }
     ensures at_most { result ≤ℤ pos 4 }
 {
-    if to < from {
-        -quantized_size(params, from - to)
-    } else {
-        quantized_size(params, to - from)
-    }
+    let steps = quantized_size(params, to.abs_diff(from));
+    if to < from { -steps } else { steps }
 }
 
 /// The quantized gradients, weighed: its size is the context's number, and its sign is SIGN.
@@ -90,6 +81,7 @@ fn weighed_gradients(params: &Params, near: Neighbours) -> i32
 
 impl Mode {
     /// The mode of a sample with these neighbours.
+    #[inline(always)]
     pub(crate) fn of(params: &Params, near: Neighbours) -> Mode
         ensures { IsMode params.now near result }
     {

@@ -10,13 +10,10 @@ use jls_values::Params;
 pub(crate) fn edge_detecting_predictor(ra: u16, rb: u16, rc: u16) -> u16
     ensures { result ≡ Rattle.jls_context.specs.Prediction.edge_detecting_predictor ra rb rc }
 {
-    if rc >= ra.max(rb) {
-        ra.min(rb)
-    } else if rc <= ra.min(rb) {
-        ra.max(rb)
-    } else {
-        (u32::from(ra) + u32::from(rb) - u32::from(rc)) as u16
-    }
+    let sum = u32::from(ra) + u32::from(rb);
+    let least = u32::from(rc) + u32::from(ra.min(rb));
+    let most = u32::from(rc) + u32::from(ra.max(rb));
+    (sum.max(least).min(most) - u32::from(rc)) as u16
 }
 
 /// The sample from 0 to MAXVAL that is nearest to a number.

@@ -110,14 +110,6 @@ module _ (p : CodingParameters) (ok : AreCodingParameters p) (w c n : ℕ) (some
         record { unread = []; are_lines = r.0; begins = r.1; counted = refl }
 
 -- more bits behind the last line, and behind what begins no lines' code
-pub over_more : (p : CodingParameters) (w c n : ℕ) (given more : List Bool) (lines : List (List ℕ)) (extra extra' : ℕ) → IsOver p w c n given lines extra → extra' ≡ min 8 (extra + length more) → IsOver p w c n (given ++ more) lines extra'
-over_more p w c n given more lines extra extra' h e = record {
-  unread = h.unread ++ more;
-  are_lines = h.are_lines;
-  begins = ap (λ z. z ++ more) h.begins ∙ append_assoc (code p w c lines) h.unread more;
-  counted = (let s = length-append h.unread more in let d = h.counted in omega arith);
-}
-
 pub dead_more : (p : CodingParameters) (w c n : ℕ) (given more : List Bool) → IsDead p w c n given → IsDead p w c n (given ++ more)
 dead_more p w c n given more h = λ later. subst (NoLines p w c n) (sym (append_assoc given more later)) (h (more ++ later))
 

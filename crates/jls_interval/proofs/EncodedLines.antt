@@ -107,11 +107,3 @@ module _ (p : CodingParameters) (w : ℕ) where
   pub back_small : (lines : List (List ℕ)) (j back : ℕ) → AllByRecursion (IsLine p w) lines → j ≤ length lines → 0 < back → AllByRecursion (λ sample. sample ≤ p.maxval) (line_back (take j lines) back)
   back_small lines j back h l some =
       elim (cases_lt j back) [ inl a ↦ subst (AllByRecursion (λ sample. sample ≤ p.maxval)) (sym (none_back lines j back l a)) tt | inr a ↦ subst (AllByRecursion (λ sample. sample ≤ p.maxval)) (sym (some_back lines j back l some a)) (line_in lines (j - back) h (omega arith)).1 ]
-
--- RUNindices stay within their bound
-pub indices_within : (xs : List ℕ) (k v : ℕ) → ((i : ℕ) → get_or xs i 0 ≤ 31) → k < length xs → v ≤ 31 → (i : ℕ) → get_or (set xs k v) i 0 ≤ 31
-indices_within xs k v h l b i =
-    elim (cases_eq i k) [ inl e ↦ (let s = ap (λ z. get_or (set xs k v) z 0) e ∙ get_or-set_same xs k v 0 l in omega arith) | inr n ↦ (let s = get_or-set_other xs k i v 0 n in let q = h i in omega arith) ]
-
-pub above_same : (a b a' b' : List ℕ) → a ≡ a' → b ≡ b' → (let up : Above = record { line_above = a; line_two_above = b } in up) ≡ record { line_above = a'; line_two_above = b' }
-above_same a b a' b' e f = cc

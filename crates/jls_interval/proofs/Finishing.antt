@@ -1,6 +1,6 @@
 -- What a decoder holds at the end of its bytes.
-use Rattle.std.proofs.Common.{◌≡◌, ℕ, ◌*◌, ◌<◌, ◌≤◌, Bool, true, false, List, [], ◌∷◌, ◌++◌, length, get_or, suc, map, Vec, Global, Result, Ok, Err, refl, sym, ap, ◌∙◌, subst, arith, inl, inr, append_assoc}
-use Rattle.std.specs.Prelude.{Option, Some, None, MatchOption, IfSome, MatchResult}
+use Rattle.std.proofs.Common.{◌≡◌, ℕ, ◌*◌, ◌<◌, ◌≤◌, Bool, true, false, List, [], ◌∷◌, ◌++◌, length, get_or, suc, map, Vec, Global, Result, Ok, Err, refl, sym, ap, ◌∙◌, subst, arith, inl, inr, append_assoc, length-append}
+use Rattle.std.specs.Prelude.{not, Option, Some, None, MatchOption, IfSome, MatchResult}
 use Rattle.std.specs.Option.{option_map}
 use Rattle.std.proofs.lemmas.List.{append-nil}
 use Rattle.std.proofs.lemmas.Bool.{cases_Bool}
@@ -11,18 +11,14 @@ use Rattle.jls_bits.proofs.DataBits.{data_end, data_stop, length_more, width_bou
 use Rattle.jls_bits.proofs.Appending.{whole_front}
 use Rattle.jls_interval.specs.Reads.{Reads, IsLong, IsBroken}
 use Rattle.jls_interval.specs.PieceFaults.{NoLines, OutcomeIs}
-use Rattle.jls_interval.specs.Decoding.{IsOver, IsDead}
-use Rattle.jls_interval.specs.IntervalBytes.{IntervalBytes, bytes_of}
+use Rattle.jls_interval.specs.Decoding.{IsOver, IsDead, IsReading, TakesFirst}
+use Rattle.jls_interval.specs.IntervalBytes.{IntervalBytes, bytes_of, IsReadingBefore, HasLengths}
+use Rattle.jls_interval.specs.declared.interval_reader.IntervalReader.{IntervalReader}
 use Rattle.jls_interval.specs.declared.decode_piece.PieceFault.{PieceFault}
 use Rattle.jls_interval.specs.declared.decode_piece.PieceFault.TheVariants.{Long, Broken, OutOfMemory}
 use Rattle.jls_interval.proofs.PiecesReadOnce.{reads_once, read_not_long}
 
 -- The bytes so far ---------------------------------------------------------------------------
-
--- the bytes that are seen, and more of them
-pub bytes_pushed : (refused refused' : Bool) (xs ys zs : List ℕ) → refused ≡ false → refused' ≡ false → zs ≡ xs ++ ys → bytes_of refused' zs ≡ option_map (λ bytes. bytes ++ ys) (bytes_of refused xs)
-bytes_pushed refused refused' xs ys zs a b e =
-    ap (λ r. bytes_of r zs) b ∙ ap Some e ∙ sym (ap (λ r. option_map (λ bytes. bytes ++ ys) (bytes_of r xs)) a)
 
 -- nothing more, and more twice
 more_none : (o : Option (List ℕ)) → o ≡ option_map (λ bytes. bytes ++ []) o
@@ -99,3 +95,47 @@ pub read_of : (p : CodingParameters) (w c n : ℕ) → AreCodingParameters p →
     → IfSome o (λ bytes. (lines : List (List ℕ)) → Reads p w c n bytes lines → MatchResult result (λ v. map (λ v. v.items) v.items ≡ lines) (λ fault. ⊥))
 read_of p w c n ok some result Q None h = tt
 read_of p w c n ok some result Q (Some bytes) h = outcome_read p w c n bytes ok some result h
+
+-- Bytes that come some at a time ---------------------------------------------------------------
+
+pub turned : (b c : Bool) → not b ≡ c → b ≡ not c
+turned true c e = ap not e
+turned false c e = ap not e
+
+pub not_ended : (bytes : List ℕ) (ended : Bool) → (ended ≡ true → is_whole bytes ≡ false) → is_whole bytes ≡ true → ended ≡ false
+not_ended bytes ended h w = elim (cases_Bool ended) [ inl t ↦ (let a : true ≡ false = sym w ∙ h t in cc) | inr o ↦ o ]
+
+-- more bytes, of which nothing was read
+pub lengths_more : (bytes more : List ℕ) (d : IntervalReader) → HasLengths bytes d → HasLengths (bytes ++ more) d
+lengths_more bytes more d h = record {
+  lines_paid = (let a = h.lines_paid in let s = length-append bytes more in omega arith);
+  lines_at_most = h.lines_at_most;
+  line_at_most = h.line_at_most;
+}
+
+module _ (p : CodingParameters) (bytes : List ℕ) (d : IntervalReader) where
+  pub before_lengths : (chunk : List Bool) → IsReadingBefore p bytes chunk d → HasLengths bytes d
+  before_lengths chunk h = record {
+    lines_paid = (let a = h.reading.lines_paid in let e = ap length h.bits_are in let s = length-append h.given chunk in let b = data_bits_at_most 0 bytes in omega arith);
+    lines_at_most = h.reading.lines_at_most;
+    line_at_most = h.reading.line_at_most;
+  }
+
+  pub before_start : (chunk : List Bool) → chunk ≡ [] → IsReading p (bits_read bytes) d → IsReadingBefore p bytes chunk d
+  before_start chunk e h = record { given = bits_read bytes; bits_are = sym (ap (λ z. bits_read bytes ++ z) e ∙ append-nil (bits_read bytes)); reading = h }
+
+  -- bytes behind them, of which the chunk has the bits
+  pub before_appended : (bytes' : List ℕ) (chunk chunk' : List Bool) → ((given : List Bool) → is_whole bytes' ≡ true → bits_read bytes ≡ given ++ chunk → bits_read bytes' ≡ given ++ chunk')
+      → is_whole bytes' ≡ true → IsReadingBefore p bytes chunk d → IsReadingBefore p bytes' chunk' d
+  before_appended bytes' chunk chunk' all whole h = record { given = h.given; bits_are = all h.given whole h.bits_are; reading = h.reading }
+
+  -- bits taken from the chunk
+  pub before_taken : (d' : IntervalReader) (chunk chunk' : List Bool) → TakesFirst d chunk d' chunk' → IsReadingBefore p bytes chunk d → IsReadingBefore p bytes chunk' d'
+  before_taken d' chunk chunk' t h =
+      let a = t p h.given h.reading in
+      record { given = h.given ++ a.taken; bits_are = h.bits_are ∙ ap (λ z. h.given ++ z) a.chunk_is ∙ sym (append_assoc h.given a.taken chunk'); reading = a.reading }
+
+  -- no bit left in the chunk
+  pub before_end : (chunk : List Bool) → length chunk ≤ 0 → IsReadingBefore p bytes chunk d → IsReading p (bits_read bytes) d
+  before_end [] l h = subst (λ z. IsReading p z d) (sym (h.bits_are ∙ append-nil h.given)) h.reading
+  before_end (b ∷ bs) l h = absurd (omega arith)

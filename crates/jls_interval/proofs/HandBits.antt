@@ -54,10 +54,6 @@ near_behind w up line count v x next a b e =
 pub broken_with : (run : Blocks) (rest more : List Bool) → interrupted_run_bits run rest ++ more ≡ interrupted_run_bits run (rest ++ more)
 broken_with run rest more = append_assoc (replicate run.full_blocks true ++ false ∷ bits (run_order run.run_index) run.remaining) rest more
 
--- no bit of a code was told
-pub start_open : (k g q : ℕ) → q + 2 ≤ g → IsOpen k g q (Zeros 0)
-start_open k g q room = (omega arith, λ e. (let z : 0 ≡ g - q - 1 = e in absurd (omega arith)))
-
 -- where no sample stands at the front, no event does
 pub no_sample_no_event : (p : CodingParameters) (w k : ℕ) (up : Above) (line : List ℕ) (cells : Variables) (ri : List ℕ) (earlier : List Event) → IsAfter p cells ri earlier → (told : List Bool) → is_run_mode (now_at w up line) ≡ false
     → NoSample p (cell_at cells (context p (now_at w up line))) (now_at w up line) told → NoEvent p w k up line told earlier

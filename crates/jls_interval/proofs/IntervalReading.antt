@@ -7,7 +7,7 @@ use Rattle.jls_context.specs.Variables.{Variables}
 use Rattle.jls_interval.specs.Events.{Event, Above, above}
 use Rattle.jls_interval.specs.After.{IsAfter}
 use Rattle.jls_interval.specs.Hands.{NoEvent, HandAt, Holds, EventDone, EventPushed}
-use Rattle.jls_interval.specs.Decoding.{IsWorking, IsDead, StateIs, IsReading, TakesAll, TakesEvent, HasShape}
+use Rattle.jls_interval.specs.Decoding.{IsWorking, IsDead, StateIs, IsReading, TakesAll, TakesFirst, TakesEvent, HasShape}
 use Rattle.jls_interval.specs.declared.line_reader.Hand.{Hand}
 use Rattle.jls_interval.specs.declared.line_reader.Hand.TheVariants.{Fresh}
 use Rattle.jls_interval.specs.declared.line_reader.LineReader.{LineReader}
@@ -25,21 +25,11 @@ shape_none d = record { width = refl; components = refl; count = refl }
 pub shape_then : (a b c : IntervalReader) → HasShape a b → HasShape b c → HasShape a c
 shape_then a b c f g = record { width = g.width ∙ f.width; components = g.components ∙ f.components; count = g.count ∙ f.count }
 
--- bits of a chunk were taken
-pub record Taken (p : CodingParameters) (given : List Bool) (now : IntervalReader) (chunk unread : List Bool) : Type 0 where
-  pub taken : List Bool
-  pub chunk_is : chunk ≡ taken ++ unread
-  pub reading : IsReading p (given ++ taken) now
-
-abbrev pub Taking : IntervalReader → List Bool → IntervalReader → List Bool → Type 0
-Taking old chunk now unread =
-    (p : CodingParameters) (given : List Bool) → IsReading p given old → Taken p given now chunk unread
-
-pub taking_none : (old : IntervalReader) (chunk : List Bool) → Taking old chunk old chunk
+pub taking_none : (old : IntervalReader) (chunk : List Bool) → TakesFirst old chunk old chunk
 taking_none old chunk = λ p given h. record { taken = []; chunk_is = refl; reading = subst (λ z. IsReading p z old) (sym (append-nil given)) h }
 
-module _ (old now next : IntervalReader) (chunk unread : List Bool) (t : Taking old chunk now unread) where
-  pub taking_more : (unread' : List Bool) → TakesEvent now next unread unread' true → Taking old chunk next unread'
+module _ (old now next : IntervalReader) (chunk unread : List Bool) (t : TakesFirst old chunk now unread) where
+  pub taking_more : (unread' : List Bool) → TakesEvent now next unread unread' true → TakesFirst old chunk next unread'
   taking_more unread' s = λ p given h.
       let a = t p given h in let b = s p (given ++ a.taken) a.reading in
       record {
@@ -48,10 +38,14 @@ module _ (old now next : IntervalReader) (chunk unread : List Bool) (t : Taking 
         reading = subst (λ z. IsReading p z next) (append_assoc given a.taken b.taken) b.reading;
       }
 
-  pub taking_all : TakesAll now next unread → TakesAll old next chunk
-  taking_all s = λ p given h.
+  pub taking_all : (none : List Bool) → none ≡ [] → TakesAll now next unread → TakesFirst old chunk next none
+  taking_all none e s = λ p given h.
       let a = t p given h in
-      subst (λ z. IsReading p z next) (append_assoc given a.taken unread ∙ ap (λ z. given ++ z) (sym a.chunk_is)) (s p (given ++ a.taken) a.reading)
+      record {
+        taken = chunk;
+        chunk_is = sym (ap (λ z. chunk ++ z) e ∙ append-nil chunk);
+        reading = subst (λ z. IsReading p z next) (append_assoc given a.taken unread ∙ ap (λ z. given ++ z) (sym a.chunk_is)) (s p (given ++ a.taken) a.reading);
+      }
 
   pub taking_shorter : (unread' : List Bool) → TakesEvent now next unread unread' true → (p : CodingParameters) (given : List Bool) → IsReading p given old → length unread' < length unread
   taking_shorter unread' s p given h =

@@ -31,23 +31,6 @@ module _ (r n : ℕ) (within : r ≤ 31) (short : n < 2 ^ run_order r) where
   pub no_block_remaining : (rest : ℕ) → (blocks r n).remaining ≡ rest → n ≡ rest
   no_block_remaining rest e = ap (λ (b : Blocks). b.remaining) (sym (blocks_none r n within short)) ∙ e
 
--- a run to the end, where columns remain and where none does
-pub end_with : (run : Blocks) (before written : List Bool) → written ≡ before ++ replicate run.full_blocks true → 0 < run.remaining → written ++ true ∷ [] ≡ before ++ run_to_end_bits run
-end_with run before written e some =
-    let t = ne_eqb run.remaining 0 (λ z. omega arith) in
-    ap (λ z. z ++ true ∷ []) e ∙ append_assoc before (replicate run.full_blocks true) (true ∷ []) ∙ rw t refl
-
-pub end_without : (run : Blocks) (before written : List Bool) → written ≡ before ++ replicate run.full_blocks true → run.remaining ≡ 0 → written ≡ before ++ run_to_end_bits run
-end_without run before written e none =
-    let t = eq-eqb run.remaining 0 none in
-    e ∙ ap (λ z. before ++ z) (sym (append-nil (replicate run.full_blocks true))) ∙ rw t refl
-
--- an interrupted run
-pub interruption_with : (run : Blocks) (before written : List Bool) (order count : ℕ) → written ≡ before ++ replicate run.full_blocks true → order ≡ run_order run.run_index → count ≡ run.remaining
-    → (written ++ false ∷ []) ++ bits order count ≡ before ++ interrupted_run_bits run []
-interruption_with run before written order count e o r =
-    append_assoc written (false ∷ []) (bits order count) ∙ ap (λ z. z ++ false ∷ bits order count) e ∙ ap (λ z. (before ++ replicate run.full_blocks true) ++ false ∷ bits z count) o ∙ ap (λ z. (before ++ replicate run.full_blocks true) ++ false ∷ bits (run_order run.run_index) z) r ∙ append_assoc before (replicate run.full_blocks true) (false ∷ bits (run_order run.run_index) run.remaining) ∙ ap (λ z. before ++ z) (sym (append-nil _))
-
 -- the sample behind it
 pub interruption_then : (run : Blocks) (rest : List Bool) → interrupted_run_bits run [] ++ rest ≡ interrupted_run_bits run rest
 interruption_then run rest = ap (λ z. z ++ rest) (append-nil _)

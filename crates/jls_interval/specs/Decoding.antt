@@ -63,6 +63,16 @@ abbrev pub TakesAll : IntervalReader → IntervalReader → List Bool → Type 0
 TakesAll old new chunk =
     (p : CodingParameters) (given : List Bool) → IsReading p given old → IsReading p (given ++ chunk) new
 
+-- the first bits of a chunk were taken
+pub record Taken (p : CodingParameters) (given : List Bool) (new : IntervalReader) (chunk unread : List Bool) : Type 0 where
+  pub taken : List Bool
+  pub chunk_is : chunk ≡ taken ++ unread
+  pub reading : IsReading p (given ++ taken) new
+
+abbrev pub TakesFirst : IntervalReader → List Bool → IntervalReader → List Bool → Type 0
+TakesFirst old chunk new unread =
+    (p : CodingParameters) (given : List Bool) → IsReading p given old → Taken p given new chunk unread
+
 -- the first bits of a chunk were taken, some of them
 pub record Takes (p : CodingParameters) (given : List Bool) (new : IntervalReader) (chunk unread : List Bool) : Type 0 where
   pub taken : List Bool

@@ -1,5 +1,5 @@
 -- What a contract sees of a decoder that is given bytes, and what its fields say of them.
-use Rattle.std.specs.Prelude.{◌≡◌, ℕ, ◌*◌, ◌<◌, ◌≤◌, Bool, true, false, List, length, Option, Some, None}
+use Rattle.std.specs.Prelude.{◌≡◌, ℕ, ◌*◌, ◌<◌, ◌≤◌, Bool, true, false, List, ◌++◌, length, Option, Some, None}
 use Rattle.std.specs.List.{AllByRecursion}
 use Rattle.jls_values.specs.Params.{CodingParameters, AreCodingParameters}
 use Rattle.jls_bits.specs.Bits.{bits_read, is_whole}
@@ -19,7 +19,23 @@ abbrev pub bytes_of : Bool → List ℕ → Option (List ℕ)
 bytes_of true bytes = None
 bytes_of false bytes = Some bytes
 
--- Inside the crate. The fields of a decoder, until memory is refused: what they say of the bytes so far, and how much they hold. There
+-- Inside the crate. A reader was given all data bits of the bytes, where these have data bits
+abbrev pub IsReadingOf : CodingParameters → List ℕ → IntervalReader → Type 0
+IsReadingOf p bytes d = is_whole bytes ≡ true → IsReading p (bits_read bytes) d
+
+-- How much a reader holds: at most eight finished lines for each byte, and no more than the interval has; beside them a line in work
+pub record HasLengths (bytes : List ℕ) (d : IntervalReader) : Type 0 where
+  pub lines_paid : length d.lines.items ≤ 8 * length bytes
+  pub lines_at_most : length d.lines.items ≤ d.count
+  pub line_at_most : length d.reader.line.items ≤ d.reader.width
+
+-- The first bits of the bytes were given to a reader, and the others are those of the chunk
+pub record IsReadingBefore (p : CodingParameters) (bytes : List ℕ) (chunk : List Bool) (d : IntervalReader) : Type 0 where
+  pub given : List Bool
+  pub bits_are : bits_read bytes ≡ given ++ chunk
+  pub reading : IsReading p given d
+
+-- The fields of a decoder, until memory is refused: what they say of the bytes so far, and how much they hold. There
 -- are at most eight finished lines for each byte, and no more than the interval has; beside them a line in work
 pub record IsDecoding (p : CodingParameters) (rows : ℕ) (bytes : List ℕ) (ended : Bool) (d : IntervalReader) : Type 0 where
   pub ended_is : ended ≡ true → is_whole bytes ≡ false

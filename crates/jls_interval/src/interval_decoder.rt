@@ -1,12 +1,15 @@
 //! The lines of an interval, from bytes that come a few at a time.
 
-ghost use Rattle.std.specs.Prelude.{◌≡◌, ℕ, ◌*◌, ◌^◌, ◌<◌, ◌≤◌, ◌++◌, ◌+◌, true, [], ◌∷◌, Bool, List, length, Some, None, IsSome, IsErr, map, OnOk, OnErr, IfSome, IfNone, MatchOption, MatchResult};
+ghost use Rattle.std.specs.Prelude.{◌≡◌, ℕ, ◌*◌, ◌^◌, ◌<◌, ◌≤◌, ◌++◌, ◌+◌, true, [], ◌∷◌, Bool, List, length, Some, None, IsSome, IsErr, map, OnOk, OnErr, IfOk, IfSome, IfNone, MatchOption, MatchResult};
 ghost use Rattle.std.specs.Option.{option_map};
 ghost use Rattle.jls_bits.specs.Bits.{bits_read, is_whole};
-ghost use Rattle.jls_values.specs.Params.{AreCodingParameters};
+ghost use Rattle.std.specs.List.{AllByRecursion};
+ghost use Rattle.jls_values.specs.Params.{AreCodingParameters, CodingParameters};
 ghost use Rattle.jls_interval.specs.Reads.{Reads};
 ghost use Rattle.jls_interval.specs.PieceFaults.{OutcomeIs};
 ghost use Rattle.jls_interval.specs.CutEnds.{CutEndIs};
+ghost use Rattle.jls_interval.specs.Decoding.{HasShape};
+ghost use Rattle.jls_interval.specs.IntervalBytes.{IsReadingOf, HasLengths};
 
 use crate::coder::Coder;
 use crate::cut_end::CutEnd;
@@ -36,21 +39,62 @@ fn append_byte(unstuffer: &mut Unstuffer, byte: u8, chunk: &mut Chunk) -> bool
     }
 }
 
-/// Appends the data bits of a few bytes to a chunk of none, and says whether none of the bytes so far ends
-/// the data.
+/// Appends the data bits of bytes to a chunk that has room for them, and says whether none of the bytes so far
+/// ends the data.
 fn append_bytes(unstuffer: &mut Unstuffer, bytes: &[u8], chunk: &mut Chunk) -> bool
     requires some { 0 < length bytes.now }
-    requires few { length bytes.now ≤ 7 }
-    requires empty { chunk.old ≡ [] }
+    requires room { length chunk.old + 8 * length bytes.now ≤ 64 }
     ensures pushed { unstuffer.new ≡ unstuffer.old ++ bytes.now }
+    ensures are_bytes { AllByRecursion (λ x. x < 256) unstuffer.old → AllByRecursion (λ x. x < 256) unstuffer.new }
     ensures whole { result ≡ is_whole unstuffer.new }
-    ensures bits { is_whole unstuffer.new ≡ true → bits_read unstuffer.new ≡ bits_read unstuffer.old ++ chunk.new }
+    ensures bits { (given : List Bool) → is_whole unstuffer.new ≡ true
+        → bits_read unstuffer.old ≡ given ++ chunk.old → bits_read unstuffer.new ≡ given ++ chunk.new }
 {
     let mut whole = false;
     for byte in bytes {
         whole = append_byte(unstuffer, *byte, chunk);
     }
     whole
+}
+
+/// As long as a chunk has so many bits, events are taken from it. Fewer wait for the bytes that follow, since an
+/// event whose bits are all there is read at once.
+const WAITING: u8 = 32;
+
+/// Takes the next bytes, and says whether none of the bytes so far ends the data.
+fn push_bytes(
+    unstuffer: &mut Unstuffer,
+    reader: &mut IntervalReader,
+    bytes: &[u8],
+) -> Result<bool, AllocError>
+    requires some { 0 < length bytes.now }
+    requires reading { (p : CodingParameters) × IsReadingOf p unstuffer.old reader.old }
+    requires lengths { HasLengths unstuffer.old reader.old }
+    ensures shape { HasShape reader.old reader.new }
+    ensures are_bytes { AllByRecursion (λ x. x < 256) unstuffer.old → AllByRecursion (λ x. x < 256) unstuffer.new }
+    ensures pushed { OnOk result (unstuffer.new ≡ unstuffer.old ++ bytes.now) }
+    ensures whole { IfOk result (λ whole. whole ≡ is_whole unstuffer.new) }
+    ensures reading { OnOk result ((p : CodingParameters) → IsReadingOf p unstuffer.old reader.old → IsReadingOf p unstuffer.new reader.new) }
+    ensures lengths { OnOk result (HasLengths unstuffer.new reader.new) }
+{
+    let mut chunk = Chunk::new();
+    let mut whole = false;
+    let mut at = 0;
+    while at < bytes.len() {
+        let room = usize::from((64 - chunk.len()) / 8);
+        let end = at + (bytes.len() - at).min(room);
+        whole = append_bytes(unstuffer, &bytes[at..end], &mut chunk);
+        at = end;
+        if whole {
+            reader.push_chunk(WAITING, &mut chunk)?;
+        } else {
+            chunk = Chunk::new();
+        }
+    }
+    if whole {
+        reader.push_chunk(0, &mut chunk)?;
+    }
+    Ok(whole)
 }
 
 /// Reads an interval whose bytes come a few at a time, and keeps none of them: only its lines so far. A
@@ -120,38 +164,13 @@ impl IntervalDecoder {
         }
     }
 
-    /// Takes the next bytes, from one to seven.
-    fn push_few(&mut self, bytes: &[u8]) -> Result<(), AllocError>
-        requires some { 0 < length bytes.now }
-        requires few { length bytes.now ≤ 7 }
-        ensures ok { OnOk result (self.new ≡ record self.old { bytes = option_map (λ before. before ++ bytes.now) self.old.bytes }) }
-        ensures taken { OnOk result (IsSome self.old.bytes) }
-        ensures err { OnErr result (self.new ≡ record self.old { bytes = None }) }
-    {
-        if self.refused {
-            return Err(AllocError);
-        }
-        let mut chunk = Chunk::new();
-        if !append_bytes(&mut self.unstuffer, bytes, &mut chunk) {
-            self.ended = true;
-            return Ok(());
-        }
-        match self.reader.push_chunk(&mut chunk) {
-            Ok(()) => Ok(()),
-            Err(AllocError) => {
-                self.refused = true;
-                Err(AllocError)
-            }
-        }
-    }
-
     /// Takes the next byte. The only refusal is out of memory, which is for good.
     pub fn push(&mut self, byte: u8) -> Result<(), AllocError>
         ensures ok { OnOk result (self.new ≡ record self.old { bytes = option_map (λ bytes. bytes ++ byte ∷ []) self.old.bytes }) }
         ensures taken { OnOk result (IsSome self.old.bytes) }
         ensures err { OnErr result (self.new ≡ record self.old { bytes = None }) }
     {
-        self.push_few(&[byte])
+        self.push_all(&[byte])
     }
 
     /// Takes the next bytes, one after another. The only refusal is out of memory, which is for good.
@@ -163,13 +182,19 @@ impl IntervalDecoder {
         if self.refused {
             return Err(AllocError);
         }
-        let mut at = 0;
-        while at < more.len() {
-            let end = at + (more.len() - at).min(7);
-            self.push_few(&more[at..end])?;
-            at = end;
+        if more.is_empty() {
+            return Ok(());
         }
-        Ok(())
+        match push_bytes(&mut self.unstuffer, &mut self.reader, more) {
+            Ok(whole) => {
+                self.ended = !whole;
+                Ok(())
+            }
+            Err(AllocError) => {
+                self.refused = true;
+                Err(AllocError)
+            }
+        }
     }
 
     /// The lines that the bytes read as, or why there are none.

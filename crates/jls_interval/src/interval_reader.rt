@@ -1,6 +1,6 @@
 //! The lines of an interval, from a few bits at a time.
 
-ghost use Rattle.std.specs.Prelude.{◌≡◌, ◌↔◌, List, Bool, IsTrue, IfOk, OnOk};
+ghost use Rattle.std.specs.Prelude.{◌≡◌, ◌↔◌, ◌-◌, ◌≤◌, List, Bool, length, IsTrue, IfOk, OnOk};
 ghost use Rattle.jls_values.specs.Params.{CodingParameters};
 
 use crate::line_reader::{EventStep, LineReader};
@@ -36,7 +36,7 @@ pub(crate) struct IntervalReader {
 }
 
 impl IntervalReader {
-    ghost use Rattle.jls_interval.specs.Decoding.{IsReading, TakesAll, TakesEvent, HasShape};
+    ghost use Rattle.jls_interval.specs.Decoding.{IsReading, TakesAll, TakesFirst, TakesEvent, HasShape};
 
     /// Takes the bits of the event in hand, where lines are still to come, and says whether it is whole. Else
     /// nothing more is to be taken.
@@ -83,19 +83,26 @@ impl IntervalReader {
         matches!(self.state, State::Working)
     }
 
-    /// Takes the bits of a chunk.
-    pub(crate) fn push_chunk(&mut self, chunk: &mut Chunk) -> Result<(), AllocError>
+    /// Takes bits from the front of a chunk, an event after another, as long as there are at least `waiting`: all of
+    /// them where that is 0.
+    pub(crate) fn push_chunk(&mut self, waiting: u8, chunk: &mut Chunk) -> Result<(), AllocError>
         requires { (p : CodingParameters) × (given : List Bool) × IsReading p given self.old }
         ensures shape { HasShape self.old self.new }
-        ensures bits { OnOk result (TakesAll self.old self.new chunk.old) }
+        ensures bits { OnOk result (TakesFirst self.old chunk.old self.new chunk.new) }
+        ensures few { OnOk result (length chunk.new ≤ waiting - 1) }
     {
         'events: while self.is_working() {
+            if chunk.len() < waiting {
+                return Ok(());
+            }
             let goes_on = self.push_event(chunk)?;
             if !goes_on {
+                *chunk = Chunk::new();
                 return Ok(());
             }
         }
         self.count_bits(chunk);
+        *chunk = Chunk::new();
         Ok(())
     }
 }

@@ -27,7 +27,11 @@ impl<'a> Place<'a> {
         ensures above { above_of result ≡ above components (map (λ v. v.items) lines.now) }
     {
         Place {
-            component: lines.len() % components,
+            component: if components == 1 {
+                0
+            } else {
+                lines.len() % components
+            },
             line_above: line_back(lines, components),
             line_two_above: line_back(lines, 2 * components),
         }

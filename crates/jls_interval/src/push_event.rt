@@ -28,6 +28,7 @@ use jls_context::{Mode, Neighbours};
 use std::alloc::AllocError;
 
 /// Takes bits of a sample in regular mode.
+#[inline(always)]
 fn push_to_regular(
     reader: &mut LineReader,
     neighbours: Neighbours,

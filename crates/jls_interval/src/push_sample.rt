@@ -67,6 +67,7 @@ pub(crate) fn sample_of(
 }
 
 /// Takes bits of a sample in regular mode.
+#[inline(always)]
 pub(crate) fn push_to_sample(
     coder: &Coder,
     neighbours: Neighbours,

@@ -1,8 +1,8 @@
 use Rattle.std.proofs.Common.{◌≡◌, arith, sym, subst, w32, to_z, of_z}
 use Rattle.std.specs.Prelude.{pos}
 use Rattle.std.specs.Int.{int_rem_euclid}
-use Rattle.std.proofs.lemmas.Int.{ints}
 use Rattle.jls_values.specs.Params.{range}
+use Rattle.std.proofs.lemmas.Int.{ints}
 use Rattle.jls_context.specs.Errors.{IsModuloReduced}
 use Rattle.jls_context.proofs.Remainders.{reduced_low, reduced_high, modulo_reduced_is}
 use Rattle.jls_context.proofs.errors.reduced.Goals as goal
@@ -11,8 +11,7 @@ pub returns-then-remainder-error_limit-clause-value :
     goal.returns-then-remainder-error_limit-clause-value
 returns-then-remainder-error_limit-clause-value c =
     let d : to_z w32 (of_z w32 c.args.difference) ≡ c.args.difference = omega (arith, ints) in
-    let r : to_z w32 (of_z w32 c.range_of-range.result) ≡ pos (range c.args.params.now) = omega (arith, ints) in
-    let is : c.rem_euclid-remainder.result ≡ int_rem_euclid c.args.difference (pos (range c.args.params.now)) = rw (d, r) at c.rem_euclid-remainder.ensures.value in
+    let is : pos c.remainder.result ≡ int_rem_euclid c.args.difference (pos (range c.args.params.now)) = rw (d, c.maxval.ensures.value) at c.remainder.ensures.value in
     let e = reduced_low c.args.params.now c.args.difference (grind (arith, ints)) in omega (arith, ints)
 
 pub returns-then-remainder-error_limit-clause-reduced :
@@ -24,8 +23,7 @@ pub returns-else-remainder-error_limit-clause-value :
     goal.returns-else-remainder-error_limit-clause-value
 returns-else-remainder-error_limit-clause-value c =
     let d : to_z w32 (of_z w32 c.args.difference) ≡ c.args.difference = omega (arith, ints) in
-    let r : to_z w32 (of_z w32 c.range_of-range.result) ≡ pos (range c.args.params.now) = omega (arith, ints) in
-    let is : c.rem_euclid-remainder.result ≡ int_rem_euclid c.args.difference (pos (range c.args.params.now)) = rw (d, r) at c.rem_euclid-remainder.ensures.value in
+    let is : pos c.remainder.result ≡ int_rem_euclid c.args.difference (pos (range c.args.params.now)) = rw (d, c.maxval.ensures.value) at c.remainder.ensures.value in
     let e = reduced_high c.args.params.now c.args.difference (grind (arith, ints)) in omega (arith, ints)
 
 pub returns-else-remainder-error_limit-clause-reduced :

@@ -1,25 +1,21 @@
-use Rattle.std.proofs.Common.{◌≡◌, ℕ, ◌+◌, ◌*◌, ◌^◌, ◌<◌, sym, arith}
-use Rattle.std.proofs.lemmas.Grind.{pow_more}
-use borrow.Author.Count.{below_more}
-use Rattle.jls_context.proofs.GolombLaws.{golomb_k-least}
+use Rattle.std.proofs.Common.{◌≡◌, ℕ, ◌+◌, ◌-◌, ◌*◌, ◌%◌, ◌^◌, ltb, ap, sym, subst}
+use mir.Val.{bool_byte}
+use Rattle.jls_context.specs.Regular.{IsGolombK}
+use Rattle.jls_context.proofs.GolombLaws.{order_within, raised_fits, order_is_k, golomb_k_is, k_at_most}
 use Rattle.jls_context.proofs.golomb.golomb_k.Goals as goal
 
-pub loop-k-preserved : goal.loop-k-preserved
-loop-k-preserved c =
-    let n : ℕ = c.args.occurrences in let k : ℕ = c.loop-k.k in let a : ℕ = c.args.magnitudes in
-    let product_is : c.loop-k.product ≡ n * 2 ^ k = c.loop-k.invariant.product_is in
-    let more : 2 ^ (k + 1) ≡ 2 ^ k * 2 = pow_more 2 k in
-    record {
-      within = omega arith;
-      product_is = rw (more, product_is) (omega arith);
-      before = below_more (λ j. n * 2 ^ j < a) k c.loop-k.invariant.before (omega arith);
-    }
+pub overflow_sub-order : goal.overflow_sub-order
+overflow_sub-order c =
+    order_within c.args.occurrences c.args.magnitudes c.max.result c.ilog2.result c.ilog2-2.result c.max.ensures c.ilog2-2.ensures.power_le c.ilog2-2.ensures.next_power_gt c.ilog2.ensures.power_le c.ilog2.ensures.next_power_gt
 
-pub returns-else-product-from-clause-value : goal.returns-else-product-from-clause-value
-returns-else-product-from-clause-value c =
-    sym (golomb_k-least c.args.occurrences c.args.magnitudes c.loop-k.k c.requires.some (omega arith) c.loop-k.invariant.before)
+pub returns-clause-least : goal.returns-clause-least
+returns-clause-least c =
+    let n : ℕ = c.args.occurrences in let a : ℕ = c.args.magnitudes in let e : ℕ = c.ilog2.result in let f : ℕ = c.ilog2-2.result in
+    let fits : n * 2 ^ (e - f) % 4294967296 ≡ n * 2 ^ (e - f) = raised_fits n a c.max.result e f c.max.ensures c.ilog2-2.ensures.power_le c.ilog2-2.ensures.next_power_gt c.ilog2.ensures.power_le c.ilog2.ensures.next_power_gt c.ilog2.ensures.bound in
+    subst (λ z. IsGolombK n a (e - f + bool_byte (ltb z a))) (sym fits) (order_is_k n a c.max.result e f c.max.ensures c.ilog2-2.ensures.power_le c.ilog2-2.ensures.next_power_gt c.ilog2.ensures.power_le c.ilog2.ensures.next_power_gt)
 
-pub returns-after-loop-k-clause-value : goal.returns-after-loop-k-clause-value
-returns-after-loop-k-clause-value c =
-    let last : c.loop-k.k ≡ 16 = omega arith in
-    sym (golomb_k-least c.args.occurrences c.args.magnitudes c.loop-k.k c.requires.some (rw last (c.requires.few)) c.loop-k.invariant.before)
+pub returns-clause-value : goal.returns-clause-value
+returns-clause-value c = sym (golomb_k_is c.args.occurrences c.args.magnitudes _ c.requires.some (returns-clause-least c))
+
+pub returns-clause-at_most : goal.returns-clause-at_most
+returns-clause-at_most c = k_at_most c.args.occurrences c.args.magnitudes _ c.requires.few (returns-clause-least c)

@@ -1,18 +1,18 @@
-use Rattle.std.proofs.Common.{◌≡◌, ℕ, true, List, [], ◌∷◌, ◌++◌, take, length, get_or, sym, ap, subst, ◌∙◌, arith, append_assoc}
+use Rattle.std.proofs.Common.{◌≡◌, ℕ, ◌<◌, true, List, [], ◌∷◌, ◌++◌, take, length, get_or, sym, ap, subst, ◌∙◌, arith, append_assoc}
 use Rattle.std.proofs.lemmas.List.{append-nil, take_more, take_all}
-use Rattle.jls_bits.specs.Bits.{bits_read, is_whole}
-use Rattle.jls_bits.proofs.Appending.{whole_front}
+use Rattle.std.specs.List.{AllByRecursion}
+use Rattle.jls_bits.specs.Bits.{is_whole}
+use Rattle.jls_bits.proofs.Appending.{whole_front, bytes_append}
+use Rattle.jls_interval.proofs.Finishing.{all_bytes}
 use Rattle.jls_interval.proofs.interval_decoder.append_bytes.Goals as goal
 
 pub loop-byte-init : goal.loop-byte-init
-loop-byte-init c =
-    let none = ap length c.requires.empty in
-    record {
-      pushed = sym (append-nil c.args.unstuffer.now);
-      whole = λ h. absurd (omega arith);
-      bits = λ w. sym (append-nil (bits_read c.args.unstuffer.now)) ∙ ap (λ z. bits_read c.args.unstuffer.now ++ z) (sym c.requires.empty);
-      few = omega arith;
-    }
+loop-byte-init c = record {
+  pushed = sym (append-nil c.args.unstuffer.now);
+  whole = λ h. absurd (omega arith);
+  bits = λ given w e. e;
+  few = omega arith;
+}
 
 pub loop-byte-preserved : goal.loop-byte-preserved
 loop-byte-preserved c =
@@ -20,7 +20,7 @@ loop-byte-preserved c =
     record {
       pushed = e.pushed ∙ ap (λ z. z ++ b ∷ []) v.pushed ∙ append_assoc u (take i xs) (b ∷ []) ∙ ap (λ z. u ++ z) (sym (take_more xs i 0 c.loop-byte-test.true));
       whole = λ h. e.whole;
-      bits = λ w. e.bits (bits_read u) w (v.bits (whole_front 0 now (b ∷ []) (subst (λ z. is_whole z ≡ true) e.pushed w)).0);
+      bits = λ given w f. e.bits given w (v.bits given (whole_front 0 now (b ∷ []) (subst (λ z. is_whole z ≡ true) e.pushed w)).0 f);
       few = (let a = v.few in let n = e.few in omega arith);
     }
 
@@ -30,3 +30,7 @@ returns-clause-pushed c =
 
 pub returns-clause-whole : goal.returns-clause-whole
 returns-clause-whole c = c.loop-byte.invariant.whole (let t = c.loop-byte-test.false in let s = c.requires.some in omega arith)
+
+pub returns-clause-are_bytes : goal.returns-clause-are_bytes
+returns-clause-are_bytes c = λ h.
+    subst (AllByRecursion (λ x. x < 256)) (sym (returns-clause-pushed c)) (bytes_append c.args.unstuffer.now c.args.bytes.now h (all_bytes c.args.bytes.now (λ k. omega (arith, c.type_inv.bytes k))))

@@ -12,7 +12,7 @@ push_event-requires-clause-reading c =
 
 pub returns-then-not-goes_on-clause-bits : goal.returns-then-not-goes_on-clause-bits
 returns-then-not-goes_on-clause-bits c =
-    taking_all c.args.self.now c.events.self c.push_event.new.self c.args.chunk.now c.events.chunk c.events.invariant.taking (subst (TakesEvent c.events.self c.push_event.new.self c.events.chunk c.push_event.new.chunk) c.if-not-goes_on.true c.in_ok-goes_on.ensures.bits)
+    taking_all c.args.self.now c.events.self c.push_event.new.self c.args.chunk.now c.events.chunk c.events.invariant.taking c.new.result c.new.ensures (subst (TakesEvent c.events.self c.push_event.new.self c.events.chunk c.push_event.new.chunk) c.if-not-goes_on.true c.in_ok-goes_on.ensures.bits)
 
 pub events-smaller : goal.events-smaller
 events-smaller c =
@@ -27,4 +27,4 @@ events-preserved c = record {
 
 pub returns-clause-bits : goal.returns-clause-bits
 returns-clause-bits c =
-    taking_all c.args.self.now c.events.self c.count_bits.new.self c.args.chunk.now c.events.chunk c.events.invariant.taking (c.count_bits.ensures.bits (λ e. (let a : true ≡ false = sym (c.is_working.ensures.1 e) ∙ c.events-test.false in cc)))
+    taking_all c.args.self.now c.events.self c.count_bits.new.self c.args.chunk.now c.events.chunk c.events.invariant.taking c.new-2.result c.new-2.ensures (c.count_bits.ensures.bits (λ e. (let a : true ≡ false = sym (c.is_working.ensures.1 e) ∙ c.events-test.false in cc)))

@@ -1,12 +1,11 @@
 use Rattle.std.proofs.Common.{length}
-use Rattle.jls_interval.specs.Decoding.{HasShape}
-use Rattle.jls_interval.proofs.IntervalReading.{Taking}
+use Rattle.jls_interval.specs.Decoding.{HasShape, TakesFirst}
 use Rattle.jls_interval.proofs.interval_reader.IntervalReader.push_chunk.Given as goal
 
 abbrev pub invariant-events : goal.invariant-events
 invariant-events l = record {
   shape : HasShape l.initial.self l.self;
-  taking : Taking l.initial.self l.initial.chunk l.self l.chunk;
+  taking : TakesFirst l.initial.self l.initial.chunk l.self l.chunk;
 }
 
 abbrev pub decreases-events : goal.decreases-events

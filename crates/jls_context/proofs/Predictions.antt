@@ -1,0 +1,16 @@
+-- The prediction that finds edges is a median.
+use Rattle.std.proofs.Common.{◌≡◌, ℕ, ◌+◌, ◌-◌, inl, inr, arith}
+use Rattle.std.specs.Prelude.{min, max}
+use Rattle.std.proofs.lemmas.Bool.{cases_lt, le-leb, lt-leb}
+use Rattle.jls_context.specs.Prediction.{edge_detecting_predictor}
+
+-- the sum less Rc, brought between the smaller and the larger of Ra and Rb
+pub median_is : (a b c : ℕ) → min (max (a + b) (c + min a b)) (c + max a b) - c ≡ edge_detecting_predictor a b c
+median_is a b c =
+    elim (cases_lt c (max a b)) [
+      | inr h ↦ (let t = le-leb (max a b) c h in rw t (omega arith))
+      | inl h ↦ (let t = lt-leb (max a b) c h in elim (cases_lt (min a b) c) [
+        | inr g ↦ (let u = le-leb c (min a b) g in rw (t, u) (omega arith))
+        | inl g ↦ (let u = lt-leb c (min a b) g in rw (t, u) (omega arith))
+      ])
+    ]
