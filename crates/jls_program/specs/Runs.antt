@@ -5,7 +5,7 @@ use Rattle.clap.specs.declared.error.kind.ErrorKind.{ErrorKind}
 use Rattle.jls_device.specs.Event.{Event, History}
 use Rattle.jls_device.specs.Writing.{Wrote, WroteFront, Printed}
 use Rattle.jls_station.specs.Joining.{Joins}
-use Rattle.jls_station.specs.Outcomes.{status_of}
+use Rattle.jls_station.specs.Outcomes.{exit_status}
 use Rattle.jls_station.specs.declared.outcome.Cause.TheVariants as cause
 use Rattle.jls_station.specs.declared.outcome.Outcome.{Outcome}
 use Rattle.jls_commands.specs.Telling.{Tells, lines}
@@ -28,7 +28,7 @@ pub data Run : List Text → ℕ → List Event → List Event → List Event �
   -- the words ask for something: what came of it has the status and the fault line
   came_of : (words : List Text) (asked : Asked) (outcome : Outcome) (desk report faults : List Event)
       → ReadsAs words asked → CameOf asked outcome desk report → Printed (fault_line outcome) faults
-      → Run words (status_of outcome) desk report faults
+      → Run words (exit_status outcome) desk report faults
   -- clap refuses the words, and not to show help: some text, which may be any, goes to the fault output
   misused : (words : List Text) (k : ErrorKind) (usage : List ℕ) (faults : List Event)
       → AreRefused words k → is_help k ≡ false → Printed usage faults → Run words 2 [] [] faults
