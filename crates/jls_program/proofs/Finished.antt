@@ -121,23 +121,23 @@ done_status false true p s le = ((λ e. absurd (omega (arith, e)), λ is. absurd
     by_settled e = cc
 done_status settled false p s le = absurd (omega (arith, le))
 
-join_finished : (out : Text) (names : List Text) (outcome : Outcome) (events : List Event) (desk desk' : History) → Joins None out names outcome events → desk' ≡ desk ++ events → exit_status outcome ≤ 1
-    → (joined : PartialPicture) × JoinRan out names joined (exit_status outcome) desk desk' × (fault_line outcome ≡ [])
-join_finished out names _ events desk desk' (joining.done _ _ _ p settled whole _ h) e le =
+join_finished : (source : Option ℕ) (out : Text) (names : List Text) (outcome : Outcome) (events : List Event) (desk desk' : History) → Joins source out names outcome events → desk' ≡ desk ++ events → exit_status outcome ≤ 1
+    → (joined : PartialPicture) × JoinRan source out names joined (exit_status outcome) desk desk' × (fault_line outcome ≡ [])
+join_finished source out names _ events desk desk' (joining.done _ _ _ p settled whole _ h) e le =
     let s = done_status settled whole p h.settled_is le in (
       p,
       record {
         settled = settled;
         events = events;
         grew = e;
-        is_done = subst (λ (w : Bool). JoinIsDone None out names p settled w events) s.1 h;
+        is_done = subst (λ (w : Bool). JoinIsDone source out names p settled w events) s.1 h;
         status_is = s.0;
       },
       refl,
     )
-join_finished out names _ events desk desk' (joining.at_input _ _ _ r _ h) e le = let k = status_at_input None h.givens r.name.now r.cause h.last h.stops in absurd (omega (arith, k, le))
-join_finished out names _ events desk desk' (joining.no_memory _ _ _ r p whole _ named is h) e le = let k = status_of_memory r.cause is in absurd (omega (arith, k, le))
-join_finished out names _ _ desk desk' (joining.at_output _ _ _ r p whole reading writing named h stops) e le = let k = status_at_output out _ r.cause writing stops in absurd (omega (arith, k, le))
+join_finished source out names _ events desk desk' (joining.at_input _ _ _ r _ h) e le = let k = status_at_input source h.givens r.name.now r.cause h.last h.stops in absurd (omega (arith, k, le))
+join_finished source out names _ events desk desk' (joining.no_memory _ _ _ r p whole _ named is h) e le = let k = status_of_memory r.cause is in absurd (omega (arith, k, le))
+join_finished source out names _ _ desk desk' (joining.at_output _ _ _ r p whole reading writing named h stops) e le = let k = status_at_output out _ r.cause writing stops in absurd (omega (arith, k, le))
 
 tell_finished : (traced : Bool) (name : Text) (outcome : Outcome) (events reported : List Event) (desk desk' report report' : History) → Tells (lines traced) name outcome events reported
     → desk' ≡ desk ++ events → report' ≡ report ++ reported → exit_status outcome ≤ 1
@@ -196,11 +196,11 @@ came_as (Jls line ri) out name outcome desk report h = h
 -- ---- the laws
 
 pub joins_finished : DoneJoinsRan
-joins_finished words status desk desk' report report' faults faults' ran out names k le =
+joins_finished words status desk desk' report report' faults faults' ran source out names k le =
     let c = came_of_run words status ran.desk_events ran.report_events ran.fault_events ran.run _ k le in
-    let f = join_finished out names c.outcome ran.desk_events desk desk' c.came.0 ran.desk_is (omega (arith, le, c.status_is)) in (
+    let f = join_finished source out names c.outcome ran.desk_events desk desk' c.came.0 ran.desk_is (omega (arith, le, c.status_is)) in (
       f.0,
-      subst (λ (s : ℕ). JoinRan out names f.0 s desk desk') (sym c.status_is) f.1,
+      subst (λ (s : ℕ). JoinRan source out names f.0 s desk desk') (sym c.status_is) f.1,
       unchanged report report' ran.report_events ran.report_is c.came.1,
       unchanged faults faults' ran.fault_events ran.faults_are (none_printed ran.fault_events (subst (λ (line : List ℕ). Printed line ran.fault_events) f.2 c.printed)),
     )

@@ -1,5 +1,5 @@
 -- What a run of the program is.
-use Rattle.std.specs.Prelude.{◌≡◌, ℕ, true, false, List, [], ◌++◌, None, codes}
+use Rattle.std.specs.Prelude.{◌≡◌, ℕ, true, false, List, [], ◌++◌, codes}
 use Rattle.clap.specs.Words.{Text}
 use Rattle.clap.specs.declared.error.kind.ErrorKind.{ErrorKind}
 use Rattle.jls_device.specs.Event.{Event, History}
@@ -18,7 +18,7 @@ use Rattle.jls_program.specs.FaultLines.{cause_line, fault_line, out_of_memory_l
 -- what came of what was asked, by the events of the desk and of the report output
 abbrev pub CameOf : Asked → Outcome → List Event → List Event → Type 0
 CameOf (check name) outcome desk report = Tells (lines true) name outcome desk report
-CameOf (join out names) outcome desk report = Joins None out names outcome desk × (report ≡ [])
+CameOf (join source out names) outcome desk report = Joins source out names outcome desk × (report ≡ [])
 CameOf (show name) outcome desk report = Tells (lines false) name outcome desk report
 CameOf (write_pnm out name) outcome desk report = WritesFile Pnm out name outcome desk × (report ≡ [])
 CameOf (write_jls line ri out name) outcome desk report = WritesFile (Jls line ri) out name outcome desk × (report ≡ [])
