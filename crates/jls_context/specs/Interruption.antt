@@ -1,5 +1,6 @@
 -- The two cells of samples that interrupt a run (T.87, A.7.2). `same` says that RItype is 1: Ra and Rb are the same.
-use Rattle.std.specs.Prelude.{ℕ, ◌+◌, ◌-◌, ◌*◌, ◌/◌, Bool, false, not, ◌&&◌, ◌||◌, nat_lt, nat_le, ◌==◌, if◌then◌else◌, ℤ, pos, unsigned_abs, int_lt}
+use Rattle.std.specs.Prelude.{ℕ, ◌+◌, ◌-◌, ◌*◌, ◌/◌, Bool, false, not, ◌&&◌, ◌||◌, nat_lt, nat_le, ◌==◌, if◌then◌else◌}
+use Rattle.std.specs.Prelude.{ℤ, pos, unsigned_abs, int_lt}
 use Rattle.jls_values.specs.Params.{CodingParameters}
 use Rattle.jls_context.specs.declared.interruption.RunCell.{RunCell}
 use Rattle.jls_context.specs.Regular.{initial_magnitudes, golomb_k}
@@ -21,7 +22,9 @@ run_k same cell = golomb_k cell.occurrences (interruption_magnitudes same cell)
 -- map: whether an error has the smaller number of the two that errors of its size have
 abbrev pub interruption_map : Bool → RunCell → ℤ → Bool
 interruption_map same cell e =
-    ((run_k same cell == 0) && int_lt (pos 0) e && nat_lt (2 * cell.negative_errors) cell.occurrences) || (int_lt e (pos 0) && nat_le cell.occurrences (2 * cell.negative_errors)) || (int_lt e (pos 0) && not (run_k same cell == 0))
+    ((run_k same cell == 0) && int_lt (pos 0) e && nat_lt (2 * cell.negative_errors) cell.occurrences)
+    || (int_lt e (pos 0) && nat_le cell.occurrences (2 * cell.negative_errors))
+    || (int_lt e (pos 0) && not (run_k same cell == 0))
 
 -- 1 where it is so, else 0
 abbrev pub one_if : Bool → ℕ
@@ -33,9 +36,11 @@ interruption_mapped same cell e =
     2 * unsigned_abs e - one_if same - one_if (interruption_map same cell e)
 
 -- A += floor((EM + 1 - RItype) / 2), and Nn += 1 where the error is negative
-abbrev pub run_added : Bool → RunCell → ℤ → RunCell
-run_added same cell e =
-    record cell { magnitudes = cell.magnitudes + (interruption_mapped same cell e + 1 - one_if same) / 2; negative_errors = cell.negative_errors + one_if (int_lt e (pos 0)) }
+abbrev pub run_with_error : Bool → RunCell → ℤ → RunCell
+run_with_error same cell e = record cell {
+  magnitudes = cell.magnitudes + (interruption_mapped same cell e + 1 - one_if same) / 2;
+  negative_errors = cell.negative_errors + one_if (int_lt e (pos 0));
+}
 
 -- A, N and Nn halved, each to its floor
 abbrev pub run_halved : RunCell → RunCell
@@ -49,7 +54,7 @@ run_counted cell = record cell { occurrences = cell.occurrences + 1 }
 -- a cell after an error
 unfoldable pub run_updated : ℕ → Bool → RunCell → ℤ → RunCell
 run_updated reset same cell e =
-    let now = run_added same cell e in
+    let now = run_with_error same cell e in
     run_counted (if (now.occurrences == reset) then run_halved now else now)
 
 -- The same map by the sign of the error, which is how the code computes it. No public contract cites these ----

@@ -1,5 +1,6 @@
 -- The mode of a sample: run mode, or regular mode with the context and the SIGN of its neighbours (T.87, A.3).
-use Rattle.std.specs.Prelude.{◌≡◌, ℕ, zero, suc, ◌≤◌, Bool, true, false, ◌&&◌, nat_lt, ◌==◌, if◌then◌else◌, List, [], ◌∷◌, ℤ, pos, negsuc, ◌+ℤ◌, ◌-ℤ◌, ◌*ℤ◌, neg_ℤ, unsigned_abs, int_lt}
+use Rattle.std.specs.Prelude.{◌≡◌, ℕ, zero, suc, ◌≤◌, Bool, true, false, ◌&&◌, nat_lt, ◌==◌, if◌then◌else◌, List, [], ◌∷◌}
+use Rattle.std.specs.Prelude.{ℤ, pos, negsuc, ◌+ℤ◌, ◌-ℤ◌, ◌*ℤ◌, neg_ℤ, unsigned_abs, int_lt}
 use Rattle.jls_values.specs.Params.{CodingParameters}
 use Rattle.jls_context.specs.declared.mode.Neighbours.{Neighbours}
 use Rattle.jls_context.specs.declared.mode.Mode.{Mode}
@@ -78,7 +79,8 @@ pub record IsRegularMode (p : CodingParameters) (near : Neighbours) (cell : ℕ)
   pub not_run : is_run_mode near ≡ false
   pub context_is : cell ≡ context p near
   pub sign_is : negative ≡ is_negative p near
-  pub weighed_is : let q = quantized_gradients p near in pos cell ≡ weighed (with_sign negative q.q1) (with_sign negative q.q2) (with_sign negative q.q3)
+  pub weighed_is : let q = quantized_gradients p near in
+      pos cell ≡ weighed (with_sign negative q.q1) (with_sign negative q.q2) (with_sign negative q.q3)
   pub at_least : 1 ≤ cell
   pub at_most : cell ≤ 364
 

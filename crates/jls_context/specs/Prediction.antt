@@ -11,11 +11,11 @@ edge_detecting_predictor ra rb rc =
     else ra + rb - rc
 
 -- the sample from 0 to MAXVAL that is nearest to a number
-abbrev pub clamped : CodingParameters → ℤ → ℕ
-clamped p (pos n) = min n p.maxval
-clamped p (negsuc n) = 0
+abbrev pub clamped_prediction : CodingParameters → ℤ → ℕ
+clamped_prediction p (pos n) = min n p.maxval
+clamped_prediction p (negsuc n) = 0
 
 -- the prediction with SIGN * C added to it, clamped (A.4.2)
 unfoldable pub corrected_prediction : CodingParameters → Bool → ℤ → ℕ → ℕ
 corrected_prediction p negative correction prediction =
-    clamped p (pos prediction +ℤ with_sign negative correction)
+    clamped_prediction p (pos prediction +ℤ with_sign negative correction)

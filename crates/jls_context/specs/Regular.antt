@@ -1,5 +1,6 @@
 -- The cells of regular mode: k, the mapping of errors, and what an error changes (T.87, A.2, A.5.1, A.5.2, A.6).
-use Rattle.std.specs.Prelude.{ℕ, ◌+◌, ◌*◌, ◌/◌, ◌^◌, ◌<◌, ◌≤◌, max, Bool, ◌&&◌, nat_le, ◌==◌, if◌then◌else◌, ℤ, pos, negsuc, ◌+ℤ◌, ◌-ℤ◌, ◌*ℤ◌, neg_ℤ, unsigned_abs, int_lt, int_le}
+use Rattle.std.specs.Prelude.{ℕ, ◌+◌, ◌*◌, ◌/◌, ◌^◌, ◌<◌, ◌≤◌, max, Bool, ◌&&◌, nat_le, ◌==◌, if◌then◌else◌}
+use Rattle.std.specs.Prelude.{ℤ, pos, negsuc, ◌+ℤ◌, ◌-ℤ◌, ◌*ℤ◌, neg_ℤ, unsigned_abs, int_lt, int_le}
 use Rattle.std.specs.Int.{int_div_euclid, int_max, int_min}
 use Rattle.jls_values.specs.Params.{CodingParameters, range, least_from}
 use Rattle.jls_context.specs.declared.regular.Cell.{Cell}
@@ -37,8 +38,8 @@ abbrev pub regular_mapped : Cell → ℤ → ℕ
 regular_mapped cell e = error_mapped (uses_special_mapping cell) e
 
 -- B += E and A += |E| (A.6.1)
-abbrev pub added : Cell → ℤ → Cell
-added cell e =
+abbrev pub with_error : Cell → ℤ → Cell
+with_error cell e =
     record cell { magnitudes = cell.magnitudes + unsigned_abs e; bias = cell.bias +ℤ e }
 
 -- A, B and N halved, each to its floor: for B below 0 this is the standard's -((1 - B) >> 1) (A.6.1)
@@ -67,11 +68,13 @@ computed_correction n b c =
 
 -- the bias computation (A.6.2)
 abbrev pub bias_computed : Cell → Cell
-bias_computed cell =
-    record cell { bias = computed_bias cell.occurrences cell.bias; correction = computed_correction cell.occurrences cell.bias cell.correction }
+bias_computed cell = record cell {
+  bias = computed_bias cell.occurrences cell.bias;
+  correction = computed_correction cell.occurrences cell.bias cell.correction;
+}
 
 -- a cell after an error (A.6)
 unfoldable pub updated : ℕ → Cell → ℤ → Cell
 updated reset cell e =
-    let now = added cell e in
+    let now = with_error cell e in
     bias_computed (counted (if (now.occurrences == reset) then halved now else now))

@@ -41,7 +41,12 @@ impl Model for Cells {
 
     ghost view = { λ a. record { parameters = a.params; regular = a.regular; run_other = a.run_other; run_same = a.run_same } };
 
-    ghost invariant = { λ a. AreVariables (record { parameters = a.params; regular = a.regular; run_other = a.run_other; run_same = a.run_same }) };
+    ghost invariant = { λ a. AreVariables (record {
+      parameters = a.params;
+      regular = a.regular;
+      run_other = a.run_other;
+      run_same = a.run_same;
+    }) };
 }
 
 impl Cells {
@@ -87,7 +92,8 @@ impl Cells {
     /// (A.4.1, A.4.2).
     pub fn predict(&self, cell: u16, negative: bool, ra: u16, rb: u16, rc: u16) -> u16
         requires { cell ≤ 364 }
-        ensures value { result ≡ corrected_prediction self.now.parameters negative (cell_at self.now cell).correction (edge_detecting_predictor ra rb rc) }
+        ensures value { result ≡ corrected_prediction self.now.parameters negative (cell_at self.now cell).correction
+            (edge_detecting_predictor ra rb rc) }
         ensures sample { result ≤ self.now.parameters.maxval }
     {
         let correction = self.regular_cell(cell).correction;
@@ -115,7 +121,8 @@ impl Cells {
         requires error { IsError self.now.parameters error }
         ensures sample { result ≤ self.now.parameters.maxval }
         ensures error { prediction_error self.now.parameters negative result predicted ≡ error }
-        ensures only { (other : ℕ) → other ≤ self.now.parameters.maxval → prediction_error self.now.parameters negative other predicted ≡ error → other ≡ result }
+        ensures only { (other : ℕ) → other ≤ self.now.parameters.maxval
+            → prediction_error self.now.parameters negative other predicted ≡ error → other ≡ result }
     {
         restored(&self.params, predicted, negative, error)
     }
@@ -201,8 +208,10 @@ impl Cells {
         ensures error { IfSome result (IsError self.now.parameters) }
         ensures another { IfSome result (λ e. same ≡ true → e ≢ pos 0) }
         ensures mapped { IfSome result (λ e. interruption_mapped same (run_cell_at self.now same) e ≡ mapped) }
-        ensures only { IfSome result (λ e. (other : ℤ) → (same ≡ true → other ≢ pos 0) → interruption_mapped same (run_cell_at self.now same) other ≡ mapped → other ≡ e) }
-        ensures none { IfNone result ((e : ℤ) → IsError self.now.parameters e → (same ≡ true → e ≢ pos 0) → interruption_mapped same (run_cell_at self.now same) e ≢ mapped) }
+        ensures only { IfSome result (λ e. (other : ℤ) → (same ≡ true → other ≢ pos 0)
+            → interruption_mapped same (run_cell_at self.now same) other ≡ mapped → other ≡ e) }
+        ensures none { IfNone result ((e : ℤ) → IsError self.now.parameters e → (same ≡ true → e ≢ pos 0)
+            → interruption_mapped same (run_cell_at self.now same) e ≢ mapped) }
     {
         let cell = self.run_cell(same);
         // No error of 16 bits is mapped to more.

@@ -65,7 +65,8 @@ pub(crate) fn restored(params: &Params, prediction: u16, negative: bool, error: 
     requires error { IsError params.now error }
     ensures sample { result ≤ params.now.maxval }
     ensures error { prediction_error params.now negative result prediction ≡ error }
-    ensures only { (other : ℕ) → other ≤ params.now.maxval → prediction_error params.now negative other prediction ≡ error → other ≡ result }
+    ensures only { (other : ℕ) → other ≤ params.now.maxval → prediction_error params.now negative other prediction ≡ error
+        → other ≡ result }
 {
     let range = range_of(params);
     remainder(i32::from(prediction) + with_sign(negative, error), range)

@@ -20,8 +20,8 @@ pub(crate) fn edge_detecting_predictor(ra: u16, rb: u16, rc: u16) -> u16
 }
 
 /// The sample from 0 to MAXVAL that is nearest to a number.
-fn clamped(params: &Params, value: i32) -> u16
-    ensures { result ≡ Rattle.jls_context.specs.Prediction.clamped params.now value }
+fn clamped_prediction(params: &Params, value: i32) -> u16
+    ensures { result ≡ Rattle.jls_context.specs.Prediction.clamped_prediction params.now value }
 {
     let maxval = params.maxval();
     if value < 0 {
@@ -45,7 +45,7 @@ pub(crate) fn corrected_prediction(
     ensures value { result ≡ Rattle.jls_context.specs.Prediction.corrected_prediction params.now negative correction prediction }
     ensures sample { result ≤ params.now.maxval }
 {
-    clamped(
+    clamped_prediction(
         params,
         i32::from(prediction) + with_sign(negative, correction),
     )

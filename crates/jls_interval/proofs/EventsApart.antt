@@ -10,7 +10,7 @@ use Rattle.jls_values.specs.Params.{AreCodingParameters, range, qbpp, limit}
 use Rattle.jls_values.specs.Params.{CodingParameters}
 use Rattle.jls_context.specs.Errors.{IsError, modulo_reduced, prediction_error, error_mapped}
 use Rattle.jls_context.specs.Mode.{is_run_mode, is_negative, context}
-use Rattle.jls_context.specs.Prediction.{clamped, corrected_prediction}
+use Rattle.jls_context.specs.Prediction.{clamped_prediction, corrected_prediction}
 use Rattle.jls_context.specs.Regular.{uses_special_mapping, regular_k}
 use Rattle.jls_context.specs.Interruption.{run_k, interruption_map, interruption_mapped, one_if, map_by_sign, maps_positive, mapped_by_sign}
 use Rattle.jls_context.specs.declared.mode.Neighbours.{Neighbours}
@@ -52,7 +52,7 @@ small_get (x ∷ xs) (suc i) m h = small_get xs i m h.1
 pub j_small : (r : ℕ) → run_order r ≤ 15
 j_small r = small_get (0 ∷ 0 ∷ 0 ∷ 0 ∷ 1 ∷ 1 ∷ 1 ∷ 1 ∷ 2 ∷ 2 ∷ 2 ∷ 2 ∷ 3 ∷ 3 ∷ 3 ∷ 3 ∷ 4 ∷ 4 ∷ 5 ∷ 5 ∷ 6 ∷ 6 ∷ 7 ∷ 7 ∷ 8 ∷ 9 ∷ 10 ∷ 11 ∷ 12 ∷ 13 ∷ 14 ∷ 15 ∷ []) r 15 (omega arith)
 
-pub clamped_small : (p : CodingParameters) (z : ℤ) → clamped p z ≤ p.maxval
+pub clamped_small : (p : CodingParameters) (z : ℤ) → clamped_prediction p z ≤ p.maxval
 clamped_small p (pos n) = omega arith
 clamped_small p (negsuc n) = omega arith
 

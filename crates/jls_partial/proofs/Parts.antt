@@ -12,7 +12,7 @@ use Rattle.jls_values.specs.OrderedSet as set
 use Rattle.jls_values.specs.OrderedSet.{contains}
 use Rattle.jls_values.specs.OrderedSetLaws.{contains-union, same_set, or_false, items-from_list, union-associative}
 use Rattle.jls_partial.specs.Partial.{PartialPicture, readings_at, union, IsFitting}
-use Rattle.jls_partial.specs.Parts.{IsPartOf, EachLineSurvives, JoinsHoldExactly, JoinsHoldAllMarks, PartsGiveThePicture, all_marks}
+use Rattle.jls_partial.specs.Parts.{IsPartOf, EachLineIsHeld, JoinsHoldExactly, JoinsHoldAllMarks, PartsGiveThePicture, all_marks}
 use Rattle.jls_partial.specs.Marks.{mark_cmp}
 use Rattle.jls_partial.specs.Reading.{Reading, reading_of, reading_cmp}
 use Rattle.jls_partial.specs.ReadingOrder.{reading_total, reading_exact, same_reading, marks_total, marks_exact}
@@ -117,10 +117,10 @@ module _ (picture first : PartialPicture) (others : List PartialPicture) (are : 
   nothing_else r h = let m = held_of_member first others r h in (part_of m.0 m.1).readings r.component r.line r.samples m.2
 
   -- and all of it
-  all_of_it : IsFitting picture → IsSettled picture → EachLineSurvives picture.shape (first ∷ others) → (r : Reading) → contains picture.readings r ≡ true → contains (join_all union first others).readings r ≡ true
-  all_of_it fitting settled survives r h =
+  all_of_it : IsFitting picture → IsSettled picture → EachLineIsHeld picture.shape (first ∷ others) → (r : Reading) → contains picture.readings r ≡ true → contains (join_all union first others).readings r ≡ true
+  all_of_it fitting settled each r h =
       let inside = place_exists picture.shape r.component r.line r.samples (fitting r.component r.line r.samples h) in
-      let s = survives r.component inside.0 r.line inside.1 in
+      let s = each r.component inside.0 r.line inside.1 in
       let x = a_reading s.0 r.component r.line (readings_at s.0 r.component r.line) refl s.2 in
       let same = reading_of r.component r.line x.0 in
       let held = (part_of s.0 s.1).readings r.component r.line x.0 x.1 in
@@ -129,8 +129,8 @@ module _ (picture first : PartialPicture) (others : List PartialPicture) (are : 
       subst (λ (q : Reading). contains (join_all union first others).readings q ≡ true) (sym one) (member_held first others s.0 same s.1 x.1)
 
 pub parts_join : PartsGiveThePicture
-parts_join picture fitting settled first others are survives =
+parts_join picture fitting settled first others are each =
     let shape = shape_of_join first others ∙ (part_of picture first others are first (0, omega arith, refl)).shape in
     let readings = same_set reading_total reading_exact (join_all union first others).readings picture.readings
-    (λ r. both_ways _ _ (nothing_else picture first others are r) (all_of_it picture first others are fitting settled survives r)) in
+    (λ r. both_ways _ _ (nothing_else picture first others are r) (all_of_it picture first others are fitting settled each r)) in
     λ i. record { shape = shape i; readings = readings i; marks = marks_of_join first others i }

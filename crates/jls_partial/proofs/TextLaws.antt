@@ -31,7 +31,7 @@ use Rattle.jls_partial.specs.Place.{place, place_cmp}
 use Rattle.jls_partial.specs.Reading.{Reading, reading_cmp}
 use Rattle.jls_partial.specs.ReadingOrder.{place_total, marks_total, marks_exact}
 use Rattle.jls_partial.specs.Text.{magic, version_byte, shape_text, reading_text, entry_text, head_text, text_of, with_own_sources, bare_entries, entries, IsPartial, SaysAll, IsTextOf}
-use Rattle.jls_partial.specs.TextReading.{◌>>=◌, Gives, offset, byte_field, number_field, magic_field, version_field, shape_fields, readings_fields, may_follow, place_fields, count_field, entry_fields, entries_fields, text_fields, read_text}
+use Rattle.jls_partial.specs.TextReading.{◌>>=◌, GivesText, offset, byte_field, number_field, magic_field, version_field, shape_fields, readings_fields, may_follow, place_fields, count_field, entry_fields, entries_fields, text_fields, read_text}
 use Rattle.jls_partial.proofs.BareEntries.{first_none, items_rise, line_of_entry, entries_are, few_entries}
 use Rattle.jls_partial.proofs.Entries.{holds_kept, fits_kept, countable_at}
 use Rattle.jls_partial.proofs.KeptEntries.{SourcesRise, readings_are, holds_reading, holds_mark, entries_again, bare_entries_are, partial_again}
@@ -457,6 +457,6 @@ read_again bytes p is =
 pub one_text : (bytes : List ℕ) (p q : PartialPicture) → IsTextOf bytes p → IsTextOf bytes q → p ≡ q
 one_text bytes p q p_is q_is = ok_is p q (sym (read_again bytes p p_is) ∙ read_again bytes q q_is)
 
-pub is_found : (bytes : List ℕ) (r : Result PartialPicture TextFault) → IsBytes bytes → Gives (λ p. p) r (read_text bytes) → IfOk r (λ p. IsTextOf bytes p)
+pub is_found : (bytes : List ℕ) (r : Result PartialPicture TextFault) → IsBytes bytes → GivesText (λ p. p) r (read_text bytes) → IfOk r (λ p. IsTextOf bytes p)
 is_found bytes (Ok p) fits given = read_takes bytes p fits given
 is_found bytes (Err e) fits given = tt

@@ -19,8 +19,8 @@ use Rattle.jls_partial.specs.Reading.{reading_cmp}
 use Rattle.jls_partial.specs.ReadingOrder.{reading_total, reading_exact, marks_total, marks_exact}
 
 -- one shape, and the same readings and marks in the same order
-abbrev pub is_same : PartialPicture → PartialPicture → Bool
-is_same p q = has_same_shape p q && (pointwise (eq_by_cmp reading_cmp) (set.items p.readings) (set.items q.readings)
+abbrev pub are_same_pictures : PartialPicture → PartialPicture → Bool
+are_same_pictures p q = has_same_shape p q && (pointwise (eq_by_cmp reading_cmp) (set.items p.readings) (set.items q.readings)
     && pointwise (eq_by_cmp (mark_cmp reading_cmp)) (set.items p.marks) (set.items q.marks))
 
 -- ---- the test is true exactly where the two are one
@@ -51,12 +51,12 @@ module _ {K : Type 0} {R : K → K → Ordering} (o : IsTotalOrder R) (exact : C
       same_set o exact s t (λ k. contains-items s k ∙ ap (list_any (eq_by_cmp R k)) (same_items (set.items s) (set.items t) e) ∙ sym (contains-items t k))
 
 -- a partial picture passes the test with itself
-pub is_same-itself : (p : PartialPicture) → is_same p p ≡ true
-is_same-itself p =
+pub are_same_pictures-itself : (p : PartialPicture) → are_same_pictures p p ≡ true
+are_same_pictures-itself p =
     rw (shape_itself p.shape, items_themselves reading_total reading_exact (set.items p.readings)) (items_themselves marks_total marks_exact (set.items p.marks))
 
 -- partial pictures that pass the test are one
-pub one_partial : (p q : PartialPicture) → is_same p q ≡ true → p ≡ q
+pub one_partial : (p q : PartialPicture) → are_same_pictures p q ≡ true → p ≡ q
 one_partial p q e =
     let same = pointwise (eq_by_cmp reading_cmp) (set.items p.readings) (set.items q.readings) in
     let marked = pointwise (eq_by_cmp (mark_cmp reading_cmp)) (set.items p.marks) (set.items q.marks) in
@@ -69,12 +69,12 @@ one_partial p q e =
     }
 
 -- the test does not depend on the order
-same_turned : (p q : PartialPicture) → is_same p q ≡ true → is_same q p ≡ true
-same_turned p q e = subst (λ (z : PartialPicture). is_same z p ≡ true) (one_partial p q e) (is_same-itself p)
+same_turned : (p q : PartialPicture) → are_same_pictures p q ≡ true → are_same_pictures q p ≡ true
+same_turned p q e = subst (λ (z : PartialPicture). are_same_pictures z p ≡ true) (one_partial p q e) (are_same_pictures-itself p)
 
 -- the laws of `==`
-pub is_same_equivalence : IsEquivalence is_same
-is_same_equivalence = equiv (record {
-  symm = λ x y. both_ways (is_same x y) (is_same y x) (same_turned x y) (same_turned y x);
-  trans = λ x y z p q. subst (λ (w : PartialPicture). is_same x w ≡ true) (one_partial y z q) p;
-}) is_same-itself
+pub are_same_pictures_equivalence : IsEquivalence are_same_pictures
+are_same_pictures_equivalence = equiv (record {
+  symm = λ x y. both_ways (are_same_pictures x y) (are_same_pictures y x) (same_turned x y) (same_turned y x);
+  trans = λ x y z p q. subst (λ (w : PartialPicture). are_same_pictures x w ≡ true) (one_partial y z q) p;
+}) are_same_pictures-itself

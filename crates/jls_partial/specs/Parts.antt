@@ -14,13 +14,13 @@ pub record IsPartOf (picture part : PartialPicture) : Type 0 where
   pub readings : (component line : ℕ) (samples : List ℕ) → holds part component line samples ≡ true → holds picture component line samples ≡ true
 
 -- one of these partial pictures has a reading of the line
-abbrev pub Survives : List PartialPicture → ℕ → ℕ → Type 0
-Survives parts component line = (part : PartialPicture) × Contains parts part × (readings_at part component line ≡ [] → ⊥)
+abbrev pub IsHeld : List PartialPicture → ℕ → ℕ → Type 0
+IsHeld parts component line = (part : PartialPicture) × Contains parts part × (readings_at part component line ≡ [] → ⊥)
 
--- each line of a picture of this shape survives somewhere
-abbrev pub EachLineSurvives : PictureShape → List PartialPicture → Type 0
-EachLineSurvives shape parts =
-    (component : ℕ) → component < length shape.ids → (line : ℕ) → line < shape.height → Survives parts component line
+-- one of these has a reading of each line of a picture of this shape
+abbrev pub EachLineIsHeld : PictureShape → List PartialPicture → Type 0
+EachLineIsHeld shape parts =
+    (component : ℕ) → component < length shape.ids → (line : ℕ) → line < shape.height → IsHeld parts component line
 
 -- a join holds the readings that any of its members holds, and no others
 abbrev pub JoinsHoldExactly : Type 0
@@ -42,10 +42,11 @@ JoinsHoldAllMarks = (first : PartialPicture) (others : List PartialPicture) → 
 abbrev pub sourced : List PartialPicture → PartialPicture → PartialPicture
 sourced parts picture = record { shape = picture.shape; readings = picture.readings; marks = all_marks parts }
 
--- where each line of a settled picture, whose readings fit it, survives in some part of it, the parts join to that picture,
--- with the sources of all parts
+-- where some part of a settled picture, whose readings fit it, holds each of its lines, the parts join to that picture, with the
+-- sources of all parts
 abbrev pub PartsGiveThePicture : Type 0
 PartsGiveThePicture =
     (picture : PartialPicture) → IsFitting picture → IsSettled picture
-    → (first : PartialPicture) (others : List PartialPicture) → All (IsPartOf picture) (first ∷ others) → EachLineSurvives picture.shape (first ∷ others)
+    → (first : PartialPicture) (others : List PartialPicture)
+    → All (IsPartOf picture) (first ∷ others) → EachLineIsHeld picture.shape (first ∷ others)
     → join_all union first others ≡ sourced (first ∷ others) picture

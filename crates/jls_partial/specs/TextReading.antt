@@ -29,9 +29,9 @@ Fails fault.OutOfMemory read = Unit {0}
 Fails f read = read ≡ Err f
 
 -- What a function returned, seen by view, is what reading gives, unless memory ran out.
-abbrev pub Gives : {X Y : Type 0} → (X → Y) → Result X TextFault → Result Y TextFault → Type 0
-Gives view (Ok x) read = read ≡ Ok (view x)
-Gives view (Err e) read = Fails e read
+abbrev pub GivesText : {X Y : Type 0} → (X → Y) → Result X TextFault → Result Y TextFault → Type 0
+GivesText view (Ok x) read = read ≡ Ok (view x)
+GivesText view (Err e) read = Fails e read
 
 -- the offset of the first of the bytes that are left
 abbrev pub offset : ℕ → List ℕ → ℕ

@@ -49,16 +49,16 @@ fn same_entries(one: &Partial, other: &Partial) -> bool
 }
 
 impl PartialEq for Partial {
-    ghost use Rattle.jls_partial.specs.Equality.{is_same, is_same_equivalence};
+    ghost use Rattle.jls_partial.specs.Equality.{are_same_pictures, are_same_pictures_equivalence};
     ghost use Rattle.std.specs.Cmp.{partial_equiv_from_equiv};
 
-    ghost eq = { is_same };
+    ghost eq = { are_same_pictures };
 
-    ghost laws = { partial_equiv_from_equiv is_same_equivalence };
+    ghost laws = { partial_equiv_from_equiv are_same_pictures_equivalence };
 
     /// True exactly where the two are one: the same shape, and the same readings of each line with the same sources.
     fn eq(&self, other: &Partial) -> bool
-        ensures test { result ≡ is_same self.now other.now }
+        ensures test { result ≡ are_same_pictures self.now other.now }
         ensures exactly { IsTrue result ↔ (self.now ≡ other.now) }
     {
         if *self.shape() != *other.shape() {
@@ -69,7 +69,7 @@ impl PartialEq for Partial {
 }
 
 impl Eq for Partial {
-    ghost use Rattle.jls_partial.specs.Equality.{is_same_equivalence};
+    ghost use Rattle.jls_partial.specs.Equality.{are_same_pictures_equivalence};
 
-    ghost laws = { is_same_equivalence };
+    ghost laws = { are_same_pictures_equivalence };
 }

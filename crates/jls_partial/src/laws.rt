@@ -20,7 +20,7 @@ pub fn joins_hold_exactly()
 {}
 
 /// Parts of one picture, which say of each line nothing or what the picture says, join to that picture, with the sources of all
-/// of them, where each line survives in one of them.
+/// of them, where one of them holds each line.
 pub fn parts_give_the_picture()
     ensures { PartsGiveThePicture }
 {}

@@ -1,7 +1,7 @@
 //! The fields of a text, read from the front. `size` is the length of the whole text in bytes, so that
 //! what is left of it tells the offset.
 
-ghost use Rattle.jls_partial.specs.TextReading.{Gives, byte_field, bytes_field, number_field, magic_field, version_field, unless_bad_shape, shape_fields, sample_field, source_field, place_fields, count_field};
+ghost use Rattle.jls_partial.specs.TextReading.{GivesText, byte_field, bytes_field, number_field, magic_field, version_field, unless_bad_shape, shape_fields, sample_field, source_field, place_fields, count_field};
 ghost use Rattle.std.specs.Int.{w16, w32, w64};
 ghost use Rattle.std.specs.Prelude.{◌≡◌};
 
@@ -22,7 +22,7 @@ pub(crate) fn offset(size: u64, rest: &[u8]) -> u64
 
 #[tactic(auto, unfolding(crate::specs::TextReading::byte_field))]
 fn read_byte(size: u64, bytes: &[u8]) -> Result<(u8, &[u8]), TextFault>
-    ensures { Gives (λ x. (x.0, x.1.now)) result (byte_field size bytes.now) }
+    ensures { GivesText (λ x. (x.0, x.1.now)) result (byte_field size bytes.now) }
 {
     match bytes {
         [] => Err(TextFault::Truncated(size)),
@@ -31,7 +31,7 @@ fn read_byte(size: u64, bytes: &[u8]) -> Result<(u8, &[u8]), TextFault>
 }
 
 fn read_u16(size: u64, bytes: &[u8]) -> Result<(u16, &[u8]), TextFault>
-    ensures { Gives (λ x. (x.0, x.1.now)) result (number_field size w16 bytes.now) }
+    ensures { GivesText (λ x. (x.0, x.1.now)) result (number_field size w16 bytes.now) }
 {
     if bytes.len() < 2 {
         return Err(TextFault::Truncated(size));
@@ -42,7 +42,7 @@ fn read_u16(size: u64, bytes: &[u8]) -> Result<(u16, &[u8]), TextFault>
 
 /// A number of four bytes.
 pub(crate) fn read_u32(size: u64, bytes: &[u8]) -> Result<(u32, &[u8]), TextFault>
-    ensures { Gives (λ x. (x.0, x.1.now)) result (number_field size w32 bytes.now) }
+    ensures { GivesText (λ x. (x.0, x.1.now)) result (number_field size w32 bytes.now) }
 {
     if bytes.len() < 4 {
         return Err(TextFault::Truncated(size));
@@ -54,7 +54,7 @@ pub(crate) fn read_u32(size: u64, bytes: &[u8]) -> Result<(u32, &[u8]), TextFaul
 
 /// A number of eight bytes.
 pub(crate) fn read_u64(size: u64, bytes: &[u8]) -> Result<(u64, &[u8]), TextFault>
-    ensures { Gives (λ x. (x.0, x.1.now)) result (number_field size w64 bytes.now) }
+    ensures { GivesText (λ x. (x.0, x.1.now)) result (number_field size w64 bytes.now) }
 {
     if bytes.len() < 8 {
         return Err(TextFault::Truncated(size));
@@ -68,7 +68,7 @@ pub(crate) fn read_u64(size: u64, bytes: &[u8]) -> Result<(u64, &[u8]), TextFaul
 
 #[tactic(auto, unfolding(crate::specs::TextReading::bytes_field))]
 fn read_bytes(size: u64, count: usize, bytes: &[u8]) -> Result<(&[u8], &[u8]), TextFault>
-    ensures { Gives (λ x. (x.0.now, x.1.now)) result (bytes_field size count bytes.now) }
+    ensures { GivesText (λ x. (x.0.now, x.1.now)) result (bytes_field size count bytes.now) }
 {
     if bytes.len() < count {
         return Err(TextFault::Truncated(size));
@@ -82,7 +82,7 @@ pub(crate) fn read_magic<'a>(
     wanted: &[u8],
     bytes: &'a [u8],
 ) -> Result<&'a [u8], TextFault>
-    ensures { Gives (λ x. x.now) result (magic_field size wanted.now bytes.now) }
+    ensures { GivesText (λ x. x.now) result (magic_field size wanted.now bytes.now) }
 {
     let mut rest = bytes;
     for want in wanted {
@@ -98,7 +98,7 @@ pub(crate) fn read_magic<'a>(
 /// The version.
 #[tactic(auto, unfolding(crate::specs::TextReading::version_field))]
 pub(crate) fn read_version(size: u64, bytes: &[u8]) -> Result<(Version, &[u8]), TextFault>
-    ensures { Gives (λ x. (x.0, x.1.now)) result (version_field size bytes.now) }
+    ensures { GivesText (λ x. (x.0, x.1.now)) result (version_field size bytes.now) }
 {
     let (byte, rest) = read_byte(size, bytes)?;
     match byte {
@@ -110,7 +110,7 @@ pub(crate) fn read_version(size: u64, bytes: &[u8]) -> Result<(Version, &[u8]), 
 
 /// `rest`, unless the fields of the shape have a fault.
 fn without_fault(fault: Option<ShapeFault>, rest: &[u8]) -> Result<&[u8], TextFault>
-    ensures { Gives (λ x. x.now) result (unless_bad_shape fault rest.now) }
+    ensures { GivesText (λ x. x.now) result (unless_bad_shape fault rest.now) }
 {
     match fault {
         None => Ok(rest),
@@ -119,7 +119,7 @@ fn without_fault(fault: Option<ShapeFault>, rest: &[u8]) -> Result<&[u8], TextFa
 }
 
 fn shape_or_fault(shape: Result<Shape, ShapeFault>) -> Result<Shape, TextFault>
-    ensures { Gives (λ x. x) result (Rattle.jls_partial.specs.TextReading.shape_or_fault shape) }
+    ensures { GivesText (λ x. x) result (Rattle.jls_partial.specs.TextReading.shape_or_fault shape) }
 {
     match shape {
         Ok(shape) => Ok(shape),
@@ -130,7 +130,7 @@ fn shape_or_fault(shape: Result<Shape, ShapeFault>) -> Result<Shape, TextFault>
 /// The shape, which is judged once before its identifiers and once after them.
 #[tactic(auto, unfolding(crate::specs::TextReading::shape_fields))]
 pub(crate) fn read_shape(size: u64, bytes: &[u8]) -> Result<(Shape, &[u8]), TextFault>
-    ensures { Gives (λ x. (x.0, x.1.now)) result (shape_fields size bytes.now) }
+    ensures { GivesText (λ x. (x.0, x.1.now)) result (shape_fields size bytes.now) }
 {
     let (precision, rest) = read_byte(size, bytes)?;
     let (width, rest) = read_u16(size, rest)?;
@@ -146,7 +146,7 @@ pub(crate) fn read_shape(size: u64, bytes: &[u8]) -> Result<(Shape, &[u8]), Text
 /// A sample that is below the limit.
 #[tactic(auto, unfolding(crate::specs::TextReading::sample_field))]
 pub(crate) fn read_sample(size: u64, limit: u32, bytes: &[u8]) -> Result<(u16, &[u8]), TextFault>
-    ensures { Gives (λ x. (x.0, x.1.now)) result (sample_field size limit bytes.now) }
+    ensures { GivesText (λ x. (x.0, x.1.now)) result (sample_field size limit bytes.now) }
 {
     let (sample, rest) = read_u16(size, bytes)?;
     if limit <= sample as u32 {
@@ -172,7 +172,7 @@ pub(crate) fn read_source(
     before: Option<u32>,
     bytes: &[u8],
 ) -> Result<(u32, &[u8]), TextFault>
-    ensures { Gives (λ x. (x.0, x.1.now)) result (source_field size before bytes.now) }
+    ensures { GivesText (λ x. (x.0, x.1.now)) result (source_field size before bytes.now) }
 {
     let (source, rest) = read_u32(size, bytes)?;
     if !is_source_above(before, source) {
@@ -200,7 +200,7 @@ pub(crate) fn read_place<'a>(
     before: Option<Place>,
     bytes: &'a [u8],
 ) -> Result<(Place, &'a [u8]), TextFault>
-    ensures { Gives (λ x. (x.0, x.1.now)) result (place_fields size shape.now before bytes.now) }
+    ensures { GivesText (λ x. (x.0, x.1.now)) result (place_fields size shape.now before bytes.now) }
 {
     let (component, rest) = read_byte(size, bytes)?;
     let (line, rest) = read_u16(size, rest)?;
@@ -214,7 +214,7 @@ pub(crate) fn read_place<'a>(
 /// The number of readings of an entry, which is 1 or more.
 #[tactic(auto, unfolding(crate::specs::TextReading::count_field))]
 pub(crate) fn read_count(size: u64, bytes: &[u8]) -> Result<(u64, &[u8]), TextFault>
-    ensures { Gives (λ x. (x.0, x.1.now)) result (count_field size bytes.now) }
+    ensures { GivesText (λ x. (x.0, x.1.now)) result (count_field size bytes.now) }
 {
     let (count, rest) = read_u64(size, bytes)?;
     if count == 0 {

@@ -3,7 +3,7 @@
 ghost use Rattle.jls_partial.specs.Partial.{PartialPicture};
 ghost use Rattle.jls_partial.specs.Text.{IsTextOf};
 ghost use Rattle.jls_partial.specs.TextInto.{with_readings, with_entry, with_entries};
-ghost use Rattle.jls_partial.specs.TextReading.{Gives, samples_fields, reading_fields, sources_fields, own_sources_fields, kept_fields, readings_fields, entry_fields, entries_fields, read_text};
+ghost use Rattle.jls_partial.specs.TextReading.{GivesText, samples_fields, reading_fields, sources_fields, own_sources_fields, kept_fields, readings_fields, entry_fields, entries_fields, read_text};
 ghost use Rattle.std.specs.Option.{option_map};
 ghost use Rattle.std.specs.Prelude.{◌≡◌, ◌<◌, length, None, Ok, IfOk};
 
@@ -26,7 +26,7 @@ fn read_samples(
     count: u16,
     bytes: &[u8],
 ) -> Result<(Vec<u16>, &[u8]), TextFault>
-    ensures { Gives (λ x. (x.0.items, x.1.now)) result (samples_fields size limit count bytes.now) }
+    ensures { GivesText (λ x. (x.0.items, x.1.now)) result (samples_fields size limit count bytes.now) }
 {
     let mut samples = Vec::new(alloc);
     let mut rest = bytes;
@@ -57,7 +57,7 @@ fn read_reading<'a>(
     before: &Option<Vec<u16>>,
     bytes: &'a [u8],
 ) -> Result<(Vec<u16>, &'a [u8]), TextFault>
-    ensures { Gives (λ x. (x.0.items, x.1.now)) result (reading_fields size shape.now (option_map (λ v. v.items) before.now) bytes.now) }
+    ensures { GivesText (λ x. (x.0.items, x.1.now)) result (reading_fields size shape.now (option_map (λ v. v.items) before.now) bytes.now) }
 {
     let limit = 2u32.pow(shape.precision() as u32);
     let (samples, rest) = read_samples(alloc, size, limit, shape.width(), bytes)?;
@@ -74,7 +74,7 @@ fn read_sources(
     count: u64,
     bytes: &[u8],
 ) -> Result<(Vec<u32>, &[u8]), TextFault>
-    ensures { Gives (λ x. (x.0.items, x.1.now)) result (sources_fields size None count bytes.now) }
+    ensures { GivesText (λ x. (x.0.items, x.1.now)) result (sources_fields size None count bytes.now) }
 {
     let mut sources = Vec::new(alloc);
     let mut before = None;
@@ -96,7 +96,7 @@ fn read_own_sources(
     version: Version,
     bytes: &[u8],
 ) -> Result<(Vec<u32>, &[u8]), TextFault>
-    ensures { Gives (λ x. (x.0.items, x.1.now)) result (own_sources_fields size version bytes.now) }
+    ensures { GivesText (λ x. (x.0.items, x.1.now)) result (own_sources_fields size version bytes.now) }
 {
     match version {
         Version::One => Ok((Vec::new(alloc), bytes)),
@@ -123,7 +123,7 @@ fn read_kept<'a>(
     before: &Option<Vec<u16>>,
     bytes: &'a [u8],
 ) -> Result<(Vec<u16>, Vec<u32>, &'a [u8]), TextFault>
-    ensures { Gives (λ x. ((x.0.items, x.1.items), x.2.now)) result (kept_fields form.size form.version shape.now (option_map (λ v. v.items) before.now) bytes.now) }
+    ensures { GivesText (λ x. ((x.0.items, x.1.items), x.2.now)) result (kept_fields form.size form.version shape.now (option_map (λ v. v.items) before.now) bytes.now) }
 {
     let (samples, behind) = read_reading(form.alloc, form.size, shape, before, bytes)?;
     let (sources, rest) = read_own_sources(form.alloc, form.size, form.version, behind)?;
@@ -140,7 +140,7 @@ fn read_readings<'a>(
 ) -> Result<&'a [u8], TextFault>
     requires component_in { at.component < length partial.now.shape.ids }
     requires line_in { at.line < partial.now.shape.height }
-    ensures { Gives (λ x. (partial.new, x.now)) result (with_readings partial.old at (readings_fields form.size form.version partial.old.shape None count bytes.now)) }
+    ensures { GivesText (λ x. (partial.new, x.now)) result (with_readings partial.old at (readings_fields form.size form.version partial.old.shape None count bytes.now)) }
 {
     let mut before = None;
     let mut rest = bytes;
@@ -161,7 +161,7 @@ fn read_entry<'a>(
     before: Option<Place>,
     bytes: &'a [u8],
 ) -> Result<(Place, &'a [u8]), TextFault>
-    ensures { Gives (λ x. (partial.new, x.0, x.1.now)) result (with_entry partial.old (entry_fields form.size form.version partial.old.shape before bytes.now)) }
+    ensures { GivesText (λ x. (partial.new, x.0, x.1.now)) result (with_entry partial.old (entry_fields form.size form.version partial.old.shape before bytes.now)) }
 {
     let (at, rest) = read_place(form.size, partial.shape(), before, bytes)?;
     let (count, rest) = read_count(form.size, rest)?;
@@ -176,7 +176,7 @@ fn read_entries<'a>(
     count: u32,
     bytes: &'a [u8],
 ) -> Result<&'a [u8], TextFault>
-    ensures { Gives (λ x. (partial.new, x.now)) result (with_entries partial.old (entries_fields form.size form.version partial.old.shape None count bytes.now)) }
+    ensures { GivesText (λ x. (partial.new, x.now)) result (with_entries partial.old (entries_fields form.size form.version partial.old.shape None count bytes.now)) }
 {
     let mut before = None;
     let mut rest = bytes;
@@ -190,7 +190,7 @@ fn read_entries<'a>(
 
 #[tactic(auto, unfolding(crate::specs::TextReading::read_text, crate::specs::TextReading::text_fields))]
 fn read_partial(alloc: Global, bytes: &[u8]) -> Result<Partial, TextFault>
-    ensures { Gives (λ p. p) result (read_text bytes.now) }
+    ensures { GivesText (λ p. p) result (read_text bytes.now) }
 {
     let size = bytes.len() as u64;
     let version_bytes = read_magic(size, b"JLSP", bytes)?;
@@ -218,9 +218,9 @@ impl Partial {
         // What is read has these bytes as a text.
         ensures found { IfOk result (λ p. IsTextOf bytes.now p) }
         // Each text is read, unless memory runs out.
-        ensures only { (p : PartialPicture) → IsTextOf bytes.now p → Gives (λ q. q) result (Ok p) }
+        ensures only { (p : PartialPicture) → IsTextOf bytes.now p → GivesText (λ q. q) result (Ok p) }
         // Which fault it is.
-        ensures exact { Gives (λ q. q) result (read_text bytes.now) }
+        ensures exact { GivesText (λ q. q) result (read_text bytes.now) }
     {
         read_partial(alloc, bytes)
     }

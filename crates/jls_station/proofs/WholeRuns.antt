@@ -4,7 +4,7 @@ use Rattle.std.specs.Prelude.{◌↔◌, Contains, All}
 use Rattle.std.proofs.lemmas.Grind.{flat_map-append}
 use Rattle.std.proofs.lemmas.List.{append-nil}
 use Rattle.jls_values.specs.Join.{join_all, AllOfShape}
-use Rattle.jls_partial.specs.Parts.{IsPartOf, EachLineSurvives, PartsGiveThePicture, sourced}
+use Rattle.jls_partial.specs.Parts.{IsPartOf, EachLineIsHeld, PartsGiveThePicture, sourced}
 use Rattle.jls_partial.specs.Partial.{PartialPicture, has_same_shape, union}
 use Rattle.jls_partial.specs.Status.{IsSettled}
 use Rattle.jls_partial.specs.Text.{text, IsPartial}
@@ -254,7 +254,7 @@ module _ (apart : (bytes : List ℕ) (p q : PartialPicture) → IsTextOf bytes p
         (e, t.1 ∙ (ap (λ (p : PartialPicture). text p ∷ []) e ∙ sym t'.1))
 
   union_of_parts : PartsGiveThePicture → (picture joined : PartialPicture) → IsPartial picture → IsSettled picture → (ps : List PartialPicture) → IsUnionOf ps joined
-      → All (IsPartOf picture) ps → EachLineSurvives picture.shape ps → joined ≡ sourced ps picture
+      → All (IsPartOf picture) ps → EachLineIsHeld picture.shape ps → joined ≡ sourced ps picture
   union_of_parts join picture joined is settled [] u are survives = absurd u
   union_of_parts join picture joined is settled (p ∷ ps) u are survives = u ∙ join picture is.fitting settled p ps are survives
 

@@ -1,6 +1,6 @@
 -- The laws of whole runs of `join`.
 use Rattle.std.specs.Prelude.{◌≡◌, ℕ, ◌↔◌, Bool, List, [], ◌∷◌, if◌then◌else◌, All, Contains, Option}
-use Rattle.jls_partial.specs.Parts.{IsPartOf, EachLineSurvives, sourced}
+use Rattle.jls_partial.specs.Parts.{IsPartOf, EachLineIsHeld, sourced}
 use Rattle.jls_partial.specs.Partial.{PartialPicture}
 use Rattle.jls_partial.specs.Status.{IsSettled}
 use Rattle.jls_partial.specs.Text.{text, IsPartial}
@@ -53,6 +53,6 @@ SurvivingLinesGiveThePicture =
     (source : Option ℕ) (out : List ℕ) (names : List (List ℕ)) (joined : PartialPicture) (settled whole : Bool) (events : List Event)
     → JoinIsDone source out names joined settled whole events
     → (picture : PartialPicture) → IsPartial picture → IsSettled picture
-    → (parts : List PartialPicture) → All (IsPartOf picture) parts → EachLineSurvives picture.shape parts
+    → (parts : List PartialPicture) → All (IsPartOf picture) parts → EachLineIsHeld picture.shape parts
     → AreInputsOf source (input_bytes events) parts
     → (joined ≡ sourced parts picture) × (output_bytes events ≡ text (sourced parts picture) ∷ [])

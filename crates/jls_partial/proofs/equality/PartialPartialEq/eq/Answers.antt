@@ -1,7 +1,7 @@
 use Rattle.std.proofs.Common.{◌≡◌, ◌∙◌, true, ap, sym, subst}
 use Rattle.std.specs.Cmp.{both_ways}
 use Rattle.jls_partial.specs.Entries.{partial_of}
-use Rattle.jls_partial.specs.Equality.{is_same, is_same-itself, one_partial}
+use Rattle.jls_partial.specs.Equality.{are_same_pictures, are_same_pictures-itself, one_partial}
 use Rattle.jls_partial.specs.Partial.{PartialPicture}
 use Rattle.jls_partial.specs.Text.{entries}
 use Rattle.jls_partial.proofs.KeptEntries.{partial_again}
@@ -21,6 +21,6 @@ pub returns-clause-test : goal.returns-clause-test
 returns-clause-test c =
     let p = c.args.self.now in
     let exactly = returns-clause-exactly c in
-    both_ways c.same_entries.result (is_same p c.args.other.now)
-    (λ e. subst (λ (z : PartialPicture). is_same p z ≡ true) (exactly.0 e) (is_same-itself p))
+    both_ways c.same_entries.result (are_same_pictures p c.args.other.now)
+    (λ e. subst (λ (z : PartialPicture). are_same_pictures p z ≡ true) (exactly.0 e) (are_same_pictures-itself p))
     (λ e. exactly.1 (one_partial p c.args.other.now e))
