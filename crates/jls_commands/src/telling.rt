@@ -63,7 +63,7 @@ fn tell<'a, D: Desk, W: Sink>(
     ensures { GrewBoth (Tells (lines traced) file.now result) (D.history desk.old) (D.history desk.new)
         (W.history report.old) (W.history report.new) }
 {
-    let input = match open_and_read(alloc, desk, file) {
+    let input = match open_and_read(alloc, desk, None, file) {
         Ok(input) => input,
         Err(cause) => return Outcome::Refused(Refusal { name: file, cause }),
     };

@@ -137,7 +137,7 @@ pub fn write<'a, D: Desk>(
 ) -> Outcome<'a>
     ensures { GrewBy (WritesFile format out.now file.now result) (D.history desk.old) (D.history desk.new) }
 {
-    let input = match open_and_read(alloc, desk, file) {
+    let input = match open_and_read(alloc, desk, None, file) {
         Ok(input) => input,
         Err(cause) => return Outcome::Refused(Refusal { name: file, cause }),
     };

@@ -13,7 +13,7 @@ use Rattle.jls_station.specs.Joining as joining
 use Rattle.jls_station.specs.Joining.{JoinIsDone, Joins}
 use Rattle.jls_station.specs.Outputs as outputs
 use Rattle.jls_station.specs.Outputs.{StopsAtOutput}
-use Rattle.jls_station.specs.Outcomes.{status_of, status_of_cause}
+use Rattle.jls_station.specs.Outcomes.{exit_status, exit_status_of_cause}
 use Rattle.jls_station.specs.declared.outcome.Cause.{Cause}
 use Rattle.jls_station.specs.declared.outcome.Cause.TheVariants as cause
 use Rattle.jls_station.specs.declared.input.InputFault.{InputFault}
@@ -36,38 +36,38 @@ use Rattle.jls_program.specs.Laws.{JoinRan, DoneJoinsRan, TellRan, DoneChecksRan
 
 -- ---- what stops a command
 
-status_of_input_fault : (f : InputFault) → 3 ≤ status_of_cause (cause.Input f)
+status_of_input_fault : (f : InputFault) → 3 ≤ exit_status_of_cause (cause.Input f)
 status_of_input_fault (fault.Text f) = omega arith
 status_of_input_fault (fault.NoPicture f offset) = omega arith
 status_of_input_fault (fault.Read stop offset) = omega arith
 status_of_input_fault fault.OutOfMemory = omega arith
 
 -- an input has at least status 3
-status_at_input : (source : Option ℕ) (before : List Given) (name : List ℕ) (c : Cause) (events : List Event) → StopsAt source before name c events → 3 ≤ status_of_cause c
+status_at_input : (source : Option ℕ) (before : List Given) (name : List ℕ) (c : Cause) (events : List Event) → StopsAt source before name c events → 3 ≤ exit_status_of_cause c
 status_at_input source before name _ _ (not_there _ _ _) = omega arith
 status_at_input source before name _ _ (refused _ _ _ f reads h) = status_of_input_fault f
 status_at_input source before name _ _ (other_shape _ _ _ g events h other) = omega arith
 status_at_input source before name _ _ (no_memory _ _ _ g events h other) = omega arith
 
 -- and so has an output
-status_at_output : (name bytes : List ℕ) (c : Cause) (events : List Event) → StopsAtOutput name bytes c events → 3 ≤ status_of_cause c
+status_at_output : (name bytes : List ℕ) (c : Cause) (events : List Event) → StopsAtOutput name bytes c events → 3 ≤ exit_status_of_cause c
 status_at_output name bytes _ _ (outputs.not_there _ _) = omega arith
 status_at_output name bytes _ _ (outputs.cut _ _ count writes h) = omega arith
 
 -- a file that does not go out has at least status 2
-status_at_file : (F : Type 0) (takes : Bool) (name bytes : List ℕ) (c : Cause) (events : List Event) → StopsAtFile F takes name bytes c events → 2 ≤ status_of_cause c
+status_at_file : (F : Type 0) (takes : Bool) (name bytes : List ℕ) (c : Cause) (events : List Event) → StopsAtFile F takes name bytes c events → 2 ≤ exit_status_of_cause c
 status_at_file F takes name bytes _ _ (writing.too_large _ _ never) = omega arith
 status_at_file F takes name bytes c _ (writing.at_output _ _ _ events fit h) = let k = status_at_output name bytes c events h in omega (arith, k)
 status_at_file F takes name bytes _ _ (writing.no_memory _ _ count writes fit is lt h) = omega arith
 
-status_of_memory : (c : Cause) → c ≡ cause.OutOfMemory → 3 ≤ status_of_cause c
-status_of_memory c is = let e : status_of_cause c ≡ 5 = ap status_of_cause is in omega (arith, e)
+status_of_memory : (c : Cause) → c ≡ cause.OutOfMemory → 3 ≤ exit_status_of_cause c
+status_of_memory c is = let e : exit_status_of_cause c ≡ 5 = ap exit_status_of_cause is in omega (arith, e)
 
-status_of_cut : (c : Cause) (count : ℕ) → c ≡ cause.NotWritten count → 3 ≤ status_of_cause c
-status_of_cut c count is = let e : status_of_cause c ≡ 4 = ap status_of_cause is in omega (arith, e)
+status_of_cut : (c : Cause) (count : ℕ) → c ≡ cause.NotWritten count → 3 ≤ exit_status_of_cause c
+status_of_cut c count is = let e : exit_status_of_cause c ≡ 4 = ap exit_status_of_cause is in omega (arith, e)
 
-status_of_unsettled : (p : PartialPicture) (f : PictureFault) (c : Cause) → c ≡ unsettled_cause p f → status_of_cause c ≡ 1
-status_of_unsettled p (Unsettled component line) c is = ap status_of_cause is
+status_of_unsettled : (p : PartialPicture) (f : PictureFault) (c : Cause) → c ≡ unsettled_cause p f → exit_status_of_cause c ≡ 1
+status_of_unsettled p (Unsettled component line) c is = ap exit_status_of_cause is
 
 -- ---- no fault line
 
@@ -99,7 +99,7 @@ one_asked words a b h k = let e : Some a ≡ Some b = sym h.asks ∙ k.asks in c
 record Came (asked : Asked) (status : ℕ) (desk report faults : List Event) : Type 0 where
   outcome : Outcome
   came : CameOf asked outcome desk report
-  status_is : status ≡ status_of outcome
+  status_is : status ≡ exit_status outcome
   printed : Printed (fault_line outcome) faults
 
 came_of_run : (words : List Text) (status : ℕ) (desk report faults : List Event) → Run words status desk report faults → (asked : Asked) → ReadsAs words asked → status ≤ 1
@@ -112,8 +112,8 @@ came_of_run words _ _ report faults (help_cut _ kind help count _ _ r n wrote li
 came_of_run words _ _ _ faults (nothing_begun _ _ line) asked k le = absurd (omega (arith, le))
 came_of_run words _ _ _ faults (nothing_asked _ _ asks line) asked k le = let e : None ≡ Some asked = sym asks.asks ∙ k.asks in absurd cc
 
-done_status : (settled whole : Bool) (p : PartialPicture) → (IsTrue settled ↔ IsSettled p) → status_of (Done settled whole) ≤ 1
-    → ((status_of (Done settled whole) ≡ 0) ↔ IsSettled p) × (whole ≡ true)
+done_status : (settled whole : Bool) (p : PartialPicture) → (IsTrue settled ↔ IsSettled p) → exit_status (Done settled whole) ≤ 1
+    → ((exit_status (Done settled whole) ≡ 0) ↔ IsSettled p) × (whole ≡ true)
 done_status true true p s le = ((λ _. s.0 refl, λ _. refl), refl)
 done_status false true p s le = ((λ e. absurd (omega (arith, e)), λ is. absurd (by_settled (s.1 is))), refl)
   where
@@ -121,27 +121,27 @@ done_status false true p s le = ((λ e. absurd (omega (arith, e)), λ is. absurd
     by_settled e = cc
 done_status settled false p s le = absurd (omega (arith, le))
 
-join_finished : (out : Text) (names : List Text) (outcome : Outcome) (events : List Event) (desk desk' : History) → Joins None out names outcome events → desk' ≡ desk ++ events → status_of outcome ≤ 1
-    → (joined : PartialPicture) × JoinRan out names joined (status_of outcome) desk desk' × (fault_line outcome ≡ [])
-join_finished out names _ events desk desk' (joining.done _ _ _ p settled whole _ h) e le =
+join_finished : (source : Option ℕ) (out : Text) (names : List Text) (outcome : Outcome) (events : List Event) (desk desk' : History) → Joins source out names outcome events → desk' ≡ desk ++ events → exit_status outcome ≤ 1
+    → (joined : PartialPicture) × JoinRan source out names joined (exit_status outcome) desk desk' × (fault_line outcome ≡ [])
+join_finished source out names _ events desk desk' (joining.done _ _ _ p settled whole _ h) e le =
     let s = done_status settled whole p h.settled_is le in (
       p,
       record {
         settled = settled;
         events = events;
         grew = e;
-        is_done = subst (λ (w : Bool). JoinIsDone None out names p settled w events) s.1 h;
+        is_done = subst (λ (w : Bool). JoinIsDone source out names p settled w events) s.1 h;
         status_is = s.0;
       },
       refl,
     )
-join_finished out names _ events desk desk' (joining.at_input _ _ _ r _ h) e le = let k = status_at_input None h.givens r.name.now r.cause h.last h.stops in absurd (omega (arith, k, le))
-join_finished out names _ events desk desk' (joining.no_memory _ _ _ r p whole _ named is h) e le = let k = status_of_memory r.cause is in absurd (omega (arith, k, le))
-join_finished out names _ _ desk desk' (joining.at_output _ _ _ r p whole reading writing named h stops) e le = let k = status_at_output out _ r.cause writing stops in absurd (omega (arith, k, le))
+join_finished source out names _ events desk desk' (joining.at_input _ _ _ r _ h) e le = let k = status_at_input source h.givens r.name.now r.cause h.last h.stops in absurd (omega (arith, k, le))
+join_finished source out names _ events desk desk' (joining.no_memory _ _ _ r p whole _ named is h) e le = let k = status_of_memory r.cause is in absurd (omega (arith, k, le))
+join_finished source out names _ _ desk desk' (joining.at_output _ _ _ r p whole reading writing named h stops) e le = let k = status_at_output out _ r.cause writing stops in absurd (omega (arith, k, le))
 
 tell_finished : (traced : Bool) (name : Text) (outcome : Outcome) (events reported : List Event) (desk desk' report report' : History) → Tells (lines traced) name outcome events reported
-    → desk' ≡ desk ++ events → report' ≡ report ++ reported → status_of outcome ≤ 1
-    → (g : Given) × TellRan traced name g (status_of outcome) desk desk' report report' × (fault_line outcome ≡ [])
+    → desk' ≡ desk ++ events → report' ≡ report ++ reported → exit_status outcome ≤ 1
+    → (g : Given) × TellRan traced name g (exit_status outcome) desk desk' report report' × (fault_line outcome ≡ [])
 tell_finished traced name _ events reported desk desk' report report' (telling.done _ g settled whole _ _ taken says wrote) e d le =
     let s = done_status settled whole g.partial says.settled_is le in (
       g,
@@ -159,7 +159,7 @@ tell_finished traced name _ events _ desk desk' report report' (telling.no_memor
 tell_finished traced name _ events reported desk desk' report report' (telling.not_printed _ r g count _ _ named is taken wrote) e d le =
     let k = status_of_cut r.cause count is in absurd (omega (arith, k, le))
 
-write_finished : (format : Format) (out name : Text) (outcome : Outcome) (events : List Event) (desk desk' : History) → WritesFile format out name outcome events → desk' ≡ desk ++ events → status_of outcome ≡ 0
+write_finished : (format : Format) (out name : Text) (outcome : Outcome) (events : List Event) (desk desk' : History) → WritesFile format out name outcome events → desk' ≡ desk ++ events → exit_status outcome ≡ 0
     → (g : Given) × WriteRan format out name g desk desk' × (fault_line outcome ≡ [])
 write_finished format out name _ _ desk desk' (writing.done _ _ _ g whole reading written taken settled says fit handed) e is =
     let s = done_status true whole g.partial says.settled_is (omega (arith, is)) in
@@ -175,7 +175,7 @@ not_settled : (p : PartialPicture) (f : PictureFault) → NamesFirstUnsettled p 
 not_settled p (Unsettled component line) first settled =
     first.first_line.unsettled (settled component first.first_line.component_in line first.first_line.line_in)
 
-write_stopped : (format : Format) (out name : Text) (outcome : Outcome) (events : List Event) (desk desk' : History) → WritesFile format out name outcome events → desk' ≡ desk ++ events → status_of outcome ≡ 1
+write_stopped : (format : Format) (out name : Text) (outcome : Outcome) (events : List Event) (desk desk' : History) → WritesFile format out name outcome events → desk' ≡ desk ++ events → exit_status outcome ≡ 1
     → (g : Given) × GrewBy (IsTaken None name g) desk desk' × (IsSettled g.partial → ⊥)
 write_stopped format out name _ _ desk desk' (writing.done _ _ _ g whole reading written taken settled says fit handed) e is =
     let s = done_status true whole g.partial says.settled_is (omega (arith, is)) in
@@ -196,11 +196,11 @@ came_as (Jls line ri) out name outcome desk report h = h
 -- ---- the laws
 
 pub joins_finished : DoneJoinsRan
-joins_finished words status desk desk' report report' faults faults' ran out names k le =
+joins_finished words status desk desk' report report' faults faults' ran source out names k le =
     let c = came_of_run words status ran.desk_events ran.report_events ran.fault_events ran.run _ k le in
-    let f = join_finished out names c.outcome ran.desk_events desk desk' c.came.0 ran.desk_is (omega (arith, le, c.status_is)) in (
+    let f = join_finished source out names c.outcome ran.desk_events desk desk' c.came.0 ran.desk_is (omega (arith, le, c.status_is)) in (
       f.0,
-      subst (λ (s : ℕ). JoinRan out names f.0 s desk desk') (sym c.status_is) f.1,
+      subst (λ (s : ℕ). JoinRan source out names f.0 s desk desk') (sym c.status_is) f.1,
       unchanged report report' ran.report_events ran.report_is c.came.1,
       unchanged faults faults' ran.fault_events ran.faults_are (none_printed ran.fault_events (subst (λ (line : List ℕ). Printed line ran.fault_events) f.2 c.printed)),
     )

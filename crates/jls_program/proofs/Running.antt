@@ -7,7 +7,7 @@ use Rattle.clap.specs.declared.error.kind.ErrorKind.{ErrorKind}
 use Rattle.clap.specs.declared.error.kind.ErrorKind.TheVariants as kind
 use Rattle.jls_device.specs.Event.{Event, History, GrewBy}
 use Rattle.jls_device.specs.Writing.{Printed}
-use Rattle.jls_station.specs.Outcomes.{status_of}
+use Rattle.jls_station.specs.Outcomes.{exit_status}
 use Rattle.jls_station.specs.declared.outcome.Outcome.{Outcome}
 use Rattle.jls_commands.specs.Histories.{GrewBoth}
 use Rattle.jls_words.specs.Words.{AreRefused}
@@ -40,7 +40,7 @@ module _ (words : List Text) (desk desk' report report' faults faults' : History
     run = run_of_answer words k status a.report_events a.fault_events r a.answer;
   }
 
-  pub ran : (status : ℕ) (asked : Asked) (outcome : Outcome) → status ≡ status_of outcome → ReadsAs words asked
+  pub ran : (status : ℕ) (asked : Asked) (outcome : Outcome) → status ≡ exit_status outcome → ReadsAs words asked
       → GrewBoth (CameOf asked outcome) desk desk' report report' → GrewBy (Printed (fault_line outcome)) faults faults'
       → Ran words status desk desk' report report' faults faults'
   ran status asked outcome is reads h line = record {

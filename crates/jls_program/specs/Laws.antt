@@ -1,5 +1,5 @@
 -- The laws of whole runs.
-use Rattle.std.specs.Prelude.{◌≡◌, ◌≤◌, ◌↔◌, ℕ, Bool, true, false, List, ◌++◌, None}
+use Rattle.std.specs.Prelude.{◌≡◌, ◌≤◌, ◌↔◌, ℕ, Bool, true, false, List, ◌++◌, Option, None}
 use Rattle.clap.specs.Words.{Text}
 use Rattle.jls_partial.specs.Partial.{PartialPicture}
 use Rattle.jls_partial.specs.Status.{IsSettled}
@@ -18,22 +18,23 @@ use Rattle.jls_commands.specs.declared.writing.Format.TheVariants.{Pnm, Jls}
 use Rattle.jls_words.specs.Asking.{Asked, ReadsAs, check, join, show, write_pnm, write_jls}
 use Rattle.jls_program.specs.Runs.{Ran}
 
--- a run of `join` that is done, as the history of the desk has it
-pub record JoinRan (out : Text) (names : List Text) (joined : PartialPicture) (status : ℕ) (desk desk' : History) : Type 0 where
+-- a run of `join` under a source, or under none, that is done, as the history of the desk has it
+pub record JoinRan (source : Option ℕ) (out : Text) (names : List Text) (joined : PartialPicture) (status : ℕ) (desk desk' : History)
+    : Type 0 where
   pub settled : Bool
   pub events : List Event
   pub grew : desk' ≡ desk ++ events
-  pub is_done : JoinIsDone None out names joined settled true events
+  pub is_done : JoinIsDone source out names joined settled true events
   pub status_is : (status ≡ 0) ↔ IsSettled joined
 
--- Where the words ask for a join and the status is 0 or 1, the join is done, with status 0 exactly where each line is
+-- Where the words ask for a join and the status is 0 or 1, the join is done under the source that they name, with status 0 exactly where each line is
 -- settled; and nothing is reported or printed
 abbrev pub DoneJoinsRan : Type 0
 DoneJoinsRan =
     (words : List Text) (status : ℕ) (desk desk' report report' faults faults' : History)
     → Ran words status desk desk' report report' faults faults'
-    → (out : Text) (names : List Text) → ReadsAs words (join out names) → status ≤ 1
-    → (joined : PartialPicture) × JoinRan out names joined status desk desk' × (report' ≡ report) × (faults' ≡ faults)
+    → (source : Option ℕ) (out : Text) (names : List Text) → ReadsAs words (join source out names) → status ≤ 1
+    → (joined : PartialPicture) × JoinRan source out names joined status desk desk' × (report' ≡ report) × (faults' ≡ faults)
 
 -- a run of `check` or `show` that is done: the input was read whole, and nothing else was done with the desk; the report output was
 -- handed exactly the trace of what the input gave, if that was asked for, and its report

@@ -1,11 +1,11 @@
 -- What a run of the program is.
-use Rattle.std.specs.Prelude.{◌≡◌, ℕ, true, false, List, [], ◌++◌, None, codes}
+use Rattle.std.specs.Prelude.{◌≡◌, ℕ, true, false, List, [], ◌++◌, codes}
 use Rattle.clap.specs.Words.{Text}
 use Rattle.clap.specs.declared.error.kind.ErrorKind.{ErrorKind}
 use Rattle.jls_device.specs.Event.{Event, History}
 use Rattle.jls_device.specs.Writing.{Wrote, WroteFront, Printed}
 use Rattle.jls_station.specs.Joining.{Joins}
-use Rattle.jls_station.specs.Outcomes.{status_of}
+use Rattle.jls_station.specs.Outcomes.{exit_status}
 use Rattle.jls_station.specs.declared.outcome.Cause.TheVariants as cause
 use Rattle.jls_station.specs.declared.outcome.Outcome.{Outcome}
 use Rattle.jls_commands.specs.Telling.{Tells, lines}
@@ -18,7 +18,7 @@ use Rattle.jls_program.specs.FaultLines.{cause_line, fault_line, out_of_memory_l
 -- what came of what was asked, by the events of the desk and of the report output
 abbrev pub CameOf : Asked → Outcome → List Event → List Event → Type 0
 CameOf (check name) outcome desk report = Tells (lines true) name outcome desk report
-CameOf (join out names) outcome desk report = Joins None out names outcome desk × (report ≡ [])
+CameOf (join source out names) outcome desk report = Joins source out names outcome desk × (report ≡ [])
 CameOf (show name) outcome desk report = Tells (lines false) name outcome desk report
 CameOf (write_pnm out name) outcome desk report = WritesFile Pnm out name outcome desk × (report ≡ [])
 CameOf (write_jls line ri out name) outcome desk report = WritesFile (Jls line ri) out name outcome desk × (report ≡ [])
@@ -28,7 +28,7 @@ pub data Run : List Text → ℕ → List Event → List Event → List Event �
   -- the words ask for something: what came of it has the status and the fault line
   came_of : (words : List Text) (asked : Asked) (outcome : Outcome) (desk report faults : List Event)
       → ReadsAs words asked → CameOf asked outcome desk report → Printed (fault_line outcome) faults
-      → Run words (status_of outcome) desk report faults
+      → Run words (exit_status outcome) desk report faults
   -- clap refuses the words, and not to show help: some text, which may be any, goes to the fault output
   misused : (words : List Text) (k : ErrorKind) (usage : List ℕ) (faults : List Event)
       → AreRefused words k → is_help k ≡ false → Printed usage faults → Run words 2 [] [] faults

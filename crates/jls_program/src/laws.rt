@@ -2,8 +2,8 @@
 
 ghost use Rattle.jls_program.specs.Laws.{DoneChecksRan, DoneJoinsRan, DoneShowsRan, DoneWritesRan, UnsettledWritesStop};
 
-/// If the words of a run ask for a join and the run ends with status 0 or 1, the join is done, the status is 0 if and only
-/// if each line of the union is settled, and nothing was reported or printed as a fault.
+/// If the words of a run ask for a join and the run ends with status 0 or 1, the join is done under the source that the words name or
+/// under none, the status is 0 if and only if each line of the union is settled, and nothing was reported or printed as a fault.
 pub fn done_joins_ran()
     ensures { DoneJoinsRan }
 {}

@@ -6,7 +6,7 @@ ghost use Rattle.jls_program.specs.Runs.{CameOf};
 
 use jls_commands::{Format, check, show, write};
 use jls_device::{Desk, Sink};
-use jls_station::{Outcome, join};
+use jls_station::{JoinInputs, Outcome, join};
 use jls_words::Asked;
 use std::alloc::Global;
 
@@ -22,7 +22,19 @@ pub(crate) fn perform<'a, D: Desk, W: Sink>(
 {
     match asked {
         Asked::Check { file } => check(alloc, desk, report, file),
-        Asked::Join { out, first, others } => join(alloc, desk, out, first, others),
+        Asked::Join {
+            source,
+            out,
+            first,
+            others,
+        } => {
+            let inputs = JoinInputs {
+                source,
+                first,
+                others,
+            };
+            join(alloc, desk, out, inputs)
+        }
         Asked::Show { file } => show(alloc, desk, report, file),
         Asked::WritePnm { out, file } => write(alloc, desk, Format::Pnm, out, file),
         Asked::WriteJls {

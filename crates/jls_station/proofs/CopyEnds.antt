@@ -11,7 +11,7 @@ use Rattle.jls_copy.specs.declared.reader.CopyFault.TheVariants as copy
 use Rattle.jls_marker.specs.declared.fault.MarkerFault.{MarkerFault}
 use Rattle.jls_device.specs.Event.{Event, History, GrewBy}
 use Rattle.jls_device.proofs.Growing.{grew_as}
-use Rattle.jls_station.specs.Given.{Given, CopyReport, FoundCopy, Gives, by_copy, found_in, given_by_copy, given_of, marked, report_of}
+use Rattle.jls_station.specs.Given.{Given, CopyReport, by_copy, given_by_copy, given_of, marked, report_of}
 use Rattle.jls_station.specs.InputFaults.{input_fault_of_copy}
 use Rattle.jls_station.specs.Inputs.{IsCopyDone, ReadsGive, ReadsRefuse}
 use Rattle.jls_station.specs.Reading.{IsRead}
@@ -25,27 +25,27 @@ use Rattle.jls_station.specs.declared.take_copy.TakeFault.TheVariants as take
 use Rattle.jls_station.proofs.OneInput.{given_so, read_as_input, refused_as_copy}
 
 -- what was taken out of a copy that reads so
-pub copy_given : (reader : Option (List ℕ)) (read : ReadCopy) (p : PartialPicture) (pieces : List PieceRecord) (n : ℕ) (e : End) (count : ℕ) (stop : ReadStop)
-    → p ≡ read.partial → pieces ≡ read.pieces → n ≡ read.piece_count → e ≡ read.ended → IfSome reader (λ bytes. count ≡ length bytes)
+pub copy_given : (source : Option ℕ) (reader : Option (List ℕ)) (read : ReadCopy) (p : PartialPicture) (pieces : List PieceRecord) (n : ℕ) (e : End) (count : ℕ) (stop : ReadStop)
+    → p ≡ marked source read.partial → pieces ≡ read.pieces → n ≡ read.piece_count → e ≡ read.ended → IfSome reader (λ bytes. count ≡ length bytes)
     → IfSome reader (λ bytes. CopyReads bytes read)
-    → IfSome reader (λ bytes. (r : ReadCopy) × CopyReads bytes r × (p ≡ marked None r.partial)
+    → IfSome reader (λ bytes. (r : ReadCopy) × CopyReads bytes r × (p ≡ marked source r.partial)
     × (record { found = record { pieces = pieces; piece_count = n; ended = e; count = count }; stop = stop } ≡ report_of bytes r stop))
-copy_given None read p pieces n e count stop a b c d m h = tt
-copy_given (Some bytes) read p pieces n e count stop a b c d m h =
+copy_given source None read p pieces n e count stop a b c d m h = tt
+copy_given source (Some bytes) read p pieces n e count stop a b c d m h =
     (read, h, a, λ i. record { found = record { pieces = b i; piece_count = c i; ended = d i; count = m i }; stop = stop })
 
-module _ (first : List ℕ) (stop : ReadStop) (old new : History) (not_text : is_text first ≡ false) where
+module _ (source : Option ℕ) (first : List ℕ) (stop : ReadStop) (old new : History) (not_text : is_text first ≡ false) where
   -- a copy with a frame
   pub copy_gives : (reader : Option (List ℕ)) (p : PartialPicture) (report : CopyReport) (g : Given) → g ≡ given_of p (Some report)
       → IsSomeAnd reader (λ bytes. is_text bytes ≡ is_text first)
       → IsSomeAnd reader (λ bytes. GrewBy (λ reads. IsRead IsCopyDone reads bytes stop) old new)
-      → IfSome reader (λ bytes. (r : ReadCopy) × CopyReads bytes r × (p ≡ marked None r.partial) × (report ≡ report_of bytes r stop)) → GrewBy (ReadsGive None g) old new
+      → IfSome reader (λ bytes. (r : ReadCopy) × CopyReads bytes r × (p ≡ marked source r.partial) × (report ≡ report_of bytes r stop)) → GrewBy (ReadsGive source g) old new
   copy_gives None p report g is b k h = absurd b
   copy_gives (Some bytes) p report g is b k h =
       let copied = b ∙ not_text in
-      let same : g ≡ given_by_copy None bytes h.0 stop = is ∙ (λ i. given_of (h.2 i) (Some (h.3 i))) in
-      subst (λ (x : Given). GrewBy (ReadsGive None x) old new) (sym same)
-      (given_so old new bytes stop (read_as_input bytes stop old new copied k) (given_by_copy None bytes h.0 stop) refl (by_copy None bytes h.0 stop copied h.1))
+      let same : g ≡ given_by_copy source bytes h.0 stop = is ∙ (λ i. given_of (h.2 i) (Some (h.3 i))) in
+      subst (λ (x : Given). GrewBy (ReadsGive source x) old new) (sym same)
+      (given_so old new bytes stop (read_as_input bytes stop old new copied k) source (given_by_copy source bytes h.0 stop) refl (by_copy source bytes h.0 stop copied h.1))
 
   -- a copy without a frame
   pub copy_refused : (reader : Option (List ℕ)) (f : CopyFault) (count : ℕ) (answer : InputFault) → IsSomeAnd reader (λ bytes. is_text bytes ≡ is_text first)
@@ -65,11 +65,11 @@ stops_with Whole bytes f offset reads is h = no_picture bytes f offset reads is 
 stops_with Failed bytes f offset reads is h = not_read bytes Failed f offset reads (λ t. absurd cc) is h
 stops_with Turns bytes f offset reads is h = not_read bytes Turns f offset reads (λ t. absurd cc) is h
 
-module _ (stop : ReadStop) (old new : History) where
+module _ (source : Option ℕ) (stop : ReadStop) (old new : History) where
   pub whole_copy_gives : (reader : Option (List ℕ)) (p : PartialPicture) (report : CopyReport)
       → IsSomeAnd reader (λ bytes. GrewBy (λ reads. IsRead IsCopyDone reads bytes stop) old new)
-      → IfSome reader (λ bytes. (r : ReadCopy) × CopyReads bytes r × (p ≡ marked None r.partial) × (report ≡ report_of bytes r stop))
-      → GrewBy (CopyGives None p report) old new
+      → IfSome reader (λ bytes. (r : ReadCopy) × CopyReads bytes r × (p ≡ marked source r.partial) × (report ≡ report_of bytes r stop))
+      → GrewBy (CopyGives source p report) old new
   whole_copy_gives None p report k h = absurd k
   whole_copy_gives (Some bytes) p report k h =
       let stopped : report.stop ≡ stop = ap (λ (r : CopyReport). r.stop) h.3 in

@@ -1,5 +1,5 @@
 -- Inputs taken one after the other.
-use Rattle.std.proofs.Common.{◌≡◌, ℕ, ◌+◌, ◌<◌, Bool, true, false, List, [], ◌∷◌, ◌++◌, Option, None, length, get_or, map, take, drop, refl, sym, subst, ap, ◌∙◌, append_assoc, arith}
+use Rattle.std.proofs.Common.{◌≡◌, ℕ, ◌+◌, ◌<◌, Bool, true, false, List, [], ◌∷◌, ◌++◌, Option, length, get_or, map, take, drop, refl, sym, subst, ap, ◌∙◌, append_assoc, arith}
 use Rattle.std.specs.Prelude.{◌↔◌, ◌&&◌, IsTrue, All}
 use Rattle.std.proofs.Math.Seq.{get_or-append_seam}
 use Rattle.std.proofs.lemmas.List.{append-nil, drop_more, get_or_append_left, length-append, map-append, take_more, take-append-drop}
@@ -29,15 +29,15 @@ grew_behind A B old mid new e see d h = record {
   they_are = see h.events h.they_are;
 }
 
-module _ (old mid new : History) (name : List ℕ) where
-  pub opened_and_given : (g : Given) → mid ≡ old ++ opened name ∷ [] → GrewBy (ReadsGive None g) mid new → GrewBy (IsTaken None name g) old new
-  opened_and_given g = grew_behind (ReadsGive None g) (IsTaken None name g) old mid new (opened name) (λ reads h. record { reads = reads; events_are = refl; give = h })
+module _ (source : Option ℕ) (old mid new : History) (name : List ℕ) where
+  pub opened_and_given : (g : Given) → mid ≡ old ++ opened name ∷ [] → GrewBy (ReadsGive source g) mid new → GrewBy (IsTaken source name g) old new
+  opened_and_given g = grew_behind (ReadsGive source g) (IsTaken source name g) old mid new (opened name) (λ reads h. record { reads = reads; events_are = refl; give = h })
 
-  pub opened_and_refused : (f : InputFault) (before : List Given) → mid ≡ old ++ opened name ∷ [] → GrewBy (ReadsRefuse f) mid new → GrewBy (StopsAt None before name (cause.Input f)) old new
-  opened_and_refused f before = grew_behind (ReadsRefuse f) (StopsAt None before name (cause.Input f)) old mid new (opened name) (λ reads h. refused None before name f reads h)
+  pub opened_and_refused : (f : InputFault) (before : List Given) → mid ≡ old ++ opened name ∷ [] → GrewBy (ReadsRefuse f) mid new → GrewBy (StopsAt source before name (cause.Input f)) old new
+  opened_and_refused f before = grew_behind (ReadsRefuse f) (StopsAt source before name (cause.Input f)) old mid new (opened name) (λ reads h. refused source before name f reads h)
 
-  pub not_opened_at_all : (before : List Given) → new ≡ old ++ not_opened name ∷ [] → GrewBy (StopsAt None before name cause.NotOpened) old new
-  not_opened_at_all before e = record { events = not_opened name ∷ []; grew = e; they_are = not_there None before name }
+  pub not_opened_at_all : (before : List Given) → new ≡ old ++ not_opened name ∷ [] → GrewBy (StopsAt source before name cause.NotOpened) old new
+  not_opened_at_all before e = record { events = not_opened name ∷ []; grew = e; they_are = not_there source before name }
 
 -- ---- unions
 
@@ -109,8 +109,8 @@ whole_one_more givens g whole also both h k is = (
   λ all. is ∙ and_both whole also (h.1 (All-left (λ (x : Given). x.stop ≡ Whole) givens (g ∷ []) all)) (k.1 (All-last (λ (x : Given). x.stop ≡ Whole) givens g all)),
 )
 
-module _ (names : List (List ℕ)) (name : List ℕ) (g : Given) (also : Bool) (also_is : IsTrue also ↔ (g.stop ≡ Whole)) where
-  first_taken : (events : List Event) → IsTaken None name g events → TakesUnion None (name ∷ []) g.partial also events
+module _ (source : Option ℕ) (names : List (List ℕ)) (name : List ℕ) (g : Given) (also : Bool) (also_is : IsTrue also ↔ (g.stop ≡ Whole)) where
+  first_taken : (events : List Event) → IsTaken source name g events → TakesUnion source (name ∷ []) g.partial also events
   first_taken events h = record {
     givens = g ∷ [];
     taken = record { in_turn = (events, [], sym (append-nil events), h, refl); one_shape = tt };
@@ -119,40 +119,40 @@ module _ (names : List (List ℕ)) (name : List ℕ) (g : Given) (also : Bool) (
   }
 
   next_taken : (joined : PartialPicture) (whole both : Bool) → both ≡ (whole && also) → has_same_shape joined g.partial ≡ true → (a b : List Event)
-      → TakesUnion None names joined whole a → IsTaken None name g b → TakesUnion None (names ++ name ∷ []) (union joined g.partial) both (a ++ b)
+      → TakesUnion source names joined whole a → IsTaken source name g b → TakesUnion source (names ++ name ∷ []) (union joined g.partial) both (a ++ b)
   next_taken joined whole both is e a b h t =
       let more : partials (h.givens ++ g ∷ []) ≡ partials h.givens ++ g.partial ∷ [] = map-append (λ (x : Given). x.partial) h.givens (g ∷ []) in
       record {
         givens = h.givens ++ g ∷ [];
         taken = record {
-          in_turn = in_turn_more None names h.givens a b name g h.taken.in_turn t;
+          in_turn = in_turn_more source names h.givens a b name g h.taken.in_turn t;
           one_shape = subst AreOfOneShape (sym more) (one_shape_more (partials h.givens) joined g.partial h.union_is h.taken.one_shape e);
         };
         union_is = subst (λ (ps : List PartialPicture). IsUnionOf ps (union joined g.partial)) (sym more) (union_of_more (partials h.givens) joined g.partial h.union_is);
         whole_is = whole_one_more h.givens g whole also both h.whole_is also_is is;
       }
 
-pub union_of_first : (old new : History) (name : List ℕ) (g : Given) (also : Bool) (held : PartialPicture) → IsTrue also ↔ (g.stop ≡ Whole) → held ≡ g.partial
-    → GrewBy (IsTaken None name g) old new → GrewBy (TakesUnion None (name ∷ []) held also) old new
-union_of_first old new name g also held w is h = record {
+pub union_of_first : (source : Option ℕ) (old new : History) (name : List ℕ) (g : Given) (also : Bool) (held : PartialPicture) → IsTrue also ↔ (g.stop ≡ Whole) → held ≡ g.partial
+    → GrewBy (IsTaken source name g) old new → GrewBy (TakesUnion source (name ∷ []) held also) old new
+union_of_first source old new name g also held w is h = record {
   events = h.events;
   grew = h.grew;
-  they_are = subst (λ (p : PartialPicture). TakesUnion None (name ∷ []) p also h.events) (sym is) (first_taken [] name g also w h.events h.they_are);
+  they_are = subst (λ (p : PartialPicture). TakesUnion source (name ∷ []) p also h.events) (sym is) (first_taken source [] name g also w h.events h.they_are);
 }
 
-module _ (old mid new : History) (names : List (List ℕ)) (joined : PartialPicture) (whole : Bool) (taken : GrewBy (TakesUnion None names joined whole) old mid) where
+module _ (source : Option ℕ) (old mid new : History) (names : List (List ℕ)) (joined : PartialPicture) (whole : Bool) (taken : GrewBy (TakesUnion source names joined whole) old mid) where
   pub union_of_next : (name : List ℕ) (g : Given) (also both : Bool) (new_union : PartialPicture) → IsTrue also ↔ (g.stop ≡ Whole) → both ≡ (whole && also)
-      → GrewBy (IsTaken None name g) mid new → has_same_shape joined g.partial ≡ true → new_union ≡ union joined g.partial
-      → GrewBy (TakesUnion None (names ++ name ∷ []) new_union both) old new
+      → GrewBy (IsTaken source name g) mid new → has_same_shape joined g.partial ≡ true → new_union ≡ union joined g.partial
+      → GrewBy (TakesUnion source (names ++ name ∷ []) new_union both) old new
   union_of_next name g also both new_union w b h e is = record {
     events = taken.events ++ h.events;
     grew = grew_twice old mid new taken.events h.events taken.grew h.grew;
-    they_are = subst (λ (u : PartialPicture). TakesUnion None (names ++ name ∷ []) u both (taken.events ++ h.events)) (sym is)
-        (next_taken names name g also w joined whole both b e taken.events h.events taken.they_are h.they_are);
+    they_are = subst (λ (u : PartialPicture). TakesUnion source (names ++ name ∷ []) u both (taken.events ++ h.events)) (sym is)
+        (next_taken source names name g also w joined whole both b e taken.events h.events taken.they_are h.they_are);
   }
 
   module _ (all after : List (List ℕ)) (r : Refusal) (among : all ≡ names ++ r.name.now ∷ after) where
-    stops_there : (last : List Event) → new ≡ mid ++ last → StopsAt None taken.they_are.givens r.name.now r.cause last → GrewBy (StopsAtInput None all r) old new
+    stops_there : (last : List Event) → new ≡ mid ++ last → StopsAt source taken.they_are.givens r.name.now r.cause last → GrewBy (StopsAtInput source all r) old new
     stops_there last e s = record {
       events = taken.events ++ last;
       grew = grew_twice old mid new taken.events last taken.grew e;
@@ -169,29 +169,29 @@ module _ (old mid new : History) (names : List (List ℕ)) (joined : PartialPict
       };
     }
 
-    pub stops_next : ((before : List Given) → GrewBy (StopsAt None before r.name.now r.cause) mid new) → GrewBy (StopsAtInput None all r) old new
+    pub stops_next : ((before : List Given) → GrewBy (StopsAt source before r.name.now r.cause) mid new) → GrewBy (StopsAtInput source all r) old new
     stops_next h = let s = h taken.they_are.givens in stops_there s.events s.grew s.they_are
 
-    pub differs_next : (g : Given) → r.cause ≡ cause.ShapeDiffers → GrewBy (IsTaken None r.name.now g) mid new → has_same_shape joined g.partial ≡ false
-        → GrewBy (StopsAtInput None all r) old new
+    pub differs_next : (g : Given) → r.cause ≡ cause.ShapeDiffers → GrewBy (IsTaken source r.name.now g) mid new → has_same_shape joined g.partial ≡ false
+        → GrewBy (StopsAtInput source all r) old new
     differs_next g is h e =
         stops_there h.events h.grew
-        (subst (λ (c : Cause). StopsAt None taken.they_are.givens r.name.now c h.events) (sym is)
-        (other_shape None taken.they_are.givens r.name.now g h.events h.they_are
+        (subst (λ (c : Cause). StopsAt source taken.they_are.givens r.name.now c h.events) (sym is)
+        (other_shape source taken.they_are.givens r.name.now g h.events h.they_are
         (other_shape_than_union (partials taken.they_are.givens) joined g.partial taken.they_are.union_is e)))
 
-    pub ran_out_next : (g : Given) → r.cause ≡ cause.OutOfMemory → GrewBy (IsTaken None r.name.now g) mid new → (has_same_shape joined g.partial ≡ false → ⊥)
-        → GrewBy (StopsAtInput None all r) old new
+    pub ran_out_next : (g : Given) → r.cause ≡ cause.OutOfMemory → GrewBy (IsTaken source r.name.now g) mid new → (has_same_shape joined g.partial ≡ false → ⊥)
+        → GrewBy (StopsAtInput source all r) old new
     ran_out_next g is h same =
         stops_there h.events h.grew
-        (subst (λ (c : Cause). StopsAt None taken.they_are.givens r.name.now c h.events) (sym is)
-        (no_memory None taken.they_are.givens r.name.now g h.events h.they_are
+        (subst (λ (c : Cause). StopsAt source taken.they_are.givens r.name.now c h.events) (sym is)
+        (no_memory source taken.they_are.givens r.name.now g h.events h.they_are
         (same_shape_as_union (partials taken.they_are.givens) joined g.partial taken.they_are.union_is same)))
 
 -- the first input stops the command
-pub stops_first : (old new : History) (others : List (List ℕ)) (r : Refusal) → ((before : List Given) → GrewBy (StopsAt None before r.name.now r.cause) old new)
-    → GrewBy (StopsAtInput None (r.name.now ∷ others) r) old new
-stops_first old new others r h =
+pub stops_first : (source : Option ℕ) (old new : History) (others : List (List ℕ)) (r : Refusal) → ((before : List Given) → GrewBy (StopsAt source before r.name.now r.cause) old new)
+    → GrewBy (StopsAtInput source (r.name.now ∷ others) r) old new
+stops_first source old new others r h =
     let s = h [] in
     record {
       events = s.events;

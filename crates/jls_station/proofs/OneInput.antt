@@ -244,8 +244,8 @@ module _ (old new : History) where
     pub out_of_memory_behind : (is_text bytes ≡ true → stop ≡ Whole) → GrewBy (ReadsRefuse fault.OutOfMemory) old new
     out_of_memory_behind is = record { events = h.events; grew = h.grew; they_are = for_memory h.events (behind_the_last bytes stop h.events h.they_are is) }
 
-    pub given_so : (g : Given) → g.stop ≡ stop → Gives None bytes g → GrewBy (ReadsGive None g) old new
-    given_so g is gives = record {
+    pub given_so : (source : Option ℕ) (g : Given) → g.stop ≡ stop → Gives source bytes g → GrewBy (ReadsGive source g) old new
+    given_so source g is gives = record {
       events = h.events;
       grew = h.grew;
       they_are = record { bytes = bytes; is_read = subst (λ (s : ReadStop). IsRead IsEnough h.events bytes s) (sym is) h.they_are; gives = gives };

@@ -11,7 +11,7 @@ use Rattle.jls_station.specs.declared.input.ReadStop.TheVariants.{Whole}
 
 -- `source` is the number under which the readings of copies are taken, where there is one; a text has its own
 
--- with the source at each reading, where there is one. (No command gives one yet)
+-- with the source at each reading, where there is one
 abbrev pub marked : Option ℕ → PartialPicture → PartialPicture
 marked None p = p
 marked (Some source) p = with_source p source

@@ -17,6 +17,7 @@ use Rattle.jls_station.specs.declared.input.InputFault.TheVariants as fault
 use Rattle.jls_station.specs.declared.outcome.Cause.{Cause}
 use Rattle.jls_station.specs.declared.outcome.Cause.TheVariants as cause
 use Rattle.jls_station.specs.declared.outcome.Refusal.{Refusal}
+use Rattle.jls_station.specs.declared.taking.JoinInputs.{JoinInputs}
 
 -- `source` is the number under which the readings of copies are taken, where there is one
 
@@ -68,6 +69,10 @@ pub record IsTaken (source : Option ℕ) (name : List ℕ) (g : Given) (events :
   pub give : ReadsGive source g reads
 
 -- ---- all inputs
+
+-- the names of inputs, in their order
+abbrev pub names_of : JoinInputs → List (List ℕ)
+names_of inputs = inputs.first.now ∷ map (λ f. f.now) inputs.others.now
 
 abbrev pub partials : List Given → List PartialPicture
 partials givens = map (λ g. g.partial) givens

@@ -158,8 +158,9 @@ fn read_text<S: Source>(
     first: &[u8],
 ) -> Result<InputRead, InputFault>
     requires { is_text first.now ≡ true }
-    ensures given { (before : History) → GrewBy (ReadSoFar IsEnough 1 first.now) before (S.history device.old)
-        → IfOk result (λ given. GrewBy (ReadsGive None given) before (S.history device.new)) }
+    // Whatever source a copy would be taken under.
+    ensures given { (source : Option ℕ) (before : History) → GrewBy (ReadSoFar IsEnough 1 first.now) before (S.history device.old)
+        → IfOk result (λ given. GrewBy (ReadsGive source given) before (S.history device.new)) }
     ensures refused { (before : History) → GrewBy (ReadSoFar IsEnough 1 first.now) before (S.history device.old)
         → IfErr result (λ fault. GrewBy (ReadsRefuse fault) before (S.history device.new)) }
     ensures known { (before : Option (List ℕ)) → Consumes before (S.remaining device.old) first.now
@@ -186,6 +187,7 @@ fn read_text<S: Source>(
 /// Reads a copy, whose first read gave these bytes, at least one.
 fn read_copy<S: Source>(
     alloc: Global,
+    source: Option<u32>,
     device: &mut S,
     first: &[u8],
 ) -> Result<InputRead, InputFault>
@@ -193,7 +195,7 @@ fn read_copy<S: Source>(
     requires few { length first.now ≤ 4096 }
     requires no_text { is_text first.now ≡ false }
     ensures given { (before : History) → GrewBy (ReadSoFar IsCopyDone 1 first.now) before (S.history device.old)
-        → IfOk result (λ given. GrewBy (ReadsGive None given) before (S.history device.new)) }
+        → IfOk result (λ given. GrewBy (ReadsGive source given) before (S.history device.new)) }
     ensures refused { (before : History) → GrewBy (ReadSoFar IsCopyDone 1 first.now) before (S.history device.old)
         → IfErr result (λ fault. GrewBy (ReadsRefuse fault) before (S.history device.new)) }
     ensures copy { IfOk result (λ given. given.copy ≡ None → ⊥) }
@@ -208,7 +210,7 @@ fn read_copy<S: Source>(
         Err(_) => return Err(InputFault::OutOfMemory),
     };
     let count = reader.fed();
-    match read_of_copy(alloc, reader, stop) {
+    match read_of_copy(alloc, source, reader, stop) {
         Ok(given) => {
             let CopyGiven { partial, report } = given;
             Ok(InputRead::of_copy(partial, report))
@@ -217,14 +219,18 @@ fn read_copy<S: Source>(
     }
 }
 
-/// What a source gives, from its current position on. An input whose first byte is 4A is the text of a partial picture, and is read to
+/// What a device gives, from its current position on: a copy under the number of a source if there is one. An input whose first byte is 4A is the text of a partial picture, and is read to
 /// its end. Every other input is a damaged copy, the empty one too, and is read as long as more bytes can change what it gives.
 /// Reads have room for at most 4,096 bytes, and there are at most 4,294,967,295 of them.
 ///
 /// A copy in which a frame was taken is never refused, but where memory runs out: what was read before the source stopped is kept, and
 /// the report tells how it did. A text is refused as `Read` if the source stopped before its end, whatever the bytes are.
-pub fn read_input<S: Source>(alloc: Global, device: &mut S) -> Result<InputRead, InputFault>
-    ensures given { IfOk result (λ given. GrewBy (ReadsGive None given) (S.history device.old) (S.history device.new)) }
+pub fn read_input<S: Source>(
+    alloc: Global,
+    source: Option<u32>,
+    device: &mut S,
+) -> Result<InputRead, InputFault>
+    ensures given { IfOk result (λ given. GrewBy (ReadsGive source given) (S.history device.old) (S.history device.new)) }
     ensures refused { IfErr result (λ fault. GrewBy (ReadsRefuse fault) (S.history device.old) (S.history device.new)) }
     ensures known { IfOk result (λ given. given.copy ≡ None → IfSome (S.remaining device.old) (λ bytes. IsTextOf bytes given.partial)) }
 {
@@ -241,6 +247,6 @@ pub fn read_input<S: Source>(alloc: Global, device: &mut S) -> Result<InputRead,
     if first[0] == FIRST_OF_TEXT {
         read_text(alloc, device, first)
     } else {
-        read_copy(alloc, device, first)
+        read_copy(alloc, source, device, first)
     }
 }

@@ -1,28 +1,28 @@
 //! The command `join`.
 
-ghost use Rattle.std.specs.Prelude.{None, map, ◌∷◌};
 ghost use Rattle.jls_device.specs.Event.{GrewBy};
+ghost use Rattle.jls_station.specs.Inputs.{names_of};
 ghost use Rattle.jls_station.specs.Joining.{Joins};
 
 use crate::outcome::{Cause, Outcome, Refusal};
-use crate::taking::{Taken, take_inputs};
+use crate::taking::{JoinInputs, Taken, take_inputs};
 use crate::writing::write_output;
 use jls_device::Desk;
 use std::alloc::Global;
 
-/// The command `join`: takes the inputs of these names, in turn, and then creates the output and writes the text of their
-/// union to it. An input is a text or a copy; a copy whose source stopped behind a frame is taken as far as it was read, and then the
+/// The command `join`: takes these inputs, in turn, and then creates the output and writes the text of their
+/// union to it. An input is a text or a copy; the readings of each copy
+/// are taken under the source of the inputs, if there is one. A copy whose source stopped behind a frame is taken as far as it was read, and then the
 /// outcome says that not every input was read whole.
 pub fn join<'a, D: Desk>(
     alloc: Global,
     desk: &mut D,
     out: &'a str,
-    first: &'a str,
-    others: &[&'a str],
+    inputs: JoinInputs<'_, 'a>,
 ) -> Outcome<'a>
-    ensures { GrewBy (Joins None out.now (first.now ∷ map (λ f. f.now) others.now) result) (D.history desk.old) (D.history desk.new) }
+    ensures { GrewBy (Joins inputs.entry.source out.now (names_of inputs.entry) result) (D.history desk.old) (D.history desk.new) }
 {
-    let Taken { station, whole } = match take_inputs(alloc, desk, first, others) {
+    let Taken { station, whole } = match take_inputs(alloc, desk, inputs) {
         Ok(taken) => taken,
         Err(refusal) => return Outcome::Refused(refusal),
     };

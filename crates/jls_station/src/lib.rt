@@ -20,7 +20,7 @@ pub use outcome::{Cause, Outcome, Refusal};
 pub use station::Station;
 pub use take_copy::TakeFault;
 pub use take_report::TakeReport;
-pub use taking::open_and_read;
+pub use taking::{JoinInputs, open_and_read};
 
 #[cfg(test)]
 mod tests;

@@ -44,12 +44,12 @@ pub enum Outcome<'a> {
 }
 
 impl Cause {
-    ghost use Rattle.jls_station.specs.Outcomes.{status_of_cause};
+    ghost use Rattle.jls_station.specs.Outcomes.{exit_status_of_cause};
 
     /// The exit status: 1 if a line isn't settled, 2 if an interval is too large, 3 if an input is refused for what it says or shapes
     /// differ, 4 if a device failed or the reads of an input were used up, 5 if memory ran out.
     pub fn status(self) -> u8
-        ensures { result ≡ status_of_cause self }
+        ensures { result ≡ exit_status_of_cause self }
     {
         match self {
             Cause::Unsettled { .. } => 1,
@@ -64,12 +64,12 @@ impl Cause {
 }
 
 impl Outcome<'_> {
-    ghost use Rattle.jls_station.specs.Outcomes.{status_of};
+    ghost use Rattle.jls_station.specs.Outcomes.{exit_status};
 
     /// The exit status: for a command that is done 4 if an input was not read to its end, else 0 if every line is settled
     /// and 1 if not; for a refusal that of its cause.
     pub fn status(self) -> u8
-        ensures { result ≡ status_of self.entry }
+        ensures { result ≡ exit_status self.entry }
     {
         match self {
             Outcome::Done { whole: false, .. } => 4,

@@ -1,6 +1,6 @@
 //! Copies that a station takes.
 
-ghost use Rattle.std.specs.Prelude.{◌≡◌, None, IfOk, IfErr};
+ghost use Rattle.std.specs.Prelude.{◌≡◌, IfOk, IfErr};
 ghost use Rattle.jls_device.specs.Event.{GrewBy};
 ghost use Rattle.jls_station.specs.TakingCopies.{take_fault_of, CopyGives, CopyStops, TakesCopy, RefusesCopy};
 
@@ -42,8 +42,13 @@ fn take_fault(fault: CopyFault, stop: ReadStop, count: u64) -> TakeFault
 }
 
 /// Reads a copy from its first byte on, as long as more bytes can change what it gives.
-fn read_from_start<S: Source>(alloc: Global, device: &mut S) -> Result<CopyGiven, TakeFault>
-    ensures given { IfOk result (λ given. GrewBy (CopyGives None given.partial given.report) (S.history device.old) (S.history device.new)) }
+fn read_from_start<S: Source>(
+    alloc: Global,
+    source: Option<u32>,
+    device: &mut S,
+) -> Result<CopyGiven, TakeFault>
+    ensures given { IfOk result (λ given.
+        GrewBy (CopyGives source given.partial given.report) (S.history device.old) (S.history device.new)) }
     ensures refused { IfErr result (λ fault. GrewBy (CopyStops fault) (S.history device.old) (S.history device.new)) }
 {
     let mut reader = CopyReader::new(alloc);
@@ -52,24 +57,30 @@ fn read_from_start<S: Source>(alloc: Global, device: &mut S) -> Result<CopyGiven
         Err(_) => return Err(TakeFault::OutOfMemory),
     };
     let count = reader.fed();
-    match read_of_copy(alloc, reader, stop) {
+    match read_of_copy(alloc, source, reader, stop) {
         Ok(given) => Ok(given),
         Err(fault) => Err(take_fault(fault, stop, count)),
     }
 }
 
 impl Station {
-    /// Takes in the readings of a damaged copy: reads it whole, from the source's current position on, then checks its shape, and then
-    /// merges. A source that stops behind a frame ends the copy there, and the report tells how it stopped. Reads have room for at most
+    /// Takes in the readings of a damaged copy, under the number of a source if there is one: reads it whole, from the device's current
+    /// position on, then checks its shape, and then merges. A device that stops behind a frame ends the copy there, and the report tells how it stopped. Reads have room for at most
     /// 4,096 bytes, there are at most 4,294,967,295 of them, and none is made where no byte more can change what the copy gives.
     ///
     /// At `NoPicture`, `Read` and `ShapeDiffers` nothing has changed; after `OutOfMemory` all that was held is still held, with some or
     /// all of the copy's readings, and nothing else. A copy that begins as a text does is read as a copy here.
-    pub fn take_copy<S: Source>(&mut self, device: &mut S) -> Result<TakeReport, TakeFault>
-        ensures taken { IfOk result (λ report. GrewBy (TakesCopy None self.old self.new report) (S.history device.old) (S.history device.new)) }
-        ensures refused { IfErr result (λ fault. GrewBy (RefusesCopy None self.old self.new fault) (S.history device.old) (S.history device.new)) }
+    pub fn take_copy<S: Source>(
+        &mut self,
+        source: Option<u32>,
+        device: &mut S,
+    ) -> Result<TakeReport, TakeFault>
+        ensures taken { IfOk result (λ report.
+            GrewBy (TakesCopy source self.old self.new report) (S.history device.old) (S.history device.new)) }
+        ensures refused { IfErr result (λ fault.
+            GrewBy (RefusesCopy source self.old self.new fault) (S.history device.old) (S.history device.new)) }
     {
-        let given = match read_from_start(self.allocator(), device) {
+        let given = match read_from_start(self.allocator(), source, device) {
             Ok(given) => given,
             Err(fault) => return Err(fault),
         };

@@ -1,9 +1,9 @@
 //! The inputs of `join`, taken into a station.
 
-ghost use Rattle.std.specs.Prelude.{List, ℕ, IfOk, IfErr, None, true, map, ◌∷◌};
+ghost use Rattle.std.specs.Prelude.{List, IfOk, IfErr};
 ghost use Rattle.jls_device.specs.Event.{GrewBy};
 ghost use Rattle.jls_station.specs.Given.{Given};
-ghost use Rattle.jls_station.specs.Inputs.{IsTaken, TakesUnion, StopsAt, StopsAtInput};
+ghost use Rattle.jls_station.specs.Inputs.{names_of, IsTaken, TakesUnion, StopsAt, StopsAtInput};
 
 use crate::input::{InputRead, read_input};
 use crate::outcome::{Cause, Refusal};
@@ -20,18 +20,32 @@ pub struct Taken {
     pub whole: bool,
 }
 
-/// Opens one input and reads it.
-pub fn open_and_read<D: Desk>(alloc: Global, desk: &mut D, name: &str) -> Result<InputRead, Cause>
-    ensures taken { IfOk result (λ given. GrewBy (IsTaken None name.now given) (D.history desk.old) (D.history desk.new)) }
+/// The inputs of `join`: copies and texts by their names, of which there is a first. The readings of the copies are taken under the number
+/// of a source, if there is one; a text keeps the sources that it has.
+#[derive(Clone, Copy)]
+pub struct JoinInputs<'m, 'a> {
+    pub source: Option<u32>,
+    pub first: &'a str,
+    pub others: &'m [&'a str],
+}
+
+/// Opens one input and reads it; a copy under the number of a source if there is one.
+pub fn open_and_read<D: Desk>(
+    alloc: Global,
+    desk: &mut D,
+    source: Option<u32>,
+    name: &str,
+) -> Result<InputRead, Cause>
+    ensures taken { IfOk result (λ given. GrewBy (IsTaken source name.now given) (D.history desk.old) (D.history desk.new)) }
     // Whatever the inputs before it gave.
     ensures stopped { (before : List Given) → IfErr result (λ cause.
-        GrewBy (StopsAt None before name.now cause) (D.history desk.old) (D.history desk.new)) }
+        GrewBy (StopsAt source before name.now cause) (D.history desk.old) (D.history desk.new)) }
 {
     match desk.open_input(name) {
         Ok(()) => {}
         Err(_) => return Err(Cause::NotOpened),
     }
-    match read_input(alloc, desk) {
+    match read_input(alloc, source, desk) {
         Ok(read) => Ok(read),
         Err(fault) => Err(Cause::Input(fault)),
     }
@@ -42,22 +56,26 @@ pub fn open_and_read<D: Desk>(alloc: Global, desk: &mut D, name: &str) -> Result
 pub fn take_inputs<'a, D: Desk>(
     alloc: Global,
     desk: &mut D,
-    first: &'a str,
-    others: &[&'a str],
+    inputs: JoinInputs<'_, 'a>,
 ) -> Result<Taken, Refusal<'a>>
     ensures taken { IfOk result (λ taken.
-        GrewBy (TakesUnion None (first.now ∷ map (λ f. f.now) others.now) taken.station taken.whole) (D.history desk.old) (D.history desk.new)) }
+        GrewBy (TakesUnion inputs.entry.source (names_of inputs.entry) taken.station taken.whole) (D.history desk.old) (D.history desk.new)) }
     ensures stopped { IfErr result (λ refusal.
-        GrewBy (StopsAtInput None (first.now ∷ map (λ f. f.now) others.now) refusal) (D.history desk.old) (D.history desk.new)) }
+        GrewBy (StopsAtInput inputs.entry.source (names_of inputs.entry) refusal) (D.history desk.old) (D.history desk.new)) }
 {
-    let read = match open_and_read(alloc, desk, first) {
+    let JoinInputs {
+        source,
+        first,
+        others,
+    } = inputs;
+    let read = match open_and_read(alloc, desk, source, first) {
         Ok(read) => read,
         Err(cause) => return Err(Refusal { name: first, cause }),
     };
     let mut whole = read.is_whole();
     let mut station = Station::holding(alloc, read.into_partial());
     for name in others {
-        let read = match open_and_read(alloc, desk, name) {
+        let read = match open_and_read(alloc, desk, source, name) {
             Ok(read) => read,
             Err(cause) => return Err(Refusal { name, cause }),
         };

@@ -40,7 +40,7 @@ impl<'a> Read for Breaking<'a> {
 }
 
 fn refusal_of(alloc: Global, bytes: &[u8]) -> Option<InputFault> {
-    match read_input(alloc, &mut Counted::new(Breaking(bytes))) {
+    match read_input(alloc, None, &mut Counted::new(Breaking(bytes))) {
         Ok(_) => None,
         Err(fault) => Some(fault),
     }
@@ -49,7 +49,7 @@ fn refusal_of(alloc: Global, bytes: &[u8]) -> Option<InputFault> {
 #[test]
 fn reads_one_input(rt: HostRuntime) -> Result<(), Fail> {
     let alloc = rt.alloc();
-    let read = match read_input(alloc, &mut Counted::new(DISPUTED)) {
+    let read = match read_input(alloc, None, &mut Counted::new(DISPUTED)) {
         Ok(read) => read,
         Err(_) => return Err(Fail::from("refused")),
     };

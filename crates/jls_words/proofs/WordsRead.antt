@@ -38,7 +38,7 @@ module _ (name : Text) (rows : List Row) where
   asks_check e = rw e refl
 
   module _ (not_check : bytes_eq name (codes "check") ≡ false) where
-    pub asks_join : bytes_eq name (codes "join") ≡ true → asked_by name rows ≡ asked_join (first_of (codes "OUT") rows) (all_of (codes "FILE") rows)
+    pub asks_join : bytes_eq name (codes "join") ≡ true → asked_by name rows ≡ asked_join (first_of (codes "source") rows) (first_of (codes "OUT") rows) (all_of (codes "FILE") rows)
     asks_join e = rw (not_check, e) refl
 
     module _ (not_join : bytes_eq name (codes "join") ≡ false) where

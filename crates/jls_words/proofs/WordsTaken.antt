@@ -1,5 +1,5 @@
 -- Words that clap does read as commands: the premises of the theorems on `run` hold of them.
-use Rattle.std.proofs.Common.{◌≡◌, true, false, List, [], ◌∷◌, refl, inl}
+use Rattle.std.proofs.Common.{◌≡◌, true, false, List, [], ◌∷◌, Some, None, refl, inl}
 use Rattle.std.specs.Prelude.{codes}
 use Rattle.clap.specs.Words.{Text, is_simple, is_simple_and_free}
 use Rattle.clap.proofs.OnLiterals.{clap_on_literals}
@@ -31,13 +31,21 @@ pub is_simple_program : is_simple salvage_app ≡ true
 unfolding clap_on_literals
 is_simple_program = refl
 
-pub two_files-join : ReadsAs two_files (join (codes "OUT") (codes "A" ∷ codes "B" ∷ []))
+pub two_files-join : ReadsAs two_files (join None (codes "OUT") (codes "A" ∷ codes "B" ∷ []))
 unfolding clap_on_literals
 two_files-join = record { taken = inl refl; asks = refl }
 
-pub dashes-join : ReadsAs dashes (join (codes "-") (codes "-" ∷ []))
+pub dashes-join : ReadsAs dashes (join None (codes "-") (codes "-" ∷ []))
 unfolding clap_on_literals
 dashes-join = record { taken = inl refl; asks = refl }
+
+-- `jls-salvage join --source 7 OUT A`
+abbrev pub with_source : List Text
+with_source = codes "jls-salvage" ∷ codes "join" ∷ codes "--source" ∷ codes "7" ∷ codes "OUT" ∷ codes "A" ∷ []
+
+pub with_source-join : ReadsAs with_source (join (Some 7) (codes "OUT") (codes "A" ∷ []))
+unfolding clap_on_literals
+with_source-join = record { taken = inl refl; asks = refl }
 
 pub one_file-check : ReadsAs (one_file (codes "check")) (check (codes "A"))
 unfolding clap_on_literals

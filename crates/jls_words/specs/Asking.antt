@@ -11,17 +11,14 @@ use Rattle.jls_words.specs.declared.asked.Asked.TheVariants as asked
 -- a command with its words: the output stands before the inputs
 pub data Asked : Type 0 where
   check : Text → Asked
-  join : Text → List Text → Asked
+  -- with the source under which the readings of copies are taken, if one is given
+  join : Option ℕ → Text → List Text → Asked
   show : Text → Asked
   write_pnm : Text → Text → Asked
   -- as JPEG-LS: whether all components stand in one scan, by line; and the restart interval, 0 for none
   write_jls : Bool → ℕ → Text → Text → Asked
 
 -- ---- by the values of a command's arguments
-
-abbrev pub asked_join : Option Text → Option (List Text) → Option Asked
-asked_join (Some out) (Some (first ∷ others)) = Some (join out (first ∷ others))
-asked_join _ _ = None
 
 abbrev pub asked_check : Option Text → Option Asked
 asked_check file = option_map check file
@@ -36,6 +33,13 @@ is_by_line name = if bytes_eq name (codes "line") then Some true else if bytes_e
 -- the number that a text is, in decimal and up to a greatest
 abbrev pub number_up_to : ℕ → Text → Option ℕ
 number_up_to most value = if is_unsigned_in 0 most value then Some (digits_value 10 (without_leading_plus value)) else None
+
+-- the source, if one is given; OUT and the FILEs
+abbrev pub asked_join : Option Text → Option Text → Option (List Text) → Option Asked
+asked_join None (Some out) (Some (first ∷ others)) = Some (join None out (first ∷ others))
+asked_join (Some source) (Some out) (Some (first ∷ others)) =
+    option_map (λ n. join (Some n) out (first ∷ others)) (number_up_to 4294967295 source)
+asked_join _ _ _ = None
 
 abbrev pub both_of : Option Bool → Option ℕ → Option (Bool × ℕ)
 both_of (Some line) (Some n) = Some (line, n)
@@ -60,7 +64,8 @@ asked_write _ _ _ _ = None
 abbrev pub asked_by : Text → List Row → Option Asked
 asked_by name rows =
     if bytes_eq name (codes "check") then asked_check (first_of (codes "FILE") rows)
-    else if bytes_eq name (codes "join") then asked_join (first_of (codes "OUT") rows) (all_of (codes "FILE") rows)
+    else if bytes_eq name (codes "join") then
+    asked_join (first_of (codes "source") rows) (first_of (codes "OUT") rows) (all_of (codes "FILE") rows)
     else if bytes_eq name (codes "show") then asked_show (first_of (codes "FILE") rows)
     else if bytes_eq name (codes "write") then
     asked_write (first_of (codes "as") rows) (options_of (first_of (codes "ilv") rows) (first_of (codes "ri") rows))
@@ -83,7 +88,7 @@ pub record AskForNothing (words : List Text) : Type 0 where
 
 -- what is asked, as the code has it
 abbrev pub asked_of : AskedValue → Asked
-asked_of (asked.Join out first others) = join out.now (first.now ∷ map (λ f. f.now) others.now)
+asked_of (asked.Join source out first others) = join source out.now (first.now ∷ map (λ f. f.now) others.now)
 asked_of (asked.Check file) = check file.now
 asked_of (asked.Show file) = show file.now
 asked_of (asked.WritePnm out file) = write_pnm out.now file.now

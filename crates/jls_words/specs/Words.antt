@@ -31,8 +31,16 @@ ri_rule = record (new_rule (codes "ri")) {
   parser = Some (Unsigned 0 65535);
 }
 
+-- --source N, a number from 0 to 2^32 - 1, which need not be there
+abbrev pub source_rule : Rule
+source_rule = record (new_rule (codes "source")) {
+  long = Some (codes "source");
+  value_names = 1;
+  parser = Some (Unsigned 0 4294967295);
+}
+
 abbrev pub join_app : App
-join_app = with_rule (with_rule (new_app (codes "join")) (word_rule (codes "OUT"))) files_rule
+join_app = with_rule (with_rule (with_rule (new_app (codes "join")) source_rule) (word_rule (codes "OUT"))) files_rule
 
 abbrev pub show_app : App
 show_app = with_rule (new_app (codes "show")) (word_rule (codes "FILE"))

@@ -14,8 +14,9 @@ pub enum Asked<'m, 'a> {
     Check {
         file: &'a str,
     },
-    /// To join the inputs, of which there is a first.
+    /// To join the inputs, of which there is a first: the readings of copies under the number of a source, if one is given.
     Join {
+        source: Option<u32>,
         out: &'a str,
         first: &'a str,
         others: &'m [&'a str],
@@ -39,14 +40,37 @@ pub enum Asked<'m, 'a> {
     },
 }
 
-fn asked_join<'m, 'a>(out: Option<&'a str>, files: Option<&'m [&'a str]>) -> Option<Asked<'m, 'a>>
+/// The number of a source.
+fn source_number(value: &str) -> Option<u32>
+    ensures { result ≡ number_up_to 4294967295 value.now }
+{
+    match value.parse::<u32>() {
+        Ok(number) => Some(number),
+        Err(_) => None,
+    }
+}
+
+fn asked_join<'m, 'a>(
+    source: Option<&str>,
+    out: Option<&'a str>,
+    files: Option<&'m [&'a str]>,
+) -> Option<Asked<'m, 'a>>
     ensures { option_map asked_of result
-        ≡ spec.asked_join (option_map (λ s. s.now) out.entry) (option_map (λ s. map (λ f. f.now) s.now) files.entry) }
+        ≡ spec.asked_join (option_map (λ s. s.now) source.entry) (option_map (λ s. s.now) out.entry) (option_map (λ s. map (λ f. f.now) s.now) files.entry) }
 {
     let (Some(out), Some([first, others @ ..])) = (out, files) else {
         return None;
     };
-    Some(Asked::Join { out, first, others })
+    let source = match source {
+        Some(value) => Some(source_number(value)?),
+        None => None,
+    };
+    Some(Asked::Join {
+        source,
+        out,
+        first,
+        others,
+    })
 }
 
 fn asked_check<'m, 'a>(file: Option<&'a str>) -> Option<Asked<'m, 'a>>
@@ -140,7 +164,11 @@ pub fn asked_command<'m, 'a>(matches: &'m ArgMatches<'a>) -> Option<Asked<'m, 'a
     if name == "check" {
         asked_check(given.get_str("FILE"))
     } else if name == "join" {
-        asked_join(given.get_str("OUT"), given.get_strs("FILE"))
+        asked_join(
+            given.get_str("source"),
+            given.get_str("OUT"),
+            given.get_strs("FILE"),
+        )
     } else if name == "show" {
         asked_show(given.get_str("FILE"))
     } else if name == "write" {

@@ -4,7 +4,7 @@ ghost use Rattle.std.specs.Prelude.{◌≡◌, ◌⊎◌, false, [], IfOk, IfErr
 ghost use Rattle.std.specs.String.{string_bytes};
 ghost use Rattle.clap.specs.Words.{app_of, fault_of, kind_of, new_app, rule_of, subcommand_of, subcommand_rows_of};
 ghost use Rattle.clap.specs.declared.builder.command.Command.TheViews.{out-Command};
-ghost use Rattle.jls_words.specs.Words.{as_rule, AreRefused, AreTaken, check_app, files_rule, ilv_rule, join_app, ri_rule, salvage_app, show_app, word_rule, write_app, write_options_app};
+ghost use Rattle.jls_words.specs.Words.{as_rule, AreRefused, AreTaken, check_app, files_rule, ilv_rule, join_app, ri_rule, salvage_app, show_app, source_rule, word_rule, write_app, write_options_app};
 
 use crate::texts;
 use clap::builder::ValueParser;
@@ -18,6 +18,16 @@ fn word<'a>(alloc: Global, id: &'a str, help: &'a str) -> Arg<'a>
     ensures local { result.global ≡ false }
 {
     Arg::new(alloc, id).required(true).help(help)
+}
+
+/// The source of the copies of `join`.
+fn source<'a>(alloc: Global) -> Arg<'a>
+    ensures rule { rule_of result ≡ source_rule }
+    ensures local { result.global ≡ false }
+{
+    let number = Arg::new(alloc, "source").long("source").value_name("N");
+    let bounded = number.value_parser(ValueParser::unsigned(0, 4_294_967_295));
+    bounded.help(texts::SOURCE_HELP)
 }
 
 /// The inputs of `join`.
@@ -85,7 +95,8 @@ fn join_command<'a>(alloc: Global) -> Result<Command<'a>, AllocError>
     ensures local { IfOk result (λ c. (out-Command c).has_globals ≡ false) }
 {
     let bare = bare(alloc, "join", texts::JOIN_ABOUT, texts::JOIN_NOTES);
-    let join = bare.arg(word(alloc, "OUT", texts::JOIN_OUT_HELP))?;
+    let sourced = bare.arg(source(alloc))?;
+    let join = sourced.arg(word(alloc, "OUT", texts::JOIN_OUT_HELP))?;
     join.arg(files(alloc))
 }
 

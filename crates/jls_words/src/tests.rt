@@ -15,11 +15,20 @@ fn line(alloc: Global, words: &[&str]) -> Result<Vec<String>, Fail> {
 
 #[test]
 fn join_is_read(rt: HostRuntime) -> Result<(), Fail> {
-    let words = ["jls-salvage", "join", "all.jlsp", "-", "south.jlsp"];
+    let words = [
+        "jls-salvage",
+        "join",
+        "--source",
+        "4294967295",
+        "all.jlsp",
+        "-",
+        "south.jlsp",
+    ];
     let words = line(rt.alloc(), &words)?;
     let matches = matches(rt.alloc(), &words)?;
     let asks = asked_command(&matches).ok_or("nothing asked")?;
     let expected = Asked::Join {
+        source: Some(4_294_967_295),
         out: "all.jlsp",
         first: "-",
         others: &["south.jlsp"],

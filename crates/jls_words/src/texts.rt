@@ -71,6 +71,10 @@ picture, with every reading that a copy gave of each line. OUT is a partial pict
 nothing and prefers nothing: neither the order of the FILEs nor a repeated one changes OUT. All FILEs
 must have one shape: width, height, precision and components.
 
+With --source N each reading of a copy is kept with the number N, by which you can tell later where it
+came from: give each copy, or each disk or tape, its own. A reading that several sources gave keeps all
+their numbers. A FILE that is a partial picture keeps the numbers that it has; no number is made up.
+
 Exit status:
   0  done, and each line has exactly one reading
   1  done, with lines that have no reading, or several
@@ -82,6 +86,7 @@ Exit status:
 
 Examples:
   jls-salvage join all.jlsp damaged.jls other.jls
+  jls-salvage join --source 7 tape7.jlsp tape7.jls
   jls-salvage join - mine.jlsp - < theirs.jlsp > both.jlsp";
 
 pub(crate) const WRITE_ABOUT: &str =
@@ -109,6 +114,9 @@ Examples:
 
 pub(crate) const JOIN_OUT_HELP: &str =
     "The file to write, created or replaced once all FILEs are read; - is standard output";
+
+pub(crate) const SOURCE_HELP: &str =
+    "The number under which the readings of the copies are kept, 0 to 4294967295; without it, under none";
 
 pub(crate) const FILES_HELP: &str =
     "The copies and partial pictures to join, one or more; - is standard input";

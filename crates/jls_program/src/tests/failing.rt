@@ -1,9 +1,10 @@
 //! Devices that fail.
 
 use super::memory::{GOOD, Manners};
-use super::pictures::DISPUTED;
+use super::pictures::{DISPUTED, TEN};
 use super::run_words;
 use std::alloc::Global;
+use std::fmt::Write;
 use std::process::Abort;
 use std::test::Fail;
 
@@ -25,19 +26,68 @@ fn stops_where_a_read_fails(rt: HostRuntime) -> Result<(), Fail> {
     Ok(())
 }
 
+/// How many lines of the copy `whole` stand in its first so many bytes.
+fn lines_in(count: usize) -> usize {
+    if count < 31 { 0 } else { (count - 29) / 3 }
+}
+
+/// What `check whole` reports where a read fails behind so many bytes, with the frame among them and the end of the image not.
+fn report_of_front(alloc: Global, count: usize) -> Result<String, Fail> {
+    let mut out = String::new(alloc);
+    if 31 <= count && count <= 58 && count % 3 == 1 {
+        write!(out, "piece 0 {} {count} broken\n", (count - 31) / 3)?;
+    }
+    if count == 15 || count == 21 || 31 <= count {
+        write!(out, "end input {count}\n")?;
+    } else {
+        write!(out, "end fault 19 {count}\n")?;
+    }
+    let lines = lines_in(count);
+    let missing = 10usize.saturating_sub(lines);
+    write!(
+        out,
+        "read failed {count}\npicture 1x10, 8 bits, components 1\n"
+    )?;
+    write!(out, "settled {lines}, missing {missing}, disputed 0\n")?;
+    if lines < 10 {
+        write!(out, "missing 1 {lines}-9\n")?;
+    }
+    Ok(out)
+}
+
+/// The text of the first so many lines of the picture of ten.
+fn text_of_front(alloc: Global, lines: usize) -> Result<Vec<u8>, Fail> {
+    let mut text = Vec::from_slice(alloc, &TEN[..15])?;
+    text.push(lines as u8)?;
+    text.extend_from_slice(&TEN[16..16 + 21 * lines])?;
+    Ok(text)
+}
+
 #[test]
 fn keeps_what_was_read_of_a_copy(rt: HostRuntime) -> Result<(), Fail> {
-    let manners = Manners {
-        reads_fail_at: Some(45),
-        ..GOOD
-    };
-    let found = run_words(rt.alloc(), "check whole", manners)?;
-    assert_eq!(rt; found.status, 4);
-    assert_eq!(rt;
-        found.report.as_slice(),
-        b"end input 45\nread failed 45\npicture 1x10, 8 bits, components 1\nsettled 5, missing 5, disputed 0\nmissing 1 5-9\n".as_slice()
-    );
-    assert!(rt; found.faults.is_empty());
+    let alloc = rt.alloc();
+    for count in 0..61usize {
+        let manners = Manners {
+            reads_fail_at: Some(count),
+            ..GOOD
+        };
+        let checked = run_words(alloc, "check whole", manners)?;
+        let joined = run_words(alloc, "join OUT whole", manners)?;
+        assert_eq!(rt; (checked.status, joined.status), (4, 4), "at {count}");
+        if count < 15 {
+            let line = b"jls-salvage: whole: read failed\n".as_slice();
+            assert_eq!(rt; checked.faults.as_slice(), line, "at {count}");
+            assert_eq!(rt; joined.faults.as_slice(), line, "at {count}");
+            assert!(rt; checked.report.is_empty() && joined.output.is_none());
+        } else {
+            let report = report_of_front(alloc, count)?;
+            let text = text_of_front(alloc, lines_in(count))?;
+            let output = joined.output.ok_or("no output")?;
+            assert_eq!(rt; checked.report.as_slice(), report.as_bytes(), "at {count}");
+            assert_eq!(rt; output.as_slice(), text.as_slice(), "at {count}");
+            assert!(rt; checked.faults.is_empty() && joined.faults.is_empty());
+        }
+    }
     Ok(())
 }
 

@@ -39,6 +39,24 @@ join OUT lost struck => 0 ten
 join OUT struck lost => 0 ten
 join OUT lost struck lost => 0 ten
 join OUT ten beyond => 0 ten
+join OUT single => 0 plain
+join OUT single single => 0 plain
+join --source 2 OUT single => 0 by_2
+join --source=7 OUT single => 0 by_7
+join OUT single --source 4294967295 => 0 by_greatest
+join OUT by_2 by_7 => 0 by_2_and_7
+join OUT by_7 by_2 => 0 by_2_and_7
+join OUT by_7 by_2 by_7 => 0 by_2_and_7
+join --source 7 OUT by_2 single => 0 by_2_and_7
+join --source 7 OUT single by_2 single => 0 by_2_and_7
+join --source 9 OUT by_7 => 0 by_7
+join OUT single by_7 => 0 by_7
+join OUT T by_7 => 1 T_by_7
+join --source 7 OUT T single => 1 T_by_7
+join OUT by_7_and_2 => 3 by_7_and_2: bad text, order at 41
+join OUT by_7_twice => 3 by_7_twice: bad text, order at 41
+join OUT source_cut => 3 source_cut: bad text, truncated at 44
+join OUT source_more => 3 source_more: bad text, trailing at 45
 join OUT T whole => 3 whole: shape differs
 join OUT A dot => 4 A: cannot be opened
 join OUT T S U => 3 U: shape differs";
@@ -94,6 +112,11 @@ fn joins_texts(rt: HostRuntime) -> Result<(), Fail> {
 }
 
 #[test]
-fn joins_byte_by_byte(rt: HostRuntime) -> Result<(), Fail> {
-    check_rows(&rt, rt.alloc(), Manners { most: 1, ..GOOD })
+fn joins_in_parts(rt: HostRuntime) -> Result<(), Fail> {
+    check_rows(&rt, rt.alloc(), Manners { most: 1, ..GOOD })?;
+    let parted = Manners {
+        parts_at_ff: true,
+        ..GOOD
+    };
+    check_rows(&rt, rt.alloc(), parted)
 }

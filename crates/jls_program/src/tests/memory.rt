@@ -13,6 +13,8 @@ pub(super) type File<'a> = (&'a str, &'a [u8]);
 pub(super) struct Manners {
     /// The most bytes that one call gives or takes.
     pub most: usize,
+    /// Whether a read gives nothing behind the next byte FF.
+    pub parts_at_ff: bool,
     /// How many bytes an input gives before its reads fail.
     pub reads_fail_at: Option<usize>,
     /// How many bytes an output takes before its writes fail.
@@ -23,6 +25,7 @@ pub(super) struct Manners {
 /// Files that do all they can.
 pub(super) const GOOD: Manners = Manners {
     most: usize::MAX,
+    parts_at_ff: false,
     reads_fail_at: None,
     writes_fail_at: None,
     can_create: true,
@@ -88,6 +91,14 @@ fn room(limit: Option<usize>, moved: usize) -> usize {
     }
 }
 
+/// How many bytes there are up to the first FF, that one among them.
+fn up_to_ff(bytes: &[u8]) -> usize {
+    match bytes.iter().position(|&byte| byte == 0xFF) {
+        Some(before) => before.saturating_add(1),
+        None => bytes.len(),
+    }
+}
+
 impl Read for MemoryFiles<'_> {
     fn read(&mut self, into: &mut [u8]) -> io::Result<usize> {
         let room = room(self.manners.reads_fail_at, self.given);
@@ -95,7 +106,17 @@ impl Read for MemoryFiles<'_> {
             return Err(failed());
         }
         let rest = self.rest;
-        let n = rest.len().min(into.len()).min(room).min(self.manners.most);
+        let part = if self.manners.parts_at_ff {
+            up_to_ff(rest)
+        } else {
+            rest.len()
+        };
+        let n = rest
+            .len()
+            .min(part)
+            .min(into.len())
+            .min(room)
+            .min(self.manners.most);
         into[..n].copy_from_slice(&rest[..n]);
         self.rest = &rest[n..];
         self.given = self.given.saturating_add(n);

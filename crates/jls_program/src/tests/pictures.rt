@@ -22,8 +22,35 @@ const OTHER: &[u8] = b"JLSP\x02\x08\0\x01\0\x01\x01\x02\0\0\0\0";
 const FIRST_VERSION: &[u8] =
     b"JLSP\x01\x08\0\x01\0\x01\x01\x01\0\0\0\x01\0\0\0\0\0\0\0\0\0\0\x02\0\x03\0\x05";
 
+/// A copy of a picture of one line with one sample, 3.
+const SINGLE: &[u8] =
+    b"\xff\xd8\xff\xf7\0\x0b\x08\0\x01\0\x01\x01\x01\x11\0\xff\xda\0\x08\x01\x01\0\0\0\0\x28\xff\xd9";
+/// Its reading under no source.
+const PLAIN: &[u8] = b"\
+JLSP\x02\x08\0\x01\0\x01\x01\x01\0\0\0\x01\0\0\0\0\0\0\0\0\0\0\x01\0\x03\0\0\0\0\0\0\0\0";
+/// Under the source 2.
+const BY_2: &[u8] = b"\
+JLSP\x02\x08\0\x01\0\x01\x01\x01\0\0\0\x01\0\0\0\0\0\0\0\0\0\0\x01\0\x03\0\0\0\0\0\0\0\x01\
+\0\0\0\x02";
+/// Under the source 7.
+const BY_7: &[u8] = b"\
+JLSP\x02\x08\0\x01\0\x01\x01\x01\0\0\0\x01\0\0\0\0\0\0\0\0\0\0\x01\0\x03\0\0\0\0\0\0\0\x01\
+\0\0\0\x07";
+/// Under both.
+const BY_2_AND_7: &[u8] = b"\
+JLSP\x02\x08\0\x01\0\x01\x01\x01\0\0\0\x01\0\0\0\0\0\0\0\0\0\0\x01\0\x03\0\0\0\0\0\0\0\x02\
+\0\0\0\x02\0\0\0\x07";
+/// Under the greatest source.
+const BY_GREATEST: &[u8] = b"\
+JLSP\x02\x08\0\x01\0\x01\x01\x01\0\0\0\x01\0\0\0\0\0\0\0\0\0\0\x01\0\x03\0\0\0\0\0\0\0\x01\
+\xff\xff\xff\xff";
+/// The reading 3 under the source 7, and the reading 5 under none.
+const DISPUTED_BY_7: &[u8] = b"\
+JLSP\x02\x08\0\x01\0\x01\x01\x01\0\0\0\x01\0\0\0\0\0\0\0\0\0\0\x02\0\x03\0\0\0\0\0\0\0\x01\
+\0\0\0\x07\0\x05\0\0\0\0\0\0\0\0";
+
 /// A picture of ten lines, each of one sample: its own number, in version 2.
-const TEN: &[u8] = b"\
+pub(super) const TEN: &[u8] = b"\
 JLSP\x02\x08\0\x01\0\x0a\x01\x01\0\0\0\x0a\0\0\0\0\0\0\0\0\0\0\x01\0\0\0\0\0\0\0\0\0\0\0\0\
 \x01\0\0\0\0\0\0\0\x01\0\x01\0\0\0\0\0\0\0\0\0\0\x02\0\0\0\0\0\0\0\x01\0\x02\0\0\0\0\0\0\0\
 \0\0\0\x03\0\0\0\0\0\0\0\x01\0\x03\0\0\0\0\0\0\0\0\0\0\x04\0\0\0\0\0\0\0\x01\0\x04\0\0\0\0\
@@ -55,7 +82,7 @@ JLSP\x01\x08\0\x01\0\x01\x02\x01\x02\0\0\0\x02\0\0\0\0\0\0\0\0\0\0\x01\0\x0a\x01
 \0\0\0\0\x01\0\x0a";
 
 /// The files of the desk.
-pub(super) const FILES: [File<'static>; 33] = [
+pub(super) const FILES: [File<'static>; 44] = [
     ("T", DISPUTED),
     ("S", SETTLED),
     ("N", BARE),
@@ -92,6 +119,29 @@ pub(super) const FILES: [File<'static>; 33] = [
     (
         "version",
         b"JLSP\x02\x08\0\x01\0\x01\x01\x01\0\0\0\x01\0\0\0\0\0\0\0\0\0\0\x02\0\x03\0\x05",
+    ),
+    ("single", SINGLE),
+    ("plain", PLAIN),
+    ("by_2", BY_2),
+    ("by_7", BY_7),
+    ("by_2_and_7", BY_2_AND_7),
+    ("by_greatest", BY_GREATEST),
+    ("T_by_7", DISPUTED_BY_7),
+    (
+        "by_7_and_2",
+        b"JLSP\x02\x08\0\x01\0\x01\x01\x01\0\0\0\x01\0\0\0\0\0\0\0\0\0\0\x01\0\x03\0\0\0\0\0\0\0\x02\0\0\0\x07\0\0\0\x02",
+    ),
+    (
+        "by_7_twice",
+        b"JLSP\x02\x08\0\x01\0\x01\x01\x01\0\0\0\x01\0\0\0\0\0\0\0\0\0\0\x01\0\x03\0\0\0\0\0\0\0\x02\0\0\0\x07\0\0\0\x07",
+    ),
+    (
+        "source_cut",
+        b"JLSP\x02\x08\0\x01\0\x01\x01\x01\0\0\0\x01\0\0\0\0\0\0\0\0\0\0\x01\0\x03\0\0\0\0\0\0\0\x02\0\0\0\x02\0\0\0",
+    ),
+    (
+        "source_more",
+        b"JLSP\x02\x08\0\x01\0\x01\x01\x01\0\0\0\x01\0\0\0\0\0\0\0\0\0\0\x01\0\x03\0\0\0\0\0\0\0\x02\0\0\0\x02\0\0\0\x07\0",
     ),
     (
         "third",

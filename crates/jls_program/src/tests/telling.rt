@@ -1,8 +1,10 @@
 //! The commands on one input: what they print, write and refuse.
 
-use super::memory::{GOOD, Manners};
-use super::{copies, run_words};
+use super::memory::{GOOD, Manners, MemoryFiles};
+use super::{copies, run_line, run_words};
+use jls_device::Counted;
 use std::alloc::Global;
+use std::fmt::Write;
 use std::process::Abort;
 use std::test::Fail;
 
@@ -201,7 +203,59 @@ fn check_written(rt: &impl Abort, alloc: Global, manners: Manners) -> Result<(),
 #[test]
 fn shows(rt: HostRuntime) -> Result<(), Fail> {
     check_shown(&rt, rt.alloc(), GOOD)?;
-    check_shown(&rt, rt.alloc(), Manners { most: 1, ..GOOD })
+    check_shown(&rt, rt.alloc(), Manners { most: 1, ..GOOD })?;
+    let parted = Manners {
+        parts_at_ff: true,
+        ..GOOD
+    };
+    check_shown(&rt, rt.alloc(), parted)
+}
+
+/// A copy of 4,100 lines of one sample, each in an interval of its own whose piece is one byte 00, which is no code.
+fn broken_copy(alloc: Global) -> Result<Vec<u8>, Fail> {
+    let mut copy = Vec::from_slice(alloc, b"\xff\xd8\xff\xf7\0\x0b\x08\x10\x04")?;
+    copy.extend_from_slice(&copies::WHOLE[9..31])?;
+    for line in 0..4099u16 {
+        copy.extend_from_slice(&[0, 0xFF, 0xD0 | (line % 8) as u8])?;
+    }
+    copy.extend_from_slice(b"\0\xff\xd9")?;
+    Ok(copy)
+}
+
+/// What `check` reports of it: a line for each of the first 4,096 pieces, and how many more there are.
+fn broken_report(alloc: Global) -> Result<String, Fail> {
+    let mut report = String::new(alloc);
+    for line in 0..4096u32 {
+        write!(report, "piece 0 {line} {} broken\n", 31 + 3 * line)?;
+    }
+    report.push_str("pieces more 4\nend eoi 12329\npicture 1x4100, 8 bits, components 1\n")?;
+    report.push_str("settled 0, missing 4100, disputed 0\nmissing 1 0-4099\n")?;
+    Ok(report)
+}
+
+#[test]
+fn counts_the_pieces_that_are_not_kept(rt: HostRuntime) -> Result<(), Fail> {
+    let alloc = rt.alloc();
+    let copy = broken_copy(alloc)?;
+    let wanted = broken_report(alloc)?;
+    let parted = Manners {
+        parts_at_ff: true,
+        ..GOOD
+    };
+    for manners in [GOOD, Manners { most: 1, ..GOOD }, parted] {
+        let files = [("many", copy.as_slice())];
+        let mut report = Vec::new(alloc);
+        let mut desk = MemoryFiles::new(alloc, &files, manners);
+        let (status, faults) = run_line(
+            alloc,
+            "check many",
+            &mut desk,
+            &mut Counted::new(&mut report),
+        )?;
+        assert_eq!(rt; status, 1);
+        assert!(rt; report.as_slice() == wanted.as_bytes() && faults.is_empty());
+    }
+    Ok(())
 }
 
 #[test]

@@ -9,7 +9,7 @@ use std::io::Write;
 use std::test::Fail;
 
 /// Words and the status: 2 with a line on the fault output, or 0 with help or the version on the report output.
-const WORDS: [(&str, u8); 17] = [
+const WORDS: [(&str, u8); 22] = [
     ("", 2),
     ("join", 2),
     ("join OUT", 2),
@@ -20,6 +20,11 @@ const WORDS: [(&str, u8); 17] = [
     ("write OUT S", 2),
     ("write --as jls --ri 65536 OUT S", 2),
     ("join --loud OUT T", 2),
+    ("join --source 4294967296 OUT T", 2),
+    ("join --source -1 OUT T", 2),
+    ("join --source seven OUT T", 2),
+    ("join --source= OUT T", 2),
+    ("check --source 7 T", 2),
     ("--help", 0),
     ("join --help", 0),
     ("show --help", 0),

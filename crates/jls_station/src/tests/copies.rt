@@ -124,7 +124,7 @@ fn text_of(alloc: Global, partial: &Partial, report: Option<&TakeReport>) -> Res
 
 /// What is read of an input.
 fn read_so(alloc: Global, slices: Slices<'_>) -> Result<String, Fail> {
-    match read_input(alloc, &mut Counted::new(slices)) {
+    match read_input(alloc, None, &mut Counted::new(slices)) {
         Ok(read) => text_of(alloc, read.partial(), read.copy()),
         Err(fault) => Ok(format!(in alloc; "{fault:?}")?),
     }
@@ -137,7 +137,7 @@ fn taken_so(alloc: Global, height: u16, slices: Slices<'_>) -> Result<String, Fa
         Err(_) => return Err(Fail::from("no shape")),
     };
     let mut station = Station::new(alloc, shape);
-    match station.take_copy(&mut Counted::new(slices)) {
+    match station.take_copy(None, &mut Counted::new(slices)) {
         Ok(report) => text_of(alloc, station.partial(), Some(&report)),
         Err(fault) => Ok(format!(in alloc; "{fault:?}")?),
     }

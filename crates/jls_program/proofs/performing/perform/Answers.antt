@@ -1,4 +1,4 @@
-use Rattle.std.proofs.Common.{◌∷◌, None, ℕ, List, map, sym, subst}
+use Rattle.std.proofs.Common.{◌∷◌, ℕ, List, map, sym, subst}
 use Rattle.std.specs.Borrow.{Bor}
 use Rattle.jls_commands.specs.Histories.{GrewBoth}
 use Rattle.jls_commands.specs.WritingFiles.{WritesFile}
@@ -17,7 +17,7 @@ returns-in-Join g c =
     let report = g.W.Device.history c.args.report.now in
     let names : List (List ℕ) = c.in-Join.first.now ∷ map (λ (f : Bor (List ℕ)). f.now) c.in-Join.others.now in
     subst (λ (a : Asked). GrewBoth (CameOf (asked_of a) c.join.result) desk desk' report report) (sym c.in-Join.is)
-    (desk_alone (Joins None c.in-Join.out.now names c.join.result) desk desk' report c.join.ensures)
+    (desk_alone (Joins c.in-Join.source c.in-Join.out.now names c.join.result) desk desk' report c.join.ensures)
 
 pub returns-in-Check : goal.returns-in-Check
 returns-in-Check g c =

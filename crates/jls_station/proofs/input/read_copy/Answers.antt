@@ -21,7 +21,7 @@ returns-in-Ok-read_of_copy-clause-given g c before h =
     let first = c.args.first.now in
     let fed : c.feed.new.self ≡ Some first = c.in-Ok.ensures.ok ∙ ap (λ (o : Option (List ℕ)). after o first) c.new-reader.ensures in
     let e = c.in-Ok-read_copy_on.ensures in
-    copy_gives first c.in-Ok-read_copy_on.stop before (g.S.Device.history c.read_copy_on.new.device) c.requires.no_text c.read_copy_on.new.reader c.in-Ok-read_of_copy.given.partial c.in-Ok-read_of_copy.given.report c.of_copy.result c.of_copy.ensures
+    copy_gives c.args.source first c.in-Ok-read_copy_on.stop before (g.S.Device.history c.read_copy_on.new.device) c.requires.no_text c.read_copy_on.new.reader c.in-Ok-read_of_copy.given.partial c.in-Ok-read_of_copy.given.report c.of_copy.result c.of_copy.ensures
     (e.begins first fed c.requires.some) (e.read before first fed h) c.in-Ok-read_of_copy.ensures.given
 
 pub returns-in-Err-read_of_copy-clause-refused : goal.returns-in-Err-read_of_copy-clause-refused
@@ -29,5 +29,5 @@ returns-in-Err-read_of_copy-clause-refused g c before h =
     let first = c.args.first.now in
     let fed : c.feed.new.self ≡ Some first = c.in-Ok.ensures.ok ∙ ap (λ (o : Option (List ℕ)). after o first) c.new-reader.ensures in
     let e = c.in-Ok-read_copy_on.ensures in
-    copy_refused first c.in-Ok-read_copy_on.stop before (g.S.Device.history c.read_copy_on.new.device) c.requires.no_text c.read_copy_on.new.reader c.in-Err-read_of_copy.fault c.fed-count.result
+    copy_refused c.args.source first c.in-Ok-read_copy_on.stop before (g.S.Device.history c.read_copy_on.new.device) c.requires.no_text c.read_copy_on.new.reader c.in-Err-read_of_copy.fault c.fed-count.result
     c.copy_fault.result (e.begins first fed c.requires.some) (e.read before first fed h) c.in-Err-read_of_copy.ensures.none c.fed-count.ensures c.copy_fault.ensures

@@ -34,7 +34,7 @@ returns-then-first-eq-FIRST_OF_TEXT-clause-given g c =
     let given = take c.in-Ok.count c.read_some.new.into in
     let room : length c.read_some.new.into ≡ 4096 = search rules in
     let some : 0 < length given = omega (arith, length-take c.in-Ok.count c.read_some.new.into, c.in-Ok.ensures.within, c.if-count-eq0.false) in
-    c.read_text.ensures.given old (subst (λ (t : List ℕ). GrewBy (ReadSoFar IsEnough 1 t) old mid) (sym c.front-first.ensures.front)
+    c.read_text.ensures.given c.args.source old (subst (λ (t : List ℕ). GrewBy (ReadSoFar IsEnough 1 t) old mid) (sym c.front-first.ensures.front)
     (one_read_more IsEnough 0 old old mid [] 4096 given (nothing_read IsEnough 0 old old old []) (rw room at c.in-Ok.ensures.read)
     (λ e. empty_goes_on c.copies_have_one_course.ensures e.1) (omega arith) some (subst AreBytes c.front-first.ensures.front c.front-first.ensures.bytes)))
 

@@ -1,10 +1,10 @@
-use Rattle.std.proofs.Common.{rules, None, ◌≡◌, ℕ, List, sym, subst, ◌∙◌, arith, length}
+use Rattle.std.proofs.Common.{rules, ◌≡◌, ℕ, List, sym, subst, arith, length}
 use Rattle.jls_partial.specs.TextReading.{Fails, read_text}
 use Rattle.jls_device.specs.Event.{History, GrewBy}
 use Rattle.jls_station.specs.Given.{Given, by_text, given_by_text}
 use Rattle.jls_station.specs.Inputs.{IsEnough, text_not_read, ReadsGive, ReadsRefuse}
 use Rattle.jls_station.specs.Reading.{IsRead, ReadSoFar}
-use Rattle.jls_station.specs.Texts.{is_text, IsTextOf}
+use Rattle.jls_station.specs.Texts.{IsTextOf}
 use Rattle.jls_station.specs.declared.input.ReadStop.{ReadStop}
 use Rattle.jls_station.specs.declared.input.ReadStop.TheVariants.{Whole}
 use Rattle.jls_station.specs.declared.input.InputFault.{InputFault}
@@ -39,15 +39,15 @@ returns-in_default-clause-refused g c before h =
     (fault.Read stop (length bytes)) (text_not_read bytes stop c.in-Ok-read_text_on.ensures.text c.in_default.not-Whole))
 
 pub returns-in-Ok-from_bytes-clause-given : goal.returns-in-Ok-from_bytes-clause-given
-returns-in-Ok-from_bytes-clause-given g c before h =
+returns-in-Ok-from_bytes-clause-given g c source before h =
     let history = g.S.Device.history in
     let bytes = c.read_text_on.new.bytes.items in
     let p = c.in-Ok-from_bytes.partial in
-    let is_text_of = by_text None bytes p (subst (λ (t : List ℕ). IsTextOf t p) c.deref.ensures.value c.in-Ok-from_bytes.ensures.found) in
-    subst (λ (x : Given). GrewBy (ReadsGive None x) before (history c.read_text_on.new.device)) (sym c.of_text.ensures)
+    let is_text_of = by_text source bytes p (subst (λ (t : List ℕ). IsTextOf t p) c.deref.ensures.value c.in-Ok-from_bytes.ensures.found) in
+    subst (λ (x : Given). GrewBy (ReadsGive source x) before (history c.read_text_on.new.device)) (sym c.of_text.ensures)
     (given_so before (history c.read_text_on.new.device) bytes c.in-Ok-read_text_on.stop
     (c.in-Ok-read_text_on.ensures.read before (as_first before (history c.args.device.now) c.args.first.now c.in-Ok.bytes.items c.in-Ok.ensures.items h))
-    (given_by_text p) (sym c.in-Whole.is) is_text_of)
+    source (given_by_text p) (sym c.in-Whole.is) is_text_of)
 
 pub returns-clause-refused : goal.returns-clause-refused
 returns-clause-refused g c before h =

@@ -1,5 +1,4 @@
 use Rattle.std.proofs.Common.{[]}
-use Rattle.jls_device.specs.Event.{GrewBy}
 use Rattle.jls_device.proofs.Growing.{grew_as}
 use Rattle.jls_station.specs.Inputs.{IsCopyDone}
 use Rattle.jls_station.specs.Reading.{IsReadInPart}
@@ -20,12 +19,12 @@ pub returns-in-Ok-read_of_copy-clause-given : goal.returns-in-Ok-read_of_copy-cl
 returns-in-Ok-read_of_copy-clause-given g c =
     let old = g.S.Device.history c.args.device.now in
     let new = g.S.Device.history c.read_copy_on.new.device in
-    whole_copy_gives c.in-Ok.stop old new c.read_copy_on.new.reader c.in-Ok-read_of_copy.given.partial c.in-Ok-read_of_copy.given.report
+    whole_copy_gives c.args.source c.in-Ok.stop old new c.read_copy_on.new.reader c.in-Ok-read_of_copy.given.partial c.in-Ok-read_of_copy.given.report
     (c.in-Ok.ensures.read old [] c.new-reader.ensures (nothing_read IsCopyDone 0 old old old [])) c.in-Ok-read_of_copy.ensures.given
 
 pub returns-in-Err-read_of_copy-clause-refused : goal.returns-in-Err-read_of_copy-clause-refused
 returns-in-Err-read_of_copy-clause-refused g c =
     let old = g.S.Device.history c.args.device.now in
     let new = g.S.Device.history c.read_copy_on.new.device in
-    whole_copy_stops c.in-Ok.stop old new c.read_copy_on.new.reader c.in-Err-read_of_copy.fault c.fed-count.result c.take_fault.result
+    whole_copy_stops c.args.source c.in-Ok.stop old new c.read_copy_on.new.reader c.in-Err-read_of_copy.fault c.fed-count.result c.take_fault.result
     (c.in-Ok.ensures.read old [] c.new-reader.ensures (nothing_read IsCopyDone 0 old old old [])) c.in-Err-read_of_copy.ensures.none c.fed-count.ensures c.take_fault.ensures

@@ -4,14 +4,14 @@ use Rattle.jls_station.proofs.taking.open_and_read.Goals as goal
 pub returns-in-Err-clause-stopped : goal.returns-in-Err-clause-stopped
 returns-in-Err-clause-stopped g c before =
     let history = g.D.Device.history in
-    not_opened_at_all (history c.args.desk.now) (history c.open_input.new.self) (history c.open_input.new.self) c.args.name.now before c.in-Err.ensures.failed
+    not_opened_at_all c.args.source (history c.args.desk.now) (history c.open_input.new.self) (history c.open_input.new.self) c.args.name.now before c.in-Err.ensures.failed
 
 pub returns-in-Ok-read_input-clause-taken : goal.returns-in-Ok-read_input-clause-taken
 returns-in-Ok-read_input-clause-taken g c =
     let history = g.D.Device.history in
-    opened_and_given (history c.args.desk.now) (history c.open_input.new.self) (history c.read_input.new.device) c.args.name.now c.in-Ok-read_input.read c.in-Ok.ensures.opened c.in-Ok-read_input.ensures.given
+    opened_and_given c.args.source (history c.args.desk.now) (history c.open_input.new.self) (history c.read_input.new.device) c.args.name.now c.in-Ok-read_input.read c.in-Ok.ensures.opened c.in-Ok-read_input.ensures.given
 
 pub returns-in-Err-read_input-clause-stopped : goal.returns-in-Err-read_input-clause-stopped
 returns-in-Err-read_input-clause-stopped g c before =
     let history = g.D.Device.history in
-    opened_and_refused (history c.args.desk.now) (history c.open_input.new.self) (history c.read_input.new.device) c.args.name.now c.in-Err-read_input.fault before c.in-Ok.ensures.opened c.in-Err-read_input.ensures.refused
+    opened_and_refused c.args.source (history c.args.desk.now) (history c.open_input.new.self) (history c.read_input.new.device) c.args.name.now c.in-Err-read_input.fault before c.in-Ok.ensures.opened c.in-Err-read_input.ensures.refused

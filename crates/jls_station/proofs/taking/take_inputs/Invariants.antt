@@ -1,4 +1,4 @@
-use Rattle.std.proofs.Common.{◌∷◌, map, take, List, ℕ, None}
+use Rattle.std.proofs.Common.{◌∷◌, map, take, List, ℕ}
 use Rattle.std.specs.Borrow.{Bor}
 use Rattle.jls_device.specs.Event.{GrewBy}
 use Rattle.jls_station.specs.Inputs.{TakesUnion}
@@ -7,4 +7,4 @@ use Rattle.jls_station.proofs.taking.take_inputs.Given as goal
 abbrev pub invariant-loop-name : goal.invariant-loop-name
 invariant-loop-name g l =
     let history = g.D.Device.history in
-    record { so_far : GrewBy (TakesUnion None (l.fn.first ∷ map (λ (f : Bor (List ℕ)). f.now) (take l.name-index l.others)) l.station l.whole) (history l.fn.desk) (history l.desk) }
+    record { so_far : GrewBy (TakesUnion l.fn.inputs.source (l.fn.inputs.first.now ∷ map (λ (f : Bor (List ℕ)). f.now) (take l.name-index l.fn.inputs.others.now)) l.station l.whole) (history l.fn.desk) (history l.desk) }

@@ -22,11 +22,12 @@ returns-then-eq-2 c =
     let name = c.in-Some.name.now in
     let found = found_of c.in-Some.given.now in
     let rows = rows_of found in
-    let out = c.get_str-then-eq-2.ensures ∙ first_value-rows found (codes "OUT") in
+    let source = c.get_str-then-eq-2.ensures ∙ first_value-rows found (codes "source") in
+    let out = c.get_str-then-eq-2-2.ensures ∙ first_value-rows found (codes "OUT") in
     let files = c.get_strs.ensures ∙ raw_values-rows found (codes "FILE") in
     let entered = entered_rows m name rows (sym c.in-Some.ensures.name) (sym c.in-Some.ensures.rows) in
     let named = asks_join name rows (sym c.eq.ensures ∙ c.if-eq.false) (sym c.eq-else-eq.ensures ∙ c.if-eq-2.true) in
-    c.asked_join.ensures ∙ ((λ i. spec.asked_join (out i) (files i)) ∙ sym (asked_entered m name rows _ entered named))
+    c.asked_join.ensures ∙ ((λ i. spec.asked_join (source i) (out i) (files i)) ∙ sym (asked_entered m name rows _ entered named))
 
 pub returns-then-eq-3 : goal.returns-then-eq-3
 returns-then-eq-3 c =
