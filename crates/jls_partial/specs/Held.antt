@@ -5,7 +5,7 @@ use Rattle.std.specs.List.{AllByRecursion}
 use Rattle.std.specs.List.Sorted.{IsStrictlySortedBy}
 use Rattle.std.specs.Map.{lookup}
 use Rattle.std.specs.Ordering.{nat_cmp}
-use Rattle.std.specs.Prelude.{◌≡◌, ℕ, true, ◌≤◌, ◌<◌, ◌^◌, None, Some, List, [], ◌∷◌, length, map, unwrap_or, if◌then◌else◌}
+use Rattle.std.specs.Prelude.{◌≡◌, ℕ, true, ◌≤◌, ◌<◌, ◌^◌, None, Some, List, [], ◌∷◌, length, map, unwrap_or, slice_get, if◌then◌else◌}
 use Rattle.jls_values.specs.OrderedSet as set
 use Rattle.jls_values.specs.Shape.{PictureShape}
 use Rattle.jls_partial.specs.declared.place.Place.{Place}
@@ -58,6 +58,10 @@ pub record PutsLine (old : PictureLines) (samples sources : List ℕ) (new : Pic
   pub new_is : new ≡ with_lines old ((samples, sources) ∷ [])
   pub countable : length (set.items new.lines) < 2 ^ 64
   pub marks_held : AreLineMarksHeld new
+
+-- the line that has i others below it got a source
+pub record MarksLine (old : PictureLines) (i source : ℕ) (new : PictureLines) : Type 0 where
+  pub puts : (samples : List ℕ) → slice_get (set.items old.lines) i ≡ Some samples → PutsLine old samples (source ∷ []) new
 
 -- the lines at a place, or where there are none these
 abbrev pub lines_or : PictureLines → List LineEntry → Place → PictureLines

@@ -5,7 +5,7 @@ ghost use Rattle.jls_partial.specs.LineSet.{no_lines, line_sources, AreLineMarks
 ghost use Rattle.jls_partial.specs.LineSet.{has_same_line_shape};
 ghost use Rattle.jls_values.specs.Join.{IsBetween};
 ghost use Rattle.jls_values.specs.OrderedSet as set;
-ghost use Rattle.std.specs.Prelude.{◌≡◌, ◌<◌, ◌≤◌, ◌∷◌, [], length, true, not, IfOk, IfSome, OnOk, OnErr, IsOk, None, Some, slice_get};
+ghost use Rattle.std.specs.Prelude.{◌≡◌, ℕ, List, ◌<◌, ◌≤◌, ◌∷◌, [], length, true, not, IfOk, IfSome, OnOk, OnErr, IsOk, None, Some, slice_get};
 
 use crate::insert_fault::{InsertFault, find_samples_fault};
 use crate::packed::{Slot, find, put, samples_at};
@@ -129,6 +129,17 @@ impl LineSet {
                 put(&mut self.index, &mut self.samples, at, samples, own)?;
             }
         }
+        Ok(())
+    }
+
+    /// Adds a source number to the line that has `i` others below it.
+    pub(crate) fn mark_at(&mut self, i: usize, source: u32) -> Result<(), AllocError>
+        requires { i < length (set.items self.old.lines) }
+        ensures ok { OnOk result ((samples : List ℕ) → slice_get (set.items self.old.lines) i ≡ Some samples
+            → self.new ≡ with_lines self.old ((samples, source ∷ []) ∷ [])) }
+        ensures err { OnErr result (self.new ≡ self.old) }
+    {
+        self.index[i].sources.add(source)?;
         Ok(())
     }
 

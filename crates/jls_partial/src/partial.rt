@@ -1,7 +1,7 @@
 //! A partial picture over its store. What stands here is all that knows how readings are kept.
 
 ghost use Rattle.jls_partial.specs.Entries.{at_place, partial_of};
-ghost use Rattle.jls_partial.specs.Held.{FitsIn, IsLineEntry, PutsAt, PutsLine, lines_or, kept_entry};
+ghost use Rattle.jls_partial.specs.Held.{FitsIn, IsLineEntry, MarksLine, PutsAt, PutsLine, lines_or, kept_entry};
 ghost use Rattle.jls_partial.specs.InsertFaults.{reading_fault, Refuses};
 ghost use Rattle.jls_partial.specs.LineSet.{no_lines};
 ghost use Rattle.jls_partial.specs.Partial.{nothing_known, holds, with_reading, with_all, with_marks, readings_at, sources_at, IsFitting};
@@ -83,6 +83,39 @@ fn put(
             take_line(&mut lines, samples, sources)?;
             store.insert(at, lines)?;
         }
+    }
+    Ok(())
+}
+
+/// Adds a source to the line that has `i` others below it.
+fn mark_line(lines: &mut LineSet, i: usize, source: u32) -> Result<(), AllocError>
+    requires { i < length (set.items lines.old.lines) }
+    ensures ok { OnOk result (MarksLine lines.old i source lines.new) }
+    ensures err { OnErr result (lines.new ≡ lines.old) }
+{
+    lines.mark_at(i, source)?;
+    // The length of a set of lines is a `usize`, and so it is countable.
+    prove!(lines.len() <= usize::MAX);
+    Ok(())
+}
+
+/// Adds a source to a reading that is kept at a place.
+fn mark_kept(
+    store: &mut BTreeMap<Place, LineSet>,
+    at: Place,
+    i: usize,
+    source: u32,
+) -> Result<(), AllocError>
+    requires { i < length (set.items (lines_or (no_lines 0 0) store.old.entries at).lines) }
+    ensures ok { OnOk result (PutsAt store.old.entries at (lines_or (no_lines 0 0) store.new.entries at) store.new.entries) }
+    ensures lines { OnOk result (MarksLine (lines_or (no_lines 0 0) store.old.entries at) i source
+        (lines_or (no_lines 0 0) store.new.entries at)) }
+    ensures err { OnErr result (store.new.entries ≡ store.old.entries) }
+    ensures ordered { IsOrdered place_cmp store.new }
+{
+    match store.get_mut(&at) {
+        Some(lines) => mark_line(lines, i, source)?,
+        None => unreachable!(),
     }
     Ok(())
 }
@@ -187,7 +220,7 @@ impl Partial {
         Ok(())
     }
 
-    /// Adds a source to the reading of a line that has `i` others below it. In passing it takes memory for that reading.
+    /// Adds a source to the reading of a line that has `i` others below it.
     pub(crate) fn mark_reading(
         &mut self,
         at: Place,
@@ -201,8 +234,7 @@ impl Partial {
             (λ samples. self.new ≡ with_marks self.old source (at_place at samples ∷ []))) }
         ensures err { OnErr result (self.new ≡ self.old) }
     {
-        let samples = Vec::from_slice(self.alloc, self.reading(at.component, at.line, i))?;
-        self.take(at, &samples, &[source])?;
+        mark_kept(&mut self.store, at, i, source)?;
         Ok(())
     }
 
