@@ -17,7 +17,7 @@ use Rattle.jls_picture.specs.Options.{WriteOptions}
 use Rattle.jls_file.specs.WrittenFile.{row_lines, scan_of}
 use Rattle.jls_file_law.specs.Covering.{row_readings, interval_readings, scan_readings, written_readings, count_at, IsLineOf, AreThePicture, ContainsThePicture, IntervalsAreRows, IntervalsCover}
 
-abbrev rows_from : WholePicture → List ℕ → ℕ → ℕ → List (List ℕ)
+abbrev pub rows_from : WholePicture → List ℕ → ℕ → ℕ → List (List ℕ)
 rows_from pic components row n = flat_map (row_lines pic components) (range_with_len row n)
 
 -- the components of each scan
@@ -56,7 +56,7 @@ module _ (pic : WholePicture) where
       (subst (λ i. placed all row i (map (λ x. line_of pic x row) (d ∷ cs) ++ rest) ≡ row_readings pic (d ∷ cs) row ++ placed all (row + 1) 0 rest) l (placed_row all (pre ++ c ∷ []) d cs row rest f)))
 
   -- rows of a scan with one component at least
-  placed_rows : (c : ℕ) (cs : List ℕ) (row n : ℕ) → placed (c ∷ cs) row 0 (rows_from pic (c ∷ cs) row n) ≡ flat_map (row_readings pic (c ∷ cs)) (range_with_len row n)
+  pub placed_rows : (c : ℕ) (cs : List ℕ) (row n : ℕ) → placed (c ∷ cs) row 0 (rows_from pic (c ∷ cs) row n) ≡ flat_map (row_readings pic (c ∷ cs)) (range_with_len row n)
   placed_rows c cs row zero = refl
   placed_rows c cs row (suc n) =
       placed_row (c ∷ cs) [] c cs row (rows_from pic (c ∷ cs) (row + 1) n) refl

@@ -1,53 +1,20 @@
 -- The readings of an interval that reads as the picture's lines are lines of the picture, and each line of the interval is among them.
-use Rattle.std.proofs.Common.{◌≡◌, ◌≢◌, ℕ, zero, suc, ◌+◌, ◌<◌, ◌≤◌, true, false, List, [], ◌∷◌, ◌++◌, map, length, take, refl, sym, ap, ◌∙◌, subst, arith, append_assoc, length-append, inl, inr}
+use Rattle.std.proofs.Common.{◌≡◌, ℕ, zero, suc, ◌+◌, ◌<◌, ◌≤◌, List, [], ◌∷◌, length, take, refl, sym, subst, arith, inl, inr}
 use Rattle.std.specs.Prelude.{◌==◌, get_or, if◌then◌else◌}
 use Rattle.std.specs.List.{flat_map, AllByRecursion, Contains, range_with_len}
 use Rattle.std.proofs.lemmas.Bool.{cases_eq}
-use Rattle.std.proofs.lemmas.Bool.Decides.{nat_tests}
-use Rattle.std.proofs.Math.Seq.{get_or-append_seam}
 use Rattle.jls_partial.specs.Reading.{Reading, reading_of}
 use Rattle.jls_marker.specs.Scan.{Scan, IsScan, IsScanOf, first_row, row_count, intervals, HasRow}
 use Rattle.jls_marker.proofs.Intervals.{part_the_lines}
 use Rattle.jls_copy.specs.Pieces.{placed}
 use Rattle.jls_picture.specs.Picture.{WholePicture, line_of}
-use Rattle.jls_file.specs.WrittenFile.{row_lines, interval_lines}
-use Rattle.jls_file_law.specs.Covering.{IsLineOf}
+use Rattle.jls_file.specs.WrittenFile.{interval_lines}
+use Rattle.jls_file_law.specs.Covering.{row_readings, IsLineOf}
+use Rattle.jls_file_law.proofs.Covering.{rows_from, placed_rows}
 use Rattle.jls_headline.specs.PictureLines.{placed_in_interval, picture_reading}
 use Rattle.jls_headline.proofs.Members.{none_in, in_rest, first_or_rest, all_at, all_append, in_map, in_flat_map}
 
--- so many rows of these components, from this row on
-abbrev rows_from : WholePicture → List ℕ → ℕ → ℕ → List (List ℕ)
-rows_from pic components row count = flat_map (row_lines pic components) (range_with_len row count)
-
-abbrev row_readings : WholePicture → List ℕ → ℕ → List Reading
-row_readings pic components row = map (λ c. picture_reading pic c row) components
-
 module _ (pic : WholePicture) where
-  -- one row, from the component behind these on
-  placed_row : (all before : List ℕ) (c : ℕ) (cs : List ℕ) (row : ℕ) (rest : List (List ℕ)) → all ≡ before ++ (c ∷ cs)
-      → placed all row (length before) (map (λ x. line_of pic x row) (c ∷ cs) ++ rest) ≡ row_readings pic (c ∷ cs) row ++ placed all (row + 1) 0 rest
-  placed_row all before c [] row rest e =
-      let at : get_or all (length before) 0 ≡ c = ap (λ xs. get_or xs (length before) 0) e ∙ get_or-append_seam before c [] 0 in
-      let n : length before + 1 ≡ length all = sym (ap length e ∙ length-append before (c ∷ [])) in
-      let t : (length before + 1 == length all) ≡ true = grind (arith, nat_tests, n) in
-      rw (at, t) refl
-  placed_row all before c (d ∷ cs) row rest e =
-      let at : get_or all (length before) 0 ≡ c = ap (λ xs. get_or xs (length before) 0) e ∙ get_or-append_seam before c (d ∷ cs) 0 in
-      let n : length before + suc (suc (length cs)) ≡ length all = sym (ap length e ∙ length-append before (c ∷ d ∷ cs)) in
-      let ne : length before + 1 ≢ length all = (λ z. omega (arith, n, z)) in
-      let t : (length before + 1 == length all) ≡ false = grind (arith, nat_tests, ne) in
-      let l : length (before ++ c ∷ []) ≡ length before + 1 = length-append before (c ∷ []) in
-      let f : all ≡ (before ++ c ∷ []) ++ (d ∷ cs) = e ∙ sym (append_assoc before (c ∷ []) (d ∷ cs)) in
-      rw (at, t) (ap (λ z. reading_of c row (line_of pic c row) ∷ z)
-      (subst (λ i. placed all row i (map (λ x. line_of pic x row) (d ∷ cs) ++ rest) ≡ row_readings pic (d ∷ cs) row ++ placed all (row + 1) 0 rest) l (placed_row all (before ++ c ∷ []) d cs row rest f)))
-
-  -- rows of one component at least
-  placed_rows : (c : ℕ) (cs : List ℕ) (row n : ℕ)
-      → placed (c ∷ cs) row 0 (rows_from pic (c ∷ cs) row n) ≡ flat_map (row_readings pic (c ∷ cs)) (range_with_len row n)
-  placed_rows c cs row zero = refl
-  placed_rows c cs row (suc n) =
-      placed_row (c ∷ cs) [] c cs row (rows_from pic (c ∷ cs) (row + 1) n) refl ∙ ap (λ t. row_readings pic (c ∷ cs) row ++ t) (placed_rows c cs (row + 1) n)
-
   -- each line of the rows is among their readings
   in_range : (row n line : ℕ) → row ≤ line → line < row + n → Contains (range_with_len row n) line
   in_range row zero line low high = absurd (omega arith)
@@ -61,7 +28,7 @@ module _ (pic : WholePicture) where
       → Contains (placed components row 0 (rows_from pic components row n)) (picture_reading pic component line)
   line_among [] component row n line c low high = absurd (none_in component c)
   line_among (d ∷ ds) component row n line c low high =
-      subst (λ rs. Contains rs (picture_reading pic component line)) (sym (placed_rows d ds row n))
+      subst (λ rs. Contains rs (picture_reading pic component line)) (sym (placed_rows pic d ds row n))
       (in_flat_map (row_readings pic (d ∷ ds)) (range_with_len row n) line (picture_reading pic component line) (in_range row n line low high) (in_map (λ x. picture_reading pic x line) (d ∷ ds) component c))
 
   -- and each reading is a line of them
@@ -84,7 +51,7 @@ module _ (pic : WholePicture) where
   placed_are : (P : ℕ → Type 0) (components : List ℕ) (row n : ℕ) → 1 ≤ length components → AllByRecursion P components
       → AllByRecursion (IsIn P row n) (placed components row 0 (rows_from pic components row n))
   placed_are P [] row n some h = absurd (omega arith)
-  placed_are P (c ∷ cs) row n some h = subst (AllByRecursion (IsIn P row n)) (sym (placed_rows c cs row n)) (rows_are P (c ∷ cs) row n row n (omega arith) (omega arith) h)
+  placed_are P (c ∷ cs) row n some h = subst (AllByRecursion (IsIn P row n)) (sym (placed_rows pic c cs row n)) (rows_are P (c ∷ cs) row n row n (omega arith) (omega arith) h)
 
 -- a reading of first lines is one of all
 pub first_among : (components : List ℕ) (n : ℕ) (lines : List (List ℕ)) (row place : ℕ) (r : Reading)
