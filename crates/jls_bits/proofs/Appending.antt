@@ -14,7 +14,8 @@ abbrev AreBytes : List ℕ → Type 0
 AreBytes xs = AllByRecursion (λ x. x < 256) xs
 
 -- whole bytes begin with one that doesn't end the data
-pub whole_parts : (before x : ℕ) (xs : List ℕ) → is_whole_after before (x ∷ xs) ≡ true → (ends_data before x ≡ false) × (is_whole_after x xs ≡ true)
+pub whole_parts : (before x : ℕ) (xs : List ℕ) → is_whole_after before (x ∷ xs) ≡ true
+    → (ends_data before x ≡ false) × (is_whole_after x xs ≡ true)
 unfolding is_whole_after
 whole_parts before x xs h = let p = and_parts (not (ends_data before x)) (is_whole_after x xs) h in (not-true (ends_data before x) p.0, p.1)
 
@@ -40,11 +41,13 @@ data_append before (x ∷ xs) ys h =
     let p = whole_parts before x xs h in
     data_more before x (xs ++ ys) p.0 ∙ ap (λ z. bits (width_after before) x ++ z) (data_append x xs ys p.1) ∙ sym (append_assoc (bits (width_after before) x) (bits_read_after x xs) (bits_read_after (last_after x xs) ys)) ∙ ap (λ z. z ++ bits_read_after (last_after x xs) ys) (sym (data_more before x xs p.0))
 
-pub whole_append : (before : ℕ) (xs ys : List ℕ) → is_whole_after before xs ≡ true → is_whole_after (last_after before xs) ys ≡ true → is_whole_after before (xs ++ ys) ≡ true
+pub whole_append : (before : ℕ) (xs ys : List ℕ) → is_whole_after before xs ≡ true → is_whole_after (last_after before xs) ys ≡ true
+    → is_whole_after before (xs ++ ys) ≡ true
 whole_append before [] ys h j = j
 whole_append before (x ∷ xs) ys h j = let p = whole_parts before x xs h in whole_more before x (xs ++ ys) p.0 ∙ whole_append x xs ys p.1 j
 
-pub whole_front : (before : ℕ) (xs ys : List ℕ) → is_whole_after before (xs ++ ys) ≡ true → (is_whole_after before xs ≡ true) × (is_whole_after (last_after before xs) ys ≡ true)
+pub whole_front : (before : ℕ) (xs ys : List ℕ) → is_whole_after before (xs ++ ys) ≡ true
+    → (is_whole_after before xs ≡ true) × (is_whole_after (last_after before xs) ys ≡ true)
 whole_front before [] ys h = (whole_end before, h)
 whole_front before (x ∷ xs) ys h = let p = whole_parts before x (xs ++ ys) h in let r = whole_front x xs ys p.1 in (whole_more before x xs p.0 ∙ r.0, r.1)
 
@@ -74,7 +77,8 @@ many_bits before (x ∷ xs) h =
     let p = whole_parts before x xs h in let r = many_bits x xs p.1 in let l = length_more before x xs p.0 in let w = width_bounds before in omega (arith, r, l, w)
 
 -- the bytes for one stream of bits: of two lists the shorter one begins the other
-pub same_stream : (before : ℕ) (xs ys : List ℕ) (s t : List Bool) → AreBytes xs → AreBytes ys → is_whole_after before xs ≡ true → is_whole_after before ys ≡ true
+pub same_stream : (before : ℕ) (xs ys : List ℕ) (s t : List Bool) → AreBytes xs → AreBytes ys → is_whole_after before xs ≡ true
+    → is_whole_after before ys ≡ true
     → bits_read_after before xs ++ s ≡ bits_read_after before ys ++ t → length xs ≤ length ys → (rest : List ℕ) × (ys ≡ xs ++ rest)
 same_stream before [] ys s t a b h j e l = (ys, refl)
 same_stream before (x ∷ xs) [] s t a b h j e l = absurd (omega arith)

@@ -67,7 +67,8 @@ module _ (k g q : ℕ) (room : q + 2 ≤ g) where
   zeros_open z l h = elim (cases_lt z esc) [ inl s ↦ zeros_begin z s | inr s ↦ (let e : z ≡ esc = omega arith in escape_begins z e (h e)) ]
 
   -- the first bits of a number's bits
-  front_bits : (n c x v : ℕ) → c < n → (x / 2 ^ (n - c)) % 2 ^ c ≡ v % 2 ^ c → (b : Bool) × (more : List Bool) × (bits n x ≡ bits c v ++ b ∷ more)
+  front_bits : (n c x v : ℕ) → c < n → (x / 2 ^ (n - c)) % 2 ^ c ≡ v % 2 ^ c
+      → (b : Bool) × (more : List Bool) × (bits n x ≡ bits c v ++ b ∷ more)
   front_bits n c x v l e =
       let d = n - c in let s : n ≡ c + d = omega arith in
       (eqb (x / 2 ^ (d - 1) % 2) 1, bits (d - 1) x, ap (λ z. bits z x) s ∙ bits_split c d x ∙ ap (λ z. z ++ bits d x) (bits_cong c (x / 2 ^ d) v e) ∙ ap (λ z. bits c v ++ z) (bits_more d x (omega arith)))
@@ -86,7 +87,8 @@ module _ (k g q : ℕ) (room : q + 2 ≤ g) where
       let r = front_bits k c m v s (ap (λ x. x % 2 ^ c) f ∙ mod_low z c v b ∙ sym (mod-eq_of_lt b)) in
       record { number = m; next = r.0; more = r.1; has = rw short refl; code = code_of_short m short ∙ ap (λ x. replicate x false ++ true ∷ bits k m) h ∙ joined (replicate z false) (bits k m) (r.0 ∷ r.1) (bits c v) r.2 }
 
-  escape_open : (c v : ℕ) → c < q → v < 2 ^ c → esc * 2 ^ k ≤ (v + 1) * 2 ^ (q - c) → BeginsCode k g q (replicate esc false ++ true ∷ bits c v)
+  escape_open : (c v : ℕ) → c < q → v < 2 ^ c → esc * 2 ^ k ≤ (v + 1) * 2 ^ (q - c)
+      → BeginsCode k g q (replicate esc false ++ true ∷ bits c v)
   escape_open c v s b l =
       let d = q - c in let m = (v + 1) * 2 ^ d in let pd = pow_pos d in
       let e : m - 1 ≡ v * 2 ^ d + (2 ^ d - 1) = omega arith in
@@ -108,7 +110,8 @@ module _ (k g q : ℕ) (room : q + 2 ≤ g) where
   told s given h e = (h, e, subst (BeginsCode k g q) e (begins s h))
 
   -- no code stands at the front of bits that begin one
-  pub none_whole : (given : List Bool) → BeginsCode k g q given → (m : ℕ) (rest : List Bool) → has_golomb k g q m ≡ true → given ≡ golomb k g q m ++ rest → ⊥
+  pub none_whole : (given : List Bool) → BeginsCode k g q given → (m : ℕ) (rest : List Bool) → has_golomb k g q m ≡ true
+      → given ≡ golomb k g q m ++ rest → ⊥
   none_whole given b m rest h e =
       let r = golomb_same k g q b.number m [] (rest ++ b.next ∷ b.more) b.has h (append-nil (golomb k g q b.number) ∙ b.code ∙ ap (λ x. x ++ b.next ∷ b.more) e ∙ append_assoc (golomb k g q m) rest (b.next ∷ b.more)) in
       nothing rest b.next b.more (sym r.1)
@@ -117,17 +120,20 @@ module _ (k g q : ℕ) (room : q + 2 ≤ g) where
       nothing [] y ys h = cc
       nothing (x ∷ xs) y ys h = cc
 
-  one_more_zero : (z : ℕ) (bit : Bool) (more : List Bool) → bit ≡ false → (replicate z false ++ bit ∷ []) ++ more ≡ replicate (z + 1) false ++ more
+  one_more_zero : (z : ℕ) (bit : Bool) (more : List Bool) → bit ≡ false
+      → (replicate z false ++ bit ∷ []) ++ more ≡ replicate (z + 1) false ++ more
   one_more_zero z bit more e = append_assoc (replicate z false) (bit ∷ []) more ∙ ap (λ x. replicate z false ++ x ∷ more) e ∙ zeros_push z more
 
   -- a zero behind zeros
-  pub zero_more : (z : ℕ) (bit : Bool) → bit ≡ false → z + 1 ≤ esc → (z + 1 ≡ esc → esc * 2 ^ k ≤ 2 ^ q) → StepIs k g q (replicate z false ++ bit ∷ []) (More (Zeros (z + 1)))
+  pub zero_more : (z : ℕ) (bit : Bool) → bit ≡ false → z + 1 ≤ esc → (z + 1 ≡ esc → esc * 2 ^ k ≤ 2 ^ q)
+      → StepIs k g q (replicate z false ++ bit ∷ []) (More (Zeros (z + 1)))
   zero_more z bit e l h = told (Zeros (z + 1)) (replicate z false ++ bit ∷ []) (l, h) (sym (sym (append-nil (replicate z false ++ bit ∷ [])) ∙ one_more_zero z bit [] e ∙ append-nil (replicate (z + 1) false)))
 
   pub zero_too_many : (z : ℕ) (bit : Bool) → bit ≡ false → z ≡ esc → RefusesCode k g q (replicate z false ++ bit ∷ [])
   zero_too_many z bit e h m more rest has c = many_zeros k g q (z + 1) more m rest (omega arith) (sym (one_more_zero z bit more e) ∙ c)
 
-  pub zero_without_escape : (z : ℕ) (bit : Bool) → bit ≡ false → z + 1 ≡ esc → 2 ^ q < esc * 2 ^ k → RefusesCode k g q (replicate z false ++ bit ∷ [])
+  pub zero_without_escape : (z : ℕ) (bit : Bool) → bit ≡ false → z + 1 ≡ esc → 2 ^ q < esc * 2 ^ k
+      → RefusesCode k g q (replicate z false ++ bit ∷ [])
   zero_without_escape z bit e h l m more rest has c =
       let s : replicate esc false ++ more ≡ golomb k g q m ++ rest = ap (λ x. replicate x false ++ more) (sym h) ∙ sym (one_more_zero z bit more e) ∙ c in
       let long = escape_behind_zeros k g q more m rest s in let r = escape_range k g q m has long in
@@ -138,12 +144,14 @@ module _ (k g q : ℕ) (room : q + 2 ≤ g) where
   one_bits z bit e = ap (λ x. replicate z false ++ true ∷ x) (bits_none 0) ∙ ap (λ x. replicate z false ++ x ∷ []) (sym e)
 
   -- a one behind zeros
-  pub one_of_escape : (z : ℕ) (bit : Bool) → bit ≡ true → 0 < q → z ≡ esc → esc * 2 ^ k ≤ 2 ^ q → StepIs k g q (replicate z false ++ bit ∷ []) (More (Escape 0 0))
+  pub one_of_escape : (z : ℕ) (bit : Bool) → bit ≡ true → 0 < q → z ≡ esc → esc * 2 ^ k ≤ 2 ^ q
+      → StepIs k g q (replicate z false ++ bit ∷ []) (More (Escape 0 0))
   one_of_escape z bit e l h j =
       let p : q - 0 ≡ q = omega arith in let s : esc * 2 ^ k ≤ 1 * 2 ^ (q - 0) = rw p (omega arith) in
       told (Escape 0 0) (replicate z false ++ bit ∷ []) (l, omega arith, s) (ap (λ x. replicate x false ++ true ∷ bits 0 0) (sym h) ∙ one_bits z bit e)
 
-  pub one_of_short : (z : ℕ) (bit : Bool) → bit ≡ true → z < esc → 0 < k → StepIs k g q (replicate z false ++ bit ∷ []) (More (Remainder z 0 0))
+  pub one_of_short : (z : ℕ) (bit : Bool) → bit ≡ true → z < esc → 0 < k
+      → StepIs k g q (replicate z false ++ bit ∷ []) (More (Remainder z 0 0))
   one_of_short z bit e l h = told (Remainder z 0 0) (replicate z false ++ bit ∷ []) (l, h, omega arith) (one_bits z bit e)
 
   pub one_alone : (z : ℕ) (bit : Bool) → bit ≡ true → z < esc → k ≡ 0 → StepIs k g q (replicate z false ++ bit ∷ []) (Done z)
@@ -153,7 +161,8 @@ module _ (k g q : ℕ) (room : q + 2 ≤ g) where
       let r = short_code k g q z 0 (replicate z false ++ bit ∷ []) l (pow_pos k) a in
       subst (λ m. (has_golomb k g q m ≡ true) × (golomb k g q m ≡ replicate z false ++ bit ∷ [])) n r
 
-  more_bits : (s : List Bool) (bit : Bool) (c v : ℕ) → v < 2 ^ c → s ++ true ∷ bits (c + 1) (2 * v + bool_byte bit) ≡ (s ++ true ∷ bits c v) ++ bit ∷ []
+  more_bits : (s : List Bool) (bit : Bool) (c v : ℕ) → v < 2 ^ c
+      → s ++ true ∷ bits (c + 1) (2 * v + bool_byte bit) ≡ (s ++ true ∷ bits c v) ++ bit ∷ []
   more_bits s bit c v b = joined s (bits (c + 1) (2 * v + bool_byte bit)) (bit ∷ []) (bits c v) (bits_push_bool bit c v b).0
 
   -- a bit of the remainder
@@ -203,7 +212,8 @@ module _ (k g q : ℕ) (room : q + 2 ≤ g) where
       let z : m / 2 ^ k < esc = div_below m (2 ^ k) esc (pow_pos k) (omega arith) in omega arith
 
 -- a bit goes from what is left to what was told
-pub told_on : (given told left after : List Bool) (bit : Bool) → given ≡ told ++ left → left ≡ bit ∷ after → (told ++ bit ∷ []) ++ after ≡ given
+pub told_on : (given told left after : List Bool) (bit : Bool) → given ≡ told ++ left → left ≡ bit ∷ after
+    → (told ++ bit ∷ []) ++ after ≡ given
 told_on given told left after bit e f = append_assoc told (bit ∷ []) after ∙ ap (λ z. told ++ z) (sym f) ∙ sym e
 
 -- nothing is left

@@ -39,11 +39,13 @@ module _ (k g q : ℕ) where
   abbrev pub esc : ℕ
   esc = g - q - 1
 
-  pub golomb_short : (m : ℕ) (s : List Bool) → is_short k g q m ≡ true → golomb k g q m ++ s ≡ replicate (m / 2 ^ k) false ++ true ∷ (bits k m ++ s)
+  pub golomb_short : (m : ℕ) (s : List Bool) → is_short k g q m ≡ true
+      → golomb k g q m ++ s ≡ replicate (m / 2 ^ k) false ++ true ∷ (bits k m ++ s)
   unfolding golomb
   golomb_short m s h = rw (h, append_assoc) refl
 
-  pub golomb_long : (m : ℕ) (s : List Bool) → is_short k g q m ≡ false → golomb k g q m ++ s ≡ replicate esc false ++ true ∷ (bits q (m - 1) ++ s)
+  pub golomb_long : (m : ℕ) (s : List Bool) → is_short k g q m ≡ false
+      → golomb k g q m ++ s ≡ replicate esc false ++ true ∷ (bits q (m - 1) ++ s)
   unfolding golomb
   golomb_long m s h = rw (h, append_assoc) refl
 
@@ -65,7 +67,8 @@ module _ (k g q : ℕ) where
       elim (cases_Bool (is_short k g q m)) [ inl h ↦ (let s = ltb-true (m / 2 ^ k) esc h in zeros_differ n (m / 2 ^ k) more (bits k m ++ rest) (omega arith) (e ∙ golomb_short m rest h)) | inr h ↦ zeros_differ n esc more (bits q (m - 1) ++ rest) l (e ∙ golomb_long m rest h) ]
 
   -- behind an escape's zeros stands an escape
-  pub escape_behind_zeros : (more : List Bool) (m : ℕ) (rest : List Bool) → replicate esc false ++ more ≡ golomb k g q m ++ rest → is_short k g q m ≡ false
+  pub escape_behind_zeros : (more : List Bool) (m : ℕ) (rest : List Bool) → replicate esc false ++ more ≡ golomb k g q m ++ rest
+      → is_short k g q m ≡ false
   escape_behind_zeros more m rest e =
       elim (cases_Bool (is_short k g q m)) [ inl h ↦ (let s = ltb-true (m / 2 ^ k) esc h in absurd (zeros_differ esc (m / 2 ^ k) more (bits k m ++ rest) s (e ∙ golomb_short m rest h))) | inr h ↦ h ]
 
@@ -100,7 +103,8 @@ module _ (k g q : ℕ) where
       let low = mod_below m (2 ^ k) (pow_pos k) in
       ap (λ z. replicate (m / 2 ^ k) false ++ z) (leading_one k (m % 2 ^ k) m low (mod-eq_of_lt low) ∙ sym (ap (λ z. true ∷ z) (append-nil (bits k m)))) ∙ sym (golomb_short k g q m [] (lt-ltb (m / 2 ^ k) (g - q - 1) l)) ∙ append-nil (golomb k g q m)
 
-  pub parts_of_escape : (m : ℕ) → g - q - 1 ≤ m / 2 ^ k → m - 1 < 2 ^ q → replicate (g - q - 1) false ++ bits (q + 1) (2 ^ q + (m - 1)) ≡ golomb k g q m
+  pub parts_of_escape : (m : ℕ) → g - q - 1 ≤ m / 2 ^ k → m - 1 < 2 ^ q
+      → replicate (g - q - 1) false ++ bits (q + 1) (2 ^ q + (m - 1)) ≡ golomb k g q m
   parts_of_escape m l b =
       ap (λ z. replicate (g - q - 1) false ++ z) (leading_one q (m - 1) (m - 1) b refl ∙ sym (ap (λ z. true ∷ z) (append-nil (bits q (m - 1))))) ∙ sym (golomb_long k g q m [] (le-ltb (m / 2 ^ k) (g - q - 1) l)) ∙ append-nil (golomb k g q m)
 

@@ -88,7 +88,8 @@ module _ (k g q : ℕ) (room : q + 2 ≤ g) where
         let s : is_short k g q m ≡ false = le-ltb (m / 2 ^ k) esc l in
         record { rest = bits (q - c) (m - 1); code = code_of_long k g q room m s ∙ joined k g q room (replicate esc false) (bits q (m - 1)) (bits (q - c) (m - 1)) (bits c v) (front_known q c (m - 1) v (omega arith) (ap (λ x. x % 2 ^ c) e)) }
 
-    pub escape_counted : m ≤ 2 ^ q → BeginsCodeOf k g q (replicate esc false ++ true ∷ bits c v) m → (esc ≤ m / 2 ^ k) × ((m - 1) / 2 ^ (q - c) ≡ v)
+    pub escape_counted : m ≤ 2 ^ q → BeginsCodeOf k g q (replicate esc false ++ true ∷ bits c v) m
+        → (esc ≤ m / 2 ^ k) × ((m - 1) / 2 ^ (q - c) ≡ v)
     escape_counted few b =
         elim (cases_Bool (is_short k g q m)) [
           | inl s ↦ (

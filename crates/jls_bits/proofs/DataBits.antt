@@ -13,7 +13,8 @@ pub data_end : (before : ℕ) → bits_read_after before [] ≡ []
 unfolding bits_read_after
 data_end before = refl
 
-pub data_more : (before x : ℕ) (xs : List ℕ) → ends_data before x ≡ false → bits_read_after before (x ∷ xs) ≡ bits (width_after before) x ++ bits_read_after x xs
+pub data_more : (before x : ℕ) (xs : List ℕ) → ends_data before x ≡ false
+    → bits_read_after before (x ∷ xs) ≡ bits (width_after before) x ++ bits_read_after x xs
 unfolding bits_read_after
 data_more before x xs h = rw h refl
 
@@ -34,7 +35,8 @@ unfolding is_whole_after
 whole_stop before x xs h = rw h refl
 
 -- how many data bits a byte adds
-pub length_more : (before x : ℕ) (xs : List ℕ) → ends_data before x ≡ false → length (bits_read_after before (x ∷ xs)) ≡ width_after before + length (bits_read_after x xs)
+pub length_more : (before x : ℕ) (xs : List ℕ) → ends_data before x ≡ false
+    → length (bits_read_after before (x ∷ xs)) ≡ width_after before + length (bits_read_after x xs)
 length_more before x xs h =
     let a = ap length (data_more before x xs h) in let b = length-append (bits (width_after before) x) (bits_read_after x xs) in
     let c = length-bits (width_after before) x in omega (arith, a, b, c)
@@ -57,7 +59,8 @@ module _ (before : ℕ) (xs : List ℕ) (i : ℕ) where
   pub whole_at_stop : i < length xs → ends_data before (get_or xs i 0) ≡ true → is_whole_after before (drop i xs) ≡ false
   whole_at_stop h e = ap (is_whole_after before) (drop_more xs i 0 h) ∙ whole_stop before (get_or xs i 0) (drop (i + 1) xs) e
 
-  pub whole_at_more : i < length xs → ends_data before (get_or xs i 0) ≡ false → is_whole_after before (drop i xs) ≡ is_whole_after (get_or xs i 0) (drop (i + 1) xs)
+  pub whole_at_more : i < length xs → ends_data before (get_or xs i 0) ≡ false
+      → is_whole_after before (drop i xs) ≡ is_whole_after (get_or xs i 0) (drop (i + 1) xs)
   whole_at_more h e = ap (is_whole_after before) (drop_more xs i 0 h) ∙ whole_more before (get_or xs i 0) (drop (i + 1) xs) e
 
 pub ruleset data_laws = (bits_none, first_bit, length-bits, width_bounds, data_end, data_more, data_stop, whole_end, whole_more, whole_stop, length_more)

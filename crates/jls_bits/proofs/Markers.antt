@@ -43,7 +43,8 @@ behind_zero bytes h (f ∷ front) back x e = h front back x (cc)
 pub whole_below : (bytes : List ℕ) → BelowMarkers bytes → is_whole bytes ≡ true
 whole_below bytes h = whole_from 0 bytes (behind_zero bytes h)
 
-pub read_before : (front back : List ℕ) (x : ℕ) → is_whole (front ++ 255 ∷ []) ≡ true → 128 ≤ x → bits_read (front ++ 255 ∷ (x ∷ back)) ≡ bits_read (front ++ 255 ∷ [])
+pub read_before : (front back : List ℕ) (x : ℕ) → is_whole (front ++ 255 ∷ []) ≡ true → 128 ≤ x
+    → bits_read (front ++ 255 ∷ (x ∷ back)) ≡ bits_read (front ++ 255 ∷ [])
 read_before front back x h l =
     let all = front ++ 255 ∷ [] in let e = last_append 0 front 255 in
     ap (bits_read_after 0) (sym (append_assoc front (255 ∷ []) (x ∷ back))) ∙ data_append 0 all (x ∷ back) h ∙ ap (λ z. bits_read_after 0 all ++ z) (ap (λ z. bits_read_after z (x ∷ back)) e ∙ data_stop 255 x back (ends_after_ff x l)) ∙ append-nil (bits_read_after 0 all)

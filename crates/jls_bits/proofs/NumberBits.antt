@@ -54,7 +54,8 @@ bits_push (suc n) x y h =
     ap (λ z. bits z (2 * x + y)) e ∙ cons_same (ap (λ z. eqb (z % 2) 1) d) (ap (λ z. bits z (2 * x + y)) f ∙ bits_push n x y h)
 
 -- the same by a `bool`, and the number stays as small as its bits are few
-pub bits_push_bool : (b : Bool) (n x : ℕ) → x < 2 ^ n → (bits (n + 1) (2 * x + bool_byte b) ≡ bits n x ++ b ∷ []) × (2 * x + bool_byte b < 2 ^ (n + 1))
+pub bits_push_bool : (b : Bool) (n x : ℕ) → x < 2 ^ n
+    → (bits (n + 1) (2 * x + bool_byte b) ≡ bits n x ++ b ∷ []) × (2 * x + bool_byte b < 2 ^ (n + 1))
 bits_push_bool true n x h = let p : 2 ^ (n + 1) ≡ 2 ^ n * 2 = pow_more 2 n in (bits_push n x 1 (omega arith), omega arith)
 bits_push_bool false n x h = let p : 2 ^ (n + 1) ≡ 2 ^ n * 2 = pow_more 2 n in (bits_push n x 0 (omega arith), omega arith)
 

@@ -48,7 +48,8 @@ module _ (bytes : List ℕ) (last width left waiting : ℕ) (f : AreFilled bytes
   pub byte_fills : AreFilled (bytes ++ (waiting / 2 ^ rest) ∷ [])
   byte_fills = fills.0
 
-  pub byte_taken : (kept : ℕ) → kept ≡ waiting % 2 ^ rest → bits_read (bytes ++ (waiting / 2 ^ rest) ∷ []) ++ bits rest kept ≡ bits_read bytes ++ bits left waiting
+  pub byte_taken : (kept : ℕ) → kept ≡ waiting % 2 ^ rest
+      → bits_read (bytes ++ (waiting / 2 ^ rest) ∷ []) ++ bits rest kept ≡ bits_read bytes ++ bits left waiting
   byte_taken kept is =
       let x = waiting / 2 ^ rest in
       ap (λ z. z ++ bits rest kept) (fills.1 ∙ ap (λ z. bits_read bytes ++ bits z x) (sym (w ∙ ap width_after e))) ∙ append_assoc (bits_read bytes) (bits width x) (bits rest kept) ∙ ap (λ z. bits_read bytes ++ z) (ap (λ z. bits width x ++ z) (ap (bits rest) is ∙ low_bits rest waiting) ∙ sym (bits_split width rest waiting) ∙ ap (λ z. bits z waiting) parts)

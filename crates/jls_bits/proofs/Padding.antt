@@ -17,7 +17,8 @@ carried_length given bytes c = let e = ap length c.data_bits.read in let a = len
 
 -- Other bytes that carry the bits, where they are no more than these bytes, begin these bytes. What these bytes carry and
 -- `tail` are the bits
-carried_front : (given tail : List Bool) (bytes others : List ℕ) → AreFilled bytes → given ≡ bits_read bytes ++ tail → Carries given others → length others ≤ length bytes
+carried_front : (given tail : List Bool) (bytes others : List ℕ) → AreFilled bytes → given ≡ bits_read bytes ++ tail → Carries given others
+    → length others ≤ length bytes
     → (rest : List ℕ) × (bytes ≡ others ++ rest) × (length (bits_read others) + 7 * length rest ≤ length (bits_read bytes))
 carried_front given tail bytes others f e c l =
     let a : bits_read others ++ [] ≡ bits_read bytes ++ (tail ++ replicate c.zeros false) = append-nil (bits_read others) ∙ c.data_bits.read ∙ ap (λ z. z ++ replicate c.zeros false) e ∙ append_assoc (bits_read bytes) tail (replicate c.zeros false) in
@@ -79,14 +80,16 @@ not_last : (bytes : List ℕ) → (last_after 0 bytes ≡ 255 → ⊥) → (fron
 not_last bytes h front e = h (ap (last_after 0) e ∙ last_append 0 front 255)
 
 -- Whole bytes that carry the bits alone, and don't end in 0xFF, are the pad
-pub whole_pad : (given : List Bool) (bytes : List ℕ) → AreFilled bytes → given ≡ bits_read bytes → (last_after 0 bytes ≡ 255 → ⊥) → IsPad given bytes
+pub whole_pad : (given : List Bool) (bytes : List ℕ) → AreFilled bytes → given ≡ bits_read bytes → (last_after 0 bytes ≡ 255 → ⊥)
+    → IsPad given bytes
 whole_pad given bytes f e h = record {
   carries = record { are_bytes = f.are_bytes; zeros = 0; data_bits = record { whole = f.whole; read = sym e ∙ sym (append-nil given) }; last = not_last bytes h };
   shortest = λ others c. elim (cases_lt (length others) (length bytes)) [ inl l ↦ (let r = carried_front given [] bytes others f (e ∙ sym (append-nil (bits_read bytes))) c (omega arith) in let n = carried_length given others c in let k = ap length e in let z = ap length r.1 in let y = length-append others r.0 in let b = r.2 in absurd (omega (arith, n, k, z, y, b))) | inr l ↦ l ];
 }
 
 -- where they end in 0xFF, a byte of zeros follows
-pub stuffed_pad : (given : List Bool) (bytes : List ℕ) → AreFilled bytes → given ≡ bits_read bytes → last_after 0 bytes ≡ 255 → bits (width_after (last_after 0 bytes)) 0 ≡ replicate (width_after (last_after 0 bytes)) false → IsPad given (bytes ++ 0 ∷ [])
+pub stuffed_pad : (given : List Bool) (bytes : List ℕ) → AreFilled bytes → given ≡ bits_read bytes → last_after 0 bytes ≡ 255
+    → bits (width_after (last_after 0 bytes)) 0 ≡ replicate (width_after (last_after 0 bytes)) false → IsPad given (bytes ++ 0 ∷ [])
 stuffed_pad given bytes f e h zs =
     let w = width_after (last_after 0 bytes) in let p = filled_more bytes 0 f (pow_pos w) in
     record {
@@ -103,7 +106,8 @@ stuffed_pad given bytes f e h zs =
         let q = last_is 0 others (λ t. let u : 0 ≡ 255 = t in omega arith) (sym (ap (last_after 0) same) ∙ h) in c.last q.0 q.1
 
 -- where bits are left that fill no byte, they and zeros are the last byte
-pub partial_pad : (given left : List Bool) (bytes : List ℕ) (x : ℕ) → AreFilled bytes → given ≡ bits_read bytes ++ left → 0 < length left → length left < width_after (last_after 0 bytes)
+pub partial_pad : (given left : List Bool) (bytes : List ℕ) (x : ℕ) → AreFilled bytes → given ≡ bits_read bytes ++ left → 0 < length left
+    → length left < width_after (last_after 0 bytes)
     → x < 2 ^ width_after (last_after 0 bytes) → bits (width_after (last_after 0 bytes)) x ≡ left ++ replicate (width_after (last_after 0 bytes) - length left) false → IsPad given (bytes ++ x ∷ [])
 partial_pad given left bytes x f e some few small xs =
     let w = width_after (last_after 0 bytes) in let zs = replicate (w - length left) false in let p = filled_more bytes x f small in
@@ -126,7 +130,8 @@ one_pad given xs ys a b =
     sym (r.1 ∙ ap (λ x. xs ++ x) z ∙ append-nil xs)
 
 -- the last bytes, behind whole ones
-last_pad : (given pending : List Bool) (bytes : List ℕ) → AreFilled bytes → length pending < width_after (last_after 0 bytes) → given ≡ bits_read bytes ++ pending
+last_pad : (given pending : List Bool) (bytes : List ℕ) → AreFilled bytes → length pending < width_after (last_after 0 bytes)
+    → given ≡ bits_read bytes ++ pending
     → IsPad given (bytes ++ last_bytes (last_after 0 bytes) pending)
 last_pad given [] bytes f few e =
     let last = last_after 0 bytes in let d : given ≡ bits_read bytes = e ∙ append-nil (bits_read bytes) in
@@ -153,7 +158,8 @@ unfolding pad_after
 pad_end before pending = refl
 
 -- the pad as it is computed: the bytes so far are whole, and the pending bits fill none
-pub pads_from : (given pending more : List Bool) (bytes : List ℕ) → AreFilled bytes → length pending < width_after (last_after 0 bytes) → given ≡ bits_read bytes ++ (pending ++ more)
+pub pads_from : (given pending more : List Bool) (bytes : List ℕ) → AreFilled bytes → length pending < width_after (last_after 0 bytes)
+    → given ≡ bits_read bytes ++ (pending ++ more)
     → IsPad given (bytes ++ pad_after (last_after 0 bytes) pending more)
 pads_from given pending [] bytes f few e =
     subst (λ z. IsPad given (bytes ++ z)) (sym (pad_end (last_after 0 bytes) pending)) (last_pad given pending bytes f few (e ∙ ap (λ z. bits_read bytes ++ z) (append-nil pending)))
@@ -184,7 +190,8 @@ top_bits w count partial l b =
 
 -- the three ends of a writer
 module _ (bytes : List ℕ) (last count partial : ℕ) (f : AreFilled bytes) (e : last ≡ last_after 0 bytes) where
-  pub finish_partial : (x : ℕ) → count < width_after last → partial < 2 ^ count → 0 < count → x ≡ partial * 2 ^ (width_after last - count) % 256
+  pub finish_partial : (x : ℕ) → count < width_after last → partial < 2 ^ count → 0 < count
+      → x ≡ partial * 2 ^ (width_after last - count) % 256
       → IsPad (bits_read bytes ++ bits count partial) (bytes ++ x ∷ [])
   finish_partial x few small some is =
       let given = bits_read bytes ++ bits count partial in let w = width_after (last_after 0 bytes) in

@@ -22,7 +22,8 @@ number_is p near =
     ap (λ (z : ℤ). pos (unsigned_abs z)) (sym size) ∙ size
 
 -- three steps weigh what no other three do, since 2 * (9 * 4 + 4) is less than 81
-steps_apart : (q1 q2 q3 r1 r2 r3 : ℤ) → IsStep q1 → IsStep q2 → IsStep q3 → IsStep r1 → IsStep r2 → IsStep r3 → weighed q1 q2 q3 ≡ weighed r1 r2 r3
+steps_apart : (q1 q2 q3 r1 r2 r3 : ℤ) → IsStep q1 → IsStep q2 → IsStep q3 → IsStep r1 → IsStep r2 → IsStep r3
+    → weighed q1 q2 q3 ≡ weighed r1 r2 r3
     → (q1 ≡ r1) × (q2 ≡ r2) × (q3 ≡ r3)
 steps_apart q1 q2 q3 r1 r2 r3 a b c d e f same = (omega (arith, ints), omega (arith, ints), omega (arith, ints))
 

@@ -8,13 +8,15 @@ use Rattle.jls_values.specs.Params.{CodingParameters, AreCodingParameters}
 use Rattle.jls_context.specs.declared.mode.Neighbours.{Neighbours}
 use Rattle.jls_context.specs.Mode.{with_sign, is_run_mode, quantized_size, quantized_gradient, quantized_gradients, is_first_negative, is_negative, weighed, context, IsRegularMode}
 
-pub gradient_below : (p : CodingParameters) (to from : ℕ) → to < from → quantized_gradient p (pos to -ℤ pos from) ≡ neg_ℤ (pos (quantized_size p (from - to)))
+pub gradient_below : (p : CodingParameters) (to from : ℕ) → to < from
+    → quantized_gradient p (pos to -ℤ pos from) ≡ neg_ℤ (pos (quantized_size p (from - to)))
 unfolding quantized_gradient
 gradient_below p to from h =
     let negative : int_lt (pos to -ℤ pos from) (pos 0) ≡ true = grind (arith, ints) in
     let size : unsigned_abs (pos to -ℤ pos from) ≡ from - to = omega (arith, ints) in rw (negative, size) refl
 
-pub gradient_above : (p : CodingParameters) (to from : ℕ) → from ≤ to → quantized_gradient p (pos to -ℤ pos from) ≡ pos (quantized_size p (to - from))
+pub gradient_above : (p : CodingParameters) (to from : ℕ) → from ≤ to
+    → quantized_gradient p (pos to -ℤ pos from) ≡ pos (quantized_size p (to - from))
 unfolding quantized_gradient
 gradient_above p to from h =
     let negative : int_lt (pos to -ℤ pos from) (pos 0) ≡ false = grind (arith, ints) in

@@ -37,12 +37,14 @@ remainder_range r some (pos n) = let below = mod-lt n some in (omega (arith, int
 remainder_range r some (negsuc n) = let below = mod-lt n some in (omega (arith, ints), omega (arith, ints))
 
 -- the one case where RANGE is taken away, and the other
-pub reduced_low : (p : CodingParameters) (z : ℤ) → int_rem_euclid z (pos (range p)) <ℤ pos ((range p + 1) / 2) → modulo_reduced p z ≡ int_rem_euclid z (pos (range p))
+pub reduced_low : (p : CodingParameters) (z : ℤ) → int_rem_euclid z (pos (range p)) <ℤ pos ((range p + 1) / 2)
+    → modulo_reduced p z ≡ int_rem_euclid z (pos (range p))
 unfolding modulo_reduced
 reduced_low p z h =
     let test : int_le (pos ((range p + 1) / 2)) (int_rem_euclid z (pos (range p))) ≡ false = grind (arith, ints) in rw test refl
 
-pub reduced_high : (p : CodingParameters) (z : ℤ) → pos ((range p + 1) / 2) ≤ℤ int_rem_euclid z (pos (range p)) → modulo_reduced p z ≡ int_rem_euclid z (pos (range p)) -ℤ pos (range p)
+pub reduced_high : (p : CodingParameters) (z : ℤ) → pos ((range p + 1) / 2) ≤ℤ int_rem_euclid z (pos (range p))
+    → modulo_reduced p z ≡ int_rem_euclid z (pos (range p)) -ℤ pos (range p)
 unfolding modulo_reduced
 reduced_high p z h =
     let test : int_le (pos ((range p + 1) / 2)) (int_rem_euclid z (pos (range p))) ≡ true = grind (arith, ints) in rw test refl

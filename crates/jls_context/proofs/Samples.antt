@@ -8,7 +8,8 @@ use Rattle.jls_context.specs.Mode.{with_sign}
 use Rattle.jls_context.specs.Errors.{IsError, prediction_error}
 use Rattle.jls_context.proofs.Remainders.{modulo_reduced_is, modulo_reduced_near, remainder_cases}
 
-pub error_range : (p : CodingParameters) (negative : Bool) (sample prediction : ℕ) → IsError p (prediction_error p negative sample prediction)
+pub error_range : (p : CodingParameters) (negative : Bool) (sample prediction : ℕ)
+    → IsError p (prediction_error p negative sample prediction)
 error_range p negative sample prediction = (modulo_reduced_is p (with_sign negative (pos sample -ℤ pos prediction))).is_error
 
 -- an error has one sample
@@ -22,7 +23,8 @@ sample_same p false s s' x a b c e =
     let r' = modulo_reduced_near p (pos s' -ℤ pos x) (omega (arith, ints)) (omega (arith, ints)) in omega (arith, ints)
 
 -- the sample that an error leads to, brought back into the range, has this error
-pub restored : (p : CodingParameters) (negative : Bool) (s x : ℕ) (e f : ℤ) → s ≤ p.maxval → x ≤ p.maxval → IsError p e → f ≡ with_sign negative e
+pub restored : (p : CodingParameters) (negative : Bool) (s x : ℕ) (e f : ℤ) → s ≤ p.maxval → x ≤ p.maxval → IsError p e
+    → f ≡ with_sign negative e
     → (pos s ≡ pos x +ℤ f) ⊎ ((pos s ≡ (pos x +ℤ f) +ℤ pos (range p)) ⊎ (pos s ≡ (pos x +ℤ f) -ℤ pos (range p))) → prediction_error p negative s x ≡ e
 restored p true s x e f a b i g h =
     let r = modulo_reduced_near p (neg_ℤ (pos s -ℤ pos x)) (omega (arith, ints)) (omega (arith, ints)) in
@@ -31,7 +33,8 @@ restored p false s x e f a b i g h =
     let r = modulo_reduced_near p (pos s -ℤ pos x) (omega (arith, ints)) (omega (arith, ints)) in
     let v = error_range p false s x in omega (arith, ints)
 
-pub restored_remainder : (p : CodingParameters) (negative : Bool) (s x : ℕ) (e f z : ℤ) → s ≤ p.maxval → x ≤ p.maxval → IsError p e → f ≡ with_sign negative e
+pub restored_remainder : (p : CodingParameters) (negative : Bool) (s x : ℕ) (e f z : ℤ) → s ≤ p.maxval → x ≤ p.maxval → IsError p e
+    → f ≡ with_sign negative e
     → z ≡ pos x +ℤ f → pos s ≡ int_rem_euclid z (pos (range p)) → prediction_error p negative s x ≡ e
 restored_remainder p negative s x e f z a b i sign sum is =
     let size : unsigned_abs f ≤ p.maxval = size_of negative f sign in

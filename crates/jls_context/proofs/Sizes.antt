@@ -35,6 +35,7 @@ error_mapped_at_most p true (negsuc n) is = omega (arith, ints)
 error_mapped_at_most p false (pos n) is = omega (arith, ints)
 error_mapped_at_most p false (negsuc n) is = omega (arith, ints)
 
-pub interruption_mapped_at_most : (p : CodingParameters) (same : Bool) (cell : RunCell) (e : ℤ) → IsError p e → interruption_mapped same cell e ≤ range p
+pub interruption_mapped_at_most : (p : CodingParameters) (same : Bool) (cell : RunCell) (e : ℤ) → IsError p e
+    → interruption_mapped same cell e ≤ range p
 interruption_mapped_at_most p same cell (pos n) is = omega (arith, ints)
 interruption_mapped_at_most p same cell (negsuc n) is = omega (arith, ints)

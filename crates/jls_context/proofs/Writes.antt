@@ -34,12 +34,14 @@ pub cell_at-written_other : (v : Variables) (i : ℕ) (x : Cell) (other : ℕ) �
 unfolding cell_at
 cell_at-written_other v i x other apart = get_or-set_other v.regular i other x _ apart
 
-all_set : (reset : ℕ) (cells : List Cell) (i : ℕ) (x : Cell) → All (IsCell reset) cells → i < length cells → IsCell reset x → All (IsCell reset) (set cells i x)
+all_set : (reset : ℕ) (cells : List Cell) (i : ℕ) (x : Cell) → All (IsCell reset) cells → i < length cells → IsCell reset x
+    → All (IsCell reset) (set cells i x)
 all_set reset cells i x all h ok k d l =
     let le = length-set cells i x in
     elim (cases_eq k i) [ inl e ↦ (let q : get_or (set cells i x) k d ≡ x = rw e (get_or-set_same cells i x d h) in subst (λ z. IsCell reset z) (sym q) ok) | inr ne ↦ subst (λ z. IsCell reset z) (sym (get_or-set_other cells i k x d ne)) (all k d (omega arith)) ]
 
-pub written_right : (v : Variables) (i : ℕ) (x : Cell) → i < 365 → AreVariables v → IsCell v.parameters.reset x → AreVariables (written v i x)
+pub written_right : (v : Variables) (i : ℕ) (x : Cell) → i < 365 → AreVariables v → IsCell v.parameters.reset x
+    → AreVariables (written v i x)
 written_right v i x within are ok = record {
   ranges = are.ranges;
   maxval_below = are.maxval_below;

@@ -11,7 +11,8 @@ pub grew_not : (Are : List Event → Type 0) (h : History) → Are [] → GrewBy
 grew_not Are h they = record { events = []; grew = sym (append-nil h); they_are = they }
 
 -- one growth after another
-pub grew_on : (A B C : List Event → Type 0) (old mid new : History) → ((a b : List Event) → A a → B b → C (a ++ b)) → GrewBy A old mid → GrewBy B mid new → GrewBy C old new
+pub grew_on : (A B C : List Event → Type 0) (old mid new : History) → ((a b : List Event) → A a → B b → C (a ++ b)) → GrewBy A old mid
+    → GrewBy B mid new → GrewBy C old new
 grew_on A B C old mid new join h k = record {
   events = h.events ++ k.events;
   grew = grew_twice old mid new h.events k.events h.grew k.grew;
@@ -19,5 +20,6 @@ grew_on A B C old mid new join h k = record {
 }
 
 -- the same growth, seen as another
-pub grew_as : (A B : List Event → Type 0) (old new : History) → ((events : List Event) → A events → B events) → GrewBy A old new → GrewBy B old new
+pub grew_as : (A B : List Event → Type 0) (old new : History) → ((events : List Event) → A events → B events) → GrewBy A old new
+    → GrewBy B old new
 grew_as A B old new see h = record { events = h.events; grew = h.grew; they_are = see h.events h.they_are }

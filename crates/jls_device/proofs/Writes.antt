@@ -30,7 +30,8 @@ wrote_on a b (not_created name ∷ writes) more h k = absurd h.are_writes
 wrote_on a b (write_failed ∷ writes) more h k = absurd h.are_writes
 
 -- writes took a whole, and then the front of more
-pub front_behind : (a b : List ℕ) (count : ℕ) (writes more : List Event) → Wrote a writes → WroteFront b count more → WroteFront (a ++ b) (length a + count) (writes ++ more)
+pub front_behind : (a b : List ℕ) (count : ℕ) (writes more : List Event) → Wrote a writes → WroteFront b count more
+    → WroteFront (a ++ b) (length a + count) (writes ++ more)
 front_behind a b count writes more h k = record {
   writes = writes ++ k.writes;
   events_are = ap (λ (x : List Event). writes ++ x) k.events_are ∙ sym (append_assoc writes k.writes (write_failed ∷ []));
@@ -51,7 +52,8 @@ module _ (old mid new : History) where
   pub written_on : (a b : List ℕ) → GrewBy (Wrote a) old mid → GrewBy (Wrote b) mid new → GrewBy (Wrote (a ++ b)) old new
   written_on a b = grew_on (Wrote a) (Wrote b) (Wrote (a ++ b)) old mid new (wrote_on a b)
 
-  pub cut_behind : (a b : List ℕ) (count : ℕ) → GrewBy (Wrote a) old mid → GrewBy (WroteFront b count) mid new → GrewBy (WroteFront (a ++ b) (length a + count)) old new
+  pub cut_behind : (a b : List ℕ) (count : ℕ) → GrewBy (Wrote a) old mid → GrewBy (WroteFront b count) mid new
+      → GrewBy (WroteFront (a ++ b) (length a + count)) old new
   cut_behind a b count = grew_on (Wrote a) (WroteFront b count) (WroteFront (a ++ b) (length a + count)) old mid new (front_behind a b count)
 
   pub one_write_more : (a b : List ℕ) → GrewBy (Wrote a) old mid → 0 < length b → new ≡ mid ++ took b ∷ [] → GrewBy (Wrote (a ++ b)) old new

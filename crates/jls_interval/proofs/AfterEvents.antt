@@ -19,12 +19,15 @@ use Rattle.jls_interval.specs.After.{IsAfter}
 use Rattle.jls_interval.proofs.FoldedEvents.{cell_used, cell_unused, run_cell_more, run_cell_learned, index_end, index_interrupted, index_other}
 
 -- the other variables leave a cell as it was
-cell_kept : (cells cells' : Variables) → cells'.regular ≡ cells.regular → cells'.parameters ≡ cells.parameters → (q : ℕ) → cell_at cells' q ≡ cell_at cells q
+cell_kept : (cells cells' : Variables) → cells'.regular ≡ cells.regular → cells'.parameters ≡ cells.parameters → (q : ℕ)
+    → cell_at cells' q ≡ cell_at cells q
 unfolding cell_at
 cell_kept cells cells' a b q = ap (λ z. get_or z q (initial_cell cells'.parameters)) a ∙ ap (λ z. get_or cells.regular q (initial_cell z)) b
 
 -- the cell of the sample's RItype is changed, the other isn't
-run_cell_new : (cells cells' : Variables) (reset : ℕ) (error : ℤ) (same b : Bool) → run_cell_at cells' same ≡ run_updated reset same (run_cell_at cells same) error → run_cell_at cells' (not same) ≡ run_cell_at cells (not same)
+run_cell_new : (cells cells' : Variables) (reset : ℕ) (error : ℤ) (same b : Bool)
+    → run_cell_at cells' same ≡ run_updated reset same (run_cell_at cells same) error
+    → run_cell_at cells' (not same) ≡ run_cell_at cells (not same)
     → run_cell_at cells' b ≡ cond (equal b same) (run_updated reset b (run_cell_at cells b) error) (run_cell_at cells b)
 run_cell_new cells cells' reset error true true a o = a
 run_cell_new cells cells' reset error true false a o = o
@@ -37,7 +40,8 @@ get_same (suc n) x zero = refl
 get_same (suc n) x (suc i) = get_same n x i
 
 -- before the first event
-pub after_none : (p : CodingParameters) (cells : Variables) (run_indices : List ℕ) → cells ≡ initial_variables p → ((component : ℕ) → get_or run_indices component 0 ≡ 0) → IsAfter p cells run_indices []
+pub after_none : (p : CodingParameters) (cells : Variables) (run_indices : List ℕ) → cells ≡ initial_variables p
+    → ((component : ℕ) → get_or run_indices component 0 ≡ 0) → IsAfter p cells run_indices []
 unfolding cell_at cell_before run_cell_before run_index_before
 after_none p cells run_indices e zeros = record {
   parameters = ap (λ (z : Variables). z.parameters) e;
@@ -52,18 +56,21 @@ after_none p cells run_indices e zeros = record {
 
 module _ (p : CodingParameters) (cells : Variables) (run_indices : List ℕ) (earlier : List Event) (t : IsAfter p cells run_indices earlier) where
   -- RUNindex of each component after a run of one
-  indices_after : (e : Event) (k r : ℕ) → k < length run_indices → ((j : ℕ) → (j ≡ k → ⊥) → is_run_of j e ≡ false) → r ≡ run_index_before (earlier ++ e ∷ []) k
+  indices_after : (e : Event) (k r : ℕ) → k < length run_indices → ((j : ℕ) → (j ≡ k → ⊥) → is_run_of j e ≡ false)
+      → r ≡ run_index_before (earlier ++ e ∷ []) k
       → (j : ℕ) → get_or (set run_indices k r) j 0 ≡ run_index_before (earlier ++ e ∷ []) j
   indices_after e k r within others own j =
       elim (cases_eq j k) [ inl s ↦ ap (λ z. get_or (set run_indices k r) z 0) s ∙ get_or-set_same run_indices k r 0 within ∙ own ∙ ap (run_index_before (earlier ++ e ∷ [])) (sym s) | inr n ↦ get_or-set_other run_indices k j r 0 n ∙ index_other earlier e j (get_or run_indices j 0) (others j n) (t.run_indices_are j) ]
 
   -- no sample of regular mode stands at the front
-  pub sample_missing : (near : Neighbours) (given : List Bool) → NoSample p (cell_at cells (context p near)) near given → (s : ℕ) (rest : List Bool) → s ≤ p.maxval → given ≡ event_bits p earlier (regular near s) ++ rest → ⊥
+  pub sample_missing : (near : Neighbours) (given : List Bool) → NoSample p (cell_at cells (context p near)) near given
+      → (s : ℕ) (rest : List Bool) → s ≤ p.maxval → given ≡ event_bits p earlier (regular near s) ++ rest → ⊥
   unfolding event_bits
   sample_missing near given none s rest l e = none s rest l (e ∙ ap (λ (z : Cell). regular_bits p z near s ++ rest) (sym (t.regular_cells (context p near))))
 
   -- the bits of one that does
-  pub sample_bits : (near : Neighbours) (s : ℕ) → event_bits p earlier (regular near s) ≡ regular_bits p (cell_at cells (context p near)) near s
+  pub sample_bits : (near : Neighbours) (s : ℕ)
+      → event_bits p earlier (regular near s) ≡ regular_bits p (cell_at cells (context p near)) near s
   unfolding event_bits
   sample_bits near s = ap (λ (z : Cell). regular_bits p z near s) (sym (t.regular_cells (context p near)))
 
@@ -88,7 +95,8 @@ module _ (p : CodingParameters) (cells : Variables) (run_indices : List ℕ) (ea
 
   module _ (k count : ℕ) (within : k < length run_indices) where
     -- a run to the end of its line more
-    pub after_end : (r : ℕ) → r ≡ (blocks (get_or run_indices k 0) count).run_index → IsAfter p cells (set run_indices k r) (earlier ++ run_to_end k count ∷ [])
+    pub after_end : (r : ℕ) → r ≡ (blocks (get_or run_indices k 0) count).run_index
+        → IsAfter p cells (set run_indices k r) (earlier ++ run_to_end k count ∷ [])
     after_end r e = record {
       parameters = t.parameters;
       regular_cells = λ q. t.regular_cells q ∙ sym (cell_unused p earlier (run_to_end k count) q refl);
@@ -97,7 +105,9 @@ module _ (p : CodingParameters) (cells : Variables) (run_indices : List ℕ) (ea
     }
 
     -- an interrupted run more
-    pub after_interruption : (near : Neighbours) (s r : ℕ) (same : Bool) (error : ℤ) (cells' : Variables) → r ≡ run_index_lowered (blocks (get_or run_indices k 0) count).run_index → same ≡ is_same near → error ≡ interruption_error p near s
+    pub after_interruption : (near : Neighbours) (s r : ℕ) (same : Bool) (error : ℤ) (cells' : Variables)
+        → r ≡ run_index_lowered (blocks (get_or run_indices k 0) count).run_index → same ≡ is_same near
+        → error ≡ interruption_error p near s
         → cells'.regular ≡ cells.regular → cells'.parameters ≡ cells.parameters → run_cell_at cells' same ≡ run_updated p.reset same (run_cell_at cells same) error → run_cell_at cells' (not same) ≡ run_cell_at cells (not same)
         → IsAfter p cells' (set run_indices k r) (earlier ++ interrupted_run k count near s ∷ [])
     after_interruption near s r same error cells' r_is same_is error_is regular_cells parameters changed other = record {
@@ -108,6 +118,7 @@ module _ (p : CodingParameters) (cells : Variables) (run_indices : List ℕ) (ea
     }
 
 -- the same variables and RUNindices
-pub after_same : (p : CodingParameters) (cells cells' : Variables) (run_indices run_indices' : List ℕ) (earlier : List Event) → cells' ≡ cells → run_indices' ≡ run_indices → IsAfter p cells run_indices earlier → IsAfter p cells' run_indices' earlier
+pub after_same : (p : CodingParameters) (cells cells' : Variables) (run_indices run_indices' : List ℕ) (earlier : List Event)
+    → cells' ≡ cells → run_indices' ≡ run_indices → IsAfter p cells run_indices earlier → IsAfter p cells' run_indices' earlier
 after_same p cells cells' run_indices run_indices' earlier a b h =
     subst (λ (z : Variables). IsAfter p z run_indices' earlier) (sym a) (subst (λ z. IsAfter p cells z earlier) (sym b) h)

@@ -71,10 +71,12 @@ module _ (r0 w0 : ℕ) (given : List Bool) (r w : ℕ) (left : List Bool) (t : T
       parts : (n : ℕ) (b : Blocks) (s : List Bool) → run_to_end_bits (after_blocks n b) ++ s ≡ replicate n true ++ (run_to_end_bits b ++ s)
       parts n b s = ap (λ z. z ++ s) (ones_add n b.full_blocks _) ∙ append_assoc (replicate n true) (run_to_end_bits b) s
 
-  broken_front : (n : ℕ) (s : List Bool) → interrupted_run_bits (blocks r0 (t.taken + n)) s ≡ replicate t.full_blocks true ++ interrupted_run_bits (blocks r n) s
+  broken_front : (n : ℕ) (s : List Bool)
+      → interrupted_run_bits (blocks r0 (t.taken + n)) s ≡ replicate t.full_blocks true ++ interrupted_run_bits (blocks r n) s
   broken_front n s = ap (λ b. interrupted_run_bits b s) (t.blocks_are n) ∙ front t.full_blocks (blocks r n) s
     where
-      front : (m : ℕ) (b : Blocks) (s : List Bool) → interrupted_run_bits (after_blocks m b) s ≡ replicate m true ++ interrupted_run_bits b s
+      front : (m : ℕ) (b : Blocks) (s : List Bool)
+          → interrupted_run_bits (after_blocks m b) s ≡ replicate m true ++ interrupted_run_bits b s
       front m b s = ap (λ z. z ++ s) (ones_add m b.full_blocks (false ∷ bits (run_order b.run_index) b.remaining)) ∙ append_assoc (replicate m true) (replicate b.full_blocks true ++ false ∷ bits (run_order b.run_index) b.remaining) s
 
   -- Answers ---------------------------------------------------------------------
@@ -89,7 +91,8 @@ module _ (r0 w0 : ℕ) (given : List Bool) (r w : ℕ) (left : List Bool) (t : T
       nothing n s h = let q = pow_pos (run_order r) in ap (λ z. run_to_end_bits (blocks r z) ++ s) h ∙ ap (λ b. run_to_end_bits b ++ s) (blocks_none r 0 t.within q)
 
   -- a last one for less than a block
-  pub ended_short : (left' : List Bool) → 0 < w → w < 2 ^ run_order r → left ≡ true ∷ left' → (given ≡ run_to_end_bits (blocks r0 w0) ++ left') × ((blocks r0 w0).run_index ≡ r)
+  pub ended_short : (left' : List Bool) → 0 < w → w < 2 ^ run_order r → left ≡ true ∷ left'
+      → (given ≡ run_to_end_bits (blocks r0 w0) ++ left') × ((blocks r0 w0).run_index ≡ r)
   ended_short left' h j e =
       (t.bits_are ∙ ap (λ z. replicate t.full_blocks true ++ z) (e ∙ sym (end_none r w left' t.within j h)) ∙ sym (end_is left'), end_index ∙ ap (λ (z : Blocks). z.run_index) (blocks_none r w t.within j))
 
@@ -105,7 +108,8 @@ module _ (r0 w0 : ℕ) (given : List Bool) (r w : ℕ) (left : List Bool) (t : T
   pub end_behind : (rest : List Bool) → given ≡ run_to_end_bits (blocks r0 w0) ++ rest → left ≡ run_to_end_bits (blocks r w) ++ rest
   end_behind rest e = append_cancel_left (replicate t.full_blocks true) left (run_to_end_bits (blocks r w) ++ rest) (sym t.bits_are ∙ e ∙ end_is rest)
 
-  pub broken_behind : (c : ℕ) (rest : List Bool) → c < w0 → given ≡ interrupted_run_bits (blocks r0 c) rest → (n : ℕ) × (c ≡ t.taken + n) × (n < w) × (left ≡ interrupted_run_bits (blocks r n) rest)
+  pub broken_behind : (c : ℕ) (rest : List Bool) → c < w0 → given ≡ interrupted_run_bits (blocks r0 c) rest
+      → (n : ℕ) × (c ≡ t.taken + n) × (n < w) × (left ≡ interrupted_run_bits (blocks r n) rest)
   broken_behind c rest h e =
       let all = t.total in let q = pow_pos (run_order r) in
       elim (cases_lt c t.taken) [ inl l ↦ absurd (run_apart c r0 c t.taken rest left t.begins_within (omega arith) l (sym e ∙ whole)) | inr l ↦ (let n = c - t.taken in let s : c ≡ t.taken + n = omega arith in (n, s, omega arith, append_cancel_left (replicate t.full_blocks true) left (interrupted_run_bits (blocks r n) rest) (sym t.bits_are ∙ e ∙ ap (λ z. interrupted_run_bits (blocks r0 z) rest) s ∙ broken_front n rest))) ]
@@ -125,7 +129,8 @@ pub end_cases : (r w : ℕ) (s : List Bool) → r ≤ 31 → 0 < w → (more : L
 end_cases r w s small h =
     elim (cases_lt w (2 ^ run_order r)) [ inl l ↦ (s, end_none r w s small l h) | inr l ↦ (run_to_end_bits (blocks (risen r) (w - 2 ^ run_order r)) ++ s, end_step r w s small l) ]
 
-broken_cases : (r n : ℕ) (s left : List Bool) → r ≤ 31 → left ≡ interrupted_run_bits (blocks r n) s → ((n < 2 ^ run_order r) × (left ≡ false ∷ (bits (run_order r) n ++ s))) ⊎ ((more : List Bool) × (left ≡ true ∷ more))
+broken_cases : (r n : ℕ) (s left : List Bool) → r ≤ 31 → left ≡ interrupted_run_bits (blocks r n) s
+    → ((n < 2 ^ run_order r) × (left ≡ false ∷ (bits (run_order r) n ++ s))) ⊎ ((more : List Bool) × (left ≡ true ∷ more))
 broken_cases r n s left small e =
     elim (cases_lt n (2 ^ run_order r)) [ inl l ↦ inl (l, e ∙ broken_none r n s small l) | inr l ↦ inr (interrupted_run_bits (blocks (risen r) (n - 2 ^ run_order r)) s, e ∙ broken_step r n s small l) ]
 
@@ -136,11 +141,13 @@ module _ (r0 w0 : ℕ) (given : List Bool) (r w : ℕ) (left : List Bool) (t : T
       (λ rest e. (let a = end_behind r0 w0 given r w left t rest e in let b = end_cases r w rest t.within some in let c : [] ≡ true ∷ b.0 = sym h ∙ a ∙ b.1 in cc), λ c rest l e. (let a = broken_behind r0 w0 given r w left t c rest l e in elim (broken_cases r a.0 rest left t.within a.3) [ inl b ↦ (let d : [] ≡ false ∷ (bits (run_order r) a.0 ++ rest) = sym h ∙ b.1 in cc) | inr b ↦ (let d : [] ≡ true ∷ b.0 = sym h ∙ b.1 in cc) ]))
 
   -- a zero, and no count behind it that is below the columns left
-  pub no_run_zero : (behind : List Bool) → left ≡ false ∷ behind → ((n : ℕ) (rest : List Bool) → n < w → n < 2 ^ run_order r → behind ≡ bits (run_order r) n ++ rest → ⊥) → NoRun r0 w0 given
+  pub no_run_zero : (behind : List Bool) → left ≡ false ∷ behind
+      → ((n : ℕ) (rest : List Bool) → n < w → n < 2 ^ run_order r → behind ≡ bits (run_order r) n ++ rest → ⊥) → NoRun r0 w0 given
   no_run_zero behind h none =
       (λ rest e. (let a = end_behind r0 w0 given r w left t rest e in let b = end_cases r w rest t.within some in let c : false ∷ behind ≡ true ∷ b.0 = sym h ∙ a ∙ b.1 in cc), λ c rest l e. (let a = broken_behind r0 w0 given r w left t c rest l e in elim (broken_cases r a.0 rest left t.within a.3) [ inl b ↦ none a.0 rest a.2 b.0 (tail_same false behind (bits (run_order r) a.0 ++ rest) (sym h ∙ b.1)) | inr b ↦ (let d : false ∷ behind ≡ true ∷ b.0 = sym h ∙ b.1 in cc) ]))
 
   -- a count that passes the columns left
-  pub no_run_long : (n : ℕ) (behind rest : List Bool) → left ≡ false ∷ behind → n < 2 ^ run_order r → behind ≡ bits (run_order r) n ++ rest → w ≤ n → NoRun r0 w0 given
+  pub no_run_long : (n : ℕ) (behind rest : List Bool) → left ≡ false ∷ behind → n < 2 ^ run_order r → behind ≡ bits (run_order r) n ++ rest
+      → w ≤ n → NoRun r0 w0 given
   no_run_long n behind rest h l e j =
       no_run_zero behind h (λ m rest' a b f. (let z = bits_same (run_order r) m n rest' rest (sym f ∙ e) in let x : m % 2 ^ run_order r ≡ m = mod-eq_of_lt b in let y : n % 2 ^ run_order r ≡ n = mod-eq_of_lt l in let o = z.0 in omega arith))

@@ -17,14 +17,17 @@ use Rattle.jls_interval.proofs.EventsApart.{events_apart, small_back, small_get}
 pub grown_earlier : (w : ℕ) (lines : List (List ℕ)) (line : List ℕ) (earlier : List Event) → (grown w lines line earlier).earlier ≡ earlier
 grown_earlier w lines line earlier = elim (cases_Bool (eqb (length line) w)) [ inl h ↦ rw h refl | inr h ↦ rw h refl ]
 
-lines_append : (p : CodingParameters) (xs : List (List ℕ)) (x : List ℕ) → AllByRecursion (λ l. Small p l) xs → Small p x → AllByRecursion (λ l. Small p l) (xs ++ x ∷ [])
+lines_append : (p : CodingParameters) (xs : List (List ℕ)) (x : List ℕ) → AllByRecursion (λ l. Small p l) xs → Small p x
+    → AllByRecursion (λ l. Small p l) (xs ++ x ∷ [])
 lines_append p [] x h j = (j, tt)
 lines_append p (y ∷ ys) x h j = (h.0, lines_append p ys x h.1 j)
 
-grown_samples : (p : CodingParameters) (w : ℕ) (lines : List (List ℕ)) (line : List ℕ) (earlier : List Event) → AllByRecursion (λ l. Small p l) lines → Small p line → HasSamples p (grown w lines line earlier)
+grown_samples : (p : CodingParameters) (w : ℕ) (lines : List (List ℕ)) (line : List ℕ) (earlier : List Event)
+    → AllByRecursion (λ l. Small p l) lines → Small p line → HasSamples p (grown w lines line earlier)
 grown_samples p w lines line earlier h j = elim (cases_Bool (eqb (length line) w)) [ inl e ↦ rw e (lines_append p lines line h j, tt) | inr e ↦ rw e (h, j) ]
 
-pub a_small : (p : CodingParameters) (w : ℕ) (up : Above) (line : List ℕ) (x : ℕ) → Small p up.line_above → Small p line → (neighbours w up line x).ra ≤ p.maxval
+pub a_small : (p : CodingParameters) (w : ℕ) (up : Above) (line : List ℕ) (x : ℕ) → Small p up.line_above → Small p line
+    → (neighbours w up line x).ra ≤ p.maxval
 a_small p w up line zero h j = small_get up.line_above 0 p.maxval h
 a_small p w up line (suc x) h j = small_get line x p.maxval j
 
@@ -49,7 +52,8 @@ module _ (p : CodingParameters) (w c n : ℕ) where
   pub finished : (lines : List (List ℕ)) → length lines ≡ n → IsEnd (interval_steps p w c n) (finish w c lines)
   finished lines h e next = let l : length lines < n = next.0 in omega arith
 
-pub codes_apart : (p : CodingParameters) (w c n : ℕ) → AreCodingParameters p → 0 < w → (xs ys : List (List ℕ)) (s t : List Bool) → AreLines p w n xs → AreLines p w n ys
+pub codes_apart : (p : CodingParameters) (w c n : ℕ) → AreCodingParameters p → 0 < w → (xs ys : List (List ℕ)) (s t : List Bool)
+    → AreLines p w n xs → AreLines p w n ys
     → code p w c xs ++ s ≡ code p w c ys ++ t → (xs ≡ ys) × (s ≡ t)
 codes_apart p w c n ok some xs ys s t a b e =
     let free = events_apart p w c n ok in

@@ -29,7 +29,8 @@ nothing_is [] y ys h = cc
 nothing_is (x ∷ xs) y ys h = cc
 
 -- a proper prefix of the bits of some events cuts one of them
-cut_steps : (m : StepwiseCode) (s y : m.State) (fs : List m.Event) (given : List Bool) (b : Bool) (more : List Bool) → Leads m s fs y → given ++ b ∷ more ≡ bits_of_steps m s fs → CutSteps m s given
+cut_steps : (m : StepwiseCode) (s y : m.State) (fs : List m.Event) (given : List Bool) (b : Bool) (more : List Bool) → Leads m s fs y
+    → given ++ b ∷ more ≡ bits_of_steps m s fs → CutSteps m s given
 cut_steps m s y [] given b more l e = absurd (nothing_is given b more e)
 cut_steps m s y (f ∷ fs) given b more l e =
     elim (one_begins given (b ∷ more) (m.step_bits s f) (bits_of_steps m (m.after s f) fs) e) [ inl q ↦ (let r = cut_steps m (m.after s f) y fs q.0 b more l.1 q.2 in record { whole = f ∷ r.whole; state = r.state; leads = (l.0, r.leads); cut = r.cut; next = r.next; begun = r.begun; given_is = q.1 ∙ ap (λ v. m.step_bits s f ++ v) r.given_is ∙ sym (append_assoc (m.step_bits s f) (bits_of_steps m (m.after s f) r.whole) r.begun); missing = r.missing; more_missing = r.more_missing; bits_are = r.bits_are }) | inr q ↦ record { whole = []; state = s; leads = refl; cut = f; next = l.0; begun = given; given_is = refl; missing = q.1; more_missing = q.0; bits_are = q.2 } ]

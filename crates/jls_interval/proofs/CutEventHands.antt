@@ -50,7 +50,8 @@ module _ (p : CodingParameters) (ok : AreCodingParameters p) (w k : ℕ) (up : A
       first [] none = absurd (none refl)
       first (x ∷ xs) none = record { missing = x; more_missing = xs; whole_is = refl }
 
-  pub sample_begins : is_run_mode near ≡ false → (told : List Bool) → BeginsSample p (cell_at cells (context p near)) near told → BeginsEvent p w k up line told earlier
+  pub sample_begins : is_run_mode near ≡ false → (told : List Bool) → BeginsSample p (cell_at cells (context p near)) near told
+      → BeginsEvent p w k up line told earlier
   sample_begins mode told b = record {
     event = regular near b.sample;
     fits = (mode, refl, b.at_most);
@@ -96,7 +97,8 @@ module _ (p : CodingParameters) (ok : AreCodingParameters p) (w k : ℕ) (up : A
       cell_is : run_cell_at cells (is_same (there count)) ≡ cell count
       cell_is = t.run_cells (is_same (there count))
 
-      pub interruption_begins : BeginsInterruption p (run_cell_at cells (is_same (there count))) (there count) (run_order rx) code → BeginsEvent p w k up line told earlier
+      pub interruption_begins : BeginsInterruption p (run_cell_at cells (is_same (there count))) (there count) (run_order rx) code
+          → BeginsEvent p w k up line told earlier
       interruption_begins b =
           let sample = interrupting_bits p (cell count) (there count) (run_order (blocks r count).run_index) b.sample in
           let same : sample ≡ code ++ b.cut.missing ∷ b.cut.more_missing = ap (λ z. interrupting_bits p (cell count) (there count) z b.sample) (sym order_is) ∙ ap (λ (z : RunCell). interrupting_bits p z (there count) (run_order rx) b.sample) (sym cell_is) ∙ b.cut.whole_is in

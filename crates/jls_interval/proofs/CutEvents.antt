@@ -24,7 +24,8 @@ use Rattle.jls_interval.proofs.DecodedBits.{Decoded, decoded_more, decoded_end}
 
 module _ (p : CodingParameters) (w c n : ℕ) (some : 0 < w) where
   -- bits that come later
-  pub decoded_with : (given : List Bool) (z : Position) (left more : List Bool) → Decoded p w c n given z left → Decoded p w c n (given ++ more) z (left ++ more)
+  pub decoded_with : (given : List Bool) (z : Position) (left more : List Bool) → Decoded p w c n given z left
+      → Decoded p w c n (given ++ more) z (left ++ more)
   decoded_with given z left more d = record {
     leads = d.leads;
     bits_are = ap (λ v. v ++ more) d.bits_are ∙ append_assoc (bits_of_steps (interval_steps p w c n) start z.earlier) left more;
@@ -33,7 +34,8 @@ module _ (p : CodingParameters) (w c n : ℕ) (some : 0 < w) where
   }
 
   -- an event that can come next, appended
-  next_event : (given : List Bool) (z : Position) (e : Event) → Decoded p w c n given z [] → IsNext p w c n z e → Decoded p w c n (given ++ event_bits p z.earlier e) (moved w c z e) []
+  next_event : (given : List Bool) (z : Position) (e : Event) → Decoded p w c n given z [] → IsNext p w c n z e
+      → Decoded p w c n (given ++ event_bits p z.earlier e) (moved w c z e) []
   next_event given z e d a =
       decoded_more p w c n some (given ++ event_bits p z.earlier e) z (event_bits p z.earlier e) [] e (decoded_with given z [] (event_bits p z.earlier e) d) a (sym (append-nil (event_bits p z.earlier e)))
 
@@ -94,7 +96,8 @@ golomb_some k g q m e =
     not_none [] y ys h = cc
     not_none (x ∷ xs) y ys h = cc
 
-pub event_some : (p : CodingParameters) (w c n : ℕ) (z : Position) (e : Event) → length z.line < w → IsNext p w c n z e → event_bits p z.earlier e ≡ [] → ⊥
+pub event_some : (p : CodingParameters) (w c n : ℕ) (z : Position) (e : Event) → length z.line < w → IsNext p w c n z e
+    → event_bits p z.earlier e ≡ [] → ⊥
 unfolding event_bits
 event_some p w c n z (regular near s) o a h = golomb_some _ _ _ _ h
 event_some p w c n z (run_to_end k count) o a h =

@@ -21,7 +21,8 @@ use Rattle.jls_interval.proofs.HandBits.{broken_with}
 
 module _ (r0 w0 : ℕ) (told : List Bool) (r w : ℕ) where
   -- a count below the columns left, of which more bits follow
-  goes_on : (n : ℕ) (b : Bool) (more : List Bool) → Taken r0 w0 (told ++ b ∷ more) r w (false ∷ bits (run_order r) n) → n < 2 ^ run_order r → w ≤ w0 → n < w
+  goes_on : (n : ℕ) (b : Bool) (more : List Bool) → Taken r0 w0 (told ++ b ∷ more) r w (false ∷ bits (run_order r) n) → n < 2 ^ run_order r
+      → w ≤ w0 → n < w
       → BeginsRun r0 w0 told
   goes_on n b more t small within short =
       let c = counted r0 w0 (told ++ b ∷ more) r w (run_order r) n t refl small within short in
@@ -61,7 +62,8 @@ more_times : (a b c : ℕ) → a * c ≤ (a + b) * c
 more_times a b c = mul-le-mul_right c (omega arith)
 
 -- a count that can only pass the columns left
-pub count_too_long : (d r0 w0 : ℕ) (told : List Bool) (r w have x : ℕ) → have + d ≡ run_order r → have ≤ 15 → r ≤ 31 → 0 < w → w ≤ w0 → x < 2 ^ have → w ≤ x * 2 ^ d
+pub count_too_long : (d r0 w0 : ℕ) (told : List Bool) (r w have x : ℕ) → have + d ≡ run_order r → have ≤ 15 → r ≤ 31 → 0 < w → w ≤ w0
+    → x < 2 ^ have → w ≤ x * 2 ^ d
     → Taken r0 w0 told r w (false ∷ bits have x) → (more : List Bool) → NoRun r0 w0 (told ++ more)
 count_too_long zero r0 w0 told r w have x whole most small some within fits long t more =
     let e : have ≡ run_order r = omega arith in counted_long r0 w0 told r w have x t e fits some (omega arith) more
@@ -84,11 +86,13 @@ abbrev pub Passes : RunState → Type 0
 Passes (Blocks r w) = ⊥
 Passes (Count r w have x) = w ≤ x * 2 ^ (run_order r - have)
 
-pub run_continues : (r0 w0 : ℕ) (told : List Bool) (s : RunState) → IsRunState w0 s → RunAt r0 w0 told s → Continues s → BeginsRun r0 w0 told
+pub run_continues : (r0 w0 : ℕ) (told : List Bool) (s : RunState) → IsRunState w0 s → RunAt r0 w0 told s → Continues s
+    → BeginsRun r0 w0 told
 run_continues r0 w0 told (Blocks r w) i t g = blocks_go_on r0 w0 told r w i t
 run_continues r0 w0 told (Count r w have x) i t g = count_goes_on r0 w0 told r w have x i t g
 
-pub run_passes : (r0 w0 : ℕ) (told : List Bool) (s : RunState) → IsRunState w0 s → RunAt r0 w0 told s → Passes s → (more : List Bool) → NoRun r0 w0 (told ++ more)
+pub run_passes : (r0 w0 : ℕ) (told : List Bool) (s : RunState) → IsRunState w0 s → RunAt r0 w0 told s → Passes s → (more : List Bool)
+    → NoRun r0 w0 (told ++ more)
 run_passes r0 w0 told (Blocks r w) i t g = absurd g
 run_passes r0 w0 told (Count r w have x) i t g =
     let few = i.3 in

@@ -37,7 +37,8 @@ module _ (k g q : ℕ) (room : q + 2 ≤ g) (code : CodeState) (open_yet : IsOpe
       parts (x ∷ xs) e = record { missing = x; more_missing = xs; whole_is = e }
 
   -- a code at whose front they stand
-  pub begun : (m : ℕ) (more rest : List Bool) → has_golomb k g q m ≡ true → told ++ more ≡ golomb k g q m ++ rest → BeginsCodeOf k g q told m
+  pub begun : (m : ℕ) (more rest : List Bool) → has_golomb k g q m ≡ true → told ++ more ≡ golomb k g q m ++ rest
+      → BeginsCodeOf k g q told m
   begun m more rest has e = elim (one_begins told more (golomb k g q m) rest e) [
     | inl r ↦ absurd (none_whole k g q room told (begins k g q room code open_yet) m r.0 has r.1)
     | inr r ↦ record { rest = r.1 ∷ r.0; code = r.2 }
@@ -68,7 +69,8 @@ module _ (p : CodingParameters) (ok : AreCodingParameters p) where
       let m = error_mapped_at_most p (uses_special_mapping cell) (regular_error p cell near s) (error_range p (is_negative p near) s (regular_prediction p cell near)) in
       omega (arith, w, m)
 
-  pub interruption_small : (cell : RunCell) (near : Neighbours) (s : ℕ) → interruption_mapped (is_same near) cell (interruption_error p near s) ≤ 2 ^ qbpp p
+  pub interruption_small : (cell : RunCell) (near : Neighbours) (s : ℕ)
+      → interruption_mapped (is_same near) cell (interruption_error p near s) ≤ 2 ^ qbpp p
   interruption_small cell near s =
       let w = wide p ok in
       let m = interruption_mapped_at_most p (is_same near) cell (interruption_error p near s) (error_range p (ltb near.rb near.ra) s near.rb) in
@@ -78,7 +80,8 @@ module _ (p : CodingParameters) (ok : AreCodingParameters p) where
   room_of = let r = limit_room p 0 (omega arith) in omega arith
 
   -- all numbers were tried
-  pub no_sample : (cell : Cell) (near : Neighbours) (code : CodeState) → IsOpen (regular_k cell) (limit p) (qbpp p) code → (i : ℕ) → 2 ^ qbpp p < i
+  pub no_sample : (cell : Cell) (near : Neighbours) (code : CodeState) → IsOpen (regular_k cell) (limit p) (qbpp p) code → (i : ℕ)
+      → 2 ^ qbpp p < i
       → Tried (regular_k cell) (limit p) (qbpp p) (bits_told (limit p) (qbpp p) code) (NoSample p cell near) i
       → (more : List Bool) → NoSample p cell near (bits_told (limit p) (qbpp p) code ++ more)
   no_sample cell near code o i all t more s rest l e =
@@ -86,7 +89,8 @@ module _ (p : CodingParameters) (ok : AreCodingParameters p) where
       let has = small_has_code (regular_k cell) (limit p) (qbpp p) m room_of small in
       t m (omega arith) (begun (regular_k cell) (limit p) (qbpp p) room_of code o m more rest has e) (bits_told (limit p) (qbpp p) code ++ more) rest e s rest l e
 
-  pub no_interruption : (cell : RunCell) (near : Neighbours) (j : ℕ) → j ≤ 15 → (code : CodeState) → IsOpen (run_k (is_same near) cell) (limit p - j - 1) (qbpp p) code
+  pub no_interruption : (cell : RunCell) (near : Neighbours) (j : ℕ) → j ≤ 15 → (code : CodeState)
+      → IsOpen (run_k (is_same near) cell) (limit p - j - 1) (qbpp p) code
       → (i : ℕ) → 2 ^ qbpp p < i
       → Tried (run_k (is_same near) cell) (limit p - j - 1) (qbpp p) (bits_told (limit p - j - 1) (qbpp p) code) (NoInterruption p cell near j) i
       → (more : List Bool) → NoInterruption p cell near j (bits_told (limit p - j - 1) (qbpp p) code ++ more)

@@ -58,12 +58,14 @@ module _ (p : CodingParameters) (ok : AreCodingParameters p) (w c n : ℕ) (some
       bits_are = b.cut.whole_is;
     })
 
-    pub stuck_head : ((more : List Bool) → NoEvent p w (length lines % c) (above c lines) line (h.told ++ more) h.earlier) → IsHead p w c n given []
+    pub stuck_head : ((more : List Bool) → NoEvent p w (length lines % c) (above c lines) line (h.told ++ more) h.earlier)
+        → IsHead p w c n given []
     stuck_head none =
         dead_head (subst (IsDead p w c n) (append-nil given) (working_refused p ok w c n some given lines line cells run_indices hand h [] (λ more. subst (λ z. NoEvent p w (length lines % c) (above c lines) line (z ++ more) h.earlier) (sym (append-nil h.told)) (none more))))
 
   -- where no lines are to come, or none can
-  pub idle_head : (lines : List (List ℕ)) (line : List ℕ) (cells : Variables) (run_indices : List ℕ) (hand : Hand) (s : State) → (s ≡ Working → ⊥)
+  pub idle_head : (lines : List (List ℕ)) (line : List ℕ) (cells : Variables) (run_indices : List ℕ) (hand : Hand) (s : State)
+      → (s ≡ Working → ⊥)
       → StateIs p w c n given lines line cells run_indices hand s → IsHead p w c n given []
   idle_head lines line cells run_indices hand Working none h = absurd (none refl)
   idle_head lines line cells run_indices hand (Over extra) none h = over_head lines extra h

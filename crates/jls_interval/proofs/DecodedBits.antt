@@ -20,7 +20,8 @@ pub record Decoded (p : CodingParameters) (w c n : ℕ) (given : List Bool) (z :
   pub samples : HasSamples p z
   pub unfinished : length z.line < w
 
-bits_more : (m : StepwiseCode) (s z : m.State) (es : List m.Event) (e : m.Event) → Leads m s es z → bits_of_steps m s (es ++ e ∷ []) ≡ bits_of_steps m s es ++ m.step_bits z e
+bits_more : (m : StepwiseCode) (s z : m.State) (es : List m.Event) (e : m.Event) → Leads m s es z
+    → bits_of_steps m s (es ++ e ∷ []) ≡ bits_of_steps m s es ++ m.step_bits z e
 bits_more m s z [] e l = append-nil (m.step_bits s e) ∙ ap (λ v. m.step_bits v e) l
 bits_more m s z (f ∷ es) e l = ap (λ v. m.step_bits s f ++ v) (bits_more m (m.after s f) z es e l.1) ∙ sym (append_assoc (m.step_bits s f) (bits_of_steps m (m.after s f) es) (m.step_bits z e))
 
@@ -32,7 +33,8 @@ module _ (p : CodingParameters) (w c n : ℕ) (some : 0 < w) where
       elim (cases_lt (length line) w) [ inl h ↦ subst (λ (v : Position). length v.line < w) (sym (grown_part p w c n some z.lines line es h)) h | inr h ↦ (let q : length line ≡ w = omega arith in subst (λ (v : Position). length v.line < w) (sym (grown_full p w c n some z.lines line es q)) some) ]
 
   -- an event that is read
-  pub decoded_more : (given : List Bool) (z : Position) (left left' : List Bool) (e : Event) → Decoded p w c n given z left → IsNext p w c n z e → left ≡ event_bits p z.earlier e ++ left'
+  pub decoded_more : (given : List Bool) (z : Position) (left left' : List Bool) (e : Event) → Decoded p w c n given z left
+      → IsNext p w c n z e → left ≡ event_bits p z.earlier e ++ left'
       → Decoded p w c n given (moved w c z e) left'
   decoded_more given z left left' e d a b =
       let m = interval_steps p w c n in let ge = grown_earlier w z.lines (z.line ++ added (here w c z).ra e) (z.earlier ++ e ∷ []) in
@@ -43,7 +45,8 @@ module _ (p : CodingParameters) (w c n : ℕ) (some : 0 < w) where
         unfinished = moved_open z e d.unfinished a;
       }
 
-  pub all_lines : (ls : List (List ℕ)) → AllByRecursion (λ l. length l ≡ w) ls → AllByRecursion (λ l. Small p l) ls → AllByRecursion (IsLine p w) ls
+  pub all_lines : (ls : List (List ℕ)) → AllByRecursion (λ l. length l ≡ w) ls → AllByRecursion (λ l. Small p l) ls
+      → AllByRecursion (IsLine p w) ls
   all_lines [] h j = tt
   all_lines (l ∷ ls) h j = ((h.0, j.0), all_lines ls h.1 j.1)
 

@@ -31,14 +31,17 @@ module _ (p : CodingParameters) (ok : AreCodingParameters p) (w c n : ℕ) (some
   decoded = record { leads = h.leads; bits_are = h.bits_are; samples = h.samples; unfinished = h.unfinished }
 
   -- where no event that can come next stands at the front of what was told, no lines' code begins the bits
-  stuck : (more : List Bool) → NoEvent p w (length lines % c) (above c lines) line (h.told ++ more) h.earlier → NoLines p w c n (given ++ more)
+  stuck : (more : List Bool) → NoEvent p w (length lines % c) (above c lines) line (h.told ++ more) h.earlier
+      → NoLines p w c n (given ++ more)
   stuck more none = λ ls rest are e.
       let d = decoded_with p w c n some given z h.told more decoded in
       let x = some_fits p w (length lines % c) (above c lines) line h.unfinished in
       refused (interval_steps p w c n) (events_apart p w c n ok) (kept p w c n) start z (finish w c ls) h.earlier (events w c ls) (h.told ++ more) rest (tt, tt) h.leads (lines_grow p w c n some ls are) (finished p w c n ls are.count_is) x.0 (h.few, x.1) (λ ev m next q. none ev m next.1 q) (sym d.bits_are ∙ e ∙ ap (λ v. v ++ rest) (code_is p w c n ls))
 
   -- a refused step: no bits that come later make it a code
-  pub working_refused : (taken : List Bool) → ((more : List Bool) → NoEvent p w (length lines % c) (above c lines) line ((h.told ++ taken) ++ more) h.earlier) → IsDead p w c n (given ++ taken)
+  pub working_refused : (taken : List Bool)
+      → ((more : List Bool) → NoEvent p w (length lines % c) (above c lines) line ((h.told ++ taken) ++ more) h.earlier)
+      → IsDead p w c n (given ++ taken)
   working_refused taken none = λ more.
       subst (NoLines p w c n) (sym (append_assoc given taken more)) (stuck (taken ++ more) (subst (λ v. NoEvent p w (length lines % c) (above c lines) line v h.earlier) (append_assoc h.told taken more) (none more)))
 
@@ -53,7 +56,9 @@ module _ (p : CodingParameters) (ok : AreCodingParameters p) (w c n : ℕ) (some
       subst (NoLines p w c n) (append-nil given) (stuck [] (subst (λ v. NoEvent p w (length lines % c) (above c lines) line v h.earlier) (sym (append-nil h.told)) none_whole))
 
   -- more bits of the event in hand
-  pub working_more : (taken : List Bool) (hand' : Hand) → HandAt p w (above c lines) line cells (get_or run_indices (length lines % c) 0) hand' (h.told ++ taken) → IsWorking p w c n (given ++ taken) lines line cells run_indices hand'
+  pub working_more : (taken : List Bool) (hand' : Hand)
+      → HandAt p w (above c lines) line cells (get_or run_indices (length lines % c) 0) hand' (h.told ++ taken)
+      → IsWorking p w c n (given ++ taken) lines line cells run_indices hand'
   working_more taken hand' at = record {
     earlier = h.earlier;
     told = h.told ++ taken;
@@ -98,7 +103,8 @@ module _ (p : CodingParameters) (ok : AreCodingParameters p) (w c n : ℕ) (some
         subst (λ v. Decoded p w c n (given ++ taken) v []) (ap (λ v. grown w lines v later) (sym m.line_is) ∙ grown_full p w c n some lines line' later whole) after
 
     -- and its line, with lines still to come
-    pub working_line : length line' ≡ w → length (lines ++ line' ∷ []) < n → IsWorking p w c n (given ++ taken) (lines ++ line' ∷ []) [] cells' run_indices' Fresh
+    pub working_line : length line' ≡ w → length (lines ++ line' ∷ []) < n
+        → IsWorking p w c n (given ++ taken) (lines ++ line' ∷ []) [] cells' run_indices' Fresh
     working_line whole few =
         let d = full whole in
         record { earlier = later; told = []; leads = d.leads; bits_are = d.bits_are; samples = d.samples; unfinished = d.unfinished; few = few; is_after = m.is_after; hand_at = refl }
@@ -114,7 +120,9 @@ pub dead_more : (p : CodingParameters) (w c n : ℕ) (given more : List Bool) �
 dead_more p w c n given more h = λ later. subst (NoLines p w c n) (sym (append_assoc given more later)) (h (more ++ later))
 
 -- no bit
-pub working_start : (p : CodingParameters) (w c n : ℕ) → 0 < w → 0 < n → (cells : Variables) (run_indices : List ℕ) → cells ≡ initial_variables p → ((component : ℕ) → get_or run_indices component 0 ≡ 0) → IsWorking p w c n (bits_read []) [] [] cells run_indices Fresh
+pub working_start : (p : CodingParameters) (w c n : ℕ) → 0 < w → 0 < n → (cells : Variables) (run_indices : List ℕ)
+    → cells ≡ initial_variables p → ((component : ℕ) → get_or run_indices component 0 ≡ 0)
+    → IsWorking p w c n (bits_read []) [] [] cells run_indices Fresh
 working_start p w c n some any cells run_indices e zeros = record {
   earlier = [];
   told = [];

@@ -25,7 +25,8 @@ use Rattle.jls_interval.proofs.WrittenRuns.{interruption_then}
 
 -- One list of events behind another ----------------------------------------------------
 
-pub bits_append : (p : CodingParameters) (earlier xs ys : List Event) → bits_of_events p earlier (xs ++ ys) ≡ bits_of_events p earlier xs ++ bits_of_events p (earlier ++ xs) ys
+pub bits_append : (p : CodingParameters) (earlier xs ys : List Event)
+    → bits_of_events p earlier (xs ++ ys) ≡ bits_of_events p earlier xs ++ bits_of_events p (earlier ++ xs) ys
 unfolding bits_of_events
 bits_append p earlier [] ys = ap (λ z. bits_of_events p z ys) (sym (append-nil earlier))
 bits_append p earlier (x ∷ xs) ys =
@@ -58,14 +59,16 @@ written_same a a' b b' c c' e f g = cc
 -- A sample of regular mode -------------------------------------------------------------
 
 -- the difference of two samples, with SIGN
-pub difference_range : (negative : Bool) (s x most : ℕ) → s ≤ most → x ≤ most → (neg_ℤ (pos (most + 1)) <ℤ with_sign negative (pos s -ℤ pos x)) × (with_sign negative (pos s -ℤ pos x) <ℤ pos (most + 1))
+pub difference_range : (negative : Bool) (s x most : ℕ) → s ≤ most → x ≤ most
+    → (neg_ℤ (pos (most + 1)) <ℤ with_sign negative (pos s -ℤ pos x)) × (with_sign negative (pos s -ℤ pos x) <ℤ pos (most + 1))
 difference_range true s x most a b = (omega (arith, ints), omega (arith, ints))
 difference_range false s x most a b = (omega (arith, ints), omega (arith, ints))
 
 golomb_same : (k k' g g' q q' m m' : ℕ) → k ≡ k' → g ≡ g' → q ≡ q' → m ≡ m' → golomb k g q m ≡ golomb k' g' q' m'
 golomb_same k k' g g' q q' m m' a b c d = cc
 
-event_regular : (p : CodingParameters) (earlier : List Event) (near : Neighbours) (sample : ℕ) → event_bits p earlier (regular near sample) ≡ regular_bits p (cell_before p earlier (context p near)) near sample
+event_regular : (p : CodingParameters) (earlier : List Event) (near : Neighbours) (sample : ℕ)
+    → event_bits p earlier (regular near sample) ≡ regular_bits p (cell_before p earlier (context p near)) near sample
 unfolding event_bits
 event_regular p earlier near sample = refl
 
@@ -77,17 +80,21 @@ module _ (old new : Variables) (near : Neighbours) (cell : ℕ) (negative : Bool
   used = cell_at old cell
 
   -- the error that is computed
-  pub error_is : (predicted : ℕ) (difference error : ℤ) → predicted ≡ corrected_prediction scan negative (cell_at old cell).correction (edge_detecting_predictor near.ra near.rb near.rc) → difference ≡ with_sign negative (pos sample -ℤ pos predicted)
+  pub error_is : (predicted : ℕ) (difference error : ℤ)
+      → predicted ≡ corrected_prediction scan negative (cell_at old cell).correction (edge_detecting_predictor near.ra near.rb near.rc)
+      → difference ≡ with_sign negative (pos sample -ℤ pos predicted)
       → error ≡ modulo_reduced scan difference → error ≡ regular_error scan used near sample
   error_is predicted difference error a b c =
       c ∙ ap (modulo_reduced scan) b ∙ ap (λ z. modulo_reduced scan (with_sign negative (pos sample -ℤ pos z))) a ∙ ap (λ n. modulo_reduced scan (with_sign n (pos sample -ℤ pos (corrected_prediction scan n (cell_at old cell).correction (edge_detecting_predictor near.ra near.rb near.rc))))) mode.sign_is
 
   -- the code that is written
-  pub regular_code_is : (error : ℤ) (k g q m : ℕ) → error ≡ regular_error scan used near sample → k ≡ regular_k used → g ≡ limit scan → q ≡ qbpp scan → m ≡ regular_mapped used error
+  pub regular_code_is : (error : ℤ) (k g q m : ℕ) → error ≡ regular_error scan used near sample → k ≡ regular_k used → g ≡ limit scan
+      → q ≡ qbpp scan → m ≡ regular_mapped used error
       → golomb k g q m ≡ regular_bits scan used near sample
   regular_code_is error k g q m e a b c d = golomb_same k (regular_k used) g (limit scan) q (qbpp scan) m (regular_mapped used (regular_error scan used near sample)) a b c (d ∙ ap (regular_mapped used) e)
 
-  pub regular_writes : (error : ℤ) → error ≡ regular_error scan used near sample → new.parameters ≡ scan → cell_at new cell ≡ updated old.parameters.reset used error
+  pub regular_writes : (error : ℤ) → error ≡ regular_error scan used near sample → new.parameters ≡ scan
+      → cell_at new cell ≡ updated old.parameters.reset used error
       → ((other : ℕ) → (other ≡ cell → ⊥) → cell_at new other ≡ cell_at old other) → ((same : Bool) → run_cell_at new same ≡ run_cell_at old same)
       → (run_indices : List ℕ) (before after code : List Bool) → after ≡ before ++ code → code ≡ regular_bits scan used near sample
       → Writes scan (record { cells = old; run_indices = run_indices; written = before }) (record { cells = new; run_indices = run_indices; written = after }) (regular near sample ∷ [])
@@ -98,11 +105,14 @@ module _ (old new : Variables) (near : Neighbours) (cell : ℕ) (negative : Bool
 
 -- A run to the end ---------------------------------------------------------------------
 
-event_to_end : (p : CodingParameters) (earlier : List Event) (component count : ℕ) → event_bits p earlier (run_to_end component count) ≡ run_to_end_bits (blocks (run_index_before earlier component) count)
+event_to_end : (p : CodingParameters) (earlier : List Event) (component count : ℕ)
+    → event_bits p earlier (run_to_end component count) ≡ run_to_end_bits (blocks (run_index_before earlier component) count)
 unfolding event_bits
 event_to_end p earlier component count = refl
 
-pub to_end_writes : (p : CodingParameters) (cells : Variables) (run_indices : List ℕ) (component index count : ℕ) (before after : List Bool) → component < length run_indices → after ≡ before ++ run_to_end_bits (blocks (get_or run_indices component 0) count) → index ≡ (blocks (get_or run_indices component 0) count).run_index
+pub to_end_writes : (p : CodingParameters) (cells : Variables) (run_indices : List ℕ) (component index count : ℕ) (before after : List Bool)
+    → component < length run_indices → after ≡ before ++ run_to_end_bits (blocks (get_or run_indices component 0) count)
+    → index ≡ (blocks (get_or run_indices component 0) count).run_index
     → Writes p (record { cells = cells; run_indices = run_indices; written = before }) (record { cells = cells; run_indices = set run_indices component index; written = after }) (run_to_end component count ∷ [])
 to_end_writes p cells run_indices component index count before after within a b = record {
   is_after = λ earlier h. after_end p cells run_indices earlier h component count within index b;
@@ -124,14 +134,17 @@ module _ (old new : Variables) (near : Neighbours) (sample : ℕ) where
   same = is_same near
 
   -- the code that is written
-  pub interrupting_code_is : (error : ℤ) (k g q m order : ℕ) (same' : Bool) → same' ≡ same → error ≡ interruption_error was near sample → k ≡ run_k same' (run_cell_at old same') → g ≡ limit was - order - 1 → q ≡ qbpp was
+  pub interrupting_code_is : (error : ℤ) (k g q m order : ℕ) (same' : Bool) → same' ≡ same → error ≡ interruption_error was near sample
+      → k ≡ run_k same' (run_cell_at old same') → g ≡ limit was - order - 1 → q ≡ qbpp was
       → m ≡ interruption_mapped same' (run_cell_at old same') error → golomb k g q m ≡ interrupting_bits was (run_cell_at old same) near order sample
   interrupting_code_is error k g q m order same' s e a b c d =
       golomb_same k (run_k same (run_cell_at old same)) g (limit was - order - 1) q (qbpp was) m (interruption_mapped same (run_cell_at old same) (interruption_error was near sample)) (a ∙ ap (λ z. run_k z (run_cell_at old z)) s) b c (d ∙ ap (interruption_mapped same' (run_cell_at old same')) e ∙ ap (λ z. interruption_mapped z (run_cell_at old z) (interruption_error was near sample)) s)
 
   module _ (parameters : new.parameters ≡ was) (changed : run_cell_at new same ≡ run_updated old.parameters.reset same (run_cell_at old same) (interruption_error was near sample))
       (other : run_cell_at new (not same) ≡ run_cell_at old (not same)) (cells : new.regular ≡ old.regular) (run_indices : List ℕ) (component count : ℕ) (within : component < length run_indices) where
-    pub interrupted_writes : (raised index order : ℕ) (before middle after : List Bool) → middle ≡ before ++ interrupted_run_bits (blocks (get_or run_indices component 0) count) [] → raised ≡ (blocks (get_or run_indices component 0) count).run_index
+    pub interrupted_writes : (raised index order : ℕ) (before middle after : List Bool)
+        → middle ≡ before ++ interrupted_run_bits (blocks (get_or run_indices component 0) count) []
+        → raised ≡ (blocks (get_or run_indices component 0) count).run_index
         → order ≡ run_order raised → after ≡ middle ++ interrupting_bits was (run_cell_at old same) near order sample → index ≡ run_index_lowered raised
         → Writes was (record { cells = old; run_indices = run_indices; written = before }) (record { cells = new; run_indices = set run_indices component index; written = after }) (interrupted_run component count near sample ∷ [])
     interrupted_writes raised index order before middle after m r o a i =

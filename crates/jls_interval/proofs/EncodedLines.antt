@@ -24,7 +24,8 @@ module _ (p : CodingParameters) (component : ℕ) (up : Above) (line : List ℕ)
   pub begun_start : (old : Written) → IsBegun p component up line 0 old old
   begun_start old = record { before = []; writes = writes_none p old; parted = refl }
 
-  pub begun_more : (x next : ℕ) (old middle new : Written) → x < width → IsBegun p component up line x old middle → Writes p middle new ((stretch width component up line x).event ∷ []) → next ≡ (stretch width component up line x).next
+  pub begun_more : (x next : ℕ) (old middle new : Written) → x < width → IsBegun p component up line x old middle
+      → Writes p middle new ((stretch width component up line x).event ∷ []) → next ≡ (stretch width component up line x).next
       → IsBegun p component up line next old new
   begun_more x next old middle new l b w e =
       let s = stretch width component up line x in
@@ -34,7 +35,8 @@ module _ (p : CodingParameters) (component : ℕ) (up : Above) (line : List ℕ)
         parted = b.parted ∙ ap (λ z. b.before ++ z) (fuel_same width component up width (suc width) line x (omega arith) (omega arith) ∙ more width component up width line x l ∙ ap (λ z. s.event ∷ events_from width component up line width z) (sym e)) ∙ sym (append_assoc b.before (s.event ∷ []) (events_from width component up line width next));
       }
 
-  pub begun_end : (x : ℕ) (old new : Written) → width ≤ x → IsBegun p component up line x old new → Writes p old new (line_events width component up line)
+  pub begun_end : (x : ℕ) (old new : Written) → width ≤ x → IsBegun p component up line x old new
+      → Writes p old new (line_events width component up line)
   begun_end x old new l b =
       subst (Writes p old new) (sym (b.parted ∙ ap (λ z. b.before ++ z) (past width component up width line x l) ∙ append-nil b.before)) b.writes
 
@@ -64,7 +66,8 @@ unfolding code
 code_is p w c lines = refl
 
 module _ (p : CodingParameters) where
-  pub written_start : (w c : ℕ) (lines : List (List ℕ)) (cells : Variables) (run_indices : List ℕ) (written : List Bool) → cells ≡ initial_variables p → ((component : ℕ) → get_or run_indices component 0 ≡ 0) → written ≡ []
+  pub written_start : (w c : ℕ) (lines : List (List ℕ)) (cells : Variables) (run_indices : List ℕ) (written : List Bool)
+      → cells ≡ initial_variables p → ((component : ℕ) → get_or run_indices component 0 ≡ 0) → written ≡ []
       → AreWritten p w c lines 0 (record { cells = cells; run_indices = run_indices; written = written })
   written_start w c lines cells run_indices written a b e =
       let none : [] ≡ events w c [] = sym (no_events w c) in
@@ -77,7 +80,8 @@ module _ (p : CodingParameters) where
     pub written_end : length lines ≤ j → old.written ≡ code p w c lines
     written_end l = are.bits_are ∙ ap (code p w c) (take_all j lines l)
 
-    pub written_more : (k : ℕ) (up : Above) (line : List ℕ) (new : Written) → j < length lines → k ≡ j % c → up ≡ above c (take j lines) → line ≡ get_or lines j [] → length line ≡ w
+    pub written_more : (k : ℕ) (up : Above) (line : List ℕ) (new : Written) → j < length lines → k ≡ j % c → up ≡ above c (take j lines)
+        → line ≡ get_or lines j [] → length line ≡ w
         → Writes p old new (line_events (length line) k up line) → AreWritten p w c lines (j + 1) new
     written_more k up line new l k_is up_is line_is wide ws =
         let earlier = events w c (take j lines) in let own = line_events (length line) k up line in
@@ -92,7 +96,8 @@ module _ (p : CodingParameters) where
 pub none_back : (lines : List (List ℕ)) (j back : ℕ) → j ≤ length lines → j < back → line_back (take j lines) back ≡ []
 none_back lines j back l h = let n = length-take-le j lines l in let t : ltb (length (take j lines)) back ≡ true = lt-ltb _ _ (omega arith) in rw t refl
 
-pub some_back : (lines : List (List ℕ)) (j back : ℕ) → j ≤ length lines → 0 < back → back ≤ j → line_back (take j lines) back ≡ get_or lines (j - back) []
+pub some_back : (lines : List (List ℕ)) (j back : ℕ) → j ≤ length lines → 0 < back → back ≤ j
+    → line_back (take j lines) back ≡ get_or lines (j - back) []
 some_back lines j back l some h =
     let n = length-take-le j lines l in let t : ltb (length (take j lines)) back ≡ false = le-ltb _ _ (omega arith) in
     rw t (ap (λ z. get_or (take j lines) (z - back) []) n ∙ get_or-take j lines (j - back) [] (omega arith))
@@ -104,6 +109,7 @@ module _ (p : CodingParameters) (w : ℕ) where
   line_in (x ∷ xs) (suc i) h l = line_in xs i h.1 (omega arith)
 
   -- the samples above are at most MAXVAL
-  pub back_small : (lines : List (List ℕ)) (j back : ℕ) → AllByRecursion (IsLine p w) lines → j ≤ length lines → 0 < back → AllByRecursion (λ sample. sample ≤ p.maxval) (line_back (take j lines) back)
+  pub back_small : (lines : List (List ℕ)) (j back : ℕ) → AllByRecursion (IsLine p w) lines → j ≤ length lines → 0 < back
+      → AllByRecursion (λ sample. sample ≤ p.maxval) (line_back (take j lines) back)
   back_small lines j back h l some =
       elim (cases_lt j back) [ inl a ↦ subst (AllByRecursion (λ sample. sample ≤ p.maxval)) (sym (none_back lines j back l a)) tt | inr a ↦ subst (AllByRecursion (λ sample. sample ≤ p.maxval)) (sym (some_back lines j back l some a)) (line_in lines (j - back) h (omega arith)).1 ]

@@ -9,7 +9,8 @@ use Rattle.jls_interval.specs.Events.{run_to_end, interrupted_run, Above, neighb
 use Rattle.jls_interval.proofs.Stretches.{to, stretch_same, at_end, at_stop}
 
 -- the samples from column x on are those of a slice
-pub counted : (line : List ℕ) (x value count : ℕ) → count ≡ prefix_len (λ s. eqb s value) (take (length line - x) (drop x line)) → count ≡ prefix_len (λ s. eqb s value) (drop x line)
+pub counted : (line : List ℕ) (x value count : ℕ) → count ≡ prefix_len (λ s. eqb s value) (take (length line - x) (drop x line))
+    → count ≡ prefix_len (λ s. eqb s value) (drop x line)
 counted line x value count e =
     e ∙ ap (prefix_len (λ s. eqb s value)) (take_all (length line - x) (drop x line) (let b = length-drop x line in omega arith))
 
@@ -47,7 +48,8 @@ module _ (line : List ℕ) (x value count : ℕ) (within : x < length line) (is 
           let s = stop_is in
           at_end w component up line x run (omega arith) ∙ stretch_same (run_to_end component (w - x)) (run_to_end component count) w w (ap (run_to_end component) (omega arith)) refl
 
-      pub stretch_interrupted : (x + count ≡ w → ⊥) → stretch w component up line x ≡ to (interrupted_run component count (neighbours w up line (x + count)) (get_or line (x + count) 0)) (x + count + 1)
+      pub stretch_interrupted : (x + count ≡ w → ⊥)
+          → stretch w component up line x ≡ to (interrupted_run component count (neighbours w up line (x + count)) (get_or line (x + count) 0)) (x + count + 1)
       stretch_interrupted short =
           let l = stop_within in let e : x + count - x ≡ count = omega arith in
           at_stop w component up line x (x + count) run stop_is (omega arith) ∙ stretch_same (interrupted_run component (x + count - x) (neighbours w up line (x + count)) (get_or line (x + count) 0)) (interrupted_run component count (neighbours w up line (x + count)) (get_or line (x + count) 0)) (suc (x + count)) (x + count + 1) (ap (λ z. interrupted_run component z (neighbours w up line (x + count)) (get_or line (x + count) 0)) e) (omega arith)

@@ -61,7 +61,8 @@ unfolding corrected_prediction
 predicted_small p cell near = clamped_small p _
 
 -- the number of a sample in regular mode gives the sample
-pub regular_same : (p : CodingParameters) (cell : Cell) (near : Neighbours) (s s' : ℕ) (t u : List Bool) → range p ≤ 2 ^ qbpp p → s ≤ p.maxval → s' ≤ p.maxval
+pub regular_same : (p : CodingParameters) (cell : Cell) (near : Neighbours) (s s' : ℕ) (t u : List Bool) → range p ≤ 2 ^ qbpp p
+    → s ≤ p.maxval → s' ≤ p.maxval
     → regular_bits p cell near s ++ t ≡ regular_bits p cell near s' ++ u → s ≡ s'
 regular_same p cell near s s' t u r a b e =
     let neg = is_negative p near in let x = regular_prediction p cell near in let xs : x ≤ p.maxval = predicted_small p cell near in
@@ -89,7 +90,8 @@ run_map_is same cell e =
         and_false false = refl
     apart (negsuc n) = refl
 
-    parts : (z l m a b : Bool) → m ≡ not l → (a && b) ≡ false → ((z && a && l) || (b && m) || (b && not z)) ≡ cond a (z && l) (cond b (not (z && l)) false)
+    parts : (z l m a b : Bool) → m ≡ not l → (a && b) ≡ false
+        → ((z && a && l) || (b && m) || (b && not z)) ≡ cond a (z && l) (cond b (not (z && l)) false)
     parts z l m true true h j = cc
     parts true true m true false h j = refl
     parts true false m true false h j = refl
@@ -118,7 +120,8 @@ same_is p x =
     ap (modulo_reduced p) z ∙ (let range : IsError p (modulo_reduced p (pos 0)) = b.is_error in omega (arith, ints))
 
 -- an interrupting sample of RItype 1 has an error
-pub no_zero : (p : CodingParameters) (near : Neighbours) → near.rb ≤ p.maxval → (s : ℕ) → s ≤ p.maxval → (s ≡ near.ra → ⊥) → is_same near ≡ true → interruption_error p near s ≡ pos 0 → ⊥
+pub no_zero : (p : CodingParameters) (near : Neighbours) → near.rb ≤ p.maxval → (s : ℕ) → s ≤ p.maxval → (s ≡ near.ra → ⊥)
+    → is_same near ≡ true → interruption_error p near s ≡ pos 0 → ⊥
 no_zero p near x s a n i z =
     let ab : near.ra ≡ near.rb = eqb-true near.ra near.rb i in
     let neg : ltb near.rb near.ra ≡ false = le-ltb near.rb near.ra (omega arith) in
@@ -126,7 +129,8 @@ no_zero p near x s a n i z =
     let d : s ≡ near.rb = sample_same p false s near.rb near.rb a x x (sym q ∙ z ∙ sym (same_is p near.rb)) in n (omega arith)
 
 -- the number of an interrupting sample gives the sample
-pub interrupting_same : (p : CodingParameters) (run : Blocks) (cell : RunCell) (near : Neighbours) (g s s' : ℕ) (t u : List Bool) → range p ≤ 2 ^ qbpp p → qbpp p + 2 ≤ g → near.rb ≤ p.maxval → s ≤ p.maxval → s' ≤ p.maxval
+pub interrupting_same : (p : CodingParameters) (run : Blocks) (cell : RunCell) (near : Neighbours) (g s s' : ℕ) (t u : List Bool)
+    → range p ≤ 2 ^ qbpp p → qbpp p + 2 ≤ g → near.rb ≤ p.maxval → s ≤ p.maxval → s' ≤ p.maxval
     → (s ≡ near.ra → ⊥) → (s' ≡ near.ra → ⊥)
     → golomb (run_k (is_same near) cell) g (qbpp p) (interruption_mapped (is_same near) cell (interruption_error p near s)) ++ t ≡ golomb (run_k (is_same near) cell) g (qbpp p) (interruption_mapped (is_same near) cell (interruption_error p near s')) ++ u → (s ≡ s') × (t ≡ u)
 interrupting_same p run cell near g s s' t u r room x a b na nb e =
@@ -139,23 +143,27 @@ interrupting_same p run cell near g s s' t u r room x a b na nb e =
     (sample_same p neg s s' near.rb a b x (interruption_mapped_same same turn v v' (λ i. (no_zero p near x s a na i, no_zero p near x s' b nb i)) (sym m ∙ h.0 ∙ m')), h.1)
 
 -- the line above has small samples
-small_lines : (p : CodingParameters) (lines : List (List ℕ)) (i : ℕ) → AllByRecursion (λ l. AllByRecursion (λ s. s ≤ p.maxval) l) lines → AllByRecursion (λ s. s ≤ p.maxval) (get_or lines i [])
+small_lines : (p : CodingParameters) (lines : List (List ℕ)) (i : ℕ) → AllByRecursion (λ l. AllByRecursion (λ s. s ≤ p.maxval) l) lines
+    → AllByRecursion (λ s. s ≤ p.maxval) (get_or lines i [])
 small_lines p [] i h = tt
 small_lines p (l ∷ ls) zero h = h.0
 small_lines p (l ∷ ls) (suc i) h = small_lines p ls i h.1
 
-pub small_back : (p : CodingParameters) (lines : List (List ℕ)) (back : ℕ) → AllByRecursion (λ l. AllByRecursion (λ s. s ≤ p.maxval) l) lines → AllByRecursion (λ s. s ≤ p.maxval) (line_back lines back)
+pub small_back : (p : CodingParameters) (lines : List (List ℕ)) (back : ℕ)
+    → AllByRecursion (λ l. AllByRecursion (λ s. s ≤ p.maxval) l) lines → AllByRecursion (λ s. s ≤ p.maxval) (line_back lines back)
 small_back p lines back h =
     elim (cases_Bool (ltb (length lines) back)) [ inl e ↦ rw e tt | inr e ↦ rw e (small_lines p lines (length lines - back) h) ]
 
-pub b_small : (p : CodingParameters) (w : ℕ) (up : Above) (line : List ℕ) (x : ℕ) → AllByRecursion (λ s. s ≤ p.maxval) up.line_above → (neighbours w up line x).rb ≤ p.maxval
+pub b_small : (p : CodingParameters) (w : ℕ) (up : Above) (line : List ℕ) (x : ℕ) → AllByRecursion (λ s. s ≤ p.maxval) up.line_above
+    → (neighbours w up line x).rb ≤ p.maxval
 b_small p w up line zero h = small_get up.line_above 0 p.maxval h
 b_small p w up line (suc x) h = small_get up.line_above (suc x) p.maxval h
 
 regular_event : (n n' : Neighbours) (s s' : ℕ) → n ≡ n' → s ≡ s' → regular n s ≡ regular n' s'
 regular_event n n' s s' a b = cc
 
-interrupted_event : (k k' c c' : ℕ) (n n' : Neighbours) (s s' : ℕ) → k ≡ k' → c ≡ c' → n ≡ n' → s ≡ s' → interrupted_run k c n s ≡ interrupted_run k' c' n' s'
+interrupted_event : (k k' c c' : ℕ) (n n' : Neighbours) (s s' : ℕ) → k ≡ k' → c ≡ c' → n ≡ n' → s ≡ s'
+    → interrupted_run k c n s ≡ interrupted_run k' c' n' s'
 interrupted_event k k' c c' n n' s s' x y z u = cc
 
 to_end_event : (k k' c c' : ℕ) → k ≡ k' → c ≡ c' → run_to_end k c ≡ run_to_end k' c'
@@ -179,15 +187,18 @@ module _ (p : CodingParameters) (wide : range p ≤ 2 ^ qbpp p) (w k : ℕ) (up 
       let run = blocks (run_index_before earlier k) c in
       append_assoc (replicate run.full_blocks true ++ false ∷ bits (run_order run.run_index) run.remaining) (interrupting_bits p (run_cell_before p earlier (is_same n)) n (run_order run.run_index) s) t
 
-  regular_case : (s s' : ℕ) (t u : List Bool) → s ≤ p.maxval → s' ≤ p.maxval → event_bits p earlier (regular now s) ++ t ≡ event_bits p earlier (regular now s') ++ u → s ≡ s'
+  regular_case : (s s' : ℕ) (t u : List Bool) → s ≤ p.maxval → s' ≤ p.maxval
+      → event_bits p earlier (regular now s) ++ t ≡ event_bits p earlier (regular now s') ++ u → s ≡ s'
   unfolding event_bits
   regular_case s s' t u a b e = regular_same p (cell_before p earlier (context p now)) now s s' t u wide a b e
 
-  apart_case : (c n' : ℕ) (n : Neighbours) (s : ℕ) (t u : List Bool) → c < n' → event_bits p earlier (interrupted_run k c n s) ++ t ≡ event_bits p earlier (run_to_end k n') ++ u → ⊥
+  apart_case : (c n' : ℕ) (n : Neighbours) (s : ℕ) (t u : List Bool) → c < n'
+      → event_bits p earlier (interrupted_run k c n s) ++ t ≡ event_bits p earlier (run_to_end k n') ++ u → ⊥
   unfolding event_bits
   apart_case c n' n s t u h e = run_apart c (run_index_before earlier k) c n' _ u (run_index_before_small earlier k) (omega arith) h (sym (broken_is c n s t) ∙ e)
 
-  broken_case : (c c' : ℕ) (n n' : Neighbours) (s s' : ℕ) (t u : List Bool) → Possible (interrupted_run k c n s) → Possible (interrupted_run k c' n' s')
+  broken_case : (c c' : ℕ) (n n' : Neighbours) (s s' : ℕ) (t u : List Bool) → Possible (interrupted_run k c n s)
+      → Possible (interrupted_run k c' n' s')
       → event_bits p earlier (interrupted_run k c n s) ++ t ≡ event_bits p earlier (interrupted_run k c' n' s') ++ u → (c ≡ c') × (s ≡ s')
   broken_case c c' n n' s s' t u h j e =
       let r = run_same c (run_index_before earlier k) c c' _ _ (run_index_before_small earlier k) (omega arith) (sym (broken_is c n s t) ∙ e ∙ broken_is c' n' s' u) in
@@ -216,6 +227,7 @@ module _ (p : CodingParameters) (wide : range p ≤ 2 ^ qbpp p) (w k : ℕ) (up 
       let b = broken_case c c' n n' s s' t u h' j' (subst (λ z. event_bits p earlier (interrupted_run z c n s) ++ t ≡ event_bits p earlier (interrupted_run k c' n' s') ++ u) h.1 (subst (λ z. event_bits p earlier (interrupted_run k' c n s) ++ t ≡ event_bits p earlier (interrupted_run z c' n' s') ++ u) j.1 e)) in
       interrupted_event k' k'' c c' n n' s s' (h.1 ∙ sym j.1) b.0 (h.3 ∙ ap (λ z. neighbours w up (line ++ replicate z now.ra) (length line + z)) b.0 ∙ sym j.3) b.1
 
-pub events_apart : (p : CodingParameters) (width components count : ℕ) → AreCodingParameters p → IsPrefixFree (interval_steps p width components count)
+pub events_apart : (p : CodingParameters) (width components count : ℕ) → AreCodingParameters p
+    → IsPrefixFree (interval_steps p width components count)
 events_apart p width components count ok s e f t u sound a b eq =
     cases p (range-le-pow p (maxval_small p ok)) width (length s.lines % components) (above components s.lines) (small_back p s.lines components sound.0) s.line s.earlier e f t u a.1 b.1 eq

@@ -25,7 +25,8 @@ more_none : (o : Option (List ℕ)) → o ≡ option_map (λ bytes. bytes ++ [])
 more_none None = refl
 more_none (Some bytes) = ap Some (sym (append-nil bytes))
 
-more_twice : (xs ys zs : List ℕ) → zs ≡ xs ++ ys → (o : Option (List ℕ)) → option_map (λ bytes. bytes ++ ys) (option_map (λ bytes. bytes ++ xs) o) ≡ option_map (λ bytes. bytes ++ zs) o
+more_twice : (xs ys zs : List ℕ) → zs ≡ xs ++ ys → (o : Option (List ℕ))
+    → option_map (λ bytes. bytes ++ ys) (option_map (λ bytes. bytes ++ xs) o) ≡ option_map (λ bytes. bytes ++ zs) o
 more_twice xs ys zs e None = refl
 more_twice xs ys zs e (Some bytes) = ap Some (append_assoc bytes xs ys ∙ ap (λ z. bytes ++ z) (sym e))
 
@@ -41,7 +42,8 @@ pub refused_then : (v a b : IntervalBytes) (xs : List ℕ) → a ≡ record v { 
 refused_then v a b xs e f = f ∙ ap (λ (z : IntervalBytes). record z { bytes = None }) e
 
 -- a piece goes on after bytes that have data bits
-pub goes_on : (bytes more : List ℕ) (ended : Bool) → (ended ≡ true → is_whole bytes ≡ false) → is_whole (bytes ++ more) ≡ true → ended ≡ false
+pub goes_on : (bytes more : List ℕ) (ended : Bool) → (ended ≡ true → is_whole bytes ≡ false) → is_whole (bytes ++ more) ≡ true
+    → ended ≡ false
 goes_on bytes more ended h w =
     elim (cases_Bool ended) [ inl t ↦ (let a : true ≡ false = sym (whole_front 0 bytes more w).0 ∙ h t in cc) | inr o ↦ o ]
 
@@ -85,13 +87,17 @@ module _ (p : CodingParameters) (w c n : ℕ) (bytes : List ℕ) where
     over_long l = record { lines = lines; unread = o.unread; begins = record { are_bytes = are_bytes; are_lines = o.are_lines; data_bits = record { whole = whole; read = o.begins } }; more_than_seven = (let e = o.counted in omega arith) }
 
   -- a piece that reads is answered by its lines
-  pub outcome_read : AreCodingParameters p → 0 < w → (result : Result (Vec (Vec ℕ Global) Global) PieceFault) → OutcomeIs p w c n bytes result → (lines : List (List ℕ)) → Reads p w c n bytes lines → MatchResult result (λ v. map (λ v. v.items) v.items ≡ lines) (λ fault. ⊥)
+  pub outcome_read : AreCodingParameters p → 0 < w → (result : Result (Vec (Vec ℕ Global) Global) PieceFault)
+      → OutcomeIs p w c n bytes result → (lines : List (List ℕ)) → Reads p w c n bytes lines
+      → MatchResult result (λ v. map (λ v. v.items) v.items ≡ lines) (λ fault. ⊥)
   outcome_read ok some (Ok v) h lines r = reads_once p ok w c n some bytes (map (λ v. v.items) v.items) lines h r
   outcome_read ok some (Err Long) h lines r = read_not_long p ok w c n some bytes lines r h
   outcome_read ok some (Err Broken) h lines r = h.not_read lines r
   outcome_read ok some (Err OutOfMemory) h lines r = h
 
-pub read_of : (p : CodingParameters) (w c n : ℕ) → AreCodingParameters p → 0 < w → (result : Result (Vec (Vec ℕ Global) Global) PieceFault) (Q : Type 0) (o : Option (List ℕ)) → MatchOption o Q (λ bytes. OutcomeIs p w c n bytes result)
+pub read_of : (p : CodingParameters) (w c n : ℕ) → AreCodingParameters p → 0 < w
+    → (result : Result (Vec (Vec ℕ Global) Global) PieceFault) (Q : Type 0) (o : Option (List ℕ))
+    → MatchOption o Q (λ bytes. OutcomeIs p w c n bytes result)
     → IfSome o (λ bytes. (lines : List (List ℕ)) → Reads p w c n bytes lines → MatchResult result (λ v. map (λ v. v.items) v.items ≡ lines) (λ fault. ⊥))
 read_of p w c n ok some result Q None h = tt
 read_of p w c n ok some result Q (Some bytes) h = outcome_read p w c n bytes ok some result h
@@ -125,12 +131,14 @@ module _ (p : CodingParameters) (bytes : List ℕ) (d : IntervalReader) where
   before_start chunk e h = record { given = bits_read bytes; bits_are = sym (ap (λ z. bits_read bytes ++ z) e ∙ append-nil (bits_read bytes)); reading = h }
 
   -- bytes behind them, of which the chunk has the bits
-  pub before_appended : (bytes' : List ℕ) (chunk chunk' : List Bool) → ((given : List Bool) → is_whole bytes' ≡ true → bits_read bytes ≡ given ++ chunk → bits_read bytes' ≡ given ++ chunk')
+  pub before_appended : (bytes' : List ℕ) (chunk chunk' : List Bool)
+      → ((given : List Bool) → is_whole bytes' ≡ true → bits_read bytes ≡ given ++ chunk → bits_read bytes' ≡ given ++ chunk')
       → is_whole bytes' ≡ true → IsReadingBefore p bytes chunk d → IsReadingBefore p bytes' chunk' d
   before_appended bytes' chunk chunk' all whole h = record { given = h.given; bits_are = all h.given whole h.bits_are; reading = h.reading }
 
   -- bits taken from the chunk
-  pub before_taken : (d' : IntervalReader) (chunk chunk' : List Bool) → TakesFirst d chunk d' chunk' → IsReadingBefore p bytes chunk d → IsReadingBefore p bytes chunk' d'
+  pub before_taken : (d' : IntervalReader) (chunk chunk' : List Bool) → TakesFirst d chunk d' chunk' → IsReadingBefore p bytes chunk d
+      → IsReadingBefore p bytes chunk' d'
   before_taken d' chunk chunk' t h =
       let a = t p h.given h.reading in
       record { given = h.given ++ a.taken; bits_are = h.bits_are ∙ ap (λ z. h.given ++ z) a.chunk_is ∙ sym (append_assoc h.given a.taken chunk'); reading = a.reading }

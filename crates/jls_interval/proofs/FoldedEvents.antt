@@ -44,7 +44,8 @@ unfolding run_cell_before
 run_cell_more p earlier e same = fold_passing (run_cell_after p same) (uses_run_cell same) (initial_run_cell p) earlier e
 
 -- an interrupting sample changes the cell of its RItype
-pub run_cell_learned : (p : CodingParameters) (earlier : List Event) (k c : ℕ) (near : Neighbours) (s : ℕ) (same : Bool) (cell : RunCell) → cell ≡ run_cell_before p earlier same
+pub run_cell_learned : (p : CodingParameters) (earlier : List Event) (k c : ℕ) (near : Neighbours) (s : ℕ) (same : Bool) (cell : RunCell)
+    → cell ≡ run_cell_before p earlier same
     → (x : RunCell) → x ≡ cond (equal same (is_same near)) (run_updated p.reset same cell (interruption_error p near s)) cell
     → x ≡ run_cell_before p (earlier ++ interrupted_run k c near s ∷ []) same
 run_cell_learned p earlier k c near s same cell h x e =
@@ -52,17 +53,20 @@ run_cell_learned p earlier k c near s same cell h x e =
 
 -- RUNindex ------------------------------------------------------------------------
 
-pub index_end : (earlier : List Event) (k count r : ℕ) → r ≡ run_index_before earlier k → (x : ℕ) → x ≡ (blocks r count).run_index → x ≡ run_index_before (earlier ++ run_to_end k count ∷ []) k
+pub index_end : (earlier : List Event) (k count r : ℕ) → r ≡ run_index_before earlier k → (x : ℕ) → x ≡ (blocks r count).run_index
+    → x ≡ run_index_before (earlier ++ run_to_end k count ∷ []) k
 index_end earlier k count r h x e =
     let t : is_run_of k (run_to_end k count) ≡ true = eq-eqb k k refl in
     e ∙ ap (λ z. (blocks z count).run_index) h ∙ sym (index_before_more earlier (run_to_end k count) k ∙ ap (λ z. cond z (run_index_after (run_index_before earlier k) (run_to_end k count)) (run_index_before earlier k)) t)
 
-pub index_interrupted : (earlier : List Event) (k count : ℕ) (near : Neighbours) (s r : ℕ) → r ≡ run_index_before earlier k → (x : ℕ) → x ≡ run_index_lowered (blocks r count).run_index → x ≡ run_index_before (earlier ++ interrupted_run k count near s ∷ []) k
+pub index_interrupted : (earlier : List Event) (k count : ℕ) (near : Neighbours) (s r : ℕ) → r ≡ run_index_before earlier k → (x : ℕ)
+    → x ≡ run_index_lowered (blocks r count).run_index → x ≡ run_index_before (earlier ++ interrupted_run k count near s ∷ []) k
 index_interrupted earlier k count near s r h x e =
     let t : is_run_of k (interrupted_run k count near s) ≡ true = eq-eqb k k refl in
     e ∙ ap (λ z. run_index_lowered (blocks z count).run_index) h ∙ sym (index_before_more earlier (interrupted_run k count near s) k ∙ ap (λ z. cond z (run_index_after (run_index_before earlier k) (interrupted_run k count near s)) (run_index_before earlier k)) t)
 
 -- events of another component leave it
-pub index_other : (earlier : List Event) (e : Event) (k r : ℕ) → is_run_of k e ≡ false → r ≡ run_index_before earlier k → r ≡ run_index_before (earlier ++ e ∷ []) k
+pub index_other : (earlier : List Event) (e : Event) (k r : ℕ) → is_run_of k e ≡ false → r ≡ run_index_before earlier k
+    → r ≡ run_index_before (earlier ++ e ∷ []) k
 index_other earlier e k r f h =
     h ∙ sym (index_before_more earlier e k ∙ ap (λ z. cond z (run_index_after (run_index_before earlier k) e) (run_index_before earlier k)) f)

@@ -47,7 +47,8 @@ module _ (p : CodingParameters) (w k : ℕ) (up : Above) where
       let b = length-replicate count v in let d : length line + count < w = h.2 in let g = length-append (replicate count v) (sample ∷ []) in
       (omega (arith, a, b, g), omega (arith, a, b, g))
 
-  pub added_small : (line : List ℕ) (e : Event) → (neighbours w up line (length line)).ra ≤ p.maxval → Fits p w k up line (neighbours w up line (length line)) e
+  pub added_small : (line : List ℕ) (e : Event) → (neighbours w up line (length line)).ra ≤ p.maxval
+      → Fits p w k up line (neighbours w up line (length line)) e
       → Small p (added (neighbours w up line (length line)).ra e)
   added_small line (regular near sample) v h = (h.2, tt)
   added_small line (run_to_end c count) v h = all_replicate (λ s. s ≤ p.maxval) count (neighbours w up line (length line)).ra v
@@ -64,7 +65,8 @@ module _ (p : CodingParameters) (w k : ℕ) (up : Above) where
   line_events_from line x = events_from w k up line w x
 
   -- an event that fits is the first of each finished line that begins so
-  pub events_from_first : (line rest : List ℕ) (e : Event) → length line < w → length line + length (added (neighbours w up line (length line)).ra e) + length rest ≡ w
+  pub events_from_first : (line rest : List ℕ) (e : Event) → length line < w
+      → length line + length (added (neighbours w up line (length line)).ra e) + length rest ≡ w
       → Fits p w k up line (neighbours w up line (length line)) e
       → line_events_from (line ++ (added (neighbours w up line (length line)).ra e ++ rest)) (length line) ≡ e ∷ line_events_from (line ++ (added (neighbours w up line (length line)).ra e ++ rest)) (length line + length (added (neighbours w up line (length line)).ra e))
   events_from_first line rest e l h fits =
@@ -74,7 +76,8 @@ module _ (p : CodingParameters) (w k : ℕ) (up : Above) where
 
 module _ (p : CodingParameters) (w k : ℕ) (up : Above) where
   -- the last event of a line
-  pub events_from_last : (line : List ℕ) (e : Event) → length line < w → length (line ++ added (neighbours w up line (length line)).ra e) ≡ w
+  pub events_from_last : (line : List ℕ) (e : Event) → length line < w
+      → length (line ++ added (neighbours w up line (length line)).ra e) ≡ w
       → Fits p w k up line (neighbours w up line (length line)) e
       → line_events_from p w k up (line ++ added (neighbours w up line (length line)).ra e) (length line) ≡ e ∷ []
   events_from_last line e l h fits =
@@ -84,7 +87,8 @@ module _ (p : CodingParameters) (w k : ℕ) (up : Above) where
       u ∙ ap (λ z. e ∷ z) (past w k up w (line ++ a) (length line + length a) (omega (arith, la)))
 
   -- an event that isn't the last one
-  pub events_from_next : (line rest whole : List ℕ) (e : Event) → length line < w → whole ≡ (line ++ added (neighbours w up line (length line)).ra e) ++ rest → length whole ≡ w
+  pub events_from_next : (line rest whole : List ℕ) (e : Event) → length line < w
+      → whole ≡ (line ++ added (neighbours w up line (length line)).ra e) ++ rest → length whole ≡ w
       → Fits p w k up line (neighbours w up line (length line)) e
       → line_events_from p w k up whole (length line) ≡ e ∷ line_events_from p w k up whole (length (line ++ added (neighbours w up line (length line)).ra e))
   events_from_next line rest whole e l b h fits =
@@ -119,7 +123,8 @@ module _ (p : CodingParameters) (w c n : ℕ) (some : 0 < w) where
   grown_part lines line earlier h = let t : eqb (length line) w ≡ false = ne_eqb (length line) w (λ e. omega arith) in rw t
 
   -- the event grows the line
-  grown_on : (e : Event) (es : List Event) (s z : Position) → length s.line < w → Fits p w (length s.lines % c) (above c s.lines) s.line (here w c s) e
+  grown_on : (e : Event) (es : List Event) (s z : Position) → length s.line < w
+      → Fits p w (length s.lines % c) (above c s.lines) s.line (here w c s) e
       → Ends s.lines (s.line ++ added (here w c s).ra e) es z → Ends s.lines s.line (e ∷ es) z
   grown_on e es s z b fits r =
       let k = length s.lines % c in let up = above c s.lines in let a = added (here w c s).ra e in
@@ -137,7 +142,8 @@ module _ (p : CodingParameters) (w c n : ℕ) (some : 0 < w) where
       }
 
   -- the event ends the line, and another line follows
-  next_line : (e : Event) (es : List Event) (s z : Position) → length s.line < w → Fits p w (length s.lines % c) (above c s.lines) s.line (here w c s) e
+  next_line : (e : Event) (es : List Event) (s z : Position) → length s.line < w
+      → Fits p w (length s.lines % c) (above c s.lines) s.line (here w c s) e
       → length (s.line ++ added (here w c s).ra e) ≡ w → Ends (s.lines ++ (s.line ++ added (here w c s).ra e) ∷ []) [] es z → Ends s.lines s.line (e ∷ es) z
   unfolding events_after
   next_line e es s z b fits h r =
@@ -160,7 +166,8 @@ module _ (p : CodingParameters) (w c n : ℕ) (some : 0 < w) where
   no_more (e ∷ es) s z h l = let q = l.0.0 in absurd (omega (arith, q))
 
   -- the event ends the last line
-  last_line : (e : Event) (es : List Event) (s z : Position) → length s.lines < n → length s.line < w → Fits p w (length s.lines % c) (above c s.lines) s.line (here w c s) e
+  last_line : (e : Event) (es : List Event) (s z : Position) → length s.lines < n → length s.line < w
+      → Fits p w (length s.lines % c) (above c s.lines) s.line (here w c s) e
       → length (s.line ++ added (here w c s).ra e) ≡ w → n ≤ length (s.lines ++ (s.line ++ added (here w c s).ra e) ∷ [])
       → Leads m (record { lines = s.lines ++ (s.line ++ added (here w c s).ra e) ∷ []; line = []; earlier = s.earlier ++ e ∷ [] }) es z → Ends s.lines s.line (e ∷ es) z
   unfolding events_after
@@ -181,7 +188,8 @@ module _ (p : CodingParameters) (w c n : ℕ) (some : 0 < w) where
         events_are = ap (λ z. e ∷ z) q.0 ∙ ap (λ z. z ++ events_after w c (s.lines ++ line' ∷ []) []) (sym (events_from_last p w k up s.line e b h fits));
       }
 
-  pub ends : (es : List Event) (s z : Position) → length s.lines < n → length s.line < w → Leads m s es z → IsEnd m z → Ends s.lines s.line es z
+  pub ends : (es : List Event) (s z : Position) → length s.lines < n → length s.line < w → Leads m s es z → IsEnd m z
+      → Ends s.lines s.line es z
   ends [] s z a b l end = let e = some_fits p w (length s.lines % c) (above c s.lines) s.line b in absurd (end e.0 (subst (λ v. IsNext p w c n v e.0) l (a, e.1)))
   ends (e ∷ es) s z a b l end =
       let k = length s.lines % c in let up = above c s.lines in

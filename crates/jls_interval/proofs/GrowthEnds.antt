@@ -16,14 +16,17 @@ use Rattle.jls_interval.proofs.CutEvents.{event_some}
 
 module _ (p : CodingParameters) (w c n : ℕ) (some : 0 < w) where
   -- events that are read one after another
-  decoded_along : (es : List Event) (given left : List Bool) (s z : Position) → Decoded p w c n given s (bits_of_steps (interval_steps p w c n) s es ++ left) → Leads (interval_steps p w c n) s es z → Decoded p w c n given z left
+  decoded_along : (es : List Event) (given left : List Bool) (s z : Position)
+      → Decoded p w c n given s (bits_of_steps (interval_steps p w c n) s es ++ left) → Leads (interval_steps p w c n) s es z
+      → Decoded p w c n given z left
   decoded_along [] given left s z d l = subst (λ v. Decoded p w c n given v left) l d
   decoded_along (e ∷ es) given left s z d l =
       let m = interval_steps p w c n in
       decoded_along es given left (moved w c s e) z (decoded_more p w c n some given s (bits_of_steps m s (e ∷ es) ++ left) (bits_of_steps m (moved w c s e) es ++ left) e d l.0 (append_assoc (event_bits p s.earlier e) (bits_of_steps m (moved w c s e) es) left)) l.1
 
   -- from the start
-  pub decoded_from : (es : List Event) (left : List Bool) (z : Position) → Leads (interval_steps p w c n) start es z → Decoded p w c n (bits_of_steps (interval_steps p w c n) start es ++ left) z left
+  pub decoded_from : (es : List Event) (left : List Bool) (z : Position) → Leads (interval_steps p w c n) start es z
+      → Decoded p w c n (bits_of_steps (interval_steps p w c n) start es ++ left) z left
   decoded_from es left z l =
       let given = bits_of_steps (interval_steps p w c n) start es ++ left in
       decoded_along es given left start z (record { leads = refl; bits_are = refl; samples = (tt, tt); unfinished = some }) l
@@ -45,5 +48,6 @@ module _ (p : CodingParameters) (w c n : ℕ) (some : 0 < w) where
       elim (cases_lt 0 n) [ inl any ↦ (let r = ends p w c n some es start z any some l over in let wide : AllByRecursion (λ l. length l ≡ w) z.lines = subst (λ v. AllByRecursion (λ l. length l ≡ w) v) (sym r.lines_are) (r.wide, r.others_wide) in let is : es ≡ events w c z.lines = r.events_are ∙ ap (λ v. events w c v) (sym r.lines_are) in (record { count_is = r.number; each = all_lines p w c n some z.lines wide d.samples.0 }, position_same z (events w c z.lines) r.line_is (earlier_is es start z l ∙ is), is)) | inr none ↦ (let q = no_more p w c n some es start z none l in subst (λ v. AreLines p w n v.lines × (v ≡ finish w c v.lines) × (es ≡ events w c v.lines)) q.1 (record { count_is = omega arith; each = tt }, refl, q.0)) ]
 
   -- each event that can come next has a bit
-  pub events_some : (es : List Event) (z : Position) (e : Event) → Leads (interval_steps p w c n) start es z → IsNext p w c n z e → event_bits p z.earlier e ≡ [] → ⊥
+  pub events_some : (es : List Event) (z : Position) (e : Event) → Leads (interval_steps p w c n) start es z → IsNext p w c n z e
+      → event_bits p z.earlier e ≡ [] → ⊥
   events_some es z e l a = let d = decoded_from es [] z l in event_some p w c n z e d.unfinished a

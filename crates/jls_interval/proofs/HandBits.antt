@@ -34,7 +34,8 @@ nothing_else : (xs ys : List Bool) → [] ≡ xs ++ ys → xs ≡ []
 nothing_else [] ys e = refl
 nothing_else (x ∷ xs) ys e = cc
 
-pub rb_small : (p : CodingParameters) (w : ℕ) (up : Above) → AllByRecursion (λ s. s ≤ p.maxval) up.line_above → (x : ℕ) (l : List ℕ) → (neighbours w up l x).rb ≤ p.maxval
+pub rb_small : (p : CodingParameters) (w : ℕ) (up : Above) → AllByRecursion (λ s. s ≤ p.maxval) up.line_above → (x : ℕ) (l : List ℕ)
+    → (neighbours w up l x).rb ≤ p.maxval
 rb_small p w up h zero l = small_get up.line_above 0 p.maxval h
 rb_small p w up h (suc x) l = small_get up.line_above (suc x) p.maxval h
 
@@ -44,7 +45,8 @@ parts w up l l' zero = refl
 parts w up l l' (suc x) = refl
 
 -- behind a run Ra is the run's value
-pub near_behind : (w : ℕ) (up : Above) (line : List ℕ) (count v x : ℕ) (next : Neighbours) → v ≡ (now_at w up line).ra → x ≡ length line + count → next ≡ neighbours w up line x
+pub near_behind : (w : ℕ) (up : Above) (line : List ℕ) (count v x : ℕ) (next : Neighbours) → v ≡ (now_at w up line).ra
+    → x ≡ length line + count → next ≡ neighbours w up line x
     → record { ra = v; rb = next.rb; rc = next.rc; rd = next.rd } ≡ behind w up line count
 near_behind w up line count v x next a b e =
     let l' = line ++ replicate count (now_at w up line).ra in let f : next ≡ neighbours w up line (length line + count) = e ∙ ap (λ z. neighbours w up line z) b in
@@ -55,7 +57,8 @@ pub broken_with : (run : Blocks) (rest more : List Bool) → interrupted_run_bit
 broken_with run rest more = append_assoc (replicate run.full_blocks true ++ false ∷ bits (run_order run.run_index) run.remaining) rest more
 
 -- where no sample stands at the front, no event does
-pub no_sample_no_event : (p : CodingParameters) (w k : ℕ) (up : Above) (line : List ℕ) (cells : Variables) (ri : List ℕ) (earlier : List Event) → IsAfter p cells ri earlier → (told : List Bool) → is_run_mode (now_at w up line) ≡ false
+pub no_sample_no_event : (p : CodingParameters) (w k : ℕ) (up : Above) (line : List ℕ) (cells : Variables) (ri : List ℕ) (earlier : List Event)
+    → IsAfter p cells ri earlier → (told : List Bool) → is_run_mode (now_at w up line) ≡ false
     → NoSample p (cell_at cells (context p (now_at w up line))) (now_at w up line) told → NoEvent p w k up line told earlier
 no_sample_no_event p w k up line cells ri earlier t told mode none (regular n s) rest fits e =
     sample_missing p cells ri earlier t (now_at w up line) told none s rest fits.2 (e ∙ ap (λ (z : Neighbours). event_bits p earlier (regular z s) ++ rest) fits.1)
@@ -69,7 +72,8 @@ module _ (p : CodingParameters) (ok : AreCodingParameters p) (w k : ℕ) (up : A
   w0_is : length line + (w - length line) ≡ w
   w0_is = omega arith
 
-  pub hand_none : (some : (e : Event) → Fits p w k up line (now_at w up line) e → event_bits p earlier e ≡ [] → ⊥) (hand : Hand) (told : List Bool) → HandAt p w up line cells r hand told → NoEvent p w k up line told earlier
+  pub hand_none : (some : (e : Event) → Fits p w k up line (now_at w up line) e → event_bits p earlier e ≡ [] → ⊥) (hand : Hand) (told : List Bool)
+      → HandAt p w up line cells r hand told → NoEvent p w k up line told earlier
   hand_none some Fresh told h = λ e rest fits is. some e fits (nothing_else (event_bits p earlier e) rest (sym h ∙ is))
   hand_none some (Sample code) told h =
       let room = limit_room p 0 (omega arith) in
@@ -86,7 +90,8 @@ module _ (p : CodingParameters) (ok : AreCodingParameters p) (w k : ℕ) (up : A
       run_alone p (wide p ok) w k up above_small line earlier r (t.run_indices_are k) (w - length line) w0_is told h.0 count s.0 (bits_told g (qbpp p) code) s.1 cell (t.run_cells (is_same near)) j (ap run_order (sym s.2)) none
 
 -- bits taken in two parts
-pub run_then : (k : ℕ) (up : Above) (old new : LineReader) (told first chunk middle unread : List Bool) (earlier : List Event) (step : EventStep) → chunk ≡ first ++ middle
+pub run_then : (k : ℕ) (up : Above) (old new : LineReader) (told first chunk middle unread : List Bool) (earlier : List Event) (step : EventStep)
+    → chunk ≡ first ++ middle
     → EventPushed k up old new (told ++ first) middle unread earlier step → EventPushed k up old new told chunk unread earlier step
 run_then k up old new told first chunk middle unread earlier step e h = record {
   taken = first ++ h.taken;
@@ -96,7 +101,8 @@ run_then k up old new told first chunk middle unread earlier step e h = record {
 }
 
 -- a sample of a run more at the end
-pub run_pushed : (xs line : List ℕ) (i v : ℕ) → line ≡ xs ++ replicate i v → (next : List ℕ) → next ≡ line ++ v ∷ [] → next ≡ xs ++ replicate (i + 1) v
+pub run_pushed : (xs line : List ℕ) (i v : ℕ) → line ≡ xs ++ replicate i v → (next : List ℕ) → next ≡ line ++ v ∷ []
+    → next ≡ xs ++ replicate (i + 1) v
 run_pushed xs line i v h next e = e ∙ ap (λ z. z ++ v ∷ []) h ∙ append_assoc xs (replicate i v) (v ∷ []) ∙ ap (λ z. xs ++ z) (more i)
   where
     more : (n : ℕ) → replicate n v ++ v ∷ [] ≡ replicate (n + 1) v

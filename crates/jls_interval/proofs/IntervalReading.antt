@@ -47,7 +47,8 @@ module _ (old now next : IntervalReader) (chunk unread : List Bool) (t : TakesFi
         reading = subst (λ z. IsReading p z next) (append_assoc given a.taken unread ∙ ap (λ z. given ++ z) (sym a.chunk_is)) (s p (given ++ a.taken) a.reading);
       }
 
-  pub taking_shorter : (unread' : List Bool) → TakesEvent now next unread unread' true → (p : CodingParameters) (given : List Bool) → IsReading p given old → length unread' < length unread
+  pub taking_shorter : (unread' : List Bool) → TakesEvent now next unread unread' true → (p : CodingParameters) (given : List Bool)
+      → IsReading p given old → length unread' < length unread
   taking_shorter unread' s p given h =
       let a = t p given h in let b = s p (given ++ a.taken) a.reading in
       let l = b.some in let e = ap length b.chunk_is in let n = length-append b.taken unread' in omega arith
@@ -57,12 +58,14 @@ module _ (old now next : IntervalReader) (chunk unread : List Bool) (t : TakesFi
 abbrev pub items : List (Vec ℕ Global) → List (List ℕ)
 items vs = map (λ v. v.items) vs
 
-pub line_fits : (p : CodingParameters) (w k : ℕ) (up : Above) (line line' : List ℕ) (cells' : Variables) (run_indices' : List ℕ) (told : List Bool) (earlier : List Event) → EventDone p w k up line line' cells' run_indices' told earlier → length line < w → length line' ≤ w
+pub line_fits : (p : CodingParameters) (w k : ℕ) (up : Above) (line line' : List ℕ) (cells' : Variables) (run_indices' : List ℕ) (told : List Bool) (earlier : List Event)
+    → EventDone p w k up line line' cells' run_indices' told earlier → length line < w → length line' ≤ w
 line_fits p w k up line line' cells' run_indices' told earlier m short =
     let f = added_fits p w k up line m.event short m.fits in let e = ap length m.line_is in omega (arith, f, e)
 
 module _ (p : CodingParameters) (n count : ℕ) (lines : List (List ℕ)) (s : State) where
-  pub state_same : (w w' : ℕ) (given given' : List Bool) (line line' : List ℕ) (cells cells' : Variables) (ri ri' : List ℕ) (hand : Hand) → w' ≡ w → given' ≡ given → line' ≡ line → cells' ≡ cells → ri' ≡ ri
+  pub state_same : (w w' : ℕ) (given given' : List Bool) (line line' : List ℕ) (cells cells' : Variables) (ri ri' : List ℕ) (hand : Hand)
+      → w' ≡ w → given' ≡ given → line' ≡ line → cells' ≡ cells → ri' ≡ ri
       → StateIs p w n count given lines line cells ri hand s → StateIs p w' n count given' lines line' cells' ri' hand s
   state_same w w' given given' line line' cells cells' ri ri' hand a b c d e h =
       subst (λ z. StateIs p z n count given' lines line' cells' ri' hand s) (sym a) (subst (λ z. StateIs p w n count z lines line' cells' ri' hand s) (sym b) (subst (λ z. StateIs p w n count given lines z cells' ri' hand s) (sym c) (subst (λ (z : Variables). StateIs p w n count given lines line z ri' hand s) (sym d) (subst (λ z. StateIs p w n count given lines line cells z hand s) (sym e) h))))
@@ -100,7 +103,8 @@ module _ (p : CodingParameters) (d : IntervalReader) (given : List Bool) (h : Is
     Pushes k up step =
         (told : List Bool) (earlier : List Event) → IsAfter cells.parameters cells run_indices earlier → Holds k up d.reader told → EventPushed k up d.reader new told chunk unread earlier step
 
-    pushed : (step : EventStep) → Pushes k up step → EventPushed component (above n lines) d.reader new working.told chunk unread working.earlier step
+    pushed : (step : EventStep) → Pushes k up step
+        → EventPushed component (above n lines) d.reader new working.told chunk unread working.earlier step
     pushed step all =
         let a : Pushes component (above n lines) step = subst (λ z. Pushes z (above n lines) step) k_is (subst (λ (z : Above). Pushes k z step) up_is all) in
         a working.told working.earlier (subst (λ q. IsAfter q cells run_indices working.earlier) (sym h.parameters) working.is_after) (subst (λ q. HandAt q w (above n lines) line cells (get_or run_indices component 0) d.reader.hand working.told) (sym h.parameters) working.hand_at)
@@ -127,7 +131,8 @@ module _ (p : CodingParameters) (d : IntervalReader) (given : List Bool) (h : Is
         subst (IsDead p w n d.count) (append_assoc given e.taken unread ∙ ap (λ z. given ++ z) (sym e.chunk_is)) (dead_more p w n d.count (given ++ e.taken) unread dead)
 
     -- the event is whole
-    pub moved_taken : Pushes k up Moved → (taken : List Bool) × (chunk ≡ taken ++ unread) × EventDone p w component (above n lines) line new.line.items new.coder.cells new.coder.run_indices (working.told ++ taken) working.earlier × (new.hand ≡ Fresh)
+    pub moved_taken : Pushes k up Moved
+        → (taken : List Bool) × (chunk ≡ taken ++ unread) × EventDone p w component (above n lines) line new.line.items new.coder.cells new.coder.run_indices (working.told ++ taken) working.earlier × (new.hand ≡ Fresh)
     moved_taken all =
         let e = pushed Moved all in
         (e.taken, e.chunk_is, subst (λ q. EventDone q w component (above n lines) line new.line.items new.coder.cells new.coder.run_indices (working.told ++ e.taken) working.earlier) h.parameters e.step_is.0, e.step_is.1)

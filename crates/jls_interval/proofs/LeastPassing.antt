@@ -8,7 +8,8 @@ unfolding least_from
 least_here passes zero from h = refl
 least_here passes (suc fuel) from h = rw h
 
-pub least_next : (passes : ℕ → Bool) (fuel from : ℕ) → passes from ≡ false → least_from passes (suc fuel) from ≡ least_from passes fuel (suc from)
+pub least_next : (passes : ℕ → Bool) (fuel from : ℕ) → passes from ≡ false
+    → least_from passes (suc fuel) from ≡ least_from passes fuel (suc from)
 unfolding least_from
 least_next passes fuel from h = rw h
 

@@ -47,7 +47,8 @@ module _ (p : CodingParameters) (w k : ℕ) (up : Above) where
       v : ℕ
       v = (neighbours w up line (length line)).ra
 
-      go : (rest : List ℕ) → left ≡ replicate s.n (neighbours w up line (length line)).ra ++ rest → Stops (neighbours w up line (length line)).ra rest → First line (line ++ left)
+      go : (rest : List ℕ) → left ≡ replicate s.n (neighbours w up line (length line)).ra ++ rest
+          → Stops (neighbours w up line (length line)).ra rest → First line (line ++ left)
       go [] e st =
           let e' : left ≡ replicate s.n (neighbours w up line (length line)).ra = e ∙ append-nil _ in
           let le = ap length e' ∙ length-replicate s.n (neighbours w up line (length line)).ra in
@@ -83,10 +84,12 @@ module _ (p : CodingParameters) (w c n : ℕ) (some : 0 < w) where
       Leads (interval_steps p w c n) (at_line lines line earlier) (line_tail lines whole (length line)) (at_line (lines ++ whole ∷ []) [] (earlier ++ line_tail lines whole (length line)))
 
   -- an event, and then what leads on
-  leads_cons : (s y : Position) (e : Event) (es : List Event) → IsNext p w c n s e → Leads (interval_steps p w c n) (moved w c s e) es y → Leads (interval_steps p w c n) s (e ∷ es) y
+  leads_cons : (s y : Position) (e : Event) (es : List Event) → IsNext p w c n s e → Leads (interval_steps p w c n) (moved w c s e) es y
+      → Leads (interval_steps p w c n) s (e ∷ es) y
   leads_cons s y e es a b = (a, b)
 
-  leads_line : (fuel : ℕ) (lines : List (List ℕ)) (line left whole : List ℕ) (earlier : List Event) → whole ≡ line ++ left → length whole ≡ w → length line < w → Small p left
+  leads_line : (fuel : ℕ) (lines : List (List ℕ)) (line left whole : List ℕ) (earlier : List Event) → whole ≡ line ++ left
+      → length whole ≡ w → length line < w → Small p left
       → w ≤ length line + fuel → length lines < n → Goal lines line whole earlier
   leads_line zero lines line left whole earlier e lw l small f a = absurd (omega arith)
   leads_line (suc fuel) lines line left whole earlier e lw l small f a =
@@ -102,7 +105,8 @@ module _ (p : CodingParameters) (w c n : ℕ) (some : 0 < w) where
       same_front : (a b c : List ℕ) → a ++ b ≡ a ++ c → b ≡ c
       same_front a b c e = append_cancel_left a b c e
 
-      finish_step : (lines : List (List ℕ)) (line whole : List ℕ) (earlier : List Event) (e : Event) (es : List Event) → line_tail lines whole (length line) ≡ e ∷ es
+      finish_step : (lines : List (List ℕ)) (line whole : List ℕ) (earlier : List Event) (e : Event) (es : List Event)
+          → line_tail lines whole (length line) ≡ e ∷ es
           → Leads (interval_steps p w c n) (at_line lines line earlier) (e ∷ es) (at_line (lines ++ whole ∷ []) [] ((earlier ++ e ∷ []) ++ es)) → Goal lines line whole earlier
       finish_step lines line whole earlier e es t l =
           subst (λ z. Leads (interval_steps p w c n) (at_line lines line earlier) z (at_line (lines ++ whole ∷ []) [] (earlier ++ z))) (sym t) (subst (λ z. Leads (interval_steps p w c n) (at_line lines line earlier) (e ∷ es) (at_line (lines ++ whole ∷ []) [] z)) (append_assoc earlier (e ∷ []) es) l)
@@ -122,5 +126,6 @@ module _ (p : CodingParameters) (w c n : ℕ) (some : 0 < w) where
       place_same a b x y e f = cc
 
   -- all lines grow from the start, event by event
-  pub lines_grow : (lines : List (List ℕ)) → AreLines p w n lines → Leads (interval_steps p w c n) start (events w c lines) (finish w c lines)
+  pub lines_grow : (lines : List (List ℕ)) → AreLines p w n lines
+      → Leads (interval_steps p w c n) start (events w c lines) (finish w c lines)
   lines_grow lines are = let h = are.count_is in leads_lines lines [] [] (omega arith) are.each

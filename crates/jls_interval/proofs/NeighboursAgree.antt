@@ -15,7 +15,8 @@ back_none lines back j x h l =
     let n = length-take-le j lines h in let t : ltb (length (take j lines)) back ≡ true = lt-ltb _ _ (omega arith) in rw t refl
 
 -- a line that is
-back_some : (lines : List (List ℕ)) (back j i x : ℕ) → j ≤ length lines → 0 < back → j ≡ i + back → get_or (line_back (take j lines) back) x 0 ≡ get_or (get_or lines i []) x 0
+back_some : (lines : List (List ℕ)) (back j i x : ℕ) → j ≤ length lines → 0 < back → j ≡ i + back
+    → get_or (line_back (take j lines) back) x 0 ≡ get_or (get_or lines i []) x 0
 back_some lines back j i x h s e =
     let n = length-take-le j lines h in let t : ltb (length (take j lines)) back ≡ false = le-ltb _ _ (omega arith) in
     let f : length (take j lines) - back ≡ i = omega arith in let g = get_or-take j lines i [] (omega arith) in

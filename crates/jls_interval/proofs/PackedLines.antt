@@ -88,7 +88,8 @@ pad_zeros given [] is_pad =
 pad_zeros given (x ∷ xs) is_pad =
     elim (cases_lt 7 is_pad.carries.zeros) [ inl many ↦ (let r = ended x xs in absurd (not_shortest given (x ∷ xs) is_pad many r.front r.last r.is)) | inr few ↦ few ]
 
-pub packed_reads : (p : CodingParameters) (w c n : ℕ) (lines : List (List ℕ)) → AreLines p w n lines → Reads p w c n (packed p w c lines) lines
+pub packed_reads : (p : CodingParameters) (w c n : ℕ) (lines : List (List ℕ)) → AreLines p w n lines
+    → Reads p w c n (packed p w c lines) lines
 packed_reads p w c n lines are =
     let h = pad_is_pad (code p w c lines) in
     let few = pad_zeros (code p w c lines) (packed p w c lines) h in let r = length-replicate h.carries.zeros false in

@@ -62,18 +62,22 @@ module _ (w c : ℕ) (lines : List (List ℕ)) (j : ℕ) (some : 0 < c) (within 
       at_stop w k up line x (x + count) (sym (run_is x) ∙ h.run) (ap (λ z. x + z) len) room ∙ stretch_same (interrupted_run k (x + count - x) (at (x + count)) (get_or line (x + count) 0)) (interrupted_run of count n s) (suc (x + count)) next (let a = h.component_is in let b : x + count - x ≡ count = omega arith in let f = h.near_is ∙ near (x + count) in let g = h.sample_is ∙ sample (x + count) in cc) (let e = h.next_is in omega arith)
 
   -- and the stretch stands there
-  stretch_stands : (x : ℕ) → x < w → (e : Event) (next : ℕ) → stretch w k up line x ≡ to e next → StandsIn w c lines k (j / c) x e next × (next ≤ w)
+  stretch_stands : (x : ℕ) → x < w → (e : Event) (next : ℕ) → stretch w k up line x ≡ to e next
+      → StandsIn w c lines k (j / c) x e next × (next ≤ w)
   stretch_stands x l e next is =
       let stop = run_stop line (at x).ra x in let d = length-drop x line in let pl = prefix_len-le-length (λ s. eqb s (at x).ra) (drop x line) in
       elim (cases_Bool (is_run_mode (at x))) [ inl r ↦ elim (cases_lt stop w) [ inl s ↦ (let q = sym (at_stop w k up line x stop r refl s) ∙ is in along (interrupted_run k (stop - x) (at stop) (get_or line stop 0)) (suc stop) e next q (stops x r s)) | inr s ↦ (let q = sym (at_end w k up line x r s) ∙ is in along (run_to_end k (w - x)) w e next q (ends x l r s)) ] | inr r ↦ (let q = sym (at_regular w k up line x r) ∙ is in along (regular (at x) (get_or line x 0)) (suc x) e next q (alone x l r)) ]
     where
-      along : (f : Event) (m : ℕ) (e : Event) (next : ℕ) → to f m ≡ to e next → StandsIn w c lines k (j / c) x f m × (m ≤ w) → StandsIn w c lines k (j / c) x e next × (next ≤ w)
+      along : (f : Event) (m : ℕ) (e : Event) (next : ℕ) → to f m ≡ to e next → StandsIn w c lines k (j / c) x f m × (m ≤ w)
+          → StandsIn w c lines k (j / c) x e next × (next ≤ w)
       along f m e next q h = subst (λ (z : Stretch). StandsIn w c lines k (j / c) x z.event z.next × (z.next ≤ w)) q h
 
-      alone : (x : ℕ) → x < w → is_run_mode (at x) ≡ false → StandsIn w c lines k (j / c) x (regular (at x) (get_or line x 0)) (suc x) × (suc x ≤ w)
+      alone : (x : ℕ) → x < w → is_run_mode (at x) ≡ false
+          → StandsIn w c lines k (j / c) x (regular (at x) (get_or line x 0)) (suc x) × (suc x ≤ w)
       alone x l r = (record { near_is = sym (near x); not_run = r; sample_is = sym (sample x); next_is = omega arith }, l)
 
-      ends : (x : ℕ) → x < w → is_run_mode (at x) ≡ true → w ≤ run_stop line (at x).ra x → StandsIn w c lines k (j / c) x (run_to_end k (w - x)) w × (w ≤ w)
+      ends : (x : ℕ) → x < w → is_run_mode (at x) ≡ true → w ≤ run_stop line (at x).ra x
+          → StandsIn w c lines k (j / c) x (run_to_end k (w - x)) w × (w ≤ w)
       ends x l r s = (record { component_is = refl; run = run_is x ∙ r; to_end = omega arith; holds = passes_hold x (w - x) (omega arith); next_is = refl }, omega arith)
 
       stops : (x : ℕ) → is_run_mode (at x) ≡ true → run_stop line (at x).ra x < w
@@ -98,7 +102,8 @@ module _ (w c : ℕ) (lines : List (List ℕ)) (j : ℕ) (some : 0 < c) (within 
 
 -- The lines from line j on ------------------------------------------------------
 
-wide_at : (p : CodingParameters) (w : ℕ) (lines : List (List ℕ)) (j : ℕ) → AllByRecursion (IsLine p w) lines → j < length lines → length (get_or lines j []) ≡ w
+wide_at : (p : CodingParameters) (w : ℕ) (lines : List (List ℕ)) (j : ℕ) → AllByRecursion (IsLine p w) lines → j < length lines
+    → length (get_or lines j []) ≡ w
 wide_at p w [] j h l = absurd (omega arith)
 wide_at p w (x ∷ xs) zero h l = h.0.0
 wide_at p w (x ∷ xs) (suc j) h l = wide_at p w xs j h.1 (omega arith)
@@ -108,7 +113,8 @@ module _ (p : CodingParameters) (w c : ℕ) (lines : List (List ℕ)) (some : 0 
   abbrev from_line : ℕ → List Event
   from_line j = events_after w c (take j lines) (drop j lines)
 
-  first_line : (j : ℕ) → j < length lines → from_line j ≡ line_events w (j % c) (above c (take j lines)) (get_or lines j []) ++ from_line (j + 1)
+  first_line : (j : ℕ) → j < length lines
+      → from_line j ≡ line_events w (j % c) (above c (take j lines)) (get_or lines j []) ++ from_line (j + 1)
   unfolding events_after
   first_line j l =
       let n = length-take-le j lines (omega arith) in let d = drop_more lines j [] l in let t = take_more lines j [] l in

@@ -36,14 +36,18 @@ module _ (w0 : ℕ) (first : RunState) (chunk : List Bool) where
     one_more : chunk ≡ (t.taken ++ b ∷ []) ++ left'
     one_more = t.chunk_is ∙ ap (λ z. t.taken ++ z) e ∙ sym (append_assoc t.taken (b ∷ []) left')
 
-    step_at : (step : RunStep) → ((r0 : ℕ) (told : List Bool) → RunAt r0 w0 told state → RunStepIs r0 w0 (told ++ b ∷ []) step) → (r0 : ℕ) (told : List Bool) → RunAt r0 w0 told first → RunStepIs r0 w0 (told ++ (t.taken ++ b ∷ [])) step
+    step_at : (step : RunStep) → ((r0 : ℕ) (told : List Bool) → RunAt r0 w0 told state → RunStepIs r0 w0 (told ++ b ∷ []) step)
+        → (r0 : ℕ) (told : List Bool) → RunAt r0 w0 told first → RunStepIs r0 w0 (told ++ (t.taken ++ b ∷ [])) step
     step_at step s r0 told h = subst (λ z. RunStepIs r0 w0 z step) (append_assoc told t.taken (b ∷ [])) (s r0 (told ++ t.taken) (t.at r0 told h))
 
-    pub taking_more : (next : RunState) → ((r0 : ℕ) (told : List Bool) → RunAt r0 w0 told state → RunStepIs r0 w0 (told ++ b ∷ []) (More next)) → Taking next left'
+    pub taking_more : (next : RunState)
+        → ((r0 : ℕ) (told : List Bool) → RunAt r0 w0 told state → RunStepIs r0 w0 (told ++ b ∷ []) (More next)) → Taking next left'
     taking_more next s = record { taken = t.taken ++ b ∷ []; chunk_is = one_more; at = step_at (More next) s }
 
-    pub taking_end : (step : RunStep) → ((r0 : ℕ) (told : List Bool) → RunAt r0 w0 told state → RunStepIs r0 w0 (told ++ b ∷ []) step) → NotMore step → RunPushed w0 first chunk left' step
+    pub taking_end : (step : RunStep) → ((r0 : ℕ) (told : List Bool) → RunAt r0 w0 told state → RunStepIs r0 w0 (told ++ b ∷ []) step)
+        → NotMore step → RunPushed w0 first chunk left' step
     taking_end step s n = record { taken = t.taken ++ b ∷ []; chunk_is = one_more; step_is = step_at step s; all = has_taken step left' n }
 
-  pub taking_all : (state : RunState) (left left' : List Bool) → Taking state left → (left ≡ []) × (left' ≡ []) → RunPushed w0 first chunk left' (More state)
+  pub taking_all : (state : RunState) (left left' : List Bool) → Taking state left → (left ≡ []) × (left' ≡ [])
+      → RunPushed w0 first chunk left' (More state)
   taking_all state left left' t e = record { taken = t.taken; chunk_is = t.chunk_is ∙ ap (λ z. t.taken ++ z) (e.0 ∙ sym e.1); step_is = t.at; all = e.1 }

@@ -30,7 +30,8 @@ module _ (p : CodingParameters) (wide : range p ≤ 2 ^ qbpp p) (w k : ℕ) (up 
   abbrev there : ℕ → Neighbours
   there c = neighbours w up (line ++ replicate c now.ra) (length line + c)
 
-  to_end_is : (k' c : ℕ) (more : List Bool) → k' ≡ k → c ≡ w0 → event_bits p earlier (run_to_end k' c) ++ more ≡ run_to_end_bits (blocks r w0) ++ more
+  to_end_is : (k' c : ℕ) (more : List Bool) → k' ≡ k → c ≡ w0
+      → event_bits p earlier (run_to_end k' c) ++ more ≡ run_to_end_bits (blocks r w0) ++ more
   unfolding event_bits
   to_end_is k' c more a b =
       ap (λ z. run_to_end_bits (blocks (run_index_before earlier z) c) ++ more) a ∙ ap (λ z. run_to_end_bits (blocks (run_index_before earlier k) z) ++ more) b ∙ ap (λ z. run_to_end_bits (blocks z w0) ++ more) (sym r_is)
@@ -50,12 +51,14 @@ module _ (p : CodingParameters) (wide : range p ≤ 2 ^ qbpp p) (w k : ℕ) (up 
         none.1 c (interrupting_bits p (run_cell_before p earlier (is_same n)) n (run_order (blocks r c).run_index) s ++ more) (omega arith) (e ∙ interrupted_is k' c n s more fits.1)
 
     -- a run to the end
-    pub run_end : (left : List Bool) → given ≡ run_to_end_bits (blocks r w0) ++ left → given ≡ event_bits p earlier (run_to_end k w0) ++ left
+    pub run_end : (left : List Bool) → given ≡ run_to_end_bits (blocks r w0) ++ left
+        → given ≡ event_bits p earlier (run_to_end k w0) ++ left
     run_end left e = e ∙ sym (to_end_is k w0 left refl refl)
 
     module _ (c : ℕ) (short : c < w0) (left : List Bool) (is : given ≡ interrupted_run_bits (blocks r c) left) (cell : RunCell) (cell_is : cell ≡ run_cell_before p earlier (is_same (there c))) (j : ℕ) (j_is : j ≡ run_order (blocks r c).run_index) where
       -- a run with no sample behind it
-      pub run_alone : NoInterruption p cell (there c) j left → (e : Event) (more : List Bool) → Possible e → given ≡ event_bits p earlier e ++ more → ⊥
+      pub run_alone : NoInterruption p cell (there c) j left → (e : Event) (more : List Bool) → Possible e
+          → given ≡ event_bits p earlier e ++ more → ⊥
       run_alone none (regular n s) more fits e = true_false (is_run_mode now) run fits.0
       run_alone none (run_to_end k' c') more fits e =
           let h : length line + c' ≡ w = fits.2 in
@@ -67,7 +70,8 @@ module _ (p : CodingParameters) (wide : range p ≤ 2 ^ qbpp p) (w k : ℕ) (up 
           let bits_are : left ≡ interrupting_bits p cell (there c) j s ++ more = h.1 ∙ ap (λ z. interrupting_bits p (run_cell_before p earlier (is_same n)) n (run_order (blocks r z).run_index) s ++ more) (sym h.0) ∙ ap (λ (z : Neighbours). interrupting_bits p (run_cell_before p earlier (is_same z)) z (run_order (blocks r c).run_index) s ++ more) n_is ∙ ap (λ (z : RunCell). interrupting_bits p z (there c) (run_order (blocks r c).run_index) s ++ more) (sym cell_is) ∙ ap (λ z. interrupting_bits p cell (there c) z s ++ more) (sym j_is) in
           none s more fits.4 (λ o. fits.5 (o ∙ a_is)) bits_are
 
-      pub run_broken : (s : ℕ) (rest : List Bool) → left ≡ interrupting_bits p cell (there c) j s ++ rest → given ≡ event_bits p earlier (interrupted_run k c (there c) s) ++ rest
+      pub run_broken : (s : ℕ) (rest : List Bool) → left ≡ interrupting_bits p cell (there c) j s ++ rest
+          → given ≡ event_bits p earlier (interrupted_run k c (there c) s) ++ rest
       run_broken s rest e =
           is ∙ ap (interrupted_run_bits (blocks r c)) (e ∙ ap (λ z. interrupting_bits p cell (there c) z s ++ rest) j_is ∙ ap (λ (z : RunCell). interrupting_bits p z (there c) (run_order (blocks r c).run_index) s ++ rest) cell_is) ∙ sym (interrupted_is k c (there c) s rest refl)
 

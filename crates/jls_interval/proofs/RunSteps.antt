@@ -32,7 +32,8 @@ no_whole r0 w0 given (Count r w have x) i t =
     no_run_zero r0 w0 given r w (false ∷ bits have x) t i.1 (bits have x) refl (λ n rest l k e. bits_short have (run_order r) x n rest i.3 e)
 
 -- the zero alone
-pub zero_taken : (r0 w0 : ℕ) (given : List Bool) (r w : ℕ) → Taken r0 w0 given r w [] → (b : Bool) → b ≡ false → Taken r0 w0 (given ++ b ∷ []) r w (false ∷ bits 0 0)
+pub zero_taken : (r0 w0 : ℕ) (given : List Bool) (r w : ℕ) → Taken r0 w0 given r w [] → (b : Bool) → b ≡ false
+    → Taken r0 w0 (given ++ b ∷ []) r w (false ∷ bits 0 0)
 zero_taken r0 w0 given r w t b e =
     subst (λ z. Taken r0 w0 (given ++ b ∷ []) r w (false ∷ z)) (sym (bits_none 0)) (subst (λ z. Taken r0 w0 (given ++ b ∷ []) r w (z ∷ [])) e (taken_with r0 w0 given r w [] t (b ∷ [])))
 
@@ -40,26 +41,31 @@ pub one_taken : (r0 w0 : ℕ) (given : List Bool) (r w : ℕ) → Taken r0 w0 gi
 one_taken r0 w0 given r w t = taken_with r0 w0 given r w [] t (true ∷ [])
 
 -- a whole count
-pub counted : (r0 w0 : ℕ) (given : List Bool) (r w j n : ℕ) → Taken r0 w0 given r w (false ∷ bits j n) → j ≡ run_order r → n < 2 ^ j → w ≤ w0 → n < w
+pub counted : (r0 w0 : ℕ) (given : List Bool) (r w j n : ℕ) → Taken r0 w0 given r w (false ∷ bits j n) → j ≡ run_order r → n < 2 ^ j
+    → w ≤ w0 → n < w
     → (w0 - w + n < w0) × (given ≡ interrupted_run_bits (blocks r0 (w0 - w + n)) []) × ((blocks r0 (w0 - w + n)).run_index ≡ r)
 counted r0 w0 given r w j n t e l f m =
     let h = broken_here r0 w0 given r w (false ∷ bits j n) t n [] (subst (λ z. n < 2 ^ z) e l) (ap (λ z. false ∷ z) (ap (λ z. bits z n) e ∙ sym (append-nil (bits (run_order r) n)))) in (omega arith, h.0, h.1)
 
 -- a count that passes the columns left
-pub counted_long : (r0 w0 : ℕ) (given : List Bool) (r w j n : ℕ) → Taken r0 w0 given r w (false ∷ bits j n) → j ≡ run_order r → n < 2 ^ j → 0 < w → w ≤ n → (more : List Bool) → NoRun r0 w0 (given ++ more)
+pub counted_long : (r0 w0 : ℕ) (given : List Bool) (r w j n : ℕ) → Taken r0 w0 given r w (false ∷ bits j n) → j ≡ run_order r → n < 2 ^ j
+    → 0 < w → w ≤ n → (more : List Bool) → NoRun r0 w0 (given ++ more)
 counted_long r0 w0 given r w j n t e l s m more =
     no_run_long r0 w0 (given ++ more) r w (false ∷ (bits j n ++ more)) (taken_with r0 w0 given r w (false ∷ bits j n) t more) s n (bits j n ++ more) more refl (subst (λ z. n < 2 ^ z) e l) (ap (λ z. bits z n ++ more) e) m
 
 -- a one for less than a block
-pub short_end : (r0 w0 : ℕ) (given : List Bool) (r w : ℕ) → Taken r0 w0 given r w (true ∷ []) → 0 < w → w < 2 ^ run_order r → (given ≡ run_to_end_bits (blocks r0 w0) ++ []) × ((blocks r0 w0).run_index ≡ r)
+pub short_end : (r0 w0 : ℕ) (given : List Bool) (r w : ℕ) → Taken r0 w0 given r w (true ∷ []) → 0 < w → w < 2 ^ run_order r
+    → (given ≡ run_to_end_bits (blocks r0 w0) ++ []) × ((blocks r0 w0).run_index ≡ r)
 short_end r0 w0 given r w t s l = ended_short r0 w0 given r w (true ∷ []) t [] s l refl
 
 -- a one for the last block
-pub full_end : (r0 w0 : ℕ) (given : List Bool) (r w : ℕ) → Taken r0 w0 given r w (true ∷ []) → w ≡ 2 ^ run_order r → (given ≡ run_to_end_bits (blocks r0 w0) ++ []) × ((blocks r0 w0).run_index ≡ risen r)
+pub full_end : (r0 w0 : ℕ) (given : List Bool) (r w : ℕ) → Taken r0 w0 given r w (true ∷ []) → w ≡ 2 ^ run_order r
+    → (given ≡ run_to_end_bits (blocks r0 w0) ++ []) × ((blocks r0 w0).run_index ≡ risen r)
 full_end r0 w0 given r w t e =
     ended r0 w0 given (risen r) (w - 2 ^ run_order r) [] (taken_more r0 w0 given r w (true ∷ []) t [] (omega arith) refl) (omega arith)
 
 -- a one for a block, with columns behind it
-pub next_block : (r0 w0 : ℕ) (given : List Bool) (r w b : ℕ) → Taken r0 w0 given r w (true ∷ []) → b ≡ 2 ^ run_order r → b ≤ w → Taken r0 w0 given (risen r) (w - b) []
+pub next_block : (r0 w0 : ℕ) (given : List Bool) (r w b : ℕ) → Taken r0 w0 given r w (true ∷ []) → b ≡ 2 ^ run_order r → b ≤ w
+    → Taken r0 w0 given (risen r) (w - b) []
 next_block r0 w0 given r w b t e l =
     subst (λ z. Taken r0 w0 given (risen r) (w - z) []) (sym e) (taken_more r0 w0 given r w (true ∷ []) t [] (subst (λ z. z ≤ w) e l) refl)

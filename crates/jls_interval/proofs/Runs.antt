@@ -134,10 +134,12 @@ pub tail_same : (x : Bool) (a b : List Bool) → x ∷ a ≡ x ∷ b → a ≡ b
 tail_same x a b e = cc
 
 -- a run that is interrupted in a block, and one that goes on behind a full block
-pub broken_none : (r n : ℕ) (s : List Bool) → r ≤ 31 → n < 2 ^ run_order r → interrupted_run_bits (blocks r n) s ≡ false ∷ (bits (run_order r) n ++ s)
+pub broken_none : (r n : ℕ) (s : List Bool) → r ≤ 31 → n < 2 ^ run_order r
+    → interrupted_run_bits (blocks r n) s ≡ false ∷ (bits (run_order r) n ++ s)
 broken_none r n s q h = ap (λ b. interrupted_run_bits b s) (blocks_none r n q h)
 
-pub broken_step : (r n : ℕ) (s : List Bool) → r ≤ 31 → 2 ^ run_order r ≤ n → interrupted_run_bits (blocks r n) s ≡ true ∷ interrupted_run_bits (blocks (risen r) (n - 2 ^ run_order r)) s
+pub broken_step : (r n : ℕ) (s : List Bool) → r ≤ 31 → 2 ^ run_order r ≤ n
+    → interrupted_run_bits (blocks r n) s ≡ true ∷ interrupted_run_bits (blocks (risen r) (n - 2 ^ run_order r)) s
 broken_step r n s q h = ap (λ b. interrupted_run_bits b s) (blocks_step r n q h)
 
 -- the same of a run to the end
@@ -146,11 +148,13 @@ end_none r n s q h j =
     let t : eqb n 0 ≡ false = ne_eqb n 0 (λ e. omega arith) in
     ap (λ b. run_to_end_bits b ++ s) (blocks_none r n q h) ∙ rw t refl
 
-pub end_step : (r n : ℕ) (s : List Bool) → r ≤ 31 → 2 ^ run_order r ≤ n → run_to_end_bits (blocks r n) ++ s ≡ true ∷ (run_to_end_bits (blocks (risen r) (n - 2 ^ run_order r)) ++ s)
+pub end_step : (r n : ℕ) (s : List Bool) → r ≤ 31 → 2 ^ run_order r ≤ n
+    → run_to_end_bits (blocks r n) ++ s ≡ true ∷ (run_to_end_bits (blocks (risen r) (n - 2 ^ run_order r)) ++ s)
 end_step r n s q h = ap (λ b. run_to_end_bits b ++ s) (blocks_step r n q h)
 
 -- a run that ends before the line's end, and one that doesn't
-pub run_apart : (fuel r n w : ℕ) (s t : List Bool) → r ≤ 31 → n ≤ fuel → n < w → interrupted_run_bits (blocks r n) s ≡ run_to_end_bits (blocks r w) ++ t → ⊥
+pub run_apart : (fuel r n w : ℕ) (s t : List Bool) → r ≤ 31 → n ≤ fuel → n < w
+    → interrupted_run_bits (blocks r n) s ≡ run_to_end_bits (blocks r w) ++ t → ⊥
 run_apart zero r n w s t small f h e =
     let q = pow_pos (run_order r) in let a = broken_none r n s small (omega arith) in
     elim (cases_lt w (2 ^ run_order r)) [ inl m ↦ (let b = end_none r w t small m (omega arith) in let c : false ∷ (bits (run_order r) n ++ s) ≡ true ∷ t = sym a ∙ e ∙ b in cc) | inr m ↦ (let b = end_step r w t small m in let c : false ∷ (bits (run_order r) n ++ s) ≡ true ∷ (run_to_end_bits (blocks (risen r) (w - 2 ^ run_order r)) ++ t) = sym a ∙ e ∙ b in cc) ]
@@ -159,12 +163,14 @@ run_apart (suc fuel) r n w s t small f h e =
     elim (cases_lt n (2 ^ run_order r)) [ inl l ↦ (let a = broken_none r n s small l in elim (cases_lt w (2 ^ run_order r)) [ inl m ↦ (let b = end_none r w t small m (omega arith) in let c : false ∷ (bits (run_order r) n ++ s) ≡ true ∷ t = sym a ∙ e ∙ b in cc) | inr m ↦ (let b = end_step r w t small m in let c : false ∷ (bits (run_order r) n ++ s) ≡ true ∷ (run_to_end_bits (blocks (risen r) (w - 2 ^ run_order r)) ++ t) = sym a ∙ e ∙ b in cc) ]) | inr l ↦ (let a = broken_step r n s small l in let b = end_step r w t small (omega arith) in run_apart fuel (risen r) (n - 2 ^ run_order r) (w - 2 ^ run_order r) s t (omega arith) (omega arith) (omega arith) (tail_same true _ _ (sym a ∙ e ∙ b))) ]
 
 -- two runs that end before the line's end, of which one has no full block
-run_short : (r n w : ℕ) (s t : List Bool) → r ≤ 31 → n < 2 ^ run_order r → interrupted_run_bits (blocks r n) s ≡ interrupted_run_bits (blocks r w) t → (n ≡ w) × (s ≡ t)
+run_short : (r n w : ℕ) (s t : List Bool) → r ≤ 31 → n < 2 ^ run_order r
+    → interrupted_run_bits (blocks r n) s ≡ interrupted_run_bits (blocks r w) t → (n ≡ w) × (s ≡ t)
 run_short r n w s t small l e =
     elim (cases_lt w (2 ^ run_order r)) [ inl m ↦ (let z = bits_same (run_order r) n w s t (tail_same false (bits (run_order r) n ++ s) (bits (run_order r) w ++ t) (sym (broken_none r n s small l) ∙ e ∙ broken_none r w t small m)) in (sym (mod-eq_of_lt l) ∙ z.0 ∙ mod-eq_of_lt m, z.1)) | inr m ↦ (let c : false ∷ (bits (run_order r) n ++ s) ≡ true ∷ interrupted_run_bits (blocks (risen r) (w - 2 ^ run_order r)) t = sym (broken_none r n s small l) ∙ e ∙ broken_step r w t small m in cc) ]
 
 -- two runs that end before the line's end
-pub run_same : (fuel r n w : ℕ) (s t : List Bool) → r ≤ 31 → n ≤ fuel → interrupted_run_bits (blocks r n) s ≡ interrupted_run_bits (blocks r w) t → (n ≡ w) × (s ≡ t)
+pub run_same : (fuel r n w : ℕ) (s t : List Bool) → r ≤ 31 → n ≤ fuel
+    → interrupted_run_bits (blocks r n) s ≡ interrupted_run_bits (blocks r w) t → (n ≡ w) × (s ≡ t)
 run_same zero r n w s t small f e = let q = pow_pos (run_order r) in run_short r n w s t small (omega arith) e
 run_same (suc fuel) r n w s t small f e =
     let q = pow_pos (run_order r) in

@@ -4,7 +4,8 @@ use Rattle.std.proofs.lemmas.List.{append_cancel_left}
 use Rattle.jls_interval.specs.Stepwise.{StepwiseCode, Leads, bits_of_steps, IsEnd, IsPrefixFree, IsKept}
 
 -- of two fronts of one list, one begins the other
-pub one_begins : {A : Type 0} → (a b c d : List A) → a ++ b ≡ c ++ d → ((x : List A) × (a ≡ c ++ x) × (x ++ b ≡ d)) ⊎ ((x : List A) × (y : A) × (c ≡ a ++ (y ∷ x)) × (b ≡ (y ∷ x) ++ d))
+pub one_begins : {A : Type 0} → (a b c d : List A) → a ++ b ≡ c ++ d
+    → ((x : List A) × (a ≡ c ++ x) × (x ++ b ≡ d)) ⊎ ((x : List A) × (y : A) × (c ≡ a ++ (y ∷ x)) × (b ≡ (y ∷ x) ++ d))
 one_begins [] b [] d e = inl ([], refl, e)
 one_begins [] b (y ∷ c) d e = inr (c, y, refl, e)
 one_begins (x ∷ a) b [] d e = inl (x ∷ a, refl, e)
@@ -24,13 +25,15 @@ sound_after m kept [] s z ok l = subst m.Sound l ok
 sound_after m kept (e ∷ es) s z ok l = sound_after m kept es (m.after s e) z (kept s e ok l.0) l.1
 
 -- one event more
-pub leads_more : (m : StepwiseCode) (s z : m.State) (es : List m.Event) (e : m.Event) → Leads m s es z → m.Next z e → Leads m s (es ++ e ∷ []) (m.after z e)
+pub leads_more : (m : StepwiseCode) (s z : m.State) (es : List m.Event) (e : m.Event) → Leads m s es z → m.Next z e
+    → Leads m s (es ++ e ∷ []) (m.after z e)
 leads_more m s z [] e l a = (subst (λ v. m.Next v e) (sym l) a, ap (λ v. m.after v e) l)
 leads_more m s z (f ∷ es) e l a = (l.0, leads_more m (m.after s f) z es e l.1 a)
 
 module _ (m : StepwiseCode) (free : IsPrefixFree m) (kept : IsKept m) where
   -- what a whole code begins is one code, and its bits are all read
-  pub one_code : (s z y : m.State) (es fs : List m.Event) (t u : List Bool) → m.Sound s → Leads m s es z → Leads m s fs y → IsEnd m z → IsEnd m y
+  pub one_code : (s z y : m.State) (es fs : List m.Event) (t u : List Bool) → m.Sound s → Leads m s es z → Leads m s fs y → IsEnd m z
+      → IsEnd m y
       → bits_of_steps m s es ++ t ≡ bits_of_steps m s fs ++ u → (es ≡ fs) × (t ≡ u)
   one_code s z y [] [] t u ok p q a b e = (refl, e)
   one_code s z y [] (f ∷ fs) t u ok p q a b e = absurd (a f (subst (λ v. m.Next v f) p q.0))

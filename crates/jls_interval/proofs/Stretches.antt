@@ -34,10 +34,12 @@ module _ (w k : ℕ) (up : Above) where
   unfolding events_from
   more f line x h = let t : ltb x w ≡ true = lt-ltb x w h in rw t
 
-  pub at_regular : (line : List ℕ) (x : ℕ) → is_run_mode (at line x) ≡ false → stretch w k up line x ≡ to (regular (at line x) (get_or line x 0)) (suc x)
+  pub at_regular : (line : List ℕ) (x : ℕ) → is_run_mode (at line x) ≡ false
+      → stretch w k up line x ≡ to (regular (at line x) (get_or line x 0)) (suc x)
   at_regular line x r = rw r
 
-  pub at_end : (line : List ℕ) (x : ℕ) → is_run_mode (at line x) ≡ true → w ≤ run_stop line (at line x).ra x → stretch w k up line x ≡ to (run_to_end k (w - x)) w
+  pub at_end : (line : List ℕ) (x : ℕ) → is_run_mode (at line x) ≡ true → w ≤ run_stop line (at line x).ra x
+      → stretch w k up line x ≡ to (run_to_end k (w - x)) w
   at_end line x r s = let u : ltb (run_stop line (at line x).ra x) w ≡ false = le-ltb _ w s in rw (r, u)
 
   pub at_stop : (line : List ℕ) (x stop : ℕ) → is_run_mode (at line x) ≡ true → run_stop line (at line x).ra x ≡ stop → stop < w
@@ -58,7 +60,8 @@ module _ (w k : ℕ) (up : Above) where
   run_short v (suc n) s more h = let t : eqb v v ≡ true = eq-eqb v v refl in rw (t, run_short v n s more h, one-add)
 
   -- an event that fits where the line begins with what it adds is the stretch there
-  pub fits_stretch : (p : CodingParameters) (line rest : List ℕ) (e : Event) → length line + length (added (at line (length line)).ra e) + length rest ≡ w
+  pub fits_stretch : (p : CodingParameters) (line rest : List ℕ) (e : Event)
+      → length line + length (added (at line (length line)).ra e) + length rest ≡ w
       → Fits p w k up line (at line (length line)) e
       → stretch w k up (line ++ (added (at line (length line)).ra e ++ rest)) (length line) ≡ to e (length line + length (added (at line (length line)).ra e))
   fits_stretch p line rest (regular near sample) l h =

@@ -21,7 +21,8 @@ abbrev pub are_known : List ℕ → List ℕ → Bool
 are_known frame_ids ids = list_all (λ id. nat_lt (index_of frame_ids id) (length frame_ids)) ids
 
 -- then their indices are those of components
-pub indices_below : (frame_ids ids : List ℕ) → are_known frame_ids ids ≡ true → AllByRecursion (λ c. c < length frame_ids) (map (index_of frame_ids) ids)
+pub indices_below : (frame_ids ids : List ℕ) → are_known frame_ids ids ≡ true
+    → AllByRecursion (λ c. c < length frame_ids) (map (index_of frame_ids) ids)
 indices_below frame_ids [] e = tt
 indices_below frame_ids (id ∷ ids) e =
     let p = and_parts (nat_lt (index_of frame_ids id) (length frame_ids)) (are_known frame_ids ids) e in
@@ -35,24 +36,29 @@ bytes_below n (c ∷ cs) few h = (let a = h.0 in omega arith, bytes_below n cs f
 pub known_there : (xs ys frame_ids ids : List ℕ) → xs ≡ frame_ids → ys ≡ ids → true ≡ are_known xs ys → are_known frame_ids ids ≡ true
 known_there xs ys frame_ids ids p q e = ap (λ (x : List ℕ). are_known x ids) (sym p) ∙ ap (are_known xs) (sym q) ∙ sym e
 
-pub indices_there : (xs ys frame_ids ids cs : List ℕ) → xs ≡ frame_ids → ys ≡ ids → cs ≡ map (index_of xs) ys → cs ≡ map (index_of frame_ids) ids
+pub indices_there : (xs ys frame_ids ids cs : List ℕ) → xs ≡ frame_ids → ys ≡ ids → cs ≡ map (index_of xs) ys
+    → cs ≡ map (index_of frame_ids) ids
 indices_there xs ys frame_ids ids cs p q e = e ∙ ap (λ (x : List ℕ). map (index_of x) ys) p ∙ ap (map (index_of frame_ids)) q
 
-pub params_known : (f : PictureShape) (p : PresetParameters) (n : ℕ) (r : Result CodingParameters ParamFault) → n ≡ f.precision → r ≡ params_of n p.maxval p.t1 p.t2 p.t3 p.reset → params_judged f p ≡ r
+pub params_known : (f : PictureShape) (p : PresetParameters) (n : ℕ) (r : Result CodingParameters ParamFault) → n ≡ f.precision
+    → r ≡ params_of n p.maxval p.t1 p.t2 p.t3 p.reset → params_judged f p ≡ r
 params_known f p n r e h = ap (λ (x : ℕ). params_of x p.maxval p.t1 p.t2 p.t3 p.reset) (sym e) ∙ sym h
 
-pub bad_params : (f : PictureShape) (p : PresetParameters) (r n : ℕ) (s : ScanSelection) (e : ParamFault) → are_known f.ids s.ids ≡ true → params_judged f p ≡ Err e
+pub bad_params : (f : PictureShape) (p : PresetParameters) (r n : ℕ) (s : ScanSelection) (e : ParamFault) → are_known f.ids s.ids ≡ true
+    → params_judged f p ≡ Err e
     → scan_judged f p r n s ≡ Err fault.BadParams
 bad_params f p r n s e known bad = let b : is_ok (params_judged f p) ≡ false = ap is_ok bad in rw (known, b) refl
 
 abbrev pub samples : PictureShape → PresetParameters → ℕ → ScanSelection → ℕ
 samples f p r s = f.width * length s.ids * row_count (scan_in f p r s) 0
 
-pub too_large : (f : PictureShape) (p : PresetParameters) (r n : ℕ) (s : ScanSelection) → are_known f.ids s.ids ≡ true → is_ok (params_judged f p) ≡ true → 2 ^ 28 < samples f p r s
+pub too_large : (f : PictureShape) (p : PresetParameters) (r n : ℕ) (s : ScanSelection) → are_known f.ids s.ids ≡ true
+    → is_ok (params_judged f p) ≡ true → 2 ^ 28 < samples f p r s
     → scan_judged f p r n s ≡ Err fault.IntervalTooLarge
 too_large f p r n s known fine large = let e : nat_le (samples f p r s) (2 ^ 28) ≡ false = lt-leb _ _ large in rw (known, fine, e) refl
 
-pub too_many : (f : PictureShape) (p : PresetParameters) (r n : ℕ) (s : ScanSelection) → are_known f.ids s.ids ≡ true → is_ok (params_judged f p) ≡ true → samples f p r s ≤ 2 ^ 28 → 16 ≤ n
+pub too_many : (f : PictureShape) (p : PresetParameters) (r n : ℕ) (s : ScanSelection) → are_known f.ids s.ids ≡ true
+    → is_ok (params_judged f p) ≡ true → samples f p r s ≤ 2 ^ 28 → 16 ≤ n
     → scan_judged f p r n s ≡ Err fault.TooManyScans
 too_many f p r n s known fine small many =
     let e : nat_le (samples f p r s) (2 ^ 28) ≡ true = le-leb _ _ small in

@@ -47,7 +47,9 @@ lse_fault : (payload : List ℕ) (f : MarkerFault) → lse_of payload ≡ Err f 
 lse_fault [] f e = ap is_other (sym (refused_is fault.Length f e))
 lse_fault (id ∷ values) f e = by_id (id == 1) e
   where
-    by_id : (t : Bool) → cond t (preset_of (preset_parameters values)) (first_failing (((id == 2) || (id == 3), fault.LseId) ∷ []) (segment.Skipped lse)) ≡ Err f → is_other f ≡ true
+    by_id : (t : Bool)
+        → cond t (preset_of (preset_parameters values)) (first_failing (((id == 2) || (id == 3), fault.LseId) ∷ []) (segment.Skipped lse)) ≡ Err f
+        → is_other f ≡ true
     by_id true h = preset_fault (preset_parameters values) f h
     by_id false h = a_listed_fault is_other (((id == 2) || (id == 3), fault.LseId) ∷ []) (segment.Skipped lse) f refl h
 
@@ -76,23 +78,28 @@ module _ (code : ℕ) (payload : List ℕ) where
       other : is_other UnknownMarker ≡ true → ⊥
       other e = absurd cc
 
-      at_skipped : eqb code sof55 ≡ false → eqb code sos ≡ false → eqb code lse ≡ false → eqb code dri ≡ false → (t : Bool) → is_skipped code ≡ t → cond t (Ok (segment.Skipped code)) (Err UnknownMarker) ≡ Err UnknownMarker → has_segment code ≡ false
+      at_skipped : eqb code sof55 ≡ false → eqb code sos ≡ false → eqb code lse ≡ false → eqb code dri ≡ false → (t : Bool)
+          → is_skipped code ≡ t → cond t (Ok (segment.Skipped code)) (Err UnknownMarker) ≡ Err UnknownMarker → has_segment code ≡ false
       at_skipped a b c d true e h = absurd cc
       at_skipped a b c d false e h = or_from _ _ a (or_from _ _ b (or_from _ _ c (or_from _ _ d e)))
 
-      at_dri : eqb code sof55 ≡ false → eqb code sos ≡ false → eqb code lse ≡ false → (t : Bool) → eqb code dri ≡ t → cond t (restart_of (restart_interval payload)) from_skipped ≡ Err UnknownMarker → has_segment code ≡ false
+      at_dri : eqb code sof55 ≡ false → eqb code sos ≡ false → eqb code lse ≡ false → (t : Bool) → eqb code dri ≡ t
+          → cond t (restart_of (restart_interval payload)) from_skipped ≡ Err UnknownMarker → has_segment code ≡ false
       at_dri a b c true e h = absurd (other (restart_fault (restart_interval payload) UnknownMarker h))
       at_dri a b c false e h = at_skipped a b c e (is_skipped code) refl h
 
-      at_lse : eqb code sof55 ≡ false → eqb code sos ≡ false → (t : Bool) → eqb code lse ≡ t → cond t (lse_of payload) from_dri ≡ Err UnknownMarker → has_segment code ≡ false
+      at_lse : eqb code sof55 ≡ false → eqb code sos ≡ false → (t : Bool) → eqb code lse ≡ t
+          → cond t (lse_of payload) from_dri ≡ Err UnknownMarker → has_segment code ≡ false
       at_lse a b true e h = absurd (other (lse_fault payload UnknownMarker h))
       at_lse a b false e h = at_dri a b e (eqb code dri) refl h
 
-      at_sos : eqb code sof55 ≡ false → (t : Bool) → eqb code sos ≡ t → cond t (scan_of (scan_header payload)) from_lse ≡ Err UnknownMarker → has_segment code ≡ false
+      at_sos : eqb code sof55 ≡ false → (t : Bool) → eqb code sos ≡ t → cond t (scan_of (scan_header payload)) from_lse ≡ Err UnknownMarker
+          → has_segment code ≡ false
       at_sos a true e h = absurd (other (scan_fault (scan_header payload) UnknownMarker h))
       at_sos a false e h = at_lse a e (eqb code lse) refl h
 
-      at_frame : (t : Bool) → eqb code sof55 ≡ t → cond t (frame_of (frame_header payload)) from_sos ≡ Err UnknownMarker → has_segment code ≡ false
+      at_frame : (t : Bool) → eqb code sof55 ≡ t → cond t (frame_of (frame_header payload)) from_sos ≡ Err UnknownMarker
+          → has_segment code ≡ false
       at_frame true e h = absurd (other (frame_fault (frame_header payload) UnknownMarker h))
       at_frame false e h = at_sos e (eqb code sos) refl h
 
@@ -168,7 +175,8 @@ accepted_not_ended h (segment.Preset a b c d f) e = absurd cc
 accepted_not_ended h (segment.Restart n) e = absurd cc
 accepted_not_ended h (segment.Skipped c) e = absurd cc
 
-taking_not_ended : (h : HeaderState) (code : ℕ) (payload : List ℕ) (r : Result Segment MarkerFault) → segment_of code payload ≡ r → taking h r ≡ Err Ended → ⊥
+taking_not_ended : (h : HeaderState) (code : ℕ) (payload : List ℕ) (r : Result Segment MarkerFault) → segment_of code payload ≡ r
+    → taking h r ≡ Err Ended → ⊥
 taking_not_ended h code payload (Ok s) e g = accepted_not_ended h s g
 taking_not_ended h code payload (Err f) e g = segment_not_ended code payload (e ∙ same f g)
   where

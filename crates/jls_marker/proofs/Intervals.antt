@@ -87,7 +87,8 @@ each_row h (suc r) row lt =
     let f = rows-suc h r k in
     (k, omega arith, (a, omega arith))
 
-pub one_interval : (h r row j k : ℕ) → j < count h r → k < count h r → (j * r ≤ row) × (row < j * r + rows h r j) → (k * r ≤ row) × (row < k * r + rows h r k) → j ≡ k
+pub one_interval : (h r row j k : ℕ) → j < count h r → k < count h r → (j * r ≤ row) × (row < j * r + rows h r j)
+    → (k * r ≤ row) × (row < k * r + rows h r k) → j ≡ k
 one_interval h zero row j k p q u v = omega arith
 one_interval h (suc r) row j k p q u v =
     let e = rows-suc h r j in

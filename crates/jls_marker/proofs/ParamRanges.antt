@@ -47,16 +47,19 @@ done_is : (p q : CodingParameters) → done p ≡ done q → p ≡ q
 done_is p q e = cc
 
 -- what is in force where nothing is out of range
-judged_there : (q p : CodingParameters) (o : Option ParamFault) → param_fault q ≡ o → params_in_range q o ≡ Ok p → (p ≡ q) × AreCodingParameters p
+judged_there : (q p : CodingParameters) (o : Option ParamFault) → param_fault q ≡ o → params_in_range q o ≡ Ok p
+    → (p ≡ q) × AreCodingParameters p
 judged_there q p None n e = let s : p ≡ q = sym (done_is q p e) in (s, subst AreCodingParameters (sym s) (faultless q n))
 judged_there q p (Some f) n e = absurd cc
 
-pub params_there : (precision a b c d f : ℕ) (p : CodingParameters) → params_of precision a b c d f ≡ Ok p → (p ≡ in_force precision a b c d f) × AreCodingParameters p
+pub params_there : (precision a b c d f : ℕ) (p : CodingParameters) → params_of precision a b c d f ≡ Ok p
+    → (p ≡ in_force precision a b c d f) × AreCodingParameters p
 params_there precision a b c d f p e = let q = in_force precision a b c d f in judged_there q p (param_fault q) refl e
 
 judged_ok : (q : CodingParameters) (o : Option ParamFault) → param_fault q ≡ o → is_ok (params_in_range q o) ≡ true → AreCodingParameters q
 judged_ok q None n e = faultless q n
 judged_ok q (Some f) n e = absurd cc
 
-pub params_ok : (precision a b c d f : ℕ) → is_ok (params_of precision a b c d f) ≡ true → AreCodingParameters (in_force precision a b c d f)
+pub params_ok : (precision a b c d f : ℕ) → is_ok (params_of precision a b c d f) ≡ true
+    → AreCodingParameters (in_force precision a b c d f)
 params_ok precision a b c d f e = let q = in_force precision a b c d f in judged_ok q (param_fault q) refl e

@@ -39,13 +39,15 @@ frame_bytes_of_ids : (cs : List FrameComponent) → AreBytes (flat_map frame_com
 frame_bytes_of_ids [] h = tt
 frame_bytes_of_ids (c ∷ cs) h = (h.0, frame_bytes_of_ids cs h.1.1.1)
 
-scan_bytes_of_ids : (cs : List ScanComponent) (tail : List ℕ) → AreBytes (flat_map scan_component_bytes cs ++ tail) → AreBytes (map (λ c. c.id) cs)
+scan_bytes_of_ids : (cs : List ScanComponent) (tail : List ℕ) → AreBytes (flat_map scan_component_bytes cs ++ tail)
+    → AreBytes (map (λ c. c.id) cs)
 scan_bytes_of_ids [] tail h = tt
 scan_bytes_of_ids (c ∷ cs) tail h = (h.0, scan_bytes_of_ids cs tail h.1.1)
 
 -- ---- what is read is a payload
 
-frame_read : (code : ℕ) (payload : List ℕ) → AreBytes payload → code ≡ sof55 → (o : Option FrameHeader) → frame_header payload ≡ o → (s : Segment) → frame_of o ≡ Ok s → IsPayload code payload s
+frame_read : (code : ℕ) (payload : List ℕ) → AreBytes payload → code ≡ sof55 → (o : Option FrameHeader) → frame_header payload ≡ o
+    → (s : Segment) → frame_of o ≡ Ok s → IsPayload code payload s
 frame_read code payload b ce None e s g = absurd cc
 frame_read code payload b ce (Some h) e s g =
     let l = frame_header_there payload h b e in
@@ -73,7 +75,8 @@ zero_or_one (suc (suc k)) h = absurd (omega arith)
 by_line : (n k : ℕ) → (nat_le n 1 || (k == 1)) ≡ true → 1 < n → (k == 1) ≡ true
 by_line n k e lt = let m : nat_le n 1 ≡ false = lt-leb n 1 lt in rw m at e
 
-scan_read : (code : ℕ) (payload : List ℕ) → AreBytes payload → code ≡ sos → (o : Option ScanHeader) → scan_header payload ≡ o → (s : Segment) → scan_of o ≡ Ok s → IsPayload code payload s
+scan_read : (code : ℕ) (payload : List ℕ) → AreBytes payload → code ≡ sos → (o : Option ScanHeader) → scan_header payload ≡ o
+    → (s : Segment) → scan_of o ≡ Ok s → IsPayload code payload s
 scan_read code payload b ce None e s g = absurd cc
 scan_read code payload b ce (Some h) e s g =
     let l = scan_header_there payload h e in
@@ -97,7 +100,8 @@ scan_read code payload b ce (Some h) e s g =
     } in
     subst (IsPayload code payload) t.1 (ce, (h, l, is))
 
-preset_read : (code : ℕ) (values : List ℕ) → AreBytes values → code ≡ lse → (o : Option PresetParameters) → preset_parameters values ≡ o → (s : Segment) → preset_of o ≡ Ok s → IsPayload code (1 ∷ values) s
+preset_read : (code : ℕ) (values : List ℕ) → AreBytes values → code ≡ lse → (o : Option PresetParameters) → preset_parameters values ≡ o
+    → (s : Segment) → preset_of o ≡ Ok s → IsPayload code (1 ∷ values) s
 preset_read code values b ce None e s g = absurd cc
 preset_read code values b ce (Some p) e s g =
     subst (IsPayload code (1 ∷ values)) (fine_is (Preset p.maxval p.t1 p.t2 p.t3 p.reset) s g) (ce, (values, refl, preset_there values p b e))
@@ -113,14 +117,17 @@ lse_read : (code : ℕ) (payload : List ℕ) → AreBytes payload → code ≡ l
 lse_read code [] b ce s g = absurd cc
 lse_read code (id ∷ values) b ce s g = by_id (id == 1) refl g
   where
-    by_id : (t : Bool) → (id == 1) ≡ t → cond t (preset_of (preset_parameters values)) (first_failing (((id == 2) || (id == 3), fault.LseId) ∷ []) (Skipped lse)) ≡ Ok s → IsPayload code (id ∷ values) s
+    by_id : (t : Bool) → (id == 1) ≡ t
+        → cond t (preset_of (preset_parameters values)) (first_failing (((id == 2) || (id == 3), fault.LseId) ∷ []) (Skipped lse)) ≡ Ok s
+        → IsPayload code (id ∷ values) s
     by_id true e h =
         subst (λ (k : ℕ). IsPayload code (k ∷ values) s) (sym (eqb-true id 1 e)) (preset_read code values b.1 ce (preset_parameters values) refl s h)
     by_id false e h =
         let t = all_pass (((id == 2) || (id == 3), fault.LseId) ∷ []) (Skipped lse) s h in
         subst (IsPayload code (id ∷ values)) t.1 (sym ce, inr (ce, two_or_three id values t.0.0))
 
-restart_read : (code : ℕ) (payload : List ℕ) → AreBytes payload → code ≡ dri → (o : Option ℕ) → restart_interval payload ≡ o → (s : Segment) → restart_of o ≡ Ok s → IsPayload code payload s
+restart_read : (code : ℕ) (payload : List ℕ) → AreBytes payload → code ≡ dri → (o : Option ℕ) → restart_interval payload ≡ o → (s : Segment)
+    → restart_of o ≡ Ok s → IsPayload code payload s
 restart_read code payload b ce None e s g = absurd cc
 restart_read code payload b ce (Some n) e s g = subst (IsPayload code payload) (fine_is (Restart n) s g) (ce, restart_there payload n b e)
 
@@ -129,19 +136,27 @@ module _ (code : ℕ) (payload : List ℕ) (b : AreBytes payload) (s : Segment) 
   at_skipped true e h = subst (IsPayload code payload) (fine_is (Skipped code) s h) (refl, inl e)
   at_skipped false e h = absurd cc
 
-  at_dri : (t : Bool) → eqb code dri ≡ t → cond t (restart_of (restart_interval payload)) (cond (is_skipped code) (Ok (Skipped code)) (Err fault.UnknownMarker)) ≡ Ok s → IsPayload code payload s
+  at_dri : (t : Bool) → eqb code dri ≡ t
+      → cond t (restart_of (restart_interval payload)) (cond (is_skipped code) (Ok (Skipped code)) (Err fault.UnknownMarker)) ≡ Ok s
+      → IsPayload code payload s
   at_dri true e h = restart_read code payload b (eqb-true _ _ e) (restart_interval payload) refl s h
   at_dri false e h = at_skipped (is_skipped code) refl h
 
-  at_lse : (t : Bool) → eqb code lse ≡ t → cond t (lse_of payload) (cond (eqb code dri) (restart_of (restart_interval payload)) (cond (is_skipped code) (Ok (Skipped code)) (Err fault.UnknownMarker))) ≡ Ok s → IsPayload code payload s
+  at_lse : (t : Bool) → eqb code lse ≡ t
+      → cond t (lse_of payload) (cond (eqb code dri) (restart_of (restart_interval payload)) (cond (is_skipped code) (Ok (Skipped code)) (Err fault.UnknownMarker))) ≡ Ok s
+      → IsPayload code payload s
   at_lse true e h = lse_read code payload b (eqb-true _ _ e) s h
   at_lse false e h = at_dri (eqb code dri) refl h
 
-  at_sos : (t : Bool) → eqb code sos ≡ t → cond t (scan_of (scan_header payload)) (cond (eqb code lse) (lse_of payload) (cond (eqb code dri) (restart_of (restart_interval payload)) (cond (is_skipped code) (Ok (Skipped code)) (Err fault.UnknownMarker)))) ≡ Ok s → IsPayload code payload s
+  at_sos : (t : Bool) → eqb code sos ≡ t
+      → cond t (scan_of (scan_header payload)) (cond (eqb code lse) (lse_of payload) (cond (eqb code dri) (restart_of (restart_interval payload)) (cond (is_skipped code) (Ok (Skipped code)) (Err fault.UnknownMarker)))) ≡ Ok s
+      → IsPayload code payload s
   at_sos true e h = scan_read code payload b (eqb-true _ _ e) (scan_header payload) refl s h
   at_sos false e h = at_lse (eqb code lse) refl h
 
-  at_frame : (t : Bool) → eqb code sof55 ≡ t → cond t (frame_of (frame_header payload)) (cond (eqb code sos) (scan_of (scan_header payload)) (cond (eqb code lse) (lse_of payload) (cond (eqb code dri) (restart_of (restart_interval payload)) (cond (is_skipped code) (Ok (Skipped code)) (Err fault.UnknownMarker))))) ≡ Ok s → IsPayload code payload s
+  at_frame : (t : Bool) → eqb code sof55 ≡ t
+      → cond t (frame_of (frame_header payload)) (cond (eqb code sos) (scan_of (scan_header payload)) (cond (eqb code lse) (lse_of payload) (cond (eqb code dri) (restart_of (restart_interval payload)) (cond (is_skipped code) (Ok (Skipped code)) (Err fault.UnknownMarker))))) ≡ Ok s
+      → IsPayload code payload s
   at_frame true e h = frame_read code payload b (eqb-true _ _ e) (frame_header payload) refl s h
   at_frame false e h = at_sos (eqb code sos) refl h
 
@@ -160,7 +175,8 @@ shape_is s h is =
     ∙ ap (λ (y : ℕ). four s.precision s.width y (frame_ids h)) is.height
     ∙ ap (λ (ids : List ℕ). four s.precision s.width s.height ids) is.ids
 
-frame_again : (payload : List ℕ) (s : PictureShape) (h : FrameHeader) → HasFrameLayout payload h → IsFrameHeaderOf s h → segment_of sof55 payload ≡ Ok (Frame s)
+frame_again : (payload : List ℕ) (s : PictureShape) (h : FrameHeader) → HasFrameLayout payload h → IsFrameHeaderOf s h
+    → segment_of sof55 payload ≡ Ok (Frame s)
 frame_again payload s h l is =
     let e = shape_is s h is in
     let shape : is_ok (shape_of h.precision h.width h.height (frame_ids h)) ≡ true = ap (λ (t : PictureShape). is_ok (shape_of t.precision t.width t.height t.ids)) e ∙ ap is_ok (shape_there s is.in_range) in
@@ -175,7 +191,8 @@ selection_is : (s : ScanSelection) (h : ScanHeader) → IsScanHeaderOf s h → s
 selection_is s h is =
     ap (λ (ids : List ℕ). chosen ids (h.interleave == 1)) is.ids ∙ ap (chosen s.ids) (ap (λ (k : ℕ). k == 1) is.interleave ∙ line_again s.line)
 
-scan_again : (payload : List ℕ) (s : ScanSelection) (h : ScanHeader) → HasScanLayout payload h → IsScanHeaderOf s h → segment_of sos payload ≡ Ok (Scan s)
+scan_again : (payload : List ℕ) (s : ScanSelection) (h : ScanHeader) → HasScanLayout payload h → IsScanHeaderOf s h
+    → segment_of sos payload ≡ Ok (Scan s)
 scan_again payload s h l is =
     let n = length h.components in
     let count : n ≡ length s.ids = sym (length-map h.components (λ (c : ScanComponent). c.id)) ∙ ap length is.ids in
@@ -188,7 +205,8 @@ scan_again payload s h l is =
 not_code : (code k : ℕ) → is_skipped code ≡ true → is_skipped k ≡ false → eqb code k ≡ false
 not_code code k e f = ne_eqb code k (λ same. let g : true ≡ false = sym e ∙ ap is_skipped same ∙ f in absurd cc)
 
-skipped_again : (code c : ℕ) (payload : List ℕ) → c ≡ code → (is_skipped code ≡ true) ⊎ ((code ≡ lse) × (HasLseId payload 2 ⊎ HasLseId payload 3)) → segment_of code payload ≡ Ok (Skipped c)
+skipped_again : (code c : ℕ) (payload : List ℕ) → c ≡ code
+    → (is_skipped code ≡ true) ⊎ ((code ≡ lse) × (HasLseId payload 2 ⊎ HasLseId payload 3)) → segment_of code payload ≡ Ok (Skipped c)
 skipped_again code c payload ce (inl e) =
     let a = not_code code sof55 e refl in
     let b = not_code code sos e refl in

@@ -46,7 +46,8 @@ abbrev pub four : ℕ → ℕ → ℕ → List ℕ → PictureShape
 four p x y ids = record { precision = p; width = x; height = y; ids = ids }
 
 -- and values that have a shape are in range
-pub shape_in_range : (p x y : ℕ) (ids : List ℕ) → is_ok (shape_of p x y ids) ≡ true → x < 2 ^ 16 → y < 2 ^ 16 → AllByRecursion (λ id. id < 256) ids
+pub shape_in_range : (p x y : ℕ) (ids : List ℕ) → is_ok (shape_of p x y ids) ≡ true → x < 2 ^ 16 → y < 2 ^ 16
+    → AllByRecursion (λ id. id < 256) ids
     → IsShape (four p x y ids)
 shape_in_range p x y ids e wx wy bytes =
     elim (size_fault p x y (length ids)) as (λ (o : Option ShapeFault). size_fault p x y (length ids) ≡ o → is_ok (unless_fault o (cond (has_repeat ids) (Err RepeatedId) (Ok (four p x y ids)))) ≡ true → IsShape (four p x y ids)) [

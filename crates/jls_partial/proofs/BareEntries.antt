@@ -44,11 +44,13 @@ less_from_test Less h = refl
 less_from_test Equal h = absurd h
 less_from_test Greater h = absurd h
 
-below_from_test : {K X : Type 0} (R : K → K → Ordering) (k : K) (es : List (K × X)) → T (sorted.below_all R k es) → AllByRecursion (λ y. R k y ≡ Less) (map (λ e. e.0) es)
+below_from_test : {K X : Type 0} (R : K → K → Ordering) (k : K) (es : List (K × X)) → T (sorted.below_all R k es)
+    → AllByRecursion (λ y. R k y ≡ Less) (map (λ e. e.0) es)
 below_from_test R k [] h = tt
 below_from_test R k (e ∷ es) h = let p = both_hold (is_lt (R k e.0)) (sorted.below_all R k es) h in (less_from_test (R k e.0) p.0, below_from_test R k es p.1)
 
-sorted_from_test : {K X : Type 0} (R : K → K → Ordering) (es : List (K × X)) → T (sorted.is_sorted R es) → IsStrictlySortedBy R (map (λ e. e.0) es)
+sorted_from_test : {K X : Type 0} (R : K → K → Ordering) (es : List (K × X)) → T (sorted.is_sorted R es)
+    → IsStrictlySortedBy R (map (λ e. e.0) es)
 unfolding IsStrictlySortedBy
 sorted_from_test R [] h = tt
 sorted_from_test R (e ∷ es) h = let p = both_hold (sorted.below_all R e.0 es) (sorted.is_sorted R es) h in (below_from_test R e.0 es p.0, sorted_from_test R es p.1)
@@ -57,14 +59,16 @@ pub items_rise : {K : Type 0} {R : K → K → Ordering} (s : OrderedSet R) → 
 items_rise {R = R} s = sorted_from_test R (fin.entries s) (fin.entries_sorted s)
 
 -- a fact of all that a list contains is a fact of its items
-pub all_members : {K : Type 0} {R : K → K → Ordering} (o : IsTotalOrder R) (P : K → Type 0) (ks : List K) → ((q : K) → list_any (eq_by_cmp R q) ks ≡ true → P q) → AllByRecursion P ks
+pub all_members : {K : Type 0} {R : K → K → Ordering} (o : IsTotalOrder R) (P : K → Type 0) (ks : List K)
+    → ((q : K) → list_any (eq_by_cmp R q) ks ≡ true → P q) → AllByRecursion P ks
 all_members o P [] f = tt
 all_members {R = R} o P (k ∷ ks) f = (f k (or_left _ _ (ap is_eq (tied_itself o k))), all_members o P ks (λ q h. f q (or_right (eq_by_cmp R q k) _ h)))
 
 -- ---- entries in order are the entries of their partial
 
 -- where there is a reading, the place is there
-block_places : (t : Place → Bool) (p : Place) (x : List ℕ) (xs : List (List ℕ)) → list_any t (map place_of (map (at_place p) (x ∷ xs))) ≡ t p
+block_places : (t : Place → Bool) (p : Place) (x : List ℕ) (xs : List (List ℕ))
+    → list_any t (map place_of (map (at_place p) (x ∷ xs))) ≡ t p
 block_places t p x [] = or_false (t p)
 block_places t p x (y ∷ ys) = ap (λ b. t p || b) (block_places t p y ys) ∙ or_itself (t p)
 
@@ -72,7 +76,8 @@ some_block : (t : Place → Bool) (p : Place) (xs : List (List ℕ)) → 1 ≤ l
 some_block t p [] h = absurd (omega arith)
 some_block t p (x ∷ xs) h = block_places t p x xs
 
-same_places : (shape : PictureShape) (t : Place → Bool) (es : List BareEntry) → AllByRecursion (IsEntry shape) es → list_any t (map place_of (readings_of_entries es)) ≡ list_any t (map (λ e. e.0) es)
+same_places : (shape : PictureShape) (t : Place → Bool) (es : List BareEntry) → AllByRecursion (IsEntry shape) es
+    → list_any t (map place_of (readings_of_entries es)) ≡ list_any t (map (λ e. e.0) es)
 same_places shape t [] h = refl
 same_places shape t (e ∷ es) h =
     ap (λ (rs : List Reading). list_any t (map place_of rs)) (flat_map-cons (λ (e : BareEntry). map (at_place e.0) e.1) e es)
@@ -80,7 +85,8 @@ same_places shape t (e ∷ es) h =
     ∙ list_any-append t (map place_of (map (at_place e.0) e.1)) (map place_of (readings_of_entries es))
     ∙ (λ i. some_block t e.0 e.1 h.0.read i || same_places shape t es h.1 i)
 
-pub places_again : (shape : PictureShape) (es : List BareEntry) (p : PartialPicture) → AreEntries shape es → from_list (readings_of_entries es) ≡ p.readings → places_held p ≡ map (λ e. e.0) es
+pub places_again : (shape : PictureShape) (es : List BareEntry) (p : PartialPicture) → AreEntries shape es
+    → from_list (readings_of_entries es) ≡ p.readings → places_held p ≡ map (λ e. e.0) es
 places_again shape es p kept is =
     ap (λ (s : OrderedSet reading_cmp). items (from_list {R = place_cmp} (map place_of (items s)))) (sym is)
     ∙ ap (λ (rs : List Reading). items (from_list {R = place_cmp} (map place_of rs))) (items-from_list reading_total (readings_of_entries es) (sorted-entries shape es kept.sorted kept.each))
@@ -92,7 +98,8 @@ later : (p q : Place) → place_cmp p q ≡ Less → is_at (place_cmp q) p ≡ f
 later p q h = ap is_eq (place_total.antisymm q p ∙ ap ordering_reverse h)
 
 -- what is found behind an earlier entry is found
-found_behind : (e : BareEntry) (es fs : List BareEntry) → AllByRecursion (λ q. place_cmp e.0 q ≡ Less) (map (λ f. f.0) fs) → AllByRecursion (λ f. samples_at es f.0 ≡ f.1) fs → AllByRecursion (λ f. samples_at (e ∷ es) f.0 ≡ f.1) fs
+found_behind : (e : BareEntry) (es fs : List BareEntry) → AllByRecursion (λ q. place_cmp e.0 q ≡ Less) (map (λ f. f.0) fs)
+    → AllByRecursion (λ f. samples_at es f.0 ≡ f.1) fs → AllByRecursion (λ f. samples_at (e ∷ es) f.0 ≡ f.1) fs
 found_behind e es [] h k = tt
 found_behind e es (f ∷ fs) h k =
     (ap (λ b. unwrap_or (cond b (Some e.1) (lookup (is_at (place_cmp f.0)) es)) []) (later e.0 f.0 h.0) ∙ k.0, found_behind e es fs h.1 k.1)
@@ -103,15 +110,18 @@ all_found [] h = tt
 all_found (e ∷ es) h =
     (ap (λ b. unwrap_or (cond b (Some e.1) (lookup (is_at (place_cmp e.0)) es)) []) (ap is_eq (tied_itself place_total e.0)), found_behind e es es h.0 (all_found es h.1))
 
-made_again : (f : Place → List (List ℕ)) (es : List BareEntry) → AllByRecursion (λ e. f e.0 ≡ e.1) es → map (λ at. (at, f at)) (map (λ e. e.0) es) ≡ es
+made_again : (f : Place → List (List ℕ)) (es : List BareEntry) → AllByRecursion (λ e. f e.0 ≡ e.1) es
+    → map (λ at. (at, f at)) (map (λ e. e.0) es) ≡ es
 made_again f [] h = refl
 made_again f (e ∷ es) h = λ i. (e.0, h.0 i) ∷ made_again f es h.1 i
 
-all_same : (f g : Place → List (List ℕ)) (es : List BareEntry) → ((at : Place) → f at ≡ g at) → AllByRecursion (λ e. g e.0 ≡ e.1) es → AllByRecursion (λ e. f e.0 ≡ e.1) es
+all_same : (f g : Place → List (List ℕ)) (es : List BareEntry) → ((at : Place) → f at ≡ g at) → AllByRecursion (λ e. g e.0 ≡ e.1) es
+    → AllByRecursion (λ e. f e.0 ≡ e.1) es
 all_same f g [] e h = tt
 all_same f g (x ∷ es) e h = (e x.0 ∙ h.0, all_same f g es e h.1)
 
-pub bare_again : (shape : PictureShape) (es : List BareEntry) (p : PartialPicture) → AreEntries shape es → from_list (readings_of_entries es) ≡ p.readings → bare_entries p ≡ es
+pub bare_again : (shape : PictureShape) (es : List BareEntry) (p : PartialPicture) → AreEntries shape es
+    → from_list (readings_of_entries es) ≡ p.readings → bare_entries p ≡ es
 bare_again shape es p kept is =
     ap (map (λ (at : Place). (at, readings_at p at.component at.line))) (places_again shape es p kept is)
     ∙ made_again (λ at. readings_at p at.component at.line) es
@@ -127,7 +137,8 @@ pub entries_rise : (p : PartialPicture) → IsStrictlySortedBy place_cmp (map (�
 entries_rise p = subst (IsStrictlySortedBy place_cmp) (sym (places_of_entries (λ at. readings_at p at.component at.line) (places_held p))) (items_rise (from_list {R = place_cmp} (map place_of (items p.readings))))
 
 -- what stands at a place that is looked up among made entries
-lookup_made : (f : Place → List (List ℕ)) (q : Place) (ps : List Place) → lookup (is_at (place_cmp q)) (map (λ at. (at, f at)) ps) ≡ cond (list_any (eq_by_cmp place_cmp q) ps) (Some (f q)) None
+lookup_made : (f : Place → List (List ℕ)) (q : Place) (ps : List Place)
+    → lookup (is_at (place_cmp q)) (map (λ at. (at, f at)) ps) ≡ cond (list_any (eq_by_cmp place_cmp q) ps) (Some (f q)) None
 lookup_made f q [] = refl
 lookup_made f q (p ∷ ps) =
     elim (eq_by_cmp place_cmp q p) as (λ b. eq_by_cmp place_cmp q p ≡ b → cond b (Some (f p)) (lookup (is_at (place_cmp q)) (map (λ at. (at, f at)) ps)) ≡ cond (b || list_any (eq_by_cmp place_cmp q) ps) (Some (f q)) None) [
@@ -139,7 +150,8 @@ lookup_made f q (p ∷ ps) =
 same_line : (r x : Reading) → eq_by_cmp reading_cmp r x ≡ (is_there r.component r.line x && eq_by_cmp S r.samples x.samples)
 same_line r x = eq_reading r (place_of x) x.samples ∙ ap (λ b. b && eq_by_cmp S r.samples x.samples) (sym (eq_there r.component r.line (place_of x)))
 
-any_there : (r : Reading) (rs : List Reading) → list_any (eq_by_cmp S r.samples) (map (λ x. x.samples) (filter (is_there r.component r.line) rs)) ≡ list_any (eq_by_cmp reading_cmp r) rs
+any_there : (r : Reading) (rs : List Reading)
+    → list_any (eq_by_cmp S r.samples) (map (λ x. x.samples) (filter (is_there r.component r.line) rs)) ≡ list_any (eq_by_cmp reading_cmp r) rs
 any_there r [] = refl
 any_there r (x ∷ rs) =
     elim (is_there r.component r.line x) as (λ b. is_there r.component r.line x ≡ b →
@@ -155,7 +167,8 @@ first_part Equal Equal t e = absurd cc
 first_part Equal Greater t e = refl
 first_part Greater s t e = refl
 
-none_there : (r : Reading) (rs : List Reading) → list_any (eq_by_cmp place_cmp (place_of r)) (map place_of rs) ≡ false → list_any (eq_by_cmp reading_cmp r) rs ≡ false
+none_there : (r : Reading) (rs : List Reading) → list_any (eq_by_cmp place_cmp (place_of r)) (map place_of rs) ≡ false
+    → list_any (eq_by_cmp reading_cmp r) rs ≡ false
 none_there r [] e = refl
 none_there r (x ∷ rs) e =
     let p = or_parts (eq_by_cmp place_cmp (place_of r) (place_of x)) _ e in
@@ -169,10 +182,12 @@ set_again p = same_set reading_total reading_exact (from_list (readings_of_entri
     ∙ step r
     ∙ sym (contains-items p.readings r))
   where
-    held_place : (r : Reading) → list_any (eq_by_cmp place_cmp (place_of r)) (places_held p) ≡ list_any (eq_by_cmp place_cmp (place_of r)) (map place_of (items p.readings))
+    held_place : (r : Reading)
+        → list_any (eq_by_cmp place_cmp (place_of r)) (places_held p) ≡ list_any (eq_by_cmp place_cmp (place_of r)) (map place_of (items p.readings))
     held_place r = sym (contains-items (from_list {R = place_cmp} (map place_of (items p.readings))) (place_of r)) ∙ contains-from_list place_total (map place_of (items p.readings)) (place_of r)
 
-    step : (r : Reading) → list_any (eq_by_cmp S r.samples) (unwrap_or (cond (list_any (eq_by_cmp place_cmp (place_of r)) (map place_of (items p.readings))) (Some (readings_at p r.component r.line)) None) []) ≡ list_any (eq_by_cmp reading_cmp r) (items p.readings)
+    step : (r : Reading)
+        → list_any (eq_by_cmp S r.samples) (unwrap_or (cond (list_any (eq_by_cmp place_cmp (place_of r)) (map place_of (items p.readings))) (Some (readings_at p r.component r.line)) None) []) ≡ list_any (eq_by_cmp reading_cmp r) (items p.readings)
     step r =
         elim (list_any (eq_by_cmp place_cmp (place_of r)) (map place_of (items p.readings))) as (λ b. list_any (eq_by_cmp place_cmp (place_of r)) (map place_of (items p.readings)) ≡ b →
         list_any (eq_by_cmp S r.samples) (unwrap_or (cond b (Some (readings_at p r.component r.line)) None) []) ≡ list_any (eq_by_cmp reading_cmp r) (items p.readings)) [
@@ -193,7 +208,8 @@ same_line_cmp c l x y p q =
     let s : nat_cmp x.line y.line ≡ Equal = rw two (tied_itself nat_cmp_total y.line) in
     λ i. ordering_then (r i) (ordering_then (s i) (S x.samples y.samples))
 
-below_there : (c l : ℕ) (x : Reading) (rs : List Reading) → is_there c l x ≡ true → AllByRecursion (λ y. reading_cmp x y ≡ Less) rs → AllByRecursion (λ y. S x.samples y ≡ Less) (map (λ r. r.samples) (filter (is_there c l) rs))
+below_there : (c l : ℕ) (x : Reading) (rs : List Reading) → is_there c l x ≡ true → AllByRecursion (λ y. reading_cmp x y ≡ Less) rs
+    → AllByRecursion (λ y. S x.samples y ≡ Less) (map (λ r. r.samples) (filter (is_there c l) rs))
 below_there c l x [] t h = tt
 below_there c l x (y ∷ rs) t h =
     elim (is_there c l y) as (λ b. is_there c l y ≡ b → AllByRecursion (λ z. S x.samples z ≡ Less) (map (λ r. r.samples) (cond b (y ∷ filter (is_there c l) rs) (filter (is_there c l) rs)))) [
@@ -201,7 +217,8 @@ below_there c l x (y ∷ rs) t h =
       | false ↦ λ e. below_there c l x rs t h.1
     ] refl
 
-sorted_there : (c l : ℕ) (rs : List Reading) → IsStrictlySortedBy reading_cmp rs → IsStrictlySortedBy S (map (λ r. r.samples) (filter (is_there c l) rs))
+sorted_there : (c l : ℕ) (rs : List Reading) → IsStrictlySortedBy reading_cmp rs
+    → IsStrictlySortedBy S (map (λ r. r.samples) (filter (is_there c l) rs))
 unfolding IsStrictlySortedBy
 sorted_there c l [] h = tt
 sorted_there c l (x ∷ rs) h =
@@ -210,7 +227,8 @@ sorted_there c l (x ∷ rs) h =
       | false ↦ λ e. sorted_there c l rs h.1
     ] refl
 
-some_there : (c l : ℕ) (rs : List Reading) → list_any (eq_by_cmp place_cmp (place c l)) (map place_of rs) ≡ true → 1 ≤ length (map (λ r. r.samples) (filter (is_there c l) rs))
+some_there : (c l : ℕ) (rs : List Reading) → list_any (eq_by_cmp place_cmp (place c l)) (map place_of rs) ≡ true
+    → 1 ≤ length (map (λ r. r.samples) (filter (is_there c l) rs))
 some_there c l [] h = absurd cc
 some_there c l (x ∷ rs) h =
     elim (is_there c l x) as (λ b. is_there c l x ≡ b → 1 ≤ length (map (λ r. r.samples) (cond b (x ∷ filter (is_there c l) rs) (filter (is_there c l) rs)))) [
@@ -218,7 +236,9 @@ some_there c l (x ∷ rs) h =
       | false ↦ λ e. some_there c l rs (ap (λ b. b || list_any (eq_by_cmp place_cmp (place c l)) (map place_of rs)) (sym e ∙ eq_there c l (place_of x)) ∙ h)
     ] refl
 
-fit_there : (shape : PictureShape) (c l : ℕ) (rs : List Reading) → AllByRecursion (λ r. reading_fault shape r.component r.line r.samples ≡ None) rs → AllByRecursion (λ x. reading_fault shape c l x ≡ None) (map (λ r. r.samples) (filter (is_there c l) rs))
+fit_there : (shape : PictureShape) (c l : ℕ) (rs : List Reading)
+    → AllByRecursion (λ r. reading_fault shape r.component r.line r.samples ≡ None) rs
+    → AllByRecursion (λ x. reading_fault shape c l x ≡ None) (map (λ r. r.samples) (filter (is_there c l) rs))
 fit_there shape c l [] h = tt
 fit_there shape c l (x ∷ rs) h =
     elim (is_there c l x) as (λ b. is_there c l x ≡ b → AllByRecursion (λ x. reading_fault shape c l x ≡ None) (map (λ r. r.samples) (cond b (x ∷ filter (is_there c l) rs) (filter (is_there c l) rs)))) [
@@ -227,7 +247,8 @@ fit_there shape c l (x ∷ rs) h =
       | false ↦ λ e. fit_there shape c l rs h.1
     ] refl
 
-each_made : (P : BareEntry → Type 0) (f : Place → List (List ℕ)) (ps : List Place) → AllByRecursion (λ at. P (at, f at)) ps → AllByRecursion P (map (λ (at : Place). (at, f at)) ps)
+each_made : (P : BareEntry → Type 0) (f : Place → List (List ℕ)) (ps : List Place) → AllByRecursion (λ at. P (at, f at)) ps
+    → AllByRecursion P (map (λ (at : Place). (at, f at)) ps)
 each_made P f [] h = tt
 each_made P f (p ∷ ps) h = (h.0, each_made P f ps h.1)
 
@@ -237,13 +258,15 @@ entries_are p is = record {
   each = each_made (IsEntry p.shape) (λ at. readings_at p at.component at.line) (places_held p) (all_members place_total (λ at. IsEntry p.shape (at, readings_at p at.component at.line)) (places_held p) (λ at h. one at (sym (held_place at) ∙ h)));
 }
   where
-    held_place : (q : Place) → list_any (eq_by_cmp place_cmp q) (places_held p) ≡ list_any (eq_by_cmp place_cmp q) (map place_of (items p.readings))
+    held_place : (q : Place)
+        → list_any (eq_by_cmp place_cmp q) (places_held p) ≡ list_any (eq_by_cmp place_cmp q) (map place_of (items p.readings))
     held_place q = sym (contains-items (from_list {R = place_cmp} (map place_of (items p.readings))) q) ∙ contains-from_list place_total (map place_of (items p.readings)) q
 
     fit : AllByRecursion (λ (r : Reading). reading_fault p.shape r.component r.line r.samples ≡ None) (items p.readings)
     fit = all_members reading_total (λ (r : Reading). reading_fault p.shape r.component r.line r.samples ≡ None) (items p.readings) (λ r h. is.fitting r.component r.line r.samples (contains-items p.readings r ∙ h))
 
-    one : (at : Place) → list_any (eq_by_cmp place_cmp at) (map place_of (items p.readings)) ≡ true → IsEntry p.shape (at, readings_at p at.component at.line)
+    one : (at : Place) → list_any (eq_by_cmp place_cmp at) (map place_of (items p.readings)) ≡ true
+        → IsEntry p.shape (at, readings_at p at.component at.line)
     one at h = record {
       read = some_there at.component at.line (items p.readings) h;
       sorted = sorted_there at.component at.line (items p.readings) (items_rise p.readings);
@@ -258,13 +281,15 @@ first_none true x o e = absurd cc
 first_none false x o e = (refl, e)
 
 -- a reading that fits is of a line of the picture
-pub line_of_fit : (shape : PictureShape) (c l : ℕ) (x : List ℕ) → reading_fault shape c l x ≡ None → (c < length shape.ids) × (l < shape.height)
+pub line_of_fit : (shape : PictureShape) (c l : ℕ) (x : List ℕ) → reading_fault shape c l x ≡ None
+    → (c < length shape.ids) × (l < shape.height)
 line_of_fit shape c l x e =
     let a = first_none (nat_le (length shape.ids) c) _ _ e in
     let b = first_none (nat_le shape.height l) _ _ a.1 in
     (leb-false _ _ a.0, leb-false _ _ b.0)
 
-pub line_of_entry : (shape : PictureShape) (e : BareEntry) → IsEntry shape e → (e.0.component < length shape.ids) × (e.0.line < shape.height)
+pub line_of_entry : (shape : PictureShape) (e : BareEntry) → IsEntry shape e
+    → (e.0.component < length shape.ids) × (e.0.line < shape.height)
 line_of_entry shape (at, []) h = absurd (omega (arith, h.read))
 line_of_entry shape (at, x ∷ xs) h = line_of_fit shape at.component at.line x h.fitting.0
 
@@ -282,11 +307,13 @@ rank_rises p q lt e =
       | Greater ↦ λ i h. absurd cc
     ] refl e
 
-above_all : (p : Place) (ps : List Place) → p.line < 2 ^ 16 → AllByRecursion (λ q. place_cmp p q ≡ Less) ps → AllByRecursion (λ q. rank p + 1 ≤ rank q) ps
+above_all : (p : Place) (ps : List Place) → p.line < 2 ^ 16 → AllByRecursion (λ q. place_cmp p q ≡ Less) ps
+    → AllByRecursion (λ q. rank p + 1 ≤ rank q) ps
 above_all p [] lt h = tt
 above_all p (q ∷ ps) lt h = (let r = rank_rises p q lt h.0 in omega (arith, r), above_all p ps lt h.1)
 
-few_between : (n low : ℕ) (ps : List Place) → low ≤ n → IsStrictlySortedBy place_cmp ps → AllByRecursion (λ p. low ≤ rank p) ps → AllByRecursion (λ p. (p.line < 2 ^ 16) × (rank p < n)) ps → length ps + low ≤ n
+few_between : (n low : ℕ) (ps : List Place) → low ≤ n → IsStrictlySortedBy place_cmp ps → AllByRecursion (λ p. low ≤ rank p) ps
+    → AllByRecursion (λ p. (p.line < 2 ^ 16) × (rank p < n)) ps → length ps + low ≤ n
 unfolding IsStrictlySortedBy
 few_between n low [] le s h k = omega arith
 few_between n low (p ∷ ps) le s h k =
@@ -298,7 +325,8 @@ all_low : (ps : List Place) → AllByRecursion (λ p. 0 ≤ rank p) ps
 all_low [] = tt
 all_low (p ∷ ps) = (omega arith, all_low ps)
 
-lines_below : (shape : PictureShape) (es : List BareEntry) → IsShape shape → AllByRecursion (IsEntry shape) es → AllByRecursion (λ p. (p.line < 2 ^ 16) × (rank p < 4 * 2 ^ 16)) (map (λ (e : BareEntry). e.0) es)
+lines_below : (shape : PictureShape) (es : List BareEntry) → IsShape shape → AllByRecursion (IsEntry shape) es
+    → AllByRecursion (λ p. (p.line < 2 ^ 16) × (rank p < 4 * 2 ^ 16)) (map (λ (e : BareEntry). e.0) es)
 lines_below shape [] is h = tt
 lines_below shape (e ∷ es) is h =
     let p = line_of_entry shape e h.0 in

@@ -34,7 +34,8 @@ abbrev pub samples_at : List BareEntry → Place → List (List ℕ)
 samples_at entries at = unwrap_or (lookup (is_at (place_cmp at)) entries) []
 
 -- what the readings at one place are
-any-at_place : (r : Reading) (p : Place) (xs : List (List ℕ)) → list_any (eq_by_cmp reading_cmp r) (map (at_place p) xs) ≡ (eq_by_cmp place_cmp (place_of r) p && list_any (eq_by_cmp S r.samples) xs)
+any-at_place : (r : Reading) (p : Place) (xs : List (List ℕ))
+    → list_any (eq_by_cmp reading_cmp r) (map (at_place p) xs) ≡ (eq_by_cmp place_cmp (place_of r) p && list_any (eq_by_cmp S r.samples) xs)
 any-at_place r p [] = none (eq_by_cmp place_cmp (place_of r) p)
   where
     none : (b : Bool) → false ≡ (b && false)
@@ -48,15 +49,18 @@ any-at_place r p (x ∷ xs) =
     both false c d = refl
 
 -- a place that is below all others is none of them
-none_later : {X : Type 0} (p : Place) (es : List (Place × X)) → AllByRecursion (λ q. place_cmp p q ≡ Less) (map (λ e. e.0) es) → lookup (is_at (place_cmp p)) es ≡ None
+none_later : {X : Type 0} (p : Place) (es : List (Place × X)) → AllByRecursion (λ q. place_cmp p q ≡ Less) (map (λ e. e.0) es)
+    → lookup (is_at (place_cmp p)) es ≡ None
 none_later p [] h = refl
 none_later p (e ∷ es) h = rw h.0 (none_later p es h.1)
 
-pub none_kept : {X : Type 0} (q p : Place) (es : List (Place × X)) → is_at (place_cmp q) p ≡ true → AllByRecursion (λ q. place_cmp p q ≡ Less) (map (λ e. e.0) es) → lookup (is_at (place_cmp q)) es ≡ None
+pub none_kept : {X : Type 0} (q p : Place) (es : List (Place × X)) → is_at (place_cmp q) p ≡ true
+    → AllByRecursion (λ q. place_cmp p q ≡ Less) (map (λ e. e.0) es) → lookup (is_at (place_cmp q)) es ≡ None
 none_kept q p es e h = subst (λ (z : Place). lookup (is_at (place_cmp z)) es ≡ None) (sym (same_place q p e)) (none_later p es h)
 
 -- a reading is in the list of all exactly if it is kept at its place
-pub any-entries : (es : List BareEntry) (r : Reading) → IsStrictlySortedBy place_cmp (map (λ e. e.0) es) → list_any (eq_by_cmp reading_cmp r) (readings_of_entries es) ≡ list_any (eq_by_cmp S r.samples) (samples_at es (place_of r))
+pub any-entries : (es : List BareEntry) (r : Reading) → IsStrictlySortedBy place_cmp (map (λ e. e.0) es)
+    → list_any (eq_by_cmp reading_cmp r) (readings_of_entries es) ≡ list_any (eq_by_cmp S r.samples) (samples_at es (place_of r))
 unfolding IsStrictlySortedBy
 any-entries [] r h = refl
 any-entries (e ∷ es) r h =
@@ -76,7 +80,8 @@ any-entries (e ∷ es) r h =
     or_false false = refl
 
 -- what holds at each place that is kept
-pub each_from_lookup : {X : Type 0} (P : Place × X → Type 0) (es : List (Place × X)) → IsStrictlySortedBy place_cmp (map (λ e. e.0) es) → ((q : Place) → IfSome (lookup (is_at (place_cmp q)) es) (λ xs. P (q, xs))) → AllByRecursion P es
+pub each_from_lookup : {X : Type 0} (P : Place × X → Type 0) (es : List (Place × X)) → IsStrictlySortedBy place_cmp (map (λ e. e.0) es)
+    → ((q : Place) → IfSome (lookup (is_at (place_cmp q)) es) (λ xs. P (q, xs))) → AllByRecursion P es
 unfolding IsStrictlySortedBy
 each_from_lookup {X} P [] h f = tt
 each_from_lookup {X} P (e ∷ es) h f = (
@@ -87,7 +92,8 @@ each_from_lookup {X} P (e ∷ es) h f = (
   ] refl (f q)),
 )
 
-pub lookup_from_each : {X : Type 0} (P : Place × X → Type 0) (es : List (Place × X)) (q : Place) → AllByRecursion P es → IfSome (lookup (is_at (place_cmp q)) es) (λ xs. P (q, xs))
+pub lookup_from_each : {X : Type 0} (P : Place × X → Type 0) (es : List (Place × X)) (q : Place) → AllByRecursion P es
+    → IfSome (lookup (is_at (place_cmp q)) es) (λ xs. P (q, xs))
 lookup_from_each P [] q h = tt
 lookup_from_each P (e ∷ es) q h =
     elim (is_at (place_cmp q) e.0) as (λ b. is_at (place_cmp q) e.0 ≡ b → IfSome (cond b (Some e.1) (lookup (is_at (place_cmp q)) es)) (λ xs. P (q, xs))) [
@@ -103,11 +109,13 @@ any_all P x (y ∷ xs) h e =
       | false ↦ λ t f. any_all P x xs h.1 f
     ] refl e
 
-pub holds_kept : (shape : PictureShape) (es : List BareEntry) (p : PartialPicture) (c l : ℕ) (x : List ℕ) → AreEntries shape es → from_list (readings_of_entries es) ≡ p.readings → holds p c l x ≡ list_any (eq_by_cmp S x) (samples_at es (place c l))
+pub holds_kept : (shape : PictureShape) (es : List BareEntry) (p : PartialPicture) (c l : ℕ) (x : List ℕ) → AreEntries shape es
+    → from_list (readings_of_entries es) ≡ p.readings → holds p c l x ≡ list_any (eq_by_cmp S x) (samples_at es (place c l))
 holds_kept shape es p c l x kept is =
     ap (λ (s : OrderedSet reading_cmp). contains s (at_place (place c l) x)) (sym is) ∙ contains-from_list reading_total (readings_of_entries es) (at_place (place c l) x) ∙ any-entries es (at_place (place c l) x) kept.sorted
 
-pub fits_kept : (shape : PictureShape) (es : List BareEntry) (c l : ℕ) (x : List ℕ) → AreEntries shape es → list_any (eq_by_cmp S x) (samples_at es (place c l)) ≡ true → reading_fault shape c l x ≡ None
+pub fits_kept : (shape : PictureShape) (es : List BareEntry) (c l : ℕ) (x : List ℕ) → AreEntries shape es
+    → list_any (eq_by_cmp S x) (samples_at es (place c l)) ≡ true → reading_fault shape c l x ≡ None
 fits_kept shape es c l x kept e =
     elim (lookup (is_at (place_cmp (place c l))) es) as (λ (o : Option (List (List ℕ))). IfSome o (λ xs. IsEntry shape (place c l, xs)) → list_any (eq_by_cmp S x) (unwrap_or o []) ≡ true → reading_fault shape c l x ≡ None) [
       | None ↦ λ k f. absurd cc

@@ -62,7 +62,8 @@ pub record IsSoFar (old new : PartialPicture) (all left : List (Reading × List 
   pub new_is : new ≡ with_all old taken
 
 -- some more are taken
-pub more_so_far : (p q r : PartialPicture) (all ks left : List (Reading × List ℕ)) → IsSoFar p q all (ks ++ left) → r ≡ with_all q ks → IsSoFar p r all left
+pub more_so_far : (p q r : PartialPicture) (all ks left : List (Reading × List ℕ)) → IsSoFar p q all (ks ++ left) → r ≡ with_all q ks
+    → IsSoFar p r all left
 more_so_far p q r all ks left h is = record {
   taken = h.taken ++ ks;
   parts = h.parts ∙ sym (append_assoc h.taken ks left);
@@ -70,7 +71,8 @@ more_so_far p q r all ks left h is = record {
 }
 
 -- of the next a front is taken
-pub front_so_far : (p q r : PartialPicture) (all ks left : List (Reading × List ℕ)) → IsSoFar p q all (ks ++ left) → TakesFront q r ks → TakesFront p r all
+pub front_so_far : (p q r : PartialPicture) (all ks left : List (Reading × List ℕ)) → IsSoFar p q all (ks ++ left) → TakesFront q r ks
+    → TakesFront p r all
 front_so_far p q r all ks left h f = record {
   taken = h.taken ++ f.taken;
   left = f.left ++ left;
@@ -79,7 +81,8 @@ front_so_far p q r all ks left h f = record {
 }
 
 -- the readings of the next entry come first
-pub next_entry : (e : LineEntry) (es : List LineEntry) → kept_readings (map kept_entry (e ∷ es)) ≡ map (kept_at_place e.0) (kept_lines e.1) ++ kept_readings (map kept_entry es)
+pub next_entry : (e : LineEntry) (es : List LineEntry)
+    → kept_readings (map kept_entry (e ∷ es)) ≡ map (kept_at_place e.0) (kept_lines e.1) ++ kept_readings (map kept_entry es)
 next_entry e es = flat_map-cons (λ (e : Entry). map (kept_at_place e.0) e.1) (kept_entry e) (map kept_entry es)
 
 -- ---- the union

@@ -31,7 +31,8 @@ use Rattle.jls_partial.proofs.ReadBack.{sorted-entries}
 
 -- ---- the readings alone
 
-firsts : (at : Place) (ks : List Kept) → map (λ (k : Reading × List ℕ). k.0) (map (kept_at_place at) ks) ≡ map (at_place at) (map (λ (k : Kept). k.0) ks)
+firsts : (at : Place) (ks : List Kept)
+    → map (λ (k : Reading × List ℕ). k.0) (map (kept_at_place at) ks) ≡ map (at_place at) (map (λ (k : Kept). k.0) ks)
 firsts at [] = refl
 firsts at (k ∷ ks) = ap (λ t. at_place at k.0 ∷ t) (firsts at ks)
 
@@ -48,18 +49,21 @@ set_of_all : (rs : List Reading) → set.insert_all (set.empty {R = reading_cmp}
 set_of_all rs = same_set reading_total reading_exact (set.insert_all set.empty rs) (set.from_list rs) (λ q.
     contains-insert_all reading_total set.empty rs q ∙ ap (λ b. b || list_any (eq_by_cmp reading_cmp q) rs) (contains-empty reading_cmp q) ∙ sym (contains-from_list reading_total rs q))
 
-pub readings_are : (shape : PictureShape) (es : List Entry) → set.from_list (readings_of_entries (map bare es)) ≡ (partial_of shape es).readings
+pub readings_are : (shape : PictureShape) (es : List Entry)
+    → set.from_list (readings_of_entries (map bare es)) ≡ (partial_of shape es).readings
 readings_are shape es = sym (ap (set.insert_all (set.empty {R = reading_cmp})) (bare_readings es) ∙ set_of_all (readings_of_entries (map bare es)))
 
 -- ---- what the partial picture of entries holds
 
-pub holds_reading : (shape : PictureShape) (es : List Entry) (r : Reading) → set.contains (partial_of shape es).readings r ≡ has_item reading_cmp r (λ _. true) (kept_readings es)
+pub holds_reading : (shape : PictureShape) (es : List Entry) (r : Reading)
+    → set.contains (partial_of shape es).readings r ≡ has_item reading_cmp r (λ _. true) (kept_readings es)
 holds_reading shape es r =
     contains-insert_all reading_total set.empty (map (λ k. k.0) (kept_readings es)) r
     ∙ ap (λ b. b || list_any (eq_by_cmp reading_cmp r) (map (λ k. k.0) (kept_readings es))) (contains-empty reading_cmp r)
     ∙ any_items reading_cmp r (kept_readings es)
 
-pub holds_mark : (shape : PictureShape) (es : List Entry) (r : Reading) (s : ℕ) → set.contains (partial_of shape es).marks (r, s) ≡ has_mark reading_cmp r s (kept_readings es)
+pub holds_mark : (shape : PictureShape) (es : List Entry) (r : Reading) (s : ℕ)
+    → set.contains (partial_of shape es).marks (r, s) ≡ has_mark reading_cmp r s (kept_readings es)
 holds_mark shape es r s =
     contains-insert_all marks_total set.empty (marks_of (kept_readings es)) (r, s)
     ∙ ap (λ b. b || list_any (eq_by_cmp (mark_cmp reading_cmp) (r, s)) (marks_of (kept_readings es))) (contains-empty (mark_cmp reading_cmp) (r, s))
@@ -69,7 +73,8 @@ holds_mark shape es r s =
 abbrev pub kept_at : List Entry → Place → List Kept
 kept_at es at = unwrap_or (lookup (is_at (place_cmp at)) es) []
 
-has-at_place : (r : Reading) (g : List ℕ → Bool) (p : Place) (ks : List Kept) → has_item reading_cmp r g (map (kept_at_place p) ks) ≡ (eq_by_cmp place_cmp (place_of r) p && has_item S r.samples g ks)
+has-at_place : (r : Reading) (g : List ℕ → Bool) (p : Place) (ks : List Kept)
+    → has_item reading_cmp r g (map (kept_at_place p) ks) ≡ (eq_by_cmp place_cmp (place_of r) p && has_item S r.samples g ks)
 has-at_place r g p [] = none (eq_by_cmp place_cmp (place_of r) p)
   where
     none : (b : Bool) → false ≡ (b && false)
@@ -83,7 +88,8 @@ has-at_place r g p (k ∷ ks) =
     both false c e d = refl
 
 -- a reading, or a mark, is in the list of all exactly if it is kept at its place
-pub has-entries : (es : List Entry) (r : Reading) (g : List ℕ → Bool) → IsStrictlySortedBy place_cmp (map (λ e. e.0) es) → has_item reading_cmp r g (kept_readings es) ≡ has_item S r.samples g (kept_at es (place_of r))
+pub has-entries : (es : List Entry) (r : Reading) (g : List ℕ → Bool) → IsStrictlySortedBy place_cmp (map (λ e. e.0) es)
+    → has_item reading_cmp r g (kept_readings es) ≡ has_item S r.samples g (kept_at es (place_of r))
 unfolding IsStrictlySortedBy
 has-entries [] r g h = refl
 has-entries (e ∷ es) r g h =
@@ -117,27 +123,33 @@ module _ (P : Reading × List ℕ → Type 0) where
   all_there at [] h = tt
   all_there at (k ∷ ks) h = (h.0, all_there at ks h.1)
 
-  by_entry : (es : List Entry) → AllByRecursion P (kept_readings es) → AllByRecursion (λ e. AllByRecursion (λ k. P (kept_at_place e.0 k)) e.1) es
+  by_entry : (es : List Entry) → AllByRecursion P (kept_readings es)
+      → AllByRecursion (λ e. AllByRecursion (λ k. P (kept_at_place e.0 k)) e.1) es
   by_entry [] h = tt
   by_entry (e ∷ es) h =
       let parts = all_of P (map (kept_at_place e.0) e.1) (kept_readings es) (subst (AllByRecursion P) (flat_map-cons (λ (e : Entry). map (kept_at_place e.0) e.1) e es) h) in
       (all_there e.0 e.1 parts.0, by_entry es parts.1)
 
-kept_again : (f : List ℕ → List ℕ) (ks : List Kept) → AllByRecursion (λ k. f k.0 ≡ k.1) ks → map (λ x. (x, f x)) (map (λ (k : Kept). k.0) ks) ≡ ks
+kept_again : (f : List ℕ → List ℕ) (ks : List Kept) → AllByRecursion (λ k. f k.0 ≡ k.1) ks
+    → map (λ x. (x, f x)) (map (λ (k : Kept). k.0) ks) ≡ ks
 kept_again f [] h = refl
 kept_again f (k ∷ ks) h = λ i. (k.0, h.0 i) ∷ kept_again f ks h.1 i
 
-own_again : (p : PartialPicture) (at : Place) (ks : List Kept) → AllByRecursion (λ k. IsStrictlySortedBy nat_cmp k.1) ks → AllByRecursion (λ k. (s : ℕ) → set.contains p.marks (at_place at k.0, s) ≡ list_any (eq_by_cmp nat_cmp s) k.1) ks
+own_again : (p : PartialPicture) (at : Place) (ks : List Kept) → AllByRecursion (λ k. IsStrictlySortedBy nat_cmp k.1) ks
+    → AllByRecursion (λ k. (s : ℕ) → set.contains p.marks (at_place at k.0, s) ≡ list_any (eq_by_cmp nat_cmp s) k.1) ks
     → AllByRecursion (λ k. sources_at p at.component at.line k.0 ≡ k.1) ks
 own_again p at [] h own = tt
 own_again p at (k ∷ ks) h own = (sources_again reading_cmp p.marks (at_place at k.0) k.1 h.0 own.0, own_again p at ks h.1 own.1)
 
-each_again : (p : PartialPicture) (es : List Entry) → SourcesRise es → AllByRecursion (λ e. AllByRecursion (λ k. (s : ℕ) → set.contains p.marks (at_place e.0 k.0, s) ≡ list_any (eq_by_cmp nat_cmp s) k.1) e.1) es → map (with_own_sources p) (map bare es) ≡ es
+each_again : (p : PartialPicture) (es : List Entry) → SourcesRise es
+    → AllByRecursion (λ e. AllByRecursion (λ k. (s : ℕ) → set.contains p.marks (at_place e.0 k.0, s) ≡ list_any (eq_by_cmp nat_cmp s) k.1) e.1) es
+    → map (with_own_sources p) (map bare es) ≡ es
 each_again p [] h own = refl
 each_again p (e ∷ es) h own =
     λ i. (e.0, kept_again (sources_at p e.0.component e.0.line) e.1 (own_again p e.0 e.1 h.0 own.0) i) ∷ each_again p es h.1 own.1 i
 
-pub entries_again : (shape : PictureShape) (es : List Entry) → AreEntries shape (map bare es) → SourcesRise es → entries (partial_of shape es) ≡ es
+pub entries_again : (shape : PictureShape) (es : List Entry) → AreEntries shape (map bare es) → SourcesRise es
+    → entries (partial_of shape es) ≡ es
 entries_again shape es kept rise =
     let p = partial_of shape es in
     let sorted = subst (IsStrictlySortedBy reading_cmp) (sym (bare_readings es)) (sorted-entries shape (map bare es) kept.sorted kept.each) in
@@ -145,7 +157,8 @@ entries_again shape es kept rise =
     ap (map (with_own_sources p)) (bare_again shape (map bare es) p kept (readings_are shape es))
     ∙ each_again p es rise (by_entry (λ k. (s : ℕ) → set.contains p.marks (k.0, s) ≡ list_any (eq_by_cmp nat_cmp s) k.1) es own)
   where
-    moved : (ks : List (Reading × List ℕ)) → AllByRecursion (λ k. (s : ℕ) → has_mark reading_cmp k.0 s (kept_readings es) ≡ list_any (eq_by_cmp nat_cmp s) k.1) ks
+    moved : (ks : List (Reading × List ℕ))
+        → AllByRecursion (λ k. (s : ℕ) → has_mark reading_cmp k.0 s (kept_readings es) ≡ list_any (eq_by_cmp nat_cmp s) k.1) ks
         → AllByRecursion (λ k. (s : ℕ) → set.contains (partial_of shape es).marks (k.0, s) ≡ list_any (eq_by_cmp nat_cmp s) k.1) ks
     moved [] h = tt
     moved (k ∷ ks) h = (λ s. holds_mark shape es k.0 s ∙ h.0 s, moved ks h.1)
@@ -163,7 +176,8 @@ bare_of_own p (e ∷ es) = λ i. (e.0, names e.1 i) ∷ bare_of_own p es i
 pub bare_entries_are : (p : PartialPicture) → map bare (entries p) ≡ bare_entries p
 bare_entries_are p = bare_of_own p (bare_entries p)
 
-own_readings : (p : PartialPicture) (es : List BareEntry) → kept_readings (map (with_own_sources p) es) ≡ map (λ r. (r, sources_of reading_cmp p.marks r)) (readings_of_entries es)
+own_readings : (p : PartialPicture) (es : List BareEntry)
+    → kept_readings (map (with_own_sources p) es) ≡ map (λ r. (r, sources_of reading_cmp p.marks r)) (readings_of_entries es)
 own_readings p [] = refl
 own_readings p (e ∷ es) =
     flat_map-cons (λ (e : Entry). map (kept_at_place e.0) e.1) (with_own_sources p e) (map (with_own_sources p) es)
@@ -171,7 +185,8 @@ own_readings p (e ∷ es) =
     ∙ sym (map-append (λ (r : Reading). (r, sources_of reading_cmp p.marks r)) (map (at_place e.0) e.1) (readings_of_entries es))
     ∙ ap (map (λ (r : Reading). (r, sources_of reading_cmp p.marks r))) (sym (flat_map-cons (λ (e : BareEntry). map (at_place e.0) e.1) e es))
   where
-    there : (xs : List (List ℕ)) → map (kept_at_place e.0) (map (λ x. (x, sources_at p e.0.component e.0.line x)) xs) ≡ map (λ r. (r, sources_of reading_cmp p.marks r)) (map (at_place e.0) xs)
+    there : (xs : List (List ℕ))
+        → map (kept_at_place e.0) (map (λ x. (x, sources_at p e.0.component e.0.line x)) xs) ≡ map (λ r. (r, sources_of reading_cmp p.marks r)) (map (at_place e.0) xs)
     there [] = refl
     there (x ∷ xs) = ap (λ t. (at_place e.0 x, sources_of reading_cmp p.marks (at_place e.0 x)) ∷ t) (there xs)
 

@@ -17,7 +17,8 @@ use Rattle.jls_partial.proofs.PackedLines.{any-insert}
 abbrev S : List ℕ → List ℕ → Ordering
 S = slice_cmp nat_cmp
 
-any_map_mark : (k l : List ℕ) (s : ℕ) (ss : List ℕ) → list_any (eq_by_cmp (mark_cmp S) (k, s)) (map (λ t. (l, t)) ss) ≡ (eq_by_cmp S k l && list_any (eq_by_cmp nat_cmp s) ss)
+any_map_mark : (k l : List ℕ) (s : ℕ) (ss : List ℕ)
+    → list_any (eq_by_cmp (mark_cmp S) (k, s)) (map (λ t. (l, t)) ss) ≡ (eq_by_cmp S k l && list_any (eq_by_cmp nat_cmp s) ss)
 any_map_mark k l s [] = none (eq_by_cmp S k l)
   where
     none : (b : Bool) → false ≡ (b && false)
@@ -91,7 +92,8 @@ has-set (k ∷ ks) (suc i) x old new ss d y s lt is more =
     regroup true b c = refl
     regroup false b c = refl
 
-pub marks-set : (ks : List Kept) (i : ℕ) (x : List ℕ) (old : sets.OrderedSet nat_cmp) (ss : List ℕ) (d : Kept) → i < length ks → get_or ks i d ≡ (x, sets.items old)
+pub marks-set : (ks : List Kept) (i : ℕ) (x : List ℕ) (old : sets.OrderedSet nat_cmp) (ss : List ℕ) (d : Kept) → i < length ks
+    → get_or ks i d ≡ (x, sets.items old)
     → sets.from_list {R = mark_cmp S} (marks_of (set ks i (x, sets.items (sets.insert_all old ss)))) ≡ sets.insert_all (sets.from_list {R = mark_cmp S} (marks_of ks)) (marks_of ((x, ss) ∷ []))
 marks-set ks i x old ss d lt is = same_set line_marks_total line_marks_exact _ _ (λ m.
     marks_hold (set ks i (x, sets.items (sets.insert_all old ss))) m.0 m.1

@@ -58,7 +58,8 @@ module _ (precision width : ℕ) (packed : List ℕ) (slots : List Slot) (s : Pi
   pub held_fits : (x : List ℕ) → sets.contains s.lines x ≡ true → samples_fault precision width x ≡ None
   held_fits x h = any_all (lines_of width packed slots) kept.fitting (sym (contains-from_list lines_total (lines_of width packed slots) x) ∙ ap (λ (z : PictureLines). sets.contains z.lines x) is ∙ h)
     where
-      any_all : (xs : List (List ℕ)) → AllByRecursion (λ samples. samples_fault precision width samples ≡ None) xs → list_any (eq_by_cmp S x) xs ≡ true → samples_fault precision width x ≡ None
+      any_all : (xs : List (List ℕ)) → AllByRecursion (λ samples. samples_fault precision width samples ≡ None) xs
+          → list_any (eq_by_cmp S x) xs ≡ true → samples_fault precision width x ≡ None
       any_all [] h e = absurd cc
       any_all (y ∷ xs) h e =
           elim (eq_by_cmp S x y) as (λ b. eq_by_cmp S x y ≡ b → (b || list_any (eq_by_cmp S x) xs) ≡ true → samples_fault precision width x ≡ None) [
@@ -150,7 +151,8 @@ module _ (precision width : ℕ) (packed samples : List ℕ) (slots : List Slot)
         fitting = subst (AllByRecursion P) (sym lines_same) kept.fitting;
       }
 
-  pub set_seen : (ss : List ℕ) → more ≡ sets.insert_all s.sources ss → seen_lines precision width packed (set slots i changed) ≡ with_lines (seen_lines precision width packed slots) ((samples, ss) ∷ [])
+  pub set_seen : (ss : List ℕ) → more ≡ sets.insert_all s.sources ss
+      → seen_lines precision width packed (set slots i changed) ≡ with_lines (seen_lines precision width packed slots) ((samples, ss) ∷ [])
   set_seen ss grown =
       let many : length (lines_of width packed slots) ≡ length slots = length-map slots (λ (t : Slot). take width (drop t.start packed)) in
       let many_kept : length (kept_of width packed slots) ≡ length slots = length-kept width packed slots in
@@ -173,13 +175,15 @@ not_above : (x : List ℕ) (t : ℕ) (ks : List Kept) → AllByRecursion (λ y. 
 not_above x t [] h = refl
 not_above x t (k ∷ ks) h = (λ i. (is_eq (h.0 i) && list_any (eq_by_cmp nat_cmp t) k.1) || not_above x t ks h.1 i)
 
-each_line : (P : List ℕ → Type 0) (ks : List Kept) (i : ℕ) (d : Kept) → AllByRecursion P (map (λ k. k.0) ks) → i < length ks → P (get_or ks i d).0
+each_line : (P : List ℕ → Type 0) (ks : List Kept) (i : ℕ) (d : Kept) → AllByRecursion P (map (λ k. k.0) ks) → i < length ks
+    → P (get_or ks i d).0
 each_line P [] i d h lt = absurd (omega arith)
 each_line P (k ∷ ks) zero d h lt = h.0
 each_line P (k ∷ ks) (suc i) d h lt = each_line P ks i d h.1 (omega arith)
 
 -- of lines that rise, each has its own sources
-own_sources : (ks : List Kept) (i : ℕ) (d : Kept) (t : ℕ) → IsStrictlySortedBy S (map (λ k. k.0) ks) → i < length ks → has_mark (get_or ks i d).0 t ks ≡ list_any (eq_by_cmp nat_cmp t) (get_or ks i d).1
+own_sources : (ks : List Kept) (i : ℕ) (d : Kept) (t : ℕ) → IsStrictlySortedBy S (map (λ k. k.0) ks) → i < length ks
+    → has_mark (get_or ks i d).0 t ks ≡ list_any (eq_by_cmp nat_cmp t) (get_or ks i d).1
 unfolding IsStrictlySortedBy
 own_sources [] i d t h lt = absurd (omega arith)
 own_sources (k ∷ ks) zero d t h lt = (λ i. (is_eq (tied_itself nat_list_cmp_total k.0 i) && list_any (eq_by_cmp nat_cmp t) k.1) || not_above k.0 t ks h.0 i) ∙ or_none (list_any (eq_by_cmp nat_cmp t) k.1)
@@ -188,7 +192,8 @@ own_sources (k ∷ ks) (suc i) d t h lt =
     let apart : eq_by_cmp S (get_or ks i d).0 k.0 ≡ false = (eq_by_cmp_equiv nat_list_cmp_total).symm (get_or ks i d).0 k.0 ∙ ap is_eq less in
     ap (λ b. (b && list_any (eq_by_cmp nat_cmp t) k.1) || has_mark (get_or ks i d).0 t ks) apart ∙ own_sources ks i d t h.1 (omega arith)
 
-pub sources_lent : (precision width : ℕ) (packed : List ℕ) (slots : List Slot) (p : PictureLines) (i : ℕ) (s : Slot) → IsLineSet precision width packed slots → seen_lines precision width packed slots ≡ p → i < length slots → s ≡ get_or slots i s
+pub sources_lent : (precision width : ℕ) (packed : List ℕ) (slots : List Slot) (p : PictureLines) (i : ℕ) (s : Slot)
+    → IsLineSet precision width packed slots → seen_lines precision width packed slots ≡ p → i < length slots → s ≡ get_or slots i s
     → line_sources p (take width (drop s.start packed)) ≡ sets.items s.sources
 sources_lent precision width packed slots p i s kept seen lt is =
     let f = λ (t : Slot). let k : Kept = (take width (drop t.start packed), sets.items t.sources) in k in
@@ -206,7 +211,9 @@ sources_lent precision width packed slots p i s kept seen lt is =
 -- ---- merging
 
 -- a mark that is held is of a line that is held
-pub marks_held : (precision width : ℕ) (packed : List ℕ) (slots : List Slot) (p : PictureLines) → seen_lines precision width packed slots ≡ p → (x : List ℕ) (t : ℕ) → sets.contains p.marks (x, t) ≡ true → sets.contains p.lines x ≡ true
+pub marks_held : (precision width : ℕ) (packed : List ℕ) (slots : List Slot) (p : PictureLines)
+    → seen_lines precision width packed slots ≡ p → (x : List ℕ) (t : ℕ) → sets.contains p.marks (x, t) ≡ true
+    → sets.contains p.lines x ≡ true
 marks_held precision width packed slots p seen x t h =
     let ks = kept_of width packed slots in
     ap (λ (z : PictureLines). sets.contains z.lines x) (sym seen) ∙ contains-from_list lines_total (lines_of width packed slots) x
@@ -248,7 +255,8 @@ lines_again : (f : List ℕ → List ℕ) (xs : List (List ℕ)) → map (λ (k 
 lines_again f [] = refl
 lines_again f (x ∷ xs) = ap (λ t. x ∷ t) (lines_again f xs)
 
-has_all : (p : PictureLines) (y : List ℕ) (t : ℕ) (xs : List (List ℕ)) → has_mark y t (map (λ x. (x, line_sources p x)) xs) ≡ (list_any (eq_by_cmp S y) xs && sets.contains p.marks (y, t))
+has_all : (p : PictureLines) (y : List ℕ) (t : ℕ) (xs : List (List ℕ))
+    → has_mark y t (map (λ x. (x, line_sources p x)) xs) ≡ (list_any (eq_by_cmp S y) xs && sets.contains p.marks (y, t))
 has_all p y t [] = refl
 has_all p y t (x ∷ xs) =
     elim (eq_by_cmp S y x) as (λ b. eq_by_cmp S y x ≡ b → ((b && list_any (eq_by_cmp nat_cmp t) (line_sources p x)) || has_mark y t (map (λ x. (x, line_sources p x)) xs)) ≡ ((b || list_any (eq_by_cmp S y) xs) && sets.contains p.marks (y, t))) [
@@ -292,11 +300,13 @@ module _ {K : Type 0} {R : K → K → Ordering} (o : IsTotalOrder R) (exact : C
       ∙ absorbed (sets.contains s q) (list_any (eq_by_cmp R q) xs)
       ∙ sym (contains-insert_all o s xs q))
 
-  front_below : (s : sets.OrderedSet R) (xs ys : List K) → sets.union (sets.insert_all s xs) (sets.insert_all s (xs ++ ys)) ≡ sets.insert_all s (xs ++ ys)
+  front_below : (s : sets.OrderedSet R) (xs ys : List K)
+      → sets.union (sets.insert_all s xs) (sets.insert_all s (xs ++ ys)) ≡ sets.insert_all s (xs ++ ys)
   front_below s xs ys = ap (sets.union (sets.insert_all s xs)) (insert_all-append s xs ys) ∙ front_above (sets.insert_all s xs) ys ∙ sym (insert_all-append s xs ys)
 
 -- some of the lines are held: all that was held is, and nothing that the union does not hold
-pub front_between : (s p : PictureLines) → AreLineMarksHeld p → (xs ys : List Kept) → kept_lines_of p ≡ xs ++ ys → IsBelow union_of_lines s (with_lines s xs) × IsBelow union_of_lines (with_lines s xs) (union_of_lines s p)
+pub front_between : (s p : PictureLines) → AreLineMarksHeld p → (xs ys : List Kept) → kept_lines_of p ≡ xs ++ ys
+    → IsBelow union_of_lines s (with_lines s xs) × IsBelow union_of_lines (with_lines s xs) (union_of_lines s p)
 front_between s p held xs ys is =
     let all : union_of_lines s p ≡ with_lines s (xs ++ ys) = sym (all_is_union s p held) ∙ ap (with_lines s) is in (
       λ j. record {
@@ -318,7 +328,8 @@ pub agree : (s p : PictureLines) → has_same_line_shape s p ≡ true → (s.pre
 agree s p e = let parts = and_parts (eqb s.precision p.precision) (eqb s.width p.width) e in (eqb-true s.precision p.precision parts.0, eqb-true s.width p.width parts.1)
 
 -- one more of the lines of the other was taken
-pub one_more : (s into p : PictureLines) (i : ℕ) (x ss : List ℕ) → i < length (sets.items p.lines) → slice_get (sets.items p.lines) i ≡ Some x → IfSome (slice_get (sets.items p.lines) i) (λ samples. ss ≡ line_sources p samples)
+pub one_more : (s into p : PictureLines) (i : ℕ) (x ss : List ℕ) → i < length (sets.items p.lines)
+    → slice_get (sets.items p.lines) i ≡ Some x → IfSome (slice_get (sets.items p.lines) i) (λ samples. ss ≡ line_sources p samples)
     → into ≡ with_lines s (take i (kept_lines_of p)) → with_lines into ((x, ss) ∷ []) ≡ with_lines s (take (i + 1) (kept_lines_of p))
 one_more s into p i x ss lt value own so_far =
     let sources : ss ≡ line_sources p x = subst (λ (o : Option (List ℕ)). IfSome o (λ samples. ss ≡ line_sources p samples)) value own in

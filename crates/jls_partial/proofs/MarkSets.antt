@@ -32,7 +32,8 @@ module _ {K : Type 0} (R : K → K → Ordering) where
   abbrev pub has_mark : K → ℕ → List (K × List ℕ) → Bool
   has_mark x s ks = has_item x (list_any (eq_by_cmp nat_cmp s)) ks
 
-  any_map_mark : (k l : K) (s : ℕ) (ss : List ℕ) → list_any (eq_by_cmp (mark_cmp R) (k, s)) (map (λ t. (l, t)) ss) ≡ (eq_by_cmp R k l && list_any (eq_by_cmp nat_cmp s) ss)
+  any_map_mark : (k l : K) (s : ℕ) (ss : List ℕ)
+      → list_any (eq_by_cmp (mark_cmp R) (k, s)) (map (λ t. (l, t)) ss) ≡ (eq_by_cmp R k l && list_any (eq_by_cmp nat_cmp s) ss)
   any_map_mark k l s [] = none (eq_by_cmp R k l)
     where
       none : (b : Bool) → false ≡ (b && false)
@@ -61,11 +62,13 @@ module _ {K : Type 0} (R : K → K → Ordering) where
       and_true false = refl
 
   -- the sources of an item by whether it has them as marks
-  pub any_sources : (marks : set.OrderedSet (mark_cmp R)) (x : K) (s : ℕ) → list_any (eq_by_cmp nat_cmp s) (sources_of R marks x) ≡ set.contains marks (x, s)
+  pub any_sources : (marks : set.OrderedSet (mark_cmp R)) (x : K) (s : ℕ)
+      → list_any (eq_by_cmp nat_cmp s) (sources_of R marks x) ≡ set.contains marks (x, s)
   any_sources marks x s = sym (contains-items _ s) ∙ contains-sources_of R marks x s
 
   -- an item that is below all others is none of them
-  not_above : (x : K) (g : List ℕ → Bool) (ks : List (K × List ℕ)) → AllByRecursion (λ y. R x y ≡ Less) (map (λ k. k.0) ks) → has_item x g ks ≡ false
+  not_above : (x : K) (g : List ℕ → Bool) (ks : List (K × List ℕ)) → AllByRecursion (λ y. R x y ≡ Less) (map (λ k. k.0) ks)
+      → has_item x g ks ≡ false
   not_above x g [] h = refl
   not_above x g (k ∷ ks) h = (λ i. (is_eq (h.0 i) && g k.1) || not_above x g ks h.1 i)
 
@@ -74,7 +77,8 @@ module _ {K : Type 0} (R : K → K → Ordering) where
     abbrev HasOwn : List (K × List ℕ) → K × List ℕ → Type 0
     HasOwn ks k = (s : ℕ) → has_mark k.0 s ks ≡ list_any (eq_by_cmp nat_cmp s) k.1
 
-    behind : (first : K × List ℕ) (ks later : List (K × List ℕ)) → AllByRecursion (λ y. R first.0 y ≡ Less) (map (λ k. k.0) later) → AllByRecursion (HasOwn ks) later → AllByRecursion (HasOwn (first ∷ ks)) later
+    behind : (first : K × List ℕ) (ks later : List (K × List ℕ)) → AllByRecursion (λ y. R first.0 y ≡ Less) (map (λ k. k.0) later)
+        → AllByRecursion (HasOwn ks) later → AllByRecursion (HasOwn (first ∷ ks)) later
     behind first ks [] h a = tt
     behind first ks (k ∷ later) h a = (
       λ s.
@@ -92,7 +96,8 @@ module _ {K : Type 0} (R : K → K → Ordering) where
     )
 
     -- all items of a list with the sources that a set of marks gives them
-    pub has_given : CmpEqualImpliesEq R → (marks : set.OrderedSet (mark_cmp R)) (y : K) (s : ℕ) (xs : List K) → has_mark y s (map (λ x. (x, sources_of R marks x)) xs) ≡ (list_any (eq_by_cmp R y) xs && set.contains marks (y, s))
+    pub has_given : CmpEqualImpliesEq R → (marks : set.OrderedSet (mark_cmp R)) (y : K) (s : ℕ) (xs : List K)
+        → has_mark y s (map (λ x. (x, sources_of R marks x)) xs) ≡ (list_any (eq_by_cmp R y) xs && set.contains marks (y, s))
     has_given exact marks y s [] = refl
     has_given exact marks y s (x ∷ xs) =
         elim (eq_by_cmp R y x) as (λ b. eq_by_cmp R y x ≡ b → ((b && list_any (eq_by_cmp nat_cmp s) (sources_of R marks x)) || has_mark y s (map (λ x. (x, sources_of R marks x)) xs)) ≡ ((b || list_any (eq_by_cmp R y) xs) && set.contains marks (y, s))) [
@@ -114,7 +119,8 @@ module _ {K : Type 0} (R : K → K → Ordering) where
         absorb false false = refl
 
 -- numbers in order are the sources of an item that has them and no others
-pub sources_again : {K : Type 0} (R : K → K → Ordering) (marks : set.OrderedSet (mark_cmp R)) (x : K) (ss : List ℕ) → IsStrictlySortedBy nat_cmp ss → ((s : ℕ) → set.contains marks (x, s) ≡ list_any (eq_by_cmp nat_cmp s) ss) → sources_of R marks x ≡ ss
+pub sources_again : {K : Type 0} (R : K → K → Ordering) (marks : set.OrderedSet (mark_cmp R)) (x : K) (ss : List ℕ)
+    → IsStrictlySortedBy nat_cmp ss → ((s : ℕ) → set.contains marks (x, s) ≡ list_any (eq_by_cmp nat_cmp s) ss) → sources_of R marks x ≡ ss
 sources_again R marks x ss rises same =
     ap set.items (same_set nat_cmp_total exact_unsigned _ (set.from_list ss) (λ s. contains-sources_of R marks x s ∙ same s ∙ sym (contains-list s))) ∙ items-from_list nat_cmp_total ss rises
   where

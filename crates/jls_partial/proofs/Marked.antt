@@ -24,13 +24,15 @@ abbrev pub IsInside : PartialPicture → ℕ → Type 0
 IsInside q n = (r : Reading) → set.contains q.readings r ≡ true → (r.component < n) × (r.line < q.shape.height)
 
 -- two lists, one after the other
-pub with_marks-append : (p : PartialPicture) (s : ℕ) (xs ys : List Reading) → with_marks p s (xs ++ ys) ≡ with_marks (with_marks p s xs) s ys
+pub with_marks-append : (p : PartialPicture) (s : ℕ) (xs ys : List Reading)
+    → with_marks p s (xs ++ ys) ≡ with_marks (with_marks p s xs) s ys
 with_marks-append p s xs ys =
     ap (λ ms. record { shape = p.shape; readings = p.readings; marks = ms })
     (ap (set.insert_all p.marks) (map-append (λ (r : Reading). (r, s)) xs ys) ∙ insert_all-append p.marks (map (λ (r : Reading). (r, s)) xs) (map (λ (r : Reading). (r, s)) ys))
 
 -- to take a reading that is held with a source is to mark it
-pub taken_is_marked : (p : PartialPicture) (r : Reading) (s : ℕ) → set.contains p.readings r ≡ true → with_all p ((r, s ∷ []) ∷ []) ≡ with_marks p s (r ∷ [])
+pub taken_is_marked : (p : PartialPicture) (r : Reading) (s : ℕ) → set.contains p.readings r ≡ true
+    → with_all p ((r, s ∷ []) ∷ []) ≡ with_marks p s (r ∷ [])
 taken_is_marked p r s h = ap (λ rs. record { shape = p.shape; readings = rs; marks = set.insert p.marks (r, s) }) (held_same p.readings r h)
 
 -- nothing is marked yet
@@ -42,7 +44,8 @@ all-append P [] ys a b = b
 all-append P (x ∷ xs) ys a b = (a.0, all-append P xs ys a.1 b)
 
 -- some more are marked
-pub marks_then : (p q r : PartialPicture) (s : ℕ) (xs : List Reading) → q ≡ with_marks p s xs → AllByRecursion (λ r. set.contains p.readings r ≡ true) xs → MarksSome q s r → MarksSome p s r
+pub marks_then : (p q r : PartialPicture) (s : ℕ) (xs : List Reading) → q ≡ with_marks p s xs
+    → AllByRecursion (λ r. set.contains p.readings r ≡ true) xs → MarksSome q s r → MarksSome p s r
 marks_then p q r s xs is held m = record {
   marked = xs ++ m.marked;
   held = all-append (λ r. set.contains p.readings r ≡ true) xs m.marked held (subst (λ (z : PartialPicture). AllByRecursion (λ r. set.contains z.readings r ≡ true) m.marked) is m.held);
@@ -50,7 +53,8 @@ marks_then p q r s xs is held m = record {
 }
 
 -- what stands in a list of which all are held
-all_of : (P : Reading → Type 0) (xs : List Reading) → ((r : Reading) → list_any (eq_by_cmp reading_cmp r) xs ≡ true → P r) → AllByRecursion P xs
+all_of : (P : Reading → Type 0) (xs : List Reading) → ((r : Reading) → list_any (eq_by_cmp reading_cmp r) xs ≡ true → P r)
+    → AllByRecursion P xs
 all_of P [] f = tt
 all_of P (x ∷ xs) f = (f x (or_left _ _ (ap is_eq (tied_itself reading_total x))), all_of P xs (λ r h. f r (or_right (eq_by_cmp reading_cmp r x) _ h)))
 
@@ -61,7 +65,8 @@ pub components_held : (p : PartialPicture) (n : ℕ) → AllByRecursion (λ r. s
 components_held p n = all_of (λ r. set.contains p.readings r ≡ true) (readings_of_components p n) (λ r h. held_from_components p r n h)
 
 -- the marks with one source of readings
-any_source : (r : Reading) (t s : ℕ) (rs : List Reading) → list_any (eq_by_cmp (mark_cmp reading_cmp) (r, t)) (map (λ r. (r, s)) rs) ≡ (list_any (eq_by_cmp reading_cmp r) rs && eq_by_cmp nat_cmp t s)
+any_source : (r : Reading) (t s : ℕ) (rs : List Reading)
+    → list_any (eq_by_cmp (mark_cmp reading_cmp) (r, t)) (map (λ r. (r, s)) rs) ≡ (list_any (eq_by_cmp reading_cmp r) rs && eq_by_cmp nat_cmp t s)
 any_source r t s [] = refl
 any_source r t s (x ∷ rs) = (λ i. eq_mark reading_cmp r x t s i || any_source r t s rs i) ∙ spread (eq_by_cmp reading_cmp r x) (list_any (eq_by_cmp reading_cmp r) rs) (eq_by_cmp nat_cmp t s)
   where
@@ -73,7 +78,9 @@ any_source r t s (x ∷ rs) = (λ i. eq_mark reading_cmp r x t s i || any_source
     spread false b c = refl
 
 -- lists with the same readings mark the same
-same_marks : (p : PartialPicture) (s : ℕ) (xs ys : List Reading) → ((r : Reading) → list_any (eq_by_cmp reading_cmp r) xs ≡ list_any (eq_by_cmp reading_cmp r) ys) → with_marks p s xs ≡ with_marks p s ys
+same_marks : (p : PartialPicture) (s : ℕ) (xs ys : List Reading)
+    → ((r : Reading) → list_any (eq_by_cmp reading_cmp r) xs ≡ list_any (eq_by_cmp reading_cmp r) ys)
+    → with_marks p s xs ≡ with_marks p s ys
 same_marks p s xs ys same =
     ap (λ ms. record { shape = p.shape; readings = p.readings; marks = ms }) (same_set marks_total marks_exact _ _ (λ m.
     contains-insert_all marks_total p.marks (map (λ r. (r, s)) xs) m
@@ -96,7 +103,8 @@ completed p q s m =
     absorb true b c f e = sym (f refl)
     absorb false b c f e = e
 
-    absorbed : (r : Reading) (xs : List Reading) → AllByRecursion (λ r. set.contains p.readings r ≡ true) xs → list_any (eq_by_cmp reading_cmp r) (xs ++ set.items p.readings) ≡ list_any (eq_by_cmp reading_cmp r) (set.items p.readings)
+    absorbed : (r : Reading) (xs : List Reading) → AllByRecursion (λ r. set.contains p.readings r ≡ true) xs
+        → list_any (eq_by_cmp reading_cmp r) (xs ++ set.items p.readings) ≡ list_any (eq_by_cmp reading_cmp r) (set.items p.readings)
     absorbed r [] h = refl
     absorbed r (x ∷ xs) h =
         absorb (eq_by_cmp reading_cmp r x) _ _ (λ e. sym (contains-items p.readings r) ∙ ap (set.contains p.readings) (same_reading r x e) ∙ h.0) (absorbed r xs h.1)
@@ -110,16 +118,19 @@ some_at (y ∷ xs) zero lt = (y, refl, refl)
 some_at (y ∷ xs) (suc i) lt = let rest = some_at xs i (omega arith) in let e : suc i + 1 ≡ suc (i + 1) = omega arith in (rest.0, rest.1, ap (λ (n : ℕ). take n (y ∷ xs)) e ∙ ap (λ (t : List (List ℕ)). y ∷ t) rest.2)
 
 -- what is got from the readings of a line is held
-pub got_held : (p : PartialPicture) (c l i : ℕ) (x : List ℕ) → slice_get (readings_at p c l) i ≡ Some x → set.contains p.readings (reading_of c l x) ≡ true
+pub got_held : (p : PartialPicture) (c l i : ℕ) (x : List ℕ) → slice_get (readings_at p c l) i ≡ Some x
+    → set.contains p.readings (reading_of c l x) ≡ true
 got_held p c l i x e = held_in_line p (reading_of c l x) c l (got (readings_at p c l) i e)
   where
-    got : (xs : List (List ℕ)) (i : ℕ) → slice_get xs i ≡ Some x → list_any (eq_by_cmp reading_cmp (reading_of c l x)) (map (reading_of c l) xs) ≡ true
+    got : (xs : List (List ℕ)) (i : ℕ) → slice_get xs i ≡ Some x
+        → list_any (eq_by_cmp reading_cmp (reading_of c l x)) (map (reading_of c l) xs) ≡ true
     got [] i e = absurd cc
     got (y ∷ xs) zero e = let same : y ≡ x = cc in
         or_left _ _ (ap (λ (z : List ℕ). eq_by_cmp reading_cmp (reading_of c l x) (reading_of c l z)) same ∙ ap is_eq (tied_itself reading_total (reading_of c l x)))
     got (y ∷ xs) (suc i) e = or_right (eq_by_cmp reading_cmp (reading_of c l x) (reading_of c l y)) _ (got xs i e)
 
-pub marked_more : (old now new : PartialPicture) (s c l i : ℕ) → now ≡ with_marks old s (map (reading_of c l) (take i (readings_at old c l))) → i < length (readings_at old c l)
+pub marked_more : (old now new : PartialPicture) (s c l i : ℕ)
+    → now ≡ with_marks old s (map (reading_of c l) (take i (readings_at old c l))) → i < length (readings_at old c l)
     → IfSome (slice_get (readings_at now c l) i) (λ x. new ≡ with_marks now s (reading_of c l x ∷ [])) → new ≡ with_marks old s (map (reading_of c l) (take (i + 1) (readings_at old c l)))
 marked_more old now new s c l i is lt more =
     let f = reading_of c l in
@@ -131,7 +142,8 @@ marked_more old now new s c l i is lt more =
     ∙ ap (with_marks old s) (sym (ap (map f) at.2 ∙ map-append f (take i xs) (at.0 ∷ [])))
 
 -- the first readings of a line are held
-pub front_held : (p : PartialPicture) (c l i : ℕ) → AllByRecursion (λ r. set.contains p.readings r ≡ true) (map (reading_of c l) (take i (readings_at p c l)))
+pub front_held : (p : PartialPicture) (c l i : ℕ)
+    → AllByRecursion (λ r. set.contains p.readings r ≡ true) (map (reading_of c l) (take i (readings_at p c l)))
 front_held p c l i = all_of (λ r. set.contains p.readings r ≡ true) (map (reading_of c l) (take i (readings_at p c l))) (λ r h.
     held_in_line p r c l (ap (list_any (eq_by_cmp reading_cmp r)) (ap (map (reading_of c l)) (sym (take-append-drop i (readings_at p c l))) ∙ map-append (reading_of c l) (take i (readings_at p c l)) (drop i (readings_at p c l)))
     ∙ list_any-append (eq_by_cmp reading_cmp r) (map (reading_of c l) (take i (readings_at p c l))) (map (reading_of c l) (drop i (readings_at p c l))) ∙ or_left _ _ h))

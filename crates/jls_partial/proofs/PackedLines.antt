@@ -57,23 +57,29 @@ each P [] i d h lt = absurd (omega arith)
 each P (s ∷ slots) zero d h lt = h.0
 each P (s ∷ slots) (suc i) d h lt = each P slots i d h.1 (omega arith)
 
-pub inside_at : (width : ℕ) (packed : List ℕ) (slots : List Slot) (i : ℕ) (s : Slot) → AllByRecursion (λ t. t.start + width ≤ length packed) slots → i < length slots → s ≡ get_or slots i s → s.start + width ≤ length packed
+pub inside_at : (width : ℕ) (packed : List ℕ) (slots : List Slot) (i : ℕ) (s : Slot)
+    → AllByRecursion (λ t. t.start + width ≤ length packed) slots → i < length slots → s ≡ get_or slots i s
+    → s.start + width ≤ length packed
 inside_at width packed slots i s h lt is = subst (λ (t : Slot). t.start + width ≤ length packed) (sym is) (each (λ t. t.start + width ≤ length packed) slots i s h lt)
 
-pub line_at : (width : ℕ) (packed : List ℕ) (slots : List Slot) (i : ℕ) (s : Slot) (x : List ℕ) → i < length slots → s ≡ get_or slots i s → get_or (lines_of width packed slots) i x ≡ take width (drop s.start packed)
+pub line_at : (width : ℕ) (packed : List ℕ) (slots : List Slot) (i : ℕ) (s : Slot) (x : List ℕ) → i < length slots → s ≡ get_or slots i s
+    → get_or (lines_of width packed slots) i x ≡ take width (drop s.start packed)
 line_at width packed slots i s x lt is = get_or-map (λ (t : Slot). take width (drop t.start packed)) slots i s x lt ∙ ap (λ (t : Slot). take width (drop t.start packed)) (sym is)
 
-pub map-insert : {A B : Type 0} (f : A → B) (xs : List A) (i : ℕ) (x : A) → i ≤ length xs → map f (insert xs i x) ≡ insert (map f xs) i (f x)
+pub map-insert : {A B : Type 0} (f : A → B) (xs : List A) (i : ℕ) (x : A) → i ≤ length xs
+    → map f (insert xs i x) ≡ insert (map f xs) i (f x)
 map-insert f xs zero x le = refl
 map-insert f [] (suc i) x le = absurd (omega arith)
 map-insert f (y ∷ xs) (suc i) x le = ap (λ t. f y ∷ t) (map-insert f xs i x (omega arith))
 
-pub all-insert : {A : Type 0} (P : A → Type 0) (xs : List A) (i : ℕ) (x : A) → i ≤ length xs → AllByRecursion P xs → P x → AllByRecursion P (insert xs i x)
+pub all-insert : {A : Type 0} (P : A → Type 0) (xs : List A) (i : ℕ) (x : A) → i ≤ length xs → AllByRecursion P xs → P x
+    → AllByRecursion P (insert xs i x)
 all-insert P xs zero x le h p = (p, h)
 all-insert P [] (suc i) x le h p = absurd (omega arith)
 all-insert P (y ∷ xs) (suc i) x le h p = (h.0, all-insert P xs i x (omega arith) h.1 p)
 
-pub any-insert : {A : Type 0} (p : A → Bool) (xs : List A) (i : ℕ) (x : A) → i ≤ length xs → list_any p (insert xs i x) ≡ (p x || list_any p xs)
+pub any-insert : {A : Type 0} (p : A → Bool) (xs : List A) (i : ℕ) (x : A) → i ≤ length xs
+    → list_any p (insert xs i x) ≡ (p x || list_any p xs)
 any-insert p xs zero x le = refl
 any-insert p [] (suc i) x le = absurd (omega arith)
 any-insert p (y ∷ xs) (suc i) x le = ap (λ b. p y || b) (any-insert p xs i x (omega arith)) ∙ turn (p y) (p x) (list_any p xs)
@@ -137,7 +143,8 @@ module _ {K : Type 0} {R : K → K → Ordering} (o : IsTotalOrder R) (exact : C
       ∙ sym (contains-insert o (set.from_list xs) x q))
 
 -- the samples of the slots stay where more is appended
-pub lines_stay : (width : ℕ) (packed more : List ℕ) (slots : List Slot) → AllByRecursion (λ s. s.start + width ≤ length packed) slots → kept_of width (packed ++ more) slots ≡ kept_of width packed slots
+pub lines_stay : (width : ℕ) (packed more : List ℕ) (slots : List Slot) → AllByRecursion (λ s. s.start + width ≤ length packed) slots
+    → kept_of width (packed ++ more) slots ≡ kept_of width packed slots
 lines_stay width packed more [] h = refl
 lines_stay width packed more (s ∷ slots) h =
     let first : s.start + width ≤ length packed = h.0 in
@@ -146,10 +153,12 @@ lines_stay width packed more (s ∷ slots) h =
     λ i. (stays i, set.items s.sources) ∷ lines_stay width packed more slots h.1 i
 
 -- and what was appended is read behind them
-pub line_appended : (width : ℕ) (packed samples : List ℕ) → length samples ≡ width → take width (drop (length packed) (packed ++ samples)) ≡ samples
+pub line_appended : (width : ℕ) (packed samples : List ℕ) → length samples ≡ width
+    → take width (drop (length packed) (packed ++ samples)) ≡ samples
 line_appended width packed samples len = ap (take width) (drop-append_seam packed samples ∙ sym (append-nil samples)) ∙ take_at samples [] width len
 
-inside_more : (width n m : ℕ) (slots : List Slot) → n ≤ m → AllByRecursion (λ s. s.start + width ≤ n) slots → AllByRecursion (λ s. s.start + width ≤ m) slots
+inside_more : (width n m : ℕ) (slots : List Slot) → n ≤ m → AllByRecursion (λ s. s.start + width ≤ n) slots
+    → AllByRecursion (λ s. s.start + width ≤ m) slots
 inside_more width n m [] le h = tt
 inside_more width n m (s ∷ slots) le h = (let first : s.start + width ≤ n = h.0 in omega (arith, first, le), inside_more width n m slots le h.1)
 
@@ -161,7 +170,8 @@ pub length-kept : (width : ℕ) (packed : List ℕ) (slots : List Slot) → leng
 length-kept width packed [] = refl
 length-kept width packed (s ∷ slots) = ap suc (length-kept width packed slots)
 
-pub kept_lines : (width : ℕ) (packed : List ℕ) (slots : List Slot) → map (λ k. k.0) (kept_of width packed slots) ≡ lines_of width packed slots
+pub kept_lines : (width : ℕ) (packed : List ℕ) (slots : List Slot)
+    → map (λ k. k.0) (kept_of width packed slots) ≡ lines_of width packed slots
 kept_lines = lines-kept
 
 module _ (width : ℕ) (packed samples : List ℕ) (slots : List Slot) (i : ℕ) (sources : set.OrderedSet nat_cmp) (len : length samples ≡ width) (le : i ≤ length slots) (inside : AllByRecursion (λ s. s.start + width ≤ length packed) slots) where
@@ -179,7 +189,8 @@ module _ (width : ℕ) (packed samples : List ℕ) (slots : List Slot) (i : ℕ)
       ∙ map-insert (λ (k : Kept). k.0) (kept_of width packed slots) i (samples, set.items sources) (let many : length (kept_of width packed slots) ≡ length slots = length-kept width packed slots in omega (arith, le, many))
       ∙ ap (λ (ls : List (List ℕ)). insert ls i samples) (lines-kept width packed slots)
 
-  pub packed_more : IsPacked width packed slots → IsGap S (lines_of width packed slots) i samples → IsPacked width (packed ++ samples) (insert slots i added)
+  pub packed_more : IsPacked width packed slots → IsGap S (lines_of width packed slots) i samples
+      → IsPacked width (packed ++ samples) (insert slots i added)
   packed_more is gap =
       let longer = length-append packed samples in
       record {

@@ -39,12 +39,14 @@ right_kept : (p q : PartialPicture) (r : Reading) → contains q.readings r ≡ 
 right_kept p q r h = union_has p q r ∙ rw h (or_true (contains p.readings r))
 
 -- the first of a join is held
-first_held : (first : PartialPicture) (others : List PartialPicture) (r : Reading) → contains first.readings r ≡ true → contains (join_all union first others).readings r ≡ true
+first_held : (first : PartialPicture) (others : List PartialPicture) (r : Reading) → contains first.readings r ≡ true
+    → contains (join_all union first others).readings r ≡ true
 first_held first [] r h = h
 first_held first (q ∷ qs) r h = first_held (union first q) qs r (left_kept first q r h)
 
 -- and so is each member
-member_held : (first : PartialPicture) (others : List PartialPicture) (p : PartialPicture) (r : Reading) → Contains (first ∷ others) p → contains p.readings r ≡ true → contains (join_all union first others).readings r ≡ true
+member_held : (first : PartialPicture) (others : List PartialPicture) (p : PartialPicture) (r : Reading) → Contains (first ∷ others) p
+    → contains p.readings r ≡ true → contains (join_all union first others).readings r ≡ true
 member_held first others p r (zero, lt, e) h = first_held first others r (subst (λ (q : PartialPicture). contains q.readings r ≡ true) (sym e) h)
 member_held first [] p r (suc k, lt, e) h = absurd (omega (arith, lt))
 member_held first (q ∷ qs) p r (suc zero, lt, e) h =
@@ -52,7 +54,8 @@ member_held first (q ∷ qs) p r (suc zero, lt, e) h =
 member_held first (q ∷ qs) p r (suc (suc k), lt, e) h = member_held (union first q) qs p r (suc k, omega (arith, lt), e) h
 
 -- what is held, a member holds
-held_of_member : (first : PartialPicture) (others : List PartialPicture) (r : Reading) → contains (join_all union first others).readings r ≡ true
+held_of_member : (first : PartialPicture) (others : List PartialPicture) (r : Reading)
+    → contains (join_all union first others).readings r ≡ true
     → (p : PartialPicture) × Contains (first ∷ others) p × (contains p.readings r ≡ true)
 held_of_member first [] r h = (first, (0, omega arith, refl), h)
 held_of_member first (q ∷ qs) r h = of_two (held_of_member (union first q) qs r h)
@@ -100,7 +103,8 @@ only_reading (x ∷ []) c l r s settled h g =
 only_reading (x ∷ y ∷ others) c l r s settled h g = absurd cc
 
 -- a line that has readings has one that is held
-a_reading : (p : PartialPicture) (c l : ℕ) (readings : List (List ℕ)) → readings_at p c l ≡ readings → (readings ≡ [] → ⊥) → (x : List ℕ) × (contains p.readings (reading_of c l x) ≡ true)
+a_reading : (p : PartialPicture) (c l : ℕ) (readings : List (List ℕ)) → readings_at p c l ≡ readings → (readings ≡ [] → ⊥)
+    → (x : List ℕ) × (contains p.readings (reading_of c l x) ≡ true)
 a_reading p c l [] e some = absurd (some refl)
 a_reading p c l (x ∷ xs) e some = (
   x,
@@ -117,7 +121,8 @@ module _ (picture first : PartialPicture) (others : List PartialPicture) (are : 
   nothing_else r h = let m = held_of_member first others r h in (part_of m.0 m.1).readings r.component r.line r.samples m.2
 
   -- and all of it
-  all_of_it : IsFitting picture → IsSettled picture → EachLineIsHeld picture.shape (first ∷ others) → (r : Reading) → contains picture.readings r ≡ true → contains (join_all union first others).readings r ≡ true
+  all_of_it : IsFitting picture → IsSettled picture → EachLineIsHeld picture.shape (first ∷ others) → (r : Reading)
+      → contains picture.readings r ≡ true → contains (join_all union first others).readings r ≡ true
   all_of_it fitting settled each r h =
       let inside = place_exists picture.shape r.component r.line r.samples (fitting r.component r.line r.samples h) in
       let s = each r.component inside.0 r.line inside.1 in

@@ -27,7 +27,8 @@ use Rattle.jls_partial.proofs.Entries.{S, samples_at}
 use Rattle.jls_values.specs.OrderedSetLaws.{items-from_list, sorted-append}
 
 -- the readings at one place rise as their samples do
-reading_below_block : (p : Place) (x : List ℕ) (xs : List (List ℕ)) → AllByRecursion (λ y. S x y ≡ Less) xs → AllByRecursion (λ r. reading_cmp (at_place p x) r ≡ Less) (map (at_place p) xs)
+reading_below_block : (p : Place) (x : List ℕ) (xs : List (List ℕ)) → AllByRecursion (λ y. S x y ≡ Less) xs
+    → AllByRecursion (λ r. reading_cmp (at_place p x) r ≡ Less) (map (at_place p) xs)
 reading_below_block p x [] h = tt
 reading_below_block p x (y ∷ xs) h = (rw (tied_itself nat_cmp_total p.component, tied_itself nat_cmp_total p.line) h.0, reading_below_block p x xs h.1)
 
@@ -43,7 +44,8 @@ first_less Equal Equal t h = absurd cc
 first_less Equal Greater t h = absurd cc
 first_less Greater s t h = absurd cc
 
-below-at_place : (r : Reading) (p : Place) (xs : List (List ℕ)) → place_cmp (place_of r) p ≡ Less → AllByRecursion (λ s. reading_cmp r s ≡ Less) (map (at_place p) xs)
+below-at_place : (r : Reading) (p : Place) (xs : List (List ℕ)) → place_cmp (place_of r) p ≡ Less
+    → AllByRecursion (λ s. reading_cmp r s ≡ Less) (map (at_place p) xs)
 below-at_place r p [] h = tt
 below-at_place r p (x ∷ xs) h = (first_less (nat_cmp r.component p.component) (nat_cmp r.line p.line) (S r.samples x) h, below-at_place r p xs h)
 
@@ -51,17 +53,21 @@ all-append : (P : Reading → Type 0) (xs ys : List Reading) → AllByRecursion 
 all-append P [] ys p q = q
 all-append P (x ∷ xs) ys p q = (p.0, all-append P xs ys p.1 q)
 
-below-entries : (r : Reading) (es : List BareEntry) → AllByRecursion (λ q. place_cmp (place_of r) q ≡ Less) (map (λ e. e.0) es) → AllByRecursion (λ s. reading_cmp r s ≡ Less) (readings_of_entries es)
+below-entries : (r : Reading) (es : List BareEntry) → AllByRecursion (λ q. place_cmp (place_of r) q ≡ Less) (map (λ e. e.0) es)
+    → AllByRecursion (λ s. reading_cmp r s ≡ Less) (readings_of_entries es)
 below-entries r [] h = tt
 below-entries r (e ∷ es) h =
     subst (AllByRecursion (λ s. reading_cmp r s ≡ Less)) (sym (flat_map-cons (λ (e : BareEntry). map (at_place e.0) e.1) e es))
     (all-append (λ s. reading_cmp r s ≡ Less) (map (at_place e.0) e.1) (readings_of_entries es) (below-at_place r e.0 e.1 h.0) (below-entries r es h.1))
 
-at_place_below_entries : (p : Place) (xs : List (List ℕ)) (es : List BareEntry) → AllByRecursion (λ q. place_cmp p q ≡ Less) (map (λ e. e.0) es) → AllByRecursion (λ r. AllByRecursion (λ s. reading_cmp r s ≡ Less) (readings_of_entries es)) (map (at_place p) xs)
+at_place_below_entries : (p : Place) (xs : List (List ℕ)) (es : List BareEntry)
+    → AllByRecursion (λ q. place_cmp p q ≡ Less) (map (λ e. e.0) es)
+    → AllByRecursion (λ r. AllByRecursion (λ s. reading_cmp r s ≡ Less) (readings_of_entries es)) (map (at_place p) xs)
 at_place_below_entries p [] es h = tt
 at_place_below_entries p (x ∷ xs) es h = (below-entries (at_place p x) es h, at_place_below_entries p xs es h)
 
-pub sorted-entries : (shape : PictureShape) (es : List BareEntry) → IsStrictlySortedBy place_cmp (map (λ e. e.0) es) → AllByRecursion (IsEntry shape) es → IsStrictlySortedBy reading_cmp (readings_of_entries es)
+pub sorted-entries : (shape : PictureShape) (es : List BareEntry) → IsStrictlySortedBy place_cmp (map (λ e. e.0) es)
+    → AllByRecursion (IsEntry shape) es → IsStrictlySortedBy reading_cmp (readings_of_entries es)
 unfolding IsStrictlySortedBy
 sorted-entries shape [] h k = tt
 sorted-entries shape (e ∷ es) h k =
@@ -84,22 +90,26 @@ eq_there c l p =
     both Equal s = refl
     both Greater s = refl
 
-there_true : (c l : ℕ) (p : Place) (xs : List (List ℕ)) → (p.component == c && p.line == l) ≡ true → map (λ r. r.samples) (filter (is_there c l) (map (at_place p) xs)) ≡ xs
+there_true : (c l : ℕ) (p : Place) (xs : List (List ℕ)) → (p.component == c && p.line == l) ≡ true
+    → map (λ r. r.samples) (filter (is_there c l) (map (at_place p) xs)) ≡ xs
 there_true c l p [] h = refl
 there_true c l p (x ∷ xs) h = rw h (ap (λ (t : List (List ℕ)). x ∷ t) (there_true c l p xs h))
 
-there_false : (c l : ℕ) (p : Place) (xs : List (List ℕ)) → (p.component == c && p.line == l) ≡ false → filter (is_there c l) (map (at_place p) xs) ≡ []
+there_false : (c l : ℕ) (p : Place) (xs : List (List ℕ)) → (p.component == c && p.line == l) ≡ false
+    → filter (is_there c l) (map (at_place p) xs) ≡ []
 there_false c l p [] h = refl
 there_false c l p (x ∷ xs) h = rw h (there_false c l p xs h)
 
 -- no reading of a later place is there
-nothing_there : (c l : ℕ) (es : List BareEntry) → AllByRecursion (λ q. place_cmp (place c l) q ≡ Less) (map (λ e. e.0) es) → filter (is_there c l) (readings_of_entries es) ≡ []
+nothing_there : (c l : ℕ) (es : List BareEntry) → AllByRecursion (λ q. place_cmp (place c l) q ≡ Less) (map (λ e. e.0) es)
+    → filter (is_there c l) (readings_of_entries es) ≡ []
 nothing_there c l [] h = refl
 nothing_there c l (e ∷ es) h =
     ap (filter (is_there c l)) (flat_map-cons (λ (e : BareEntry). map (at_place e.0) e.1) e es) ∙ filter-append (is_there c l) (map (at_place e.0) e.1) (readings_of_entries es)
     ∙ (λ i. there_false c l e.0 e.1 (eq_there c l e.0 ∙ ap is_eq h.0) i ++ nothing_there c l es h.1 i)
 
-pub kept_there : (c l : ℕ) (es : List BareEntry) → IsStrictlySortedBy place_cmp (map (λ e. e.0) es) → map (λ r. r.samples) (filter (is_there c l) (readings_of_entries es)) ≡ samples_at es (place c l)
+pub kept_there : (c l : ℕ) (es : List BareEntry) → IsStrictlySortedBy place_cmp (map (λ e. e.0) es)
+    → map (λ r. r.samples) (filter (is_there c l) (readings_of_entries es)) ≡ samples_at es (place c l)
 unfolding IsStrictlySortedBy
 kept_there c l [] h = refl
 kept_there c l (e ∷ es) h =
@@ -115,7 +125,8 @@ kept_there c l (e ∷ es) h =
     ] refl
 
 -- the readings of a line of the partial that is seen are what is kept at its place
-pub readings_kept : (shape : PictureShape) (es : List BareEntry) (p : PartialPicture) (c l : ℕ) → AreEntries shape es → from_list (readings_of_entries es) ≡ p.readings → readings_at p c l ≡ samples_at es (place c l)
+pub readings_kept : (shape : PictureShape) (es : List BareEntry) (p : PartialPicture) (c l : ℕ) → AreEntries shape es
+    → from_list (readings_of_entries es) ≡ p.readings → readings_at p c l ≡ samples_at es (place c l)
 readings_kept shape es p c l kept is =
     ap (λ (s : OrderedSet reading_cmp). map (λ r. r.samples) (filter (is_there c l) (items s))) (sym is)
     ∙ ap (λ (rs : List Reading). map (λ r. r.samples) (filter (is_there c l) rs)) (items-from_list reading_total (readings_of_entries es) (sorted-entries shape es kept.sorted kept.each))

@@ -19,7 +19,8 @@ pub record GoAlong {X : Type 0} (one other it left : List X) : Type 0 where
   pub one_is : one ≡ done ++ it
   pub other_is : other ≡ done ++ left
 
-pub one_done : {X : Type 0} (one other it left : List X) (x y : X) (xs ys : List X) → GoAlong one other it left → it ≡ x ∷ xs → left ≡ y ∷ ys → x ≡ y → GoAlong one other xs ys
+pub one_done : {X : Type 0} (one other it left : List X) (x y : X) (xs ys : List X) → GoAlong one other it left → it ≡ x ∷ xs
+    → left ≡ y ∷ ys → x ≡ y → GoAlong one other xs ys
 one_done one other it left x y xs ys g p q same = record {
   done = g.done ++ x ∷ [];
   one_is = g.one_is ∙ ap (λ t. g.done ++ t) p ∙ sym (append_assoc g.done (x ∷ []) xs);
@@ -27,7 +28,8 @@ one_done one other it left x y xs ys g p q same = record {
 }
 
 -- the next items of lists that are one are one
-pub same_next : {X : Type 0} (one other it left : List X) (x y : X) (xs ys : List X) → GoAlong one other it left → it ≡ x ∷ xs → left ≡ y ∷ ys → one ≡ other → x ≡ y
+pub same_next : {X : Type 0} (one other it left : List X) (x y : X) (xs ys : List X) → GoAlong one other it left → it ≡ x ∷ xs
+    → left ≡ y ∷ ys → one ≡ other → x ≡ y
 same_next {X} one other it left x y xs ys g p q same =
     ap first_of_all (append_cancel_left g.done (x ∷ xs) (y ∷ ys) (ap (λ t. g.done ++ t) (sym p) ∙ sym g.one_is ∙ same ∙ g.other_is ∙ ap (λ t. g.done ++ t) q))
   where
@@ -36,7 +38,8 @@ same_next {X} one other it left x y xs ys g p q same =
     first_of_all (z ∷ zs) = z
 
 -- where the first ends and the second does not, they are not one
-pub ends_apart : {X : Type 0} (one other it left : List X) (x : X) (xs : List X) → GoAlong one other it left → it ≡ [] → left ≡ x ∷ xs → one ≡ other → ⊥
+pub ends_apart : {X : Type 0} (one other it left : List X) (x : X) (xs : List X) → GoAlong one other it left → it ≡ [] → left ≡ x ∷ xs
+    → one ≡ other → ⊥
 ends_apart one other it left x xs g p q same =
     let bad : [] ≡ x ∷ xs = append_cancel_left g.done [] (x ∷ xs) (ap (λ t. g.done ++ t) (sym p) ∙ sym g.one_is ∙ same ∙ g.other_is ∙ ap (λ t. g.done ++ t) q) in
     absurd cc
@@ -46,7 +49,8 @@ pub both_end : {X : Type 0} (one other it left : List X) → GoAlong one other i
 both_end one other it left g p q = g.one_is ∙ ap (λ t. g.done ++ t) (p ∙ sym q) ∙ sym g.other_is
 
 -- where the first ends, they are one exactly if nothing is left of the second
-pub along_end : {A L X : Type 0} (shows : A → L) (f : L → X) (one other it : List X) (r : Option A) (left rest : List L) (ended : Bool) → is_some r ≡ not ended → MatchOption r ((left ≡ []) × (rest ≡ [])) (λ x. left ≡ shows x ∷ rest)
+pub along_end : {A L X : Type 0} (shows : A → L) (f : L → X) (one other it : List X) (r : Option A) (left rest : List L) (ended : Bool)
+    → is_some r ≡ not ended → MatchOption r ((left ≡ []) × (rest ≡ [])) (λ x. left ≡ shows x ∷ rest)
     → it ≡ [] → GoAlong one other it (map f left) → (ended ≡ true) ↔ (one ≡ other)
 along_end shows f one other it None left rest ended n step none g = (λ _. both_end one other it (map f left) g none (ap (map f) step.0), λ _. true_from ended n)
   where
@@ -85,7 +89,9 @@ apart_lists xs ys e same =
     absurd cc
 
 -- shapes that the code's test finds no different
-pub shapes_from_test : (s t : PictureShape) (differ : Bool) → differ ≡ not (s.precision == t.precision && (s.width == t.width && (s.height == t.height && pointwise nat_eq s.ids t.ids))) → differ ≡ false → s ≡ t
+pub shapes_from_test : (s t : PictureShape) (differ : Bool)
+    → differ ≡ not (s.precision == t.precision && (s.width == t.width && (s.height == t.height && pointwise nat_eq s.ids t.ids)))
+    → differ ≡ false → s ≡ t
 shapes_from_test s t differ is same =
     one_shape s t (four (s.precision == t.precision) (s.width == t.width) (s.height == t.height) (pointwise nat_eq s.ids t.ids) (sym is ∙ same))
   where
@@ -99,14 +105,16 @@ shapes_from_test s t differ is same =
 -- ---- two lines
 
 -- lines with the same readings have the same one at each place
-pub samples_same : (L M : PictureLines) (i : ℕ) (x y : List ℕ) → slice_get (items L.lines) i ≡ Some x → slice_get (items M.lines) i ≡ Some y → kept_lines L ≡ kept_lines M → x ≡ y
+pub samples_same : (L M : PictureLines) (i : ℕ) (x y : List ℕ) → slice_get (items L.lines) i ≡ Some x → slice_get (items M.lines) i ≡ Some y
+    → kept_lines L ≡ kept_lines M → x ≡ y
 samples_same L M i x y v v' same =
     let lines = sym (lines_named L (items L.lines)) ∙ ap (map (λ (k : Kept). k.0)) same ∙ lines_named M (items M.lines) in
     let e : Some x ≡ Some y = sym v ∙ ap (λ (xs : List (List ℕ)). slice_get xs i) lines ∙ v' in
     cc
 
 -- and the same sources
-pub sources_same : (L M : PictureLines) (i : ℕ) (x y ss tt' : List ℕ) → i < length (items L.lines) → i < length (items M.lines) → slice_get (items L.lines) i ≡ Some x → slice_get (items M.lines) i ≡ Some y
+pub sources_same : (L M : PictureLines) (i : ℕ) (x y ss tt' : List ℕ) → i < length (items L.lines) → i < length (items M.lines)
+    → slice_get (items L.lines) i ≡ Some x → slice_get (items M.lines) i ≡ Some y
     → IfSome (slice_get (items L.lines) i) (λ samples. ss ≡ line_sources L samples) → IfSome (slice_get (items M.lines) i) (λ samples. tt' ≡ line_sources M samples) → kept_lines L ≡ kept_lines M → ss ≡ tt'
 sources_same L M i x y ss tt' lt lt' v v' own own' same =
     let k : Kept = (x, ss) in

@@ -59,7 +59,8 @@ same_keys : (es : List LineEntry) → map (λ (e : BareEntry). e.0) (map bare_en
 same_keys [] = refl
 same_keys (e ∷ es) = ap (λ t. e.0 ∷ t) (same_keys es)
 
-each_bare : (shape : PictureShape) (es : List LineEntry) → AllByRecursion (IsLineEntry shape) es → AllByRecursion (IsEntry shape) (map bare_entry es)
+each_bare : (shape : PictureShape) (es : List LineEntry) → AllByRecursion (IsLineEntry shape) es
+    → AllByRecursion (IsEntry shape) (map bare_entry es)
 each_bare shape [] h = tt
 each_bare shape (e ∷ es) h = (h.0.entry, each_bare shape es h.1)
 
@@ -77,7 +78,8 @@ sources_rise (e ∷ es) = (one (set.items e.1.lines), sources_rise es)
     one [] = tt
     one (x ∷ xs) = (items_rise _, one xs)
 
-pub store_entries : (shape : PictureShape) (es : List LineEntry) → IsStore shape es → entries (partial_of shape (map kept_entry es)) ≡ map kept_entry es
+pub store_entries : (shape : PictureShape) (es : List LineEntry) → IsStore shape es
+    → entries (partial_of shape (map kept_entry es)) ≡ map kept_entry es
 store_entries shape es kept = entries_again shape (map kept_entry es) (are_entries shape es kept) (sources_rise es)
 
 -- ---- what is kept at a place
@@ -107,7 +109,8 @@ kept_there p w es at =
       | Some L ↦ refl
     ]
 
-pub samples_there : (p w : ℕ) (es : List LineEntry) (at : Place) → samples_at (map bare (map kept_entry es)) at ≡ set.items (lines_or (no_lines p w) es at).lines
+pub samples_there : (p w : ℕ) (es : List LineEntry) (at : Place)
+    → samples_at (map bare (map kept_entry es)) at ≡ set.items (lines_or (no_lines p w) es at).lines
 samples_there p w es at =
     ap (λ bs. samples_at bs at) (bare_kept es)
     ∙ ap (λ o. unwrap_or o []) (lookup-map (λ (L : PictureLines). set.items L.lines) (is_at (place_cmp at)) es)
@@ -127,7 +130,8 @@ pub record IsAt (shape : PictureShape) (at : Place) (L : PictureLines) : Type 0 
 pub not_in_empty : {K X : Type 0} (R : K → K → Ordering) (k : K) → set.contains {R = R} set.empty k ≡ true → X
 not_in_empty R k e = let bad : true ≡ false = sym e ∙ contains-empty R k in absurd cc
 
-pub is_there : (shape : PictureShape) (p w : ℕ) (es : List LineEntry) (at : Place) → p ≡ shape.precision → w ≡ shape.width → IsStore shape es → IsAt shape at (lines_or (no_lines p w) es at)
+pub is_there : (shape : PictureShape) (p w : ℕ) (es : List LineEntry) (at : Place) → p ≡ shape.precision → w ≡ shape.width
+    → IsStore shape es → IsAt shape at (lines_or (no_lines p w) es at)
 is_there shape p w es at p_is w_is kept =
     elim (lookup (is_at (place_cmp at)) es) as (λ (o : Option PictureLines). IfSome o (λ L. IsLineEntry shape (at, L)) → IsAt shape at (unwrap_or o (no_lines p w))) [
       | None ↦ λ k. record {
@@ -147,7 +151,8 @@ is_there shape p w es at p_is w_is kept =
     ] (lookup_from_each (IsLineEntry shape) es at kept.each)
 
 -- a reading that fits the picture fits the lines at its place
-pub fits_in : (shape : PictureShape) (at : Place) (L : PictureLines) (x : List ℕ) → IsAt shape at L → reading_fault shape at.component at.line x ≡ None → FitsIn L x
+pub fits_in : (shape : PictureShape) (at : Place) (L : PictureLines) (x : List ℕ) → IsAt shape at L
+    → reading_fault shape at.component at.line x ≡ None → FitsIn L x
 fits_in shape at L x there e =
     let a = first_none (nat_le (length shape.ids) at.component) _ _ e in
     let b = first_none (nat_le shape.height at.line) _ _ a.1 in
@@ -156,7 +161,8 @@ fits_in shape at L x there e =
 -- ---- what the partial picture that is seen holds
 
 -- sources of two items that have the same marks
-same_sources : {K J : Type 0} (R : K → K → Ordering) (Q : J → J → Ordering) (ms : set.OrderedSet (mark_cmp R)) (ns : set.OrderedSet (mark_cmp Q)) (k : K) (j : J) → ((s : ℕ) → set.contains ms (k, s) ≡ set.contains ns (j, s)) → sources_of R ms k ≡ sources_of Q ns j
+same_sources : {K J : Type 0} (R : K → K → Ordering) (Q : J → J → Ordering) (ms : set.OrderedSet (mark_cmp R)) (ns : set.OrderedSet (mark_cmp Q)) (k : K) (j : J)
+    → ((s : ℕ) → set.contains ms (k, s) ≡ set.contains ns (j, s)) → sources_of R ms k ≡ sources_of Q ns j
 same_sources R Q ms ns k j h = ap set.items (same_set nat_cmp_total exact_unsigned _ _ (λ s. contains-sources_of R ms k s ∙ h s ∙ sym (contains-sources_of Q ns j s)))
 
 implied : (a b : Bool) → (b ≡ true → a ≡ true) → (a && b) ≡ b
@@ -266,7 +272,8 @@ got_held s i x e = contains-items s x ∙ got (set.items s) i e
 -- ---- one reading more
 
 -- a fact of all that a set contains is one of its items
-pub all_items : {K : Type 0} {R : K → K → Ordering} (o : IsTotalOrder R) (P : K → Type 0) (s : set.OrderedSet R) → ((k : K) → set.contains s k ≡ true → P k) → AllByRecursion P (set.items s)
+pub all_items : {K : Type 0} {R : K → K → Ordering} (o : IsTotalOrder R) (P : K → Type 0) (s : set.OrderedSet R)
+    → ((k : K) → set.contains s k ≡ true → P k) → AllByRecursion P (set.items s)
 all_items o P s f = all_members o P (set.items s) (λ k e. f k (contains-items s k ∙ e))
 
 -- a set that contains something has an item
@@ -335,7 +342,8 @@ module _ (shape : PictureShape) (at : Place) (L0 L : PictureLines) (x ss : List 
       each = each_from_lookup (IsLineEntry shape) fs order (λ q. subst (λ (o : Option PictureLines). IfSome o (λ K. IsLineEntry shape (q, K))) (sym (puts_at q)) (step q));
     }
       where
-        step : (q : Place) → IfSome (cond (is_at (place_cmp at) q) (Some L) (lookup (is_at (place_cmp q)) es)) (λ K. IsLineEntry shape (q, K))
+        step : (q : Place)
+            → IfSome (cond (is_at (place_cmp at) q) (Some L) (lookup (is_at (place_cmp q)) es)) (λ K. IsLineEntry shape (q, K))
         step q =
             elim (is_at (place_cmp at) q) as (λ b. is_at (place_cmp at) q ≡ b → IfSome (cond b (Some L) (lookup (is_at (place_cmp q)) es)) (λ K. IsLineEntry shape (q, K))) [
               | true ↦ λ e. subst (λ (z : Place). IsLineEntry shape (z, L)) (same_place at q e) line_put
@@ -345,11 +353,13 @@ module _ (shape : PictureShape) (at : Place) (L0 L : PictureLines) (x ss : List 
     turned : (a b : Place) → eq_by_cmp place_cmp a b ≡ eq_by_cmp place_cmp b a
     turned a b = (eq_by_cmp_equiv place_total).symm a b
 
-    eq_at : (r : Reading) (b : Bool) → is_at (place_cmp at) (place_of r) ≡ b → eq_by_cmp reading_cmp r (at_place at x) ≡ (b && eq_by_cmp S r.samples x)
+    eq_at : (r : Reading) (b : Bool) → is_at (place_cmp at) (place_of r) ≡ b
+        → eq_by_cmp reading_cmp r (at_place at x) ≡ (b && eq_by_cmp S r.samples x)
     eq_at r b e = eq_reading r at x ∙ ap (λ c. c && eq_by_cmp S r.samples x) (turned (place_of r) at ∙ e)
 
     module _ (was : L0 ≡ lines_or (no_lines p w) es at) where
-      readings_put : (r : Reading) → set.contains (lines_or (no_lines p w) fs (place_of r)).lines r.samples ≡ (eq_by_cmp reading_cmp r (at_place at x) || set.contains (lines_or (no_lines p w) es (place_of r)).lines r.samples)
+      readings_put : (r : Reading)
+          → set.contains (lines_or (no_lines p w) fs (place_of r)).lines r.samples ≡ (eq_by_cmp reading_cmp r (at_place at x) || set.contains (lines_or (no_lines p w) es (place_of r)).lines r.samples)
       readings_put r =
           ap (λ (o : Option PictureLines). set.contains (unwrap_or o (no_lines p w)).lines r.samples) (puts_at (place_of r))
           ∙ elim (is_at (place_cmp at) (place_of r)) as (λ b. is_at (place_cmp at) (place_of r) ≡ b →
@@ -361,7 +371,8 @@ module _ (shape : PictureShape) (at : Place) (L0 L : PictureLines) (x ss : List 
           was_there : is_at (place_cmp at) (place_of r) ≡ true → L0 ≡ lines_or (no_lines p w) es (place_of r)
           was_there e = was ∙ ap (lines_or (no_lines p w) es) (same_place at (place_of r) e)
 
-      marks_put : (r : Reading) (s : ℕ) → set.contains (lines_or (no_lines p w) fs (place_of r)).marks (r.samples, s) ≡ (set.contains (lines_or (no_lines p w) es (place_of r)).marks (r.samples, s) || has_mark reading_cmp r s ((at_place at x, ss) ∷ []))
+      marks_put : (r : Reading) (s : ℕ)
+          → set.contains (lines_or (no_lines p w) fs (place_of r)).marks (r.samples, s) ≡ (set.contains (lines_or (no_lines p w) es (place_of r)).marks (r.samples, s) || has_mark reading_cmp r s ((at_place at x, ss) ∷ []))
       marks_put r s =
           ap (λ (o : Option PictureLines). set.contains (unwrap_or o (no_lines p w)).marks (r.samples, s)) (puts_at (place_of r))
           ∙ elim (is_at (place_cmp at) (place_of r)) as (λ b. is_at (place_cmp at) (place_of r) ≡ b →

@@ -35,7 +35,8 @@ place_text at = at.component ∷ to_be_bytes w16 at.line
 abbrev followed : ℕ → PictureShape → Option Place → List ℕ → ℕ → ℕ × List ℕ → Result (Place × List ℕ) TextFault
 followed size shape before bytes component line = cond (may_follow shape before (place component line.0)) (Ok (place component line.0, line.1)) (Err (fault.Place (offset size bytes)))
 
-place_takes : (size : ℕ) (shape : PictureShape) (before : Option Place) (bytes : List ℕ) (x : Place × List ℕ) → IsBytes bytes → place_fields size shape before bytes ≡ Ok x
+place_takes : (size : ℕ) (shape : PictureShape) (before : Option Place) (bytes : List ℕ) (x : Place × List ℕ) → IsBytes bytes
+    → place_fields size shape before bytes ≡ Ok x
     → Takes bytes (place_text x.0) x.1 × (may_follow shape before x.0 ≡ true)
 unfolding place_fields
 place_takes size shape before bytes x fits e =
@@ -47,14 +48,16 @@ place_takes size shape before bytes x fits e =
     let both = Takes-then bytes (c.0.0 ∷ []) c.0.1 (to_be_bytes w16 l.0.0) l.0.1 t0.0 t1.0 in
     subst (λ (y : Place × List ℕ). Takes bytes (place_text y.0) y.1 × (may_follow shape before y.0 ≡ true)) g.1 (both, g.0)
 
-place_again : (size : ℕ) (shape : PictureShape) (before : Option Place) (at : Place) (rest : List ℕ) → at.line < 2 ^ 16 → may_follow shape before at ≡ true → place_fields size shape before (place_text at ++ rest) ≡ Ok (at, rest)
+place_again : (size : ℕ) (shape : PictureShape) (before : Option Place) (at : Place) (rest : List ℕ) → at.line < 2 ^ 16
+    → may_follow shape before at ≡ true → place_fields size shape before (place_text at ++ rest) ≡ Ok (at, rest)
 unfolding place_fields
 place_again size shape before at rest lt follows =
     rw (byte_again size at.component (to_be_bytes w16 at.line ++ rest), number_again size w16 (2 ^ 16) wide16 at.line rest lt, follows) refl
 
 -- ---- the number of readings
 
-count_takes : (size : ℕ) (bytes : List ℕ) (x : ℕ × List ℕ) → IsBytes bytes → count_field size bytes ≡ Ok x → Takes bytes (to_be_bytes w64 x.0) x.1 × (x.0 < 2 ^ 64) × (1 ≤ x.0)
+count_takes : (size : ℕ) (bytes : List ℕ) (x : ℕ × List ℕ) → IsBytes bytes → count_field size bytes ≡ Ok x
+    → Takes bytes (to_be_bytes w64 x.0) x.1 × (x.0 < 2 ^ 64) × (1 ≤ x.0)
 unfolding count_field
 count_takes size bytes x fits e =
     let n = bind_ok (number_field size w64 bytes) (λ count. cond (eqb count.0 0) (Err (fault.Count (offset size bytes))) (Ok count)) x e in
@@ -74,7 +77,8 @@ count_again size n rest lt some =
 
 -- ---- an entry
 
-in_picture : (shape : PictureShape) (before : Option Place) (at : Place) → may_follow shape before at ≡ true → (at.component < length shape.ids) × (at.line < shape.height)
+in_picture : (shape : PictureShape) (before : Option Place) (at : Place) → may_follow shape before at ≡ true
+    → (at.component < length shape.ids) × (at.line < shape.height)
 in_picture shape None at e =
     let p = and_parts (nat_lt at.component (length shape.ids)) (nat_lt at.line shape.height) e in
     (ltb-true _ _ p.0, ltb-true _ _ p.1)
@@ -84,7 +88,8 @@ in_picture shape (Some b) at e =
     (ltb-true _ _ p.0, ltb-true _ _ p.1)
 
 -- an entry that is read is of a line of the picture
-pub place_inside : (size : ℕ) (shape : PictureShape) (before : Option Place) (bytes : List ℕ) (x : Place × List ℕ) → place_fields size shape before bytes ≡ Ok x → (x.0.component < length shape.ids) × (x.0.line < shape.height)
+pub place_inside : (size : ℕ) (shape : PictureShape) (before : Option Place) (bytes : List ℕ) (x : Place × List ℕ)
+    → place_fields size shape before bytes ≡ Ok x → (x.0.component < length shape.ids) × (x.0.line < shape.height)
 unfolding place_fields
 place_inside size shape before bytes x e =
     let c = bind_ok (byte_field size bytes) (λ component. number_field size w16 component.1 >>= followed size shape before bytes component.0) x e in
@@ -92,14 +97,18 @@ place_inside size shape before bytes x e =
     let g = passed_ok (may_follow shape before (place c.0.0 l.0.0)) (fault.Place (offset size bytes)) (place c.0.0 l.0.0, l.0.1) x l.2 in
     subst (λ (y : Place × List ℕ). (y.0.component < length shape.ids) × (y.0.line < shape.height)) g.1 (in_picture shape before (place c.0.0 l.0.0) g.0)
 
-pub fits_there : (shape : PictureShape) (c l : ℕ) (xs : List ℕ) → c < length shape.ids → l < shape.height → samples_fault shape.precision shape.width xs ≡ None → reading_fault shape c l xs ≡ None
+pub fits_there : (shape : PictureShape) (c l : ℕ) (xs : List ℕ) → c < length shape.ids → l < shape.height
+    → samples_fault shape.precision shape.width xs ≡ None → reading_fault shape c l xs ≡ None
 fits_there shape c l xs cs ls fit = rw (lt-leb (length shape.ids) c cs, lt-leb shape.height l ls) fit
 
-all_fit_there : (shape : PictureShape) (c l : ℕ) (xs : List (List ℕ)) → c < length shape.ids → l < shape.height → AllByRecursion (λ s. samples_fault shape.precision shape.width s ≡ None) xs → AllByRecursion (λ s. reading_fault shape c l s ≡ None) xs
+all_fit_there : (shape : PictureShape) (c l : ℕ) (xs : List (List ℕ)) → c < length shape.ids → l < shape.height
+    → AllByRecursion (λ s. samples_fault shape.precision shape.width s ≡ None) xs
+    → AllByRecursion (λ s. reading_fault shape c l s ≡ None) xs
 all_fit_there shape c l [] cs ls h = tt
 all_fit_there shape c l (x ∷ xs) cs ls h = (fits_there shape c l x cs ls h.0, all_fit_there shape c l xs cs ls h.1)
 
-samples_of_fit : (shape : PictureShape) (c l : ℕ) (xs : List (List ℕ)) → AllByRecursion (λ s. reading_fault shape c l s ≡ None) xs → AllByRecursion (λ s. samples_fault shape.precision shape.width s ≡ None) xs
+samples_of_fit : (shape : PictureShape) (c l : ℕ) (xs : List (List ℕ)) → AllByRecursion (λ s. reading_fault shape c l s ≡ None) xs
+    → AllByRecursion (λ s. samples_fault shape.precision shape.width s ≡ None) xs
 samples_of_fit shape c l [] h = tt
 samples_of_fit shape c l (x ∷ xs) h =
     let a = first_none (nat_le (length shape.ids) c) _ _ h.0 in
@@ -110,7 +119,8 @@ samples_of_fit shape c l (x ∷ xs) h =
 abbrev pub IsSaidEntry : Version → PictureShape → Entry → Type 0
 IsSaidEntry version shape e = IsEntry shape (bare e) × AllByRecursion (IsSaid version) e.1
 
-entry_takes : (size : ℕ) (version : Version) (shape : PictureShape) (before : Option Place) (bytes : List ℕ) (x : Entry × List ℕ) → IsBytes bytes → entry_fields size version shape before bytes ≡ Ok x
+entry_takes : (size : ℕ) (version : Version) (shape : PictureShape) (before : Option Place) (bytes : List ℕ) (x : Entry × List ℕ)
+    → IsBytes bytes → entry_fields size version shape before bytes ≡ Ok x
     → Takes bytes (entry_text version x.0) x.1 × (may_follow shape before x.0.0 ≡ true) × IsSaidEntry version shape x.0
 unfolding entry_fields
 entry_takes size version shape before bytes x fits e =
@@ -141,7 +151,9 @@ entry_takes size version shape before bytes x fits e =
     (subst (λ (k : ℕ). Takes bytes (place_text p.0.0 ++ (to_be_bytes w64 k ++ body)) r.0.1) (sym count) e02) in
     subst (λ (y : Entry × List ℕ). Takes bytes (entry_text version y.0) y.1 × (may_follow shape before y.0.0 ≡ true) × IsSaidEntry version shape y.0) (ok_is made x r.2) (whole, t0.1, (is, t2.4))
 
-entry_again : (size : ℕ) (version : Version) (shape : PictureShape) (before : Option Place) (e : Entry) (rest : List ℕ) → IsShape shape → may_follow shape before e.0 ≡ true → IsSaidEntry version shape e → entry_fields size version shape before (entry_text version e ++ rest) ≡ Ok (e, rest)
+entry_again : (size : ℕ) (version : Version) (shape : PictureShape) (before : Option Place) (e : Entry) (rest : List ℕ) → IsShape shape
+    → may_follow shape before e.0 ≡ true → IsSaidEntry version shape e
+    → entry_fields size version shape before (entry_text version e ++ rest) ≡ Ok (e, rest)
 unfolding entry_fields
 entry_again size version shape before e rest is follows said =
     let fits = said.0 in
@@ -170,11 +182,14 @@ abbrev pub Follow : PictureShape → Option Place → List Entry → Type 0
 Follow shape before [] = Unit {0}
 Follow shape before (e ∷ es) = (may_follow shape before e.0 ≡ true) × Follow shape (Some e.0) es
 
-after_all : (b p : Place) (es : List Entry) → place_cmp b p ≡ Less → AllByRecursion (λ q. place_cmp p q ≡ Less) (map (λ (e : Entry). e.0) es) → AllByRecursion (λ q. place_cmp b q ≡ Less) (map (λ (e : Entry). e.0) es)
+after_all : (b p : Place) (es : List Entry) → place_cmp b p ≡ Less
+    → AllByRecursion (λ q. place_cmp p q ≡ Less) (map (λ (e : Entry). e.0) es)
+    → AllByRecursion (λ q. place_cmp b q ≡ Less) (map (λ (e : Entry). e.0) es)
 after_all b p [] lt h = tt
 after_all b p (e ∷ es) lt h = (place_total.trans b p e.0 lt h.0, after_all b p es lt h.1)
 
-sorted_after : (shape : PictureShape) (b : Place) (es : List Entry) → Follow shape (Some b) es → AllByRecursion (λ q. place_cmp b q ≡ Less) (map (λ (e : Entry). e.0) es) × IsStrictlySortedBy place_cmp (map (λ (e : Entry). e.0) es)
+sorted_after : (shape : PictureShape) (b : Place) (es : List Entry) → Follow shape (Some b) es
+    → AllByRecursion (λ q. place_cmp b q ≡ Less) (map (λ (e : Entry). e.0) es) × IsStrictlySortedBy place_cmp (map (λ (e : Entry). e.0) es)
 unfolding IsStrictlySortedBy
 sorted_after shape b [] h = (tt, tt)
 sorted_after shape b (e ∷ es) h =
@@ -182,25 +197,31 @@ sorted_after shape b (e ∷ es) h =
     let first : place_cmp b e.0 ≡ Less = less_from_lt (place_cmp b e.0) (and_parts (is_lt (place_cmp b e.0)) _ h.0).0 in
     ((first, after_all b e.0 es first others.0), others)
 
-pub sorted_from_follow : (shape : PictureShape) (es : List Entry) → Follow shape None es → IsStrictlySortedBy place_cmp (map (λ (e : Entry). e.0) es)
+pub sorted_from_follow : (shape : PictureShape) (es : List Entry) → Follow shape None es
+    → IsStrictlySortedBy place_cmp (map (λ (e : Entry). e.0) es)
 unfolding IsStrictlySortedBy
 sorted_from_follow shape [] h = tt
 sorted_from_follow shape (e ∷ es) h = sorted_after shape e.0 es h.1
 
-inside_true : (shape : PictureShape) (e : Entry) → IsEntry shape (bare e) → (nat_lt e.0.component (length shape.ids) && nat_lt e.0.line shape.height) ≡ true
+inside_true : (shape : PictureShape) (e : Entry) → IsEntry shape (bare e)
+    → (nat_lt e.0.component (length shape.ids) && nat_lt e.0.line shape.height) ≡ true
 inside_true shape e is = let p = line_of_entry shape (bare e) is in and_from _ _ (lt-ltb _ _ p.0) (lt-ltb _ _ p.1)
 
-follow_after : (shape : PictureShape) (b : Place) (es : List Entry) → AllByRecursion (λ q. place_cmp b q ≡ Less) (map (λ (e : Entry). e.0) es) → IsStrictlySortedBy place_cmp (map (λ (e : Entry). e.0) es) → AllByRecursion (IsEntry shape) (map bare es) → Follow shape (Some b) es
+follow_after : (shape : PictureShape) (b : Place) (es : List Entry)
+    → AllByRecursion (λ q. place_cmp b q ≡ Less) (map (λ (e : Entry). e.0) es) → IsStrictlySortedBy place_cmp (map (λ (e : Entry). e.0) es)
+    → AllByRecursion (IsEntry shape) (map bare es) → Follow shape (Some b) es
 unfolding IsStrictlySortedBy
 follow_after shape b [] h s is = tt
 follow_after shape b (e ∷ es) h s is = (and_from _ _ (ap is_lt h.0) (inside_true shape e is.0), follow_after shape e.0 es s.0 s.1 is.1)
 
-pub follow_from_sorted : (shape : PictureShape) (es : List Entry) → IsStrictlySortedBy place_cmp (map (λ (e : Entry). e.0) es) → AllByRecursion (IsEntry shape) (map bare es) → Follow shape None es
+pub follow_from_sorted : (shape : PictureShape) (es : List Entry) → IsStrictlySortedBy place_cmp (map (λ (e : Entry). e.0) es)
+    → AllByRecursion (IsEntry shape) (map bare es) → Follow shape None es
 unfolding IsStrictlySortedBy
 follow_from_sorted shape [] s is = tt
 follow_from_sorted shape (e ∷ es) s is = (inside_true shape e is.0, follow_after shape e.0 es s.0 s.1 is.1)
 
-pub entries_take : (size : ℕ) (version : Version) (shape : PictureShape) (before : Option Place) (n : ℕ) (bytes : List ℕ) (x : List Entry × List ℕ) → IsBytes bytes → entries_fields size version shape before n bytes ≡ Ok x
+pub entries_take : (size : ℕ) (version : Version) (shape : PictureShape) (before : Option Place) (n : ℕ) (bytes : List ℕ) (x : List Entry × List ℕ)
+    → IsBytes bytes → entries_fields size version shape before n bytes ≡ Ok x
     → Takes bytes (flat_map (entry_text version) x.0) x.1 × (length x.0 ≡ n) × Follow shape before x.0 × AllByRecursion (IsSaidEntry version shape) x.0
 unfolding entries_fields
 entries_take size version shape before zero bytes x fits e =
@@ -216,7 +237,8 @@ entries_take size version shape before (suc n) bytes x fits e =
     subst (λ (y : List Entry × List ℕ). Takes bytes (flat_map (entry_text version) y.0) y.1 × (length y.0 ≡ suc n) × Follow shape before y.0 × AllByRecursion (IsSaidEntry version shape) y.0) (ok_is made x b.2)
     (subst (λ (t : List ℕ). Takes bytes t b.0.1) (sym (flat_map-cons (entry_text version) a.0.0 b.0.0)) both, ap suc second.1, (first.1, second.2), (first.2, second.3))
 
-pub entries_read : (size : ℕ) (version : Version) (shape : PictureShape) (before : Option Place) (es : List Entry) (rest : List ℕ) → IsShape shape → Follow shape before es → AllByRecursion (IsSaidEntry version shape) es
+pub entries_read : (size : ℕ) (version : Version) (shape : PictureShape) (before : Option Place) (es : List Entry) (rest : List ℕ)
+    → IsShape shape → Follow shape before es → AllByRecursion (IsSaidEntry version shape) es
     → entries_fields size version shape before (length es) (flat_map (entry_text version) es ++ rest) ≡ Ok (es, rest)
 unfolding entries_fields
 entries_read size version shape before [] rest is follow fit = refl

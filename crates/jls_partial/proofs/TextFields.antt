@@ -38,7 +38,8 @@ each_byte [] h = tt
 each_byte (b ∷ bytes) h = (h 0, each_byte bytes (IsBytes-rest b bytes h))
 
 -- the value of a step that did not fail
-pub bind_ok : {A B : Type 0} (r : Result A TextFault) (f : A → Result B TextFault) (y : B) → (r >>= f) ≡ Ok y → (x : A) × (r ≡ Ok x) × (f x ≡ Ok y)
+pub bind_ok : {A B : Type 0} (r : Result A TextFault) (f : A → Result B TextFault) (y : B) → (r >>= f) ≡ Ok y
+    → (x : A) × (r ≡ Ok x) × (f x ≡ Ok y)
 bind_ok (Ok x) f y e = (x, refl, e)
 bind_ok (Err d) f y e = absurd cc
 
@@ -98,7 +99,8 @@ wide64 = record {
   below = λ bytes fits. omega (arith, fits 0, fits 1, fits 2, fits 3, fits 4, fits 5, fits 6, fits 7);
 }
 
-pub number_takes : (size : ℕ) (w : Width) (limit : ℕ) (wide : IsWide w limit) (bytes : List ℕ) (n : ℕ) (rest : List ℕ) → IsBytes bytes → number_field size w bytes ≡ Ok (n, rest) → Takes bytes (to_be_bytes w n) rest × (n < limit)
+pub number_takes : (size : ℕ) (w : Width) (limit : ℕ) (wide : IsWide w limit) (bytes : List ℕ) (n : ℕ) (rest : List ℕ) → IsBytes bytes
+    → number_field size w bytes ≡ Ok (n, rest) → Takes bytes (to_be_bytes w n) rest × (n < limit)
 number_takes size w limit wide bytes n rest fits e =
     let g = guard_ok (ltb (length bytes) (byte_len w)) (fault.Truncated size) (from_be_bytes w (take (byte_len w) bytes), drop (byte_len w) bytes) (n, rest) e in
     let long : byte_len w ≤ length bytes = ltb-false _ _ g.0 in
@@ -107,7 +109,8 @@ number_takes size w limit wide bytes n rest fits e =
     let front : to_be_bytes w n ≡ take (byte_len w) bytes = rw (← n-is) (wide.back (take (byte_len w) bytes) (omega (arith, length-take (byte_len w) bytes)) (IsBytes-take (byte_len w) bytes fits)) in
     (record { parts = rw (front, ← rest-is) (sym (take-append-drop (byte_len w) bytes)); rest_fits = rw (← rest-is) (IsBytes-drop (byte_len w) bytes fits) }, rw (← n-is) (wide.below (take (byte_len w) bytes) (IsBytes-take (byte_len w) bytes fits)))
 
-pub number_again : (size : ℕ) (w : Width) (limit : ℕ) (wide : IsWide w limit) (n : ℕ) (rest : List ℕ) → n < limit → number_field size w (to_be_bytes w n ++ rest) ≡ Ok (n, rest)
+pub number_again : (size : ℕ) (w : Width) (limit : ℕ) (wide : IsWide w limit) (n : ℕ) (rest : List ℕ) → n < limit
+    → number_field size w (to_be_bytes w n ++ rest) ≡ Ok (n, rest)
 number_again size w limit wide n rest lt =
     let len = wide.len n in
     let long : ltb (length (to_be_bytes w n ++ rest)) (byte_len w) ≡ false = le-ltb _ _ (omega (arith, length-append (to_be_bytes w n) rest)) in
@@ -115,7 +118,8 @@ number_again size w limit wide n rest lt =
 
 -- ---- bytes
 
-pub byte_takes : (size : ℕ) (bytes : List ℕ) (b : ℕ) (rest : List ℕ) → IsBytes bytes → byte_field size bytes ≡ Ok (b, rest) → Takes bytes (b ∷ []) rest × (b < 256)
+pub byte_takes : (size : ℕ) (bytes : List ℕ) (b : ℕ) (rest : List ℕ) → IsBytes bytes → byte_field size bytes ≡ Ok (b, rest)
+    → Takes bytes (b ∷ []) rest × (b < 256)
 unfolding byte_field
 byte_takes size [] b rest fits e = absurd cc
 byte_takes size (x ∷ bytes) b rest fits e =
@@ -125,7 +129,8 @@ pub byte_again : (size b : ℕ) (rest : List ℕ) → byte_field size (b ∷ res
 unfolding byte_field
 byte_again size b rest = refl
 
-pub bytes_take : (size n : ℕ) (bytes xs rest : List ℕ) → IsBytes bytes → bytes_field size n bytes ≡ Ok (xs, rest) → Takes bytes xs rest × (length xs ≡ n) × AllByRecursion (λ b. b < 256) xs
+pub bytes_take : (size n : ℕ) (bytes xs rest : List ℕ) → IsBytes bytes → bytes_field size n bytes ≡ Ok (xs, rest)
+    → Takes bytes xs rest × (length xs ≡ n) × AllByRecursion (λ b. b < 256) xs
 unfolding bytes_field
 bytes_take size n bytes xs rest fits e =
     let g = guard_ok (ltb (length bytes) n) (fault.Truncated size) (take n bytes, drop n bytes) (xs, rest) e in
@@ -145,11 +150,13 @@ abbrev pub magic_then : ℕ → ℕ → List ℕ → List ℕ → ℕ × List �
 magic_then size wanted others bytes first = cond (eqb first.0 wanted) (magic_field size others first.1) (Err (fault.Magic (offset size bytes)))
 
 -- the test of a byte of the magic did not fail
-wanted_ok : (b : Bool) (read : Result (List ℕ) TextFault) (d : TextFault) (rest : List ℕ) → cond b read (Err d) ≡ Ok rest → (b ≡ true) × (read ≡ Ok rest)
+wanted_ok : (b : Bool) (read : Result (List ℕ) TextFault) (d : TextFault) (rest : List ℕ) → cond b read (Err d) ≡ Ok rest
+    → (b ≡ true) × (read ≡ Ok rest)
 wanted_ok true read d rest e = (refl, e)
 wanted_ok false read d rest e = absurd cc
 
-pub magic_takes : (size : ℕ) (wanted bytes rest : List ℕ) → IsBytes bytes → magic_field size wanted bytes ≡ Ok rest → Takes bytes wanted rest
+pub magic_takes : (size : ℕ) (wanted bytes rest : List ℕ) → IsBytes bytes → magic_field size wanted bytes ≡ Ok rest
+    → Takes bytes wanted rest
 unfolding magic_field
 magic_takes size [] bytes rest fits e = subst (λ (y : List ℕ). Takes bytes [] y) (ok_is bytes rest e) (record { parts = refl; rest_fits = fits })
 magic_takes size (wanted ∷ others) bytes rest fits e =
@@ -166,7 +173,8 @@ magic_again size (first ∷ others) rest = rw (byte_again size first (others ++ 
 
 -- ---- the version
 
-version_takes_one : (n : ℕ) (a b : Bool) (d : TextFault) (rest : List ℕ) (x : Version × List ℕ) → eqb n 1 ≡ a → eqb n 2 ≡ b → cond a (Ok (One, rest)) (cond b (Ok (Two, rest)) (Err d)) ≡ Ok x → (version_byte x.0 ≡ n) × (rest ≡ x.1)
+version_takes_one : (n : ℕ) (a b : Bool) (d : TextFault) (rest : List ℕ) (x : Version × List ℕ) → eqb n 1 ≡ a → eqb n 2 ≡ b
+    → cond a (Ok (One, rest)) (cond b (Ok (Two, rest)) (Err d)) ≡ Ok x → (version_byte x.0 ≡ n) × (rest ≡ x.1)
 version_takes_one n true b d rest x e f h =
     let same = ok_is (One, rest) x h in
     (sym (ap (λ (y : Version × List ℕ). version_byte y.0) same) ∙ sym (eqb-true n 1 e), ap (λ (y : Version × List ℕ). y.1) same)
@@ -175,7 +183,8 @@ version_takes_one n false true d rest x e f h =
     (sym (ap (λ (y : Version × List ℕ). version_byte y.0) same) ∙ sym (eqb-true n 2 f), ap (λ (y : Version × List ℕ). y.1) same)
 version_takes_one n false false d rest x e f h = absurd cc
 
-pub version_takes : (size : ℕ) (bytes : List ℕ) (x : Version × List ℕ) → IsBytes bytes → version_field size bytes ≡ Ok x → Takes bytes (version_byte x.0 ∷ []) x.1
+pub version_takes : (size : ℕ) (bytes : List ℕ) (x : Version × List ℕ) → IsBytes bytes → version_field size bytes ≡ Ok x
+    → Takes bytes (version_byte x.0 ∷ []) x.1
 unfolding version_field
 version_takes size bytes x fits e =
     let b = bind_ok (byte_field size bytes) (λ byte. cond (eqb byte.0 1) (Ok (One, byte.1)) (cond (eqb byte.0 2) (Ok (Two, byte.1)) (Err (fault.Magic (offset size bytes))))) x e in
@@ -256,7 +265,8 @@ behind_width size p x = number_field size w16 x.1 >>= behind_height size p x.0
 abbrev behind_precision : ℕ → ℕ × List ℕ → Result (PictureShape × List ℕ) TextFault
 behind_precision size p = number_field size w16 p.1 >>= behind_width size p.0
 
-pub shape_takes : (size : ℕ) (bytes : List ℕ) (shape : PictureShape) (rest : List ℕ) → IsBytes bytes → shape_fields size bytes ≡ Ok (shape, rest) → Takes bytes (shape_text shape) rest × IsShape shape
+pub shape_takes : (size : ℕ) (bytes : List ℕ) (shape : PictureShape) (rest : List ℕ) → IsBytes bytes
+    → shape_fields size bytes ≡ Ok (shape, rest) → Takes bytes (shape_text shape) rest × IsShape shape
 unfolding shape_fields
 shape_takes size bytes shape rest fits e =
     let p = bind_ok (byte_field size bytes) (behind_precision size) (shape, rest) e in
@@ -295,7 +305,8 @@ shape_takes size bytes shape rest fits e =
     subst (λ (y : PictureShape × List ℕ). Takes bytes (shape_text y.0) y.1 × IsShape y.0) (ok_is (s.0, i.0.1) (shape, rest) s.2)
     (subst (λ (z : PictureShape). Takes bytes (shape_text z) i.0.1 × IsShape z) made.1 (whole, is))
 
-pub shape_again : (size : ℕ) (shape : PictureShape) (rest : List ℕ) → IsShape shape → shape_fields size (shape_text shape ++ rest) ≡ Ok (shape, rest)
+pub shape_again : (size : ℕ) (shape : PictureShape) (rest : List ℕ) → IsShape shape
+    → shape_fields size (shape_text shape ++ rest) ≡ Ok (shape, rest)
 unfolding shape_fields
 shape_again size shape rest is =
     let x = to_be_bytes w16 shape.width in

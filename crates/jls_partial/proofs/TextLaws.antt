@@ -53,15 +53,18 @@ bare_places : (es : List Entry) → map (λ (e : BareEntry). e.0) (map bare es) 
 bare_places [] = refl
 bare_places (e ∷ es) = ap (λ t. e.0 ∷ t) (bare_places es)
 
-each_bare : (version : Version) (shape : PictureShape) (es : List Entry) → AllByRecursion (IsSaidEntry version shape) es → AllByRecursion (IsEntry shape) (map bare es) × AllByRecursion (λ e. AllByRecursion (IsSaid version) e.1) es
+each_bare : (version : Version) (shape : PictureShape) (es : List Entry) → AllByRecursion (IsSaidEntry version shape) es
+    → AllByRecursion (IsEntry shape) (map bare es) × AllByRecursion (λ e. AllByRecursion (IsSaid version) e.1) es
 each_bare version shape [] h = (tt, tt)
 each_bare version shape (e ∷ es) h = let rest = each_bare version shape es h.1 in ((h.0.0, rest.0), (h.0.1, rest.1))
 
-each_said : (version : Version) (shape : PictureShape) (es : List Entry) → AllByRecursion (IsEntry shape) (map bare es) → AllByRecursion (λ e. AllByRecursion (IsSaid version) e.1) es → AllByRecursion (IsSaidEntry version shape) es
+each_said : (version : Version) (shape : PictureShape) (es : List Entry) → AllByRecursion (IsEntry shape) (map bare es)
+    → AllByRecursion (λ e. AllByRecursion (IsSaid version) e.1) es → AllByRecursion (IsSaidEntry version shape) es
 each_said version shape [] h k = tt
 each_said version shape (e ∷ es) h k = ((h.0, k.0), each_said version shape es h.1 k.1)
 
-said_from_follow : (version : Version) (shape : PictureShape) (es : List Entry) → Follow shape None es → AllByRecursion (IsSaidEntry version shape) es → AreSaid version shape es
+said_from_follow : (version : Version) (shape : PictureShape) (es : List Entry) → Follow shape None es
+    → AllByRecursion (IsSaidEntry version shape) es → AreSaid version shape es
 said_from_follow version shape es follow each =
     let parts = each_bare version shape es each in
     record { entries = record { sorted = subst (IsStrictlySortedBy place_cmp) (sym (bare_places es)) (sorted_from_follow shape es follow); each = parts.0 }; said = parts.1 }
@@ -70,7 +73,8 @@ said_from_follow version shape es follow each =
 abbrev behind_version : ℕ → Version × List ℕ → Result Parts TextFault
 behind_version size version = shape_fields size version.1 >>= λ shape. number_field size w32 shape.1 >>= λ count. entries_fields size version.0 shape.0 None count.0 count.1 >>= λ es. Ok (shape.0, es.0, es.1)
 
-text_takes : (size : ℕ) (bytes : List ℕ) (x : Parts) → IsBytes bytes → text_fields size bytes ≡ Ok x → (version : Version) × (bytes ≡ text_of version x.0 x.1 ++ x.2) × IsShape x.0 × AreSaid version x.0 x.1
+text_takes : (size : ℕ) (bytes : List ℕ) (x : Parts) → IsBytes bytes → text_fields size bytes ≡ Ok x
+    → (version : Version) × (bytes ≡ text_of version x.0 x.1 ++ x.2) × IsShape x.0 × AreSaid version x.0 x.1
 unfolding text_fields
 text_takes size bytes x fits e =
     let m = bind_ok (magic_field size magic bytes) (λ version_bytes. version_field size version_bytes >>= behind_version size) x e in
@@ -95,7 +99,8 @@ text_takes size bytes x fits e =
     let said = subst (λ (y : Parts). (bytes ≡ text_of version y.0 y.1 ++ y.2) × IsShape y.0 × AreSaid version y.0 y.1) (ok_is made x r.2) (whole, t1.1, said_from_follow version shape es t3.2 t3.3) in
     (version, said.0, said.1, said.2)
 
-text_again : (size : ℕ) (version : Version) (shape : PictureShape) (es : List Entry) → IsShape shape → AreSaid version shape es → text_fields size (text_of version shape es) ≡ Ok (shape, es, [])
+text_again : (size : ℕ) (version : Version) (shape : PictureShape) (es : List Entry) → IsShape shape → AreSaid version shape es
+    → text_fields size (text_of version shape es) ≡ Ok (shape, es, [])
 unfolding text_fields
 text_again size version shape es is said =
     let count = to_be_bytes w32 (length es) in
@@ -128,7 +133,8 @@ said_again : (version : Version) (shape : PictureShape) (es : List Entry) → Ar
 said_again version shape es h = entries_again shape es h.entries (rise_of version es h.said)
 
 -- the partial picture of what a text says has a text
-partial_is : (version : Version) (shape : PictureShape) (es : List Entry) → IsShape shape → AreSaid version shape es → IsPartial (partial_of shape es)
+partial_is : (version : Version) (shape : PictureShape) (es : List Entry) → IsShape shape → AreSaid version shape es
+    → IsPartial (partial_of shape es)
 partial_is version shape es is h =
     let bs = map bare es in
     let p = partial_of shape es in
@@ -140,7 +146,8 @@ partial_is version shape es is h =
       sources_small = λ r s held. small_of r s (kept_readings es) (all_small es h.said) (sym (holds_mark shape es r s) ∙ held);
     }
   where
-    any_of : (ks : List (Reading × List ℕ)) (r : Reading) (s : ℕ) → has_mark reading_cmp r s ks ≡ true → has_item reading_cmp r (λ _. true) ks ≡ true
+    any_of : (ks : List (Reading × List ℕ)) (r : Reading) (s : ℕ) → has_mark reading_cmp r s ks ≡ true
+        → has_item reading_cmp r (λ _. true) ks ≡ true
     any_of [] r s e = absurd cc
     any_of (k ∷ ks) r s e = first (eq_by_cmp reading_cmp r k.0) (list_any (eq_by_cmp nat_cmp s) k.1) (has_mark reading_cmp r s ks) (has_item reading_cmp r (λ _. true) ks) (any_of ks r s) e
       where
@@ -164,7 +171,8 @@ partial_is version shape es is h =
     all_small [] h = tt
     all_small (e ∷ es) h = subst (AllByRecursion IsSmall) (sym (flat_map-cons (λ (e : Entry). map (kept_at_place e.0) e.1) e es)) (all_then (map (kept_at_place e.0) e.1) (kept_readings es) (all_there e.0 e.1 h.0) (all_small es h.1))
 
-    small_of : (r : Reading) (s : ℕ) (ks : List (Reading × List ℕ)) → AllByRecursion IsSmall ks → has_mark reading_cmp r s ks ≡ true → s < 2 ^ 32
+    small_of : (r : Reading) (s : ℕ) (ks : List (Reading × List ℕ)) → AllByRecursion IsSmall ks → has_mark reading_cmp r s ks ≡ true
+        → s < 2 ^ 32
     small_of r s [] h e = absurd cc
     small_of r s (k ∷ ks) h e =
         either (s < 2 ^ 32) (eq_by_cmp reading_cmp r k.0 && list_any (eq_by_cmp nat_cmp s) k.1) (has_mark reading_cmp r s ks)
@@ -208,7 +216,8 @@ says_all One shape es h = same_set marks_total marks_exact (partial_of shape es)
     IsUnsaid : Reading × List ℕ → Type 0
     IsUnsaid k = k.1 ≡ []
 
-    all_then : (xs ys : List (Reading × List ℕ)) → AllByRecursion IsUnsaid xs → AllByRecursion IsUnsaid ys → AllByRecursion IsUnsaid (xs ++ ys)
+    all_then : (xs ys : List (Reading × List ℕ)) → AllByRecursion IsUnsaid xs → AllByRecursion IsUnsaid ys
+        → AllByRecursion IsUnsaid (xs ++ ys)
     all_then [] ys a b = b
     all_then (x ∷ xs) ys a b = (a.0, all_then xs ys a.1 b)
 
@@ -256,6 +265,7 @@ read_again bytes p is =
 pub one_text : (bytes : List ℕ) (p q : PartialPicture) → IsTextOf bytes p → IsTextOf bytes q → p ≡ q
 one_text bytes p q p_is q_is = ok_is p q (sym (read_again bytes p p_is) ∙ read_again bytes q q_is)
 
-pub is_found : (bytes : List ℕ) (r : Result PartialPicture TextFault) → IsBytes bytes → GivesText (λ p. p) r (read_text bytes) → IfOk r (λ p. IsTextOf bytes p)
+pub is_found : (bytes : List ℕ) (r : Result PartialPicture TextFault) → IsBytes bytes → GivesText (λ p. p) r (read_text bytes)
+    → IfOk r (λ p. IsTextOf bytes p)
 is_found bytes (Ok p) fits given = read_takes bytes p fits given
 is_found bytes (Err e) fits given = tt

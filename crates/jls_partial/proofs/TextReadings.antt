@@ -26,7 +26,8 @@ use Rattle.jls_partial.proofs.TextFields.{IsBytes, bind_ok, guard_ok, passed_ok,
 
 -- ---- samples
 
-pub sample_takes : (size limit : ℕ) (bytes : List ℕ) (x : ℕ × List ℕ) → IsBytes bytes → sample_field size limit bytes ≡ Ok x → Takes bytes (to_be_bytes w16 x.0) x.1 × (leb limit x.0 ≡ false)
+pub sample_takes : (size limit : ℕ) (bytes : List ℕ) (x : ℕ × List ℕ) → IsBytes bytes → sample_field size limit bytes ≡ Ok x
+    → Takes bytes (to_be_bytes w16 x.0) x.1 × (leb limit x.0 ≡ false)
 unfolding sample_field
 sample_takes size limit bytes x fits e =
     let a = bind_ok (number_field size w16 bytes) (λ s. cond (leb limit s.0) (Err (fault.Sample (offset size bytes))) (Ok s)) x e in
@@ -34,7 +35,8 @@ sample_takes size limit bytes x fits e =
     let t = number_takes size w16 (2 ^ 16) wide16 bytes a.0.0 a.0.1 fits a.1 in
     subst (λ (y : ℕ × List ℕ). Takes bytes (to_be_bytes w16 y.0) y.1 × (leb limit y.0 ≡ false)) g.1 (t.0, g.0)
 
-pub sample_again : (size limit x : ℕ) (rest : List ℕ) → limit ≤ 2 ^ 16 → leb limit x ≡ false → sample_field size limit (to_be_bytes w16 x ++ rest) ≡ Ok (x, rest)
+pub sample_again : (size limit x : ℕ) (rest : List ℕ) → limit ≤ 2 ^ 16 → leb limit x ≡ false
+    → sample_field size limit (to_be_bytes w16 x ++ rest) ≡ Ok (x, rest)
 unfolding sample_field
 sample_again size limit x rest le h =
     let lt : x < limit = leb-false limit x h in
@@ -55,7 +57,8 @@ samples_take size limit (suc n) bytes x fits e =
     subst (λ (y : List ℕ × List ℕ). Takes bytes (samples_text y.0) y.1 × (length y.0 ≡ suc n) × (list_any (λ s. nat_le limit s) y.0 ≡ false)) (ok_is made x b.2)
     (subst (λ (t : List ℕ). Takes bytes t b.0.1) (sym (flat_map-cons (to_be_bytes w16) a.0.0 b.0.0)) both, ap suc second.1, or_from (leb limit a.0.0) _ first.1 second.2)
 
-pub samples_again : (size limit : ℕ) (xs rest : List ℕ) → limit ≤ 2 ^ 16 → list_any (λ s. nat_le limit s) xs ≡ false → samples_fields size limit (length xs) (samples_text xs ++ rest) ≡ Ok (xs, rest)
+pub samples_again : (size limit : ℕ) (xs rest : List ℕ) → limit ≤ 2 ^ 16 → list_any (λ s. nat_le limit s) xs ≡ false
+    → samples_fields size limit (length xs) (samples_text xs ++ rest) ≡ Ok (xs, rest)
 unfolding samples_fields
 samples_again size limit [] rest le h = refl
 samples_again size limit (x ∷ xs) rest le h =
@@ -66,10 +69,12 @@ samples_again size limit (x ∷ xs) rest le h =
 
 -- ---- a reading
 
-fits_from : (precision width : ℕ) (xs : List ℕ) → length xs ≡ width → list_any (λ x. nat_le (2 ^ precision) x) xs ≡ false → samples_fault precision width xs ≡ None
+fits_from : (precision width : ℕ) (xs : List ℕ) → length xs ≡ width → list_any (λ x. nat_le (2 ^ precision) x) xs ≡ false
+    → samples_fault precision width xs ≡ None
 fits_from precision width xs len small = rw (eq-eqb (length xs) width len, small) refl
 
-fits_parts : (precision width : ℕ) (xs : List ℕ) → samples_fault precision width xs ≡ None → (length xs ≡ width) × (list_any (λ x. nat_le (2 ^ precision) x) xs ≡ false)
+fits_parts : (precision width : ℕ) (xs : List ℕ) → samples_fault precision width xs ≡ None
+    → (length xs ≡ width) × (list_any (λ x. nat_le (2 ^ precision) x) xs ≡ false)
 fits_parts precision width xs e =
     let p = wide (eqb (length xs) width) _ _ e in
     let q = small (list_any (λ x. nat_le (2 ^ precision) x) xs) _ p.1 in
@@ -83,7 +88,8 @@ fits_parts precision width xs e =
     small true f e = absurd cc
     small false f e = refl
 
-pub reading_takes : (size : ℕ) (shape : PictureShape) (before : Option (List ℕ)) (bytes : List ℕ) (x : List ℕ × List ℕ) → IsBytes bytes → reading_fields size shape before bytes ≡ Ok x
+pub reading_takes : (size : ℕ) (shape : PictureShape) (before : Option (List ℕ)) (bytes : List ℕ) (x : List ℕ × List ℕ) → IsBytes bytes
+    → reading_fields size shape before bytes ≡ Ok x
     → Takes bytes (samples_text x.0) x.1 × (is_above before x.0 ≡ true) × (samples_fault shape.precision shape.width x.0 ≡ None)
 unfolding reading_fields
 reading_takes size shape before bytes x fits e =
@@ -93,7 +99,8 @@ reading_takes size shape before bytes x fits e =
     subst (λ (y : List ℕ × List ℕ). Takes bytes (samples_text y.0) y.1 × (is_above before y.0 ≡ true) × (samples_fault shape.precision shape.width y.0 ≡ None)) g.1
     (t.0, g.0, fits_from shape.precision shape.width a.0.0 t.1 t.2)
 
-samples_fit : (size limit n : ℕ) (bytes : List ℕ) (x : List ℕ × List ℕ) → samples_fields size limit n bytes ≡ Ok x → (length x.0 ≡ n) × (list_any (λ s. nat_le limit s) x.0 ≡ false)
+samples_fit : (size limit n : ℕ) (bytes : List ℕ) (x : List ℕ × List ℕ) → samples_fields size limit n bytes ≡ Ok x
+    → (length x.0 ≡ n) × (list_any (λ s. nat_le limit s) x.0 ≡ false)
 unfolding samples_fields sample_field
 samples_fit size limit zero bytes x e = subst (λ (y : List ℕ × List ℕ). (length y.0 ≡ 0) × (list_any (λ s. nat_le limit s) y.0 ≡ false)) (ok_is ([], bytes) x e) (refl, refl)
 samples_fit size limit (suc n) bytes x e =
@@ -107,7 +114,8 @@ samples_fit size limit (suc n) bytes x e =
     subst (λ (y : List ℕ × List ℕ). (length y.0 ≡ suc n) × (list_any (λ s. nat_le limit s) y.0 ≡ false)) (ok_is made x b.2) (ap suc second.0, or_from (leb limit a.0.0) _ first second.1)
 
 -- a reading that is read fits the shape
-pub reading_fits : (size : ℕ) (shape : PictureShape) (before : Option (List ℕ)) (bytes : List ℕ) (x : List ℕ × List ℕ) → reading_fields size shape before bytes ≡ Ok x → samples_fault shape.precision shape.width x.0 ≡ None
+pub reading_fits : (size : ℕ) (shape : PictureShape) (before : Option (List ℕ)) (bytes : List ℕ) (x : List ℕ × List ℕ)
+    → reading_fields size shape before bytes ≡ Ok x → samples_fault shape.precision shape.width x.0 ≡ None
 unfolding reading_fields
 reading_fits size shape before bytes x e =
     let a = bind_ok (samples_fields size (2 ^ shape.precision) shape.width bytes) (λ s. cond (is_above before s.0) (Ok s) (Err (fault.Order (offset size bytes)))) x e in
@@ -115,7 +123,8 @@ reading_fits size shape before bytes x e =
     let t = samples_fit size (2 ^ shape.precision) shape.width bytes a.0 a.1 in
     subst (λ (y : List ℕ × List ℕ). samples_fault shape.precision shape.width y.0 ≡ None) g.1 (fits_from shape.precision shape.width a.0.0 t.0 t.1)
 
-pub reading_again : (size : ℕ) (shape : PictureShape) (before : Option (List ℕ)) (xs rest : List ℕ) → 2 ^ shape.precision ≤ 2 ^ 16 → is_above before xs ≡ true → samples_fault shape.precision shape.width xs ≡ None
+pub reading_again : (size : ℕ) (shape : PictureShape) (before : Option (List ℕ)) (xs rest : List ℕ) → 2 ^ shape.precision ≤ 2 ^ 16
+    → is_above before xs ≡ true → samples_fault shape.precision shape.width xs ≡ None
     → reading_fields size shape before (samples_text xs ++ rest) ≡ Ok (xs, rest)
 unfolding reading_fields
 reading_again size shape before xs rest le above fit =
@@ -176,11 +185,13 @@ less_from_lower b n e = sym (nat_cmp_is b n Less (ltb-true b n e))
 lower_from_less : (b n : ℕ) → nat_cmp b n ≡ Less → nat_lt b n ≡ true
 lower_from_less b n e = lt-ltb b n (ranked b n Less (sym e))
 
-sources_further : (b n : ℕ) (ns : List ℕ) → nat_cmp b n ≡ Less → AllByRecursion (λ m. nat_cmp n m ≡ Less) ns → AllByRecursion (λ m. nat_cmp b m ≡ Less) ns
+sources_further : (b n : ℕ) (ns : List ℕ) → nat_cmp b n ≡ Less → AllByRecursion (λ m. nat_cmp n m ≡ Less) ns
+    → AllByRecursion (λ m. nat_cmp b m ≡ Less) ns
 sources_further b n [] e h = tt
 sources_further b n (m ∷ ns) e h = (nat_cmp_total.trans b n m e h.0, sources_further b n ns e h.1)
 
-sources_above : (b : ℕ) (ns : List ℕ) → SourcesRise (Some b) ns → AllByRecursion (λ n. nat_cmp b n ≡ Less) ns × IsStrictlySortedBy nat_cmp ns
+sources_above : (b : ℕ) (ns : List ℕ) → SourcesRise (Some b) ns
+    → AllByRecursion (λ n. nat_cmp b n ≡ Less) ns × IsStrictlySortedBy nat_cmp ns
 unfolding IsStrictlySortedBy
 sources_above b [] h = (tt, tt)
 sources_above b (n ∷ ns) h =
@@ -193,7 +204,8 @@ unfolding IsStrictlySortedBy
 sources_sorted [] h = tt
 sources_sorted (n ∷ ns) h = sources_above n ns h.1
 
-sources_rise_above : (b : ℕ) (ns : List ℕ) → AllByRecursion (λ n. nat_cmp b n ≡ Less) ns → IsStrictlySortedBy nat_cmp ns → SourcesRise (Some b) ns
+sources_rise_above : (b : ℕ) (ns : List ℕ) → AllByRecursion (λ n. nat_cmp b n ≡ Less) ns → IsStrictlySortedBy nat_cmp ns
+    → SourcesRise (Some b) ns
 unfolding IsStrictlySortedBy
 sources_rise_above b [] h s = tt
 sources_rise_above b (n ∷ ns) h s = (lower_from_less b n h.0, sources_rise_above n ns s.0 s.1)
@@ -208,7 +220,8 @@ unfolding IsStrictlySortedBy
 sources_none = record { sorted = tt; small = tt }
 
 -- numbers that rise below a limit are few
-few_above : (low limit : ℕ) (ns : List ℕ) → low ≤ limit → IsStrictlySortedBy nat_cmp ns → AllByRecursion (λ n. low ≤ n) ns → AllByRecursion (λ n. n < limit) ns → length ns + low ≤ limit
+few_above : (low limit : ℕ) (ns : List ℕ) → low ≤ limit → IsStrictlySortedBy nat_cmp ns → AllByRecursion (λ n. low ≤ n) ns
+    → AllByRecursion (λ n. n < limit) ns → length ns + low ≤ limit
 unfolding IsStrictlySortedBy
 few_above low limit [] le s h k = omega arith
 few_above low limit (n ∷ ns) le s h k =
@@ -230,7 +243,8 @@ few_sources ns is =
     let few : length ns + 0 ≤ 2 ^ 32 = few_above 0 (2 ^ 32) ns (omega arith) is.sorted (all_from_zero ns) is.small in
     omega (arith, few)
 
-source_takes : (size : ℕ) (before : Option ℕ) (bytes : List ℕ) (x : ℕ × List ℕ) → IsBytes bytes → source_field size before bytes ≡ Ok x → Takes bytes (to_be_bytes w32 x.0) x.1 × (is_source_above before x.0 ≡ true) × (x.0 < 2 ^ 32)
+source_takes : (size : ℕ) (before : Option ℕ) (bytes : List ℕ) (x : ℕ × List ℕ) → IsBytes bytes → source_field size before bytes ≡ Ok x
+    → Takes bytes (to_be_bytes w32 x.0) x.1 × (is_source_above before x.0 ≡ true) × (x.0 < 2 ^ 32)
 unfolding source_field
 source_takes size before bytes x fits e =
     let a = bind_ok (number_field size w32 bytes) (λ s. cond (is_source_above before s.0) (Ok s) (Err (fault.Order (offset size bytes)))) x e in
@@ -238,11 +252,13 @@ source_takes size before bytes x fits e =
     let t = number_takes size w32 (2 ^ 32) wide32 bytes a.0.0 a.0.1 fits a.1 in
     subst (λ (y : ℕ × List ℕ). Takes bytes (to_be_bytes w32 y.0) y.1 × (is_source_above before y.0 ≡ true) × (y.0 < 2 ^ 32)) g.1 (t.0, g.0, t.1)
 
-source_again : (size : ℕ) (before : Option ℕ) (n : ℕ) (rest : List ℕ) → is_source_above before n ≡ true → n < 2 ^ 32 → source_field size before (to_be_bytes w32 n ++ rest) ≡ Ok (n, rest)
+source_again : (size : ℕ) (before : Option ℕ) (n : ℕ) (rest : List ℕ) → is_source_above before n ≡ true → n < 2 ^ 32
+    → source_field size before (to_be_bytes w32 n ++ rest) ≡ Ok (n, rest)
 unfolding source_field
 source_again size before n rest above lt = rw (number_again size w32 (2 ^ 32) wide32 n rest lt, above) refl
 
-sources_take : (size : ℕ) (before : Option ℕ) (n : ℕ) (bytes : List ℕ) (x : List ℕ × List ℕ) → IsBytes bytes → sources_fields size before n bytes ≡ Ok x
+sources_take : (size : ℕ) (before : Option ℕ) (n : ℕ) (bytes : List ℕ) (x : List ℕ × List ℕ) → IsBytes bytes
+    → sources_fields size before n bytes ≡ Ok x
     → Takes bytes (flat_map (to_be_bytes w32) x.0) x.1 × (length x.0 ≡ n) × SourcesRise before x.0 × AllByRecursion (λ s. s < 2 ^ 32) x.0
 unfolding sources_fields
 sources_take size before zero bytes x fits e =
@@ -258,7 +274,8 @@ sources_take size before (suc n) bytes x fits e =
     subst (λ (y : List ℕ × List ℕ). Takes bytes (flat_map (to_be_bytes w32) y.0) y.1 × (length y.0 ≡ suc n) × SourcesRise before y.0 × AllByRecursion (λ s. s < 2 ^ 32) y.0) (ok_is made x b.2)
     (subst (λ (t : List ℕ). Takes bytes t b.0.1) (sym (flat_map-cons (to_be_bytes w32) a.0.0 b.0.0)) both, ap suc second.1, (first.1, second.2), (first.2, second.3))
 
-sources_again : (size : ℕ) (before : Option ℕ) (ns rest : List ℕ) → SourcesRise before ns → AllByRecursion (λ s. s < 2 ^ 32) ns → sources_fields size before (length ns) (flat_map (to_be_bytes w32) ns ++ rest) ≡ Ok (ns, rest)
+sources_again : (size : ℕ) (before : Option ℕ) (ns rest : List ℕ) → SourcesRise before ns → AllByRecursion (λ s. s < 2 ^ 32) ns
+    → sources_fields size before (length ns) (flat_map (to_be_bytes w32) ns ++ rest) ≡ Ok (ns, rest)
 unfolding sources_fields
 sources_again size before [] rest rise small = refl
 sources_again size before (n ∷ ns) rest rise small =
@@ -271,7 +288,8 @@ abbrev pub SaysSources : Version → List ℕ → Type 0
 SaysSources One sources = sources ≡ []
 SaysSources Two sources = Unit {0}
 
-own_take : (size : ℕ) (version : Version) (bytes : List ℕ) (x : List ℕ × List ℕ) → IsBytes bytes → own_sources_fields size version bytes ≡ Ok x → Takes bytes (sources_text version x.0) x.1 × IsSourceList x.0 × SaysSources version x.0
+own_take : (size : ℕ) (version : Version) (bytes : List ℕ) (x : List ℕ × List ℕ) → IsBytes bytes
+    → own_sources_fields size version bytes ≡ Ok x → Takes bytes (sources_text version x.0) x.1 × IsSourceList x.0 × SaysSources version x.0
 unfolding own_sources_fields
 own_take size One bytes x fits e =
     subst (λ (y : List ℕ × List ℕ). Takes bytes [] y.1 × IsSourceList y.0 × (y.0 ≡ [])) (ok_is ([], bytes) x e) (record { parts = refl; rest_fits = fits }, sources_none, refl)
@@ -282,7 +300,8 @@ own_take size Two bytes x fits e =
     let both = Takes-then bytes (to_be_bytes w64 c.0.0) c.0.1 (flat_map (to_be_bytes w32) x.0) x.1 t.0 s.0 in
     (subst (λ (n : ℕ). Takes bytes (to_be_bytes w64 n ++ flat_map (to_be_bytes w32) x.0) x.1) (sym s.1) both, record { sorted = sources_sorted x.0 s.2; small = s.3 }, tt)
 
-own_again : (size : ℕ) (version : Version) (ns rest : List ℕ) → IsSourceList ns → SaysSources version ns → own_sources_fields size version (sources_text version ns ++ rest) ≡ Ok (ns, rest)
+own_again : (size : ℕ) (version : Version) (ns rest : List ℕ) → IsSourceList ns → SaysSources version ns
+    → own_sources_fields size version (sources_text version ns ++ rest) ≡ Ok (ns, rest)
 unfolding own_sources_fields
 own_again size One ns rest is says = ap (λ (t : List ℕ). Ok (t, rest)) (sym says)
 own_again size Two ns rest is says =
@@ -296,7 +315,8 @@ own_again size Two ns rest is says =
 abbrev pub IsSaid : Version → Kept → Type 0
 IsSaid version k = IsSourceList k.1 × SaysSources version k.1
 
-kept_takes : (size : ℕ) (version : Version) (shape : PictureShape) (before : Option (List ℕ)) (bytes : List ℕ) (x : Kept × List ℕ) → IsBytes bytes → kept_fields size version shape before bytes ≡ Ok x
+kept_takes : (size : ℕ) (version : Version) (shape : PictureShape) (before : Option (List ℕ)) (bytes : List ℕ) (x : Kept × List ℕ)
+    → IsBytes bytes → kept_fields size version shape before bytes ≡ Ok x
     → Takes bytes (reading_text version x.0) x.1 × (is_above before x.0.0 ≡ true) × (samples_fault shape.precision shape.width x.0.0 ≡ None) × IsSaid version x.0
 unfolding kept_fields
 kept_takes size version shape before bytes x fits e =
@@ -309,7 +329,8 @@ kept_takes size version shape before bytes x fits e =
     subst (λ (y : Kept × List ℕ). Takes bytes (reading_text version y.0) y.1 × (is_above before y.0.0 ≡ true) × (samples_fault shape.precision shape.width y.0.0 ≡ None) × IsSaid version y.0) (ok_is made x b.2)
     (both, first.1, first.2, (second.1, second.2))
 
-kept_again : (size : ℕ) (version : Version) (shape : PictureShape) (before : Option (List ℕ)) (k : Kept) (rest : List ℕ) → 2 ^ shape.precision ≤ 2 ^ 16 → is_above before k.0 ≡ true → samples_fault shape.precision shape.width k.0 ≡ None → IsSaid version k
+kept_again : (size : ℕ) (version : Version) (shape : PictureShape) (before : Option (List ℕ)) (k : Kept) (rest : List ℕ)
+    → 2 ^ shape.precision ≤ 2 ^ 16 → is_above before k.0 ≡ true → samples_fault shape.precision shape.width k.0 ≡ None → IsSaid version k
     → kept_fields size version shape before (reading_text version k ++ rest) ≡ Ok (k, rest)
 unfolding kept_fields
 kept_again size version shape before k rest le above fit said =
@@ -321,7 +342,8 @@ kept_again size version shape before k rest le above fit said =
 abbrev Samples : List Kept → List (List ℕ)
 Samples ks = map (λ k. k.0) ks
 
-pub readings_take : (size : ℕ) (version : Version) (shape : PictureShape) (before : Option (List ℕ)) (n : ℕ) (bytes : List ℕ) (x : List Kept × List ℕ) → IsBytes bytes → readings_fields size version shape before n bytes ≡ Ok x
+pub readings_take : (size : ℕ) (version : Version) (shape : PictureShape) (before : Option (List ℕ)) (n : ℕ) (bytes : List ℕ) (x : List Kept × List ℕ)
+    → IsBytes bytes → readings_fields size version shape before n bytes ≡ Ok x
     → Takes bytes (flat_map (reading_text version) x.0) x.1 × (length x.0 ≡ n) × Rise before (Samples x.0) × AllByRecursion (λ s. samples_fault shape.precision shape.width s ≡ None) (Samples x.0) × AllByRecursion (IsSaid version) x.0
 unfolding readings_fields
 readings_take size version shape before zero bytes x fits e =
@@ -337,7 +359,9 @@ readings_take size version shape before (suc n) bytes x fits e =
     subst (λ (y : List Kept × List ℕ). Takes bytes (flat_map (reading_text version) y.0) y.1 × (length y.0 ≡ suc n) × Rise before (Samples y.0) × AllByRecursion (λ s. samples_fault shape.precision shape.width s ≡ None) (Samples y.0) × AllByRecursion (IsSaid version) y.0) (ok_is made x b.2)
     (subst (λ (t : List ℕ). Takes bytes t b.0.1) (sym (flat_map-cons (reading_text version) a.0.0 b.0.0)) both, ap suc second.1, (first.1, second.2), (first.2, second.3), (first.3, second.4))
 
-pub readings_again : (size : ℕ) (version : Version) (shape : PictureShape) (before : Option (List ℕ)) (ks : List Kept) (rest : List ℕ) → 2 ^ shape.precision ≤ 2 ^ 16 → Rise before (Samples ks) → AllByRecursion (λ s. samples_fault shape.precision shape.width s ≡ None) (Samples ks) → AllByRecursion (IsSaid version) ks
+pub readings_again : (size : ℕ) (version : Version) (shape : PictureShape) (before : Option (List ℕ)) (ks : List Kept) (rest : List ℕ)
+    → 2 ^ shape.precision ≤ 2 ^ 16 → Rise before (Samples ks)
+    → AllByRecursion (λ s. samples_fault shape.precision shape.width s ≡ None) (Samples ks) → AllByRecursion (IsSaid version) ks
     → readings_fields size version shape before (length ks) (flat_map (reading_text version) ks ++ rest) ≡ Ok (ks, rest)
 unfolding readings_fields
 readings_again size version shape before [] rest le rise fit said = refl

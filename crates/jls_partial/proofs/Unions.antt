@@ -33,7 +33,8 @@ apart true b d f = rw (f refl) refl
 apart false b d f = refl
 
 -- the readings of a line are those at its place
-any_line : (r : Reading) (c l : ℕ) (rs : List Reading) → list_any (eq_by_cmp reading_cmp r) (map (reading_of c l) (map (λ r. r.samples) (filter (is_there c l) rs))) ≡ (is_at (place_cmp (place c l)) (place_of r) && list_any (eq_by_cmp reading_cmp r) rs)
+any_line : (r : Reading) (c l : ℕ) (rs : List Reading)
+    → list_any (eq_by_cmp reading_cmp r) (map (reading_of c l) (map (λ r. r.samples) (filter (is_there c l) rs))) ≡ (is_at (place_cmp (place c l)) (place_of r) && list_any (eq_by_cmp reading_cmp r) rs)
 any_line r c l [] = none (is_at (place_cmp (place c l)) (place_of r))
   where
     none : (b : Bool) → false ≡ (b && false)
@@ -54,11 +55,13 @@ any_line r c l (k ∷ rs) =
           ∙ apart (test k) (is_at (place_cmp (place c l)) (place_of r)) (list_any test rs) (λ t. ap (λ (z : Reading). is_at (place_cmp (place c l)) (place_of z)) (same_reading r k t) ∙ not_there)
     ] refl
 
-pub in_line : (p : PartialPicture) (r : Reading) (c l : ℕ) → list_any (eq_by_cmp reading_cmp r) (line_readings p c l) ≡ (is_at (place_cmp (place c l)) (place_of r) && contains p.readings r)
+pub in_line : (p : PartialPicture) (r : Reading) (c l : ℕ)
+    → list_any (eq_by_cmp reading_cmp r) (line_readings p c l) ≡ (is_at (place_cmp (place c l)) (place_of r) && contains p.readings r)
 in_line p r c l = any_line r c l (items p.readings) ∙ ap (λ b. is_at (place_cmp (place c l)) (place_of r) && b) (sym (contains-items p.readings r))
 
 -- what stands in a line is held
-pub held_in_line : (p : PartialPicture) (r : Reading) (c l : ℕ) → list_any (eq_by_cmp reading_cmp r) (line_readings p c l) ≡ true → contains p.readings r ≡ true
+pub held_in_line : (p : PartialPicture) (r : Reading) (c l : ℕ) → list_any (eq_by_cmp reading_cmp r) (line_readings p c l) ≡ true
+    → contains p.readings r ≡ true
 held_in_line p r c l e = (and_parts (is_at (place_cmp (place c l)) (place_of r)) (contains p.readings r) (sym (in_line p r c l) ∙ e)).1
 
 -- what follows from each of two tests follows from either
@@ -67,22 +70,26 @@ either P true c f g e = f refl
 either P false c f g e = g e
 
 -- what stands in the first lines, or the first components, is held
-pub held_from_lines : (p : PartialPicture) (r : Reading) (c n : ℕ) → list_any (eq_by_cmp reading_cmp r) (readings_of_lines p c n) ≡ true → contains p.readings r ≡ true
+pub held_from_lines : (p : PartialPicture) (r : Reading) (c n : ℕ) → list_any (eq_by_cmp reading_cmp r) (readings_of_lines p c n) ≡ true
+    → contains p.readings r ≡ true
 held_from_lines p r c zero e = absurd cc
 held_from_lines p r c (suc n) e =
     either _ _ _ (held_from_lines p r c n) (held_in_line p r c n) (sym (list_any-append (eq_by_cmp reading_cmp r) (readings_of_lines p c n) (line_readings p c n)) ∙ e)
 
-pub held_from_components : (p : PartialPicture) (r : Reading) (n : ℕ) → list_any (eq_by_cmp reading_cmp r) (readings_of_components p n) ≡ true → contains p.readings r ≡ true
+pub held_from_components : (p : PartialPicture) (r : Reading) (n : ℕ)
+    → list_any (eq_by_cmp reading_cmp r) (readings_of_components p n) ≡ true → contains p.readings r ≡ true
 held_from_components p r zero e = absurd cc
 held_from_components p r (suc n) e =
     either _ _ _ (held_from_components p r n) (held_from_lines p r n p.shape.height) (sym (list_any-append (eq_by_cmp reading_cmp r) (readings_of_components p n) (readings_of_lines p n p.shape.height)) ∙ e)
 
 -- what is held stands in its line
-pub in_its_line : (p : PartialPicture) (r : Reading) → contains p.readings r ≡ true → list_any (eq_by_cmp reading_cmp r) (line_readings p r.component r.line) ≡ true
+pub in_its_line : (p : PartialPicture) (r : Reading) → contains p.readings r ≡ true
+    → list_any (eq_by_cmp reading_cmp r) (line_readings p r.component r.line) ≡ true
 in_its_line p r h = in_line p r r.component r.line ∙ rw (ap is_eq (tied_itself place_total (place_of r)), h) refl
 
 -- and so in the first lines and the first components, as far as they go
-lines_hold : (p : PartialPicture) (r : Reading) (n : ℕ) → contains p.readings r ≡ true → r.line < n → list_any (eq_by_cmp reading_cmp r) (readings_of_lines p r.component n) ≡ true
+lines_hold : (p : PartialPicture) (r : Reading) (n : ℕ) → contains p.readings r ≡ true → r.line < n
+    → list_any (eq_by_cmp reading_cmp r) (readings_of_lines p r.component n) ≡ true
 lines_hold p r zero h lt = absurd (omega arith)
 lines_hold p r (suc n) h lt =
     let test = eq_by_cmp reading_cmp r in
@@ -92,7 +99,8 @@ lines_hold p r (suc n) h lt =
       | inr le ↦ or_right (list_any test (readings_of_lines p r.component n)) _ (subst (λ (l : ℕ). list_any test (line_readings p r.component l) ≡ true) (omega arith) (in_its_line p r h))
     ]
 
-pub components_hold : (p : PartialPicture) (r : Reading) (n : ℕ) → contains p.readings r ≡ true → r.component < n → r.line < p.shape.height → list_any (eq_by_cmp reading_cmp r) (readings_of_components p n) ≡ true
+pub components_hold : (p : PartialPicture) (r : Reading) (n : ℕ) → contains p.readings r ≡ true → r.component < n → r.line < p.shape.height
+    → list_any (eq_by_cmp reading_cmp r) (readings_of_components p n) ≡ true
 components_hold p r zero h lt line = absurd (omega arith)
 components_hold p r (suc n) h lt line =
     let test = eq_by_cmp reading_cmp r in
@@ -107,7 +115,8 @@ no_first_fault true f rest e = absurd cc
 no_first_fault false f rest e = (refl, e)
 
 -- a reading without fault is in a component and a line that exist
-pub place_exists : (shape : PictureShape) (c l : ℕ) (x : List ℕ) → reading_fault shape c l x ≡ None → (c < length shape.ids) × (l < shape.height)
+pub place_exists : (shape : PictureShape) (c l : ℕ) (x : List ℕ) → reading_fault shape c l x ≡ None
+    → (c < length shape.ids) × (l < shape.height)
 place_exists shape c l x e =
     let p = no_first_fault (leb (length shape.ids) c) Component _ e in
     let q = no_first_fault (leb shape.height l) Line _ p.1 in

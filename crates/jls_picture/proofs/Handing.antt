@@ -13,7 +13,8 @@ use Rattle.jls_picture.specs.declared.output.OutputFault.{OutputFault}
 use Rattle.jls_picture.specs.declared.output.OutputFault.TheVariants.{Write, OutOfMemory}
 use Rattle.jls_picture.specs.Outcomes.{HandedOut, HandedFront, StoppedBy}
 
-front_of : (old new : History) (held holds : Option (List ℕ)) (a b : List ℕ) (count : ℕ) → HandedFront old new held holds a count → HandedFront old new held holds (a ++ b) count
+front_of : (old new : History) (held holds : Option (List ℕ)) (a b : List ℕ) (count : ℕ) → HandedFront old new held holds a count
+    → HandedFront old new held holds (a ++ b) count
 front_of old new held holds a b count h =
     let less = h.wrote.they_are.not_all in
     record {
@@ -25,14 +26,16 @@ module _ (old mid new : History) (held keeps holds : Option (List ℕ)) where
   pub handed_on : (a b : List ℕ) → HandedOut old mid held keeps a → HandedOut mid new keeps holds b → HandedOut old new held holds (a ++ b)
   handed_on a b h k = record { wrote = written_on old mid new a b h.wrote k.wrote; holds_them = appends_on held keeps holds a b h.holds_them k.holds_them }
 
-  front_on : (a b : List ℕ) (count : ℕ) → HandedOut old mid held keeps a → HandedFront mid new keeps holds b count → HandedFront old new held holds (a ++ b) (length a + count)
+  front_on : (a b : List ℕ) (count : ℕ) → HandedOut old mid held keeps a → HandedFront mid new keeps holds b count
+      → HandedFront old new held holds (a ++ b) (length a + count)
   front_on a b count h k = record {
     wrote = cut_behind old mid new a b count h.wrote k.wrote;
     holds_them = subst (λ (t : List ℕ). Appends held holds t) (sym (take-append-add a b count)) (appends_on held keeps holds a (take count b) h.holds_them k.holds_them);
   }
 
   -- the first part went out, and a write failed in the second, behind which the rest was to come
-  pub stopped_on : (fault : OutputFault) (before now : ℕ) (a b rest all : List ℕ) → now ≡ before + length a → all ≡ a ++ b ++ rest → HandedOut old mid held keeps a
+  pub stopped_on : (fault : OutputFault) (before now : ℕ) (a b rest all : List ℕ) → now ≡ before + length a → all ≡ a ++ b ++ rest
+      → HandedOut old mid held keeps a
       → StoppedBy fault now (HandedFront mid new keeps holds b) → StoppedBy fault before (HandedFront old new held holds all)
   stopped_on (Write count) before now a b rest all now_is all_is h (n, count_is, front) = (
     length a + n,

@@ -24,7 +24,8 @@ settled_by [] e = absurd (omega arith)
 settled_by (x ∷ []) e = refl
 settled_by (x ∷ y ∷ xs) e = absurd (omega arith)
 
-pub line_is : (p : PartialPicture) (component line : ℕ) → component < length p.shape.ids → line < p.shape.height → line_of (picture_of p) component line ≡ settled_line p component line
+pub line_is : (p : PartialPicture) (component line : ℕ) → component < length p.shape.ids → line < p.shape.height
+    → line_of (picture_of p) component line ≡ settled_line p component line
 line_is p component line component_in line_in =
     ap (λ (plane : List (List ℕ)). get_or plane line []) (get_or-map-range_with_len (λ c. map (settled_line p c) (range_with_len 0 p.shape.height)) 0 (length p.shape.ids) component component [] component_in (zero-add component))
     ∙ get_or-map-range_with_len (settled_line p component) 0 p.shape.height line line [] line_in (zero-add line)

@@ -12,7 +12,8 @@ range-append a (suc m) n =
     ap (range_with_len a) more ∙ ap (λ t. a ∷ t) (range-append (a + 1) m n) ∙ ap (λ k. a ∷ (range_with_len (a + 1) m ++ range_with_len k n)) same
 
 -- a list over two ranges, of which the second follows the first
-pub flat_map_on : {X : Type 0} (f : ℕ → List X) (a m n : ℕ) → a ≤ m → m ≤ n → flat_map f (range_with_len a (n - a)) ≡ flat_map f (range_with_len a (m - a)) ++ flat_map f (range_with_len m (n - m))
+pub flat_map_on : {X : Type 0} (f : ℕ → List X) (a m n : ℕ) → a ≤ m → m ≤ n
+    → flat_map f (range_with_len a (n - a)) ≡ flat_map f (range_with_len a (m - a)) ++ flat_map f (range_with_len m (n - m))
 flat_map_on f a m n low high =
     let all : n - a ≡ m - a + (n - m) = omega arith in
     let from : a + (m - a) ≡ m = omega arith in
@@ -20,7 +21,8 @@ flat_map_on f a m n low high =
     ∙ flat_map-append f (range_with_len a (m - a)) (range_with_len (a + (m - a)) (n - m))
     ∙ ap (λ k. flat_map f (range_with_len a (m - a)) ++ flat_map f (range_with_len k (n - m))) from
 
-pub two_parts : {X : Type 0} (f : ℕ → List X) (m n : ℕ) → m ≤ n → flat_map f (range_with_len 0 n) ≡ flat_map f (range_with_len 0 m) ++ flat_map f (range_with_len m (n - m))
+pub two_parts : {X : Type 0} (f : ℕ → List X) (m n : ℕ) → m ≤ n
+    → flat_map f (range_with_len 0 n) ≡ flat_map f (range_with_len 0 m) ++ flat_map f (range_with_len m (n - m))
 two_parts f m n high =
     let all : n ≡ n - 0 = omega arith in
     let first : m - 0 ≡ m = omega arith in
@@ -30,7 +32,8 @@ pub flat_map_one : {X : Type 0} (f : ℕ → List X) (k : ℕ) → flat_map f (r
 flat_map_one f k = let one : k + 1 - k ≡ 1 = omega arith in ap (λ n. flat_map f (range_with_len k n)) one ∙ append-nil (f k)
 
 -- the list with one number more
-pub flat_map_from_more : {X : Type 0} (f : ℕ → List X) (a k : ℕ) → a ≤ k → flat_map f (range_with_len a (k + 1 - a)) ≡ flat_map f (range_with_len a (k - a)) ++ f k
+pub flat_map_from_more : {X : Type 0} (f : ℕ → List X) (a k : ℕ) → a ≤ k
+    → flat_map f (range_with_len a (k + 1 - a)) ≡ flat_map f (range_with_len a (k - a)) ++ f k
 flat_map_from_more f a k low = flat_map_on f a k (k + 1) low (omega arith) ∙ ap (λ t. flat_map f (range_with_len a (k - a)) ++ t) (flat_map_one f k)
 
 pub flat_map_more : {X : Type 0} (f : ℕ → List X) (k : ℕ) → flat_map f (range_with_len 0 (k + 1)) ≡ flat_map f (range_with_len 0 k) ++ f k
@@ -40,13 +43,15 @@ flat_map_more f k =
     ap (λ n. flat_map f (range_with_len 0 n)) more ∙ flat_map_from_more f 0 k (omega arith) ∙ ap (λ n. flat_map f (range_with_len 0 n) ++ f k) same
 
 -- a list over the numbers below `all`, in three parts: those below `start`, those below `end`, and the rest
-pub three_parts : {X : Type 0} (f : ℕ → List X) (start end all : ℕ) (part : List X) → start ≤ end → end ≤ all → part ≡ flat_map f (range_with_len start (end - start))
+pub three_parts : {X : Type 0} (f : ℕ → List X) (start end all : ℕ) (part : List X) → start ≤ end → end ≤ all
+    → part ≡ flat_map f (range_with_len start (end - start))
     → flat_map f (range_with_len 0 all) ≡ flat_map f (range_with_len 0 start) ++ part ++ flat_map f (range_with_len end (all - end))
 three_parts f start end all part low high is =
     two_parts f end all high ∙ ap (λ t. t ++ flat_map f (range_with_len end (all - end))) (two_parts f start end low ∙ ap (λ t. flat_map f (range_with_len 0 start) ++ t) (sym is))
 
 -- n lists of at most `most` elements each
-pub length-flat_map-le : {X : Type 0} (f : ℕ → List X) (most : ℕ) → ((k : ℕ) → length (f k) ≤ most) → (a n : ℕ) → length (flat_map f (range_with_len a n)) ≤ n * most
+pub length-flat_map-le : {X : Type 0} (f : ℕ → List X) (most : ℕ) → ((k : ℕ) → length (f k) ≤ most) → (a n : ℕ)
+    → length (flat_map f (range_with_len a n)) ≤ n * most
 length-flat_map-le f most each a zero = omega arith
 length-flat_map-le f most each a (suc n) =
     let rest = length-flat_map-le f most each (a + 1) n in

@@ -16,7 +16,8 @@ pixel_at_most pic line column few =
     (λ component. sample_at_most (is_wide pic.shape) (get_or (line_of pic component line) column 0)) 0 (length pic.shape.ids) in
     omega (arith, all)
 
-pub row_at_most : (pic : WholePicture) (line : ℕ) → length pic.shape.ids ≤ 4 → pic.shape.width < 2 ^ 16 → length (row_bytes pic line) ≤ 524280
+pub row_at_most : (pic : WholePicture) (line : ℕ) → length pic.shape.ids ≤ 4 → pic.shape.width < 2 ^ 16
+    → length (row_bytes pic line) ≤ 524280
 row_at_most pic line few narrow =
     let all = length-flat_map-le (pixel_bytes pic line) 8 (λ column. pixel_at_most pic line column few) 0 pic.shape.width in
     omega (arith, all)

@@ -11,7 +11,8 @@ use Rattle.jls_picture.specs.Picture.{settled_line, picture_of}
 use Rattle.jls_picture.specs.WholePictures.{IsLineIn, IsComponentIn, IsPicture, IsWholePicture}
 use Rattle.jls_picture.proofs.Lending.{one_reading, line_is, fits_shape}
 
-all_of_range : {X : Type 0} (P : X → Type 0) (f : ℕ → X) (from n : ℕ) → ((i : ℕ) → i < from + n → P (f i)) → AllByRecursion P (map f (range_with_len from n))
+all_of_range : {X : Type 0} (P : X → Type 0) (f : ℕ → X) (from n : ℕ) → ((i : ℕ) → i < from + n → P (f i))
+    → AllByRecursion P (map f (range_with_len from n))
 all_of_range P f from zero each = tt
 all_of_range P f from (suc n) each = (each from (omega arith), all_of_range P f (from + 1) n (λ i l. each i (omega (arith, l))))
 
@@ -26,7 +27,8 @@ module _ (p : PartialPicture) (shape : IsShape p.shape) (fits : IsFitting p) (se
       let samples = settled_line p component line in
       fits_shape p.shape component line samples (fits component line samples (got_held p component line 0 samples got))
 
-  component_in : (component : ℕ) → component < length p.shape.ids → IsComponentIn p.shape (map (settled_line p component) (range_with_len 0 p.shape.height))
+  component_in : (component : ℕ) → component < length p.shape.ids
+      → IsComponentIn p.shape (map (settled_line p component) (range_with_len 0 p.shape.height))
   component_in component inside = (
     length-map-range_with_len (settled_line p component) 0 p.shape.height,
     all_of_range (IsLineIn p.shape) (settled_line p component) 0 p.shape.height (λ line l. line_in component line inside (omega (arith, l))),

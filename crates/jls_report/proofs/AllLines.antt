@@ -10,7 +10,8 @@ use Rattle.jls_report.specs.Lines.{components, lines, reading_count, is_missing,
 use Rattle.jls_report.specs.Ranges.{CountsAreAllLines}
 
 -- three sums, of which each three members make k
-three_sums : (f g h : ℕ → ℕ) (k : ℕ) → ((x : ℕ) → f x + g x + h x ≡ k) → (xs : List ℕ) → sum_by f xs + sum_by g xs + sum_by h xs ≡ length xs * k
+three_sums : (f g h : ℕ → ℕ) (k : ℕ) → ((x : ℕ) → f x + g x + h x ≡ k) → (xs : List ℕ)
+    → sum_by f xs + sum_by g xs + sum_by h xs ≡ length xs * k
 three_sums f g h k each [] = omega arith
 three_sums f g h k each (x ∷ xs) = let rest = three_sums f g h k each xs in let here = each x in
     omega (arith, rest, here, sum_by-cons f x xs, sum_by-cons g x xs, sum_by-cons h x xs)

@@ -28,7 +28,8 @@ none_counts g a (suc n) each =
     omega (arith, here, rest, is)
 
 -- the sum of a function that is 0 at all numbers but one
-one_counts : (g : ℕ → ℕ) (a n j : ℕ) → j < n → ((k : ℕ) → a ≤ k → k < a + n → (k ≡ a + j → ⊥) → g k ≡ 0) → sum_by g (range_with_len a n) ≡ g (a + j)
+one_counts : (g : ℕ → ℕ) (a n j : ℕ) → j < n → ((k : ℕ) → a ≤ k → k < a + n → (k ≡ a + j → ⊥) → g k ≡ 0)
+    → sum_by g (range_with_len a n) ≡ g (a + j)
 one_counts g a zero j below others = absurd (omega arith)
 one_counts g a (suc n) zero below others =
     let rest : sum_by g (range_with_len (a + 1) n) ≡ 0 = none_counts g (a + 1) n (λ k low high. others k (omega arith) (omega arith) (λ e. omega arith)) in
@@ -47,7 +48,8 @@ one_counts g a (suc n) (suc j) below others =
 abbrev one_if : Bool → ℕ
 one_if b = cond b 1 0
 
-count_two : {X : Type 0} (q : X → Bool) (b d : Bool) (x y : X) → count_by q (cond b (x ∷ []) (cond d (y ∷ []) [])) ≡ cond b (one_if (q x)) (cond d (one_if (q y)) 0)
+count_two : {X : Type 0} (q : X → Bool) (b d : Bool) (x y : X)
+    → count_by q (cond b (x ∷ []) (cond d (y ∷ []) [])) ≡ cond b (one_if (q x)) (cond d (one_if (q y)) 0)
 count_two q true d x y = zero-add (cond (q x) 1 0)
 count_two q false true x y = zero-add (cond (q y) 1 0)
 count_two q false false x y = refl
@@ -78,7 +80,8 @@ two_true true c x y = y
 two_true false c x y = absurd cc
 
 -- a range that covers a line, and of the same component
-covers : (component line c first last : ℕ) → speaks_of component line (Missing c first last) ≡ true → (c ≡ component) × (first ≤ line) × (line ≤ last)
+covers : (component line c first last : ℕ) → speaks_of component line (Missing c first last) ≡ true
+    → (c ≡ component) × (first ≤ line) × (line ≤ last)
 covers component line c first last speaks =
     let outer = and_parts (c == component) (nat_le first line && nat_le line last) speaks in
     let inner = and_parts (nat_le first line) (nat_le line last) outer.1 in
@@ -119,7 +122,8 @@ beginning missing (suc line) =
       | false ↦ λ is. (suc line, record { at_most = omega arith; each = λ k low high. absurd (omega arith); above = λ k e. let same : k ≡ line = omega arith in ap missing same ∙ is })
     ] refl
   where
-    longer : (missing : ℕ → Bool) (line : ℕ) → missing line ≡ true → ((first : ℕ) × BeginsAt missing line first) → (first : ℕ) × BeginsAt missing (suc line) first
+    longer : (missing : ℕ → Bool) (line : ℕ) → missing line ≡ true → ((first : ℕ) × BeginsAt missing line first)
+        → (first : ℕ) × BeginsAt missing (suc line) first
     longer missing line is (first, at) = (
       first,
       record {
@@ -134,7 +138,8 @@ beginning missing (suc line) =
         reach k low high (inr after) = let same : k ≡ line = omega arith in ap missing same ∙ is
 
 -- a range that covers a line begins where the range of the line begins
-covering_begins : (p : PartialPicture) (component line first last : ℕ) → IsLongestRange p component first last → first ≤ line → line ≤ last → BeginsAt (is_missing p component) line first
+covering_begins : (p : PartialPicture) (component line first last : ℕ) → IsLongestRange p component first last → first ≤ line → line ≤ last
+    → BeginsAt (is_missing p component) line first
 covering_begins p component line first last range low high = record {
   at_most = low;
   each = λ k from before. range.each k from (omega arith);
@@ -174,7 +179,8 @@ module _ (p : PartialPicture) (component line : ℕ) (component_in : component <
   )
 
   -- all entries that speak of the line, if none but those that begin with this one do
-  total : (l : ℕ) → l < p.shape.height → ((k : ℕ) → k < p.shape.height → (k ≡ l → ⊥) → Unspoken component k) → count_by (speaks_of component line) (report_entries p) ≡ spoken component l
+  total : (l : ℕ) → l < p.shape.height → ((k : ℕ) → k < p.shape.height → (k ≡ l → ⊥) → Unspoken component k)
+      → count_by (speaks_of component line) (report_entries p) ≡ spoken component l
   total l within others =
       let in_component : (c : ℕ) → count_by (speaks_of component line) (component_entries p c) ≡ sum_by (spoken c) (lines p.shape) = λ c. count_over (speaks_of component line) (entries_at p c) (lines p.shape) in
       let c_is : 0 + component ≡ component = omega arith in
@@ -188,7 +194,8 @@ module _ (p : PartialPicture) (component line : ℕ) (component_in : component <
       ∙ ap (spoken component) l_is
 
   -- a range that speaks of the line has it as a missing line
-  is_missing_there : (l : ℕ) → l < p.shape.height → begins_range p component l ≡ true → speaks_of component line (range_at component l) ≡ true
+  is_missing_there : (l : ℕ) → l < p.shape.height → begins_range p component l ≡ true
+      → speaks_of component line (range_at component l) ≡ true
       → BeginsAt (is_missing p component) line l × (is_missing p component line ≡ true)
   is_missing_there l within begins speaks =
       let range = range_is_longest p component l component_in within begins in
@@ -196,7 +203,8 @@ module _ (p : PartialPicture) (component line : ℕ) (component_in : component <
       (covering_begins p component line l (last_of component l) range at.1 at.2, range.each line at.1 at.2)
 
   -- no range speaks of a line that has readings
-  read_line : 0 < reading_count p component line → (l : ℕ) → l < p.shape.height → begins_range p component l ≡ true → speaks_of component line (range_at component l) ≡ true → ⊥
+  read_line : 0 < reading_count p component line → (l : ℕ) → l < p.shape.height → begins_range p component l ≡ true
+      → speaks_of component line (range_at component l) ≡ true → ⊥
   read_line some l within begins speaks =
       let none = eqb-true (reading_count p component line) 0 (is_missing_there l within begins speaks).1 in omega (arith, none)
 
@@ -223,7 +231,8 @@ module _ (p : PartialPicture) (component line : ℕ) (component_in : component <
       (two_true (component == component) (line == line) (eqb_itself component) (eqb_itself line))
 
   -- a range that begins at or before the line, all of which up to it is missing, reaches it
-  reaches : (first last : ℕ) → IsLongestRange p component first last → BeginsAt (is_missing p component) line first → is_missing p component line ≡ true → line ≤ last
+  reaches : (first last : ℕ) → IsLongestRange p component first last → BeginsAt (is_missing p component) line first
+      → is_missing p component line ≡ true → line ≤ last
   reaches first last range at missing =
       elim (cases_lt last line) [ inl less ↦ absurd (beyond less) | inr within ↦ within ]
     where
@@ -260,7 +269,8 @@ module _ (p : PartialPicture) (component line : ℕ) (component_in : component <
       (all_true (component == component) (nat_le first line) (nat_le line (last_of component first)) (eqb_itself component) (le-leb first line at_most)
       (le-leb line (last_of component first) (reaches first (last_of component first) range at missing)))
     where
-      begins_there : (first : ℕ) → BeginsAt (is_missing p component) line first → is_missing p component line ≡ true → begins_range p component first ≡ true
+      begins_there : (first : ℕ) → BeginsAt (is_missing p component) line first → is_missing p component line ≡ true
+          → begins_range p component first ≡ true
       begins_there first at missing =
           two_true (is_missing p component first) (first == 0 || not (is_missing p component (first - 1))) (here (cases_lt first line)) (first_or first (is_missing p component) at.above)
         where
@@ -277,7 +287,8 @@ pub each_line_once : EachLineOnce
 each_line_once p component line component_in line_in =
     one_way (three_ways (reading_count p component line))
   where
-    one_way : (reading_count p component line ≡ 0) ⊎ ((reading_count p component line ≡ 1) ⊎ (2 ≤ reading_count p component line)) → one_if (is_settled_line p component line) + count_by (speaks_of component line) (report_entries p) ≡ 1
+    one_way : (reading_count p component line ≡ 0) ⊎ ((reading_count p component line ≡ 1) ⊎ (2 ≤ reading_count p component line))
+        → one_if (is_settled_line p component line) + count_by (speaks_of component line) (report_entries p) ≡ 1
     one_way (inl none) =
         let settled : is_settled_line p component line ≡ false = ne_eqb (reading_count p component line) 1 (λ e. omega arith) in
         let zero_settled : one_if (is_settled_line p component line) ≡ 0 = ap one_if settled in

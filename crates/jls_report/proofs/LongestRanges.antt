@@ -67,7 +67,8 @@ first_or (suc n) missing above =
 
 -- ---- where a range begins
 
-pub range_is_longest : (p : PartialPicture) (component line : ℕ) → component < length p.shape.ids → line < p.shape.height → begins_range p component line ≡ true
+pub range_is_longest : (p : PartialPicture) (component line : ℕ) → component < length p.shape.ids → line < p.shape.height
+    → begins_range p component line ≡ true
     → IsLongestRange p component line (line + missing_from p component line - 1)
 range_is_longest p component line component_in line_in begins =
     let missing : ℕ → Bool = is_missing p component in
@@ -91,12 +92,14 @@ range_is_longest p component line component_in line_in begins =
           subst (λ (i : ℕ). missing i ≡ false) next_is (stops missing line n (omega arith));
     }
 
-pub longest_begins : (p : PartialPicture) (component first last : ℕ) → IsLongestRange p component first last → begins_range p component first ≡ true
+pub longest_begins : (p : PartialPicture) (component first last : ℕ) → IsLongestRange p component first last
+    → begins_range p component first ≡ true
 longest_begins p component first last range =
     both_true (is_missing p component first) (first == 0 || not (is_missing p component (first - 1))) (range.each first (omega arith) range.rising)
     (first_or first (is_missing p component) range.above)
 
-longest_ends : (p : PartialPicture) (component first last : ℕ) → IsLongestRange p component first last → first + missing_from p component first - 1 ≡ last
+longest_ends : (p : PartialPicture) (component first last : ℕ) → IsLongestRange p component first last
+    → first + missing_from p component first - 1 ≡ last
 longest_ends p component first last range =
     let rising = range.rising in
     let last_in = range.last_in in
@@ -109,7 +112,8 @@ longest_ends p component first last range =
 -- ---- the laws
 
 -- an entry of a report begins with a line of a component
-pub found_at : (p : PartialPicture) (e : ReportEntry) → Contains (report_entries p) e → (component line : ℕ) × (component < length p.shape.ids) × (line < p.shape.height) × Contains (entries_at p component line) e
+pub found_at : (p : PartialPicture) (e : ReportEntry) → Contains (report_entries p) e
+    → (component line : ℕ) × (component < length p.shape.ids) × (line < p.shape.height) × Contains (entries_at p component line) e
 found_at p e there =
     let of_component = found_over (component_entries p) 0 (length p.shape.ids) e there in
     let of_line = found_over (entries_at p of_component.0) 0 p.shape.height e of_component.2 in
@@ -117,7 +121,8 @@ found_at p e there =
     let line_in : of_line.0 < p.shape.height = omega (arith, of_line.1) in
     (of_component.0, of_line.0, component_in, line_in, of_line.2)
 
-pub listed_at : (p : PartialPicture) (e : ReportEntry) (component line : ℕ) → component < length p.shape.ids → line < p.shape.height → Contains (entries_at p component line) e → Contains (report_entries p) e
+pub listed_at : (p : PartialPicture) (e : ReportEntry) (component line : ℕ) → component < length p.shape.ids → line < p.shape.height
+    → Contains (entries_at p component line) e → Contains (report_entries p) e
 listed_at p e component line component_in line_in here =
     let c_is : 0 + component ≡ component = omega arith in
     let l_is : 0 + line ≡ line = omega arith in

@@ -5,7 +5,8 @@ use Rattle.std.specs.List.{range_with_len, flat_map, slice_index_or}
 use Rattle.std.proofs.lemmas.List.Elements.{Contains-append_left, Contains-append_right, Contains-append_cases}
 
 -- a member stands at one of the numbers
-pub found_over : {X : Type 0} (f : ℕ → List X) (a n : ℕ) (x : X) → Contains (flat_map f (range_with_len a n)) x → (k : ℕ) × (k < a + n) × Contains (f k) x
+pub found_over : {X : Type 0} (f : ℕ → List X) (a n : ℕ) (x : X) → Contains (flat_map f (range_with_len a n)) x
+    → (k : ℕ) × (k < a + n) × Contains (f k) x
 found_over f a zero x (k, below, is) = absurd (omega (arith, below))
 found_over f a (suc n) x there =
     elim (Contains-append_cases (f a) (flat_map f (range_with_len (a + 1) n)) x there) [
@@ -14,7 +15,8 @@ found_over f a (suc n) x there =
     ]
 
 -- and what stands at one of them is a member
-pub member_over : {X : Type 0} (f : ℕ → List X) (a n j : ℕ) (x : X) → j < n → Contains (f (a + j)) x → Contains (flat_map f (range_with_len a n)) x
+pub member_over : {X : Type 0} (f : ℕ → List X) (a n j : ℕ) (x : X) → j < n → Contains (f (a + j)) x
+    → Contains (flat_map f (range_with_len a n)) x
 member_over f a zero j x below here = absurd (omega arith)
 member_over f a (suc n) zero x below here =
     Contains-append_left (f a) (flat_map f (range_with_len (a + 1) n)) x (let same : a + 0 ≡ a = omega arith in subst (λ k. Contains (f k) x) same here)

@@ -11,7 +11,8 @@ all-append : {X : Type 0} (P : X → Type 0) (xs ys : List X) → AllByRecursion
 all-append P [] ys p q = q
 all-append P (x ∷ xs) ys p q = (p.0, all-append P xs ys p.1 q)
 
-all-over : {X : Type 0} (P : X → Type 0) (f : ℕ → List X) (a n : ℕ) → ((k : ℕ) → k < a + n → AllByRecursion P (f k)) → AllByRecursion P (flat_map f (range_with_len a n))
+all-over : {X : Type 0} (P : X → Type 0) (f : ℕ → List X) (a n : ℕ) → ((k : ℕ) → k < a + n → AllByRecursion P (f k))
+    → AllByRecursion P (flat_map f (range_with_len a n))
 all-over P f a zero each = tt
 all-over P f a (suc n) each =
     all-append P (f a) (flat_map f (range_with_len (a + 1) n)) (each a (omega arith)) (all-over P f (a + 1) n (λ k below. each k (omega arith)))

@@ -3,7 +3,8 @@ use Rattle.std.proofs.Common.{◌≡◌, ℕ, zero, suc, ◌+◌, ◌-◌, ◌<�
 use Rattle.std.specs.List.{range_with_len, prefix_len}
 
 -- exactly the first m of the numbers pass
-pub prefix_is : (test : ℕ → Bool) (a n m : ℕ) → m ≤ n → ((k : ℕ) → a ≤ k → k < a + m → test k ≡ true) → (m < n → test (a + m) ≡ false) → prefix_len test (range_with_len a n) ≡ m
+pub prefix_is : (test : ℕ → Bool) (a n m : ℕ) → m ≤ n → ((k : ℕ) → a ≤ k → k < a + m → test k ≡ true) → (m < n → test (a + m) ≡ false)
+    → prefix_len test (range_with_len a n) ≡ m
 prefix_is test a zero m within all end = omega arith
 prefix_is test a (suc n) zero within all end =
     let at : test a ≡ false = ap test (omega arith) ∙ end (omega arith) in

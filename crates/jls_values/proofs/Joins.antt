@@ -18,7 +18,8 @@ module _ {V : Type 0} {same_shape : V → V → Bool} {join : V → V → V} (la
   pub below_along : (x y z : V) → same_shape x y ≡ true → same_shape y z ≡ true → IsBelow join x y → IsBelow join y z → IsBelow join x z
   below_along x y z f g p q = ap (λ w. join x w) (sym q) ∙ sym (laws.associative x y z f g) ∙ ap (λ w. join w z) p ∙ q
 
-  pub join_least : (x y z : V) → same_shape x y ≡ true → same_shape y z ≡ true → IsBelow join x z → IsBelow join y z → IsBelow join (join x y) z
+  pub join_least : (x y z : V) → same_shape x y ≡ true → same_shape y z ≡ true → IsBelow join x z → IsBelow join y z
+      → IsBelow join (join x y) z
   join_least x y z f g p q = laws.associative x y z f g ∙ ap (λ w. join x w) q ∙ p
 
   pub below_both : (x y : V) → same_shape x y ≡ true → IsBelow join x y → IsBelow join y x → x ≡ y
@@ -36,7 +37,9 @@ module _ {V : Type 0} {same_shape : V → V → Bool} {join : V → V → V} (la
       bad e = let t : true ≡ false = sym (laws.transitive y x z (turned x y f) e) ∙ g in absurd cc
 
   -- the merge stopped at the member at k, which has another shape than what was held
-  pub stops_at_shape : (x z y : V) (ys : List V) (k : ℕ) → k < length ys → y ≡ get_or ys k y → AllOfShape same_shape x (take k ys) → same_shape x z ≡ true → same_shape z y ≡ false → (new : V) → new ≡ join_all join x (take k ys) → StopsAtShape same_shape join x ys new
+  pub stops_at_shape : (x z y : V) (ys : List V) (k : ℕ) → k < length ys → y ≡ get_or ys k y → AllOfShape same_shape x (take k ys)
+      → same_shape x z ≡ true → same_shape z y ≡ false → (new : V) → new ≡ join_all join x (take k ys)
+      → StopsAtShape same_shape join x ys new
   stops_at_shape x z y ys k lt is before f g new e = (
     k,
     record {
@@ -65,7 +68,8 @@ module _ {V : Type 0} {same_shape : V → V → Bool} {join : V → V → V} (la
       let h' = joined_fit x y ys h.0 h.1 in
       below_along x (join x y) (join_all join (join x y) ys) (laws.join_same_shape x y h.0) (fits_all (join x y) ys h') (below_join x y h.0) (below_all (join x y) ys h')
 
-  pub member_below : (x : V) (ys : List V) (k : ℕ) (d : V) → k < length ys → AllOfShape same_shape x ys → IsBelow join (get_or ys k d) (join_all join x ys)
+  pub member_below : (x : V) (ys : List V) (k : ℕ) (d : V) → k < length ys → AllOfShape same_shape x ys
+      → IsBelow join (get_or ys k d) (join_all join x ys)
   member_below x [] k d lt h = absurd (omega arith)
   member_below x (y ∷ ys) zero d lt h =
       let h' = joined_fit x y ys h.0 h.1 in
@@ -76,7 +80,8 @@ module _ {V : Type 0} {same_shape : V → V → Bool} {join : V → V → V} (la
   pub contained_below : (x : V) (ys : List V) (y : V) → AllOfShape same_shape x ys → Contains ys y → IsBelow join y (join_all join x ys)
   contained_below x ys y h c = subst (λ (z : V). IsBelow join z (join_all join x ys)) c.2 (member_below x ys c.0 y c.1 h)
 
-  pub all_least : (x z : V) (ys : List V) → AllOfShape same_shape x ys → same_shape x z ≡ true → IsBelow join x z → ((k : ℕ) (d : V) → k < length ys → IsBelow join (get_or ys k d) z) → IsBelow join (join_all join x ys) z
+  pub all_least : (x z : V) (ys : List V) → AllOfShape same_shape x ys → same_shape x z ≡ true → IsBelow join x z
+      → ((k : ℕ) (d : V) → k < length ys → IsBelow join (get_or ys k d) z) → IsBelow join (join_all join x ys) z
   all_least x z [] h f p each = p
   all_least x z (y ∷ ys) h f p each =
       let g = laws.transitive y x z (turned x y h.0) f in
@@ -106,7 +111,8 @@ module _ {V : Type 0} {same_shape : V → V → Bool} {join : V → V → V} (la
   contained_fits x xs y h (zero, lt, e) = subst (λ (z : V). same_shape x z ≡ true) e (laws.reflexive x)
   contained_fits x xs y h (suc k, lt, e) = subst (λ (z : V). same_shape x z ≡ true) e (member_fits x xs k y (omega (arith, lt)) h)
 
-  half : (x : V) (xs : List V) (y : V) (ys : List V) → AllOfShape same_shape x xs → AllOfShape same_shape y ys → ((z : V) → Contains (x ∷ xs) z → Contains (y ∷ ys) z) → IsBelow join (join_all join x xs) (join_all join y ys)
+  half : (x : V) (xs : List V) (y : V) (ys : List V) → AllOfShape same_shape x xs → AllOfShape same_shape y ys
+      → ((z : V) → Contains (x ∷ xs) z → Contains (y ∷ ys) z) → IsBelow join (join_all join x xs) (join_all join y ys)
   half x xs y ys h g inside =
       let first = inside x (0, omega arith, refl) in
       all_least x (join_all join y ys) xs h
@@ -115,7 +121,9 @@ module _ {V : Type 0} {same_shape : V → V → Bool} {join : V → V → V} (la
       (λ k d lt. whole_below y ys (get_or xs k d) g (inside (get_or xs k d) (suc k, omega (arith, lt), same_place xs k d (get_or xs k d) lt)))
 
   -- lists with the same members have the same join, whichever member is the first
-  pub same_lists : (x : V) (xs : List V) (y : V) (ys : List V) → AllOfShape same_shape x xs → AllOfShape same_shape y ys → ((z : V) → Contains (x ∷ xs) z → Contains (y ∷ ys) z) → ((z : V) → Contains (y ∷ ys) z → Contains (x ∷ xs) z) → join_all join x xs ≡ join_all join y ys
+  pub same_lists : (x : V) (xs : List V) (y : V) (ys : List V) → AllOfShape same_shape x xs → AllOfShape same_shape y ys
+      → ((z : V) → Contains (x ∷ xs) z → Contains (y ∷ ys) z) → ((z : V) → Contains (y ∷ ys) z → Contains (x ∷ xs) z)
+      → join_all join x xs ≡ join_all join y ys
   same_lists x xs y ys h g there back =
       let f = turned y x (contained_fits y ys x g (there x (0, omega arith, refl))) in
       below_both (join_all join x xs) (join_all join y ys)
@@ -127,7 +135,8 @@ module _ {V : Type 0} {same_shape : V → V → Bool} {join : V → V → V} (la
   behind x xs ys inside z (suc k, lt, e) = let c = inside z (k, omega (arith, lt), e) in (suc c.0, omega (arith, c.1), c.2)
 
   -- lists with the same members have the same join with a value
-  pub same_members : (x : V) (xs ys : List V) → AllOfShape same_shape x xs → AllOfShape same_shape x ys → ((y : V) → Contains xs y → Contains ys y) → ((y : V) → Contains ys y → Contains xs y) → join_all join x xs ≡ join_all join x ys
+  pub same_members : (x : V) (xs ys : List V) → AllOfShape same_shape x xs → AllOfShape same_shape x ys
+      → ((y : V) → Contains xs y → Contains ys y) → ((y : V) → Contains ys y → Contains xs y) → join_all join x xs ≡ join_all join x ys
   same_members x xs ys h g there back = same_lists x xs x ys h g (behind x xs ys there) (behind x ys xs back)
 
 module _ {V : Type 0} (join : V → V → V) where
@@ -135,22 +144,27 @@ module _ {V : Type 0} (join : V → V → V) where
   join_all-push x [] y = refl
   join_all-push x (z ∷ ys) y = join_all-push (join x z) ys y
 
-  pub join_all-take_more : (x : V) (ys : List V) (k : ℕ) (y : V) → k < length ys → y ≡ get_or ys k y → join_all join x (take (k + 1) ys) ≡ join (join_all join x (take k ys)) y
+  pub join_all-take_more : (x : V) (ys : List V) (k : ℕ) (y : V) → k < length ys → y ≡ get_or ys k y
+      → join_all join x (take (k + 1) ys) ≡ join (join_all join x (take k ys)) y
   join_all-take_more x ys k y lt is =
       ap (join_all join x) (take_more ys k y lt ∙ ap (λ z. take k ys ++ (z ∷ [])) (sym is)) ∙ join_all-push x (take k ys) y
 
 module _ {V : Type 0} (same_shape : V → V → Bool) where
-  pub AllOfShape-push : (x : V) (ys : List V) (y : V) → AllOfShape same_shape x ys → same_shape x y ≡ true → AllOfShape same_shape x (ys ++ y ∷ [])
+  pub AllOfShape-push : (x : V) (ys : List V) (y : V) → AllOfShape same_shape x ys → same_shape x y ≡ true
+      → AllOfShape same_shape x (ys ++ y ∷ [])
   AllOfShape-push x [] y h f = (f, tt)
   AllOfShape-push x (z ∷ ys) y h f = (h.0, AllOfShape-push x ys y h.1 f)
 
-  pub AllOfShape-take_more : (x : V) (ys : List V) (k : ℕ) (y : V) → k < length ys → y ≡ get_or ys k y → AllOfShape same_shape x (take k ys) → same_shape x y ≡ true → AllOfShape same_shape x (take (k + 1) ys)
+  pub AllOfShape-take_more : (x : V) (ys : List V) (k : ℕ) (y : V) → k < length ys → y ≡ get_or ys k y → AllOfShape same_shape x (take k ys)
+      → same_shape x y ≡ true → AllOfShape same_shape x (take (k + 1) ys)
   AllOfShape-take_more x ys k y lt is h f =
       subst (AllOfShape same_shape x) (sym (take_more ys k y lt ∙ ap (λ z. take k ys ++ (z ∷ [])) (sym is))) (AllOfShape-push x (take k ys) y h f)
 
 module _ {V : Type 0} {same_shape : V → V → Bool} {join : V → V → V} (laws : JoinLaws same_shape join) where
   -- memory ran out inside the member at k, when z was held
-  pub stops_inside : (x z y : V) (ys : List V) (k : ℕ) → k < length ys → y ≡ get_or ys k y → AllOfShape same_shape x (take k ys) → z ≡ join_all join x (take k ys) → same_shape x z ≡ true → same_shape z y ≡ true → (new : V) → IsBetween join z new (join z y) → StopsInside same_shape join x ys new
+  pub stops_inside : (x z y : V) (ys : List V) (k : ℕ) → k < length ys → y ≡ get_or ys k y → AllOfShape same_shape x (take k ys)
+      → z ≡ join_all join x (take k ys) → same_shape x z ≡ true → same_shape z y ≡ true → (new : V) → IsBetween join z new (join z y)
+      → StopsInside same_shape join x ys new
   stops_inside x z y ys k lt is before e f g new between = (
     k,
     record {

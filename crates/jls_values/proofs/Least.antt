@@ -6,7 +6,8 @@ use Rattle.std.proofs.Math.Nat.{pow-le-pow_right}
 use Rattle.jls_values.specs.Params.{least_from}
 
 -- the first to pass, where none before it does
-pub least_from-first : (passes : ℕ → Bool) (count from least : ℕ) → from ≤ least → least ≤ from + count → ((k : ℕ) → from ≤ k → k < least → passes k ≡ false) → passes least ≡ true → least_from passes count from ≡ least
+pub least_from-first : (passes : ℕ → Bool) (count from least : ℕ) → from ≤ least → least ≤ from + count
+    → ((k : ℕ) → from ≤ k → k < least → passes k ≡ false) → passes least ≡ true → least_from passes count from ≡ least
 unfolding least_from
 least_from-first passes zero from least low high before here = omega arith
 least_from-first passes (suc count) from least low high before here =
@@ -16,7 +17,8 @@ least_from-first passes (suc count) from least low high before here =
     ]
 
 -- RANGE values are held by one bit more than the logarithm of MAXVAL, and by no fewer
-pub qbpp-log : (maxval log : ℕ) → 2 ^ log ≤ maxval → maxval < 2 * 2 ^ log → log < 16 → least_from (λ bits. leb (maxval + 1) (2 ^ bits)) 16 0 ≡ log + 1
+pub qbpp-log : (maxval log : ℕ) → 2 ^ log ≤ maxval → maxval < 2 * 2 ^ log → log < 16
+    → least_from (λ bits. leb (maxval + 1) (2 ^ bits)) 16 0 ≡ log + 1
 qbpp-log maxval log low high small =
     let more : 2 ^ (log + 1) ≡ 2 ^ log * 2 = pow_more 2 log in
     least_from-first (λ bits. leb (maxval + 1) (2 ^ bits)) 16 0 (log + 1) (omega arith) (omega arith)

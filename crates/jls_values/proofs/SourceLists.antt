@@ -131,7 +131,8 @@ insert-there s x h = same_set nat_cmp_total exact_unsigned _ _ (λ q. contains-i
         ] refl
 
 -- the number stands where the search found it
-pub found : (xs ys : List ℕ) (i x : ℕ) (s : set.OrderedSet nat_cmp) → IsSourceList xs → set.from_list xs ≡ s → ys ≡ xs → IsBinarySearchResult (λ y. nat_cmp y x) ys (Ok i) → set.contains s x ≡ true
+pub found : (xs ys : List ℕ) (i x : ℕ) (s : set.OrderedSet nat_cmp) → IsSourceList xs → set.from_list xs ≡ s → ys ≡ xs
+    → IsBinarySearchResult (λ y. nat_cmp y x) ys (Ok i) → set.contains s x ≡ true
 found xs ys i x s kept is same search =
     let r = searched xs x (Ok i) (subst (λ (zs : List ℕ). IsBinarySearchResult (λ y. nat_cmp y x) zs (Ok i)) same search) (never_falls xs kept.sorted) in
     ap (λ (t : set.OrderedSet nat_cmp). set.contains t x) (sym is) ∙ there-held xs i x r.0 r.1
@@ -143,7 +144,8 @@ gap xs ys i x kept same search =
     record { within = r.0; below = r.1; above = r.2 }
 
 -- some of the numbers are held: all that was held is, and nothing that all of them do not give
-pub front_between : (s : set.OrderedSet nat_cmp) (xs ys all : List ℕ) → all ≡ xs ++ ys → IsBelow set.union s (set.insert_all s xs) × IsBelow set.union (set.insert_all s xs) (set.insert_all s all)
+pub front_between : (s : set.OrderedSet nat_cmp) (xs ys all : List ℕ) → all ≡ xs ++ ys
+    → IsBelow set.union s (set.insert_all s xs) × IsBelow set.union (set.insert_all s xs) (set.insert_all s all)
 front_between s xs ys all is = (
   same_set nat_cmp_total exact_unsigned _ _ (λ q.
       contains-union nat_cmp_total s (set.insert_all s xs) q

@@ -38,7 +38,8 @@ module _ (name : Text) (rows : List Row) where
   asks_check e = rw e refl
 
   module _ (not_check : bytes_eq name (codes "check") ≡ false) where
-    pub asks_join : bytes_eq name (codes "join") ≡ true → asked_by name rows ≡ asked_join (first_of (codes "source") rows) (first_of (codes "OUT") rows) (all_of (codes "FILE") rows)
+    pub asks_join : bytes_eq name (codes "join") ≡ true
+        → asked_by name rows ≡ asked_join (first_of (codes "source") rows) (first_of (codes "OUT") rows) (all_of (codes "FILE") rows)
     asks_join e = rw (not_check, e) refl
 
     module _ (not_join : bytes_eq name (codes "join") ≡ false) where
@@ -53,7 +54,8 @@ module _ (name : Text) (rows : List Row) where
       asks_nothing d e = rw (not_check, not_join, d, e) refl
 
 -- and so what the words ask for
-pub asked_entered : (m : ArgMatches) (name : Text) (rows : List Row) (a : Option Asked) → subcommand_rows_of m ≡ Some (name, rows) → asked_by name rows ≡ a
+pub asked_entered : (m : ArgMatches) (name : Text) (rows : List Row) (a : Option Asked) → subcommand_rows_of m ≡ Some (name, rows)
+    → asked_by name rows ≡ a
     → option_and_then (λ p. asked_by p.0 p.1) (subcommand_rows_of m) ≡ a
 asked_entered m name rows a e is = ap (option_and_then (λ (p : Text × List Row). asked_by p.0 p.1)) e ∙ is
 
@@ -83,19 +85,22 @@ memory_or_not kind.Format = inr (λ e. absurd cc)
 memory_or_not kind.OutOfMemory = inl refl
 
 -- the rows of the subcommand are those of the words
-pub rows_where_read : (app : App) (words : List Text) → app ≡ salvage_app → (r : Result ArgMatches Error) → IfOk r (λ m. HasMatchesOf app words m)
+pub rows_where_read : (app : App) (words : List Text) → app ≡ salvage_app → (r : Result ArgMatches Error)
+    → IfOk r (λ m. HasMatchesOf app words m)
     → IfOk r (λ m. subcommand_rows_of m ≡ subcommand_of salvage_app words)
 rows_where_read app words e (Ok m) h = (subst (λ (a : App). HasMatchesOf a words m) e h is_simple_program).1
 rows_where_read app words e (Err f) h = tt
 
 module _ {T : Type 0} (app : App) (words : List Text) (is_app : app ≡ salvage_app) where
   -- words that are read have no fault
-  pub no_fault_where_read : (r : Result T Error) → (is_simple_and_free app ≡ true → FailsBy (fault_of app words) r) → IfOk r (λ _. fault_of salvage_app words ≡ [])
+  pub no_fault_where_read : (r : Result T Error) → (is_simple_and_free app ≡ true → FailsBy (fault_of app words) r)
+      → IfOk r (λ _. fault_of salvage_app words ≡ [])
   no_fault_where_read (Ok x) h = ap (λ (a : App). fault_of a words) (sym is_app) ∙ h (ap is_simple_and_free is_app ∙ is_simple_command)
   no_fault_where_read (Err e) h = tt
 
   -- words that are taken are refused for want of memory alone
-  pub refused_for_memory : (r : Result T Error) → IfErr r (λ e. takes app words ≡ true → kind_of e ≡ kind.OutOfMemory) → (is_simple_and_free app ≡ true → FailsBy (fault_of app words) r)
+  pub refused_for_memory : (r : Result T Error) → IfErr r (λ e. takes app words ≡ true → kind_of e ≡ kind.OutOfMemory)
+      → (is_simple_and_free app ≡ true → FailsBy (fault_of app words) r)
       → IfErr r (λ e. AreTaken words → kind_of e ≡ kind.OutOfMemory)
   refused_for_memory (Ok x) passes h = tt
   refused_for_memory (Err e) passes h = λ (taken : AreTaken words). by_case taken
@@ -106,7 +111,8 @@ module _ {T : Type 0} (app : App) (words : List Text) (is_app : app ≡ salvage_
           only_memory e (subst (λ (kinds : Kinds). HasKind kinds e) (ap (λ (a : App). fault_of a words) is_app ∙ none) (h (ap is_simple_and_free is_app ∙ is_simple_command)))
 
   -- words that are refused have a fault of this kind, unless memory ran out
-  pub refused_for_a_kind : (r : Result T Error) → IfErr r (λ e. takes app words ≡ true → kind_of e ≡ kind.OutOfMemory) → (is_simple_and_free app ≡ true → FailsBy (fault_of app words) r)
+  pub refused_for_a_kind : (r : Result T Error) → IfErr r (λ e. takes app words ≡ true → kind_of e ≡ kind.OutOfMemory)
+      → (is_simple_and_free app ≡ true → FailsBy (fault_of app words) r)
       → IfErr r (λ e. (kind_of e ≡ kind.OutOfMemory) ⊎ AreRefused words (kind_of e))
   refused_for_a_kind (Ok x) passes h = tt
   refused_for_a_kind (Err e) passes h = by_kind (memory_or_not (kind_of e))
@@ -115,7 +121,8 @@ module _ {T : Type 0} (app : App) (words : List Text) (is_app : app ≡ salvage_
       among (inl is) other = absurd (other is)
       among (inr is) other = subst (λ (kinds : Kinds). IsAmong (kind_of e) kinds) (ap (λ (a : App). fault_of a words) is_app) is
 
-      by_kind : (kind_of e ≡ kind.OutOfMemory) ⊎ (kind_of e ≡ kind.OutOfMemory → ⊥) → (kind_of e ≡ kind.OutOfMemory) ⊎ AreRefused words (kind_of e)
+      by_kind : (kind_of e ≡ kind.OutOfMemory) ⊎ (kind_of e ≡ kind.OutOfMemory → ⊥)
+          → (kind_of e ≡ kind.OutOfMemory) ⊎ AreRefused words (kind_of e)
       by_kind (inl is) = inl is
       by_kind (inr other) = inr (record {
         not_taken = λ taken. other (refused_for_memory (Err e) passes h taken);

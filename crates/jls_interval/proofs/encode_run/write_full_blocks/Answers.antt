@@ -4,7 +4,8 @@ use Rattle.jls_interval.proofs.WrittenRuns.{block_written, block_run_index, bloc
 use Rattle.jls_interval.proofs.encode_run.write_full_blocks.Goals as goal
 
 -- what a block leaves, where RUNindex and the columns are computed
-left_is : (r n now rest : ℕ) → now ≡ run_index_raised r 1 → rest ≡ 2 ^ run_order r → blocks now (n - rest) ≡ blocks (run_index_raised r 1) (n - 2 ^ run_order r)
+left_is : (r n now rest : ℕ) → now ≡ run_index_raised r 1 → rest ≡ 2 ^ run_order r
+    → blocks now (n - rest) ≡ blocks (run_index_raised r 1) (n - 2 ^ run_order r)
 left_is r n now rest a b = ap (λ z. blocks z (n - rest)) a ∙ ap (λ z. blocks (run_index_raised r 1) (n - z)) b
 
 pub loop-remaining-preserved : goal.loop-remaining-preserved

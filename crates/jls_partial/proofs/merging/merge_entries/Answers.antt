@@ -12,7 +12,8 @@ use Rattle.jls_partial.proofs.Growth.{IsSoFar, more_so_far, front_so_far, next_e
 use Rattle.jls_partial.proofs.merging.merge_entries.Goals as goal
 
 -- the readings of this line come next
-next : (old now : PartialPicture) (all : List (Reading × List ℕ)) (e : LineEntry) (it es : List LineEntry) → it ≡ e ∷ es → IsSoFar old now all (kept_readings (map kept_entry it))
+next : (old now : PartialPicture) (all : List (Reading × List ℕ)) (e : LineEntry) (it es : List LineEntry) → it ≡ e ∷ es
+    → IsSoFar old now all (kept_readings (map kept_entry it))
     → IsSoFar old now all (map (kept_at_place e.0) (kept_lines e.1) ++ kept_readings (map kept_entry es))
 next old now all e it es is h = subst (IsSoFar old now all) (ap (λ ls. kept_readings (map kept_entry ls)) is ∙ next_entry e es) h
 

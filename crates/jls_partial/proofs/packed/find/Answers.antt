@@ -14,7 +14,8 @@ abbrev S : List ℕ → List ℕ → Ordering
 S = slice_cmp nat_cmp
 
 -- how the line in the middle compares
-compared : (width : ℕ) (packed : List ℕ) (slots : List Slot) (i : ℕ) (s : Slot) (line x : List ℕ) (r : Ordering) → i < length slots → s ≡ get_or slots i s → line ≡ take width (drop s.start packed) → S line x ≡ r → S (get_or (lines_of width packed slots) i x) x ≡ r
+compared : (width : ℕ) (packed : List ℕ) (slots : List Slot) (i : ℕ) (s : Slot) (line x : List ℕ) (r : Ordering) → i < length slots
+    → s ≡ get_or slots i s → line ≡ take width (drop s.start packed) → S line x ≡ r → S (get_or (lines_of width packed slots) i x) x ≡ r
 compared width packed slots i s line x r lt is read test = ap (λ (z : List ℕ). S z x) (line_at width packed slots i s x lt is ∙ sym read) ∙ test
 
 pub returns-in-Equal : goal.returns-in-Equal

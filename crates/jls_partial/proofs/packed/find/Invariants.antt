@@ -10,7 +10,8 @@ invariant-loop-low l = record {
   low_in : l.low ≤ l.high;
   high_in : l.high ≤ length l.index;
   below : (k : ℕ) → k < l.low → slice_cmp nat_cmp (get_or (lines_of l.width l.packed l.index) k l.samples) l.samples ≡ Less;
-  above : (k : ℕ) → l.high ≤ k → k < length l.index → slice_cmp nat_cmp l.samples (get_or (lines_of l.width l.packed l.index) k l.samples) ≡ Less;
+  above : (k : ℕ) → l.high ≤ k → k < length l.index
+      → slice_cmp nat_cmp l.samples (get_or (lines_of l.width l.packed l.index) k l.samples) ≡ Less;
 }
 
 abbrev pub decreases-loop-low : goal.decreases-loop-low

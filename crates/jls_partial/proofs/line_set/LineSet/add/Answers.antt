@@ -11,10 +11,12 @@ use Rattle.jls_partial.proofs.LineSets.{found_held, gap_new, held_fits, insert-h
 use Rattle.jls_partial.proofs.line_set.LineSet.add.Goals as goal
 
 -- what was searched is what is kept
-moved_gap : (w at : ℕ) (x ps qs : List ℕ) (ss ts : List Slot) → ps ≡ qs → ss ≡ ts → IsGap (slice_cmp nat_cmp) (lines_of w ps ss) at x → IsGap (slice_cmp nat_cmp) (lines_of w qs ts) at x
+moved_gap : (w at : ℕ) (x ps qs : List ℕ) (ss ts : List Slot) → ps ≡ qs → ss ≡ ts → IsGap (slice_cmp nat_cmp) (lines_of w ps ss) at x
+    → IsGap (slice_cmp nat_cmp) (lines_of w qs ts) at x
 moved_gap w at x ps qs ss ts e f g = subst (λ (us : List Slot). IsGap (slice_cmp nat_cmp) (lines_of w qs us) at x) f (subst (λ (rs : List ℕ). IsGap (slice_cmp nat_cmp) (lines_of w rs ss) at x) e g)
 
-moved_same : (w at : ℕ) (x ps qs : List ℕ) (ss ts : List Slot) → ps ≡ qs → ss ≡ ts → get_or (lines_of w ps ss) at x ≡ x → get_or (lines_of w qs ts) at x ≡ x
+moved_same : (w at : ℕ) (x ps qs : List ℕ) (ss ts : List Slot) → ps ≡ qs → ss ≡ ts → get_or (lines_of w ps ss) at x ≡ x
+    → get_or (lines_of w qs ts) at x ≡ x
 moved_same w at x ps qs ss ts e f g = subst (λ (us : List Slot). get_or (lines_of w qs us) at x ≡ x) f (subst (λ (rs : List ℕ). get_or (lines_of w rs ss) at x ≡ x) e g)
 
 pub find-requires-clause-inside : goal.find-requires-clause-inside

@@ -20,7 +20,8 @@ index-requires c =
     omega (arith, many, items, below)
 
 -- the line is the one of its slot
-read : (precision width : ℕ) (packed : List ℕ) (slots : List Slot) (i : ℕ) (s : Slot) (x : List ℕ) → i < length slots → s ≡ get_or slots i s → x ≡ take width (drop s.start packed) → slice_get (lines_of width packed slots) i ≡ Some x
+read : (precision width : ℕ) (packed : List ℕ) (slots : List Slot) (i : ℕ) (s : Slot) (x : List ℕ) → i < length slots → s ≡ get_or slots i s
+    → x ≡ take width (drop s.start packed) → slice_get (lines_of width packed slots) i ≡ Some x
 read precision width packed slots i s x lt is e =
     let many : length (lines_of width packed slots) ≡ length slots = length-map slots (λ (t : Slot). take width (drop t.start packed)) in
     slice_get_read (lines_of width packed slots) (length (lines_of width packed slots)) i x refl (omega (arith, many, lt)) (e ∙ sym (line_at width packed slots i s x lt is))

@@ -18,14 +18,16 @@ use Rattle.jls_partial.proofs.Store.{IsAt, is_there, no_items, readings_at_there
 use Rattle.jls_partial.proofs.partial.Partial.mark_reading.Goals as goal
 
 -- where there is a reading, the lines are the same whatever stands for none
-lines_or_some : (n p w : ℕ) (es : List LineEntry) (at : Place) → n < length (set.items (lines_or (no_lines 0 0) es at).lines) → lines_or (no_lines p w) es at ≡ lines_or (no_lines 0 0) es at
+lines_or_some : (n p w : ℕ) (es : List LineEntry) (at : Place) → n < length (set.items (lines_or (no_lines 0 0) es at).lines)
+    → lines_or (no_lines p w) es at ≡ lines_or (no_lines 0 0) es at
 lines_or_some n p w es at some =
     elim (lookup (is_at (place_cmp at)) es) as (λ (o : Option PictureLines). n < length (set.items (unwrap_or o (no_lines 0 0)).lines) → unwrap_or o (no_lines p w) ≡ unwrap_or o (no_lines 0 0)) [
       | None ↦ λ lt. let none : length (set.items (set.empty {R = slice_cmp nat_cmp})) ≡ 0 = ap length no_items in absurd (omega (arith, none, lt))
       | Some L ↦ λ _. refl
     ] some
 
-is_read : (shape : PictureShape) (n : ℕ) (es : List LineEntry) (at : Place) → IsStore shape es → n < length (set.items (lines_or (no_lines 0 0) es at).lines) → IsAt shape at (lines_or (no_lines 0 0) es at)
+is_read : (shape : PictureShape) (n : ℕ) (es : List LineEntry) (at : Place) → IsStore shape es
+    → n < length (set.items (lines_or (no_lines 0 0) es at).lines) → IsAt shape at (lines_or (no_lines 0 0) es at)
 is_read shape n es at kept some =
     subst (IsAt shape at) (lines_or_some n shape.precision shape.width es at some) (is_there shape shape.precision shape.width es at refl refl kept)
 
@@ -36,7 +38,8 @@ item (x ∷ xs) zero lt = (x, refl)
 item (x ∷ xs) (suc i) lt = item xs i (omega arith)
 
 -- it fits the picture
-fits : (shape : PictureShape) (es : List LineEntry) (at : Place) (i : ℕ) (x : List ℕ) → IsStore shape es → i < length (set.items (lines_or (no_lines 0 0) es at).lines)
+fits : (shape : PictureShape) (es : List LineEntry) (at : Place) (i : ℕ) (x : List ℕ) → IsStore shape es
+    → i < length (set.items (lines_or (no_lines 0 0) es at).lines)
     → slice_get (set.items (lines_or (no_lines 0 0) es at).lines) i ≡ Some x → reading_fault shape at.component at.line x ≡ None
 fits shape es at i x kept lt got = (is_read shape i es at kept lt).fitting x (got_there (lines_or (no_lines 0 0) es at).lines i x got)
 

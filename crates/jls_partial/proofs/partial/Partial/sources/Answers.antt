@@ -30,7 +30,8 @@ returns c =
     (sym (readings_at_there 0 0 c.self.inside.shape c.self.inside.store.entries c.self.invariant c.args.self.now c.self.view_is c.args.component c.args.line))
     (each_of (slice_get (set.items L.lines) c.args.i) lent)
   where
-    each_of : (o : Option (List ℕ)) → IfSome o (λ samples. c.sources.result.now ≡ line_sources (lines_or (no_lines 0 0) c.self.inside.store.entries (place c.args.component c.args.line)) samples)
+    each_of : (o : Option (List ℕ))
+        → IfSome o (λ samples. c.sources.result.now ≡ line_sources (lines_or (no_lines 0 0) c.self.inside.store.entries (place c.args.component c.args.line)) samples)
         → IfSome o (λ samples. c.sources.result.now ≡ sources_at c.args.self.now c.args.component c.args.line samples)
     each_of None h = tt
     each_of (Some x) h = h ∙ sym (sources_at_there 0 0 c.self.inside.shape c.self.inside.store.entries c.self.invariant c.args.self.now c.self.view_is c.args.component c.args.line x)
