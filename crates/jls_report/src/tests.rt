@@ -4,7 +4,6 @@ use crate::{Report, ReportEntry};
 use jls_partial::Partial;
 use jls_values::Shape;
 use std::alloc::Global;
-use std::process::Abort;
 use std::test::Fail;
 
 /// The partial picture with these readings, each a component, a line and its one sample of 8 bits.
@@ -21,109 +20,108 @@ fn partial_of(
     Ok(partial)
 }
 
-fn check(
-    rt: &impl Abort,
-    alloc: Global,
-    size: (u16, &[u8]),
-    readings: &[(u8, u16, u16)],
-    text: &str,
-) -> Result<(), Fail> {
-    let partial = partial_of(alloc, size.0, size.1, readings)?;
-    let report = Report::of(alloc, &partial)?;
-    assert_eq!(rt; report.to_text(alloc)?.as_slice(), text.as_bytes());
-    Ok(())
-}
-
-/// Lines from 0 to 9, each with its own number as its sample, but for those that are left out, and line 6 perhaps with another.
-fn check_ten(
-    rt: &impl Abort,
-    alloc: Global,
-    left_out: (u16, u16),
-    disputed: bool,
-    text: &str,
-) -> Result<(), Fail> {
-    let mut partial = Partial::empty(alloc, Shape::new(8, 1, 10, &[1])?);
-    for line in 0..10 {
-        if line < left_out.0 || line > left_out.1 {
-            partial.insert(0, line, &[line])?;
-        }
-    }
-    if disputed {
-        partial.insert(0, 6, &[8])?;
-    }
-    let report = Report::of(alloc, &partial)?;
-    assert_eq!(rt; report.to_text(alloc)?.as_slice(), text.as_bytes());
-    Ok(())
-}
-
-#[test]
-fn ten_lines(rt: HostRuntime) -> Result<(), Fail> {
-    for (left_out, disputed, text) in [
-        (
-            (10, 10),
-            false,
-            "picture 1x10, 8 bits, components 1\nsettled 10, missing 0, disputed 0\n",
-        ),
-        (
-            (1, 7),
-            false,
-            "picture 1x10, 8 bits, components 1\nsettled 3, missing 7, disputed 0\nmissing 1 1-7\n",
-        ),
-        (
-            (2, 9),
-            false,
-            "picture 1x10, 8 bits, components 1\nsettled 2, missing 8, disputed 0\nmissing 1 2-9\n",
-        ),
-        (
-            (3, 4),
-            false,
-            "picture 1x10, 8 bits, components 1\nsettled 8, missing 2, disputed 0\nmissing 1 3-4\n",
-        ),
-        (
-            (10, 10),
-            true,
-            "picture 1x10, 8 bits, components 1\nsettled 9, missing 0, disputed 1\ndisputed 1 6 2\n",
-        ),
-    ] {
-        check_ten(&rt, rt.alloc(), left_out, disputed, text)?;
-    }
-    Ok(())
-}
-
-#[test]
-fn one_line(rt: HostRuntime) -> Result<(), Fail> {
-    let alloc = rt.alloc();
-    check(
-        &rt,
-        alloc,
-        (1, &[2]),
+/// A height, identifiers, readings as above, and the text of the report.
+const REPORTS: [(u16, &[u8], &[(u8, u16, u16)], &str); 9] = [
+    (
+        10,
+        &[1],
+        &[
+            (0, 0, 0),
+            (0, 1, 1),
+            (0, 2, 2),
+            (0, 3, 3),
+            (0, 4, 4),
+            (0, 5, 5),
+            (0, 6, 6),
+            (0, 7, 7),
+            (0, 8, 8),
+            (0, 9, 9),
+        ],
+        "picture 1x10, 8 bits, components 1\nsettled 10, missing 0, disputed 0\n",
+    ),
+    (
+        10,
+        &[1],
+        &[(0, 0, 0), (0, 8, 8), (0, 9, 9)],
+        "picture 1x10, 8 bits, components 1\nsettled 3, missing 7, disputed 0\nmissing 1 1-7\n",
+    ),
+    (
+        10,
+        &[1],
+        &[(0, 0, 0), (0, 1, 1)],
+        "picture 1x10, 8 bits, components 1\nsettled 2, missing 8, disputed 0\nmissing 1 2-9\n",
+    ),
+    (
+        10,
+        &[1],
+        &[
+            (0, 0, 0),
+            (0, 1, 1),
+            (0, 2, 2),
+            (0, 5, 5),
+            (0, 6, 6),
+            (0, 7, 7),
+            (0, 8, 8),
+            (0, 9, 9),
+        ],
+        "picture 1x10, 8 bits, components 1\nsettled 8, missing 2, disputed 0\nmissing 1 3-4\n",
+    ),
+    (
+        10,
+        &[1],
+        &[
+            (0, 0, 0),
+            (0, 1, 1),
+            (0, 2, 2),
+            (0, 3, 3),
+            (0, 4, 4),
+            (0, 5, 5),
+            (0, 6, 6),
+            (0, 7, 7),
+            (0, 8, 8),
+            (0, 9, 9),
+            (0, 6, 8),
+        ],
+        "picture 1x10, 8 bits, components 1\nsettled 9, missing 0, disputed 1\ndisputed 1 6 2\n",
+    ),
+    (
+        1,
+        &[2],
         &[],
         "picture 1x1, 8 bits, components 2\nsettled 0, missing 1, disputed 0\nmissing 2 0-0\n",
-    )?;
-    for readings in [[(0, 0, 3), (0, 0, 5)], [(0, 0, 1), (0, 0, 255)]] {
-        check(
-            &rt,
-            alloc,
-            (1, &[1]),
-            &readings,
-            "picture 1x1, 8 bits, components 1\nsettled 0, missing 0, disputed 1\ndisputed 1 0 2\n",
-        )?;
+    ),
+    (
+        1,
+        &[1],
+        &[(0, 0, 3), (0, 0, 5)],
+        "picture 1x1, 8 bits, components 1\nsettled 0, missing 0, disputed 1\ndisputed 1 0 2\n",
+    ),
+    (
+        1,
+        &[1],
+        &[(0, 0, 1), (0, 0, 255)],
+        "picture 1x1, 8 bits, components 1\nsettled 0, missing 0, disputed 1\ndisputed 1 0 2\n",
+    ),
+    (
+        3,
+        &[9, 1],
+        &[(0, 1, 4), (1, 1, 9), (1, 1, 8), (1, 1, 7)],
+        "picture 1x3, 8 bits, components 9,1\nsettled 1, missing 4, disputed 1\nmissing 9 0-0\nmissing 9 2-2\n\
+missing 1 0-0\ndisputed 1 1 3\nmissing 1 2-2\n",
+    ),
+];
+
+/// Pictures of ten lines, each its own number as its sample, some without lines or with another reading; of one line; and of two
+/// components: a range ends with its component, and components are named by their identifiers.
+#[test]
+fn texts(rt: HostRuntime) -> Result<(), Fail> {
+    let alloc = rt.alloc();
+    for (height, ids, readings, text) in REPORTS {
+        let partial = partial_of(alloc, height, ids, readings)?;
+        let report = Report::of(alloc, &partial)?;
+        assert_eq!(rt; report.to_text(alloc)?.as_slice(), text.as_bytes());
     }
     Ok(())
-}
-
-/// A range ends with its component, and components are named by their identifiers.
-#[test]
-fn two_components(rt: HostRuntime) -> Result<(), Fail> {
-    let alloc = rt.alloc();
-    let readings = [(0, 1, 4), (1, 1, 9), (1, 1, 8), (1, 1, 7)];
-    check(
-        &rt,
-        alloc,
-        (3, &[9, 1]),
-        &readings,
-        "picture 1x3, 8 bits, components 9,1\nsettled 1, missing 4, disputed 1\nmissing 9 0-0\nmissing 9 2-2\nmissing 1 0-0\ndisputed 1 1 3\nmissing 1 2-2\n",
-    )
 }
 
 #[test]
