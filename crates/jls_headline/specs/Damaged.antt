@@ -28,7 +28,7 @@ HasHeadOfPicture pic s k bytes =
 
 -- Scan data ----------------------------------------------------------------------------------------------------
 
--- P holds of each piece under its number: this one of the first piece, then these, whose marks stand before their pieces
+-- P holds of each piece under its number: the first piece has the number given, those behind marks have these, and the marks are theirs
 abbrev pub PiecesAre : (ℕ → List ℕ → Type 0) → ℕ → List ClosedPiece → List ℕ → List ℕ → Type 0
 PiecesAre P number [] last [] = P number last
 PiecesAre P number (c ∷ closed) last (next ∷ numbers) =
