@@ -1,7 +1,8 @@
 //! Devices made from std's readers and writers.
 
-ghost use Rattle.std.specs.Prelude.{◌≡◌, [], ◌∷◌};
-ghost use Rattle.jls_device.specs.Event.{History, opened, created, has_input};
+ghost use Rattle.std.specs.Prelude.{◌≡◌, ℕ, List, [], ◌∷◌, ◌++◌, Option, None, IfSome, OnOk, OnErr};
+ghost use Rattle.std.specs.Io.KnownBytes.{Keeps, IsAtEnd};
+ghost use Rattle.jls_device.specs.Event.{History, opened, not_opened, created, not_created, has_input};
 ghost use Rattle.jls_device.specs.Remaining.{remaining_behind};
 
 use crate::device::{Desk, DeskFault, Device, Sink, SinkFault, Source, SourceFault};
@@ -12,12 +13,21 @@ use std::io::{Read, Write};
 
 /// Inputs and outputs that are opened by their names. Reads go to the input that was opened last, and writes to the
 /// output that was created last.
-pub trait Open {
+pub trait Open: Read + Write {
+    // What the input of a name has, where it is known.
+    ghost file: { Self → List ℕ → Option (List ℕ) } = { λ _ _. None };
+
+    // The name of the output that was created last, where it is known.
+    ghost output: { Self → Option (List ℕ) } = { λ _. None };
+
     /// Opens the input of this name.
-    fn open_input(&mut self, name: &str) -> io::Result<()>;
+    fn open_input(&mut self, name: &str) -> io::Result<()>
+        ensures file { OnOk result (Keeps (file self.old name.now) (Self.remaining self.new)) };
 
     /// Creates the output of this name, or empties it.
-    fn create_output(&mut self, name: &str) -> io::Result<()>;
+    fn create_output(&mut self, name: &str) -> io::Result<()>
+        ensures named { OnOk result (IfSome (output self.new) (λ created. created ≡ name.now)) }
+        ensures empty { OnOk result (IsAtEnd (Self.contents self.new)) };
 }
 
 /// A device over a reader, a writer or files of std: it notes each call, with what the call gave or took.
@@ -27,8 +37,8 @@ pub trait Open {
 /// output is open fails; the stream behind is not asked.
 ///
 /// Contracts speak of what is noted. Where the bytes behind the device are known, as those of a list in memory, what is noted is
-/// what they lose or gain (`reads_give_the_content`, `writes_are_held`). That each call asks the stream or the files behind it only
-/// once, and by the same name, no contract says: it is read here.
+/// what they lose or gain (`reads_give_the_content`, `writes_are_held`), and names are handed on (`Open`). That each call asks the
+/// stream or the files behind it only once no contract says: it is read here.
 #[derive(Drop)]
 pub struct Counted<T> {
     inner: T,
@@ -114,8 +124,12 @@ impl<W: Write> Sink for Counted<W> {
     }
 }
 
-impl<F: Read + Write + Open> Desk for Counted<F> {
-    fn open_input(&mut self, name: &str) -> Result<(), DeskFault> {
+impl<F: Open> Desk for Counted<F> {
+    fn open_input(&mut self, name: &str) -> Result<(), DeskFault>
+        ensures opened { OnOk result (self.new.ledger ≡ self.old.ledger ++ opened name.now ∷ []) }
+        ensures failed { OnErr result (self.new.ledger ≡ self.old.ledger ++ not_opened name.now ∷ []) }
+        ensures file { OnOk result (Keeps (F.file self.old.inner name.now) (F.remaining self.new.inner)) }
+    {
         match self.inner.open_input(name) {
             Ok(()) => {
                 self.ledger.note(Noted::Opened(name));
@@ -128,7 +142,12 @@ impl<F: Read + Write + Open> Desk for Counted<F> {
         }
     }
 
-    fn create_output(&mut self, name: &str) -> Result<(), DeskFault> {
+    fn create_output(&mut self, name: &str) -> Result<(), DeskFault>
+        ensures created { OnOk result (self.new.ledger ≡ self.old.ledger ++ created name.now ∷ []) }
+        ensures failed { OnErr result (self.new.ledger ≡ self.old.ledger ++ not_created name.now ∷ []) }
+        ensures named { OnOk result (IfSome (F.output self.new.inner) (λ created. created ≡ name.now)) }
+        ensures empty { OnOk result (IsAtEnd (F.contents self.new.inner)) }
+    {
         match self.inner.create_output(name) {
             Ok(()) => {
                 self.ledger.note(Noted::Created(name));
