@@ -14,6 +14,8 @@ mod TellsSegment
 mod ReadingTells
 mod CourseTold
 mod DataBytes
+mod Stretches
+mod StretchEnds
 mod Gathering
 mod CutOutcomes
 mod CutGathering

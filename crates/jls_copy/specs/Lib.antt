@@ -9,6 +9,7 @@ pub mod ReadCopy
 pub mod Fits
 pub mod Findings
 pub mod ReaderState
+pub mod Stretch
 pub mod Sound
 pub mod Machine
 pub mod Gathers

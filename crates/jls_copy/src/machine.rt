@@ -1,12 +1,13 @@
 //! A copy, byte after byte.
 
-ghost use Rattle.std.specs.Prelude.{◌≡◌, ◌+◌, ◌-◌, ◌*◌, ◌^◌, ◌∷◌, ◌++◌, [], ◌<◌, ◌≤◌, ℕ, OnOk, IfOk, true, false, Some, None, is_some, length};
+ghost use Rattle.std.specs.Prelude.{◌≡◌, ◌+◌, ◌-◌, ◌*◌, ◌^◌, ◌∷◌, ◌++◌, [], ◌<◌, ◌≤◌, ℕ, OnOk, IfOk, true, false, Some, None, is_some, List, Option, length, take};
 ghost use Rattle.jls_copy.specs.ReaderState as state;
 ghost use Rattle.jls_copy.specs.Machine.{state_of, IsMachine, IsBehind};
 ghost use Rattle.jls_copy.specs.Findings.{Adds, AddsCut, HoldsShape};
 ghost use Rattle.jls_marker.specs.Scan.{intervals};
 ghost use Rattle.jls_copy.specs.Numbers.{number_behind};
 ghost use Rattle.jls_values.specs.Shape.{PictureShape};
+ghost use Rattle.jls_copy.specs.Stretch.{LeadsTo};
 ghost use Rattle.jls_copy.specs.Sound.{IsPlace, IsOpenScan, IsOpenPiece, IsOfFrame};
 
 use crate::end::End;
@@ -311,6 +312,20 @@ impl Machine {
         }
         self.count += 1;
         Ok(())
+    }
+
+    /// As many of these bytes as one piece can be told at once. How many is the answer.
+    pub(crate) fn take_stretch(&mut self, bytes: &[u8]) -> Result<usize, AllocError>
+        requires { self.old.count + length bytes.now < 2 ^ 63 }
+        ensures within { IfOk result (λ taken. taken ≤ length bytes.now) }
+        ensures leads { IfOk result (λ taken. LeadsTo self.old.place (take taken bytes.now) self.new.place) }
+        ensures count { IfOk result (λ taken. self.new.count ≡ self.old.count + taken) }
+        ensures kept { OnOk result ((self.new.headers ≡ self.old.headers) × (self.new.payload ≡ self.old.payload) × (self.new.findings ≡ self.old.findings)) }
+        ensures sound { OnOk result ((frame : Option PictureShape) (payload : List ℕ) → IsPlace frame self.old.place payload → IsPlace frame self.new.place payload) }
+    {
+        let taken = self.place.take_stretch(bytes)?;
+        self.count += taken as u64;
+        Ok(taken)
     }
 
     /// Takes what the piece gives that the input's end closes.

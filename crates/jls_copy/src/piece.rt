@@ -74,4 +74,14 @@ impl OpenPiece {
             OpenPiece::Beyond(_) => Ok(()),
         }
     }
+
+    /// Tells the next bytes.
+    pub(crate) fn push_all(&mut self, bytes: &[u8]) -> Result<(), AllocError>
+        ensures { OnOk result (self.new ≡ piece_with self.old bytes.now) }
+    {
+        match self {
+            OpenPiece::Within(_, decoder) => decoder.push_all(bytes),
+            OpenPiece::Beyond(_) => Ok(()),
+        }
+    }
 }
