@@ -1,5 +1,6 @@
 mod OneMoreByte
 mod OneCut
+mod UnitsCut
 pub mod NumbersGiven
 mod CutExamples
 pub mod OneCourse

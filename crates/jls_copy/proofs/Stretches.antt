@@ -1,5 +1,5 @@
 -- A stretch of scan data, taken at once, leads where its bytes do one after another.
-use Rattle.std.proofs.Common.{◌≡◌, ℕ, zero, suc, ◌+◌, ◌<◌, true, false, ◌≢◌, List, [], ◌∷◌, ◌++◌, length, Option, Some, None, refl, sym, ap, ◌∙◌, subst, append_assoc, arith, add-zero, ◌⊎◌, inl, inr}
+use Rattle.std.proofs.Common.{◌≡◌, ℕ, ◌+◌, ◌<◌, false, ◌≢◌, List, [], ◌∷◌, ◌++◌, length, Option, Some, None, refl, sym, ap, ◌∙◌, subst, append_assoc, arith, add-zero, ◌⊎◌, inl, inr}
 use Rattle.std.proofs.lemmas.List.{append-nil}
 use Rattle.std.proofs.lemmas.Bool.{cases_eq}
 use Rattle.std.proofs.lemmas.Bool.Decides.{nat_tests}
@@ -8,19 +8,17 @@ use Rattle.std.specs.Option.{option_map}
 use Rattle.jls_marker.specs.HeaderState.{HeaderState}
 use Rattle.jls_copy.specs.Pieces.{FoundPiece}
 use Rattle.jls_copy.specs.ScanData.{is_restart_code, ends_scan_data}
-use Rattle.jls_copy.specs.ReaderState.{Reading, reading_from, reading_with, piece_with, scan_with, class_of, closed_by, from_scan}
+use Rattle.jls_copy.specs.ReaderState.{Reading, reading_from, reading_with, piece_with, scan_with, class_of}
 use Rattle.jls_copy.specs.Sound.{IsPlace}
 use Rattle.jls_copy.specs.Stretch.{IsStretch, LeadsTo}
 use Rattle.jls_copy.proofs.Outcomes.{told_sound}
 use Rattle.jls_values.specs.Shape.{PictureShape}
 use Rattle.jls_copy.specs.declared.piece.OpenPiece.{OpenPiece}
 use Rattle.jls_copy.specs.declared.piece.OpenPiece.TheVariants as open_piece
-use Rattle.jls_copy.specs.declared.scan.ByteClass.{ByteClass}
-use Rattle.jls_copy.specs.declared.scan.ByteClass.TheVariants.{Fill, Data}
+use Rattle.jls_copy.specs.declared.scan.ByteClass.TheVariants.{Data}
 use Rattle.jls_copy.specs.declared.scan.Held.{Held}
 use Rattle.jls_copy.specs.declared.scan.Held.TheVariants.{Nothing, One}
 use Rattle.jls_copy.specs.declared.scan.OpenScan.{OpenScan}
-use Rattle.jls_copy.specs.declared.place.Place.{Place}
 use Rattle.jls_copy.specs.declared.place.Place.TheVariants.{InScan}
 
 -- telling a piece nothing, or in two parts
@@ -110,10 +108,6 @@ stretch_leads scan next xs free ok told count h payload ps =
     let after : next ≡ holding scan Nothing (piece_with scan.piece xs) = told ∙ ap (λ held. record scan { held = held; piece = piece_with scan.piece xs }) free in
     rw after (subst (λ s. reading_from (record { state = record { count = count; place = InScan s; headers = h; payload = payload }; pieces = ps }) xs
     ≡ at scan h payload (count + length xs) Nothing (piece_with scan.piece xs) ps) (sym before) (stretched scan h payload xs ok count scan.piece ps))
-
--- no byte leads nowhere else
-pub none_leads : (p : Place) → LeadsTo p [] p
-none_leads p count h payload ps = rw (add-zero count) refl
 
 -- and is still a scan of the frame
 pub stretch_sound : (scan next : OpenScan) (xs : List ℕ) → next ≡ record scan { piece = piece_with scan.piece xs } → (frame : Option PictureShape) (payload : List ℕ)

@@ -1,7 +1,7 @@
 pub mod ScanData
 pub mod Numbers
-pub mod CutLaws
 pub mod Course
+pub mod CutLaws
 pub mod CourseLaws
 pub mod Pieces
 pub mod CutPieces

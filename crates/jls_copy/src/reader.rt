@@ -1,6 +1,7 @@
 //! One copy of a picture, fed in slices of any size.
 
-ghost use Rattle.std.specs.Prelude.{◌≡◌, ◌+◌, ◌-◌, ◌≤◌, ◌<◌, ◌^◌, ◌∷◌, ◌++◌, [], length, Some, None, IfSome, OnOk, OnErr, IsOk, IsSome, IsErr, IfOk, IfErr, IfNone, take};
+ghost use Rattle.std.specs.Prelude.{◌≡◌, ◌+◌, ◌-◌, ◌≤◌, ◌<◌, ◌^◌, ◌∷◌, ◌++◌, [], length, Some, None, IfSome, OnOk, OnErr, IsOk, IsSome};
+ghost use Rattle.std.specs.Prelude.{IsErr, IfOk, IfErr, IfNone, take};
 ghost use Rattle.jls_copy.specs.ReadCopy.{after};
 ghost use Rattle.jls_copy.specs.Conclusion as reader;
 ghost use Rattle.jls_copy.specs.CopyReads as copy;
@@ -19,13 +20,16 @@ use jls_marker::{Headers, MarkerFault};
 use jls_partial::Partial;
 use std::alloc::{AllocError, Global};
 use std::marker::Model;
+use thiserror::Error;
 
 /// Why a copy gives nothing.
-#[derive(Clone, Copy, Debug, PartialEq, Eq)]
+#[derive(Clone, Copy, Debug, PartialEq, Eq, Error)]
 pub enum CopyFault {
     /// No frame was taken: the fault that ended the copy, and its offset.
+    #[error("no picture: {0} at offset {1}")]
     NoPicture(MarkerFault, u64),
     /// Memory was refused, in a `feed` or in `finish`. Nothing is said of the copy.
+    #[error("out of memory")]
     OutOfMemory,
 }
 
@@ -263,7 +267,9 @@ fn no_picture(ended: End) -> CopyFault
 
 /// What a machine at its end holds.
 fn conclude(machine: Machine, ended: End) -> Result<CopyRead, CopyFault>
-    ensures read { IfOk result (λ read. (shape : PictureShape) × (machine.headers.frame ≡ Some shape) × (read.partial ≡ picture_of shape machine.findings.partial) × (read.pieces ≡ machine.findings.records.items) × (read.piece_count ≡ machine.findings.record_count) × (read.ended ≡ ended)) }
+    ensures read { IfOk result
+        (λ read. (shape : PictureShape) × (machine.headers.frame ≡ Some shape) × (read.partial ≡ picture_of shape machine.findings.partial)
+        × (read.pieces ≡ machine.findings.records.items) × (read.piece_count ≡ machine.findings.record_count) × (read.ended ≡ ended)) }
     ensures none { IfErr result (λ fault. (machine.headers.frame ≡ None) × (fault ≡ copy.no_picture ended)) }
 {
     let Machine {

@@ -67,6 +67,7 @@ fn ends_scan_data(code: u8) -> bool
         || (code >= 0xe0 && code <= 0xef)
 }
 
+/// What a byte of scan data does behind these held bytes.
 pub(crate) fn class_of(held: Held, byte: u8) -> ByteClass
     ensures class { result ≡ state.class_of held byte }
     ensures mark { result ≡ Mark → (208 ≤ byte) × (byte < 216) }
@@ -156,7 +157,9 @@ impl OpenScan {
     pub(crate) fn tell_stretch(&mut self, bytes: &[u8]) -> Result<usize, AllocError>
         ensures within { IfOk result (λ count. count ≤ length bytes.now) }
         ensures leads { IfOk result (λ count. LeadsTo (InScan self.old) (take count bytes.now) (InScan self.new)) }
-        ensures sound { IfOk result (λ count. (frame : Option PictureShape) (payload : List ℕ) → IsPlace frame (InScan self.old) payload → IsPlace frame (InScan self.new) payload) }
+        ensures sound { IfOk result
+            (λ count. (frame : Option PictureShape) (payload : List ℕ) → IsPlace frame (InScan self.old) payload
+            → IsPlace frame (InScan self.new) payload) }
     {
         match self.held {
             Held::Nothing => {
