@@ -1,5 +1,5 @@
 -- One byte more, over what a reader holds.
-use Rattle.std.proofs.Common.{◌≡◌, ℕ, ◌+◌, ◌-◌, ◌^◌, ◌<◌, ◌≤◌, Bool, true, false, List, [], ◌∷◌, ◌++◌, take, length, Option, Some, None, refl, sym, ap, ◌∙◌, subst, append_assoc, arith, length-append, ◌⊎◌, inl, inr}
+use Rattle.std.proofs.Common.{◌≡◌, ℕ, zero, suc, get_or, ◌+◌, ◌-◌, ◌^◌, ◌<◌, ◌≤◌, Bool, true, false, List, [], ◌∷◌, ◌++◌, take, length, Option, Some, None, refl, sym, ap, ◌∙◌, subst, append_assoc, arith, add-zero, length-append, ◌⊎◌, inl, inr}
 use Rattle.std.proofs.lemmas.List.{append-nil, take_all, take-append-le, length-take}
 use Rattle.std.proofs.lemmas.Bool.{cases_lt}
 use Rattle.std.proofs.lemmas.Bool.Decides.{nat_tests}
@@ -17,7 +17,7 @@ use Rattle.jls_values.specs.OrderedSet as set
 use Rattle.jls_values.specs.OrderedSetLaws.{insert_all-append}
 use Rattle.jls_values.specs.Shape.{PictureShape}
 use Rattle.jls_partial.specs.Partial.{PartialPicture, without_sources}
-use Rattle.jls_marker.specs.HeaderState.{HeaderState}
+use Rattle.jls_marker.specs.HeaderState.{HeaderState, no_headers}
 use Rattle.jls_marker.specs.Scan.{Scan}
 use Rattle.jls_marker.specs.Headers.{headers_after}
 use Rattle.jls_copy.specs.Pieces.{FoundPiece, PieceOutcome, Lines, Fault, IsOutcome, readings_of, records_of}
@@ -25,8 +25,10 @@ use Rattle.jls_copy.specs.Findings.{Adds, HoldsShape, with_readings, picture_of,
 use Rattle.jls_copy.specs.Gathers.{Gathers}
 use Rattle.jls_copy.specs.Pieces.{AreOutcomes, readings, records}
 use Rattle.jls_copy.specs.ReaderState.{Step, Reading, reading, reading_with, reading_from, after_byte, step_from, closed_at, segment_taken}
-use Rattle.jls_copy.specs.Machine.{state_of}
+use Rattle.jls_copy.specs.Machine.{state_of, IsBehind}
+use Rattle.jls_copy.specs.Stretch.{LeadsTo}
 use Rattle.jls_copy.specs.Reader.{IsReading}
+use Rattle.jls_copy.specs.ReadCopy.{after}
 use Rattle.jls_copy.specs.Sound.{IsPlace}
 use Rattle.jls_copy.specs.declared.machine.Machine.{Machine}
 use Rattle.jls_copy.specs.declared.findings.Findings.{Findings}
@@ -223,3 +225,50 @@ fed_or_failed false bytes v P e f = subst (λ o. IfSome o P) e (f refl)
 -- the picture that is held has the frame's shape
 pub held_shape : (frame : Option PictureShape) (ps : List FoundPiece) (f : Findings) → Gathers frame ps f → (shape : PictureShape) → frame ≡ Some shape → HoldsShape f.partial shape
 held_shape frame ps f g shape framed p e = ap (λ q. q.shape) (ap (picture_of shape) (sym e) ∙ g.picture_is shape framed)
+
+-- bytes that close no piece
+from_append : (r : Reading) (xs ys : List ℕ) → reading_from r (xs ++ ys) ≡ reading_from (reading_from r xs) ys
+from_append r [] ys = refl
+from_append r (x ∷ xs) ys = from_append (reading_with r x) xs ys
+
+low_all : (xs ys : List ℕ) → AllByRecursion (λ x. x < 256) xs → AllByRecursion (λ x. x < 256) ys → AllByRecursion (λ x. x < 256) (xs ++ ys)
+low_all [] ys h l = l
+low_all (x ∷ xs) ys h l = (h.0, low_all xs ys h.1 l)
+
+behind_on : (p q : Place) (n : ℕ) (more : List ℕ) → IsBehind p n → LeadsTo p more q → IsBehind q (n + length more)
+behind_on p q n [] h leads = rw add-zero (subst (λ place. IsBehind place n) (ap (λ r. r.state.place) (leads 0 no_headers [] [])) h)
+behind_on p q n (b ∷ more) h leads = behind_some q (n + length (b ∷ more)) (omega arith)
+
+pub reading_on : (m n : Machine) (bytes more : List ℕ) → IsReading m bytes → LeadsTo m.place more n.place → n.count ≡ m.count + length more
+    → (n.headers ≡ m.headers) × (n.payload ≡ m.payload) × (n.findings ≡ m.findings)
+    → ((frame : Option PictureShape) (payload : List ℕ) → IsPlace frame m.place payload → IsPlace frame n.place payload)
+    → length bytes + length more ≤ 2 ^ 63 - 1 → AllByRecursion (λ x. x < 256) more → IsReading n (bytes ++ more)
+reading_on m n bytes more h leads count kept sound small low =
+    let all : reading (bytes ++ more) ≡ reading_from (reading bytes) more = from_append _ bytes more in
+    let before : reading bytes ≡ record { state = state_of m; pieces = (reading bytes).pieces } = ap (λ s. record { state = s; pieces = (reading bytes).pieces }) (sym h.state_is) in
+    let there = leads m.count m.headers m.payload.items (reading bytes).pieces in
+    let told : reading (bytes ++ more) ≡ record { state = state_of n; pieces = (reading bytes).pieces } =
+    all ∙ ap (λ r. reading_from r more) before ∙ there ∙ rw (kept.0, kept.1, count) refl in
+    record {
+      state_is = sym (ap (λ r. r.state) told);
+      gathers = rw (kept.0, kept.2) (subst (λ ps. Gathers m.headers.frame ps m.findings) (sym (ap (λ r. r.pieces) told)) h.gathers);
+      count_is = count ∙ ap (λ k. k + length more) h.count_is ∙ sym (length-append bytes more);
+      few = omega (arith, length-append bytes more);
+      are_bytes = low_all bytes more h.are_bytes low;
+      place_is = rw (kept.0, kept.1) (sound m.headers.frame m.payload.items h.place_is);
+      behind = rw count (behind_on m.place n.place m.count more h.behind leads);
+      records_counted = rw kept.2 (omega (arith, count, h.records_counted));
+      records_kept = rw kept.2 h.records_kept;
+      header_bytes = rw kept.1 h.header_bytes;
+    }
+
+-- bytes fed in two slices
+pub after_then : (fed : Option (List ℕ)) (xs ys : List ℕ) → after (after fed xs) ys ≡ after fed (xs ++ ys)
+after_then None xs ys = refl
+after_then (Some bytes) xs ys = ap Some (append_assoc bytes xs ys)
+
+-- the first bytes of a slice
+pub all_bytes : (n : ℕ) (xs : List ℕ) → ((k : ℕ) → get_or xs k 0 < 256) → AllByRecursion (λ x. x < 256) (take n xs)
+all_bytes zero xs each = tt
+all_bytes (suc n) [] each = tt
+all_bytes (suc n) (x ∷ xs) each = (each 0, all_bytes n xs (λ k. each (suc k)))

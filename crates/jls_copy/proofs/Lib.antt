@@ -1,5 +1,6 @@
 mod OneMoreByte
 mod OneCut
+mod UnitsCut
 pub mod NumbersGiven
 mod CutExamples
 pub mod OneCourse
@@ -14,6 +15,8 @@ mod TellsSegment
 mod ReadingTells
 mod CourseTold
 mod DataBytes
+mod Stretches
+mod StretchEnds
 mod Gathering
 mod CutOutcomes
 mod CutGathering

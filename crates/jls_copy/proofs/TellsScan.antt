@@ -5,9 +5,9 @@ use Rattle.std.proofs.lemmas.List.{append-nil}
 use Rattle.std.proofs.lemmas.Grind.{flat_map-append}
 use Rattle.std.proofs.lemmas.Bool.{cases_eq, cases_Bool}
 use Rattle.std.proofs.lemmas.Bool.Decides.{nat_tests}
-use Rattle.std.specs.List.{flat_map, AllByRecursion}
+use Rattle.std.specs.List.{flat_map}
 use Rattle.jls_copy.proofs.HeaderFacts.{scan_has_frame}
-use Rattle.jls_copy.specs.ScanData.{fill_bytes, ClosedPiece, closed_bytes, IsClosedPiece, IsPiece, ends_scan_data, is_restart_code, closes_piece}
+use Rattle.jls_copy.specs.ScanData.{fill_bytes, ClosedPiece, closed_bytes, ends_scan_data, is_restart_code, closes_piece}
 use Rattle.jls_copy.specs.Numbers.{PieceNumber, Interval, BeyondLast, number_behind, given_last}
 use Rattle.jls_marker.specs.HeaderState.{HeaderState}
 use Rattle.jls_marker.specs.Scan.{Scan, intervals}
@@ -25,6 +25,7 @@ use Rattle.jls_copy.specs.declared.scan.Held.TheVariants.{Nothing, One, More}
 use Rattle.jls_copy.specs.declared.scan.ByteClass.TheVariants.{Fill, Mark, Stop, Data}
 use Rattle.jls_copy.specs.declared.scan.OpenScan.{OpenScan}
 use Rattle.jls_copy.proofs.Alike.{same_more}
+use Rattle.jls_copy.proofs.OneMoreByte.{piece_more, each_more}
 use Rattle.jls_copy.proofs.TellsMore.{fill_more, fill_length, fill_marker_more}
 
 fill_snoc : (n : ℕ) → fill_bytes n ++ 255 ∷ [] ≡ fill_bytes (suc n)
@@ -60,22 +61,6 @@ more_held : (held : Held) (n : ℕ) → HeldIs held n → HeldIs (one_more held)
 more_held Nothing n h = ap suc h
 more_held One n h = (0, ap suc h)
 more_held More n h = (suc h.0, ap suc h.1)
-
--- pieces of scan data go on
-piece_fills : (n b : ℕ) → b ≢ 255 → (0 < n → closes_piece b ≡ false) → IsPiece (fill_bytes n ++ (b ∷ []))
-piece_fills zero b ne free = ne
-piece_fills (suc zero) b ne free = (λ _. free (omega arith), ne)
-piece_fills (suc (suc n)) b ne free = (λ _. refl, piece_fills (suc n) b ne (λ _. free (omega arith)))
-
-piece_more : (w : List ℕ) (n b : ℕ) → IsPiece w → b ≢ 255 → (0 < n → closes_piece b ≡ false) → IsPiece (w ++ (fill_bytes n ++ (b ∷ [])))
-piece_more [] n b p ne free = piece_fills n b ne free
-piece_more (a ∷ []) zero b p ne free = (λ e. absurd (p e), ne)
-piece_more (a ∷ []) (suc n) b p ne free = (λ e. absurd (p e), piece_fills (suc n) b ne free)
-piece_more (a ∷ c ∷ w) n b p ne free = (p.0, piece_more (c ∷ w) n b p.1 ne free)
-
-each_more : (cs : List ClosedPiece) (c : ClosedPiece) → AllByRecursion IsClosedPiece cs → IsClosedPiece c → AllByRecursion IsClosedPiece (cs ++ c ∷ [])
-each_more [] c all here = (here, tt)
-each_more (x ∷ xs) c all here = (all.0, each_more xs c all.1 here)
 
 pub alike_more : (ps qs : List FoundPiece) (p q : FoundPiece) → AlikePieces ps qs → AlikePiece p q → AlikePieces (ps ++ p ∷ []) (qs ++ q ∷ [])
 alike_more [] [] p q h a = (a, tt)

@@ -32,7 +32,9 @@ pub record Concludes (r : Reading) (read : ReadCopy) : Type 0 where
   pub each : AreOutcomes (all_pieces r) outcomes
   pub head : List (List ℕ)
   pub head_is : IsHeadOfCut (closed_at_end r.state.place) head
-  pub partial_is : read.partial ≡ without_sources shape (set.insert_all set.empty (readings (all_pieces r) outcomes ++ head_readings (closed_at_end r.state.place) head))
+  pub partial_is : read.partial
+      ≡ without_sources shape (set.insert_all set.empty (readings (all_pieces r) outcomes
+      ++ head_readings (closed_at_end r.state.place) head))
   pub pieces_are : read.pieces ≡ take 4096 (records (all_pieces r) outcomes)
   pub count_is : read.piece_count ≡ length (records (all_pieces r) outcomes)
   pub ended_is : read.ended ≡ end_at r.state.place r.state.count

@@ -10,7 +10,8 @@ use Rattle.jls_copy.specs.declared.reader.CopyFault.TheVariants.{NoPicture}
 -- of a list of bytes: what it gives as a whole copy, and whether it gives anything, is one thing
 pub record CopiesGiveOne (bytes : List ℕ) : Type 0 where
   pub one_reading : (r s : ReadCopy) → CopyReads bytes r → CopyReads bytes s → r ≡ s
-  pub one_fault : (f g : MarkerFault) (m n : ℕ) → CopyGivesNone bytes (NoPicture f m) → CopyGivesNone bytes (NoPicture g n) → (f ≡ g) × (m ≡ n)
+  pub one_fault : (f g : MarkerFault) (m n : ℕ) → CopyGivesNone bytes (NoPicture f m) → CopyGivesNone bytes (NoPicture g n)
+      → (f ≡ g) × (m ≡ n)
   pub not_both : (r : ReadCopy) (f : MarkerFault) (n : ℕ) → CopyReads bytes r → CopyGivesNone bytes (NoPicture f n) → ⊥
 
 abbrev pub BytesDecide : Type 0

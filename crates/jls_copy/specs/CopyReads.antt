@@ -27,7 +27,8 @@ pub record CopyReads (copy : List ℕ) (read : ReadCopy) : Type 0 where
   pub each : AreOutcomes (pieces course) outcomes
   pub head : List (List ℕ)
   pub head_is : IsHeadOfCut (cut_pieces course) head
-  pub partial_is : read.partial ≡ without_sources shape (set.insert_all set.empty (readings (pieces course) outcomes ++ head_readings (cut_pieces course) head))
+  pub partial_is : read.partial
+      ≡ without_sources shape (set.insert_all set.empty (readings (pieces course) outcomes ++ head_readings (cut_pieces course) head))
   pub pieces_are : read.pieces ≡ take 4096 (records (pieces course) outcomes)
   pub count_is : read.piece_count ≡ length (records (pieces course) outcomes)
   pub ended_is : read.ended ≡ course.end
@@ -43,7 +44,8 @@ no_picture (Header f offset) = NoPicture f offset
 -- out of memory nothing is said
 abbrev pub CopyGivesNone : List ℕ → CopyFault → Type 0
 CopyGivesNone copy OutOfMemory = Unit {0}
-CopyGivesNone copy (NoPicture f offset) = (c : Course) × IsCourse copy c × (c.headers.frame ≡ None) × (NoPicture f offset ≡ no_picture c.end)
+CopyGivesNone copy (NoPicture f offset) = (c : Course) × IsCourse copy c × (c.headers.frame ≡ None)
+    × (NoPicture f offset ≡ no_picture c.end)
 
 -- Whether an end is EOI, or a fault other than that of an input that ends too early. More bytes leave a course with such an end as it is
 -- (`FinalEndsStay`)

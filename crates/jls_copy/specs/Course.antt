@@ -1,6 +1,7 @@
 -- The course of a copy: SOI, then units one behind the other, and the copy's end (T.81 B.1.1.2 to B.1.1.4 and B.2.1). That a fault of
 -- the headers ends a copy, and which markers end scan data, is this profile's choice.
-use Rattle.std.specs.Prelude.{◌≡◌, ℕ, suc, ◌+◌, ◌*◌, ◌^◌, ◌/◌, ◌%◌, ◌<◌, ◌≢◌, true, false, is_some, List, [], ◌∷◌, ◌++◌, length, Some, None, Ok, Err}
+use Rattle.std.specs.Prelude.{◌≡◌, ℕ, suc, ◌+◌, ◌*◌, ◌^◌, ◌/◌, ◌%◌, ◌<◌, ◌≢◌, true, false, is_some, List, [], ◌∷◌, ◌++◌, length, Some, None}
+use Rattle.std.specs.Prelude.{Ok, Err}
 use Rattle.std.specs.List.{flat_map, AllByRecursion}
 use Rattle.jls_marker.specs.MarkerCodes.{has_segment}
 use Rattle.jls_marker.specs.Headers.{headers_after}
@@ -63,7 +64,8 @@ IsUnit before (scan fill code payload plan closed last closing) after rest =
     IsWholeSegment code payload × (headers_after before code payload ≡ Ok (after, Some plan))
     × AllByRecursion IsClosedPiece closed × IsPiece last × IsClosing closing rest
 
--- less than a unit, where the input ends: bytes 0xFF alone; a marker that a segment follows; one byte of the length; or less than the payload
+-- less than a unit, where the input ends: bytes 0xFF alone; a marker that a segment follows; one byte of the length; or less than the
+-- payload
 pub data IsPartOfUnit : List ℕ → Type 0 where
   fill_alone : (n : ℕ) → IsPartOfUnit (fill_bytes (suc n))
   marker_alone : (n code : ℕ) → has_segment code ≡ true → IsPartOfUnit (fill_bytes n ++ (0xFF ∷ code ∷ []))
@@ -113,7 +115,8 @@ without_units begin e = record { begin = begin; units = []; headers = no_headers
 
 -- these bytes, as a whole copy, have this course. The first marker must be SOI; before it there can be fill bytes
 pub data IsCourse : List ℕ → Course → Type 0 where
-  with_soi : (n : ℕ) (bytes : List ℕ) (units : List CopyUnit) (final : HeaderState) (e : End) → AreUnits no_headers (n + 2) bytes units final e
+  with_soi : (n : ℕ) (bytes : List ℕ) (units : List CopyUnit) (final : HeaderState) (e : End)
+      → AreUnits no_headers (n + 2) bytes units final e
       → IsCourse (fill_bytes n ++ (0xFF ∷ 0xD8 ∷ bytes)) (record { begin = n + 2; units = units; headers = final; end = e })
   with_another_marker : (n code : ℕ) (bytes : List ℕ) → code ≢ 0xFF → code ≢ 0xD8
       → IsCourse (fill_bytes n ++ (0xFF ∷ code ∷ bytes)) (without_units n (Header fault.NoSoi n))

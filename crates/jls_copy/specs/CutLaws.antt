@@ -1,11 +1,23 @@
 -- The laws of scan data, of which each is the contract of a function with an empty body.
-use Rattle.std.specs.Prelude.{◌≡◌, ℕ, ◌<◌, List, map}
-use Rattle.jls_copy.specs.ScanData.{ScanCut, IsCut}
+use Rattle.std.specs.Prelude.{◌≡◌, ℕ, ◌<◌, List, ◌++◌, map}
+use Rattle.jls_marker.specs.HeaderState.{HeaderState}
+use Rattle.jls_marker.specs.Scan.{Scan}
+use Rattle.jls_copy.specs.ScanData.{ClosedPiece, ScanCut, IsCut}
+use Rattle.jls_copy.specs.Course.{scan, LastClosed, scan_data_bytes, IsUnit}
 use Rattle.jls_copy.specs.Numbers.{IsNextNumber, next_number, Interval, numbers_behind, RiseByEightAtMost, mark_before}
 
 -- every list of bytes that begins where scan data does is cut in one way, and in no other
 abbrev pub OneCut : Type 0
 OneCut = (bytes : List ℕ) → (c : ScanCut) × IsCut bytes c × ((d : ScanCut) → IsCut bytes d → d ≡ c)
+
+-- The scan data of a unit of a course, with the bytes that follow the unit, is cut into the pieces and marks that the unit holds, and in
+-- no other way
+abbrev pub UnitsAreCut : Type 0
+UnitsAreCut = (before after : HeaderState) (fill code : ℕ) (payload : List ℕ) (s : Scan)
+    → (closed : List ClosedPiece) (last : List ℕ) (closing : LastClosed) (rest : List ℕ)
+    → IsUnit before (scan fill code payload s closed last closing) after rest
+    → (c : ScanCut) × IsCut (scan_data_bytes closed last closing ++ rest) c × (c.closed ≡ closed) × (c.last ≡ last)
+    × ((d : ScanCut) → IsCut (scan_data_bytes closed last closing ++ rest) d → d ≡ c)
 
 -- what `next_number` computes is the least number
 abbrev pub NumbersAreLeast : Type 0

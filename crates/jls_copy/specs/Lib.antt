@@ -1,7 +1,7 @@
 pub mod ScanData
 pub mod Numbers
-pub mod CutLaws
 pub mod Course
+pub mod CutLaws
 pub mod CourseLaws
 pub mod Pieces
 pub mod CutPieces
@@ -9,6 +9,7 @@ pub mod ReadCopy
 pub mod Fits
 pub mod Findings
 pub mod ReaderState
+pub mod Stretch
 pub mod Sound
 pub mod Machine
 pub mod Gathers

@@ -76,7 +76,8 @@ abbrev pub placed : List ℕ → ℕ → ℕ → List (List ℕ) → List Readin
 placed components row place [] = []
 placed components row place (line ∷ lines) =
     reading_of (get_or components place 0) row line
-    ∷ placed components (if place + 1 == length components then row + 1 else row) (if place + 1 == length components then 0 else place + 1) lines
+    ∷ placed components (if place + 1 == length components then row + 1 else row)
+    (if place + 1 == length components then 0 else place + 1) lines
 
 -- the readings that an outcome gives
 abbrev pub outcome_readings : Scan → PieceNumber → PieceOutcome → List Reading

@@ -24,7 +24,8 @@ ToldGoesOn = (told piece : List ℕ) (held : Held) (n b : ℕ) → HeldIs held n
 
 -- and has the same outcome
 abbrev pub SameOutcome : Type 0
-SameOutcome = (s : Scan) (k : ℕ) (told piece : List ℕ) (o : PieceOutcome) → SameBytes told piece → IsOutcomeAt s (Interval k) told o → IsOutcomeAt s (Interval k) piece o
+SameOutcome = (s : Scan) (k : ℕ) (told piece : List ℕ) (o : PieceOutcome) → SameBytes told piece → IsOutcomeAt s (Interval k) told o
+    → IsOutcomeAt s (Interval k) piece o
 
 -- the reader's place tells the course of the bytes so far
 abbrev pub ReadingTells : Type 0
@@ -39,8 +40,10 @@ CourseIs bytes e headers ps cut =
 -- where a reader stands after some bytes tells their course
 abbrev pub CourseTold : Type 0
 CourseTold = (bytes : List ℕ) → AllByRecursion (λ b. b < 256) bytes
-    → CourseIs bytes (end_at (reading bytes).state.place (reading bytes).state.count) (reading bytes).state.headers (all_pieces (reading bytes)) (closed_at_end (reading bytes).state.place)
+    → CourseIs bytes (end_at (reading bytes).state.place (reading bytes).state.count) (reading bytes).state.headers
+    (all_pieces (reading bytes)) (closed_at_end (reading bytes).state.place)
 
 -- and what a reader answers is what the copy gives
 abbrev pub ConclusionTold : Type 0
-ConclusionTold = (bytes : List ℕ) → AllByRecursion (λ b. b < 256) bytes → (read : ReadCopy) → Concludes (reading bytes) read → CopyReads bytes read
+ConclusionTold = (bytes : List ℕ) → AllByRecursion (λ b. b < 256) bytes → (read : ReadCopy) → Concludes (reading bytes) read
+    → CopyReads bytes read

@@ -1,5 +1,6 @@
 -- Where a reader stands, byte after byte. It concerns no caller: what a whole copy is, `Course` says, and a law ties the two.
-use Rattle.std.specs.Prelude.{ℕ, ◌+◌, ◌-◌, ◌*◌, nat_lt, ◌==◌, Bool, true, false, not, List, [], ◌∷◌, ◌++◌, length, is_some, Option, Some, None, Result, Ok, Err, if◌then◌else◌}
+use Rattle.std.specs.Prelude.{ℕ, ◌+◌, ◌-◌, ◌*◌, nat_lt, ◌==◌, Bool, true, false, not, List, [], ◌∷◌, ◌++◌, length, is_some, Option, Some}
+use Rattle.std.specs.Prelude.{None, Result, Ok, Err, if◌then◌else◌}
 use Rattle.jls_marker.specs.HeaderState.{HeaderState, no_headers}
 use Rattle.jls_marker.specs.Scan.{Scan, intervals, row_count}
 use Rattle.jls_marker.specs.MarkerCodes.{has_segment}
@@ -165,7 +166,8 @@ bytes_of (open_piece.Within k d) = told d.bytes
 bytes_of (open_piece.Beyond k) = []
 
 abbrev pub piece_found : ℕ → Scan → ℕ → OpenPiece → FoundPiece
-piece_found index plan offset piece = record { scan = index; plan = plan; number = number_of piece; offset = offset; bytes = bytes_of piece }
+piece_found index plan offset piece =
+    record { scan = index; plan = plan; number = number_of piece; offset = offset; bytes = bytes_of piece }
 
 abbrev pub found : OpenScan → FoundPiece
 found scan = piece_found scan.index scan.plan scan.offset scan.piece

@@ -1,7 +1,8 @@
 -- Scan data: how restart markers cut it into pieces, and where it ends (T.81 B.1.1.2, B.1.1.5 and B.2.1, T.87 C.1). Bytes 0xFF before a
 -- marker are fill by T.81 B.1.1.2. Which codes end scan data, and that bytes 0xFF at the input's end belong to no piece, is this
 -- profile's choice.
-use Rattle.std.specs.Prelude.{◌≡◌, ℕ, ◌+◌, ◌<◌, ◌≤◌, ◌≢◌, Bool, true, false, ◌&&◌, ◌||◌, ◌==◌, nat_le, List, [], ◌∷◌, ◌++◌, length, replicate, slice_index}
+use Rattle.std.specs.Prelude.{◌≡◌, ℕ, ◌+◌, ◌<◌, ◌≤◌, ◌≢◌, Bool, true, false, ◌&&◌, ◌||◌, ◌==◌, nat_le, List, [], ◌∷◌, ◌++◌, length}
+use Rattle.std.specs.Prelude.{replicate, slice_index}
 use Rattle.std.specs.List.{flat_map, AllByRecursion}
 
 -- whether the code is one of RST0 to RST7
@@ -39,8 +40,8 @@ pub data ScanEnd : Type 0 where
   at_input : ℕ → ScanEnd
   at_marker : ℕ → ℕ → List ℕ → ScanEnd
 
--- How scan data, and what follows it, is cut: piece, mark, piece, mark, and so on, a last piece, and the end. A unit of a course says
--- the same without this record (`Course`); no law ties the two yet
+-- How scan data, and what follows it, is cut: piece, mark, piece, mark, and so on, a last piece, and the end. A unit of a course holds
+-- the same pieces without this record (`UnitsAreCut` of `CutLaws`)
 pub record ScanCut : Type 0 where
   pub closed : List ClosedPiece
   pub last : List ℕ

@@ -1,5 +1,6 @@
 -- How a reader's place tells the course of the bytes so far. It concerns no caller.
-use Rattle.std.specs.Prelude.{◌≡◌, ℕ, suc, ◌+◌, ◌/◌, ◌%◌, ◌^◌, ◌<◌, ◌≢◌, Bool, true, false, List, [], ◌∷◌, ◌++◌, length, Some, None, Ok, ◌⊎◌}
+use Rattle.std.specs.Prelude.{◌≡◌, ℕ, suc, ◌+◌, ◌/◌, ◌%◌, ◌^◌, ◌<◌, ◌≢◌, Bool, true, false, List, [], ◌∷◌, ◌++◌, length, Some, None, Ok}
+use Rattle.std.specs.Prelude.{◌⊎◌}
 use Rattle.std.specs.List.{flat_map, AllByRecursion}
 use Rattle.jls_bits.specs.Bits.{is_whole}
 use Rattle.jls_copy.specs.ScanData.{fill_bytes, ClosedPiece, closed_bytes, IsClosedPiece, IsPiece, ends_scan_data}
@@ -59,7 +60,8 @@ AlikePieces (p ∷ ps) [] = ⊥
 
 -- what begins behind scan data: a marker that ends it
 abbrev pub Follows : Bool → List ℕ → Type 0
-Follows behind tail = behind ≡ true → (n : ℕ) × (code : ℕ) × (more : List ℕ) × (tail ≡ fill_bytes n ++ (0xFF ∷ code ∷ more)) × (ends_scan_data code ≡ true)
+Follows behind tail = behind ≡ true
+    → (n : ℕ) × (code : ℕ) × (more : List ℕ) × (tail ≡ fill_bytes n ++ (0xFF ∷ code ∷ more)) × (ends_scan_data code ≡ true)
 
 -- SOI and whole units: their bytes, the headers that they leave, the pieces that were found, and whether scan data was last
 pub data Passed : List ℕ → HeaderState → List CopyUnit → List FoundPiece → Bool → Type 0 where
@@ -73,7 +75,8 @@ pub data Passed : List ℕ → HeaderState → List CopyUnit → List FoundPiece
       → (behind ≡ true → ends_scan_data code ≡ true) → (s : Scan) → headers_after h code payload ≡ Ok (after, Some s)
       → (closed : List ClosedPiece) (last : List ℕ) (fs : List FoundPiece) → AllByRecursion IsClosedPiece closed → IsPiece last
       → AlikePieces fs (pieces_from h.scans s 0 (Interval 0) (length x + length (segment_unit_bytes n code payload)) closed last)
-      → y ≡ x ++ unit_bytes (scan n code payload s closed last by_marker) → Passed y after (us ++ scan n code payload s closed last by_marker ∷ []) (ps ++ fs) true
+      → y ≡ x ++ unit_bytes (scan n code payload s closed last by_marker)
+      → Passed y after (us ++ scan n code payload s closed last by_marker ∷ []) (ps ++ fs) true
 
 -- behind whole units and fill bytes stands the marker of a segment, and this much of it
 pub record AtSegment (marker code : ℕ) (h : HeaderState) (ps : List FoundPiece) (x tail : List ℕ) : Type 0 where
@@ -117,7 +120,8 @@ pub record InScanData (open_scan : OpenScan) (h : HeaderState) (ps : List FoundP
   pub piece : List ℕ
   pub piece_is : IsPiece piece
   pub front : List FoundPiece
-  pub pieces_are : ScanPieces old.scans open_scan.plan (length before + length (segment_unit_bytes fill code payload)) closed front (number_of open_scan.piece) open_scan.offset
+  pub pieces_are : ScanPieces old.scans open_scan.plan (length before + length (segment_unit_bytes fill code payload)) closed front
+      (number_of open_scan.piece) open_scan.offset
   pub given_is : open_scan.last ≡ given_after (intervals open_scan.plan) 0 closed
   pub offset_is : open_scan.offset ≡ length before + length (segment_unit_bytes fill code payload) + length (flat_map closed_bytes closed)
   pub here : List FoundPiece
@@ -131,16 +135,19 @@ pub record InScanData (open_scan : OpenScan) (h : HeaderState) (ps : List FoundP
 
 -- the end stands at a marker place behind whole units, or there was no SOI
 pub data EndedAt : End → HeaderState → List FoundPiece → List ℕ → Type 0 where
-  ended : (before : List ℕ) (h : HeaderState) (us : List CopyUnit) (ps : List FoundPiece) (behind : Bool) (tail x : List ℕ) (e : End) → Passed before h us ps behind
+  ended : (before : List ℕ) (h : HeaderState) (us : List CopyUnit) (ps : List FoundPiece) (behind : Bool) (tail x : List ℕ) (e : End)
+      → Passed before h us ps behind
       → x ≡ before ++ tail → Follows behind tail → EndsHere h (length before) tail e → EndedAt e h ps x
-  without_soi : (n code : ℕ) (more x : List ℕ) → code ≢ 0xFF → code ≢ 0xD8 → x ≡ fill_bytes n ++ (0xFF ∷ code ∷ more) → EndedAt (Header fault.NoSoi n) no_headers [] x
+  without_soi : (n code : ℕ) (more x : List ℕ) → code ≢ 0xFF → code ≢ 0xD8 → x ≡ fill_bytes n ++ (0xFF ∷ code ∷ more)
+      → EndedAt (Header fault.NoSoi n) no_headers [] x
   without_ff : (b : ℕ) (more x : List ℕ) → b ≢ 0xFF → x ≡ b ∷ more → EndedAt (Header fault.NoSoi 0) no_headers [] x
 
 abbrev pub Tells : Place → HeaderState → List ℕ → List FoundPiece → List ℕ → Type 0
 Tells (Start false) h payload ps x = (x ≡ []) × (h ≡ no_headers) × (ps ≡ [])
 Tells (Start true) h payload ps x = (n : ℕ) × (x ≡ fill_bytes (suc n)) × (h ≡ no_headers) × (ps ≡ [])
 Tells (AtMarker false) h payload ps x = (us : List CopyUnit) × Passed x h us ps false
-Tells (AtMarker true) h payload ps x = (n : ℕ) × (before : List ℕ) × (us : List CopyUnit) × Passed before h us ps false × (x ≡ before ++ fill_bytes (suc n))
+Tells (AtMarker true) h payload ps x = (n : ℕ) × (before : List ℕ) × (us : List CopyUnit) × Passed before h us ps false
+    × (x ≡ before ++ fill_bytes (suc n))
 Tells (AtLength marker code) h payload ps x = AtSegment marker code h ps x []
 Tells (InLength marker code high) h payload ps x = (high < 256) × AtSegment marker code h ps x (high ∷ [])
 Tells (InPayload marker code size) h payload ps x =

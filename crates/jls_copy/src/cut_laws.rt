@@ -1,11 +1,17 @@
 //! The laws of scan data. Each is a function that does nothing and whose contract is the law.
 
-ghost use Rattle.jls_copy.specs.CutLaws.{OneCut, NumbersAreLeast, LostMarksAreBridged};
+ghost use Rattle.jls_copy.specs.CutLaws.{OneCut, UnitsAreCut, NumbersAreLeast, LostMarksAreBridged};
 
 /// A law: every list of bytes that begins where scan data does is cut into pieces and marks in exactly one way (T.81 B.1.1.2
-/// and B.2.1). The units of a course hold their pieces without a `ScanCut`; no law ties the two yet.
+/// and B.2.1).
 pub fn scan_data_has_one_cut()
     ensures { OneCut }
+{}
+
+/// A law: the pieces and marks that a unit of a course holds are those of this cut of its scan data, with what follows the unit. So the
+/// pieces of a course, of which `CopyReads` speaks, are the pieces that scan data is cut into.
+pub fn units_are_cut()
+    ensures { UnitsAreCut }
 {}
 
 /// A law: the number that a restart marker gives to the piece behind it is the least one above the number given last whose

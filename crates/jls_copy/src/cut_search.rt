@@ -1,13 +1,14 @@
 //! Where scan data can be cut.
 
-ghost use Rattle.std.specs.Prelude.{◌≡◌, ℕ, ◌≤◌, ◌<◌, IfSome, IfNone};
+ghost use Rattle.std.specs.Prelude.{◌≡◌, ℕ, ◌≤◌, ◌<◌, IfSome, IfNone, take, length};
+ghost use Rattle.jls_copy.specs.Stretch.{IsStretch};
 ghost use Rattle.jls_copy.specs.ScanData.{IsCutPlace};
 
 use crate::lanes::next_ff;
 
 /// The first place, not before `from`, of a byte 0xFF that a byte of 0x80 or more follows; `None` where there is none. Stuffed
 /// data bits hold no such pair (T.87 A.1), so a marker can only stand there, though not each such pair cuts
-/// scan data. `CopyReader` goes byte by byte and does not call it yet.
+/// scan data.
 pub fn next_cut(bytes: &[u8], from: usize) -> Option<usize>
     ensures found { IfSome result (λ place. (from ≤ place) × IsCutPlace bytes.now place) }
     ensures first { IfSome result (λ place. (other : ℕ) → from ≤ other → other < place → ¬ IsCutPlace bytes.now other) }
@@ -25,4 +26,29 @@ pub fn next_cut(bytes: &[u8], from: usize) -> Option<usize>
         at = place + 1;
     }
     None
+}
+
+/// How many bytes stand before the first place of `next_cut`: all, where there is none.
+fn uncut_len(bytes: &[u8]) -> usize
+    ensures within { result ≤ length bytes.now }
+    ensures uncut { (place : ℕ) → place < result → ¬ IsCutPlace bytes.now place }
+{
+    match next_cut(bytes, 0) {
+        Some(place) => place,
+        None => bytes.len(),
+    }
+}
+
+/// How many bytes at the front can be told to a piece at once: those before the first place of `next_cut`, but for a byte 0xFF that
+/// ends them, as the byte behind it is not known yet.
+pub(crate) fn stretch_len(bytes: &[u8]) -> usize
+    ensures within { result ≤ length bytes.now }
+    ensures stretch { IsStretch (take result bytes.now) }
+{
+    let end = uncut_len(bytes);
+    if end > 0 && bytes[end - 1] == 0xFF {
+        end - 1
+    } else {
+        end
+    }
 }

@@ -11,7 +11,7 @@ ghost use Rattle.jls_marker.specs.Scan.{IsScanOf, intervals, first_row, row_coun
 ghost use Rattle.jls_copy.specs.ReaderState.{piece_found};
 ghost use Rattle.jls_copy.specs.Sound.{IsOpenPiece};
 
-use crate::piece::{OpenPiece, PieceKind, PieceRecord};
+use crate::piece::{OpenPiece, PieceKind, PieceRecord, ToldPiece};
 use jls_interval::{CutEnd, PieceFault};
 use jls_marker::ScanPlan;
 use jls_partial::{InsertFault, Partial};
@@ -46,7 +46,8 @@ fn take_lines(
     lines: &[Vec<u16>],
 ) -> Result<(), AllocError>
     requires { FitFrom partial.old.shape components.now first_row 0 (map (λ line. line.items) lines.now) }
-    ensures { OnOk result (partial.new ≡ with_readings partial.old (placed components.now first_row 0 (map (λ line. line.items) lines.now))) }
+    ensures { OnOk result (partial.new
+        ≡ with_readings partial.old (placed components.now first_row 0 (map (λ line. line.items) lines.now))) }
 {
     let mut row = first_row;
     let mut place = 0;
@@ -99,9 +100,11 @@ impl Findings {
     ) -> Result<(), AllocError>
         requires interval { interval < intervals plan.now }
         requires scan { IsScanOf shape.now plan.now }
-        requires lines { (count : ℕ) × (count ≤ row_count plan.now interval * length plan.now.components) × AreLines plan.now.params plan.now.width count (map (λ line. line.items) lines.now) }
+        requires lines { (count : ℕ) × (count ≤ row_count plan.now interval * length plan.now.components)
+            × AreLines plan.now.params plan.now.width count (map (λ line. line.items) lines.now) }
         requires held { HoldsShape self.old.partial shape.now }
-        ensures picture { OnOk result (self.new.partial ≡ Some (with_readings (picture_of shape.now self.old.partial) (placed plan.now.components (first_row plan.now interval) 0 (map (λ line. line.items) lines.now)))) }
+        ensures picture { OnOk result (self.new.partial ≡ Some (with_readings (picture_of shape.now self.old.partial)
+            (placed plan.now.components (first_row plan.now interval) 0 (map (λ line. line.items) lines.now)))) }
         ensures records { OnOk result (self.new.records.items ≡ self.old.records.items) }
         ensures count { OnOk result (self.new.record_count ≡ self.old.record_count) }
     {
@@ -120,20 +123,23 @@ impl Findings {
         &mut self,
         alloc: Global,
         shape: &Shape,
-        index: u8,
         plan: &ScanPlan,
-        offset: u64,
-        piece: OpenPiece,
+        told: ToldPiece,
     ) -> Result<(), AllocError>
         requires count { self.old.record_count < 2 ^ 63 }
-        requires sound { IsOpenPiece plan.now piece }
+        requires sound { IsOpenPiece plan.now told.piece }
         requires scan { IsScanOf shape.now plan.now }
         requires held { HoldsShape self.old.partial shape.now }
-        ensures { OnOk result (Adds (Some shape.now) (piece_found index plan.now offset piece ∷ []) self.old self.new) }
+        ensures { OnOk result (Adds (Some shape.now) (piece_found told.scan plan.now told.offset told.piece ∷ []) self.old self.new) }
     {
+        let ToldPiece {
+            scan,
+            offset,
+            piece,
+        } = told;
         match piece {
             OpenPiece::Beyond(interval) => self.note(PieceRecord {
-                scan: index,
+                scan,
                 interval,
                 offset,
                 kind: PieceKind::Beyond,
@@ -141,13 +147,13 @@ impl Findings {
             OpenPiece::Within(interval, decoder) => match decoder.finish() {
                 Ok(lines) => self.take(alloc, shape, plan, interval, &lines),
                 Err(PieceFault::Long) => self.note(PieceRecord {
-                    scan: index,
+                    scan,
                     interval,
                     offset,
                     kind: PieceKind::Long,
                 }),
                 Err(PieceFault::Broken) => self.note(PieceRecord {
-                    scan: index,
+                    scan,
                     interval,
                     offset,
                     kind: PieceKind::Broken,
@@ -169,9 +175,11 @@ impl Findings {
         requires count { self.old.record_count < 2 ^ 63 }
         requires interval { entry.interval < intervals plan.now }
         requires scan { IsScanOf shape.now plan.now }
-        requires lines { (count : ℕ) × (count ≤ row_count plan.now entry.interval * length plan.now.components) × AreLines plan.now.params plan.now.width count (map (λ line. line.items) head.now) }
+        requires lines { (count : ℕ) × (count ≤ row_count plan.now entry.interval * length plan.now.components)
+            × AreLines plan.now.params plan.now.width count (map (λ line. line.items) head.now) }
         requires held { HoldsShape self.old.partial shape.now }
-        ensures picture { OnOk result (self.new.partial ≡ Some (with_readings (picture_of shape.now self.old.partial) (placed plan.now.components (first_row plan.now entry.interval) 0 (map (λ line. line.items) head.now)))) }
+        ensures picture { OnOk result (self.new.partial ≡ Some (with_readings (picture_of shape.now self.old.partial)
+            (placed plan.now.components (first_row plan.now entry.interval) 0 (map (λ line. line.items) head.now)))) }
         ensures records { OnOk result (self.new.records.items ≡ kept_with self.old.records.items (entry ∷ [])) }
         ensures count { OnOk result (self.new.record_count ≡ self.old.record_count + 1) }
     {
@@ -184,21 +192,24 @@ impl Findings {
         &mut self,
         alloc: Global,
         shape: &Shape,
-        index: u8,
         plan: &ScanPlan,
-        offset: u64,
-        piece: OpenPiece,
+        told: ToldPiece,
     ) -> Result<(), AllocError>
         requires count { self.old.record_count < 2 ^ 63 }
-        requires sound { IsOpenPiece plan.now piece }
+        requires sound { IsOpenPiece plan.now told.piece }
         requires scan { IsScanOf shape.now plan.now }
         requires held { HoldsShape self.old.partial shape.now }
-        ensures { OnOk result (AddsCut (Some shape.now) (piece_found index plan.now offset piece ∷ []) self.old self.new) }
+        ensures { OnOk result (AddsCut (Some shape.now) (piece_found told.scan plan.now told.offset told.piece ∷ []) self.old self.new) }
     {
         let _width = plan.width();
+        let ToldPiece {
+            scan,
+            offset,
+            piece,
+        } = told;
         match piece {
             OpenPiece::Beyond(interval) => self.note(PieceRecord {
-                scan: index,
+                scan,
                 interval,
                 offset,
                 kind: PieceKind::Beyond,
@@ -207,7 +218,7 @@ impl Findings {
                 CutEnd::Whole(lines) => self.take(alloc, shape, plan, interval, &lines),
                 CutEnd::Head(head, fault) => {
                     let entry = PieceRecord {
-                        scan: index,
+                        scan,
                         interval,
                         offset,
                         kind: kind_of(fault),

@@ -17,7 +17,9 @@ mod scan;
 
 pub use copy_laws::{bytes_decide, final_ends_stay};
 pub use course_laws::{copies_have_one_course, every_copy_has_a_course};
-pub use cut_laws::{lost_marks_are_bridged, numbers_are_least, scan_data_has_one_cut};
+pub use cut_laws::{
+    lost_marks_are_bridged, numbers_are_least, scan_data_has_one_cut, units_are_cut,
+};
 pub use cut_search::next_cut;
 pub use end::End;
 pub use piece::{PieceKind, PieceRecord};

@@ -1,17 +1,19 @@
 //! A copy, byte after byte.
 
-ghost use Rattle.std.specs.Prelude.{◌≡◌, ◌+◌, ◌-◌, ◌*◌, ◌^◌, ◌∷◌, ◌++◌, [], ◌<◌, ◌≤◌, ℕ, OnOk, IfOk, true, false, Some, None, is_some, length};
+ghost use Rattle.std.specs.Prelude.{◌≡◌, ◌+◌, ◌-◌, ◌*◌, ◌^◌, ◌∷◌, ◌++◌, [], ◌<◌, ◌≤◌, ℕ, OnOk, IfOk, true, false, Some, None, is_some};
+ghost use Rattle.std.specs.Prelude.{List, Option, length, take};
 ghost use Rattle.jls_copy.specs.ReaderState as state;
 ghost use Rattle.jls_copy.specs.Machine.{state_of, IsMachine, IsBehind};
-ghost use Rattle.jls_copy.specs.Findings.{Adds, AddsCut, HoldsShape};
+ghost use Rattle.jls_copy.specs.Findings.{Adds, AddsBy, AddsCut, HoldsShape};
 ghost use Rattle.jls_marker.specs.Scan.{intervals};
 ghost use Rattle.jls_copy.specs.Numbers.{number_behind};
 ghost use Rattle.jls_values.specs.Shape.{PictureShape};
+ghost use Rattle.jls_copy.specs.Stretch.{LeadsTo};
 ghost use Rattle.jls_copy.specs.Sound.{IsPlace, IsOpenScan, IsOpenPiece, IsOfFrame};
 
 use crate::end::End;
 use crate::findings::Findings;
-use crate::piece::OpenPiece;
+use crate::piece::{ClosedBy, OpenPiece, ToldPiece};
 use crate::place::Place;
 use crate::scan::{ByteClass, Held, OpenScan, class_of, next_number};
 use jls_marker::{Headers, MarkerFault, ScanPlan, has_segment};
@@ -76,8 +78,10 @@ impl Machine {
     /// Takes the segment whose payload is whole, and whose marker stands at this offset.
     fn take_segment(&mut self, marker: u64, code: u8) -> Result<Place, AllocError>
         requires { self.old.count < 2 ^ 63 }
-        ensures place { IfOk result (λ place. place ≡ (state.with_segment self.old.count self.old.headers self.old.payload.items marker code).place) }
-        ensures headers { OnOk result (self.new.headers ≡ (state.with_segment self.old.count self.old.headers self.old.payload.items marker code).headers) }
+        ensures place { IfOk result
+            (λ place. place ≡ (state.with_segment self.old.count self.old.headers self.old.payload.items marker code).place) }
+        ensures headers { OnOk result (self.new.headers
+            ≡ (state.with_segment self.old.count self.old.headers self.old.payload.items marker code).headers) }
         ensures count { self.new.count ≡ self.old.count }
         ensures payload { self.new.payload.items ≡ self.old.payload.items }
         ensures findings { self.new.findings ≡ self.old.findings }
@@ -94,28 +98,43 @@ impl Machine {
         }
     }
 
-    /// Takes what a whole piece gives.
-    fn close(
-        &mut self,
-        index: u8,
-        plan: &ScanPlan,
-        offset: u64,
-        piece: OpenPiece,
-    ) -> Result<(), AllocError>
+    /// Takes what the piece of a scan gives that is closed so, and gives the plan back.
+    fn close(&mut self, scan: OpenScan, by: ClosedBy) -> Result<ScanPlan, AllocError>
         requires count { self.old.findings.record_count < 2 ^ 63 }
-        requires sound { IsOpenPiece plan.now piece }
-        requires scan { IsOfFrame self.old.headers.frame plan.now }
+        requires sound { IsOpenPiece scan.plan scan.piece }
+        requires scan { IsOfFrame self.old.headers.frame scan.plan }
         requires held { (shape : PictureShape) → self.old.headers.frame ≡ Some shape → HoldsShape self.old.findings.partial shape }
-        ensures found { OnOk result (Adds self.old.headers.frame (state.piece_found index plan.now offset piece ∷ []) self.old.findings self.new.findings) }
+        ensures plan { IfOk result (λ plan. plan ≡ scan.plan) }
+        ensures found { OnOk result (AddsBy by self.old.headers.frame (state.found scan ∷ []) self.old.findings self.new.findings) }
         ensures count { self.new.count ≡ self.old.count }
         ensures headers { self.new.headers ≡ self.old.headers }
         ensures payload { self.new.payload.items ≡ self.old.payload.items }
     {
+        let OpenScan {
+            index,
+            plan,
+            last: _,
+            held: _,
+            offset,
+            piece,
+        } = scan;
+        let told = ToldPiece {
+            scan: index,
+            offset,
+            piece,
+        };
         match self.headers.shape() {
             None => unreachable!(),
-            Some(shape) => self
-                .findings
-                .close(self.alloc, shape, index, plan, offset, piece),
+            Some(shape) => match by {
+                ClosedBy::Marker => {
+                    self.findings.close(self.alloc, shape, &plan, told)?;
+                    Ok(plan)
+                }
+                ClosedBy::Input => {
+                    self.findings.close_cut(self.alloc, shape, &plan, told)?;
+                    Ok(plan)
+                }
+            },
         }
     }
 
@@ -127,22 +146,17 @@ impl Machine {
         requires sound { IsOpenScan scan }
         requires frame { IsOfFrame self.old.headers.frame scan.plan }
         requires held { (shape : PictureShape) → self.old.headers.frame ≡ Some shape → HoldsShape self.old.findings.partial shape }
-        ensures scan { IfOk result (λ next. next ≡ state.scan_behind scan (number_behind (intervals scan.plan) scan.last mark) (self.old.count + 1)) }
+        ensures scan { IfOk result
+            (λ next. next ≡ state.scan_behind scan (number_behind (intervals scan.plan) scan.last mark) (self.old.count + 1)) }
         ensures found { OnOk result (Adds self.old.headers.frame (state.found scan ∷ []) self.old.findings self.new.findings) }
         ensures count { self.new.count ≡ self.old.count }
         ensures headers { self.new.headers ≡ self.old.headers }
         ensures payload { self.new.payload.items ≡ self.old.payload.items }
         ensures sound { IfOk result (λ next. IsOpenScan next) }
     {
-        let OpenScan {
-            index,
-            plan,
-            last,
-            held: _,
-            offset,
-            piece,
-        } = scan;
-        self.close(index, &plan, offset, piece)?;
+        let index = scan.index;
+        let last = scan.last;
+        let plan = self.close(scan, ClosedBy::Marker)?;
         let number = next_number(last, mark);
         let piece = OpenPiece::open(self.alloc, &plan, number)?;
         let last = if number < plan.intervals() {
@@ -169,7 +183,8 @@ impl Machine {
         requires frame { IsOfFrame self.old.headers.frame scan.plan }
         requires held { (shape : PictureShape) → self.old.headers.frame ≡ Some shape → HoldsShape self.old.findings.partial shape }
         ensures place { IfOk result (λ place. place ≡ state.from_scan (state.class_of scan.held byte) scan self.old.count byte) }
-        ensures found { OnOk result (Adds self.old.headers.frame (state.closed_by (state.class_of scan.held byte) scan) self.old.findings self.new.findings) }
+        ensures found { OnOk result (Adds self.old.headers.frame (state.closed_by (state.class_of scan.held byte) scan)
+            self.old.findings self.new.findings) }
         ensures count { self.new.count ≡ self.old.count }
         ensures headers { self.new.headers ≡ self.old.headers }
         ensures payload { self.new.payload.items ≡ self.old.payload.items }
@@ -189,15 +204,7 @@ impl Machine {
                 Ok(Place::InScan(next))
             }
             ByteClass::Stop => {
-                let OpenScan {
-                    index,
-                    plan,
-                    last: _,
-                    held: _,
-                    offset,
-                    piece,
-                } = scan;
-                self.close(index, &plan, offset, piece)?;
+                self.close(scan, ClosedBy::Marker)?;
                 Ok(from_marker(true, true, self.count, byte))
             }
         }
@@ -210,7 +217,8 @@ impl Machine {
         ensures place { IfOk result (λ place. place ≡ (state.length_known self.old.count self.old.headers marker code size).place) }
         ensures headers { OnOk result (self.new.headers ≡ (state.length_known self.old.count self.old.headers marker code size).headers) }
         ensures count { self.new.count ≡ self.old.count }
-        ensures payload { OnOk result (self.new.payload.items ≡ (state.length_known self.old.count self.old.headers marker code size).payload) }
+        ensures payload { OnOk result (self.new.payload.items
+            ≡ (state.length_known self.old.count self.old.headers marker code size).payload) }
         ensures header_bytes { length self.new.payload.items ≤ 65535 }
         ensures findings { self.new.findings ≡ self.old.findings }
         ensures sound { IfOk result (λ place. IsPlace self.new.headers.frame place []) }
@@ -236,10 +244,14 @@ impl Machine {
     ) -> Result<Place, AllocError>
         requires count { self.old.count < 2 ^ 63 }
         requires sound { length self.old.payload.items + 2 < size }
-        ensures place { IfOk result (λ place. place ≡ (state.payload_grown self.old.count self.old.headers (self.old.payload.items ++ byte ∷ []) marker code size).place) }
-        ensures headers { OnOk result (self.new.headers ≡ (state.payload_grown self.old.count self.old.headers (self.old.payload.items ++ byte ∷ []) marker code size).headers) }
+        ensures place { IfOk result
+            (λ place. place
+            ≡ (state.payload_grown self.old.count self.old.headers (self.old.payload.items ++ byte ∷ []) marker code size).place) }
+        ensures headers { OnOk result (self.new.headers
+            ≡ (state.payload_grown self.old.count self.old.headers (self.old.payload.items ++ byte ∷ []) marker code size).headers) }
         ensures count { self.new.count ≡ self.old.count }
-        ensures payload { OnOk result (self.new.payload.items ≡ (state.payload_grown self.old.count self.old.headers (self.old.payload.items ++ byte ∷ []) marker code size).payload) }
+        ensures payload { OnOk result (self.new.payload.items
+            ≡ (state.payload_grown self.old.count self.old.headers (self.old.payload.items ++ byte ∷ []) marker code size).payload) }
         ensures header_bytes { OnOk result (length self.new.payload.items ≤ 65535) }
         ensures findings { self.new.findings ≡ self.old.findings }
         ensures sound { IfOk result (λ place. IsPlace self.new.headers.frame place self.new.payload.items) }
@@ -260,9 +272,12 @@ impl Machine {
         requires sound { IsPlace self.old.headers.frame place self.old.payload.items }
         requires held { (shape : PictureShape) → self.old.headers.frame ≡ Some shape → HoldsShape self.old.findings.partial shape }
         requires header_bytes { length self.old.payload.items ≤ 65535 }
-        ensures place { IfOk result (λ next. next ≡ (state.step_from place self.old.count self.old.headers self.old.payload.items byte).place) }
-        ensures headers { OnOk result (self.new.headers ≡ (state.step_from place self.old.count self.old.headers self.old.payload.items byte).headers) }
-        ensures payload { OnOk result (self.new.payload.items ≡ (state.step_from place self.old.count self.old.headers self.old.payload.items byte).payload) }
+        ensures place { IfOk result
+            (λ next. next ≡ (state.step_from place self.old.count self.old.headers self.old.payload.items byte).place) }
+        ensures headers { OnOk result (self.new.headers
+            ≡ (state.step_from place self.old.count self.old.headers self.old.payload.items byte).headers) }
+        ensures payload { OnOk result (self.new.payload.items
+            ≡ (state.step_from place self.old.count self.old.headers self.old.payload.items byte).payload) }
         ensures count { self.new.count ≡ self.old.count }
         ensures found { OnOk result (Adds self.old.headers.frame (state.closed_at place byte) self.old.findings self.new.findings) }
         ensures sound { IfOk result (λ next. IsPlace self.new.headers.frame next self.new.payload.items) }
@@ -288,7 +303,8 @@ impl Machine {
     fn step_on(&mut self, byte: u8) -> Result<(), AllocError>
         requires { IsMachine self.old }
         ensures state { OnOk result (state_of self.new ≡ state.after_byte (state_of self.old) byte) }
-        ensures found { OnOk result (Adds self.old.headers.frame (state.closed_at self.old.place byte) self.old.findings self.new.findings) }
+        ensures found { OnOk result (Adds self.old.headers.frame (state.closed_at self.old.place byte)
+            self.old.findings self.new.findings) }
         ensures sound { OnOk result (IsPlace self.new.headers.frame self.new.place self.new.payload.items) }
         ensures header_bytes { OnOk result (length self.new.payload.items ≤ 65535) }
     {
@@ -302,7 +318,8 @@ impl Machine {
     pub(crate) fn step(&mut self, byte: u8) -> Result<(), AllocError>
         requires { IsMachine self.old }
         ensures state { OnOk result (state_of self.new ≡ state.after_byte (state_of self.old) byte) }
-        ensures found { OnOk result (Adds self.old.headers.frame (state.closed_at self.old.place byte) self.old.findings self.new.findings) }
+        ensures found { OnOk result (Adds self.old.headers.frame (state.closed_at self.old.place byte)
+            self.old.findings self.new.findings) }
         ensures sound { OnOk result (IsPlace self.new.headers.frame self.new.place self.new.payload.items) }
         ensures header_bytes { OnOk result (length self.new.payload.items ≤ 65535) }
     {
@@ -313,36 +330,28 @@ impl Machine {
         Ok(())
     }
 
-    /// Takes what the piece gives that the input's end closes.
-    fn close_cut(
-        &mut self,
-        index: u8,
-        plan: &ScanPlan,
-        offset: u64,
-        piece: OpenPiece,
-    ) -> Result<(), AllocError>
-        requires count { self.old.findings.record_count < 2 ^ 63 }
-        requires sound { IsOpenPiece plan.now piece }
-        requires scan { IsOfFrame self.old.headers.frame plan.now }
-        requires held { (shape : PictureShape) → self.old.headers.frame ≡ Some shape → HoldsShape self.old.findings.partial shape }
-        ensures found { OnOk result (AddsCut self.old.headers.frame (state.piece_found index plan.now offset piece ∷ []) self.old.findings self.new.findings) }
-        ensures count { self.new.count ≡ self.old.count }
-        ensures headers { self.new.headers ≡ self.old.headers }
-        ensures payload { self.new.payload.items ≡ self.old.payload.items }
+    /// As many of these bytes as one piece can be told at once. How many is the answer.
+    pub(crate) fn take_stretch(&mut self, bytes: &[u8]) -> Result<usize, AllocError>
+        requires { self.old.count + length bytes.now < 2 ^ 63 }
+        ensures within { IfOk result (λ taken. taken ≤ length bytes.now) }
+        ensures leads { IfOk result (λ taken. LeadsTo self.old.place (take taken bytes.now) self.new.place) }
+        ensures count { IfOk result (λ taken. self.new.count ≡ self.old.count + taken) }
+        ensures kept { OnOk result ((self.new.headers ≡ self.old.headers) × (self.new.payload ≡ self.old.payload)
+            × (self.new.findings ≡ self.old.findings)) }
+        ensures sound { OnOk result ((frame : Option PictureShape) (payload : List ℕ) → IsPlace frame self.old.place payload
+            → IsPlace frame self.new.place payload) }
     {
-        match self.headers.shape() {
-            None => unreachable!(),
-            Some(shape) => self
-                .findings
-                .close_cut(self.alloc, shape, index, plan, offset, piece),
-        }
+        let taken = self.place.take_stretch(bytes)?;
+        self.count += taken as u64;
+        Ok(taken)
     }
 
     /// The input ends. Where it does is the answer.
     pub(crate) fn finish(&mut self) -> Result<End, AllocError>
         requires { IsMachine self.old }
         ensures end { IfOk result (λ e. e ≡ state.end_at self.old.place self.old.count) }
-        ensures found { OnOk result (AddsCut self.old.headers.frame (state.closed_at_end self.old.place) self.old.findings self.new.findings) }
+        ensures found { OnOk result (AddsCut self.old.headers.frame (state.closed_at_end self.old.place)
+            self.old.findings self.new.findings) }
         ensures headers { OnOk result (self.new.headers ≡ self.old.headers) }
     {
         let place = mem::replace(&mut self.place, Place::Start(false));
@@ -356,15 +365,7 @@ impl Machine {
                 Ok(End::Header(MarkerFault::Ended, self.count))
             }
             Place::InScan(scan) => {
-                let OpenScan {
-                    index,
-                    plan,
-                    last: _,
-                    held: _,
-                    offset,
-                    piece,
-                } = scan;
-                self.close_cut(index, &plan, offset, piece)?;
+                self.close(scan, ClosedBy::Input)?;
                 Ok(End::Input(self.count))
             }
             Place::Done(end) => Ok(end),

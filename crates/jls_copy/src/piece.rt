@@ -42,6 +42,23 @@ pub(crate) enum OpenPiece {
     Beyond(u32),
 }
 
+/// What closes a piece.
+#[derive(Clone, Copy)]
+pub(crate) enum ClosedBy {
+    /// A restart marker, or one that ends scan data.
+    Marker,
+    /// The input's end.
+    Input,
+}
+
+/// A piece that was told all its bytes: the scan of the copy, counted from 0, and the offset of its first byte.
+#[derive(Drop)]
+pub(crate) struct ToldPiece {
+    pub(crate) scan: u8,
+    pub(crate) offset: u64,
+    pub(crate) piece: OpenPiece,
+}
+
 impl OpenPiece {
     /// The piece of this number, told nothing.
     pub(crate) fn open(alloc: Global, plan: &ScanPlan, number: u32) -> Result<OpenPiece, AllocError>
@@ -71,6 +88,16 @@ impl OpenPiece {
     {
         match self {
             OpenPiece::Within(_, decoder) => decoder.push(byte),
+            OpenPiece::Beyond(_) => Ok(()),
+        }
+    }
+
+    /// Tells the next bytes.
+    pub(crate) fn push_all(&mut self, bytes: &[u8]) -> Result<(), AllocError>
+        ensures { OnOk result (self.new ≡ piece_with self.old bytes.now) }
+    {
+        match self {
+            OpenPiece::Within(_, decoder) => decoder.push_all(bytes),
             OpenPiece::Beyond(_) => Ok(()),
         }
     }

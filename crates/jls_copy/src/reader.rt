@@ -1,6 +1,7 @@
 //! One copy of a picture, fed in slices of any size.
 
-ghost use Rattle.std.specs.Prelude.{◌≡◌, ◌+◌, ◌-◌, ◌≤◌, ◌<◌, ◌^◌, ◌∷◌, [], length, Some, None, IfSome, OnOk, OnErr, IsOk, IsSome, IsErr, IfOk, IfErr, IfNone, take};
+ghost use Rattle.std.specs.Prelude.{◌≡◌, ◌+◌, ◌-◌, ◌≤◌, ◌<◌, ◌^◌, ◌∷◌, ◌++◌, [], length, Some, None, IfSome, OnOk, OnErr, IsOk, IsSome};
+ghost use Rattle.std.specs.Prelude.{IsErr, IfOk, IfErr, IfNone, take};
 ghost use Rattle.jls_copy.specs.ReadCopy.{after};
 ghost use Rattle.jls_copy.specs.Conclusion as reader;
 ghost use Rattle.jls_copy.specs.CopyReads as copy;
@@ -19,13 +20,16 @@ use jls_marker::{Headers, MarkerFault};
 use jls_partial::Partial;
 use std::alloc::{AllocError, Global};
 use std::marker::Model;
+use thiserror::Error;
 
 /// Why a copy gives nothing.
-#[derive(Clone, Copy, Debug, PartialEq, Eq)]
+#[derive(Clone, Copy, Debug, PartialEq, Eq, Error)]
 pub enum CopyFault {
     /// No frame was taken: the fault that ended the copy, and its offset.
+    #[error("no picture: {0} at offset {1}")]
     NoPicture(MarkerFault, u64),
     /// Memory was refused, in a `feed` or in `finish`. Nothing is said of the copy.
+    #[error("out of memory")]
     OutOfMemory,
 }
 
@@ -158,6 +162,25 @@ impl CopyReader {
         }
     }
 
+    /// Takes as many of these bytes as one piece can be told at once, and says how many.
+    fn feed_stretch(&mut self, bytes: &[u8]) -> Result<usize, AllocError>
+        requires { IfSome self.old (λ before. length before + length bytes.now ≤ 2 ^ 63 - 1) }
+        ensures within { IfOk result (λ count. count ≤ length bytes.now) }
+        ensures ok { IfOk result (λ count. self.new ≡ after self.old (take count bytes.now)) }
+        ensures err { OnErr result (self.new ≡ None) }
+        ensures not_refused { IsOk result → IsSome self.old }
+    {
+        if self.failed {
+            return Err(AllocError);
+        }
+        let Ok(count) = self.machine.take_stretch(bytes) else {
+            self.failed = true;
+            return Err(AllocError);
+        };
+        note_all(&mut self.bytes, &bytes[..count]);
+        Ok(count)
+    }
+
     /// Takes the next slice of the copy, which may be empty. All slices together may have 2^63 - 1 bytes at most. Bytes behind the
     /// copy's end are counted, and otherwise ignored. The only refusal is out of memory, and it is for good: every further `feed` is
     /// refused too, and `finish` answers `OutOfMemory`.
@@ -170,8 +193,13 @@ impl CopyReader {
         if self.failed {
             return Err(AllocError);
         }
-        for byte in piece {
-            self.feed_byte(*byte)?;
+        let mut at = 0;
+        while at < piece.len() {
+            at += self.feed_stretch(&piece[at..])?;
+            if at < piece.len() {
+                self.feed_byte(piece[at])?;
+                at += 1;
+            }
         }
         Ok(())
     }
@@ -207,6 +235,15 @@ impl CopyReader {
     }
 }
 
+/// Notes bytes one after another.
+fn note_all(noted: &mut PushedBytes, bytes: &[u8])
+    ensures { noted.new.list ≡ noted.old.list ++ bytes.now }
+{
+    for byte in bytes {
+        noted.note(*byte);
+    }
+}
+
 /// Whether no byte more changes anything.
 fn is_final(place: &Place) -> bool
     ensures { result ≡ reader.is_final place.now }
@@ -230,7 +267,9 @@ fn no_picture(ended: End) -> CopyFault
 
 /// What a machine at its end holds.
 fn conclude(machine: Machine, ended: End) -> Result<CopyRead, CopyFault>
-    ensures read { IfOk result (λ read. (shape : PictureShape) × (machine.headers.frame ≡ Some shape) × (read.partial ≡ picture_of shape machine.findings.partial) × (read.pieces ≡ machine.findings.records.items) × (read.piece_count ≡ machine.findings.record_count) × (read.ended ≡ ended)) }
+    ensures read { IfOk result
+        (λ read. (shape : PictureShape) × (machine.headers.frame ≡ Some shape) × (read.partial ≡ picture_of shape machine.findings.partial)
+        × (read.pieces ≡ machine.findings.records.items) × (read.piece_count ≡ machine.findings.record_count) × (read.ended ≡ ended)) }
     ensures none { IfErr result (λ fault. (machine.headers.frame ≡ None) × (fault ≡ copy.no_picture ended)) }
 {
     let Machine {

@@ -1,13 +1,17 @@
 //! Scan data, byte after byte.
 
-ghost use Rattle.std.specs.Prelude.{◌≡◌, ◌+◌, ◌-◌, ◌*◌, ◌^◌, ◌∷◌, ◌++◌, [], ◌<◌, ◌≤◌, OnOk, IfOk, true};
+ghost use Rattle.std.specs.Prelude.{◌≡◌, ℕ, ◌+◌, ◌-◌, ◌*◌, ◌^◌, ◌∷◌, ◌++◌, [], ◌<◌, ◌≤◌, OnOk, IfOk, true, List, Option, length, take};
 ghost use Rattle.jls_marker.specs.Scan.{intervals};
 ghost use Rattle.jls_copy.specs.Numbers.{next_number as number_rule, number_behind};
 ghost use Rattle.jls_copy.specs.ScanData.{is_restart_code as restart_code, ends_scan_data as end_code};
 ghost use Rattle.jls_copy.specs.ReaderState as state;
 ghost use Rattle.jls_copy.specs.declared.scan.ByteClass.TheVariants.{Mark};
-ghost use Rattle.jls_copy.specs.Sound.{IsOpenScan, IsOpenPiece};
+ghost use Rattle.jls_copy.specs.Sound.{IsOpenScan, IsOpenPiece, IsPlace};
+ghost use Rattle.jls_copy.specs.Stretch.{LeadsTo};
+ghost use Rattle.jls_copy.specs.declared.place.Place.TheVariants.{InScan};
+ghost use Rattle.jls_values.specs.Shape.{PictureShape};
 
+use crate::cut_search::stretch_len;
 use crate::piece::OpenPiece;
 use jls_marker::ScanPlan;
 use std::alloc::{AllocError, Global};
@@ -63,6 +67,7 @@ fn ends_scan_data(code: u8) -> bool
         || (code >= 0xe0 && code <= 0xef)
 }
 
+/// What a byte of scan data does behind these held bytes.
 pub(crate) fn class_of(held: Held, byte: u8) -> ByteClass
     ensures class { result ≡ state.class_of held byte }
     ensures mark { result ≡ Mark → (208 ≤ byte) × (byte < 216) }
@@ -146,5 +151,23 @@ impl OpenScan {
         }
         self.held = Held::Nothing;
         self.piece.push(byte)
+    }
+
+    /// Tells the piece as many of these bytes as can be told at once, and says how many: none where an FF byte is held.
+    pub(crate) fn tell_stretch(&mut self, bytes: &[u8]) -> Result<usize, AllocError>
+        ensures within { IfOk result (λ count. count ≤ length bytes.now) }
+        ensures leads { IfOk result (λ count. LeadsTo (InScan self.old) (take count bytes.now) (InScan self.new)) }
+        ensures sound { IfOk result
+            (λ count. (frame : Option PictureShape) (payload : List ℕ) → IsPlace frame (InScan self.old) payload
+            → IsPlace frame (InScan self.new) payload) }
+    {
+        match self.held {
+            Held::Nothing => {
+                let count = stretch_len(bytes);
+                self.piece.push_all(&bytes[..count])?;
+                Ok(count)
+            }
+            Held::One | Held::More => Ok(0),
+        }
     }
 }

@@ -1,184 +1,11 @@
-//! Whole copies, read in pieces of several sizes: what each gives is worked out by hand from the formats, not by this crate.
+//! Whole copies, read in slices of several sizes.
 
+use crate::tests::known::{COPIES, INTERVALS};
 use crate::{CopyFault, CopyRead, CopyReader, End, PieceKind, PieceRecord};
 use std::alloc::Global;
 use std::fmt::Write;
+use std::process::Abort;
 use std::test::Fail;
-
-/// The bytes of a copy, and what it gives: its readings as component, line and samples, then each faulty piece as scan, interval,
-/// offset and kind, their number and the copy's end; or the fault for which it has no picture.
-const COPIES: [(&str, &str); 32] = [
-    // A picture of four lines.
-    (
-        "FF D8 FF F7 00 0B 08 00 04 00 04 01 01 11 00 FF DA 00 08 01 01 00 00 00 00 C0 00 00 6C 80 20 8E 01 C0 00 00 \
-         57 40 00 00 6E E6 00 00 01 BC 18 00 00 05 D8 00 00 91 60 FF D9",
-        "0.0=[0, 0, 90, 74] 0.1=[68, 50, 43, 205] 0.2=[64, 145, 145, 145] 0.3=[100, 145, 145, 145] | 0 Eoi(55)",
-    ),
-    // The same with ILV 1 for its one component.
-    (
-        "FF D8 FF F7 00 0B 08 00 04 00 04 01 01 11 00 FF DA 00 08 01 01 00 00 01 00 C0 00 00 6C 80 20 8E 01 C0 00 00 \
-         57 40 00 00 6E E6 00 00 01 BC 18 00 00 05 D8 00 00 91 60 FF D9",
-        "0.0=[0, 0, 90, 74] 0.1=[68, 50, 43, 205] 0.2=[64, 145, 145, 145] 0.3=[100, 145, 145, 145] | 0 Eoi(55)",
-    ),
-    // The same behind an application segment.
-    (
-        "FF D8 FF E8 00 04 AA BB FF F7 00 0B 08 00 04 00 04 01 01 11 00 FF DA 00 08 01 01 00 00 00 00 C0 00 00 6C 80 \
-         20 8E 01 C0 00 00 57 40 00 00 6E E6 00 00 01 BC 18 00 00 05 D8 00 00 91 60 FF D9",
-        "0.0=[0, 0, 90, 74] 0.1=[68, 50, 43, 205] 0.2=[64, 145, 145, 145] 0.3=[100, 145, 145, 145] | 0 Eoi(61)",
-    ),
-    // Ten lines, each an interval of its own.
-    (
-        "FF D8 FF F7 00 0B 08 00 0A 00 01 01 01 11 00 FF DD 00 04 00 01 FF DA 00 08 01 01 00 00 00 00 80 FF D0 50 FF \
-         D1 70 FF D2 28 FF D3 38 FF D4 14 FF D5 1C FF D6 0A FF D7 0E FF D0 05 FF D9",
-        "0.0=[0] 0.1=[1] 0.2=[2] 0.3=[3] 0.4=[4] 0.5=[5] 0.6=[6] 0.7=[7] 0.8=[8] 0.9=[9] | 0 Eoi(59)",
-    ),
-    // Seven markers lost.
-    (
-        "FF D8 FF F7 00 0B 08 00 0A 00 01 01 01 11 00 FF DD 00 04 00 01 FF DA 00 08 01 01 00 00 00 00 80 FF D7 0E FF \
-         D0 05 FF D9",
-        "0.0=[0] 0.8=[8] 0.9=[9] | 0 Eoi(38)",
-    ),
-    // Eight markers lost: the last piece gets number 1.
-    (
-        "FF D8 FF F7 00 0B 08 00 0A 00 01 01 01 11 00 FF DD 00 04 00 01 FF DA 00 08 01 01 00 00 00 00 80 FF D0 05 FF \
-         D9",
-        "0.0=[0] 0.1=[9] | 0 Eoi(35)",
-    ),
-    // One marker lost, so that two pieces are one.
-    (
-        "FF D8 FF F7 00 0B 08 00 0A 00 01 01 01 11 00 FF DD 00 04 00 01 FF DA 00 08 01 01 00 00 00 00 80 FF D0 50 FF \
-         D1 70 FF D2 28 38 FF D4 14 FF D5 1C FF D6 0A FF D7 0E FF D0 05 FF D9",
-        "0.0=[0] 0.1=[1] 0.2=[2] 0.5=[5] 0.6=[6] 0.7=[7] 0.8=[8] 0.9=[9] | 0 3 40 Long; 1 Eoi(57)",
-    ),
-    // FF A3, which no data bits hold, in a piece.
-    (
-        "FF D8 FF F7 00 0B 08 00 0A 00 01 01 01 11 00 FF DD 00 04 00 01 FF DA 00 08 01 01 00 00 00 00 80 FF D0 50 FF \
-         D1 70 FF A3 FF D2 28 FF D3 38 FF D4 14 FF D5 1C FF D6 0A FF D7 0E FF D0 05 FF D9",
-        "0.0=[0] 0.1=[1] 0.3=[3] 0.4=[4] 0.5=[5] 0.6=[6] 0.7=[7] 0.8=[8] 0.9=[9] | 0 2 37 Broken; 1 Eoi(61)",
-    ),
-    // A marker more than there are intervals.
-    (
-        "FF D8 FF F7 00 0B 08 00 0A 00 01 01 01 11 00 FF DD 00 04 00 01 FF DA 00 08 01 01 00 00 00 00 80 FF D0 50 FF \
-         D1 70 FF D2 28 FF D3 38 FF D4 14 FF D5 1C FF D6 0A FF D7 0E FF D0 05 FF D5 FF D9",
-        "0.0=[0] 0.1=[1] 0.2=[2] 0.3=[3] 0.4=[4] 0.5=[5] 0.6=[6] 0.7=[7] 0.8=[8] 0.9=[9] | 0 14 61 Beyond; 1 Eoi(61)",
-    ),
-    // A marker where there is one interval.
-    (
-        "FF D8 FF F7 00 0B 08 00 01 00 01 01 01 11 00 FF DA 00 08 01 01 00 00 00 00 80 FF D0 80 FF D9",
-        "0.0=[0] | 0 1 28 Beyond; 1 Eoi(29)",
-    ),
-    // Ri in four bytes.
-    (
-        "FF D8 FF F7 00 0B 08 00 0A 00 01 01 01 11 00 FF DD 00 06 00 00 00 01 FF DA 00 08 01 01 00 00 00 00 80 FF D0 \
-         50 FF D1 70 FF D2 28 FF D3 38 FF D4 14 FF D5 1C FF D6 0A FF D7 0E FF D0 05 FF D9",
-        "0.0=[0] 0.1=[1] 0.2=[2] 0.3=[3] 0.4=[4] 0.5=[5] 0.6=[6] 0.7=[7] 0.8=[8] 0.9=[9] | 0 Eoi(61)",
-    ),
-    // Two lines and one marker.
-    (
-        "FF D8 FF F7 00 0B 08 00 02 00 01 01 01 11 00 FF DD 00 04 00 01 FF DA 00 08 01 01 00 00 00 00 80 FF D0 80 FF \
-         D9",
-        "0.0=[0] 0.1=[0] | 0 Eoi(35)",
-    ),
-    // Preset parameters before the scan.
-    (
-        "FF D8 FF F7 00 0B 08 00 01 00 01 01 01 11 00 FF F8 00 0D 01 00 0F 00 00 00 00 00 00 00 00 FF DA 00 08 01 01 \
-         00 00 00 00 40 FF D9",
-        "0.0=[15] | 0 Eoi(41)",
-    ),
-    // Two components by line.
-    (
-        "FF D8 FF F7 00 0E 08 00 01 00 01 02 01 11 00 02 11 00 FF DA 00 0A 02 01 00 02 00 00 01 00 07 16 FF D9",
-        "0.0=[10] 1.0=[10] | 0 Eoi(32)",
-    ),
-    // Two components, a scan each.
-    (
-        "FF D8 FF F7 00 0E 08 00 01 00 01 02 01 11 00 02 11 00 FF DA 00 08 01 01 00 00 00 00 07 FF DA 00 08 01 02 00 \
-         00 00 00 07 FF D9",
-        "0.0=[10] 1.0=[10] | 0 Eoi(40)",
-    ),
-    // Two scans of two components, each under preset parameters of its own.
-    (
-        "FF D8 FF F7 00 0E 08 00 01 00 01 02 01 11 00 02 11 00 FF F8 00 0D 01 00 0F 00 00 00 00 00 00 00 00 FF DA 00 \
-         08 01 01 00 00 00 00 40 FF F8 00 0D 01 00 00 00 00 00 00 00 00 00 00 FF DA 00 08 01 02 00 00 00 00 40 FF D9",
-        "0.0=[15] 1.0=[255] | 0 Eoi(70)",
-    ),
-    // Two scans of one component that disagree.
-    (
-        "FF D8 FF F7 00 0B 08 00 01 00 01 01 01 11 00 FF DA 00 08 01 01 00 00 00 00 50 FF DA 00 08 01 01 00 00 00 00 \
-         40 FF D9",
-        "0.0=[1] 0.0=[255] | 0 Eoi(37)",
-    ),
-    // A scan that is not lossless ends the copy.
-    (
-        "FF D8 FF F7 00 0B 08 00 0A 00 01 01 01 11 00 FF DD 00 04 00 01 FF DA 00 08 01 01 00 01 00 00 80 FF D0 50 FF \
-         D1 70 FF D2 28 FF D3 38 FF D4 14 FF D5 1C FF D6 0A FF D7 0E FF D0 05 FF D9",
-        "| 0 Header(Lossy, 21)",
-    ),
-    // The input ends behind FF.
-    (
-        "FF D8 FF F7 00 0B 08 00 0A 00 01 01 01 11 00 FF DD 00 04 00 01 FF DA 00 08 01 01 00 00 00 00 80 FF D0 50 FF \
-         D1 70 FF D2 28 FF D3 38 FF",
-        "0.0=[0] 0.1=[1] 0.2=[2] 0.3=[3] 0.4=[4] | 0 Input(45)",
-    ),
-    // No byte.
-    ("", "NoPicture(Ended, 0)"),
-    // A byte that begins no marker.
-    ("00", "NoPicture(NoSoi, 0)"),
-    // No frame before the end of the image.
-    ("FF D8 FF D9", "NoPicture(NoFrame, 2)"),
-    // A precision of 1.
-    (
-        "FF D8 FF F7 00 0B 01 00 04 00 04 01 01 11 00 FF DA 00 08 01 01 00 00 00 00 C0 00 00 6C 80 20 8E 01 C0 00 00 \
-         57 40 00 00 6E E6 00 00 01 BC 18 00 00 05 D8 00 00 91 60 FF D9",
-        "NoPicture(BadShape, 2)",
-    ),
-    // Bits left over.
-    (
-        "FF D8 FF F7 00 0B 08 00 04 00 04 01 01 11 00 FF DA 00 08 01 01 00 00 00 00 C0 00 00 6C 80 20 8E 01 C0 00 00 \
-         57 40 00 00 6E E6 00 00 01 BC 18 00 00 05 D8 00 00 91 60 00 FF D9",
-        "| 0 0 25 Long; 1 Eoi(56)",
-    ),
-    // Bytes behind the end of the image change nothing.
-    (
-        "FF D8 FF F7 00 0B 08 00 01 00 01 01 01 11 00 FF DA 00 08 01 01 00 00 00 00 80 FF D9 FF DA 00",
-        "0.0=[0] | 0 Eoi(26)",
-    ),
-    // The input ends before the first bit of two lines.
-    (
-        "FF D8 FF F7 00 0B 08 00 02 00 01 01 01 11 00 FF DA 00 08 01 01 00 00 00 00",
-        "| 0 0 25 Broken; 1 Input(25)",
-    ),
-    // It ends in the zeros of line 1.
-    (
-        "FF D8 FF F7 00 0B 08 00 02 00 01 01 01 11 00 FF DA 00 08 01 01 00 00 00 00 50",
-        "0.0=[1] | 0 0 25 Broken; 1 Input(26)",
-    ),
-    // It ends in an escape of line 1 that can still be a number.
-    (
-        "FF D8 FF F7 00 0B 08 00 02 00 01 01 01 11 00 FF DA 00 08 01 01 00 00 00 00 50 00 00 15",
-        "0.0=[1] | 0 0 25 Broken; 1 Input(29)",
-    ),
-    // It ends in an escape that could only be a number which has a short code.
-    (
-        "FF D8 FF F7 00 0B 08 00 02 00 01 01 01 11 00 FF DA 00 08 01 01 00 00 00 00 50 00 00 10",
-        "| 0 0 25 Broken; 1 Input(29)",
-    ),
-    // Behind so many zeros that no code begins with them.
-    (
-        "FF D8 FF F7 00 0B 08 00 02 00 01 01 01 11 00 FF DA 00 08 01 01 00 00 00 00 50 00 00 00 00",
-        "| 0 0 25 Broken; 1 Input(30)",
-    ),
-    // FF bytes that end the input are dropped first.
-    (
-        "FF D8 FF F7 00 0B 08 00 02 00 01 01 01 11 00 FF DA 00 08 01 01 00 00 00 00 50 00 FF FF",
-        "0.0=[1] | 0 0 25 Broken; 1 Input(29)",
-    ),
-    // A marker closes the piece, which has no head then.
-    (
-        "FF D8 FF F7 00 0B 08 00 02 00 01 01 01 11 00 FF DA 00 08 01 01 00 00 00 00 50 00 FF D9",
-        "| 0 0 25 Broken; 1 Eoi(27)",
-    ),
-];
 
 /// The bytes that hexadecimal digits spell.
 fn bytes_of(alloc: Global, text: &str) -> Result<Vec<u8>, Fail> {
@@ -201,10 +28,26 @@ fn feed_piece(reader: &mut CopyReader, piece: &[u8]) -> Result<(), CopyFault> {
     }
 }
 
-/// What a reader says of a copy that comes in pieces of this size.
+/// The sizes of slices; 0 stands for slices that end behind each byte 0xFF.
+const SIZES: [usize; 6] = [0, 1, 2, 3, 7, 4096];
+
+/// Feeds a copy in slices that end behind each byte 0xFF.
+fn feed_to_each_ff(reader: &mut CopyReader, bytes: &[u8]) -> Result<(), CopyFault> {
+    let mut start = 0;
+    for place in 0..bytes.len() {
+        if bytes[place] == 0xFF {
+            feed_piece(reader, &bytes[start..place + 1])?;
+            start = place + 1;
+        }
+    }
+    feed_piece(reader, &bytes[start..])
+}
+
+/// What a reader says of a copy that comes in slices of this size.
 fn read_in_pieces(alloc: Global, bytes: &[u8], size: usize) -> Result<CopyRead, CopyFault> {
     let mut reader = CopyReader::new(alloc);
     if size == 0 {
+        feed_to_each_ff(&mut reader, bytes)?;
         return reader.finish();
     }
     for piece in bytes.chunks(size) {
@@ -257,21 +100,108 @@ fn told(alloc: Global, read: Result<CopyRead, CopyFault>) -> Result<String, Fail
     }
 }
 
+/// Makes sure that a copy gives this, in slices of every size.
+fn check_copy(rt: &impl Abort, alloc: Global, bytes: &[u8], wanted: &str) -> Result<(), Fail> {
+    for size in SIZES {
+        let read = read_in_pieces(alloc, bytes, size);
+        assert_eq!(rt; told(alloc, read)?.as_str(), wanted, "in slices of {size}");
+    }
+    Ok(())
+}
+
 #[test]
 fn copies_in_pieces_of_every_size(rt: HostRuntime) -> Result<(), Fail> {
     let alloc = rt.alloc();
     for (text, wanted) in COPIES {
         let bytes = bytes_of(alloc, text)?;
-        for size in [1usize, 2, 3, 7, 4096] {
-            let read = read_in_pieces(alloc, &bytes, size);
-            assert_eq!(rt;
-                told(alloc, read)?.as_str(),
-                wanted,
-                "of {text} in pieces of {size}"
-            );
-        }
+        check_copy(&rt, alloc, &bytes, wanted)?;
     }
     Ok(())
+}
+
+#[test]
+fn intervals_as_copies(rt: HostRuntime) -> Result<(), Fail> {
+    let alloc = rt.alloc();
+    for (frame, data, wanted) in INTERVALS {
+        let text = format!(in alloc;
+            "FF D8 FF F7 00 0B {frame} 01 01 11 00 FF DA 00 08 01 01 00 00 00 00 {data} FF D9"
+        )?;
+        let bytes = bytes_of(alloc, &text)?;
+        check_copy(&rt, alloc, &bytes, wanted)?;
+    }
+    Ok(())
+}
+
+/// The first `end` bytes of the copy of ten lines with a restart interval each.
+#[test]
+fn copies_cut_anywhere(rt: HostRuntime) -> Result<(), Fail> {
+    let alloc = rt.alloc();
+    for end in 0..=61usize {
+        let mut bytes = bytes_of(alloc, COPIES[3].0)?;
+        bytes.truncate(end);
+        let wanted = match end {
+            0..=14 => format!(in alloc; "NoPicture(Ended, {end})")?,
+            15 | 21 => format!(in alloc; "| 0 Input({end})")?,
+            16..=30 => format!(in alloc; "| 0 Header(Ended, {end})")?,
+            _ => lines_and_end(alloc, end)?,
+        };
+        check_copy(&rt, alloc, &bytes, &wanted)?;
+    }
+    Ok(())
+}
+
+/// What these bytes give, of which some are scan data: a line for each interval that is whole, and a record of one that has no byte yet.
+fn lines_and_end(alloc: Global, end: usize) -> Result<String, Fail> {
+    let mut out = String::new(alloc);
+    let data = if end > 31 { end - 31 } else { 0 };
+    for line in 0..10usize {
+        if 3 * line < data {
+            write!(&mut out, "0.{line}=[{line}] ")?;
+        }
+    }
+    write!(&mut out, "| ")?;
+    if end == 61 {
+        write!(&mut out, "0 Eoi(59)")?;
+    } else if data % 3 == 0 {
+        write!(&mut out, "0 {} {end} Broken; 1 Input({end})", data / 3)?;
+    } else {
+        write!(&mut out, "0 Input({end})")?;
+    }
+    Ok(out)
+}
+
+/// A picture of 4,096 lines whose input ends behind eight times FF 7F: 45 lines stand whole.
+#[test]
+fn a_large_picture_is_cut(rt: HostRuntime) -> Result<(), Fail> {
+    let mut bytes = bytes_of(rt.alloc(), COPIES[36].0)?;
+    bytes.truncate(41);
+    let read = read_in_pieces(rt.alloc(), &bytes, 4096)?;
+    assert_eq!(rt; read.piece_count(), 1);
+    assert_eq!(rt; read.ended(), End::Input(41));
+    for line in 0..4096u16 {
+        assert_eq!(rt; lines_of(&read, line), if line < 45 { 1 } else { 0 });
+    }
+    Ok(())
+}
+
+/// How many readings a line of the first component has; none where there is no such line.
+fn lines_of(read: &CopyRead, line: u16) -> usize {
+    let partial = read.partial();
+    if line >= partial.shape().height() {
+        return 0;
+    }
+    partial.count(0, line)
+}
+
+#[test]
+fn seventeen_scans(rt: HostRuntime) -> Result<(), Fail> {
+    let alloc = rt.alloc();
+    let mut bytes = bytes_of(alloc, "FF D8 FF F7 00 0B 08 00 01 00 01 01 01 11 00")?;
+    let scan = bytes_of(alloc, "FF DA 00 08 01 01 00 00 00 00 80")?;
+    for _ in 0..17u8 {
+        bytes.extend_from_slice(&scan)?;
+    }
+    check_copy(&rt, alloc, &bytes, "0.0=[0] | 0 Header(TooManyScans, 191)")
 }
 
 /// A header of 5,000 lines of one sample, with a restart interval for each line.
