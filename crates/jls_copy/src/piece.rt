@@ -10,7 +10,7 @@ use jls_interval::IntervalDecoder;
 use jls_marker::ScanPlan;
 use std::alloc::{AllocError, Global};
 
-/// Why a piece of scan data gives no readings.
+/// Why a piece of scan data doesn't read as the lines of its interval.
 #[derive(Clone, Copy, Debug, PartialEq, Eq)]
 pub enum PieceKind {
     /// It reads as no lines and is not too long: its data bits begin with the code of no lines, or a byte of 0x80 or more follows
@@ -22,7 +22,7 @@ pub enum PieceKind {
     Beyond,
 }
 
-/// A piece of scan data that gave no readings.
+/// A piece of scan data that didn't read as the lines of its interval. If the input's end cut it off, its first lines may be readings still.
 #[derive(Clone, Copy, Debug, PartialEq, Eq)]
 pub struct PieceRecord {
     /// The scan of the copy, counted from 0.

@@ -31,14 +31,14 @@ impl Model for TakeReport {
 }
 
 impl TakeReport {
-    /// The first 4,096 pieces of scan data that gave no readings, in the order of the copy.
+    /// The first 4,096 pieces of scan data that didn't read as the lines of their intervals, in the order of the copy.
     pub fn pieces(&self) -> &[PieceRecord]
         ensures { result.now ≡ self.now.found.pieces }
     {
         &self.pieces
     }
 
-    /// How many pieces gave no readings, those that are not kept among them.
+    /// How many pieces didn't read as the lines of their intervals, those that are not kept among them.
     pub fn piece_count(&self) -> u64
         ensures { result ≡ self.now.found.piece_count }
     {
