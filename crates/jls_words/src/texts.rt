@@ -95,8 +95,8 @@ pub(crate) const WRITE_ABOUT: &str =
 pub(crate) const WRITE_NOTES: &str = "\
 Each line of FILE must have exactly one reading: nothing is guessed, and nothing chosen. As pnm a
 picture of one component becomes a PGM file, one of three a PPM file, and one of two or four a PAM file.
-As jls it becomes lossless JPEG-LS with the default parameters of its precision. With --ri a damaged
-byte costs at most the lines up to the next restart marker.
+As jls it becomes lossless JPEG-LS with the default parameters of its precision. With --ri N a
+damaged byte costs, as a rule, only the N lines between two restart markers.
 
 Exit status:
   0  done
