@@ -66,7 +66,7 @@ status_of_memory c is = let e : exit_status_of_cause c ≡ 5 = ap exit_status_of
 status_of_cut : (c : Cause) (count : ℕ) → c ≡ cause.NotWritten count → 3 ≤ exit_status_of_cause c
 status_of_cut c count is = let e : exit_status_of_cause c ≡ 4 = ap exit_status_of_cause is in omega (arith, e)
 
-status_of_unsettled : (p : PartialPicture) (f : PictureFault) (c : Cause) → c ≡ unsettled_cause p f → exit_status_of_cause c ≡ 1
+pub status_of_unsettled : (p : PartialPicture) (f : PictureFault) (c : Cause) → c ≡ unsettled_cause p f → exit_status_of_cause c ≡ 1
 status_of_unsettled p (Unsettled component line) c is = ap exit_status_of_cause is
 
 -- ---- no fault line

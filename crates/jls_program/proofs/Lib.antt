@@ -2,3 +2,4 @@ pub mod Finished
 pub mod PrintedLines
 pub mod RefusedWords
 pub mod Running
+mod Statuses

@@ -4,3 +4,4 @@ pub mod FaultLines
 pub mod Laws
 pub mod Lines
 pub mod Runs
+pub mod Statuses

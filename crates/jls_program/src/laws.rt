@@ -1,6 +1,7 @@
 //! The laws of whole runs. Each is a function that does nothing and whose contract is the law.
 
 ghost use Rattle.jls_program.specs.Laws.{DoneChecksRan, DoneJoinsRan, DoneShowsRan, DoneWritesRan, UnsettledWritesStop};
+ghost use Rattle.jls_program.specs.Statuses.{FailuresAreBehindStatus4, RefusedRunsCreateNothing, WantOfMemoryIsTold};
 
 /// If the words of a run ask for a join and the run ends with status 0 or 1, the join is done under the source that the words name or
 /// under none, the status is 0 if and only if each line of the union is settled, and nothing was reported or printed as a fault.
@@ -32,4 +33,20 @@ pub fn done_writes_ran()
 /// line of what the input gave is not settled.
 pub fn unsettled_writes_stop()
     ensures { UnsettledWritesStop }
+{}
+
+/// If a run ends with status 4, something was not opened or created in it, or a read or a write failed; or so many reads were made as
+/// one input can have.
+pub fn failures_are_behind_status_4()
+    ensures { FailuresAreBehindStatus4 }
+{}
+
+/// If a run ends with status 2 or 3, no output was created, and nothing was reported.
+pub fn refused_runs_create_nothing()
+    ensures { RefusedRunsCreateNothing }
+{}
+
+/// If a run ends with status 5, it is told on the fault output that memory ran out.
+pub fn want_of_memory_is_told()
+    ensures { WantOfMemoryIsTold }
 {}

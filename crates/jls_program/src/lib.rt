@@ -10,6 +10,7 @@ mod program;
 mod tests;
 
 pub use laws::{
-    done_checks_ran, done_joins_ran, done_shows_ran, done_writes_ran, unsettled_writes_stop,
+    done_checks_ran, done_joins_ran, done_shows_ran, done_writes_ran, failures_are_behind_status_4,
+    refused_runs_create_nothing, unsettled_writes_stop, want_of_memory_is_told,
 };
 pub use program::run;
