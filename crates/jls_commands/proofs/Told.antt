@@ -24,7 +24,8 @@ module _ (lines : Given → List ℕ) (name : List ℕ) (desk desk' report repor
   }
 
   module _ (g : Given) (taken : GrewBy (IsTaken None name g) desk desk') where
-    pub told_for_memory : (r : Refusal) → r.name.now ≡ name → r.cause ≡ cause.OutOfMemory → GrewBoth (Tells lines name (Refused r)) desk desk' report report
+    pub told_for_memory : (r : Refusal) → r.name.now ≡ name → r.cause ≡ cause.OutOfMemory
+        → GrewBoth (Tells lines name (Refused r)) desk desk' report report
     told_for_memory r named is = record {
       desk_events = taken.events;
       report_events = [];
@@ -43,7 +44,8 @@ module _ (lines : Given → List ℕ) (name : List ℕ) (desk desk' report repor
       they_are = done name g settled whole taken.events h.events taken.they_are says (subst (λ (bytes : List ℕ). Wrote bytes h.events) is h.they_are);
     }
 
-    pub told_in_part : (r : Refusal) (count : ℕ) (printed : List ℕ) → printed ≡ lines g → r.name.now ≡ codes "-" → r.cause ≡ cause.NotWritten count
+    pub told_in_part : (r : Refusal) (count : ℕ) (printed : List ℕ) → printed ≡ lines g → r.name.now ≡ codes "-"
+        → r.cause ≡ cause.NotWritten count
         → GrewBy (WroteFront printed count) report report' → GrewBoth (Tells lines name (Refused r)) desk desk' report report'
     told_in_part r count printed is named cut h = record {
       desk_events = taken.events;

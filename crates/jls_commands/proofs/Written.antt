@@ -30,30 +30,35 @@ use Rattle.jls_commands.specs.declared.writing.Format.{Format}
 use Rattle.jls_commands.specs.declared.writing.Format.TheVariants.{Pnm, Jls}
 
 module _ (f : Format) (out name : List ℕ) (old mid new : History) where
-  pub stops_at_input : (r : Refusal) → r.name.now ≡ name → GrewBy (StopsAt None [] name r.cause) old mid → GrewBy (WritesFile f out name (Refused r)) old mid
+  pub stops_at_input : (r : Refusal) → r.name.now ≡ name → GrewBy (StopsAt None [] name r.cause) old mid
+      → GrewBy (WritesFile f out name (Refused r)) old mid
   stops_at_input r named = grew_as (StopsAt None [] name r.cause) (WritesFile f out name (Refused r)) old mid (λ events h. at_input f out name r events named h)
 
   module _ (g : Given) (taken : GrewBy (IsTaken None name g) old mid) where
-    pub stops_unsettled : (r : Refusal) (fault : PictureFault) → r.name.now ≡ name → NamesFirstUnsettled g.partial fault → r.cause ≡ unsettled_cause g.partial fault
+    pub stops_unsettled : (r : Refusal) (fault : PictureFault) → r.name.now ≡ name → NamesFirstUnsettled g.partial fault
+        → r.cause ≡ unsettled_cause g.partial fault
         → GrewBy (WritesFile f out name (Refused r)) old mid
     stops_unsettled r fault named first is =
         grew_as (IsTaken None name g) (WritesFile f out name (Refused r)) old mid (λ events h. unsettled f out name r g fault events named h first is) taken
 
     module _ (settled : IsSettled g.partial) where
-      pub is_written : (whole : Bool) → Says g true whole → Fits f (picture_of g.partial) → GrewBy (HandsOut out (file f (picture_of g.partial))) mid new
+      pub is_written : (whole : Bool) → Says g true whole → Fits f (picture_of g.partial)
+          → GrewBy (HandsOut out (file f (picture_of g.partial))) mid new
           → GrewBy (WritesFile f out name (Done true whole)) old new
       is_written whole says fit =
           grew_on (IsTaken None name g) (HandsOut out (file f (picture_of g.partial))) (WritesFile f out name (Done true whole)) old mid new
           (λ a b t h. done f out name g whole a b t settled says fit h) taken
 
-      pub stops_at_file : (r : Refusal) → r.name.now ≡ out → GrewBy (StopsAtFile (Fits f (picture_of g.partial)) (takes_memory f) out (file f (picture_of g.partial)) r.cause) mid new
+      pub stops_at_file : (r : Refusal) → r.name.now ≡ out
+          → GrewBy (StopsAtFile (Fits f (picture_of g.partial)) (takes_memory f) out (file f (picture_of g.partial)) r.cause) mid new
           → GrewBy (WritesFile f out name (Refused r)) old new
       stops_at_file r named =
           grew_on (IsTaken None name g) (StopsAtFile (Fits f (picture_of g.partial)) (takes_memory f) out (file f (picture_of g.partial)) r.cause) (WritesFile f out name (Refused r)) old mid new
           (λ a b t h. at_file f out name r g a b named t settled h) taken
 
 -- a file that went out in part
-pub cut_after : (f : OutputFault) (old mid new : History) (name bytes : List ℕ) (held holds : Option (List ℕ)) → mid ≡ old ++ created name ∷ []
+pub cut_after : (f : OutputFault) (old mid new : History) (name bytes : List ℕ) (held holds : Option (List ℕ))
+    → mid ≡ old ++ created name ∷ []
     → StoppedBy f 0 (HandedFront mid new held holds bytes) → GrewBy (StopsAtOutput name bytes (cut_cause f)) old new
 cut_after (Write count) old mid new name bytes held holds made h =
     let is : count ≡ h.0 = omega (arith, h.1) in
@@ -62,7 +67,8 @@ cut_after (Write count) old mid new name bytes held holds made h =
 cut_after (OutOfMemory count) old mid new name bytes held holds made h = absurd h
 
 -- the same of a file whose writer takes memory
-pub cut_in_file : (F : Type 0) → F → (f : OutputFault) (old mid new : History) (name bytes : List ℕ) (held holds : Option (List ℕ)) → mid ≡ old ++ created name ∷ []
+pub cut_in_file : (F : Type 0) → F → (f : OutputFault) (old mid new : History) (name bytes : List ℕ) (held holds : Option (List ℕ))
+    → mid ≡ old ++ created name ∷ []
     → StopsIn f 0 mid new held holds bytes → GrewBy (StopsAtFile F true name bytes (cut_cause f)) old new
 cut_in_file F fit (Write count) old mid new name bytes held holds made h =
     grew_as (StopsAtOutput name bytes (cut_cause (Write count))) (StopsAtFile F true name bytes (cut_cause (Write count))) old new
@@ -73,17 +79,20 @@ cut_in_file F fit (OutOfMemory count) old mid new name bytes held holds made h =
     (λ writes w. no_memory name bytes h.0 writes fit refl part.not_all w) made part.out.wrote
 
 -- nothing was created
-pub stops_before : (F : Type 0) (takes : Bool) → (F → ⊥) → (h : History) (name bytes : List ℕ) → GrewBy (StopsAtFile F takes name bytes cause.TooLarge) h h
+pub stops_before : (F : Type 0) (takes : Bool) → (F → ⊥) → (h : History) (name bytes : List ℕ)
+    → GrewBy (StopsAtFile F takes name bytes cause.TooLarge) h h
 stops_before F takes never h name bytes = grew_not (StopsAtFile F takes name bytes cause.TooLarge) h (too_large name bytes never)
 
 -- the output stopped it
-pub stopped_by_output : (F : Type 0) (takes : Bool) → F → (c : Cause) (old new : History) (name bytes : List ℕ) → GrewBy (StopsAtOutput name bytes c) old new
+pub stopped_by_output : (F : Type 0) (takes : Bool) → F → (c : Cause) (old new : History) (name bytes : List ℕ)
+    → GrewBy (StopsAtOutput name bytes c) old new
     → GrewBy (StopsAtFile F takes name bytes c) old new
 stopped_by_output F takes fit c old new name bytes =
     grew_as (StopsAtOutput name bytes c) (StopsAtFile F takes name bytes c) old new (λ events k. at_output name bytes c events fit k)
 
 -- what stops a PNM file
-pnm_stopped : {T : Type 0} (r : Result T Cause) (old new : History) (name : List ℕ) (picture : WholePicture) → IfErr r (λ c. GrewBy (StopsAtOutput name (pnm picture) c) old new)
+pnm_stopped : {T : Type 0} (r : Result T Cause) (old new : History) (name : List ℕ) (picture : WholePicture)
+    → IfErr r (λ c. GrewBy (StopsAtOutput name (pnm picture) c) old new)
     → IfErr r (λ c. GrewBy (StopsAtFile (Fits Pnm picture) (takes_memory Pnm) name (file Pnm picture) c) old new)
 pnm_stopped (Ok x) old new name picture h = tt
 pnm_stopped (Err c) old new name picture h = stopped_by_output (Unit {0}) false tt c old new name (pnm picture) h
@@ -94,7 +103,8 @@ stopped_as_pnm {T} f e r old new name picture h =
     subst (λ (x : Format). IfErr r (λ c. GrewBy (StopsAtFile (Fits x picture) (takes_memory x) name (file x picture) c) old new)) (sym e) (pnm_stopped r old new name picture h)
 
 -- and a JPEG-LS file
-pub stopped_as_jls : {T : Type 0} (f : Format) (line : Bool) (ri : ℕ) → f ≡ Jls line ri → (r : Result T Cause) (old new : History) (name : List ℕ) (picture : WholePicture)
+pub stopped_as_jls : {T : Type 0} (f : Format) (line : Bool) (ri : ℕ) → f ≡ Jls line ri
+    → (r : Result T Cause) (old new : History) (name : List ℕ) (picture : WholePicture)
     (o : WriteOptions) → o ≡ options_for line ri picture → IfErr r (λ c. GrewBy (StopsAtFile (OptionsFit picture o) true name (written_file picture o) c) old new)
     → IfErr r (λ c. GrewBy (StopsAtFile (Fits f picture) (takes_memory f) name (file f picture) c) old new)
 stopped_as_jls {T} f line ri e r old new name picture o is h =

@@ -30,7 +30,8 @@ unfolding is_whole_after ends_data
 two_break before [] ys = and_false (not (ends_data before 255))
 two_break before (x ∷ xs) ys = ap (λ t. not (ends_data before x) && t) (two_break x xs ys) ∙ and_false (not (ends_data before x))
 
-same_equal : (told piece : List ℕ) (n b : ℕ) → told ≡ piece → (held : Held) → HeldIs held n → SameBytes (told ++ (held_bytes held ++ b ∷ [])) (piece ++ (fill_bytes n ++ b ∷ []))
+same_equal : (told piece : List ℕ) (n b : ℕ) → told ≡ piece → (held : Held) → HeldIs held n
+    → SameBytes (told ++ (held_bytes held ++ b ∷ [])) (piece ++ (fill_bytes n ++ b ∷ []))
 same_equal told piece n b e Nothing h = inl (rw (h, e) refl)
 same_equal told piece n b e One h = inl (rw (h, e) refl)
 same_equal told piece n b e More (m, h) = inr (two_break 0 told (b ∷ []), rw h (two_break 0 piece (fill_bytes m ++ b ∷ [])))
@@ -45,7 +46,8 @@ pub never_both : (b : Bool) → b ≡ true → b ≡ false → ⊥
 never_both b e f = let g : true ≡ false = sym e ∙ f in cc
 
 -- and so has the same outcome
-pub same_outcome : (s : Scan) (k : ℕ) (told piece : List ℕ) (o : PieceOutcome) → SameBytes told piece → IsOutcomeAt s (Interval k) told o → IsOutcomeAt s (Interval k) piece o
+pub same_outcome : (s : Scan) (k : ℕ) (told piece : List ℕ) (o : PieceOutcome) → SameBytes told piece → IsOutcomeAt s (Interval k) told o
+    → IsOutcomeAt s (Interval k) piece o
 same_outcome s k told piece o (inl e) h = subst (λ bytes. IsOutcomeAt s (Interval k) bytes o) e h
 same_outcome s k told piece (Lines lines) (inr e) h = absurd (never_both (is_whole told) h.begins.data_bits.whole e.0)
 same_outcome s k told piece (Fault kind.Long) (inr e) h = absurd (never_both (is_whole told) h.begins.data_bits.whole e.0)
@@ -56,7 +58,8 @@ same_outcome s k told piece (Fault kind.Broken) (inr e) h = record {
 same_outcome s k told piece (Fault kind.Beyond) (inr e) h = h
 
 -- and the same head
-pub same_head : (s : Scan) (k : ℕ) (told piece : List ℕ) (head : List (List ℕ)) → SameBytes told piece → IsHeadAt s (Interval k) told head → IsHeadAt s (Interval k) piece head
+pub same_head : (s : Scan) (k : ℕ) (told piece : List ℕ) (head : List (List ℕ)) → SameBytes told piece → IsHeadAt s (Interval k) told head
+    → IsHeadAt s (Interval k) piece head
 same_head s k told piece head (inl e) h = subst (λ bytes. IsHeadAt s (Interval k) bytes head) e h
 same_head s k told piece head (inr e) (inl h) = absurd (never_both (is_whole told) h.0 e.0)
 same_head s k told piece head (inr e) (inr h) = inr (e.1, h.1)

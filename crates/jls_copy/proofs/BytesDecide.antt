@@ -30,10 +30,12 @@ module _ (s : Scan) (ok : IsScan s) (k : ℕ) (bytes : List ℕ) where
   abbrev count : ℕ
   count = row_count s k * length s.components
 
-  one_list : (a b : List (List ℕ)) → Reads s.params s.width (length s.components) count bytes a → Reads s.params s.width (length s.components) count bytes b → a ≡ b
+  one_list : (a b : List (List ℕ)) → Reads s.params s.width (length s.components) count bytes a
+      → Reads s.params s.width (length s.components) count bytes b → a ≡ b
   one_list a b h r = reads_once s.params ok.params s.width (length s.components) count (let w = ok.width_at_least in omega arith) bytes a b h r
 
-  not_long : (a : List (List ℕ)) → Reads s.params s.width (length s.components) count bytes a → IsLong s.params s.width (length s.components) count bytes → ⊥
+  not_long : (a : List (List ℕ)) → Reads s.params s.width (length s.components) count bytes a
+      → IsLong s.params s.width (length s.components) count bytes → ⊥
   not_long a h l = read_not_long s.params ok.params s.width (length s.components) count (let w = ok.width_at_least in omega arith) bytes a h l
 
   within : (o p : PieceOutcome) → IsOutcomeAt s (Interval k) bytes o → IsOutcomeAt s (Interval k) bytes p → o ≡ p
@@ -60,11 +62,13 @@ module _ (s : Scan) (ok : IsScan s) (k : ℕ) (bytes : List ℕ) where
   beyond (Fault kind.Beyond) (Fault kind.Broken) h r = absurd r
   beyond (Fault kind.Beyond) (Fault kind.Beyond) h r = refl
 
-pub one_outcome : (s : Scan) (n : PieceNumber) (bytes : List ℕ) (o p : PieceOutcome) → IsScan s → IsOutcomeAt s n bytes o → IsOutcomeAt s n bytes p → o ≡ p
+pub one_outcome : (s : Scan) (n : PieceNumber) (bytes : List ℕ) (o p : PieceOutcome) → IsScan s → IsOutcomeAt s n bytes o
+    → IsOutcomeAt s n bytes p → o ≡ p
 one_outcome s (Interval k) bytes o p ok h r = within s ok k bytes o p h r
 one_outcome s (BeyondLast k) bytes o p ok h r = beyond s ok k bytes o p h r
 
-pub one_outcomes : (ps : List FoundPiece) (os qs : List PieceOutcome) → AllByRecursion HasScan ps → AreOutcomes ps os → AreOutcomes ps qs → os ≡ qs
+pub one_outcomes : (ps : List FoundPiece) (os qs : List PieceOutcome) → AllByRecursion HasScan ps → AreOutcomes ps os → AreOutcomes ps qs
+    → os ≡ qs
 one_outcomes [] [] [] ok h r = refl
 one_outcomes [] [] (q ∷ qs) ok h r = absurd r
 one_outcomes [] (o ∷ os) qs ok h r = absurd h
@@ -83,7 +87,8 @@ some_is : (a b : PictureShape) → Some a ≡ Some b → a ≡ b
 some_is a b e = cc
 
 -- One head
-one_head_at : (s : Scan) (n : PieceNumber) (bytes : List ℕ) (a b : List (List ℕ)) → IsScan s → IsHeadAt s n bytes a → IsHeadAt s n bytes b → a ≡ b
+one_head_at : (s : Scan) (n : PieceNumber) (bytes : List ℕ) (a b : List (List ℕ)) → IsScan s → IsHeadAt s n bytes a → IsHeadAt s n bytes b
+    → a ≡ b
 one_head_at s (Interval k) bytes a b ok (inl h) (inl r) =
     one_head s.params s.width (length s.components) (row_count s k * length s.components) ok.params (let w = ok.width_at_least in omega arith) (bits_read bytes) a b h.1 r.1
 one_head_at s (Interval k) bytes a b ok (inl h) (inr r) = absurd (never_both (is_whole bytes) h.0 r.0)

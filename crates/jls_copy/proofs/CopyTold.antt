@@ -50,7 +50,8 @@ records_alike : (p q : FoundPiece) (o : PieceOutcome) → AlikePiece p q → rec
 records_alike p q (Lines lines) a = refl
 records_alike p q (Fault f) a = rw (a.scan_is, a.number_is, a.offset_is) refl
 
-all_alike : (ps qs : List FoundPiece) (os : List PieceOutcome) → AlikePieces ps qs → AreOutcomes ps os → AreOutcomes qs os × (readings ps os ≡ readings qs os) × (records ps os ≡ records qs os)
+all_alike : (ps qs : List FoundPiece) (os : List PieceOutcome) → AlikePieces ps qs → AreOutcomes ps os
+    → AreOutcomes qs os × (readings ps os ≡ readings qs os) × (records ps os ≡ records qs os)
 all_alike [] [] os a h = (h, refl, refl)
 all_alike [] (q ∷ qs) os a h = absurd a
 all_alike (p ∷ ps) [] os a h = absurd a
@@ -101,7 +102,8 @@ conclusion_told bytes low read k =
       ended_is = k.ended_is ∙ sym told.3;
     }
 
-pub none_told : (bytes : List ℕ) → AllByRecursion (λ b. b < 256) bytes → (f : CopyFault) → SaysNone (reading bytes) f → CopyGivesNone bytes f
+pub none_told : (bytes : List ℕ) → AllByRecursion (λ b. b < 256) bytes → (f : CopyFault) → SaysNone (reading bytes) f
+    → CopyGivesNone bytes f
 none_told bytes low OutOfMemory k = tt
 none_told bytes low (NoPicture f offset) k = let told = course_told bytes low in (told.0, told.1, ap (λ h. h.frame) told.2 ∙ k.0, k.1 ∙ ap no_picture (sym told.3))
 
@@ -118,7 +120,8 @@ ended_final _ _ _ _ (ended before h us ps behind tail x e p w f s) = stops_final
 ended_final _ _ _ _ (without_soi n code more x p q w) = refl
 ended_final _ _ _ _ (without_ff b more x p w) = refl
 
-place_final : (p : Place) (h : HeaderState) (payload : List ℕ) (ps : List FoundPiece) (x : List ℕ) (count : ℕ) → Tells p h payload ps x → is_final p ≡ is_final_end (end_at p count)
+place_final : (p : Place) (h : HeaderState) (payload : List ℕ) (ps : List FoundPiece) (x : List ℕ) (count : ℕ) → Tells p h payload ps x
+    → is_final p ≡ is_final_end (end_at p count)
 place_final (Start fill) h payload ps x count t = refl
 place_final (AtMarker true) h payload ps x count t = refl
 place_final (AtMarker false) h payload ps x count t = refl
@@ -128,7 +131,8 @@ place_final (InPayload marker code size) h payload ps x count t = refl
 place_final (InScan scan) h payload ps x count t = refl
 place_final (Done e) h payload ps x count t = sym (ended_final e h ps x t)
 
-pub done_told : (bytes : List ℕ) → AllByRecursion (λ b. b < 256) bytes → (p : Place) → p ≡ (reading bytes).state.place → (done : Bool) → done ≡ is_final p → IsDone bytes done
+pub done_told : (bytes : List ℕ) → AllByRecursion (λ b. b < 256) bytes → (p : Place) → p ≡ (reading bytes).state.place → (done : Bool)
+    → done ≡ is_final p → IsDone bytes done
 done_told bytes low p e done d =
     let told = course_told bytes low in
     let r = reading bytes in

@@ -36,7 +36,8 @@ cut_in index at (u ∷ []) = if is_cut u then last_piece (unit_pieces index at u
 cut_in index at (u ∷ v ∷ us) = cut_in (index + scans_in u) (at + length (unit_bytes u)) (v ∷ us)
 
 -- a unit that the input's end doesn't close, before others
-cut_behind : (index at : ℕ) (u : CopyUnit) (us : List CopyUnit) → is_cut u ≡ false → cut_in index at (u ∷ us) ≡ cut_in (index + scans_in u) (at + length (unit_bytes u)) us
+cut_behind : (index at : ℕ) (u : CopyUnit) (us : List CopyUnit) → is_cut u ≡ false
+    → cut_in index at (u ∷ us) ≡ cut_in (index + scans_in u) (at + length (unit_bytes u)) us
 cut_behind index at u [] e = rw e refl
 cut_behind index at u (v ∷ us) e = refl
 
@@ -51,7 +52,8 @@ some_pieces : (index : ℕ) (s : Scan) (last : ℕ) (number : PieceNumber) (at :
 some_pieces index s last number at [] bytes = (_, [], refl)
 some_pieces index s last number at (c ∷ closed) bytes = (_, _, refl)
 
-cut_has_pieces : (index at : ℕ) (us : List CopyUnit) → closed_by_input us ≡ true → (q : FoundPiece) × (qs : List FoundPiece) × (pieces_in index at us ≡ q ∷ qs)
+cut_has_pieces : (index at : ℕ) (us : List CopyUnit) → closed_by_input us ≡ true
+    → (q : FoundPiece) × (qs : List FoundPiece) × (pieces_in index at us ≡ q ∷ qs)
 cut_has_pieces index at [] e = absurd cc
 cut_has_pieces index at (segment fill code payload ∷ []) e = absurd cc
 cut_has_pieces index at (scan fill code payload plan closed last closing ∷ us) e =
@@ -108,7 +110,8 @@ passed_course _ _ _ _ _ (passed_scan x h us ps behind p n code payload after z k
     (alike_append fs _ qs _ alike0 (rw (size, scans) at alike))
     (subst (AlikePieces cut) (sym (cut_behind h.scans (length x) unit vs refl)) (rw (size, scans) at alike_cut)) (is ∙ rw w (append_assoc x (unit_bytes unit) rest)))
 
-told : (p : Place) (h : HeaderState) (payload : List ℕ) (ps : List FoundPiece) (x : List ℕ) → Tells p h payload ps x → CourseIs x (end_at p (length x)) h (ps ++ closed_at_end p) (closed_at_end p)
+told : (p : Place) (h : HeaderState) (payload : List ℕ) (ps : List FoundPiece) (x : List ℕ) → Tells p h payload ps x
+    → CourseIs x (end_at p (length x)) h (ps ++ closed_at_end p) (closed_at_end p)
 told (Start false) h payload ps x (e, f, g) = rw (e, f, g) (_, with_fill_alone 0, refl, refl, tt, tt)
 told (Start true) h payload ps x (n, e, f, g) = rw (e, f, g, fill_length) (_, with_fill_alone (suc n), refl, refl, tt, tt)
 told (AtMarker false) h payload ps x (us, p) =

@@ -30,7 +30,8 @@ record CutGathers (frame : Option PictureShape) (ps qs : List FoundPiece) (f : F
   records_are : f.records.items ≡ take 4096 (records (ps ++ qs) outcomes)
   count_is : f.record_count ≡ length (records (ps ++ qs) outcomes)
 
-cut_gathers : (frame : Option PictureShape) (ps qs : List FoundPiece) (old new : Findings) → Gathers frame ps old → AddsCut frame qs old new → CutGathers frame ps qs new
+cut_gathers : (frame : Option PictureShape) (ps qs : List FoundPiece) (old new : Findings) → Gathers frame ps old → AddsCut frame qs old new
+    → CutGathers frame ps qs new
 cut_gathers frame ps [] old new g e =
     let all : ps ++ [] ≡ ps = append-nil ps in
     record {
@@ -67,7 +68,8 @@ cut_gathers frame ps (p ∷ []) old new g (shape, framed, adds) =
     some_is x y e = cc
 
 -- the input ends
-pub concluding : (m n : Machine) (bytes : List ℕ) (e : End) (read : ReadCopy) → IsReading m bytes → e ≡ end_at m.place m.count → AddsCut m.headers.frame (closed_at_end m.place) m.findings n.findings → n.headers ≡ m.headers
+pub concluding : (m n : Machine) (bytes : List ℕ) (e : End) (read : ReadCopy) → IsReading m bytes → e ≡ end_at m.place m.count
+    → AddsCut m.headers.frame (closed_at_end m.place) m.findings n.findings → n.headers ≡ m.headers
     → ((shape : PictureShape) × (n.headers.frame ≡ Some shape) × (read.partial ≡ picture_of shape n.findings.partial) × (read.pieces ≡ n.findings.records.items) × (read.piece_count ≡ n.findings.record_count) × (read.ended ≡ e))
     → Concludes (reading bytes) read
 concluding m n bytes e read h end_is a same (shape, framed, p, q, r, s) =

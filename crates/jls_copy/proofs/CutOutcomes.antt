@@ -38,12 +38,14 @@ abbrev items : Vec (Vec ℕ Global) Global → List (List ℕ)
 items lines = map (λ line. line.items) lines.items
 
 -- a piece that reads has no head
-no_head : (p : CodingParameters) (w c n : ℕ) (bytes : List ℕ) (lines : List (List ℕ)) → AreCodingParameters p → 0 < w → Reads p w c n bytes lines → IsHeadOfPiece p w c n bytes []
+no_head : (p : CodingParameters) (w c n : ℕ) (bytes : List ℕ) (lines : List (List ℕ)) → AreCodingParameters p → 0 < w
+    → Reads p w c n bytes lines → IsHeadOfPiece p w c n bytes []
 no_head p w c n bytes lines ok some r =
     inl (r.begins.data_bits.whole, over_head p ok w c n some (bits_read bytes) lines (min 8 (length r.unread)) (record { unread = r.unread; are_lines = r.begins.are_lines; begins = r.begins.data_bits.read; counted = refl }))
 
 -- the lines of a head are first lines of an interval
-head_lines : (p : CodingParameters) (w c n : ℕ) (bytes : List ℕ) (head : List (List ℕ)) → IsHeadOfPiece p w c n bytes head → (count : ℕ) × (count ≤ n) × AreLines p w count head
+head_lines : (p : CodingParameters) (w c n : ℕ) (bytes : List ℕ) (head : List (List ℕ)) → IsHeadOfPiece p w c n bytes head
+    → (count : ℕ) × (count ≤ n) × AreLines p w count head
 head_lines p w c n bytes head (inl (whole, inl (cut, f))) =
     let l = length-append head f.begins.others in let e = ap length f.begins.lines_are in let k = cut.are_lines.count_is in
     (length head, omega (arith, l, e, k), front_lines p w n cut.lines head f.begins.others cut.are_lines f.begins.lines_are)
@@ -76,13 +78,16 @@ module _ (s : Scan) (k : ℕ) (d : IntervalBytes) (piece : OpenPiece) (is : piec
   pub cut_interval : k < intervals s
   cut_interval = open_is.within
 
-  pub whole_lines : (lines : Vec (Vec ℕ Global) Global) → CutFinishes d (Whole lines) → (n : ℕ) × (n ≤ count) × AreLines s.params s.width n (items lines)
+  pub whole_lines : (lines : Vec (Vec ℕ Global) Global) → CutFinishes d (Whole lines)
+      → (n : ℕ) × (n ≤ count) × AreLines s.params s.width n (items lines)
   whole_lines lines h = (count, omega arith, (said (Whole lines) h).begins.are_lines)
 
-  pub not_memory : (head : Vec (Vec ℕ Global) Global) (fault : PieceFault) → CutFinishes d (Head head fault) → fault ≡ piece_fault.OutOfMemory → ⊥
+  pub not_memory : (head : Vec (Vec ℕ Global) Global) (fault : PieceFault) → CutFinishes d (Head head fault)
+      → fault ≡ piece_fault.OutOfMemory → ⊥
   not_memory head fault h e = said (Head head piece_fault.OutOfMemory) (subst (λ f. CutFinishes d (Head head f)) e h)
 
-  pub cut_lines : (head : Vec (Vec ℕ Global) Global) (fault : PieceFault) → CutFinishes d (Head head fault) → (n : ℕ) × (n ≤ count) × AreLines s.params s.width n (items head)
+  pub cut_lines : (head : Vec (Vec ℕ Global) Global) (fault : PieceFault) → CutFinishes d (Head head fault)
+      → (n : ℕ) × (n ≤ count) × AreLines s.params s.width n (items head)
   cut_lines head piece_fault.Long h = head_lines s.params s.width (length s.components) count told_bytes (items head) (said (Head head piece_fault.Long) h).1
   cut_lines head piece_fault.Broken h = head_lines s.params s.width (length s.components) count told_bytes (items head) (said (Head head piece_fault.Broken) h).1
   cut_lines head piece_fault.OutOfMemory h = absurd (said (Head head piece_fault.OutOfMemory) h)
@@ -110,7 +115,8 @@ module _ (s : Scan) (k : ℕ) (d : IntervalBytes) (piece : OpenPiece) (is : piec
           },
         )
 
-    pub head_adds : (head : Vec (Vec ℕ Global) Global) (fault : PieceFault) (f : PieceKind) → CutFinishes d (Head head fault) → IsKindOf fault f
+    pub head_adds : (head : Vec (Vec ℕ Global) Global) (fault : PieceFault) (f : PieceKind) → CutFinishes d (Head head fault)
+        → IsKindOf fault f
         → new.partial ≡ Some (with_readings (picture_of shape old.partial) (placed s.components (first_row s k) 0 (items head)))
         → new.records.items ≡ kept_with old.records.items (record { scan = index; interval = k; offset = offset; kind = f } ∷ []) → new.record_count ≡ old.record_count + 1
         → AddsCut (Some shape) (piece_found index s offset piece ∷ []) old new

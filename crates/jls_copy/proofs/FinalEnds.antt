@@ -45,7 +45,8 @@ record Stays (P : List ℕ → Type 0) (x more : List ℕ) : Type 0 where
   some : 0 < length x
   there : P (x ++ more)
 
-ends_stay : (h : HeaderState) (at : ℕ) (x more : List ℕ) (e : End) → is_final_end e ≡ true → Ends h at x e → Stays (λ y. Ends h at y e) x more
+ends_stay : (h : HeaderState) (at : ℕ) (x more : List ℕ) (e : End) → is_final_end e ≡ true → Ends h at x e
+    → Stays (λ y. Ends h at y e) x more
 ends_stay _ _ _ more _ final (for_good h at x e s) =
     record { some = stops_some h at x e s; there = for_good h at (x ++ more) e (stops_more h at x more e s) }
 ends_stay _ _ _ more _ final (with_the_input h at) = absurd cc
@@ -61,12 +62,14 @@ closing_stays by_marker rest more some b = record {
   ends = b.ends;
 }
 
-unit_stays : (before : HeaderState) (u : CopyUnit) (after : HeaderState) (rest more : List ℕ) → 0 < length rest → IsUnit before u after rest → IsUnit before u after (rest ++ more)
+unit_stays : (before : HeaderState) (u : CopyUnit) (after : HeaderState) (rest more : List ℕ) → 0 < length rest → IsUnit before u after rest
+    → IsUnit before u after (rest ++ more)
 unit_stays before (segment fill code payload) after rest more some u = u
 unit_stays before (scan fill code payload plan closed last closing) after rest more some (known, taken, each, piece, behind) =
     (known, taken, each, piece, closing_stays closing rest more some behind)
 
-units_stay : (h : HeaderState) (at : ℕ) (x : List ℕ) (us : List CopyUnit) (final : HeaderState) (e : End) (more : List ℕ) → is_final_end e ≡ true
+units_stay : (h : HeaderState) (at : ℕ) (x : List ℕ) (us : List CopyUnit) (final : HeaderState) (e : End) (more : List ℕ)
+    → is_final_end e ≡ true
     → AreUnits h at x us final e → Stays (λ y. AreUnits h at y us final e) x more
 units_stay h at x [] final e more is u = let s = ends_stay h at x more e is u.1 in record { some = s.some; there = (u.0, s.there) }
 units_stay h at x (u ∷ us) final e more is (after, rest, whole, unit, next) =

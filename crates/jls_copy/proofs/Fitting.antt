@@ -26,7 +26,8 @@ none_large bound [] each = refl
 none_large bound (x ∷ line) each =
     let here : nat_le bound x ≡ false = grind (arith, nat_tests, each.0) in rw here (none_large bound line each.1)
 
-pub fault_none : (shape : PictureShape) (component line : ℕ) (samples : List ℕ) → component < length shape.ids → line < shape.height → IsLineOfShape shape samples
+pub fault_none : (shape : PictureShape) (component line : ℕ) (samples : List ℕ) → component < length shape.ids → line < shape.height
+    → IsLineOfShape shape samples
     → reading_fault shape component line samples ≡ None
 fault_none shape component line samples c l s =
     let known : nat_le (length shape.ids) component ≡ false = grind (arith, nat_tests, c) in
@@ -34,7 +35,8 @@ fault_none shape component line samples c l s =
     let wide : (length samples == shape.width) ≡ true = grind (arith, nat_tests, s.0) in
     rw (known, there, wide, none_large (2 ^ shape.precision) samples s.1) refl
 
-component_in : (bound place : ℕ) (components : List ℕ) → AllByRecursion (λ c. c < bound) components → place < length components → get_or components place 0 < bound
+component_in : (bound place : ℕ) (components : List ℕ) → AllByRecursion (λ c. c < bound) components → place < length components
+    → get_or components place 0 < bound
 component_in bound place [] each h = absurd (omega arith)
 component_in bound zero (c ∷ components) each h = each.0
 component_in bound (suc place) (c ∷ components) each h = component_in bound place components each.1 (omega (arith, h))
@@ -72,7 +74,8 @@ module _ (shape : PictureShape) (components : List ℕ) (row place : ℕ) (line 
     each = fit.each.1;
   }
 
-line_fits : (shape : PictureShape) (p : CodingParameters) (width : ℕ) (lines : List (List ℕ)) → AreCodingParameters p → p.precision ≡ shape.precision → width ≡ shape.width
+line_fits : (shape : PictureShape) (p : CodingParameters) (width : ℕ) (lines : List (List ℕ)) → AreCodingParameters p
+    → p.precision ≡ shape.precision → width ≡ shape.width
     → AllByRecursion (IsLine p width) lines → AllByRecursion (IsLineOfShape shape) lines
 line_fits shape p width [] ok same wide each = tt
 line_fits shape p width (line ∷ lines) ok same wide each =
@@ -81,7 +84,8 @@ line_fits shape p width (line ∷ lines) ok same wide each =
     top : p.maxval < 2 ^ shape.precision
     top = subst (λ bits. p.maxval < 2 ^ bits) same ok.maxval_below
 
-    samples : (line : List ℕ) → AllByRecursion (λ sample. sample ≤ p.maxval) line → AllByRecursion (λ sample. sample < 2 ^ shape.precision) line
+    samples : (line : List ℕ) → AllByRecursion (λ sample. sample ≤ p.maxval) line
+        → AllByRecursion (λ sample. sample < 2 ^ shape.precision) line
     samples [] all = tt
     samples (x ∷ line) all = (omega (arith, all.0, top), samples line all.1)
 
@@ -108,7 +112,8 @@ lines_fit shape s k n lines ok of_shape within few are = record {
 }
 
 -- what is left of a list, of which each member is seen by f
-pub seen_drop : {A B : Type 0} (f : A → B) (xs : List A) (i : ℕ) (x : A) → x ≡ get_or xs i x → i < length xs → map f (drop i xs) ≡ f x ∷ map f (drop (i + 1) xs)
+pub seen_drop : {A B : Type 0} (f : A → B) (xs : List A) (i : ℕ) (x : A) → x ≡ get_or xs i x → i < length xs
+    → map f (drop i xs) ≡ f x ∷ map f (drop (i + 1) xs)
 seen_drop f xs i x is within =
     let next : i + 1 ≡ suc i = omega arith in
     ap (map f) (drop-cons xs i x within) ∙ rw next (ap (λ y. f y ∷ map f (drop (suc i) xs)) (sym is))

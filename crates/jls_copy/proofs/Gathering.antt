@@ -45,19 +45,22 @@ from_snoc r (x ∷ bytes) b = from_snoc (reading_with r x) bytes b
 pub reading_snoc : (bytes : List ℕ) (b : ℕ) → reading (bytes ++ b ∷ []) ≡ reading_with (reading bytes) b
 reading_snoc bytes b = from_snoc _ bytes b
 
-pub are_more : (ps : List FoundPiece) (os : List PieceOutcome) (p : FoundPiece) (o : PieceOutcome) → AreOutcomes ps os → IsOutcome p o → AreOutcomes (ps ++ p ∷ []) (os ++ o ∷ [])
+pub are_more : (ps : List FoundPiece) (os : List PieceOutcome) (p : FoundPiece) (o : PieceOutcome) → AreOutcomes ps os → IsOutcome p o
+    → AreOutcomes (ps ++ p ∷ []) (os ++ o ∷ [])
 are_more [] [] p o h i = (i, tt)
 are_more [] (x ∷ os) p o h i = absurd h
 are_more (x ∷ ps) [] p o h i = absurd h
 are_more (x ∷ ps) (y ∷ os) p o h i = (h.0, are_more ps os p o h.1 i)
 
-pub readings_more : (ps : List FoundPiece) (os : List PieceOutcome) (p : FoundPiece) (o : PieceOutcome) → AreOutcomes ps os → readings (ps ++ p ∷ []) (os ++ o ∷ []) ≡ readings ps os ++ readings_of p o
+pub readings_more : (ps : List FoundPiece) (os : List PieceOutcome) (p : FoundPiece) (o : PieceOutcome) → AreOutcomes ps os
+    → readings (ps ++ p ∷ []) (os ++ o ∷ []) ≡ readings ps os ++ readings_of p o
 readings_more [] [] p o h = append-nil (readings_of p o)
 readings_more [] (x ∷ os) p o h = absurd h
 readings_more (x ∷ ps) [] p o h = absurd h
 readings_more (x ∷ ps) (y ∷ os) p o h = ap (λ t. readings_of x y ++ t) (readings_more ps os p o h.1) ∙ sym (append_assoc (readings_of x y) (readings ps os) (readings_of p o))
 
-pub records_more : (ps : List FoundPiece) (os : List PieceOutcome) (p : FoundPiece) (o : PieceOutcome) → AreOutcomes ps os → records (ps ++ p ∷ []) (os ++ o ∷ []) ≡ records ps os ++ records_of p o
+pub records_more : (ps : List FoundPiece) (os : List PieceOutcome) (p : FoundPiece) (o : PieceOutcome) → AreOutcomes ps os
+    → records (ps ++ p ∷ []) (os ++ o ∷ []) ≡ records ps os ++ records_of p o
 records_more [] [] p o h = append-nil (records_of p o)
 records_more [] (x ∷ os) p o h = absurd h
 records_more (x ∷ ps) [] p o h = absurd h
@@ -78,7 +81,8 @@ kept_one xs r = by (cases_lt (length xs) 4096)
         let same : take 4096 (xs ++ r ∷ []) ≡ take 4096 xs = take-append-le 4096 xs (r ∷ []) h in
         rw (size, same) refl
 
-pub kept_more : (xs : List PieceRecord) (p : FoundPiece) (o : PieceOutcome) → kept_with (take 4096 xs) (records_of p o) ≡ take 4096 (xs ++ records_of p o)
+pub kept_more : (xs : List PieceRecord) (p : FoundPiece) (o : PieceOutcome)
+    → kept_with (take 4096 xs) (records_of p o) ≡ take 4096 (xs ++ records_of p o)
 kept_more xs p (Lines lines) = sym (ap (take 4096) (append-nil xs))
 kept_more xs p (Fault f) = kept_one xs _
 
@@ -86,7 +90,8 @@ pub none_some : {A : Type 0} (x : A) → ◌≡◌ {A = Option A} None (Some x) 
 none_some x e = cc
 
 -- one piece more
-gathers_piece : (frame : Option PictureShape) (ps : List FoundPiece) (p : FoundPiece) (old new : Findings) → Gathers frame ps old → Adds frame (p ∷ []) old new → Gathers frame (ps ++ p ∷ []) new
+gathers_piece : (frame : Option PictureShape) (ps : List FoundPiece) (p : FoundPiece) (old new : Findings) → Gathers frame ps old
+    → Adds frame (p ∷ []) old new → Gathers frame (ps ++ p ∷ []) new
 gathers_piece frame ps p old new g (shape, framed, o, is, adds) = record {
   outcomes = g.outcomes ++ o ∷ [];
   each = are_more ps g.outcomes p o g.each is;
@@ -104,13 +109,15 @@ gathers_piece frame ps p old new g (shape, framed, o, is, adds) = record {
     some_is x y e = cc
 
 -- no piece or one
-gathers_pieces : (frame : Option PictureShape) (ps qs : List FoundPiece) (old new : Findings) → Gathers frame ps old → Adds frame qs old new → Gathers frame (ps ++ qs) new
+gathers_pieces : (frame : Option PictureShape) (ps qs : List FoundPiece) (old new : Findings) → Gathers frame ps old → Adds frame qs old new
+    → Gathers frame (ps ++ qs) new
 gathers_pieces frame ps [] old new g e = rw (append-nil, e) g
 gathers_pieces frame ps (q ∷ []) old new g a = gathers_piece frame ps q old new g a
 gathers_pieces frame ps (q ∷ r ∷ more) old new g a = absurd a
 
 -- the frame came, or stays
-gathers_frame : (before now : Option PictureShape) (ps : List FoundPiece) (f : Findings) → ((s : PictureShape) → before ≡ Some s → now ≡ Some s) → Gathers before ps f → Gathers now ps f
+gathers_frame : (before now : Option PictureShape) (ps : List FoundPiece) (f : Findings)
+    → ((s : PictureShape) → before ≡ Some s → now ≡ Some s) → Gathers before ps f → Gathers now ps f
 gathers_frame before now ps f stays g = record {
   outcomes = g.outcomes;
   each = g.each;
@@ -123,28 +130,34 @@ gathers_frame before now ps f stays g = record {
     some_is : (x y : PictureShape) → ◌≡◌ {A = Option PictureShape} (Some x) (Some y) → x ≡ y
     some_is x y e = cc
 
-    fresh : (s : PictureShape) (os : List PieceOutcome) (p : Option PartialPicture) → (ps ≡ []) × (p ≡ None) → picture_of s p ≡ without_sources s (set.insert_all set.empty (readings ps os))
+    fresh : (s : PictureShape) (os : List PieceOutcome) (p : Option PartialPicture) → (ps ≡ []) × (p ≡ None)
+        → picture_of s p ≡ without_sources s (set.insert_all set.empty (readings ps os))
     fresh s os p (e, i) = rw (e, i) refl
 
-    picture : (b : Option PictureShape) → ((s : PictureShape) → b ≡ Some s → now ≡ Some s) → (h : Gathers b ps f) → (s : PictureShape) → now ≡ Some s
+    picture : (b : Option PictureShape) → ((s : PictureShape) → b ≡ Some s → now ≡ Some s) → (h : Gathers b ps f) → (s : PictureShape)
+        → now ≡ Some s
         → picture_of s f.partial ≡ without_sources s (set.insert_all set.empty (readings ps h.outcomes))
     picture None st h s e = fresh s h.outcomes f.partial (h.unframed refl)
     picture (Some t) st h s e = h.picture_is s (ap Some (some_is t s (sym (st t refl) ∙ e)))
 
-    none : (b : Option PictureShape) → ((s : PictureShape) → b ≡ Some s → now ≡ Some s) → Gathers b ps f → now ≡ None → (ps ≡ []) × (f.partial ≡ None)
+    none : (b : Option PictureShape) → ((s : PictureShape) → b ≡ Some s → now ≡ Some s) → Gathers b ps f → now ≡ None
+        → (ps ≡ []) × (f.partial ≡ None)
     none None st h e = h.unframed refl
     none (Some t) st h e = absurd (none_some t (sym e ∙ st t refl))
 
-taken_frame : (count : ℕ) (h : HeaderState) (payload : List ℕ) (marker code : ℕ) (s : PictureShape) → h.frame ≡ Some s → (r : Result (HeaderState × Option Scan) MarkerFault) → headers_after h code payload ≡ r
+taken_frame : (count : ℕ) (h : HeaderState) (payload : List ℕ) (marker code : ℕ) (s : PictureShape) → h.frame ≡ Some s
+    → (r : Result (HeaderState × Option Scan) MarkerFault) → headers_after h code payload ≡ r
     → (segment_taken count h payload marker r).headers.frame ≡ Some s
 taken_frame count h payload marker code s f (Ok r) e = frame_kept h r.0 code payload r.1 s e f
 taken_frame count h payload marker code s f (Err x) e = f
 
-cond_frame : (b : Bool) (x y : Step) (s : PictureShape) → x.headers.frame ≡ Some s → y.headers.frame ≡ Some s → (cond b x y).headers.frame ≡ Some s
+cond_frame : (b : Bool) (x y : Step) (s : PictureShape) → x.headers.frame ≡ Some s → y.headers.frame ≡ Some s
+    → (cond b x y).headers.frame ≡ Some s
 cond_frame true x y s p q = p
 cond_frame false x y s p q = q
 
-frame_stays : (p : Place) (count : ℕ) (h : HeaderState) (payload : List ℕ) (b : ℕ) (s : PictureShape) → h.frame ≡ Some s → (step_from p count h payload b).headers.frame ≡ Some s
+frame_stays : (p : Place) (count : ℕ) (h : HeaderState) (payload : List ℕ) (b : ℕ) (s : PictureShape) → h.frame ≡ Some s
+    → (step_from p count h payload b).headers.frame ≡ Some s
 frame_stays (Start fill) count h payload b s f = f
 frame_stays (AtMarker fill) count h payload b s f = f
 frame_stays (AtLength marker code) count h payload b s f = f
@@ -161,7 +174,8 @@ one_at_most : (p : FoundPiece) (o : PieceOutcome) → length (records_of p o) �
 one_at_most p (Lines lines) = omega arith
 one_at_most p (Fault f) = omega arith
 
-adds_one : (frame : Option PictureShape) (qs : List FoundPiece) (old new : Findings) → Adds frame qs old new → new.record_count ≤ old.record_count + 1
+adds_one : (frame : Option PictureShape) (qs : List FoundPiece) (old new : Findings) → Adds frame qs old new
+    → new.record_count ≤ old.record_count + 1
 adds_one frame [] old new e = rw e (omega arith)
 adds_one frame (q ∷ []) old new (shape, framed, o, is, adds) = rw adds.count_is (omega (arith, one_at_most q o))
 adds_one frame (q ∷ r ∷ more) old new a = absurd a
@@ -171,7 +185,8 @@ low_more [] b h l = (l, tt)
 low_more (x ∷ bytes) b h l = (h.0, low_more bytes b h.1 l)
 
 -- one byte more
-pub reading_more : (m n : Machine) (bytes : List ℕ) (b : ℕ) → IsReading m bytes → state_of n ≡ after_byte (state_of m) b → Adds m.headers.frame (closed_at m.place b) m.findings n.findings
+pub reading_more : (m n : Machine) (bytes : List ℕ) (b : ℕ) → IsReading m bytes → state_of n ≡ after_byte (state_of m) b
+    → Adds m.headers.frame (closed_at m.place b) m.findings n.findings
     → IsPlace n.headers.frame n.place n.payload.items → length n.payload.items ≤ 65535 → length bytes + 1 ≤ 2 ^ 63 - 1 → b < 256 → IsReading n (bytes ++ b ∷ [])
 reading_more m n bytes b h e a p small few low =
     let place_is : m.place ≡ (reading bytes).state.place = ap (λ s. s.place) h.state_is in
@@ -196,11 +211,13 @@ reading_more m n bytes b h e a p small few low =
     }
 
 -- what a reader that wasn't refused was fed
-pub of_fed : (failed : Bool) (bytes : List ℕ) (v : Option (List ℕ)) (P : List ℕ → Type 0) → cond failed None (Some bytes) ≡ v → failed ≡ false → IfSome v P → P bytes
+pub of_fed : (failed : Bool) (bytes : List ℕ) (v : Option (List ℕ)) (P : List ℕ → Type 0) → cond failed None (Some bytes) ≡ v
+    → failed ≡ false → IfSome v P → P bytes
 of_fed true bytes v P e f h = absurd cc
 of_fed false bytes v P e f h = subst (λ o. IfSome o P) (sym e) h
 
-pub to_fed : (failed : Bool) (bytes : List ℕ) (v : Option (List ℕ)) (P : List ℕ → Type 0) → cond failed None (Some bytes) ≡ v → failed ≡ false → P bytes → IfSome v P
+pub to_fed : (failed : Bool) (bytes : List ℕ) (v : Option (List ℕ)) (P : List ℕ → Type 0) → cond failed None (Some bytes) ≡ v
+    → failed ≡ false → P bytes → IfSome v P
 to_fed true bytes v P e f h = absurd cc
 to_fed false bytes v P e f h = subst (λ o. IfSome o P) e h
 
@@ -212,18 +229,21 @@ pub if_err : {A B : Type 0} {P Q : B → Type 0} (r : Result A B) → ((x : B) �
 if_err (Ok x) f p = tt
 if_err (Err e) f p = f e p
 
-pub saying_none : (m n : Machine) (bytes : List ℕ) (e : End) (f : CopyFault) → IsReading m bytes → e ≡ end_at m.place m.count → n.headers ≡ m.headers
+pub saying_none : (m n : Machine) (bytes : List ℕ) (e : End) (f : CopyFault) → IsReading m bytes → e ≡ end_at m.place m.count
+    → n.headers ≡ m.headers
     → (n.headers.frame ≡ None) × (f ≡ no_picture e) → SaysNone (reading bytes) f
 saying_none m n bytes e OutOfMemory h end_is same k = tt
 saying_none m n bytes e (NoPicture f offset) h end_is same (none, is) =
     (ap (λ t. t.headers.frame) (sym h.state_is) ∙ ap (λ t. t.frame) (sym same) ∙ none, is ∙ ap no_picture (end_is ∙ ap (λ t. end_at t.place t.count) h.state_is))
 
-pub fed_or_failed : (failed : Bool) (bytes : List ℕ) (v : Option (List ℕ)) (P : List ℕ → Type 0) → cond failed None (Some bytes) ≡ v → (failed ≡ false → P bytes) → IfSome v P
+pub fed_or_failed : (failed : Bool) (bytes : List ℕ) (v : Option (List ℕ)) (P : List ℕ → Type 0) → cond failed None (Some bytes) ≡ v
+    → (failed ≡ false → P bytes) → IfSome v P
 fed_or_failed true bytes v P e f = subst (λ o. IfSome o P) e tt
 fed_or_failed false bytes v P e f = subst (λ o. IfSome o P) e (f refl)
 
 -- the picture that is held has the frame's shape
-pub held_shape : (frame : Option PictureShape) (ps : List FoundPiece) (f : Findings) → Gathers frame ps f → (shape : PictureShape) → frame ≡ Some shape → HoldsShape f.partial shape
+pub held_shape : (frame : Option PictureShape) (ps : List FoundPiece) (f : Findings) → Gathers frame ps f → (shape : PictureShape)
+    → frame ≡ Some shape → HoldsShape f.partial shape
 held_shape frame ps f g shape framed p e = ap (λ q. q.shape) (ap (picture_of shape) (sym e) ∙ g.picture_is shape framed)
 
 -- bytes that close no piece

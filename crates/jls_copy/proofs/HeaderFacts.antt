@@ -31,10 +31,12 @@ module _ (h after : HeaderState) (code : ℕ) (payload : List ℕ) where
   scan_has_frame s e = ap is_some (scan_is_of_frame s e).1
 
   -- a frame that was accepted stays
-  pub frame_kept : (s : Option Scan) (shape : PictureShape) → headers_after h code payload ≡ Ok (after, s) → h.frame ≡ Some shape → after.frame ≡ Some shape
+  pub frame_kept : (s : Option Scan) (shape : PictureShape) → headers_after h code payload ≡ Ok (after, s) → h.frame ≡ Some shape
+      → after.frame ≡ Some shape
   frame_kept s shape e f = frame_stays h after code payload s shape e f
 
 -- no segment that is whole has the fault of an input that ends too early
-pub fault_is_final : (h : HeaderState) (code : ℕ) (payload : List ℕ) (f : MarkerFault) (offset : ℕ) → headers_after h code payload ≡ Err f → is_final_end (Header f offset) ≡ true
+pub fault_is_final : (h : HeaderState) (code : ℕ) (payload : List ℕ) (f : MarkerFault) (offset : ℕ) → headers_after h code payload ≡ Err f
+    → is_final_end (Header f offset) ≡ true
 fault_is_final h code payload fault.Ended offset e = absurd (never_ended h code payload e)
 fault_is_final h code payload f offset e = refl

@@ -60,7 +60,8 @@ framed h g is shape = record {
     same f e = cc
 
 -- a scan that begins is one of sixteen
-scans_few : (h after : HeaderState) (scan : Option Scan) (s : ScanSelection) (o : Option PictureShape) → begun h (scan_under h s o) ≡ Ok (after, scan)
+scans_few : (h after : HeaderState) (scan : Option Scan) (s : ScanSelection) (o : Option PictureShape)
+    → begun h (scan_under h s o) ≡ Ok (after, scan)
     → (h.scans < 16) × (after ≡ record h { scans = h.scans + 1 })
 scans_few h after scan s None e = absurd cc
 scans_few h after scan s (Some f) e = judged (scan_judged f h.preset h.restart_interval h.scans s) refl e
@@ -72,7 +73,8 @@ scans_few h after scan s (Some f) e = judged (scan_judged f h.preset h.restart_i
         (ltb-true _ _ t.0.1.1.1.0, sym (left (record h { scans = h.scans + 1 }, Some x) (after, scan) e))
     judged (Err g) is e = absurd cc
 
-accepted_kept : (h after : HeaderState) (scan : Option Scan) (s : Segment) → IsHeaderState h → InRange s → accepted h s ≡ Ok (after, scan) → IsHeaderState after
+accepted_kept : (h after : HeaderState) (scan : Option Scan) (s : Segment) → IsHeaderState h → InRange s → accepted h s ≡ Ok (after, scan)
+    → IsHeaderState after
 accepted_kept h after scan (segment.Frame g) is low e =
     let t = all_pass ((is_none h.frame, fault.SecondFrame) ∷ []) (record h { frame = Some g }, None) (after, scan) e in
     subst IsHeaderState (ap (λ (z : After). z.0) t.1) (framed h g is low)

@@ -10,7 +10,8 @@ use Rattle.jls_marker.specs.declared.fault.MarkerFault.{MarkerFault}
 use Rattle.jls_copy.specs.declared.place.Place.{Place}
 use Rattle.jls_copy.specs.declared.place.Place.TheVariants.{Start, AtMarker, AtLength, InLength, InPayload, InScan, Done}
 
-taken_payload : (count : ℕ) (h : HeaderState) (payload : List ℕ) (marker : ℕ) (r : Result (HeaderState × Option Scan) MarkerFault) → (segment_taken count h payload marker r).payload ≡ payload
+taken_payload : (count : ℕ) (h : HeaderState) (payload : List ℕ) (marker : ℕ) (r : Result (HeaderState × Option Scan) MarkerFault)
+    → (segment_taken count h payload marker r).payload ≡ payload
 taken_payload count h payload marker (Ok r) = refl
 taken_payload count h payload marker (Err f) = refl
 
@@ -22,7 +23,8 @@ pub length_keeps : (count : ℕ) (h : HeaderState) (marker code size : ℕ) → 
 length_keeps count h marker code size =
     cond_payload (nat_lt size 2) _ _ [] refl (cond_payload (size == 2) _ _ [] (taken_payload count h [] marker (headers_after h code [])) refl)
 
-pub payload_keeps : (count : ℕ) (h : HeaderState) (payload : List ℕ) (marker code size : ℕ) → (payload_grown count h payload marker code size).payload ≡ payload
+pub payload_keeps : (count : ℕ) (h : HeaderState) (payload : List ℕ) (marker code size : ℕ)
+    → (payload_grown count h payload marker code size).payload ≡ payload
 payload_keeps count h payload marker code size =
     cond_payload (length payload + 2 == size) _ _ payload (taken_payload count h payload marker (headers_after h code payload)) refl
 

@@ -105,7 +105,8 @@ at_segment h at whole n code more s =
     let f = found n code more (segment_not_fill code s) in let g = segment_not_eoi code s in
     ap (after_marker h at whole) f ∙ rw (g, s) refl
 
-taken_payload : (n : ℕ) (payload rest : List ℕ) → n ≡ length payload + 2 → payload_at (n / 256 ∷ n % 256 ∷ payload ++ rest) ≡ payload_is payload rest
+taken_payload : (n : ℕ) (payload rest : List ℕ) → n ≡ length payload + 2
+    → payload_at (n / 256 ∷ n % 256 ∷ payload ++ rest) ≡ payload_is payload rest
 taken_payload n payload rest e =
     let back : 256 * (n / 256) + n % 256 ≡ n = omega arith in
     let two : nat_lt n 2 ≡ false = grind (arith, nat_tests, e) in
@@ -130,7 +131,8 @@ abbrev unit_step : CopyUnit → HeaderState → List ℕ → Step
 unit_step (segment n code payload) after rest = takes n code payload after rest
 unit_step (scan n code payload s closed last closing) after rest = starts n code payload after s (scan_data_bytes closed last closing ++ rest)
 
-step_is : (h : HeaderState) (at : ℕ) (u : CopyUnit) (after : HeaderState) (rest x : List ℕ) → x ≡ unit_bytes u ++ rest → IsUnit h u after rest → step h at x ≡ unit_step u after rest
+step_is : (h : HeaderState) (at : ℕ) (u : CopyUnit) (after : HeaderState) (rest x : List ℕ) → x ≡ unit_bytes u ++ rest
+    → IsUnit h u after rest → step h at x ≡ unit_step u after rest
 step_is h at (segment n code payload) after rest x e (known, t) =
     ap (λ y. after_marker h at (at + length x) (marker_at y)) e ∙ read_segment h at (at + length x) n code payload rest known.0 ∙ ap (after_taken n code payload rest at) t
 step_is h at (scan n code payload s closed last closing) after rest x e (known, t, each, piece, behind) =
@@ -148,7 +150,8 @@ stops_step _ _ total _ _ (at_short_length h at n code a b more p q) =
     let f : nat_lt (256 * a + b) 2 ≡ true = grind (arith, nat_tests, q) in at_segment h at total n code (a ∷ b ∷ more) p ∙ rw f refl
 stops_step _ _ total _ _ (at_refused_segment h at n code payload more f p r) = read_segment h at total n code payload more p.0 ∙ ap (after_taken n code payload more at) r
 
-part_step : (h : HeaderState) (at total : ℕ) (x : List ℕ) → IsPartOfUnit x → after_marker h at total (marker_at x) ≡ ends (Header fault.Ended total)
+part_step : (h : HeaderState) (at total : ℕ) (x : List ℕ) → IsPartOfUnit x
+    → after_marker h at total (marker_at x) ≡ ends (Header fault.Ended total)
 part_step h at total _ (fill_alone n) = ap (after_marker h at total) (code_ends 0 n)
 part_step h at total _ (marker_alone n code s) = at_segment h at total n code [] s
 part_step h at total _ (half_a_length n code a s) = at_segment h at total n code (a ∷ []) s
@@ -169,7 +172,8 @@ end_of : (closing : LastClosed) (rest : List ℕ) → IsClosing closing rest →
 end_of (by_input count) rest e = at_input count
 end_of by_marker rest b = at_marker b.fill b.code b.behind
 
-cut_is : (closed : List ClosedPiece) (last : List ℕ) (closing : LastClosed) (rest : List ℕ) → AllByRecursion IsClosedPiece closed → IsPiece last → (b : IsClosing closing rest)
+cut_is : (closed : List ClosedPiece) (last : List ℕ) (closing : LastClosed) (rest : List ℕ) → AllByRecursion IsClosedPiece closed
+    → IsPiece last → (b : IsClosing closing rest)
     → IsCut (scan_data_bytes closed last closing ++ rest) (record { closed = closed; last = last; end = end_of closing rest b })
 unfolding end_of
 cut_is closed last (by_input count) rest each piece e = record { whole = rw e (append-nil _); each = each; last = piece; end = tt }
@@ -190,7 +194,8 @@ record Same (u v : CopyUnit) (a b : HeaderState) (r s : List ℕ) : Type 0 where
   headers : a ≡ b
   rests : r ≡ s
 
-same_unit : (h : HeaderState) (u v : CopyUnit) (a b : HeaderState) (r s : List ℕ) → IsUnit h u a r → IsUnit h v b s → unit_step u a r ≡ unit_step v b s → Same u v a b r s
+same_unit : (h : HeaderState) (u v : CopyUnit) (a b : HeaderState) (r s : List ℕ) → IsUnit h u a r → IsUnit h v b s
+    → unit_step u a r ≡ unit_step v b s → Same u v a b r s
 same_unit h (segment n code payload) (segment m c q) a b r s p t e =
     record { units = cc; headers = cc; rests = cc }
 same_unit h (segment n code payload) (scan m c q plan closed last closing) a b r s p t e = absurd cc
@@ -218,7 +223,8 @@ record SameFrom (us vs : List CopyUnit) (l m : HeaderState) (d e : End) : Type 0
   headers : l ≡ m
   end : d ≡ e
 
-one_from : (h : HeaderState) (at : ℕ) (x : List ℕ) (us vs : List CopyUnit) (l m : HeaderState) (d e : End) → AreUnits h at x us l d → AreUnits h at x vs m e → SameFrom us vs l m d e
+one_from : (h : HeaderState) (at : ℕ) (x : List ℕ) (us vs : List CopyUnit) (l m : HeaderState) (d e : End) → AreUnits h at x us l d
+    → AreUnits h at x vs m e → SameFrom us vs l m d e
 one_from h at x [] [] l m d e p q = record { units = refl; headers = p.0 ∙ sym q.0; end = two_ends d e (sym (ends_step h at x d p.1) ∙ ends_step h at x e q.1) }
 one_from h at x [] (v ∷ vs) l m d e p (b, s, g, t, q) = absurd (end_no_unit d v b s (sym (ends_step h at x d p.1) ∙ step_is h at v b s x g t))
 one_from h at x (u ∷ us) [] l m d e (a, r, f, t, p) q = absurd (end_no_unit e u a r (sym (ends_step h at x e q.1) ∙ step_is h at u a r x f t))

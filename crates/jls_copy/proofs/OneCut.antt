@@ -36,7 +36,8 @@ same_piece (a ∷ w) (b ∷ v) x y p q j k e =
     let r = same_piece w v x y (piece_tail a w p) (piece_tail b v q) j k t in
     let r0 : w ≡ v = r.0 in (cc, r.1)
 
-same_mark : (k l c d : ℕ) (x y : List ℕ) → c ≢ 255 → d ≢ 255 → fill_bytes k ++ (255 ∷ c ∷ x) ≡ fill_bytes l ++ (255 ∷ d ∷ y) → (k ≡ l) × (c ≡ d) × (x ≡ y)
+same_mark : (k l c d : ℕ) (x y : List ℕ) → c ≢ 255 → d ≢ 255 → fill_bytes k ++ (255 ∷ c ∷ x) ≡ fill_bytes l ++ (255 ∷ d ∷ y)
+    → (k ≡ l) × (c ≡ d) × (x ≡ y)
 same_mark zero zero c d x y p q e = (refl, cc, cc)
 same_mark zero (suc zero) c d x y p q e = let f : c ≡ 255 = cc in absurd (p f)
 same_mark zero (suc (suc l)) c d x y p q e = let f : c ≡ 255 = cc in absurd (p f)
@@ -123,7 +124,8 @@ no_more_marks (at_marker n c y) k m x p low e =
     let ends : ends_scan_data (208 + m) ≡ true = rw r1 at p in cc
 
 -- a closed piece in front of some bytes
-front : (w : List ℕ) (k m : ℕ) (x : List ℕ) → (w ++ (fill_bytes k ++ (255 ∷ (208 + m) ∷ []))) ++ x ≡ w ++ (fill_bytes k ++ (255 ∷ (208 + m) ∷ x))
+front : (w : List ℕ) (k m : ℕ) (x : List ℕ)
+    → (w ++ (fill_bytes k ++ (255 ∷ (208 + m) ∷ []))) ++ x ≡ w ++ (fill_bytes k ++ (255 ∷ (208 + m) ∷ x))
 front w k m x = simp append_assoc refl
 
 abbrev closed_of : List ℕ → ℕ → ℕ → ClosedPiece
@@ -175,7 +177,8 @@ same_cut bytes c d p q =
     cut_eq c d r.0 r.1 r.2
 
 -- the cut of one byte more, whatever it is
-cut_open : (bytes : List ℕ) (closed : List ClosedPiece) (last : List ℕ) (n b : ℕ) → IsCut bytes (open_cut closed last n) → (d : ScanCut) × IsCut (bytes ++ b ∷ []) d
+cut_open : (bytes : List ℕ) (closed : List ClosedPiece) (last : List ℕ) (n b : ℕ) → IsCut bytes (open_cut closed last n)
+    → (d : ScanCut) × IsCut (bytes ++ b ∷ []) d
 cut_open bytes closed last zero b h =
     elim (cases_eq b 255) [
       | inl e ↦ (open_cut closed last 1, rw e (cut_fill bytes closed last 0 h))
@@ -183,7 +186,8 @@ cut_open bytes closed last zero b h =
     ]
 cut_open bytes closed last (suc n) b h = after (cases_eq b 255) (cases_Bool (is_restart_code b)) (cases_Bool (ends_scan_data b))
   where
-    after : (b ≡ 255) ⊎ (b ≢ 255) → (is_restart_code b ≡ true) ⊎ (is_restart_code b ≡ false) → (ends_scan_data b ≡ true) ⊎ (ends_scan_data b ≡ false)
+    after : (b ≡ 255) ⊎ (b ≢ 255) → (is_restart_code b ≡ true) ⊎ (is_restart_code b ≡ false)
+        → (ends_scan_data b ≡ true) ⊎ (ends_scan_data b ≡ false)
         → (d : ScanCut) × IsCut (bytes ++ b ∷ []) d
     after (inl e) r s = (open_cut closed last (suc (suc n)), rw e (cut_fill bytes closed last (suc n) h))
     after (inr e) (inl r) s =
@@ -196,7 +200,8 @@ cut_open bytes closed last (suc n) b h = after (cases_eq b 255) (cases_Bool (is_
 cut_step : (bytes : List ℕ) (c : ScanCut) (b : ℕ) → IsCut bytes c → (d : ScanCut) × IsCut (bytes ++ b ∷ []) d
 cut_step bytes c b h = at c.closed c.last c.end h
   where
-    at : (closed : List ClosedPiece) (last : List ℕ) (s : ScanEnd) → IsCut bytes (cut_from closed last s) → (d : ScanCut) × IsCut (bytes ++ b ∷ []) d
+    at : (closed : List ClosedPiece) (last : List ℕ) (s : ScanEnd) → IsCut bytes (cut_from closed last s)
+        → (d : ScanCut) × IsCut (bytes ++ b ∷ []) d
     at closed last (at_input n) k = cut_open bytes closed last n b k
     at closed last (at_marker n code more) k = (ended_cut closed last n code (more ++ b ∷ []), cut_after bytes closed last n code b more k)
 

@@ -22,7 +22,8 @@ piece_more (a ∷ []) zero b p ne free = (λ e. absurd (p e), ne)
 piece_more (a ∷ []) (suc n) b p ne free = (λ e. absurd (p e), piece_fills (suc n) b ne free)
 piece_more (a ∷ c ∷ w) n b p ne free = (p.0, piece_more (c ∷ w) n b p.1 ne free)
 
-pub each_more : (cs : List ClosedPiece) (c : ClosedPiece) → AllByRecursion IsClosedPiece cs → IsClosedPiece c → AllByRecursion IsClosedPiece (cs ++ c ∷ [])
+pub each_more : (cs : List ClosedPiece) (c : ClosedPiece) → AllByRecursion IsClosedPiece cs → IsClosedPiece c
+    → AllByRecursion IsClosedPiece (cs ++ c ∷ [])
 each_more [] c all here = (here, tt)
 each_more (x ∷ xs) c all here = (all.0, each_more xs c all.1 here)
 

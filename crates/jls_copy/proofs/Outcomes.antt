@@ -29,7 +29,8 @@ on_ok3 (Err e) f p q t = tt
 abbrev pub decoding_with : Scan → ℕ → List ℕ → IntervalBytes
 decoding_with s k bytes = record { parameters = s.params; width = s.width; components = length s.components; rows = row_count s k; bytes = Some bytes }
 
-same_decoding : (d : IntervalBytes) (p : CodingParameters) (w c r : ℕ) (b : Option (List ℕ)) → d.parameters ≡ p → d.width ≡ w → d.components ≡ c → d.rows ≡ r → d.bytes ≡ b
+same_decoding : (d : IntervalBytes) (p : CodingParameters) (w c r : ℕ) (b : Option (List ℕ)) → d.parameters ≡ p → d.width ≡ w
+    → d.components ≡ c → d.rows ≡ r → d.bytes ≡ b
     → d ≡ record { parameters = p; width = w; components = c; rows = r; bytes = b }
 same_decoding d p w c r b e f g h i = rw (sym e, sym f, sym g, sym h, sym i) refl
 

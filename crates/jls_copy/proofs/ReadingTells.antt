@@ -21,7 +21,8 @@ abbrev TellsStep : Step → List FoundPiece → List ℕ → Type 0
 TellsStep s ps x = Tells s.place s.headers s.payload ps x
 
 -- one byte more
-tells_more : (p : Place) (h : HeaderState) (payload : List ℕ) (ps : List FoundPiece) (x : List ℕ) (b count : ℕ) → b < 256 → count ≡ length x → Tells p h payload ps x
+tells_more : (p : Place) (h : HeaderState) (payload : List ℕ) (ps : List FoundPiece) (x : List ℕ) (b count : ℕ) → b < 256 → count ≡ length x
+    → Tells p h payload ps x
     → TellsStep (step_from p count h payload b) (ps ++ closed_at p b) (x ++ b ∷ [])
 tells_more (Start false) h payload ps x b count low c (e, f, g) =
     let z : count ≡ 0 = c ∙ ap length e in

@@ -35,7 +35,8 @@ pieces_have index s last number at (c ∷ closed) bytes ok =
 payload_bytes : (fill code : ℕ) (payload : List ℕ) → AreBytes (segment_unit_bytes fill code payload) → AreBytes payload
 payload_bytes fill code payload h = (byte_parts (fill_bytes fill) _ h).1.1.1.1.1
 
-units_have : (h : HeaderState) (at : ℕ) (bytes : List ℕ) (us : List CopyUnit) (final : HeaderState) (e : End) (index begin : ℕ) → IsHeaderState h → AreBytes bytes
+units_have : (h : HeaderState) (at : ℕ) (bytes : List ℕ) (us : List CopyUnit) (final : HeaderState) (e : End) (index begin : ℕ)
+    → IsHeaderState h → AreBytes bytes
     → AreUnits h at bytes us final e → AllByRecursion HasScan (pieces_in index begin us)
 units_have h at bytes [] final e index begin is low u = tt
 units_have h at bytes (segment fill code payload ∷ us) final e index begin is low (after, rest, whole, unit, more) =

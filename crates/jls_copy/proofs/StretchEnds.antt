@@ -24,7 +24,8 @@ low_behind b c more n none e = elim (cases_lt c 0x80) [
   | inr high ↦ absurd (none 0 (omega arith) (record { within = omega arith; is_ff = e; is_code = high }))
 ]
 
-pub stretch_of : (bytes : List ℕ) (n : ℕ) → NoCut bytes n → n ≤ length bytes → (0 < n → get_or bytes (n - 1) 0 ≢ 0xFF) → IsStretch (take n bytes)
+pub stretch_of : (bytes : List ℕ) (n : ℕ) → NoCut bytes n → n ≤ length bytes → (0 < n → get_or bytes (n - 1) 0 ≢ 0xFF)
+    → IsStretch (take n bytes)
 stretch_of bytes zero none within last = tt
 stretch_of [] (suc n) none within last = absurd (omega (arith, within))
 stretch_of (b ∷ bytes) (suc zero) none within last = last (omega arith)
@@ -36,7 +37,8 @@ stretch_of (b ∷ c ∷ more) (suc (suc n)) none within last =
     moved = subst (λ j. get_or (b ∷ c ∷ more) j 0 ≢ 0xFF) (let e : suc (suc n) - 1 ≡ suc (suc n - 1) = omega arith in e)
 
 -- the same without a last byte 0xFF
-pub stretch_before : (bytes : List ℕ) (n : ℕ) → NoCut bytes n → n ≤ length bytes → 0 < n → get_or bytes (n - 1) 0 ≡ 0xFF → IsStretch (take (n - 1) bytes)
+pub stretch_before : (bytes : List ℕ) (n : ℕ) → NoCut bytes n → n ≤ length bytes → 0 < n → get_or bytes (n - 1) 0 ≡ 0xFF
+    → IsStretch (take (n - 1) bytes)
 stretch_before bytes n none within some is_ff =
     let code : 0x80 ≤ get_or bytes (n - 1) 0 = omega (arith, is_ff) in
     stretch_of bytes (n - 1) (λ i low. none i (omega (arith, low))) (omega (arith, within)) (λ more first. none (n - 1 - 1) (omega (arith, more)) (record {

@@ -26,7 +26,8 @@ told_none : (o : Option (List ℕ)) → option_map (λ bytes. bytes ++ []) o ≡
 told_none None = refl
 told_none (Some bytes) = ap Some (append-nil bytes)
 
-told_parts : (o : Option (List ℕ)) (xs ys : List ℕ) → option_map (λ bytes. bytes ++ ys) (option_map (λ bytes. bytes ++ xs) o) ≡ option_map (λ bytes. bytes ++ (xs ++ ys)) o
+told_parts : (o : Option (List ℕ)) (xs ys : List ℕ)
+    → option_map (λ bytes. bytes ++ ys) (option_map (λ bytes. bytes ++ xs) o) ≡ option_map (λ bytes. bytes ++ (xs ++ ys)) o
 told_parts None xs ys = refl
 told_parts (Some bytes) xs ys = ap Some (append_assoc bytes xs ys)
 
@@ -65,7 +66,8 @@ module _ (scan : OpenScan) (h : HeaderState) (payload : List ℕ) where
       }
   data_step count held piece ps b is_data = rw (is_data, append-nil ps) refl
 
-  fill_step : (count : ℕ) (piece : OpenPiece) (ps : List FoundPiece) → reading_with (at count Nothing piece ps) 0xFF ≡ at (count + 1) One piece ps
+  fill_step : (count : ℕ) (piece : OpenPiece) (ps : List FoundPiece)
+      → reading_with (at count Nothing piece ps) 0xFF ≡ at (count + 1) One piece ps
   fill_step count piece ps = rw (append-nil ps) refl
 
   pair_steps : (count : ℕ) (piece : OpenPiece) (ps : List FoundPiece) (c : ℕ) (more : List ℕ) → c < 0x80

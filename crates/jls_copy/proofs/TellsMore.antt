@@ -31,7 +31,8 @@ pub start_more : (payload : List ℕ) (b : ℕ) → (b ≡ 255) ⊎ (b ≢ 255) 
 start_more payload b (inl e) = rw e (0, refl, refl, refl)
 start_more payload b (inr ne) = rw (not_fill b ne) (without_ff b [] (b ∷ []) ne refl)
 
-pub start_fill_more : (payload : List ℕ) (n b count : ℕ) → count ≡ suc n → (b ≡ 255) ⊎ (b ≢ 255) → (b ≡ 216) ⊎ (b ≢ 216) → Tells (from_start true count b) no_headers payload [] (fill_bytes (suc n) ++ b ∷ [])
+pub start_fill_more : (payload : List ℕ) (n b count : ℕ) → count ≡ suc n → (b ≡ 255) ⊎ (b ≢ 255) → (b ≡ 216) ⊎ (b ≢ 216)
+    → Tells (from_start true count b) no_headers payload [] (fill_bytes (suc n) ++ b ∷ [])
 start_fill_more payload n b count c (inl e) q = rw e (suc n, fill_snoc (suc n), refl, refl)
 start_fill_more payload n b count c (inr ne) (inl e) = rw e ([], passed_soi n _ (sym (fill_more n (216 ∷ []))))
 start_fill_more payload n b count c (inr ne) (inr q) =
@@ -44,13 +45,15 @@ module _ (before : List ℕ) (h : HeaderState) (us : List CopyUnit) (ps : List F
   none_follows : (tail : List ℕ) → Follows false tail
   none_follows tail = λ e. cc
 
-  pub marker_more : (payload : List ℕ) (b count : ℕ) → Passed before h us ps false → count ≡ length before → (b ≡ 255) ⊎ (b ≢ 255) → Tells (from_marker false (is_some h.frame) count b) h payload ps (before ++ b ∷ [])
+  pub marker_more : (payload : List ℕ) (b count : ℕ) → Passed before h us ps false → count ≡ length before → (b ≡ 255) ⊎ (b ≢ 255)
+      → Tells (from_marker false (is_some h.frame) count b) h payload ps (before ++ b ∷ [])
   marker_more payload b count p c (inl e) = rw e (0, before, us, p, refl)
   marker_more payload b count p c (inr ne) =
       rw (not_fill b ne, c) (ended before h us ps false (b ∷ []) _ _ p refl (none_follows (b ∷ [])) (at_no_marker h (length before) b [] ne))
 
   -- behind fill bytes; behind scan data only a marker that ends it is there
-  pub fill_marker_more : (behind : Bool) (payload : List ℕ) (n b count : ℕ) → Passed before h us ps behind → count ≡ length before + suc n → (behind ≡ true → ends_scan_data b ≡ true)
+  pub fill_marker_more : (behind : Bool) (payload : List ℕ) (n b count : ℕ) → Passed before h us ps behind → count ≡ length before + suc n
+      → (behind ≡ true → ends_scan_data b ≡ true)
       → (b ≡ 255) ⊎ (b ≢ 255) → (b ≡ 217) ⊎ (b ≢ 217) → (is_some h.frame ≡ true) ⊎ (is_some h.frame ≡ false) → (has_segment b ≡ true) ⊎ (has_segment b ≡ false) → (behind ≡ true) ⊎ (behind ≡ false)
       → Tells (from_marker true (is_some h.frame) count b) h payload ps (before ++ (fill_bytes (suc n) ++ b ∷ []))
   fill_marker_more behind payload n b count p c fol (inl e) q r s (inl t) = absurd (let k : ends_scan_data b ≡ true = fol t in let l : ends_scan_data 255 ≡ true = rw e at k in (cc))

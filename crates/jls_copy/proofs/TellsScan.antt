@@ -38,7 +38,8 @@ data ClassIs : Held → ℕ → ℕ → Type 0 where
   is_stop : (held : Held) (n b : ℕ) → class_of held b ≡ Stop → 0 < n → b ≢ 255 → ends_scan_data b ≡ true → ClassIs held n b
   is_data : (held : Held) (n b : ℕ) → class_of held b ≡ Data → b ≢ 255 → (0 < n → closes_piece b ≡ false) → ClassIs held n b
 
-class_is : (held : Held) (n b : ℕ) → HeldIs held n → (b ≡ 255) ⊎ (b ≢ 255) → (is_restart_code b ≡ true) ⊎ (is_restart_code b ≡ false) → (ends_scan_data b ≡ true) ⊎ (ends_scan_data b ≡ false) → ClassIs held n b
+class_is : (held : Held) (n b : ℕ) → HeldIs held n → (b ≡ 255) ⊎ (b ≢ 255) → (is_restart_code b ≡ true) ⊎ (is_restart_code b ≡ false)
+    → (ends_scan_data b ≡ true) ⊎ (ends_scan_data b ≡ false) → ClassIs held n b
 class_is Nothing n b h (inl e) r s = is_fill Nothing n b (rw e refl) e
 class_is One n b h (inl e) r s = is_fill One n b (rw e refl) e
 class_is More n b h (inl e) r s = is_fill More n b (rw e refl) e
@@ -62,7 +63,8 @@ more_held Nothing n h = ap suc h
 more_held One n h = (0, ap suc h)
 more_held More n h = (suc h.0, ap suc h.1)
 
-pub alike_more : (ps qs : List FoundPiece) (p q : FoundPiece) → AlikePieces ps qs → AlikePiece p q → AlikePieces (ps ++ p ∷ []) (qs ++ q ∷ [])
+pub alike_more : (ps qs : List FoundPiece) (p q : FoundPiece) → AlikePieces ps qs → AlikePiece p q
+    → AlikePieces (ps ++ p ∷ []) (qs ++ q ∷ [])
 alike_more [] [] p q h a = (a, tt)
 alike_more [] (y ∷ qs) p q h a = absurd h
 alike_more (x ∷ ps) [] p q h a = absurd h
@@ -80,7 +82,8 @@ pieces_snoc index s given number at (x ∷ cs) c w =
     ap (λ t. record { scan = index; plan = s; number = number; offset = at; bytes = x.piece } ∷ t)
     (pieces_snoc index s (given_last given next) next (at + length (closed_bytes x)) cs c w ∙ rw e refl)
 
-given_snoc : (n given : ℕ) (cs : List ClosedPiece) (c : ClosedPiece) → given_after n given (cs ++ c ∷ []) ≡ given_last (given_after n given cs) (number_behind n (given_after n given cs) c.mark)
+given_snoc : (n given : ℕ) (cs : List ClosedPiece) (c : ClosedPiece)
+    → given_after n given (cs ++ c ∷ []) ≡ given_last (given_after n given cs) (number_behind n (given_after n given cs) c.mark)
 given_snoc n given [] c = refl
 given_snoc n given (x ∷ cs) c = given_snoc n (given_last given (number_behind n given x.mark)) cs c
 
@@ -234,7 +237,8 @@ module _ (o : OpenScan) (h : HeaderState) (ps : List FoundPiece) (x : List ℕ) 
         whole = bytes;
       }
     where
-      shut : (before : List ℕ) (closing : ClosedPiece) → length d.before + length (segment_unit_bytes d.fill d.code d.payload) + length (flat_map closed_bytes d.closed) + length (closed_bytes closing)
+      shut : (before : List ℕ) (closing : ClosedPiece)
+          → length d.before + length (segment_unit_bytes d.fill d.code d.payload) + length (flat_map closed_bytes d.closed) + length (closed_bytes closing)
           ≡ length d.before + length (segment_unit_bytes d.fill d.code d.payload) + length (flat_map closed_bytes (d.closed ++ closing ∷ []))
       shut before closing = rw (flat_map-append, append-nil) (omega (arith, length-append (flat_map closed_bytes d.closed) (closed_bytes closing)))
 
@@ -258,7 +262,8 @@ module _ (o : OpenScan) (h : HeaderState) (ps : List FoundPiece) (x : List ℕ) 
       (subst (λ q. Tells (state.from_marker true (is_some h.frame) count b) h payload q (x ++ b ∷ [])) pieces
       (subst (λ q. Tells (state.from_marker true (is_some h.frame) count b) h payload (d.earlier ++ (d.here ++ found o ∷ [])) q) bytes told))
 
-pub scan_more : (o : OpenScan) (h : HeaderState) (ps : List FoundPiece) (x : List ℕ) (d : InScanData o h ps x) (b : ℕ) (payload : List ℕ) (count : ℕ) → count ≡ length x
+pub scan_more : (o : OpenScan) (h : HeaderState) (ps : List FoundPiece) (x : List ℕ) (d : InScanData o h ps x) (b : ℕ) (payload : List ℕ) (count : ℕ)
+    → count ≡ length x
     → Tells (state.from_scan (class_of o.held b) o count b) h payload (ps ++ state.closed_by (class_of o.held b) o) (x ++ b ∷ [])
 scan_more o h ps x d b payload count c = by (class_is o.held d.held b d.held_is (cases_eq b 255) (cases_Bool (is_restart_code b)) (cases_Bool (ends_scan_data b)))
   where
@@ -266,7 +271,8 @@ scan_more o h ps x d b payload count c = by (class_is o.held d.held b d.held_is 
     some zero k = absurd (omega arith)
     some (suc m) k = (m, refl)
 
-    by : ClassIs o.held d.held b → Tells (state.from_scan (class_of o.held b) o count b) h payload (ps ++ state.closed_by (class_of o.held b) o) (x ++ b ∷ [])
+    by : ClassIs o.held d.held b
+        → Tells (state.from_scan (class_of o.held b) o count b) h payload (ps ++ state.closed_by (class_of o.held b) o) (x ++ b ∷ [])
     by (is_fill _ _ _ e f) = rw e (fill_tells o h ps x d b f)
     by (is_data _ _ _ e ne free) = rw e (data_tells o h ps x d b ne free)
     by (is_mark _ _ _ e k r) = let m = some d.held k in rw e (mark_tells o h ps x d b m.0 count m.1 r c)

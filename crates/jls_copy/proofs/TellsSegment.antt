@@ -20,14 +20,16 @@ use Rattle.jls_copy.specs.declared.end.End.TheVariants.{Eoi, Header}
 abbrev TellsStep : Step → List FoundPiece → List ℕ → Type 0
 TellsStep s ps x = Tells s.place s.headers s.payload ps x
 
-cond_tells : (b : Bool) (s t : Step) (ps : List FoundPiece) (x : List ℕ) → (b ≡ true → TellsStep s ps x) → (b ≡ false → TellsStep t ps x) → TellsStep (cond b s t) ps x
+cond_tells : (b : Bool) (s t : Step) (ps : List FoundPiece) (x : List ℕ) → (b ≡ true → TellsStep s ps x) → (b ≡ false → TellsStep t ps x)
+    → TellsStep (cond b s t) ps x
 cond_tells true s t ps x p q = p refl
 cond_tells false s t ps x p q = q refl
 
 module _ (before : List ℕ) (h : HeaderState) (us : List CopyUnit) (ps : List FoundPiece) (behind : Bool) (passed : Passed before h us ps behind)
     (fill code : ℕ) (known : has_segment code ≡ true) (follows : behind ≡ true → ends_scan_data code ≡ true) where
   -- a whole segment
-  taken : (payload x : List ℕ) (count marker : ℕ) → x ≡ before ++ segment_unit_bytes fill code payload → length payload + 2 < 2 ^ 16 → count + 1 ≡ length x → marker ≡ length before + fill
+  taken : (payload x : List ℕ) (count marker : ℕ) → x ≡ before ++ segment_unit_bytes fill code payload → length payload + 2 < 2 ^ 16
+      → count + 1 ≡ length x → marker ≡ length before + fill
       → (r : Result (HeaderState × Option Scan) MarkerFault) → headers_after h code payload ≡ r → TellsStep (segment_taken count h payload marker r) ps x
   taken payload x count marker w small c m (Err f) e =
       rw m (ended before h us ps behind (segment_unit_bytes fill code payload) x _ passed w (λ k. (fill, code, _, refl, follows k))
@@ -70,7 +72,8 @@ module _ (before : List ℕ) (h : HeaderState) (us : List CopyUnit) (ps : List F
       }
 
   -- the second byte of a length
-  length_tells : (x : List ℕ) (count marker high b : ℕ) → high < 256 → b < 256 → x ≡ before ++ (fill_bytes fill ++ (255 ∷ code ∷ high ∷ b ∷ [])) → count + 1 ≡ length x → marker ≡ length before + fill
+  length_tells : (x : List ℕ) (count marker high b : ℕ) → high < 256 → b < 256
+      → x ≡ before ++ (fill_bytes fill ++ (255 ∷ code ∷ high ∷ b ∷ [])) → count + 1 ≡ length x → marker ≡ length before + fill
       → TellsStep (length_known count h marker code (256 * high + b)) ps x
   length_tells x count marker high b lh lb w c m =
       cond_tells (nat_lt (256 * high + b) 2) _ _ ps x
@@ -101,7 +104,8 @@ module _ (before : List ℕ) (h : HeaderState) (us : List CopyUnit) (ps : List F
       )))
 
   -- one byte more of a payload
-  payload_tells : (x payload : List ℕ) (count marker size : ℕ) → x ≡ before ++ (fill_bytes fill ++ (255 ∷ code ∷ size / 256 ∷ size % 256 ∷ payload)) → length payload + 2 ≤ size → size < 2 ^ 16
+  payload_tells : (x payload : List ℕ) (count marker size : ℕ)
+      → x ≡ before ++ (fill_bytes fill ++ (255 ∷ code ∷ size / 256 ∷ size % 256 ∷ payload)) → length payload + 2 ≤ size → size < 2 ^ 16
       → count + 1 ≡ length x → marker ≡ length before + fill → TellsStep (payload_grown count h payload marker code size) ps x
   payload_tells x payload count marker size w within small c m =
       cond_tells (length payload + 2 == size) _ _ ps x
@@ -123,12 +127,14 @@ module _ (before : List ℕ) (h : HeaderState) (us : List CopyUnit) (ps : List F
         },
       ))
 
-  pub length_more : (x : List ℕ) (count marker high b : ℕ) → high < 256 → b < 256 → x ≡ before ++ (fill_bytes fill ++ (255 ∷ code ∷ high ∷ [])) → count ≡ length x → marker ≡ length before + fill
+  pub length_more : (x : List ℕ) (count marker high b : ℕ) → high < 256 → b < 256
+      → x ≡ before ++ (fill_bytes fill ++ (255 ∷ code ∷ high ∷ [])) → count ≡ length x → marker ≡ length before + fill
       → TellsStep (length_known count h marker code (256 * high + b)) ps (x ++ b ∷ [])
   length_more x count marker high b lh lb w c m =
       length_tells (x ++ b ∷ []) count marker high b lh lb (rw w (simp append_assoc refl)) (omega (arith, length-append x (b ∷ []))) m
 
-  pub payload_more : (x payload : List ℕ) (count marker size b : ℕ) → x ≡ before ++ (fill_bytes fill ++ (255 ∷ code ∷ size / 256 ∷ size % 256 ∷ payload)) → length payload + 2 < size → size < 2 ^ 16
+  pub payload_more : (x payload : List ℕ) (count marker size b : ℕ)
+      → x ≡ before ++ (fill_bytes fill ++ (255 ∷ code ∷ size / 256 ∷ size % 256 ∷ payload)) → length payload + 2 < size → size < 2 ^ 16
       → count ≡ length x → marker ≡ length before + fill → TellsStep (payload_grown count h (payload ++ b ∷ []) marker code size) ps (x ++ b ∷ [])
   payload_more x payload count marker size b w within small c m =
       payload_tells (x ++ b ∷ []) (payload ++ b ∷ []) count marker size (rw w (simp append_assoc refl)) (omega (arith, length-append payload (b ∷ []))) small (omega (arith, length-append x (b ∷ []))) m

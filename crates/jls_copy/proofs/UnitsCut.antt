@@ -10,7 +10,8 @@ use Rattle.jls_copy.proofs.OneCut.{same_cut}
 abbrev cut_of : List ClosedPiece → List ℕ → ScanEnd → ScanCut
 cut_of closed last end = record { closed = closed; last = last; end = end }
 
-cut_so : (closed : List ClosedPiece) (last : List ℕ) (closing : LastClosed) (rest : List ℕ) → AllByRecursion IsClosedPiece closed → IsPiece last
+cut_so : (closed : List ClosedPiece) (last : List ℕ) (closing : LastClosed) (rest : List ℕ) → AllByRecursion IsClosedPiece closed
+    → IsPiece last
     → IsClosing closing rest → (end : ScanEnd) × IsCut (scan_data_bytes closed last closing ++ rest) (cut_of closed last end)
 cut_so closed last (by_input count) rest each piece h = (
   at_input count,

@@ -19,7 +19,8 @@ map_is f [] = refl
 map_is f (x ∷ xs) = ap (λ t. f x ∷ t) (map_is f xs)
 
 -- one number more
-pub map_more : {X : Type 0} (f : ℕ → X) (a k : ℕ) → a ≤ k → map f (range_with_len a (k + 1 - a)) ≡ map f (range_with_len a (k - a)) ++ f k ∷ []
+pub map_more : {X : Type 0} (f : ℕ → X) (a k : ℕ) → a ≤ k
+    → map f (range_with_len a (k + 1 - a)) ≡ map f (range_with_len a (k - a)) ++ f k ∷ []
 map_more f a k low =
     map_is f (range_with_len a (k + 1 - a)) ∙ flat_map_from_more (λ x. f x ∷ []) a k low ∙ ap (λ t. t ++ f k ∷ []) (sym (map_is f (range_with_len a (k - a))))
 
@@ -40,7 +41,8 @@ length_range a zero = refl
 length_range a (suc n) = let e = length_range (a + 1) n in omega (arith, e)
 
 -- so many rows of so many lines
-pub rows_length : (pic : WholePicture) (components : List ℕ) (a n : ℕ) → length (flat_map (row_lines pic components) (range_with_len a n)) ≡ n * length components
+pub rows_length : (pic : WholePicture) (components : List ℕ) (a n : ℕ)
+    → length (flat_map (row_lines pic components) (range_with_len a n)) ≡ n * length components
 rows_length pic components a zero = omega arith
 rows_length pic components a (suc n) =
     let rest = rows_length pic components (a + 1) n in
@@ -50,7 +52,8 @@ rows_length pic components a (suc n) =
     omega (arith, rest, both, one, more)
 
 -- no interval has more rows than the first
-rows_most : (pic : WholePicture) (o : WriteOptions) (first count k : ℕ) → row_count (scan_from pic o first count) k ≤ rows_of_interval pic.shape o
+rows_most : (pic : WholePicture) (o : WriteOptions) (first count k : ℕ)
+    → row_count (scan_from pic o first count) k ≤ rows_of_interval pic.shape o
 rows_most pic o first count k =
     let most = rows_first pic.shape.height o.restart_interval k in
     subst (λ n. row_count (scan_from pic o first count) k ≤ n) (of_rows o.restart_interval) most
@@ -74,7 +77,8 @@ samples_most pic o first count k fit of_scan =
     turn : (a b c : ℕ) → a * b * c ≡ c * b * a
     turn a b c = ap (λ n. n * c) (mul_comm a b) ∙ mul_comm (b * a) c ∙ omega arith
 
-pub lines_fit : (pic : WholePicture) (o : WriteOptions) (first count k : ℕ) (lines : List (List ℕ)) → IsScanFrom pic o first count → k < intervals (scan_from pic o first count)
+pub lines_fit : (pic : WholePicture) (o : WriteOptions) (first count k : ℕ) (lines : List (List ℕ)) → IsScanFrom pic o first count
+    → k < intervals (scan_from pic o first count)
     → lines ≡ interval_lines pic (scan_from pic o first count) k → AllByRecursion (IsLine o.params pic.shape.width) lines → FitsInterval o.params pic.shape.width count lines
 lines_fit pic o first count k lines part within lines_are each =
     let s = scan_from pic o first count in

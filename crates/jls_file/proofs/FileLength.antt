@@ -34,7 +34,8 @@ map_length : (f : ℕ → ℕ) (xs : List ℕ) → length (map f xs) ≡ length 
 map_length f [] = refl
 map_length f (x ∷ xs) = let e = map_length f xs in omega (arith, e)
 
-few_components : (pic : WholePicture) (o : WriteOptions) (count : ℕ) → IsShape pic.shape → count ≡ components_of_scan pic.shape o → count ≤ 4
+few_components : (pic : WholePicture) (o : WriteOptions) (count : ℕ) → IsShape pic.shape → count ≡ components_of_scan pic.shape o
+    → count ≤ 4
 few_components pic o count shape of_scan = subst (λ n. n ≤ 4) (sym of_scan) (by_line o.line)
   where
     by_line : (line : Bool) → cond line (length pic.shape.ids) 1 ≤ 4
@@ -45,7 +46,8 @@ tail_length : (xs : List ℕ) (x : ℕ) → length (xs ++ 0 ∷ x ∷ 0 ∷ []) 
 tail_length xs x = length-append xs (0 ∷ x ∷ 0 ∷ [])
 
 -- what stands before an interval
-before_at_most : (pic : WholePicture) (o : WriteOptions) (first count k : ℕ) → count ≤ 4 → length (before_interval pic (scan_from pic o first count) k) ≤ 32
+before_at_most : (pic : WholePicture) (o : WriteOptions) (first count k : ℕ) → count ≤ 4
+    → length (before_interval pic (scan_from pic o first count) k) ≤ 32
 before_at_most pic o first count zero few =
     let ids : List ℕ = map (λ c. get_or pic.shape.ids c 0) (range_with_len first count) in
     let size : length ids ≡ count = map_length (λ c. get_or pic.shape.ids c 0) (range_with_len first count) ∙ length_range first count in
@@ -54,7 +56,8 @@ before_at_most pic o first count zero few =
     omega (arith, size, listed, all, few)
 before_at_most pic o first count (suc k) few = rw (ne_eqb (suc k) 0 (λ e. absurd (omega (arith, e)))) (omega arith)
 
-pub marked_at_most : (pic : WholePicture) (o : WriteOptions) (first count k : ℕ) → OptionsFit pic o → IsShape pic.shape → AreCodingParameters o.params → count ≡ components_of_scan pic.shape o
+pub marked_at_most : (pic : WholePicture) (o : WriteOptions) (first count k : ℕ) → OptionsFit pic o → IsShape pic.shape
+    → AreCodingParameters o.params → count ≡ components_of_scan pic.shape o
     → length (marked_interval pic (scan_from pic o first count) k) ≤ 2 ^ 39
 marked_at_most pic o first count k fit shape params of_scan =
     let s = scan_from pic o first count in
@@ -86,7 +89,8 @@ pub scans_at_most : (pic : WholePicture) (o : WriteOptions) (n : ℕ) → Option
 scans_at_most pic o n fit shape params =
     length-flat_map-le (λ first. scan_bytes pic (scan_from pic o first (components_of_scan pic.shape o))) (2 ^ 55) (λ first. scan_at_most pic o first fit shape params) 0 n
 
-pub all_scans_at_most : (pic : WholePicture) (o : WriteOptions) → OptionsFit pic o → IsShape pic.shape → AreCodingParameters o.params → length (scans_bytes pic o) ≤ 2 ^ 57
+pub all_scans_at_most : (pic : WholePicture) (o : WriteOptions) → OptionsFit pic o → IsShape pic.shape → AreCodingParameters o.params
+    → length (scans_bytes pic o) ≤ 2 ^ 57
 all_scans_at_most pic o fit shape params =
     let all = scans_at_most pic o (scan_count pic o) fit shape params in
     let few = scan_count_at_most pic o shape in
@@ -94,7 +98,8 @@ all_scans_at_most pic o fit shape params =
     omega (arith, all, few, size)
 
 -- the header segments
-preset_at_most : (p : CodingParameters) (same : Bool) → length (flat_map bytes_of (cond same [] (segment.Preset p.maxval p.t1 p.t2 p.t3 p.reset ∷ []))) ≤ 15
+preset_at_most : (p : CodingParameters) (same : Bool)
+    → length (flat_map bytes_of (cond same [] (segment.Preset p.maxval p.t1 p.t2 p.t3 p.reset ∷ []))) ≤ 15
 preset_at_most p true = omega arith
 preset_at_most p false = omega arith
 

@@ -15,7 +15,8 @@ pub none_out : (h : History) (held : Option (List ℕ)) → HandedOut h h held h
 none_out h held = record { wrote = nothing_written h; holds_them = appends_nothing held }
 
 -- no memory for the first part
-pub stops_at_once : (h : History) (held : Option (List ℕ)) (before : ℕ) (bytes : List ℕ) → 0 < length bytes → StopsIn (OutOfMemory before) before h h held held bytes
+pub stops_at_once : (h : History) (held : Option (List ℕ)) (before : ℕ) (bytes : List ℕ) → 0 < length bytes
+    → StopsIn (OutOfMemory before) before h h held held bytes
 stops_at_once h held before bytes some = (0, omega arith, record { out = none_out h held; not_all = some })
 
 -- a failed write
@@ -38,7 +39,8 @@ stops_first old new held holds (OutOfMemory count) before a rest (n, count_is, p
 )
 
 -- in a later part, behind which the rest was to come
-pub stops_on : (old mid new : History) (held keeps holds : Option (List ℕ)) (fault : OutputFault) (before now : ℕ) (a b rest all : List ℕ) → now ≡ before + length a → all ≡ a ++ b ++ rest
+pub stops_on : (old mid new : History) (held keeps holds : Option (List ℕ)) (fault : OutputFault) (before now : ℕ) (a b rest all : List ℕ)
+    → now ≡ before + length a → all ≡ a ++ b ++ rest
     → HandedOut old mid held keeps a → StopsIn fault now mid new keeps holds b → StopsIn fault before old new held holds all
 stops_on old mid new held keeps holds (Write count) before now a b rest all now_is all_is h stopped =
     stopped_on old mid new held keeps holds (Write count) before now a b rest all now_is all_is h stopped

@@ -83,12 +83,14 @@ unfolding run_updated
 run_updated_grows reset same cell e small =
     elim (cases_Bool (eqb cell.occurrences reset)) [ inl at ↦ rw at (omega arith, omega (arith, small), omega arith) | inr other ↦ rw other (omega arith, omega (arith, small), omega arith) ]
 
-temp_at_most : (same : Bool) (cell : RunCell) (a b : ℕ) → cell.magnitudes ≤ a → cell.occurrences ≤ b → interruption_magnitudes same cell ≤ a + b
+temp_at_most : (same : Bool) (cell : RunCell) (a b : ℕ) → cell.magnitudes ≤ a → cell.occurrences ≤ b
+    → interruption_magnitudes same cell ≤ a + b
 temp_at_most true cell a b h k = omega arith
 temp_at_most false cell a b h k = omega arith
 
 module _ (p : CodingParameters) (small : p.maxval < 2 ^ 16) where
-  regular_grows : (cell : Cell) (e : Event) → 1 ≤ cell.occurrences → (1 ≤ (cell_after p cell e).occurrences) × ((cell_after p cell e).magnitudes ≤ cell.magnitudes + 2 ^ 17)
+  regular_grows : (cell : Cell) (e : Event) → 1 ≤ cell.occurrences
+      → (1 ≤ (cell_after p cell e).occurrences) × ((cell_after p cell e).magnitudes ≤ cell.magnitudes + 2 ^ 17)
   regular_grows cell (regular near sample) some =
       updated_grows p.reset cell (regular_error p cell near sample) (error_at_most p (regular_error p cell near sample) small (error_range p (is_negative p near) sample (regular_prediction p cell near)))
   regular_grows cell (run_to_end component count) some = (some, omega arith)
@@ -160,7 +162,8 @@ blocks_at_most r count few =
     let most = least_low (λ blocks. ltb count (block_columns r (suc blocks))) (31 + count / 2 ^ 15) 0 in
     omega (arith, most, few)
 
-event_at_most : (p : CodingParameters) → p.maxval < 2 ^ 16 → (width : ℕ) → width < 2 ^ 16 → (earlier : List Event) (e : Event) → length earlier ≤ 2 ^ 28 → IsWithin width e → length (event_bits p earlier e) ≤ 200
+event_at_most : (p : CodingParameters) → p.maxval < 2 ^ 16 → (width : ℕ) → width < 2 ^ 16 → (earlier : List Event) (e : Event)
+    → length earlier ≤ 2 ^ 28 → IsWithin width e → length (event_bits p earlier e) ≤ 200
 unfolding event_bits
 event_at_most p small width narrow earlier (regular near sample) few within =
     let code = golomb_at_most (regular_k (cell_before p earlier (context p near))) (limit p) (qbpp p) (regular_mapped (cell_before p earlier (context p near)) (regular_error p (cell_before p earlier (context p near)) near sample)) in
@@ -189,7 +192,8 @@ event_at_most p small width narrow earlier (interrupted_run component count near
     let b = length-append (replicate run.full_blocks true ++ false ∷ bits j run.remaining) code in
     omega (arith, a, b, rest, k, limits, order, ones, low, full)
 
-bits_at_most : (p : CodingParameters) → p.maxval < 2 ^ 16 → (width : ℕ) → width < 2 ^ 16 → (earlier events : List Event) → length earlier + length events ≤ 2 ^ 28 → AllByRecursion (IsWithin width) events
+bits_at_most : (p : CodingParameters) → p.maxval < 2 ^ 16 → (width : ℕ) → width < 2 ^ 16 → (earlier events : List Event)
+    → length earlier + length events ≤ 2 ^ 28 → AllByRecursion (IsWithin width) events
     → length (bits_of_events p earlier events) ≤ length events * 200
 unfolding bits_of_events
 bits_at_most p small width narrow earlier [] few within = omega arith
@@ -233,7 +237,8 @@ lines_at_most width components before (line ∷ lines) =
     let more : length (line ∷ lines) * width ≡ width + length lines * width = omega arith in
     (omega (arith, here.0, rest.0, both, more), all_on (IsWithin width) (line_events width (length before % components) (above components before) line) (events_after width components (before ++ line ∷ []) lines) here.1 rest.1)
 
-pub packed_at_most : (p : CodingParameters) (width components : ℕ) (lines : List (List ℕ)) → AreCodingParameters p → width < 2 ^ 16 → length lines * width ≤ 2 ^ 28
+pub packed_at_most : (p : CodingParameters) (width components : ℕ) (lines : List (List ℕ)) → AreCodingParameters p → width < 2 ^ 16
+    → length lines * width ≤ 2 ^ 28
     → length (packed p width components lines) ≤ 2 ^ 38
 unfolding code
 packed_at_most p width components lines are narrow few =

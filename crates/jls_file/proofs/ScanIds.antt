@@ -12,7 +12,8 @@ use Rattle.jls_picture.specs.Picture.{WholePicture}
 use Rattle.jls_file.specs.WrittenFile.{bytes_of, scan_segment}
 use Rattle.jls_file.proofs.CopiedLines.{length_range}
 
-ids_are : (ids : List ℕ) (first count : ℕ) → first + count ≤ length ids → map (λ c. get_or ids c 0) (range_with_len first count) ≡ take count (drop first ids)
+ids_are : (ids : List ℕ) (first count : ℕ) → first + count ≤ length ids
+    → map (λ c. get_or ids c 0) (range_with_len first count) ≡ take count (drop first ids)
 ids_are ids first zero h = refl
 ids_are ids first (suc count) h =
     let here : drop first ids ≡ get_or ids first 0 ∷ drop (suc first) ids = drop-cons ids first 0 (omega arith) in
@@ -32,7 +33,8 @@ selected ids line head made =
     sym (all_pass tests (record { ids = ids; line = line }) head made).1
 
 -- the header that was made of these identifiers is that of the scan
-pub scan_header_is : (pic : WholePicture) (given : List ℕ) (first count from size : ℕ) (head : ScanSelection) → given ≡ pic.shape.ids → from ≡ first → size ≡ count → first + count ≤ length pic.shape.ids
+pub scan_header_is : (pic : WholePicture) (given : List ℕ) (first count from size : ℕ) (head : ScanSelection) → given ≡ pic.shape.ids
+    → from ≡ first → size ≡ count → first + count ≤ length pic.shape.ids
     → selection_of (take (from + size - from) (drop from given)) (nat_lt 1 count) ≡ Ok head → bytes_of (segment.Scan head) ≡ bytes_of (scan_segment pic (range_with_len first count))
 scan_header_is pic given first count from size head given_is from_is size_is within made =
     let ids : List ℕ = take (from + size - from) (drop from given) in

@@ -56,7 +56,8 @@ module _ (pic : WholePicture) where
       (subst (λ i. placed all row i (map (λ x. line_of pic x row) (d ∷ cs) ++ rest) ≡ row_readings pic (d ∷ cs) row ++ placed all (row + 1) 0 rest) l (placed_row all (pre ++ c ∷ []) d cs row rest f)))
 
   -- rows of a scan with one component at least
-  pub placed_rows : (c : ℕ) (cs : List ℕ) (row n : ℕ) → placed (c ∷ cs) row 0 (rows_from pic (c ∷ cs) row n) ≡ flat_map (row_readings pic (c ∷ cs)) (range_with_len row n)
+  pub placed_rows : (c : ℕ) (cs : List ℕ) (row n : ℕ)
+      → placed (c ∷ cs) row 0 (rows_from pic (c ∷ cs) row n) ≡ flat_map (row_readings pic (c ∷ cs)) (range_with_len row n)
   placed_rows c cs row zero = refl
   placed_rows c cs row (suc n) =
       placed_row (c ∷ cs) [] c cs row (rows_from pic (c ∷ cs) (row + 1) n) refl
@@ -64,7 +65,8 @@ module _ (pic : WholePicture) where
 
 -- ranges side by side: n intervals of r rows from interval k on, of y rows in all
 module _ {X : Type 0} (f : ℕ → List X) (r y : ℕ) where
-  side_by_side : (k n : ℕ) → flat_map (λ i. flat_map f (range_with_len (i * r) (min r (y - i * r)))) (range_with_len k n) ≡ flat_map f (range_with_len (k * r) (min (n * r) (y - k * r)))
+  side_by_side : (k n : ℕ)
+      → flat_map (λ i. flat_map f (range_with_len (i * r) (min r (y - i * r)))) (range_with_len k n) ≡ flat_map f (range_with_len (k * r) (min (n * r) (y - k * r)))
   side_by_side k zero = let e : min (0 * r) (y - k * r) ≡ 0 = omega arith in rw e refl
   side_by_side k (suc n) =
       let next : (k + 1) * r ≡ k * r + r = omega arith in
@@ -89,7 +91,8 @@ module _ {X : Type 0} (f : ℕ → List X) (r y : ℕ) where
 pub enough : (y r : ℕ) → 1 ≤ r → y ≤ ((y + r - 1) / r) * r
 enough y r h = let a = mod-add-div' (y + r - 1) r in let b = mod-lt (y + r - 1) {m = r} (omega (arith, h)) in omega (arith, a, b, h)
 
-pub same_map : {X Y : Type 0} (P : X → Type 0) (f g : X → List Y) → ((x : X) → P x → f x ≡ g x) → (xs : List X) → AllByRecursion P xs → flat_map f xs ≡ flat_map g xs
+pub same_map : {X Y : Type 0} (P : X → Type 0) (f g : X → List Y) → ((x : X) → P x → f x ≡ g x) → (xs : List X) → AllByRecursion P xs
+    → flat_map f xs ≡ flat_map g xs
 same_map P f g h [] a = refl
 same_map P f g h (x ∷ xs) a = ap (λ t. t ++ flat_map f xs) (h x a.0) ∙ ap (λ t. g x ++ t) (same_map P f g h xs a.1)
 
@@ -102,7 +105,8 @@ interval_rows : (pic : WholePicture) (c : ℕ) (cs : List ℕ) (s : Scan) (k : �
     → interval_readings pic s k ≡ flat_map (row_readings pic (c ∷ cs)) (range_with_len (k * s.restart_interval) (min s.restart_interval (s.height - k * s.restart_interval)))
 interval_rows pic c cs s k e t = rw (t, e) (placed_rows pic c cs (k * s.restart_interval) (min s.restart_interval (s.height - k * s.restart_interval)))
 
-one_interval : (pic : WholePicture) (c : ℕ) (cs : List ℕ) (s : Scan) (k : ℕ) → s.components ≡ c ∷ cs → s.restart_interval ≡ 0 → (s.restart_interval == 0) ≡ true
+one_interval : (pic : WholePicture) (c : ℕ) (cs : List ℕ) (s : Scan) (k : ℕ) → s.components ≡ c ∷ cs → s.restart_interval ≡ 0
+    → (s.restart_interval == 0) ≡ true
     → interval_readings pic s 0 ≡ flat_map (row_readings pic (c ∷ cs)) (range_with_len 0 s.height)
 one_interval pic c cs s k e none t = rw (t, e, none) (placed_rows pic c cs 0 s.height)
 
@@ -112,7 +116,8 @@ how_many_one s t = rw t refl
 how_many : (s : Scan) → (s.restart_interval == 0) ≡ false → intervals s ≡ (s.height + s.restart_interval - 1) / s.restart_interval
 how_many s t = rw t refl
 
-scan_rows : (pic : WholePicture) (c : ℕ) (cs : List ℕ) (s : Scan) → s.components ≡ c ∷ cs → (s.restart_interval ≡ 0) ⊎ (s.restart_interval ≢ 0)
+scan_rows : (pic : WholePicture) (c : ℕ) (cs : List ℕ) (s : Scan) → s.components ≡ c ∷ cs
+    → (s.restart_interval ≡ 0) ⊎ (s.restart_interval ≢ 0)
     → scan_readings pic s ≡ flat_map (row_readings pic (c ∷ cs)) (range_with_len 0 s.height)
 scan_rows pic c cs s e (inl none) =
     let t : (s.restart_interval == 0) ≡ true = grind (arith, nat_tests, none) in
@@ -128,7 +133,8 @@ scan_rows pic c cs s e (inr some) =
     ∙ same_map (λ k. Unit {0}) (interval_readings pic s) (λ k. flat_map (row_readings pic (c ∷ cs)) (range_with_len (k * r) (min r (y - k * r)))) (λ k u. interval_rows pic c cs s k e t) (range_with_len 0 n) (all_true _)
     ∙ side_by_side (row_readings pic (c ∷ cs)) r y 0 n ∙ ap (λ m. flat_map (row_readings pic (c ∷ cs)) (range_with_len (0 * r) m)) all ∙ ap (λ m. flat_map (row_readings pic (c ∷ cs)) (range_with_len m y)) zero_r
 
-with_first : (pic : WholePicture) (s : Scan) (cs : List ℕ) → s.components ≡ cs → 1 ≤ length cs → scan_readings pic s ≡ flat_map (row_readings pic cs) (range_with_len 0 s.height)
+with_first : (pic : WholePicture) (s : Scan) (cs : List ℕ) → s.components ≡ cs → 1 ≤ length cs
+    → scan_readings pic s ≡ flat_map (row_readings pic cs) (range_with_len 0 s.height)
 with_first pic s [] e h = absurd (omega (arith, h))
 with_first pic s (c ∷ cs) e h = scan_rows pic c cs s e (cases_eq s.restart_interval 0)
 
@@ -168,7 +174,8 @@ module _ (pic : WholePicture) (c y : ℕ) where
         | inr h ↦ (let a = not_in_row row cs h in rw (a, e, h) (omega arith))
       ]
 
-  in_scans : (rows : List ℕ) (scans : List (List ℕ)) → count_at c y (flat_map (λ cs. flat_map (row_readings pic cs) rows) scans) ≡ count_of y rows * count_of c (flat_map (λ cs. cs) scans)
+  in_scans : (rows : List ℕ) (scans : List (List ℕ))
+      → count_at c y (flat_map (λ cs. flat_map (row_readings pic cs) rows) scans) ≡ count_of y rows * count_of c (flat_map (λ cs. cs) scans)
   in_scans rows [] = omega arith
   in_scans rows (cs ∷ scans) =
       let e = in_scans rows scans in
@@ -218,21 +225,25 @@ scans_of n true some = (one_scan n some, tt)
 scans_of n false some = single_scans 0 n n (omega arith)
 
 module _ (pic : WholePicture) where
-  lines_of_row : (row : ℕ) (cs : List ℕ) → row < pic.shape.height → AllByRecursion (λ c. c < length pic.shape.ids) cs → AllByRecursion (IsLineOf pic) (row_readings pic cs row)
+  lines_of_row : (row : ℕ) (cs : List ℕ) → row < pic.shape.height → AllByRecursion (λ c. c < length pic.shape.ids) cs
+      → AllByRecursion (IsLineOf pic) (row_readings pic cs row)
   lines_of_row row [] h a = tt
   lines_of_row row (c ∷ cs) h a = ((a.0, h, refl), lines_of_row row cs h a.1)
 
-  rows_lines : (cs rows : List ℕ) → AllByRecursion (λ row. row < pic.shape.height) rows → AllByRecursion (λ c. c < length pic.shape.ids) cs → AllByRecursion (IsLineOf pic) (flat_map (row_readings pic cs) rows)
+  rows_lines : (cs rows : List ℕ) → AllByRecursion (λ row. row < pic.shape.height) rows → AllByRecursion (λ c. c < length pic.shape.ids) cs
+      → AllByRecursion (IsLineOf pic) (flat_map (row_readings pic cs) rows)
   rows_lines cs [] h a = tt
   rows_lines cs (row ∷ rows) h a = all_append (IsLineOf pic) (row_readings pic cs row) _ (lines_of_row row cs h.0 a) (rows_lines cs rows h.1 a)
 
-  scans_lines : (rows : List ℕ) (scans : List (List ℕ)) → AllByRecursion (λ row. row < pic.shape.height) rows → AllByRecursion (IsScanOf (length pic.shape.ids)) scans
+  scans_lines : (rows : List ℕ) (scans : List (List ℕ)) → AllByRecursion (λ row. row < pic.shape.height) rows
+      → AllByRecursion (IsScanOf (length pic.shape.ids)) scans
       → AllByRecursion (IsLineOf pic) (flat_map (λ cs. flat_map (row_readings pic cs) rows) scans)
   scans_lines rows [] h a = tt
   scans_lines rows (cs ∷ scans) h a = all_append (IsLineOf pic) (flat_map (row_readings pic cs) rows) _ (rows_lines cs rows h a.0.2) (scans_lines rows scans h a.1)
 
 -- row by row in each scan
-pub written_rows : (pic : WholePicture) (o : WriteOptions) → 1 ≤ length pic.shape.ids → written_readings pic o ≡ flat_map (λ cs. flat_map (row_readings pic cs) (range_with_len 0 pic.shape.height)) (scan_components (length pic.shape.ids) o.line)
+pub written_rows : (pic : WholePicture) (o : WriteOptions) → 1 ≤ length pic.shape.ids
+    → written_readings pic o ≡ flat_map (λ cs. flat_map (row_readings pic cs) (range_with_len 0 pic.shape.height)) (scan_components (length pic.shape.ids) o.line)
 written_rows pic o some =
     same_map (IsScanOf (length pic.shape.ids)) (λ cs. scan_readings pic (scan_of pic o cs)) (λ cs. flat_map (row_readings pic cs) (range_with_len 0 pic.shape.height))
     (λ cs h. intervals_are_rows pic (scan_of pic o cs) h.0) (scan_components (length pic.shape.ids) o.line) (scans_of (length pic.shape.ids) o.line some)
@@ -263,7 +274,8 @@ Has c y rs = (q : Reading) × Contains rs q × (q.component ≡ c) × (q.line �
 has_more : (c y : ℕ) (r : Reading) (rs : List Reading) → Has c y rs → Has c y (r ∷ rs)
 has_more c y r rs (q, (k, l, e), a, b) = (q, (suc k, omega (arith, l), e), a, b)
 
-found_in : (c y : ℕ) (r : Reading) (rs : List Reading) → count_at c y (r ∷ rs) ≢ 0 → (count_at c y rs ≢ 0 → Has c y rs) → (r.component ≡ c) ⊎ (r.component ≢ c) → (r.line ≡ y) ⊎ (r.line ≢ y) → Has c y (r ∷ rs)
+found_in : (c y : ℕ) (r : Reading) (rs : List Reading) → count_at c y (r ∷ rs) ≢ 0 → (count_at c y rs ≢ 0 → Has c y rs)
+    → (r.component ≡ c) ⊎ (r.component ≢ c) → (r.line ≡ y) ⊎ (r.line ≢ y) → Has c y (r ∷ rs)
 found_in c y r rs h later (inl a) (inl b) = (r, (0, omega arith, refl), a, b)
 found_in c y r rs h later (inr a) b =
     let t : (r.component == c) ≡ false = grind (arith, nat_tests, a) in

@@ -80,7 +80,8 @@ module _ (ids : List ℕ) (differ : has_repeat ids ≡ false) where
   components_back [] h = refl
   components_back (c ∷ cs) h = ap (λ t. t ∷ map (index_of ids) (ids_at ids cs)) (index_back ids c differ h.0) ∙ ap (λ t. c ∷ t) (components_back cs h.1)
 
-  known : (cs : List ℕ) → AllByRecursion (λ c. c < length ids) cs → list_all (λ id. nat_lt (index_of ids id) (length ids)) (ids_at ids cs) ≡ true
+  known : (cs : List ℕ) → AllByRecursion (λ c. c < length ids) cs
+      → list_all (λ id. nat_lt (index_of ids id) (length ids)) (ids_at ids cs) ≡ true
   known [] h = refl
   known (c ∷ cs) h =
       let here : nat_lt (index_of ids (get_or ids c 0)) (length ids) ≡ true = ap (λ n. nat_lt n (length ids)) (index_back ids c differ h.0) ∙ lt-ltb c (length ids) h.0 in
@@ -99,7 +100,8 @@ differ_singles : (ids xs : List ℕ) → AllByRecursion (λ cs. has_repeat (ids_
 differ_singles ids [] = tt
 differ_singles ids (x ∷ xs) = (refl, differ_singles ids xs)
 
-scans_differ : (ids : List ℕ) (line : Bool) → has_repeat ids ≡ false → AllByRecursion (λ cs. has_repeat (ids_at ids cs) ≡ false) (scan_components (length ids) line)
+scans_differ : (ids : List ℕ) (line : Bool) → has_repeat ids ≡ false
+    → AllByRecursion (λ cs. has_repeat (ids_at ids cs) ≡ false) (scan_components (length ids) line)
 scans_differ ids true differ = (ap has_repeat (ids_range ids [] ids refl) ∙ differ, tt)
 scans_differ ids false differ = differ_singles ids (range_with_len 0 (length ids))
 
@@ -120,7 +122,8 @@ few_scans : (n : ℕ) (line : Bool) → n ≤ 4 → length (scan_components n li
 few_scans n true few = omega arith
 few_scans n false few = let a = map_length (λ c. c ∷ []) (range_with_len 0 n) in let b = length-range_with_len 0 n in omega (arith, a, b, few)
 
-bytes_at : (ids cs : List ℕ) → AllByRecursion (λ id. id < 256) ids → AllByRecursion (λ c. c < length ids) cs → AllByRecursion (λ id. id < 256) (ids_at ids cs)
+bytes_at : (ids cs : List ℕ) → AllByRecursion (λ id. id < 256) ids → AllByRecursion (λ c. c < length ids) cs
+    → AllByRecursion (λ id. id < 256) (ids_at ids cs)
 bytes_at ids [] all h = tt
 bytes_at ids (c ∷ cs) all h = (at ids c all h.0, bytes_at ids cs all h.1)
   where
@@ -155,7 +158,8 @@ restart_short n =
 
 -- ---- parameters
 
-params_eq : (p q : CodingParameters) → p.precision ≡ q.precision → p.maxval ≡ q.maxval → p.t1 ≡ q.t1 → p.t2 ≡ q.t2 → p.t3 ≡ q.t3 → p.reset ≡ q.reset → p ≡ q
+params_eq : (p q : CodingParameters) → p.precision ≡ q.precision → p.maxval ≡ q.maxval → p.t1 ≡ q.t1 → p.t2 ≡ q.t2 → p.t3 ≡ q.t3
+    → p.reset ≡ q.reset → p ≡ q
 params_eq p q a b c d e f =
     let x : p ≡ record { precision = q.precision; maxval = q.maxval; t1 = q.t1; t2 = q.t2; t3 = q.t3; reset = q.reset } = rw (sym a, sym b, sym c, sym d, sym e, sym f) refl in x
 
@@ -172,7 +176,8 @@ in_range p i =
 kept : (x d : ℕ) → 1 ≤ x → or_default x d ≡ x
 kept x d h = let t : (x == 0) ≡ false = grind (arith, nat_tests, h) in rw t refl
 
-given : (p : CodingParameters) (precision : ℕ) → AreCodingParameters p → p.precision ≡ precision → in_force precision p.maxval p.t1 p.t2 p.t3 p.reset ≡ p
+given : (p : CodingParameters) (precision : ℕ) → AreCodingParameters p → p.precision ≡ precision
+    → in_force precision p.maxval p.t1 p.t2 p.t3 p.reset ≡ p
 given p precision i e =
     params_eq _ p (sym e) (kept p.maxval _ i.maxval_at_least) (kept p.t1 _ i.t1_at_least) (kept p.t2 _ (omega (arith, i.t1_at_least, i.t2_at_least)))
     (kept p.t3 _ (omega (arith, i.t1_at_least, i.t2_at_least, i.t3_at_least))) (kept p.reset _ (omega (arith, i.reset_at_least)))
@@ -181,7 +186,8 @@ asked : (p q : CodingParameters) → AreCodingParameters q → p ≡ q → param
 asked p q i e = ap (λ (r : CodingParameters). params_in_range r (param_fault r)) e ∙ ap (params_in_range q) (in_range q i)
 
 -- the values are those of the parameters that the defaults give
-same_values : (r : Result CodingParameters ParamFault) (p : CodingParameters) → are_values_of r p ≡ true → ((d : CodingParameters) → r ≡ Ok d → d.precision ≡ p.precision) → r ≡ Ok p
+same_values : (r : Result CodingParameters ParamFault) (p : CodingParameters) → are_values_of r p ≡ true
+    → ((d : CodingParameters) → r ≡ Ok d → d.precision ≡ p.precision) → r ≡ Ok p
 same_values (Err fault) p h precision = absurd cc
 same_values (Ok d) p h precision =
     let a = and_left _ _ h in let h1 = and_right _ _ h in
@@ -201,7 +207,8 @@ abbrev written_presets : CodingParameters → Bool → PresetParameters
 written_presets p true = no_presets
 written_presets p false = presets_of p
 
-asks : (shape : PictureShape) (p : CodingParameters) (same : Bool) → AreCodingParameters p → p.precision ≡ shape.precision → are_defaults p ≡ same → params_judged shape (written_presets p same) ≡ Ok p
+asks : (shape : PictureShape) (p : CodingParameters) (same : Bool) → AreCodingParameters p → p.precision ≡ shape.precision
+    → are_defaults p ≡ same → params_judged shape (written_presets p same) ≡ Ok p
 asks shape p true are precision h =
     ap (λ n. params_of n 0 0 0 0 0) (sym precision) ∙ same_values (params_of p.precision 0 0 0 0 0) p h (λ d e. defaults_precision p.precision d e)
 asks shape p false are precision h = asked _ p are (given p shape.precision are precision)
@@ -224,7 +231,8 @@ dri_code : has_segment 0xDD ≡ true
 unfolding has_segment
 dri_code = refl
 
-step : (h : HeaderState) (s : Segment) → written.IsSegment s → written.CanBeWritten s → headers_after h (written.code_of s) (written.payload_of s) ≡ accepted h s
+step : (h : HeaderState) (s : Segment) → written.IsSegment s → written.CanBeWritten s
+    → headers_after h (written.code_of s) (written.payload_of s) ≡ accepted h s
 unfolding headers_after
 step h s is can = ap (taking h) (written_reads_back s is can)
 
@@ -265,7 +273,8 @@ module _ (pic : WholePicture) (o : WriteOptions) (can : CanBeWritten pic o) wher
     abbrev selection : List ℕ → ScanSelection
     selection cs = record { ids = ids_at pic.shape.ids cs; line = nat_lt 1 (length cs) }
 
-    selected : (cs : List ℕ) → IsScanOf (length pic.shape.ids) cs → has_repeat (ids_at pic.shape.ids cs) ≡ false → IsScanSelection (selection cs)
+    selected : (cs : List ℕ) → IsScanOf (length pic.shape.ids) cs → has_repeat (ids_at pic.shape.ids cs) ≡ false
+        → IsScanSelection (selection cs)
     selected cs are differ =
         let size = map_length (λ c. get_or pic.shape.ids c 0) cs in
         let few = can.whole.shape.ids_at_most in
@@ -277,7 +286,8 @@ module _ (pic : WholePicture) (o : WriteOptions) (can : CanBeWritten pic o) wher
           interleaved = λ many. lt-ltb 1 (length cs) (omega (arith, size, many));
         }
 
-    small_enough : (cs : List ℕ) → length cs ≡ components_of_scan pic.shape o → pic.shape.width * length (ids_at pic.shape.ids cs) * row_count (scan_of pic o cs) 0 ≤ 2 ^ 28
+    small_enough : (cs : List ℕ) → length cs ≡ components_of_scan pic.shape o
+        → pic.shape.width * length (ids_at pic.shape.ids cs) * row_count (scan_of pic o cs) 0 ≤ 2 ^ 28
     small_enough cs sized =
         let size : length (ids_at pic.shape.ids cs) ≡ components_of_scan pic.shape o = map_length (λ c. get_or pic.shape.ids c 0) cs ∙ sized in
         let rows : row_count (scan_of pic o cs) 0 ≡ rows_of_interval pic.shape o = rows_zero pic.shape.height o.restart_interval in
@@ -294,7 +304,8 @@ module _ (pic : WholePicture) (o : WriteOptions) (can : CanBeWritten pic o) wher
         (ap (λ (xs : List ℕ). scan_with pic.shape xs (params_under pic.shape pr) o.restart_interval) (components_back pic.shape.ids differ cs are.2)
         ∙ ap (λ (p : CodingParameters). scan_with pic.shape cs p o.restart_interval) under)
 
-    scan_step : (cs : List ℕ) (i : ℕ) → i < 16 → IsScanOf (length pic.shape.ids) cs → has_repeat (ids_at pic.shape.ids cs) ≡ false → length cs ≡ components_of_scan pic.shape o
+    scan_step : (cs : List ℕ) (i : ℕ) → i < 16 → IsScanOf (length pic.shape.ids) cs → has_repeat (ids_at pic.shape.ids cs) ≡ false
+        → length cs ≡ components_of_scan pic.shape o
         → headers_after (now i) 0xDA (written.payload_of (scan_segment pic cs)) ≡ Ok (now (i + 1), Some (scan_of pic o cs))
     scan_step cs i few are differ sized =
         step (now i) (segment.Scan (selection cs)) (selected cs are differ) tt ∙ ap (begun (now i)) (judged cs i few are sized)

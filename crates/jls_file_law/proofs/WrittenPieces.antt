@@ -103,7 +103,8 @@ module _ (pic : WholePicture) (o : WriteOptions) (can : CanBeWritten pic o) (com
   pub reads_lines : IsOutcomeAt plan (Interval k) (interval_code pic plan k) (Lines (interval_lines pic plan k))
   reads_lines = packed_reads o.params pic.shape.width (length components) (row_count plan k * length components) (interval_lines pic plan k) intervals_fit
 
-  pub only_lines : (out : PieceOutcome) → IsOutcomeAt plan (Interval k) (interval_code pic plan k) out → out ≡ Lines (interval_lines pic plan k)
+  pub only_lines : (out : PieceOutcome) → IsOutcomeAt plan (Interval k) (interval_code pic plan k) out
+      → out ≡ Lines (interval_lines pic plan k)
   only_lines (Lines lines) h =
       ap Lines (reads_once o.params can.params pic.shape.width (length components) (row_count plan k * length components) can.whole.shape.width_at_least (interval_code pic plan k) lines (interval_lines pic plan k) h reads_lines)
   only_lines (Fault kind.Long) h =

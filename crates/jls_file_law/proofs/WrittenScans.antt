@@ -33,7 +33,8 @@ module _ (pic : WholePicture) (s : Scan) where
       let back : k + 1 - 1 ≡ k = omega arith in
       rw (ne_eqb (k + 1) 0 (λ e. absurd (omega (arith, e)))) (ap restart_marker back)
 
-  pub bytes_are : (k n : ℕ) → interval_code pic s k ++ flat_map (marked_interval pic s) (range_with_len (k + 1) n) ≡ flat_map closed_bytes (closed_from k n) ++ last_from k n
+  pub bytes_are : (k n : ℕ)
+      → interval_code pic s k ++ flat_map (marked_interval pic s) (range_with_len (k + 1) n) ≡ flat_map closed_bytes (closed_from k n) ++ last_from k n
   bytes_are k zero = append-nil (interval_code pic s k)
   bytes_are k (suc n) =
       let later : List ℕ = flat_map (marked_interval pic s) (range_with_len (k + 1 + 1) n) in
@@ -73,7 +74,8 @@ abbrev pub lines_of : WholePicture → FoundPiece → List Reading
 lines_of pic p = lines_at pic p.plan p.number
 
 module _ (pic : WholePicture) where
-  one_gives : (p : FoundPiece) (k : ℕ) (n : PieceNumber) → p.number ≡ n → n ≡ Interval k → readings_of p (Lines (interval_lines pic p.plan k)) ≡ lines_of pic p
+  one_gives : (p : FoundPiece) (k : ℕ) (n : PieceNumber) → p.number ≡ n → n ≡ Interval k
+      → readings_of p (Lines (interval_lines pic p.plan k)) ≡ lines_of pic p
   one_gives p k n e f = let g = e ∙ f in rw g refl
 
   pub all_give : (ps : List FoundPiece) (os : List PieceOutcome) → AllByRecursion (GivesLines pic) ps → AreOutcomes ps os
@@ -97,7 +99,8 @@ module _ (pic : WholePicture) (o : WriteOptions) (can : CanBeWritten pic o) (com
   piece_gives : (k at : ℕ) → GivesLines pic (record { scan = index; plan = s; number = Interval k; offset = at; bytes = interval_code pic s k })
   piece_gives k at = (k, refl, reads_lines pic o can components inside k, only_lines pic o can components inside k)
 
-  pub pieces_give : (k n at : ℕ) → k + n < intervals s → AllByRecursion (GivesLines pic) (pieces_from index s k (Interval k) at (closed_from pic s k n) (last_from pic s k n))
+  pub pieces_give : (k n at : ℕ) → k + n < intervals s
+      → AllByRecursion (GivesLines pic) (pieces_from index s k (Interval k) at (closed_from pic s k n) (last_from pic s k n))
   pieces_give k zero at h = (piece_gives k at, tt)
   pieces_give k (suc n) at h =
       let e = number_is (intervals s) k (omega (arith, h)) in

@@ -90,7 +90,8 @@ module _ (pic : WholePicture) (o : WriteOptions) where
   some_interval : (components : List ℕ) → 1 ≤ pic.shape.height → 1 ≤ intervals (scan_of pic o components)
   some_interval components h = marker.some_interval pic.shape.height o.restart_interval h
 
-  scan_is : (components : List ℕ) → 1 ≤ pic.shape.height → length (payload_of (scan_segment pic components)) + 2 < 2 ^ 16 → scan_part components ≡ unit_bytes (scan_unit components)
+  scan_is : (components : List ℕ) → 1 ≤ pic.shape.height → length (payload_of (scan_segment pic components)) + 2 < 2 ^ 16
+      → scan_part components ≡ unit_bytes (scan_unit components)
   scan_is components h short =
       let s : Scan = scan_of pic o components in
       let n = intervals s - 1 in
@@ -104,13 +105,15 @@ module _ (pic : WholePicture) (o : WriteOptions) where
       ∙ ap (λ t. head ++ t) (bytes_are pic s 0 n ∙ ap (λ t. flat_map closed_bytes (closed_from pic s 0 n) ++ t) (sym (append-nil (last_from pic s 0 n))))
 
   -- a marker that ends scan data follows each scan
-  behind_scan : (scans : List (List ℕ)) → 1 ≤ pic.shape.height → (last h : HeaderState) → ScanSteps h scans last → IsClosing by_marker (flat_map scan_part scans ++ eoi)
+  behind_scan : (scans : List (List ℕ)) → 1 ≤ pic.shape.height → (last h : HeaderState) → ScanSteps h scans last
+      → IsClosing by_marker (flat_map scan_part scans ++ eoi)
   behind_scan [] some last h steps = record { fill = 0; code = 0xD9; behind = []; bytes_are = refl; ends = refl }
   behind_scan (c ∷ scans) some last h steps =
       let e = ap (λ t. (t ++ flat_map scan_part scans) ++ eoi) (scan_is c some steps.1.1) in
       subst (IsClosing by_marker) (sym e) (record { fill = 0; code = 0xDA; behind = _; bytes_are = refl; ends = refl })
 
-  from_scans : (h : HeaderState) (at : ℕ) (scans : List (List ℕ)) (last : HeaderState) → 1 ≤ pic.shape.height → ScanSteps h scans last → is_some last.frame ≡ true
+  from_scans : (h : HeaderState) (at : ℕ) (scans : List (List ℕ)) (last : HeaderState) → 1 ≤ pic.shape.height → ScanSteps h scans last
+      → is_some last.frame ≡ true
       → AreUnits h at (flat_map scan_part scans ++ eoi) (map scan_unit scans) last (Eoi (end_of at (map scan_unit scans)))
   from_scans h at [] last some steps framed = (steps, for_good h at eoi (Eoi (at + 0)) (at_eoi h at 0 [] (rw (ap (λ (t : HeaderState). is_some t.frame) (sym steps)) framed)))
   from_scans h at (c ∷ scans) last some steps framed =
@@ -159,7 +162,8 @@ module _ (pic : WholePicture) (o : WriteOptions) where
       ∙ ap (λ t. scan_readings pic s ++ t) (scans_lines can scans are.1 _ _)
 
   -- segments alone have none
-  pieces_behind : (before : List Segment) (us : List CopyUnit) (index at : ℕ) → (at' : ℕ) × (pieces_in index at (map head_unit before ++ us) ≡ pieces_in (index + 0) at' us)
+  pieces_behind : (before : List Segment) (us : List CopyUnit) (index at : ℕ)
+      → (at' : ℕ) × (pieces_in index at (map head_unit before ++ us) ≡ pieces_in (index + 0) at' us)
   pieces_behind [] us index at = (at, let e : index + 0 ≡ index = omega arith in rw e refl)
   pieces_behind (x ∷ before) us index at =
       let r = pieces_behind before us (index + 0) (at + length (segment_unit_bytes 0 (code_of x) (payload_of x))) in

@@ -27,13 +27,15 @@ abbrev some_shape : PictureShape → Option PictureShape
 some_shape shape = Some shape
 
 -- a piece that gives no lines gives no reading
-faults_give_none : (s : Scan) (n : PieceNumber) (r : Reading) (k : PieceOutcome) → Contains (outcome_readings s n k) r → (lines : List (List ℕ)) × (k ≡ Lines lines)
+faults_give_none : (s : Scan) (n : PieceNumber) (r : Reading) (k : PieceOutcome) → Contains (outcome_readings s n k) r
+    → (lines : List (List ℕ)) × (k ≡ Lines lines)
 faults_give_none s n r (Lines lines) c = (lines, refl)
 faults_give_none s (Interval k) r (Fault f) c = absurd (none_in r c)
 faults_give_none s (BeyondLast k) r (Fault f) c = absurd (none_in r c)
 
 -- the readings of pieces that have these outcomes are what the pieces give
-pub listed : (ps : List FoundPiece) (os : List PieceOutcome) (r : Reading) → AreOutcomes ps os → Contains (readings ps os) r → (p : FoundPiece) × Contains ps p × PieceGives p r
+pub listed : (ps : List FoundPiece) (os : List PieceOutcome) (r : Reading) → AreOutcomes ps os → Contains (readings ps os) r
+    → (p : FoundPiece) × Contains ps p × PieceGives p r
 listed [] os r are c = absurd (none_in r c)
 listed (p ∷ ps) [] r are c = absurd are
 listed (p ∷ ps) (o ∷ os) r are c =
@@ -44,7 +46,8 @@ listed (p ∷ ps) (o ∷ os) r are c =
       | inr later ↦ (let f = listed ps os r are.1 later in (f.0, in_rest f.0 p ps f.1, f.2))
     ]
 
-given : (ps : List FoundPiece) (os : List PieceOutcome) (p : FoundPiece) (r : Reading) → AllByRecursion HasScan ps → AreOutcomes ps os → Contains ps p → PieceGives p r → Contains (readings ps os) r
+given : (ps : List FoundPiece) (os : List PieceOutcome) (p : FoundPiece) (r : Reading) → AllByRecursion HasScan ps → AreOutcomes ps os
+    → Contains ps p → PieceGives p r → Contains (readings ps os) r
 given [] os p r ok are c g = absurd (none_in p c)
 given (q ∷ ps) [] p r ok are c g = absurd are
 given (q ∷ ps) (o ∷ os) p r ok are c g =
@@ -65,7 +68,8 @@ head_listed : (ps : List FoundPiece) (head : List (List ℕ)) (r : Reading) → 
 head_listed [] head r is c = absurd (none_in r c)
 head_listed (p ∷ ps) head r is c = (p, is_first p ps, record { head = head; is_head = is; among = c })
 
-head_given : (ps : List FoundPiece) (head : List (List ℕ)) (p : FoundPiece) (r : Reading) → length ps ≤ 1 → AllByRecursion HasScan ps → IsHeadOfCut ps head
+head_given : (ps : List FoundPiece) (head : List (List ℕ)) (p : FoundPiece) (r : Reading) → length ps ≤ 1 → AllByRecursion HasScan ps
+    → IsHeadOfCut ps head
     → Contains ps p → HeadGives p r → Contains (head_readings ps head) r
 head_given [] head p r short ok is c g = absurd (none_in p c)
 head_given (q ∷ []) head p r short ok is c g =

@@ -26,7 +26,8 @@ last_behind [] p ps = refl
 last_behind (x ∷ []) p ps = refl
 last_behind (x ∷ y ∷ xs) p ps = last_behind (y ∷ xs) p ps
 
-some_behind : (xs : List FoundPiece) (p : FoundPiece) (ps : List FoundPiece) → (q : FoundPiece) × (qs : List FoundPiece) × (xs ++ p ∷ ps ≡ q ∷ qs)
+some_behind : (xs : List FoundPiece) (p : FoundPiece) (ps : List FoundPiece)
+    → (q : FoundPiece) × (qs : List FoundPiece) × (xs ++ p ∷ ps ≡ q ∷ qs)
 some_behind [] p ps = (p, ps, refl)
 some_behind (x ∷ xs) p ps = (x, xs ++ p ∷ ps, refl)
 
@@ -38,7 +39,8 @@ last_short (p ∷ q ∷ ps) = last_short (q ∷ ps)
 -- Units ------------------------------------------------------------------------------------------------------------
 
 -- where the input's end closes the last unit's piece there are pieces
-closed_some : (us : List CopyUnit) (index at : ℕ) → closed_by_input us ≡ true → (p : FoundPiece) × (ps : List FoundPiece) × (pieces_in index at us ≡ p ∷ ps)
+closed_some : (us : List CopyUnit) (index at : ℕ) → closed_by_input us ≡ true
+    → (p : FoundPiece) × (ps : List FoundPiece) × (pieces_in index at us ≡ p ∷ ps)
 closed_some [] index at e = absurd cc
 closed_some (segment fill code payload ∷ []) index at e = absurd cc
 closed_some (scan fill code payload s closed last (by_input n) ∷ []) index at e =
@@ -136,7 +138,8 @@ cut_stands (v ∷ w ∷ us) index at h from bytes final e u (after, rest, whole,
     ]
 
 -- the units of a course
-pub units_of : (copy : List ℕ) (c : Course) (u : CopyUnit) → IsCourse copy c → Contains c.units u → (from : ℕ) × (bytes : List ℕ) × AreUnits no_headers from bytes c.units c.headers c.end
+pub units_of : (copy : List ℕ) (c : Course) (u : CopyUnit) → IsCourse copy c → Contains c.units u
+    → (from : ℕ) × (bytes : List ℕ) × AreUnits no_headers from bytes c.units c.headers c.end
 units_of _ _ u (with_soi n bytes units final e h) m = (n + 2, bytes, h)
 units_of _ _ u (with_another_marker n code bytes p q) m = absurd (none_in u m)
 units_of _ _ u (with_no_marker b bytes p) m = absurd (none_in u m)

@@ -153,7 +153,8 @@ one_passes pass r (q ∷ qs) rise passes c same =
     ]
 
 -- where a reading of a line is held, and no other, it is the one reading of the line
-pub one_reading : (p : PartialPicture) (component line : ℕ) (samples : List ℕ) → set.contains p.readings (reading_of component line samples) ≡ true
+pub one_reading : (p : PartialPicture) (component line : ℕ) (samples : List ℕ)
+    → set.contains p.readings (reading_of component line samples) ≡ true
     → ((r : Reading) → set.contains p.readings r ≡ true → r.component ≡ component → r.line ≡ line → r ≡ reading_of component line samples)
     → readings_at p component line ≡ samples ∷ []
 one_reading p component line samples held same =
@@ -175,7 +176,8 @@ held_among pass r (q ∷ qs) e c =
       ])
     ]
 
-pub is_at_line : (p : PartialPicture) (component line : ℕ) (samples : List ℕ) → set.contains p.readings (reading_of component line samples) ≡ true
+pub is_at_line : (p : PartialPicture) (component line : ℕ) (samples : List ℕ)
+    → set.contains p.readings (reading_of component line samples) ≡ true
     → Contains (readings_at p component line) samples
 is_at_line p component line samples held =
     let r = reading_of component line samples in

@@ -109,7 +109,8 @@ copies_stand : (inputs : List (List ℕ)) → AreNoTexts inputs → InputsStandF
 copies_stand [] none = refl
 copies_stand (bytes ∷ inputs) none = (bytes ∷ [], inputs, refl, inl (none.0, refl), copies_stand inputs none.1)
 
-copies_stand_under : (source : Option ℕ) (inputs : List (List ℕ)) → AreNoTexts inputs → InputsStandUnder source inputs (map (sourced_copy source) inputs)
+copies_stand_under : (source : Option ℕ) (inputs : List (List ℕ)) → AreNoTexts inputs
+    → InputsStandUnder source inputs (map (sourced_copy source) inputs)
 copies_stand_under source [] none = refl
 copies_stand_under source (bytes ∷ inputs) none =
     (sourced_copy source bytes ∷ [], map (sourced_copy source) inputs, refl, inl (none.0, refl), copies_stand_under source inputs none.1)
@@ -145,7 +146,8 @@ took_these : (p : PartialPicture) (copies : List (List ℕ)) → HoldsExactly p 
 took_these p copies h = ([], began p copies h, λ copy c. absurd (none_in copy c))
 
 -- a copy's first marker is SOI, with fill before it
-pub framed_is_no_text : (bytes : List ℕ) (c : Course) (f : PictureShape) → IsCourse bytes c → c.headers.frame ≡ Some f → is_text bytes ≡ false
+pub framed_is_no_text : (bytes : List ℕ) (c : Course) (f : PictureShape) → IsCourse bytes c → c.headers.frame ≡ Some f
+    → is_text bytes ≡ false
 framed_is_no_text _ _ f (with_soi zero bytes units final e are) framed = refl
 framed_is_no_text _ _ f (with_soi (suc n) bytes units final e are) framed = refl
 framed_is_no_text _ _ f (with_another_marker n code bytes k l) framed = absurd cc

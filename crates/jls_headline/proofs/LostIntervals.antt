@@ -115,7 +115,8 @@ module _ (pic : WholePicture) where
   unit_is_exact index at (scan fill code payload s closed last closing) d =
       each_found (ReadsAsPictureOrNone pic s) (Exact pic) s index (exact pic s index) (at + length (segment_unit_bytes fill code payload)) 0 closed last d.numbers d.rise d.pieces_are
 
-  cut_is_exact : (index at : ℕ) (u : CopyUnit) → DamagedUnit pic u → is_cut u ≡ true → AllByRecursion (ExactHead pic) (last_piece (unit_pieces index at u))
+  cut_is_exact : (index at : ℕ) (u : CopyUnit) → DamagedUnit pic u → is_cut u ≡ true
+      → AllByRecursion (ExactHead pic) (last_piece (unit_pieces index at u))
   cut_is_exact index at (segment fill code payload) d cut = absurd cc
   cut_is_exact index at (scan fill code payload s closed last by_marker) d cut = absurd cc
   cut_is_exact index at (scan fill code payload s closed last (by_input dropped)) d cut =
@@ -130,7 +131,8 @@ damaged_copies_give_exactly pic c d r = (there, back)
     there (inl (p, m, g)) = inl (p, m, all_at (Exact pic) (pieces c) p (in_units (Exact pic) (DamagedUnit pic) (unit_is_exact pic) 0 c.begin c.units d.units) m r g)
     there (inr (p, m, g)) = inr (p, m, all_at (ExactHead pic) (cut_pieces c) p (all_cut (ExactHead pic) (DamagedUnit pic) (cut_is_exact pic) c.units 0 c.begin d.units) m r g)
 
-    back : ((p : FoundPiece) × Contains (pieces c) p × ReadsWith pic p r) ⊎ ((p : FoundPiece) × Contains (cut_pieces c) p × HeadReadsWith pic p r) → CourseGives c r
+    back : ((p : FoundPiece) × Contains (pieces c) p × ReadsWith pic p r) ⊎ ((p : FoundPiece) × Contains (cut_pieces c) p × HeadReadsWith pic p r)
+        → CourseGives c r
     back (inl (p, m, h)) = inl (p, m, gives_read pic p r h)
     back (inr (p, m, h)) = inr (p, m, gives_head pic p r h)
 
@@ -163,7 +165,8 @@ module _ (pic : WholePicture) where
       each_found (λ k bytes. (k < intervals s) × ReadsAsPictureOrNone pic s k bytes) InPicture s index (in_picture s is index) (at + length (segment_unit_bytes fill code payload)) 0 closed last d.numbers d.rise
       (numbers_low (intervals s) (ReadsAsPictureOrNone pic s) 0 closed last d.numbers is.0.some_interval d.rise d.pieces_are)
 
-  cut_in_picture : (index at : ℕ) (u : CopyUnit) → DamagedHere u → is_cut u ≡ true → AllByRecursion HeadInPicture (last_piece (unit_pieces index at u))
+  cut_in_picture : (index at : ℕ) (u : CopyUnit) → DamagedHere u → is_cut u ≡ true
+      → AllByRecursion HeadInPicture (last_piece (unit_pieces index at u))
   cut_in_picture index at (segment fill code payload) d cut = absurd cc
   cut_in_picture index at (scan fill code payload s closed last by_marker) d cut = absurd cc
   cut_in_picture index at (scan fill code payload s closed last (by_input dropped)) (d, is) cut =

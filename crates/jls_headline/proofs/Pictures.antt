@@ -15,7 +15,8 @@ use Rattle.jls_headline.specs.HeadlineLaws.{FilesReadAsOne}
 use Rattle.jls_headline.proofs.ScansInRange.{same_frame}
 
 -- a list is told by its items
-listed_by : {A : Type 0} (d : A) (f : ℕ → A) (xs : List A) (from : ℕ) → ((i : ℕ) → i < length xs → f (from + i) ≡ get_or xs i d) → map f (range_with_len from (length xs)) ≡ xs
+listed_by : {A : Type 0} (d : A) (f : ℕ → A) (xs : List A) (from : ℕ) → ((i : ℕ) → i < length xs → f (from + i) ≡ get_or xs i d)
+    → map f (range_with_len from (length xs)) ≡ xs
 listed_by d f [] from h = refl
 listed_by d f (x ∷ xs) from h =
     let here : f from ≡ x = ap f (first from) ∙ h 0 (omega arith) in
@@ -28,7 +29,8 @@ listed_by d f (x ∷ xs) from h =
     later : (n i : ℕ) → n + 1 + i ≡ n + suc i
     later n i = omega arith
 
-pub heights : (s : PictureShape) (planes : List (List (List ℕ))) → AllByRecursion (IsComponentIn s) planes → (c : ℕ) → c < length planes → length (get_or planes c []) ≡ s.height
+pub heights : (s : PictureShape) (planes : List (List (List ℕ))) → AllByRecursion (IsComponentIn s) planes → (c : ℕ) → c < length planes
+    → length (get_or planes c []) ≡ s.height
 heights s [] a c l = absurd (omega (arith, l))
 heights s (p ∷ ps) a zero l = a.0.0
 heights s (p ∷ ps) a (suc c) l = heights s ps a.1 c (omega (arith, l))

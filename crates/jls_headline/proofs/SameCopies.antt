@@ -10,7 +10,8 @@ use Rattle.jls_headline.specs.Gives.{CourseGives, GivesReading}
 use Rattle.jls_headline.specs.Stations.{ReadingsOf, HasShape, IsSameCopy, AreAmong}
 
 -- a copy that is done gives what it gives with anything behind it
-gives_behind : (front behind behind' : List ℕ) (r : Reading) → IsDone front true → GivesReading (front ++ behind) r → GivesReading (front ++ behind') r
+gives_behind : (front behind behind' : List ℕ) (r : Reading) → IsDone front true → GivesReading (front ++ behind) r
+    → GivesReading (front ++ behind') r
 gives_behind front behind behind' r (c, is, done) (d, is', g) =
     let same : d ≡ c = one_course (front ++ behind) d c is' (final_ends_stay front behind c is (sym done)) in
     (c, final_ends_stay front behind' c is (sym done), subst (λ x. CourseGives x r) same g)
@@ -25,7 +26,8 @@ pub among_gives : (copies others : List (List ℕ)) (r : Reading) → AreAmong c
 among_gives copies others r among (copy, c, g) = let m = among copy c in (m.0, m.1, same_copy_gives copy m.0 r m.2 g)
 
 -- the same copy has the same shape
-shape_behind : (front behind behind' : List ℕ) (s : PictureShape) → IsDone front true → HasShape s (front ++ behind) → HasShape s (front ++ behind')
+shape_behind : (front behind behind' : List ℕ) (s : PictureShape) → IsDone front true → HasShape s (front ++ behind)
+    → HasShape s (front ++ behind')
 shape_behind front behind behind' s (c, is, done) (d, is', framed) =
     let same : d ≡ c = one_course (front ++ behind) d c is' (final_ends_stay front behind c is (sym done)) in
     (c, final_ends_stay front behind' c is (sym done), ap (λ (k : Course). k.headers.frame) (sym same) ∙ framed)

@@ -96,13 +96,15 @@ marks_of_copy None bytes read low reads m = (
 )
 marks_of_copy (Some source) bytes read low reads m = (there, back)
   where
-    there : set.contains (with_those source read.partial.readings read.partial.marks) m ≡ true → (Some source ≡ Some m.1) × GivesReading bytes m.0
+    there : set.contains (with_those source read.partial.readings read.partial.marks) m ≡ true
+        → (Some source ≡ Some m.1) × GivesReading bytes m.0
     there h =
         let own = subst (λ ms. set.contains (with_those source read.partial.readings ms) m ≡ true) (unmarked bytes read reads) h in
         let t = (marks_of_readings source read.partial.readings m).0 own in
         (ap (λ (n : ℕ). Some n) t.0, (copy_gives bytes low read reads m.0).0 t.1)
 
-    back : (Some source ≡ Some m.1) × GivesReading bytes m.0 → set.contains (with_those source read.partial.readings read.partial.marks) m ≡ true
+    back : (Some source ≡ Some m.1) × GivesReading bytes m.0
+        → set.contains (with_those source read.partial.readings read.partial.marks) m ≡ true
     back (e, g) =
         let same : source ≡ m.1 = cc in
         subst (λ ms. set.contains (with_those source read.partial.readings ms) m ≡ true) (sym (unmarked bytes read reads))
@@ -116,7 +118,8 @@ copy_holds_under copy read low reads = record {
 }
 
 -- a union holds exactly what both do
-pub union_holds_under : (p q : PartialPicture) (copies more : List SourcedCopy) → HoldsExactlyUnder p copies → HoldsExactlyUnder q more → q.shape ≡ p.shape
+pub union_holds_under : (p q : PartialPicture) (copies more : List SourcedCopy) → HoldsExactlyUnder p copies → HoldsExactlyUnder q more
+    → q.shape ≡ p.shape
     → HoldsExactlyUnder (union p q) (copies ++ more)
 union_holds_under p q copies more h k shape = record {
   readings = subst (λ xs. HoldsExactly (union p q) xs) (sym (map-append (λ (copy : SourcedCopy). copy.bytes) copies more))
@@ -147,7 +150,8 @@ among_aside copies others among bytes c =
     let there = among from.0 from.1 in
     (there.0.bytes, in_map (λ (copy : SourcedCopy). copy.bytes) others there.0 there.1, subst (λ x. IsSameCopy x there.0.bytes) from.2 there.3)
 
-in_the_end_aside : (station : PartialPicture) (copies : List SourcedCopy) → TookInTheEndUnder station copies → TookInTheEnd station (copies_of copies)
+in_the_end_aside : (station : PartialPicture) (copies : List SourcedCopy) → TookInTheEndUnder station copies
+    → TookInTheEnd station (copies_of copies)
 in_the_end_aside station copies (over, took, among) = (copies_of over, sources_aside station copies over took, among_aside over copies among)
 
 pub sources_are_aside : SourcesAside
@@ -172,14 +176,16 @@ among_mark copies others among m (copy, c, g) =
     let there = among copy c in
     (there.0, there.1, (sym there.2 ∙ g.0, same_copy_gives copy.bytes there.0.bytes m.0 there.3 g.1))
 
-pub took_holds_under : (station : PartialPicture) (copies : List SourcedCopy) → TookInTheEndUnder station copies → HoldsExactlyUnder station copies
+pub took_holds_under : (station : PartialPicture) (copies : List SourcedCopy) → TookInTheEndUnder station copies
+    → HoldsExactlyUnder station copies
 took_holds_under station copies (over, took, among) = record {
   readings = took_holds station (copies_of copies) (in_the_end_aside station copies (over, took, among));
   sources = λ r source. in_the_end GivesMark is_marked union_marked station copies over (sources_after station copies over took) (among_mark over copies among) (r, source);
 }
 
 -- two of one shape that hold exactly what the same copies give under the same sources are one
-pub same_under : (station other : PartialPicture) (copies others : List SourcedCopy) → HoldsExactlyUnder station copies → HoldsExactlyUnder other others
+pub same_under : (station other : PartialPicture) (copies others : List SourcedCopy) → HoldsExactlyUnder station copies
+    → HoldsExactlyUnder other others
     → station.shape ≡ other.shape → AreAmongUnder copies others → AreAmongUnder others copies → station ≡ other
 same_under station other copies others h k shape among back =
     let readings = same_readings station other (copies_of copies) (copies_of others) h.readings k.readings (among_aside copies others among) (among_aside others copies back) in

@@ -33,7 +33,8 @@ use Rattle.jls_headline.proofs.WrittenFiles.{files_read_as}
 -- The same copies ------------------------------------------------------------------------------------------------
 
 -- what is said of a station rests on its shape and its readings
-pub say_the_same : (station other : PartialPicture) → station.shape ≡ other.shape → station.readings ≡ other.readings → SayTheSame station other
+pub say_the_same : (station other : PartialPicture) → station.shape ≡ other.shape → station.readings ≡ other.readings
+    → SayTheSame station other
 say_the_same station other e f =
     let with_these = (λ (s : PictureShape) (rs : set.OrderedSet reading_cmp). record station { shape = s; readings = rs }) in
     record {
@@ -54,13 +55,15 @@ same_copies_same_readings station other copies others took took' shape same =
 -- The picture ----------------------------------------------------------------------------------------------------
 
 -- a line that survives is held
-survivor_held : (pic : WholePicture) (station : PartialPicture) (copies : List (List ℕ)) → HoldsExactly station copies → EachLineSurvives pic copies
+survivor_held : (pic : WholePicture) (station : PartialPicture) (copies : List (List ℕ)) → HoldsExactly station copies
+    → EachLineSurvives pic copies
     → (c y : ℕ) → c < length pic.shape.ids → y < pic.shape.height → set.contains station.readings (picture_reading pic c y) ≡ true
 survivor_held pic station copies h each c y l k =
     let s = each c y l k in (h.readings (picture_reading pic c y)).1 (s.0, s.1, surviving_lines_are_given pic s.0 c y s.2)
 
 -- so the station is of the picture's shape
-same_shape : (pic : WholePicture) (station : PartialPicture) (copies : List (List ℕ)) → IsPicture pic → HoldsExactly station copies → EachLineSurvives pic copies → station.shape ≡ pic.shape
+same_shape : (pic : WholePicture) (station : PartialPicture) (copies : List (List ℕ)) → IsPicture pic → HoldsExactly station copies
+    → EachLineSurvives pic copies → station.shape ≡ pic.shape
 same_shape pic station copies is h each =
     let s = each 0 0 is.shape.ids_at_least is.shape.height_at_least in
     let of = all_at (λ copy. AllByRecursion (λ b. b < 256) copy × HasShape station.shape copy) copies s.0 h.are_copies s.1 in
@@ -73,7 +76,8 @@ damaged_copies_give_the_picture pic is station copies took damaged each =
     (λ c y l k. one_reading station c y (line_of pic c y) (survivor_held pic station copies h each c y l k) (only h c y)) in
     (gives, files_read_as station pic is gives.1)
   where
-    only : HoldsExactly station copies → (c y : ℕ) (r : Reading) → set.contains station.readings r ≡ true → r.component ≡ c → r.line ≡ y → r ≡ picture_reading pic c y
+    only : HoldsExactly station copies → (c y : ℕ) (r : Reading) → set.contains station.readings r ≡ true → r.component ≡ c → r.line ≡ y
+        → r ≡ picture_reading pic c y
     only h c y r held e f =
         let from = (h.readings r).0 held in
         let of = all_at (λ copy. AllByRecursion (λ b. b < 256) copy × HasShape station.shape copy) copies from.0 h.are_copies from.1 in

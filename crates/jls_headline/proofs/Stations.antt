@@ -47,14 +47,16 @@ union_holds p q copies more h k shape = record {
 abbrev After : PartialPicture → List (List ℕ) → List (List ℕ) → Type 0
 After station copies over = AreCopies station.shape copies × Holds GivesReading is_read union_read station copies over
 
-after_partial : (station taken : PartialPicture) (copies over more : List (List ℕ)) → After station copies over → HoldsExactly taken more → taken.shape ≡ station.shape
+after_partial : (station taken : PartialPicture) (copies over more : List (List ℕ)) → After station copies over → HoldsExactly taken more
+    → taken.shape ≡ station.shape
     → After (union station taken) (more ++ copies) over
 after_partial station taken copies over more h exactly shape = (
   all_append _ more copies (subst (λ s. AreCopies s more) shape exactly.are_copies) h.0,
   after_union GivesReading is_read union_read station taken copies over more h.1 exactly.readings,
 )
 
-out_of_memory : (station new other : PartialPicture) (copies over more : List (List ℕ)) → After station copies over → HoldsExactly other more
+out_of_memory : (station new other : PartialPicture) (copies over more : List (List ℕ)) → After station copies over
+    → HoldsExactly other more
     → IsBetween union station new (union station other) → After new copies (more ++ over)
 out_of_memory station new other copies over more h exactly between = (
   subst (λ s. AreCopies s copies) (ap (λ (p : PartialPicture). p.shape) between.0) h.0,
@@ -78,7 +80,8 @@ took_holds station copies (over, took, among) =
     }
 
 -- two that hold the readings of the same copies have the same readings
-pub same_readings : (station other : PartialPicture) (copies others : List (List ℕ)) → HoldsExactly station copies → HoldsExactly other others
+pub same_readings : (station other : PartialPicture) (copies others : List (List ℕ)) → HoldsExactly station copies
+    → HoldsExactly other others
     → AreAmong copies others → AreAmong others copies → station.readings ≡ other.readings
 same_readings station other copies others h k among back =
     same_set reading_total reading_exact station.readings other.readings

@@ -316,7 +316,8 @@ each_line_survives more (suc component) line c l = absurd (omega (arith, c))
 -- A new station that takes both has the picture ------------------------------------------------------------------
 
 -- what is read of a copy of this shape has the shape
-pub shape_read : (copy : List ℕ) (c : Course) (read : ReadCopy) → IsCourse copy c → c.headers.frame ≡ Some shape → CopyReads copy read → read.partial.shape ≡ shape
+pub shape_read : (copy : List ℕ) (c : Course) (read : ReadCopy) → IsCourse copy c → c.headers.frame ≡ Some shape → CopyReads copy read
+    → read.partial.shape ≡ shape
 shape_read copy c read is framed reads =
     let s = copy_has_shape copy read reads in
     same_frame read.partial.shape shape (sym s.2 ∙ ap (λ (d : Course). d.headers.frame) (one_course copy s.0 c s.1 is) ∙ framed)
@@ -333,7 +334,8 @@ took_both p a b e new ra rb =
       λ copy c. absurd (none_in copy c),
     )
 
-pub picture_comes_back : (p : PartialPicture) (a b : ReadCopy) → p.shape ≡ shape → p.readings ≡ set.empty → CopyReads first a → CopyReads second b
+pub picture_comes_back : (p : PartialPicture) (a b : ReadCopy) → p.shape ≡ shape → p.readings ≡ set.empty → CopyReads first a
+    → CopyReads second b
     → GivesPicture (union (union p b.partial) a.partial) pic × FilesReadAs (union (union p b.partial) a.partial) pic
 picture_comes_back p a b e new ra rb =
     damaged_copies_give_the_picture pic is_picture (union (union p b.partial) a.partial) (first ∷ second ∷ []) (took_both p a b e new ra rb)

@@ -39,7 +39,8 @@ module _ {C M : Type 0} (Gives : C → M → Type 0) (contains : PartialPicture 
   of_second : (more copies : List C) (m : M) → GivenBy copies m → GivenBy (more ++ copies) m
   of_second more copies m (copy, c, g) = (copy, Contains-append_right more copies copy c, g)
 
-  of_one : (Claim : Type 0) (more copies : List C) (m : M) → (GivenBy more m → Claim) → (GivenBy copies m → Claim) → GivenBy (more ++ copies) m → Claim
+  of_one : (Claim : Type 0) (more copies : List C) (m : M) → (GivenBy more m → Claim) → (GivenBy copies m → Claim)
+      → GivenBy (more ++ copies) m → Claim
   of_one Claim more copies m f g (copy, c, h) =
       elim (Contains-append_cases more copies copy c) [ inl x ↦ f (copy, x, h) | inr x ↦ g (copy, x, h) ]
 
@@ -52,7 +53,8 @@ module _ {C M : Type 0} (Gives : C → M → Type 0) (contains : PartialPicture 
           elim (first_or_rest other copy [] c) [ inl e ↦ subst (λ x. Gives x m) (sym e) g | inr later ↦ absurd (none_in other later) ]
 
   -- a union holds exactly what both do
-  pub union_exactly : (p q : PartialPicture) (copies more : List C) → Exactly p copies → Exactly q more → Exactly (union p q) (copies ++ more)
+  pub union_exactly : (p q : PartialPicture) (copies more : List C) → Exactly p copies → Exactly q more
+      → Exactly (union p q) (copies ++ more)
   union_exactly p q copies more h k m = (
     one_has (GivenBy (copies ++ more) m) p q m (λ x. of_first copies more m ((h m).0 x)) (λ x. of_second copies more m ((k m).0 x)),
     of_one (has (union p q) m) copies more m (λ x. left_has p q m ((h m).1 x)) (λ x. right_has p q m ((k m).1 x)),
@@ -84,6 +86,7 @@ module _ {C M : Type 0} (Gives : C → M → Type 0) (contains : PartialPicture 
         (subst (λ (p : PartialPicture). has p m) between.1 (left_has new (union station other) m x)),
   )
 
-  pub in_the_end : (station : PartialPicture) (copies over : List C) → Holds station copies over → ((m : M) → GivenBy over m → GivenBy copies m)
+  pub in_the_end : (station : PartialPicture) (copies over : List C) → Holds station copies over
+      → ((m : M) → GivenBy over m → GivenBy copies m)
       → Exactly station copies
   in_the_end station copies over h among m = (λ x. elim (h.1 m x) [ inl y ↦ y | inr y ↦ among m y ], h.0 m)

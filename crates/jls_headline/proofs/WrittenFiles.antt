@@ -30,7 +30,8 @@ line_width s [] a y l = absurd (omega (arith, l))
 line_width s (x ∷ xs) a zero l = a.0.0
 line_width s (x ∷ xs) a (suc y) l = line_width s xs a.1 y (omega (arith, l))
 
-pub component_at : (s : PictureShape) (planes : List (List (List ℕ))) → AllByRecursion (IsComponentIn s) planes → (c : ℕ) → c < length planes
+pub component_at : (s : PictureShape) (planes : List (List (List ℕ))) → AllByRecursion (IsComponentIn s) planes → (c : ℕ)
+    → c < length planes
     → AllByRecursion (IsLineIn s) (get_or planes c [])
 component_at s [] a c l = absurd (omega (arith, l))
 component_at s (p ∷ ps) a zero l = a.0.1

@@ -43,7 +43,8 @@ status_of_input_fault (fault.Read stop offset) = omega arith
 status_of_input_fault fault.OutOfMemory = omega arith
 
 -- an input has at least status 3
-status_at_input : (source : Option ℕ) (before : List Given) (name : List ℕ) (c : Cause) (events : List Event) → StopsAt source before name c events → 3 ≤ exit_status_of_cause c
+status_at_input : (source : Option ℕ) (before : List Given) (name : List ℕ) (c : Cause) (events : List Event)
+    → StopsAt source before name c events → 3 ≤ exit_status_of_cause c
 status_at_input source before name _ _ (not_there _ _ _) = omega arith
 status_at_input source before name _ _ (refused _ _ _ f reads h) = status_of_input_fault f
 status_at_input source before name _ _ (other_shape _ _ _ g events h other) = omega arith
@@ -55,7 +56,8 @@ status_at_output name bytes _ _ (outputs.not_there _ _) = omega arith
 status_at_output name bytes _ _ (outputs.cut _ _ count writes h) = omega arith
 
 -- a file that does not go out has at least status 2
-status_at_file : (F : Type 0) (takes : Bool) (name bytes : List ℕ) (c : Cause) (events : List Event) → StopsAtFile F takes name bytes c events → 2 ≤ exit_status_of_cause c
+status_at_file : (F : Type 0) (takes : Bool) (name bytes : List ℕ) (c : Cause) (events : List Event)
+    → StopsAtFile F takes name bytes c events → 2 ≤ exit_status_of_cause c
 status_at_file F takes name bytes _ _ (writing.too_large _ _ never) = omega arith
 status_at_file F takes name bytes c _ (writing.at_output _ _ _ events fit h) = let k = status_at_output name bytes c events h in omega (arith, k)
 status_at_file F takes name bytes _ _ (writing.no_memory _ _ count writes fit is lt h) = omega arith
@@ -102,7 +104,8 @@ record Came (asked : Asked) (status : ℕ) (desk report faults : List Event) : T
   status_is : status ≡ exit_status outcome
   printed : Printed (fault_line outcome) faults
 
-came_of_run : (words : List Text) (status : ℕ) (desk report faults : List Event) → Run words status desk report faults → (asked : Asked) → ReadsAs words asked → status ≤ 1
+came_of_run : (words : List Text) (status : ℕ) (desk report faults : List Event) → Run words status desk report faults → (asked : Asked)
+    → ReadsAs words asked → status ≤ 1
     → Came asked status desk report faults
 came_of_run words _ desk report faults (came_of _ a outcome _ _ _ reads came line) asked k le =
     record { outcome = outcome; came = subst (λ (x : Asked). CameOf x outcome desk report) (one_asked words a asked reads k) came; status_is = refl; printed = line }
@@ -121,7 +124,8 @@ done_status false true p s le = ((λ e. absurd (omega (arith, e)), λ is. absurd
     by_settled e = cc
 done_status settled false p s le = absurd (omega (arith, le))
 
-join_finished : (source : Option ℕ) (out : Text) (names : List Text) (outcome : Outcome) (events : List Event) (desk desk' : History) → Joins source out names outcome events → desk' ≡ desk ++ events → exit_status outcome ≤ 1
+join_finished : (source : Option ℕ) (out : Text) (names : List Text) (outcome : Outcome) (events : List Event) (desk desk' : History)
+    → Joins source out names outcome events → desk' ≡ desk ++ events → exit_status outcome ≤ 1
     → (joined : PartialPicture) × JoinRan source out names joined (exit_status outcome) desk desk' × (fault_line outcome ≡ [])
 join_finished source out names _ events desk desk' (joining.done _ _ _ p settled whole _ h) e le =
     let s = done_status settled whole p h.settled_is le in (
@@ -139,7 +143,8 @@ join_finished source out names _ events desk desk' (joining.at_input _ _ _ r _ h
 join_finished source out names _ events desk desk' (joining.no_memory _ _ _ r p whole _ named is h) e le = let k = status_of_memory r.cause is in absurd (omega (arith, k, le))
 join_finished source out names _ _ desk desk' (joining.at_output _ _ _ r p whole reading writing named h stops) e le = let k = status_at_output out _ r.cause writing stops in absurd (omega (arith, k, le))
 
-tell_finished : (traced : Bool) (name : Text) (outcome : Outcome) (events reported : List Event) (desk desk' report report' : History) → Tells (lines traced) name outcome events reported
+tell_finished : (traced : Bool) (name : Text) (outcome : Outcome) (events reported : List Event) (desk desk' report report' : History)
+    → Tells (lines traced) name outcome events reported
     → desk' ≡ desk ++ events → report' ≡ report ++ reported → exit_status outcome ≤ 1
     → (g : Given) × TellRan traced name g (exit_status outcome) desk desk' report report' × (fault_line outcome ≡ [])
 tell_finished traced name _ events reported desk desk' report report' (telling.done _ g settled whole _ _ taken says wrote) e d le =
@@ -159,7 +164,8 @@ tell_finished traced name _ events _ desk desk' report report' (telling.no_memor
 tell_finished traced name _ events reported desk desk' report report' (telling.not_printed _ r g count _ _ named is taken wrote) e d le =
     let k = status_of_cut r.cause count is in absurd (omega (arith, k, le))
 
-write_finished : (format : Format) (out name : Text) (outcome : Outcome) (events : List Event) (desk desk' : History) → WritesFile format out name outcome events → desk' ≡ desk ++ events → exit_status outcome ≡ 0
+write_finished : (format : Format) (out name : Text) (outcome : Outcome) (events : List Event) (desk desk' : History)
+    → WritesFile format out name outcome events → desk' ≡ desk ++ events → exit_status outcome ≡ 0
     → (g : Given) × WriteRan format out name g desk desk' × (fault_line outcome ≡ [])
 write_finished format out name _ _ desk desk' (writing.done _ _ _ g whole reading written taken settled says fit handed) e is =
     let s = done_status true whole g.partial says.settled_is (omega (arith, is)) in
@@ -175,7 +181,8 @@ not_settled : (p : PartialPicture) (f : PictureFault) → NamesFirstUnsettled p 
 not_settled p (Unsettled component line) first settled =
     first.first_line.unsettled (settled component first.first_line.component_in line first.first_line.line_in)
 
-write_stopped : (format : Format) (out name : Text) (outcome : Outcome) (events : List Event) (desk desk' : History) → WritesFile format out name outcome events → desk' ≡ desk ++ events → exit_status outcome ≡ 1
+write_stopped : (format : Format) (out name : Text) (outcome : Outcome) (events : List Event) (desk desk' : History)
+    → WritesFile format out name outcome events → desk' ≡ desk ++ events → exit_status outcome ≡ 1
     → (g : Given) × GrewBy (IsTaken None name g) desk desk' × (IsSettled g.partial → ⊥)
 write_stopped format out name _ _ desk desk' (writing.done _ _ _ g whole reading written taken settled says fit handed) e is =
     let s = done_status true whole g.partial says.settled_is (omega (arith, is)) in
@@ -188,7 +195,8 @@ write_stopped format out name _ events desk desk' (writing.unsettled _ _ _ r g f
 write_stopped format out name _ _ desk desk' (writing.at_file _ _ _ r g reading written named taken settled stops) e is =
     let k = status_at_file _ _ out _ r.cause written stops in absurd (omega (arith, k, is))
 
-came_as : (format : Format) (out name : Text) (outcome : Outcome) (desk report : List Event) → CameOf (written_as format out name) outcome desk report
+came_as : (format : Format) (out name : Text) (outcome : Outcome) (desk report : List Event)
+    → CameOf (written_as format out name) outcome desk report
     → WritesFile format out name outcome desk × (report ≡ [])
 came_as Pnm out name outcome desk report h = h
 came_as (Jls line ri) out name outcome desk report h = h

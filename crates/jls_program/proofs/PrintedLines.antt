@@ -12,11 +12,13 @@ pub prints_not : (goes_on : Bool) (bytes : List ℕ) (h : History) → goes_on �
 prints_not true bytes h e = absurd cc
 prints_not false bytes h e = refl
 
-pub prints_whole : (goes_on : Bool) (bytes : List ℕ) (old new : History) → goes_on ≡ true → GrewBy (Wrote bytes) old new → PrintsOn goes_on bytes true old new
+pub prints_whole : (goes_on : Bool) (bytes : List ℕ) (old new : History) → goes_on ≡ true → GrewBy (Wrote bytes) old new
+    → PrintsOn goes_on bytes true old new
 prints_whole true bytes old new e h = h
 prints_whole false bytes old new e h = absurd cc
 
-pub prints_front : (goes_on : Bool) (bytes : List ℕ) (count : ℕ) (old new : History) → goes_on ≡ true → GrewBy (WroteFront bytes count) old new → PrintsOn goes_on bytes false old new
+pub prints_front : (goes_on : Bool) (bytes : List ℕ) (count : ℕ) (old new : History) → goes_on ≡ true
+    → GrewBy (WroteFront bytes count) old new → PrintsOn goes_on bytes false old new
 prints_front true bytes count old new e h = (count, h)
 prints_front false bytes count old new e h = absurd cc
 
@@ -26,10 +28,12 @@ prints_nothing false h = refl
 
 -- ---- the next part
 
-front_of_more : (a b : List ℕ) (count : ℕ) (old new : History) → GrewBy (WroteFront a count) old new → GrewBy (WroteFront (a ++ b) count) old new
+front_of_more : (a b : List ℕ) (count : ℕ) (old new : History) → GrewBy (WroteFront a count) old new
+    → GrewBy (WroteFront (a ++ b) count) old new
 front_of_more a b count old new = grew_as (WroteFront a count) (WroteFront (a ++ b) count) old new (λ events h. front_before a b count events h)
 
-pub prints_next : (p q r : Bool) (a b : List ℕ) (old mid new : History) → PrintsOn p a q old mid → PrintsOn q b r mid new → PrintsOn p (a ++ b) r old new
+pub prints_next : (p q r : Bool) (a b : List ℕ) (old mid new : History) → PrintsOn p a q old mid → PrintsOn q b r mid new
+    → PrintsOn p (a ++ b) r old new
 prints_next true true true a b old mid new h k = written_on old mid new a b h k
 prints_next true true false a b old mid new h k = (length a + k.0, cut_behind old mid new a b k.0 h k.1)
 prints_next true false true a b old mid new h k = absurd k

@@ -17,18 +17,21 @@ module _ (k : ErrorKind) (report report' faults faults' : History) where
   pub answer_memory : GrewBy (Printed out_of_memory_line) faults faults' → Answered k 5 report report faults faults'
   answer_memory h = record { report_events = []; fault_events = h.events; report_is = sym (append-nil report); faults_are = h.grew; answer = ran_out k h.events h.they_are }
 
-  pub answer_usage : (text : List ℕ) → is_want_of_memory k ≡ false → is_help k ≡ false → GrewBy (Printed text) faults faults' → Answered k 2 report report faults faults'
+  pub answer_usage : (text : List ℕ) → is_want_of_memory k ≡ false → is_help k ≡ false → GrewBy (Printed text) faults faults'
+      → Answered k 2 report report faults faults'
   answer_usage text m n h = record { report_events = []; fault_events = h.events; report_is = sym (append-nil report); faults_are = h.grew; answer = usage k text h.events m n h.they_are }
 
   pub answer_help : (text : List ℕ) → is_help k ≡ true → GrewBy (Wrote text) report report' → Answered k 0 report report' faults faults
   answer_help text n h = record { report_events = h.events; fault_events = []; report_is = h.grew; faults_are = sym (append-nil faults); answer = help k text h.events n h.they_are }
 
-  pub answer_cut : (text : List ℕ) (count : ℕ) → is_help k ≡ true → GrewBy (WroteFront text count) report report' → GrewBy (Printed (cause_line (codes "-") (cause.NotWritten count))) faults faults'
+  pub answer_cut : (text : List ℕ) (count : ℕ) → is_help k ≡ true → GrewBy (WroteFront text count) report report'
+      → GrewBy (Printed (cause_line (codes "-") (cause.NotWritten count))) faults faults'
       → Answered k 4 report report' faults faults'
   answer_cut text count n h f = record { report_events = h.events; fault_events = f.events; report_is = h.grew; faults_are = f.grew; answer = cut k text count h.events f.events n h.they_are f.they_are }
 
 -- an answer is a run, where the kind is one of those that clap has for the words
-pub run_of_answer : (words : List Text) (k : ErrorKind) (status : ℕ) (report faults : List Event) → (k ≡ kind.OutOfMemory) ⊎ AreRefused words k → Answer k status report faults → Run words status [] report faults
+pub run_of_answer : (words : List Text) (k : ErrorKind) (status : ℕ) (report faults : List Event)
+    → (k ≡ kind.OutOfMemory) ⊎ AreRefused words k → Answer k status report faults → Run words status [] report faults
 run_of_answer words k _ _ faults r (ran_out _ _ line) = nothing_begun words faults line
 run_of_answer words k _ _ faults (inr r) (usage _ text _ m n line) = misused words k text faults r n line
 run_of_answer words k _ _ faults (inl is) (usage _ text _ m n line) = let e : true ≡ false = sym (ap is_want_of_memory is) ∙ m in absurd cc

@@ -18,7 +18,8 @@ use Rattle.jls_program.specs.Runs.{CameOf, Run, came_of, nothing_asked, Ran}
 use Rattle.jls_program.proofs.RefusedWords.{run_of_answer}
 
 -- what was done with the desk alone
-pub desk_alone : (A : List Event → Type 0) (desk desk' report : History) → GrewBy A desk desk' → GrewBoth (λ events reported. A events × (reported ≡ [])) desk desk' report report
+pub desk_alone : (A : List Event → Type 0) (desk desk' report : History) → GrewBy A desk desk'
+    → GrewBoth (λ events reported. A events × (reported ≡ [])) desk desk' report report
 desk_alone A desk desk' report h = record {
   desk_events = h.events;
   report_events = [];
@@ -28,7 +29,8 @@ desk_alone A desk desk' report h = record {
 }
 
 module _ (words : List Text) (desk desk' report report' faults faults' : History) where
-  pub ran_refused : (k : ErrorKind) (status : ℕ) → (k ≡ kind.OutOfMemory) ⊎ AreRefused words k → Answered k status report report' faults faults'
+  pub ran_refused : (k : ErrorKind) (status : ℕ) → (k ≡ kind.OutOfMemory) ⊎ AreRefused words k
+      → Answered k status report report' faults faults'
       → Ran words status desk desk report report' faults faults'
   ran_refused k status r a = record {
     desk_events = [];
@@ -55,7 +57,8 @@ module _ (words : List Text) (desk desk' report report' faults faults' : History
         (came_of words asked outcome h.desk_events h.report_events line.events reads h.they_are line.they_are);
   }
 
-  pub ran_nothing : AskForNothing words → GrewBy (Printed unknown_value_line) faults faults' → Ran words 2 desk desk report report faults faults'
+  pub ran_nothing : AskForNothing words → GrewBy (Printed unknown_value_line) faults faults'
+      → Ran words 2 desk desk report report faults faults'
   ran_nothing asks line = record {
     desk_events = [];
     report_events = [];

@@ -73,7 +73,8 @@ all_reads E fed (took bytes ∷ more) h = absurd h
 all_reads E fed (write_failed ∷ more) h = absurd h
 
 module _ (E : List ℕ → Type 0) where
-  last_failed : (bytes : List ℕ) (on last : List Event) (stop : ReadStop) → StopsWith E bytes last stop → (stop ≡ Whole → ⊥) → GoesOn E [] on
+  last_failed : (bytes : List ℕ) (on last : List Event) (stop : ReadStop) → StopsWith E bytes last stop → (stop ≡ Whole → ⊥)
+      → GoesOn E [] on
       → (stop ≡ Turns → length (on ++ last) ≡ 4294967295) → HadFailure (on ++ last)
   last_failed bytes on [] Whole h not g all = absurd (not refl)
   last_failed bytes on [] Turns h not g all =
@@ -100,7 +101,8 @@ module _ (E : List ℕ → Type 0) where
       failed_as reads (h.on ++ h.last) h.reads_are
       (last_failed bytes h.on h.last stop h.stops not h.goes_on (λ e. ap length (sym h.reads_are) ∙ h.used_up e))
 
-refused_failed : (bytes : List ℕ) (stop : ReadStop) (f : InputFault) (reads : List Event) → IsRead IsEnough reads bytes stop → IsRefused bytes stop f
+refused_failed : (bytes : List ℕ) (stop : ReadStop) (f : InputFault) (reads : List Event) → IsRead IsEnough reads bytes stop
+    → IsRefused bytes stop f
     → exit_status_of_cause (cause.Input f) ≡ 4 → HadFailure reads
 refused_failed bytes _ _ reads is (no_text _ f t wrong) e = absurd (omega (arith, e))
 refused_failed bytes stop _ reads is (text_not_read _ _ t not) e = read_in_part IsEnough reads bytes stop is not
@@ -111,14 +113,16 @@ reads_failed : (f : InputFault) (reads : List Event) → ReadsRefuse f reads →
 reads_failed f reads (for_fault _ bytes stop _ is h) e = refused_failed bytes stop f reads is h e
 reads_failed _ reads (for_memory _ h) e = absurd (omega (arith, e))
 
-failed_at_input : (source : Option ℕ) (before : List Given) (name : List ℕ) (c : Cause) (events : List Event) → StopsAt source before name c events
+failed_at_input : (source : Option ℕ) (before : List Given) (name : List ℕ) (c : Cause) (events : List Event)
+    → StopsAt source before name c events
     → exit_status_of_cause c ≡ 4 → HadFailure events
 failed_at_input source before name _ _ (not_there _ _ _) e = inl refl
 failed_at_input source before name _ _ (refused _ _ _ f reads h) e = failed_right (opened name ∷ []) reads (reads_failed f reads h e)
 failed_at_input source before name _ _ (other_shape _ _ _ g events h other) e = absurd (omega (arith, e))
 failed_at_input source before name _ _ (no_memory _ _ _ g events h other) e = absurd (omega (arith, e))
 
-taken_in_part : (source : Option ℕ) (name : List ℕ) (g : Given) (events : List Event) → IsTaken source name g events → (g.stop ≡ Whole → ⊥) → HadFailure events
+taken_in_part : (source : Option ℕ) (name : List ℕ) (g : Given) (events : List Event) → IsTaken source name g events → (g.stop ≡ Whole → ⊥)
+    → HadFailure events
 taken_in_part source name g events h not =
     failed_as events (opened name ∷ h.reads) h.events_are
     (failed_right (opened name ∷ []) h.reads (read_in_part IsEnough h.reads h.give.bytes g.stop h.give.is_read not))
@@ -129,7 +133,8 @@ whole_or_not Failed = inr (λ e. absurd cc)
 whole_or_not Turns = inr (λ e. absurd cc)
 
 -- one of some inputs was not read whole
-failed_in_turn : (source : Option ℕ) (names : List (List ℕ)) (givens : List Given) (events : List Event) → TakesInTurn source names givens events
+failed_in_turn : (source : Option ℕ) (names : List (List ℕ)) (givens : List Given) (events : List Event)
+    → TakesInTurn source names givens events
     → (All (λ g. g.stop ≡ Whole) givens → ⊥) → HadFailure events
 failed_in_turn source [] [] events h not = absurd (not (All-nil (λ (g : Given). g.stop ≡ Whole)))
 failed_in_turn source [] (g ∷ givens) events h not = absurd h
@@ -159,7 +164,8 @@ not_whole settled false e is = cc
 not_whole true true e is = absurd (omega (arith, e))
 not_whole false true e is = absurd (omega (arith, e))
 
-join_failed : (source : Option ℕ) (out : List ℕ) (names : List (List ℕ)) (outcome : Outcome) (events : List Event) → Joins source out names outcome events
+join_failed : (source : Option ℕ) (out : List ℕ) (names : List (List ℕ)) (outcome : Outcome) (events : List Event)
+    → Joins source out names outcome events
     → exit_status outcome ≡ 4 → HadFailure events
 join_failed source out names _ events (joining.done _ _ _ p settled whole _ h) e =
     failed_as events (h.reading ++ h.writing) h.events_are
@@ -170,7 +176,8 @@ join_failed source out names _ events (joining.no_memory _ _ _ r p whole _ named
     let k : exit_status_of_cause r.cause ≡ 5 = ap exit_status_of_cause is in absurd (omega (arith, k, e))
 join_failed source out names _ _ (joining.at_output _ _ _ r p whole reading written named h stops) e = failed_right reading written (failed_at_output out _ r.cause written stops)
 
-tell_failed : (traced : Bool) (name : List ℕ) (outcome : Outcome) (events reported : List Event) → Tells (lines traced) name outcome events reported
+tell_failed : (traced : Bool) (name : List ℕ) (outcome : Outcome) (events reported : List Event)
+    → Tells (lines traced) name outcome events reported
     → exit_status outcome ≡ 4 → HadFailure events ⊎ HadFailure reported
 tell_failed traced name _ events reported (telling.done _ g settled whole _ _ taken says wrote) e =
     inl (taken_in_part None name g events taken (λ is. not_whole settled whole e (says.whole_is.1 is)))
@@ -185,7 +192,8 @@ file_failed F takes name bytes _ _ (writing.too_large _ _ never) e = absurd (ome
 file_failed F takes name bytes c _ (writing.at_output _ _ _ events fit h) e = failed_at_output name bytes c events h
 file_failed F takes name bytes _ _ (writing.no_memory _ _ count writes fit is lt h) e = absurd (omega (arith, e))
 
-write_failed_so : (format : Format) (out name : List ℕ) (outcome : Outcome) (events : List Event) → WritesFile format out name outcome events
+write_failed_so : (format : Format) (out name : List ℕ) (outcome : Outcome) (events : List Event)
+    → WritesFile format out name outcome events
     → exit_status outcome ≡ 4 → HadFailure events
 write_failed_so format out name _ _ (writing.done _ _ _ g whole reading written taken settled says fit handed) e =
     failed_left reading written (taken_in_part None name g reading taken (λ is. not_whole true whole e (says.whole_is.1 is)))
@@ -195,14 +203,16 @@ write_failed_so format out name _ events (writing.unsettled _ _ _ r g f _ named 
 write_failed_so format out name _ _ (writing.at_file _ _ _ r g reading written named taken settled stops) e =
     failed_right reading written (file_failed _ _ out _ r.cause written stops e)
 
-came_failed : (asked : Asked) (outcome : Outcome) (desk report : List Event) → CameOf asked outcome desk report → exit_status outcome ≡ 4 → HadFailure desk ⊎ HadFailure report
+came_failed : (asked : Asked) (outcome : Outcome) (desk report : List Event) → CameOf asked outcome desk report → exit_status outcome ≡ 4
+    → HadFailure desk ⊎ HadFailure report
 came_failed (check name) outcome desk report h e = tell_failed true name outcome desk report h e
 came_failed (join source out names) outcome desk report h e = inl (join_failed source out names outcome desk h.0 e)
 came_failed (show name) outcome desk report h e = tell_failed false name outcome desk report h e
 came_failed (write_pnm out name) outcome desk report h e = inl (write_failed_so Pnm out name outcome desk h.0 e)
 came_failed (write_jls line ri out name) outcome desk report h e = inl (write_failed_so (Jls line ri) out name outcome desk h.0 e)
 
-run_failed : (words : List (List ℕ)) (status : ℕ) (desk report faults : List Event) → Run words status desk report faults → status ≡ 4 → HadFailure desk ⊎ HadFailure report
+run_failed : (words : List (List ℕ)) (status : ℕ) (desk report faults : List Event) → Run words status desk report faults → status ≡ 4
+    → HadFailure desk ⊎ HadFailure report
 run_failed words _ desk report faults (came_of _ asked outcome _ _ _ reads came line) e = came_failed asked outcome desk report came e
 run_failed words _ _ _ faults (misused _ kind usage _ r n line) e = absurd (omega (arith, e))
 run_failed words _ _ report _ (helped _ kind help _ r n wrote) e = absurd (omega (arith, e))
@@ -255,16 +265,19 @@ none_refused f reads (for_fault _ bytes stop _ is h) = none_read IsEnough reads 
 none_refused _ reads (for_memory _ (between_reads _ is)) = none_on IsEnough [] reads is.0
 none_refused _ reads (for_memory _ (behind_the_last bytes stop _ is t)) = none_read IsEnough reads bytes stop is
 
-none_taken : (source : Option ℕ) (name : List ℕ) (g : Given) (events : List Event) → IsTaken source name g events → list_any is_creation events ≡ false
+none_taken : (source : Option ℕ) (name : List ℕ) (g : Given) (events : List Event) → IsTaken source name g events
+    → list_any is_creation events ≡ false
 none_taken source name g events h = none_as events (opened name ∷ h.reads) h.events_are (none_read IsEnough h.reads h.give.bytes g.stop h.give.is_read)
 
-none_at_input : (source : Option ℕ) (before : List Given) (name : List ℕ) (c : Cause) (events : List Event) → StopsAt source before name c events → list_any is_creation events ≡ false
+none_at_input : (source : Option ℕ) (before : List Given) (name : List ℕ) (c : Cause) (events : List Event)
+    → StopsAt source before name c events → list_any is_creation events ≡ false
 none_at_input source before name _ _ (not_there _ _ _) = refl
 none_at_input source before name _ _ (refused _ _ _ f reads h) = none_refused f reads h
 none_at_input source before name _ events (other_shape _ _ _ g _ h other) = none_taken source name g events h
 none_at_input source before name _ events (no_memory _ _ _ g _ h other) = none_taken source name g events h
 
-none_in_turn : (source : Option ℕ) (names : List (List ℕ)) (givens : List Given) (events : List Event) → TakesInTurn source names givens events → list_any is_creation events ≡ false
+none_in_turn : (source : Option ℕ) (names : List (List ℕ)) (givens : List Given) (events : List Event)
+    → TakesInTurn source names givens events → list_any is_creation events ≡ false
 none_in_turn source [] [] events h = none_as events [] h refl
 none_in_turn source [] (g ∷ givens) events h = absurd h
 none_in_turn source (name ∷ names) [] events h = absurd h
@@ -282,7 +295,8 @@ output_else : (name bytes : List ℕ) (c : Cause) (events : List Event) → Stop
 output_else name bytes _ _ (outputs.not_there _ _) le = absurd (omega (arith, le))
 output_else name bytes _ _ (outputs.cut _ _ count writes h) le = absurd (omega (arith, le))
 
-join_creates_none : (source : Option ℕ) (out : List ℕ) (names : List (List ℕ)) (outcome : Outcome) (events : List Event) → Joins source out names outcome events
+join_creates_none : (source : Option ℕ) (out : List ℕ) (names : List (List ℕ)) (outcome : Outcome) (events : List Event)
+    → Joins source out names outcome events
     → 2 ≤ exit_status outcome → exit_status outcome ≤ 3 → list_any is_creation events ≡ false
 join_creates_none source out names _ events (joining.done _ _ _ p settled whole _ h) ge le = absurd (done_else settled whole ge le)
 join_creates_none source out names _ events (joining.at_input _ _ _ r _ h) ge le =
@@ -291,7 +305,8 @@ join_creates_none source out names _ events (joining.at_input _ _ _ r _ h) ge le
 join_creates_none source out names _ events (joining.no_memory _ _ _ r p whole _ named is h) ge le = none_in_turn source names h.givens events h.taken.in_turn
 join_creates_none source out names _ _ (joining.at_output _ _ _ r p whole reading written named h stops) ge le = absurd (output_else out _ r.cause written stops le)
 
-tell_creates_none : (traced : Bool) (name : List ℕ) (outcome : Outcome) (events reported : List Event) → Tells (lines traced) name outcome events reported
+tell_creates_none : (traced : Bool) (name : List ℕ) (outcome : Outcome) (events reported : List Event)
+    → Tells (lines traced) name outcome events reported
     → 2 ≤ exit_status outcome → exit_status outcome ≤ 3 → (list_any is_creation events ≡ false) × (reported ≡ [])
 tell_creates_none traced name _ events reported (telling.done _ g settled whole _ _ taken says wrote) ge le = absurd (done_else settled whole ge le)
 tell_creates_none traced name _ events _ (telling.at_input _ r _ named h) ge le = (none_at_input None [] name r.cause events h, refl)
@@ -299,13 +314,15 @@ tell_creates_none traced name _ events _ (telling.no_memory _ r g _ named is tak
 tell_creates_none traced name _ events reported (telling.not_printed _ r g count _ _ named is taken wrote) ge le =
     let k : exit_status_of_cause r.cause ≡ 4 = ap exit_status_of_cause is in absurd (omega (arith, k, le))
 
-file_creates_none : (F : Type 0) (takes : Bool) (name bytes : List ℕ) (c : Cause) (events : List Event) → StopsAtFile F takes name bytes c events
+file_creates_none : (F : Type 0) (takes : Bool) (name bytes : List ℕ) (c : Cause) (events : List Event)
+    → StopsAtFile F takes name bytes c events
     → exit_status_of_cause c ≤ 3 → list_any is_creation events ≡ false
 file_creates_none F takes name bytes _ _ (writing.too_large _ _ never) le = refl
 file_creates_none F takes name bytes c _ (writing.at_output _ _ _ events fit h) le = absurd (output_else name bytes c events h le)
 file_creates_none F takes name bytes _ _ (writing.no_memory _ _ count writes fit is lt h) le = absurd (omega (arith, le))
 
-write_creates_none : (format : Format) (out name : List ℕ) (outcome : Outcome) (events : List Event) → WritesFile format out name outcome events
+write_creates_none : (format : Format) (out name : List ℕ) (outcome : Outcome) (events : List Event)
+    → WritesFile format out name outcome events
     → 2 ≤ exit_status outcome → exit_status outcome ≤ 3 → list_any is_creation events ≡ false
 write_creates_none format out name _ _ (writing.done _ _ _ g whole reading written taken settled says fit handed) ge le = absurd (done_else true whole ge le)
 write_creates_none format out name _ events (writing.at_input _ _ _ r _ named h) ge le = none_at_input None [] name r.cause events h
@@ -313,7 +330,8 @@ write_creates_none format out name _ events (writing.unsettled _ _ _ r g f _ nam
 write_creates_none format out name _ _ (writing.at_file _ _ _ r g reading written named taken settled stops) ge le =
     none_both reading written (none_taken None name g reading taken) (file_creates_none _ _ out _ r.cause written stops le)
 
-came_creates_none : (asked : Asked) (outcome : Outcome) (desk report : List Event) → CameOf asked outcome desk report → 2 ≤ exit_status outcome → exit_status outcome ≤ 3
+came_creates_none : (asked : Asked) (outcome : Outcome) (desk report : List Event) → CameOf asked outcome desk report
+    → 2 ≤ exit_status outcome → exit_status outcome ≤ 3
     → (list_any is_creation desk ≡ false) × (report ≡ [])
 came_creates_none (check name) outcome desk report h ge le = tell_creates_none true name outcome desk report h ge le
 came_creates_none (join source out names) outcome desk report h ge le = (join_creates_none source out names outcome desk h.0 ge le, h.1)
@@ -321,7 +339,8 @@ came_creates_none (show name) outcome desk report h ge le = tell_creates_none fa
 came_creates_none (write_pnm out name) outcome desk report h ge le = (write_creates_none Pnm out name outcome desk h.0 ge le, h.1)
 came_creates_none (write_jls line ri out name) outcome desk report h ge le = (write_creates_none (Jls line ri) out name outcome desk h.0 ge le, h.1)
 
-run_creates_none : (words : List (List ℕ)) (status : ℕ) (desk report faults : List Event) → Run words status desk report faults → 2 ≤ status → status ≤ 3
+run_creates_none : (words : List (List ℕ)) (status : ℕ) (desk report faults : List Event) → Run words status desk report faults → 2 ≤ status
+    → status ≤ 3
     → (list_any is_creation desk ≡ false) × (report ≡ [])
 run_creates_none words _ desk report faults (came_of _ asked outcome _ _ _ reads came line) ge le = came_creates_none asked outcome desk report came ge le
 run_creates_none words _ _ _ faults (misused _ kind usage _ r n line) ge le = (refl, refl)
@@ -356,7 +375,8 @@ memory_line (Done true true) e = absurd (omega (arith, e))
 memory_line (Done false true) e = absurd (omega (arith, e))
 memory_line (Refused r) e = line_of_memory r.name.now r.cause e
 
-run_out_of_memory : (words : List (List ℕ)) (status : ℕ) (desk report faults : List Event) → Run words status desk report faults → status ≡ 5 → Printed out_of_memory_line faults
+run_out_of_memory : (words : List (List ℕ)) (status : ℕ) (desk report faults : List Event) → Run words status desk report faults
+    → status ≡ 5 → Printed out_of_memory_line faults
 run_out_of_memory words _ desk report faults (came_of _ asked outcome _ _ _ reads came line) e = subst (λ (l : List ℕ). Printed l faults) (memory_line outcome e) line
 run_out_of_memory words _ _ _ faults (misused _ kind usage _ r n line) e = absurd (omega (arith, e))
 run_out_of_memory words _ _ report _ (helped _ kind help _ r n wrote) e = absurd (omega (arith, e))

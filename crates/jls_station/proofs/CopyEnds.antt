@@ -48,7 +48,8 @@ module _ (source : Option ℕ) (first : List ℕ) (stop : ReadStop) (old new : H
       (given_so old new bytes stop (read_as_input bytes stop old new copied k) source (given_by_copy source bytes h.0 stop) refl (by_copy source bytes h.0 stop copied h.1))
 
   -- a copy without a frame
-  pub copy_refused : (reader : Option (List ℕ)) (f : CopyFault) (count : ℕ) (answer : InputFault) → IsSomeAnd reader (λ bytes. is_text bytes ≡ is_text first)
+  pub copy_refused : (reader : Option (List ℕ)) (f : CopyFault) (count : ℕ) (answer : InputFault)
+      → IsSomeAnd reader (λ bytes. is_text bytes ≡ is_text first)
       → IsSomeAnd reader (λ bytes. GrewBy (λ reads. IsRead IsCopyDone reads bytes stop) old new) → IfSome reader (λ bytes. CopyGivesNone bytes f)
       → IfSome reader (λ bytes. count ≡ length bytes) → answer ≡ input_fault_of_copy f stop count → GrewBy (ReadsRefuse answer) old new
   copy_refused None f count answer b k h n is = absurd b

@@ -28,7 +28,8 @@ pub of_reader : (Q : List ℕ → Type 0) (reader : Option (List ℕ)) (bytes : 
 of_reader Q reader bytes is h = subst (λ (o : Option (List ℕ)). IsSomeAnd o Q) (sym is) h
 
 -- more bytes are wanted
-pub goes_on : (enough : Bool) (reader : Option (List ℕ)) (bytes : List ℕ) → reader ≡ Some bytes → IfSome reader (λ b. IsTrue enough ↔ IsCopyDone b) → enough ≡ false → IsCopyDone bytes → ⊥
+pub goes_on : (enough : Bool) (reader : Option (List ℕ)) (bytes : List ℕ) → reader ≡ Some bytes
+    → IfSome reader (λ b. IsTrue enough ↔ IsCopyDone b) → enough ≡ false → IsCopyDone bytes → ⊥
 goes_on enough reader bytes is h no_more done = false≢true (sym no_more ∙ (about (λ b. IsTrue enough ↔ IsCopyDone b) reader bytes is h).1 done)
 
 -- one read more, which gave some bytes

@@ -22,7 +22,8 @@ use Rattle.jls_station.specs.declared.outcome.Refusal.{Refusal}
 -- ---- one input
 
 -- an event, and then others
-pub grew_behind : (A B : List Event → Type 0) (old mid new : History) (e : Event) → ((events : List Event) → A events → B (e ∷ events)) → mid ≡ old ++ e ∷ [] → GrewBy A mid new → GrewBy B old new
+pub grew_behind : (A B : List Event → Type 0) (old mid new : History) (e : Event) → ((events : List Event) → A events → B (e ∷ events))
+    → mid ≡ old ++ e ∷ [] → GrewBy A mid new → GrewBy B old new
 grew_behind A B old mid new e see d h = record {
   events = e ∷ h.events;
   grew = grew_twice old mid new (e ∷ []) h.events d h.grew;
@@ -30,19 +31,23 @@ grew_behind A B old mid new e see d h = record {
 }
 
 module _ (source : Option ℕ) (old mid new : History) (name : List ℕ) where
-  pub opened_and_given : (g : Given) → mid ≡ old ++ opened name ∷ [] → GrewBy (ReadsGive source g) mid new → GrewBy (IsTaken source name g) old new
+  pub opened_and_given : (g : Given) → mid ≡ old ++ opened name ∷ [] → GrewBy (ReadsGive source g) mid new
+      → GrewBy (IsTaken source name g) old new
   opened_and_given g = grew_behind (ReadsGive source g) (IsTaken source name g) old mid new (opened name) (λ reads h. record { reads = reads; events_are = refl; give = h })
 
-  pub opened_and_refused : (f : InputFault) (before : List Given) → mid ≡ old ++ opened name ∷ [] → GrewBy (ReadsRefuse f) mid new → GrewBy (StopsAt source before name (cause.Input f)) old new
+  pub opened_and_refused : (f : InputFault) (before : List Given) → mid ≡ old ++ opened name ∷ [] → GrewBy (ReadsRefuse f) mid new
+      → GrewBy (StopsAt source before name (cause.Input f)) old new
   opened_and_refused f before = grew_behind (ReadsRefuse f) (StopsAt source before name (cause.Input f)) old mid new (opened name) (λ reads h. refused source before name f reads h)
 
-  pub not_opened_at_all : (before : List Given) → new ≡ old ++ not_opened name ∷ [] → GrewBy (StopsAt source before name cause.NotOpened) old new
+  pub not_opened_at_all : (before : List Given) → new ≡ old ++ not_opened name ∷ []
+      → GrewBy (StopsAt source before name cause.NotOpened) old new
   not_opened_at_all before e = record { events = not_opened name ∷ []; grew = e; they_are = not_there source before name }
 
 -- ---- unions
 
 -- the union of some and one more
-join_one_more : (p : PartialPicture) (ps : List PartialPicture) (q : PartialPicture) → join_all union p (ps ++ q ∷ []) ≡ union (join_all union p ps) q
+join_one_more : (p : PartialPicture) (ps : List PartialPicture) (q : PartialPicture)
+    → join_all union p (ps ++ q ∷ []) ≡ union (join_all union p ps) q
 join_one_more p [] q = refl
 join_one_more p (x ∷ xs) q = join_one_more (union p x) xs q
 
@@ -56,22 +61,27 @@ union_of_more [] joined q h = absurd h
 union_of_more (p ∷ ps) joined q h = ap (λ (x : PartialPicture). union x q) h ∙ sym (join_one_more p ps q)
 
 -- what has the shape of the union has that of the first
-shape_of_union : (p : PartialPicture) (ps : List PartialPicture) (joined q : PartialPicture) → IsUnionOf (p ∷ ps) joined → has_same_shape joined q ≡ has_same_shape p q
+shape_of_union : (p : PartialPicture) (ps : List PartialPicture) (joined q : PartialPicture) → IsUnionOf (p ∷ ps) joined
+    → has_same_shape joined q ≡ has_same_shape p q
 shape_of_union p ps joined q h = ap (λ (s : PictureShape). same_shape s q.shape) (ap (λ (x : PartialPicture). x.shape) h ∙ shape_of_join p ps)
 
-shapes_one_more : (p : PartialPicture) (ps : List PartialPicture) (q : PartialPicture) → AllOfShape has_same_shape p ps → has_same_shape p q ≡ true → AllOfShape has_same_shape p (ps ++ q ∷ [])
+shapes_one_more : (p : PartialPicture) (ps : List PartialPicture) (q : PartialPicture) → AllOfShape has_same_shape p ps
+    → has_same_shape p q ≡ true → AllOfShape has_same_shape p (ps ++ q ∷ [])
 shapes_one_more p [] q h e = (e, tt)
 shapes_one_more p (x ∷ xs) q h e = (h.0, shapes_one_more p xs q h.1 e)
 
-one_shape_more : (ps : List PartialPicture) (joined q : PartialPicture) → IsUnionOf ps joined → AreOfOneShape ps → has_same_shape joined q ≡ true → AreOfOneShape (ps ++ q ∷ [])
+one_shape_more : (ps : List PartialPicture) (joined q : PartialPicture) → IsUnionOf ps joined → AreOfOneShape ps
+    → has_same_shape joined q ≡ true → AreOfOneShape (ps ++ q ∷ [])
 one_shape_more [] joined q u h e = absurd u
 one_shape_more (p ∷ ps) joined q u h e = shapes_one_more p ps q h (sym (shape_of_union p ps joined q u) ∙ e)
 
-other_shape_than_union : (ps : List PartialPicture) (joined q : PartialPicture) → IsUnionOf ps joined → has_same_shape joined q ≡ false → IsOfOtherShape ps q
+other_shape_than_union : (ps : List PartialPicture) (joined q : PartialPicture) → IsUnionOf ps joined → has_same_shape joined q ≡ false
+    → IsOfOtherShape ps q
 other_shape_than_union [] joined q u e = absurd u
 other_shape_than_union (p ∷ ps) joined q u e = sym (shape_of_union p ps joined q u) ∙ e
 
-same_shape_as_union : (ps : List PartialPicture) (joined q : PartialPicture) → IsUnionOf ps joined → (has_same_shape joined q ≡ false → ⊥) → IsOfOtherShape ps q → ⊥
+same_shape_as_union : (ps : List PartialPicture) (joined q : PartialPicture) → IsUnionOf ps joined → (has_same_shape joined q ≡ false → ⊥)
+    → IsOfOtherShape ps q → ⊥
 same_shape_as_union [] joined q u same other = other
 same_shape_as_union (p ∷ ps) joined q u same other = same (shape_of_union p ps joined q u ∙ other)
 
@@ -100,7 +110,8 @@ in_turn_more source (n ∷ names) (x ∷ givens) a b name g h t =
     (h.0, h.1 ++ b, ap (λ (y : List Event). y ++ b) h.2 ∙ append_assoc h.0 h.1 b, h.3, in_turn_more source names givens h.1 b name g h.4 t)
 
 -- whether one more was read whole too
-whole_one_more : (givens : List Given) (g : Given) (whole also both : Bool) → IsTrue whole ↔ All (λ x. x.stop ≡ Whole) givens → IsTrue also ↔ (g.stop ≡ Whole)
+whole_one_more : (givens : List Given) (g : Given) (whole also both : Bool) → IsTrue whole ↔ All (λ x. x.stop ≡ Whole) givens
+    → IsTrue also ↔ (g.stop ≡ Whole)
     → both ≡ (whole && also) → IsTrue both ↔ All (λ x. x.stop ≡ Whole) (givens ++ g ∷ [])
 whole_one_more givens g whole also both h k is = (
   λ t. let parts = and_parts whole also (sym is ∙ t) in
@@ -118,7 +129,8 @@ module _ (source : Option ℕ) (names : List (List ℕ)) (name : List ℕ) (g : 
     whole_is = whole_one_more [] g true also also (λ _. All-nil (λ (x : Given). x.stop ≡ Whole), λ _. refl) also_is refl;
   }
 
-  next_taken : (joined : PartialPicture) (whole both : Bool) → both ≡ (whole && also) → has_same_shape joined g.partial ≡ true → (a b : List Event)
+  next_taken : (joined : PartialPicture) (whole both : Bool) → both ≡ (whole && also) → has_same_shape joined g.partial ≡ true
+      → (a b : List Event)
       → TakesUnion source names joined whole a → IsTaken source name g b → TakesUnion source (names ++ name ∷ []) (union joined g.partial) both (a ++ b)
   next_taken joined whole both is e a b h t =
       let more : partials (h.givens ++ g ∷ []) ≡ partials h.givens ++ g.partial ∷ [] = map-append (λ (x : Given). x.partial) h.givens (g ∷ []) in
@@ -132,7 +144,8 @@ module _ (source : Option ℕ) (names : List (List ℕ)) (name : List ℕ) (g : 
         whole_is = whole_one_more h.givens g whole also both h.whole_is also_is is;
       }
 
-pub union_of_first : (source : Option ℕ) (old new : History) (name : List ℕ) (g : Given) (also : Bool) (held : PartialPicture) → IsTrue also ↔ (g.stop ≡ Whole) → held ≡ g.partial
+pub union_of_first : (source : Option ℕ) (old new : History) (name : List ℕ) (g : Given) (also : Bool) (held : PartialPicture)
+    → IsTrue also ↔ (g.stop ≡ Whole) → held ≡ g.partial
     → GrewBy (IsTaken source name g) old new → GrewBy (TakesUnion source (name ∷ []) held also) old new
 union_of_first source old new name g also held w is h = record {
   events = h.events;
@@ -141,7 +154,8 @@ union_of_first source old new name g also held w is h = record {
 }
 
 module _ (source : Option ℕ) (old mid new : History) (names : List (List ℕ)) (joined : PartialPicture) (whole : Bool) (taken : GrewBy (TakesUnion source names joined whole) old mid) where
-  pub union_of_next : (name : List ℕ) (g : Given) (also both : Bool) (new_union : PartialPicture) → IsTrue also ↔ (g.stop ≡ Whole) → both ≡ (whole && also)
+  pub union_of_next : (name : List ℕ) (g : Given) (also both : Bool) (new_union : PartialPicture) → IsTrue also ↔ (g.stop ≡ Whole)
+      → both ≡ (whole && also)
       → GrewBy (IsTaken source name g) mid new → has_same_shape joined g.partial ≡ true → new_union ≡ union joined g.partial
       → GrewBy (TakesUnion source (names ++ name ∷ []) new_union both) old new
   union_of_next name g also both new_union w b h e is = record {
@@ -152,7 +166,8 @@ module _ (source : Option ℕ) (old mid new : History) (names : List (List ℕ))
   }
 
   module _ (all after : List (List ℕ)) (r : Refusal) (among : all ≡ names ++ r.name.now ∷ after) where
-    stops_there : (last : List Event) → new ≡ mid ++ last → StopsAt source taken.they_are.givens r.name.now r.cause last → GrewBy (StopsAtInput source all r) old new
+    stops_there : (last : List Event) → new ≡ mid ++ last → StopsAt source taken.they_are.givens r.name.now r.cause last
+        → GrewBy (StopsAtInput source all r) old new
     stops_there last e s = record {
       events = taken.events ++ last;
       grew = grew_twice old mid new taken.events last taken.grew e;
@@ -169,10 +184,12 @@ module _ (source : Option ℕ) (old mid new : History) (names : List (List ℕ))
       };
     }
 
-    pub stops_next : ((before : List Given) → GrewBy (StopsAt source before r.name.now r.cause) mid new) → GrewBy (StopsAtInput source all r) old new
+    pub stops_next : ((before : List Given) → GrewBy (StopsAt source before r.name.now r.cause) mid new)
+        → GrewBy (StopsAtInput source all r) old new
     stops_next h = let s = h taken.they_are.givens in stops_there s.events s.grew s.they_are
 
-    pub differs_next : (g : Given) → r.cause ≡ cause.ShapeDiffers → GrewBy (IsTaken source r.name.now g) mid new → has_same_shape joined g.partial ≡ false
+    pub differs_next : (g : Given) → r.cause ≡ cause.ShapeDiffers → GrewBy (IsTaken source r.name.now g) mid new
+        → has_same_shape joined g.partial ≡ false
         → GrewBy (StopsAtInput source all r) old new
     differs_next g is h e =
         stops_there h.events h.grew
@@ -180,7 +197,8 @@ module _ (source : Option ℕ) (old mid new : History) (names : List (List ℕ))
         (other_shape source taken.they_are.givens r.name.now g h.events h.they_are
         (other_shape_than_union (partials taken.they_are.givens) joined g.partial taken.they_are.union_is e)))
 
-    pub ran_out_next : (g : Given) → r.cause ≡ cause.OutOfMemory → GrewBy (IsTaken source r.name.now g) mid new → (has_same_shape joined g.partial ≡ false → ⊥)
+    pub ran_out_next : (g : Given) → r.cause ≡ cause.OutOfMemory → GrewBy (IsTaken source r.name.now g) mid new
+        → (has_same_shape joined g.partial ≡ false → ⊥)
         → GrewBy (StopsAtInput source all r) old new
     ran_out_next g is h same =
         stops_there h.events h.grew
@@ -189,7 +207,8 @@ module _ (source : Option ℕ) (old mid new : History) (names : List (List ℕ))
         (same_shape_as_union (partials taken.they_are.givens) joined g.partial taken.they_are.union_is same)))
 
 -- the first input stops the command
-pub stops_first : (source : Option ℕ) (old new : History) (others : List (List ℕ)) (r : Refusal) → ((before : List Given) → GrewBy (StopsAt source before r.name.now r.cause) old new)
+pub stops_first : (source : Option ℕ) (old new : History) (others : List (List ℕ)) (r : Refusal)
+    → ((before : List Given) → GrewBy (StopsAt source before r.name.now r.cause) old new)
     → GrewBy (StopsAtInput source (r.name.now ∷ others) r) old new
 stops_first source old new others r h =
     let s = h [] in
@@ -212,10 +231,12 @@ stops_first source old new others r h =
 -- ---- names
 
 module _ {X : Type 0} (name_of : X → List ℕ) where
-  pub names_one_more : (xs : List X) (i : ℕ) (d : X) → i < length xs → map name_of (take (i + 1) xs) ≡ map name_of (take i xs) ++ name_of (get_or xs i d) ∷ []
+  pub names_one_more : (xs : List X) (i : ℕ) (d : X) → i < length xs
+      → map name_of (take (i + 1) xs) ≡ map name_of (take i xs) ++ name_of (get_or xs i d) ∷ []
   names_one_more xs i d lt = ap (map name_of) (take_more xs i d lt) ∙ map-append name_of (take i xs) (get_or xs i d ∷ [])
 
-  pub names_split : (xs : List X) (i : ℕ) (d : X) → i < length xs → map name_of xs ≡ map name_of (take i xs) ++ name_of (get_or xs i d) ∷ map name_of (drop (i + 1) xs)
+  pub names_split : (xs : List X) (i : ℕ) (d : X) → i < length xs
+      → map name_of xs ≡ map name_of (take i xs) ++ name_of (get_or xs i d) ∷ map name_of (drop (i + 1) xs)
   names_split xs i d lt =
       ap (map name_of) (sym (take-append-drop i xs)) ∙ (map-append name_of (take i xs) (drop i xs)
       ∙ ap (λ (ys : List X). map name_of (take i xs) ++ map name_of ys) (drop_more xs i d lt))

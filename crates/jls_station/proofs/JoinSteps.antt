@@ -24,7 +24,8 @@ module _ (old mid new : History) (name bytes : List ℕ) where
   pub created_and_written : mid ≡ old ++ created name ∷ [] → GrewBy (Wrote bytes) mid new → GrewBy (HandsOut name bytes) old new
   created_and_written = grew_behind (Wrote bytes) (HandsOut name bytes) old mid new (created name) (λ writes h. record { writes = writes; events_are = refl; wrote = h })
 
-  pub created_and_cut : (count : ℕ) → mid ≡ old ++ created name ∷ [] → GrewBy (WroteFront bytes count) mid new → GrewBy (StopsAtOutput name bytes (cause.NotWritten count)) old new
+  pub created_and_cut : (count : ℕ) → mid ≡ old ++ created name ∷ [] → GrewBy (WroteFront bytes count) mid new
+      → GrewBy (StopsAtOutput name bytes (cause.NotWritten count)) old new
   created_and_cut count = grew_behind (WroteFront bytes count) (StopsAtOutput name bytes (cause.NotWritten count)) old mid new (created name) (λ writes h. cut name bytes count writes h)
 
 -- ---- the whole
@@ -34,10 +35,12 @@ module _ (source : Option ℕ) (out : List ℕ) (names : List (List ℕ)) (old m
   ends_at_input r = grew_as (StopsAtInput source names r) (Joins source out names (Refused r)) old mid (λ events h. at_input source out names r events h)
 
   module _ (joined : PartialPicture) (whole : Bool) (taken : GrewBy (TakesUnion source names joined whole) old mid) where
-    pub ends_for_memory : (r : Refusal) → r.name.now ≡ out → r.cause ≡ cause.OutOfMemory → GrewBy (Joins source out names (Refused r)) old mid
+    pub ends_for_memory : (r : Refusal) → r.name.now ≡ out → r.cause ≡ cause.OutOfMemory
+        → GrewBy (Joins source out names (Refused r)) old mid
     ends_for_memory r named is = grew_as (TakesUnion source names joined whole) (Joins source out names (Refused r)) old mid (λ events h. no_memory source out names r joined whole events named is h) taken
 
-    pub is_done : (settled : Bool) (written : List ℕ) → written ≡ text joined → (IsTrue settled ↔ IsSettled joined) → GrewBy (HandsOut out written) mid new
+    pub is_done : (settled : Bool) (written : List ℕ) → written ≡ text joined → (IsTrue settled ↔ IsSettled joined)
+        → GrewBy (HandsOut out written) mid new
         → GrewBy (Joins source out names (Done settled whole)) old new
     is_done settled written is s h =
         grew_on (TakesUnion source names joined whole) (HandsOut out written) (Joins source out names (Done settled whole)) old mid new
@@ -50,7 +53,8 @@ module _ (source : Option ℕ) (out : List ℕ) (names : List (List ℕ)) (old m
           settled_is = s;
         })) taken h
 
-    pub ends_at_output : (r : Refusal) (written : List ℕ) → r.name.now ≡ out → written ≡ text joined → GrewBy (StopsAtOutput out written r.cause) mid new
+    pub ends_at_output : (r : Refusal) (written : List ℕ) → r.name.now ≡ out → written ≡ text joined
+        → GrewBy (StopsAtOutput out written r.cause) mid new
         → GrewBy (Joins source out names (Refused r)) old new
     ends_at_output r written named is h =
         grew_on (TakesUnion source names joined whole) (StopsAtOutput out written r.cause) (Joins source out names (Refused r)) old mid new

@@ -72,7 +72,8 @@ module _ (E : List ℕ → Type 0) where
   goes_on_more fed (write_failed ∷ reads) room bytes h fits some not = absurd h
 
   -- all reads, the last of which gave nothing, or failed, or was not made
-  read_with : (count : ℕ) (bytes : List ℕ) (on last : List Event) (stop : ReadStop) → ReadSoFar E count bytes on → StopsWith E bytes last stop
+  read_with : (count : ℕ) (bytes : List ℕ) (on last : List Event) (stop : ReadStop) → ReadSoFar E count bytes on
+      → StopsWith E bytes last stop
       → count + length last ≤ 4294967295 → (stop ≡ Turns → count + length last ≡ 4294967295) → IsRead E (on ++ last) bytes stop
   read_with count bytes on last stop h s at_most used_up =
       let n = length-append on last in
@@ -92,7 +93,8 @@ module _ (E : List ℕ → Type 0) where
     pub nothing_read : GrewBy (ReadSoFar E 0 []) old old
     nothing_read = record { events = []; grew = sym (append-nil old); they_are = record { goes_on = tt; bytes_are = refl; are_bytes = tt; number = refl } }
 
-    pub one_read_more : (room : ℕ) (more : List ℕ) → GrewBy (ReadSoFar E count bytes) old mid → new ≡ mid ++ gave room more ∷ [] → (E bytes → ⊥) → room ≤ 4096
+    pub one_read_more : (room : ℕ) (more : List ℕ) → GrewBy (ReadSoFar E count bytes) old mid → new ≡ mid ++ gave room more ∷ []
+        → (E bytes → ⊥) → room ≤ 4096
         → 0 < length more → AreBytes more → GrewBy (ReadSoFar E (count + 1) (bytes ++ more)) old new
     one_read_more room more h e not fits some low =
         let is = h.they_are.bytes_are in
@@ -109,7 +111,8 @@ module _ (E : List ℕ → Type 0) where
         }
 
     -- the end was met
-    pub read_to_end : (room : ℕ) (none : List ℕ) → GrewBy (ReadSoFar E count bytes) old mid → new ≡ mid ++ gave room none ∷ [] → none ≡ [] → (E bytes → ⊥)
+    pub read_to_end : (room : ℕ) (none : List ℕ) → GrewBy (ReadSoFar E count bytes) old mid → new ≡ mid ++ gave room none ∷ [] → none ≡ []
+        → (E bytes → ⊥)
         → 0 < room → room ≤ 4096 → count < 4294967295 → GrewBy (λ reads. IsRead E reads bytes Whole) old new
     read_to_end room none h e is not some fits lt = record {
       events = h.events ++ gave room [] ∷ [];
@@ -127,7 +130,8 @@ module _ (E : List ℕ → Type 0) where
     }
 
     -- the last turn was made
-    pub read_to_turns : GrewBy (ReadSoFar E count bytes) old mid → (E bytes → ⊥) → count ≡ 4294967295 → GrewBy (λ reads. IsRead E reads bytes Turns) old mid
+    pub read_to_turns : GrewBy (ReadSoFar E count bytes) old mid → (E bytes → ⊥) → count ≡ 4294967295
+        → GrewBy (λ reads. IsRead E reads bytes Turns) old mid
     read_to_turns h not is = record {
       events = h.events;
       grew = h.grew;
@@ -136,7 +140,8 @@ module _ (E : List ℕ → Type 0) where
     }
 
     -- the bytes are enough
-    pub read_enough : GrewBy (ReadSoFar E count bytes) old mid → E bytes → count ≤ 4294967295 → GrewBy (λ reads. IsRead E reads bytes Whole) old mid
+    pub read_enough : GrewBy (ReadSoFar E count bytes) old mid → E bytes → count ≤ 4294967295
+        → GrewBy (λ reads. IsRead E reads bytes Whole) old mid
     read_enough h enough le = record {
       events = h.events;
       grew = h.grew;
@@ -174,7 +179,8 @@ goes_on_enough fed (not_created name ∷ reads) h = absurd h
 goes_on_enough fed (took b ∷ reads) h = absurd h
 goes_on_enough fed (write_failed ∷ reads) h = absurd h
 
-stops_enough : (bytes : List ℕ) (last : List Event) (stop : ReadStop) → is_text bytes ≡ false → StopsWith IsCopyDone bytes last stop → StopsWith IsEnough bytes last stop
+stops_enough : (bytes : List ℕ) (last : List Event) (stop : ReadStop) → is_text bytes ≡ false → StopsWith IsCopyDone bytes last stop
+    → StopsWith IsEnough bytes last stop
 stops_enough bytes [] Whole copied h = (copied, h)
 stops_enough bytes [] Turns copied h = λ e. h e.1
 stops_enough bytes [] Failed copied h = absurd h
@@ -195,7 +201,8 @@ stops_enough bytes (took b ∷ more) stop copied h = absurd h
 stops_enough bytes (write_failed ∷ more) stop copied h = absurd h
 
 -- the reads of an input that is a copy are those of the copy
-pub read_as_input : (bytes : List ℕ) (stop : ReadStop) (old new : History) → is_text bytes ≡ false → GrewBy (λ reads. IsRead IsCopyDone reads bytes stop) old new
+pub read_as_input : (bytes : List ℕ) (stop : ReadStop) (old new : History) → is_text bytes ≡ false
+    → GrewBy (λ reads. IsRead IsCopyDone reads bytes stop) old new
     → GrewBy (λ reads. IsRead IsEnough reads bytes stop) old new
 read_as_input bytes stop old new copied =
     grew_as (λ reads. IsRead IsCopyDone reads bytes stop) (λ reads. IsRead IsEnough reads bytes stop) old new
@@ -252,7 +259,8 @@ module _ (old new : History) where
     }
 
 -- where the bytes of a source are known, they are those that were read
-pub known_text : (old new : Option (List ℕ)) (bytes : List ℕ) (p : PartialPicture) → Consumes old new bytes → IsAtEnd new → IsTextOf bytes p → IfSome old (λ known. IsTextOf known p)
+pub known_text : (old new : Option (List ℕ)) (bytes : List ℕ) (p : PartialPicture) → Consumes old new bytes → IsAtEnd new → IsTextOf bytes p
+    → IfSome old (λ known. IsTextOf known p)
 known_text None new bytes p h e is = tt
 known_text (Some xs) None bytes p h e is = absurd h
 known_text (Some xs) (Some ys) bytes p h e is = subst (λ (t : List ℕ). IsTextOf t p) (sym (h ∙ (ap (λ (t : List ℕ). bytes ++ t) e ∙ append-nil bytes))) is
@@ -274,7 +282,8 @@ module _ (old new : History) (bytes : List ℕ) (text : is_text bytes ≡ true) 
   refused_by text_fault.OutOfMemory e = out_of_memory_behind old new bytes Whole h (λ _. refl)
 
 -- the fault of a copy, likewise
-pub refused_as_copy : (old new : History) (bytes : List ℕ) (stop : ReadStop) → is_text bytes ≡ false → GrewBy (λ reads. IsRead IsEnough reads bytes stop) old new
+pub refused_as_copy : (old new : History) (bytes : List ℕ) (stop : ReadStop) → is_text bytes ≡ false
+    → GrewBy (λ reads. IsRead IsEnough reads bytes stop) old new
     → (f : CopyFault) → CopyGivesNone bytes f → GrewBy (ReadsRefuse (input_fault_of_copy f stop (length bytes))) old new
 refused_as_copy old new bytes stop copied h copy.OutOfMemory e = out_of_memory_behind old new bytes stop h (λ is. absurd (false≢true (sym copied ∙ is)))
 refused_as_copy old new bytes Whole copied h (copy.NoPicture f offset) e = refused_for old new bytes Whole h (fault.NoPicture f offset) (no_picture bytes f offset copied e)

@@ -45,7 +45,8 @@ reads_on fed (took bytes ∷ more) h = absurd h
 reads_on fed (write_failed ∷ more) h = absurd h
 
 -- the last read of an input gave nothing
-last_read : (bytes : List ℕ) (last : List Event) (stop : ReadStop) → StopsWith IsEnough bytes last stop → AreReads last × (bytes_given last ≡ [])
+last_read : (bytes : List ℕ) (last : List Event) (stop : ReadStop) → StopsWith IsEnough bytes last stop
+    → AreReads last × (bytes_given last ≡ [])
 unfolding AreReads
 last_read bytes [] Whole h = (tt, refl)
 last_read bytes [] Turns h = (tt, refl)
@@ -67,7 +68,8 @@ last_read bytes (took b ∷ more) stop h = absurd h
 last_read bytes (write_failed ∷ more) stop h = absurd h
 
 -- the reads of an input, and their bytes
-reads_of_input : (bytes : List ℕ) (reads : List Event) (stop : ReadStop) → IsRead IsEnough reads bytes stop → AreReads reads × (bytes_given reads ≡ bytes)
+reads_of_input : (bytes : List ℕ) (reads : List Event) (stop : ReadStop) → IsRead IsEnough reads bytes stop
+    → AreReads reads × (bytes_given reads ≡ bytes)
 reads_of_input bytes reads stop h =
     let l = last_read bytes h.last stop h.stops in (
       subst AreReads (sym h.reads_are) (reads_both h.on h.last (reads_on [] h.on h.goes_on) l.0),
@@ -135,7 +137,8 @@ module _ (source : Option ℕ) (name : List ℕ) (g : Given) (mine rest : List E
       )
 
 -- what the inputs gave is what gives the partial pictures, and the outputs are those that come behind
-inputs_in_turn : (source : Option ℕ) (names : List (List ℕ)) (givens : List Given) (reading writing : List Event) → TakesInTurn source names givens reading
+inputs_in_turn : (source : Option ℕ) (names : List (List ℕ)) (givens : List Given) (reading writing : List Event)
+    → TakesInTurn source names givens reading
     → bytes_given (before_next is_opening writing) ≡ [] → input_bytes writing ≡ []
     → AreReadAs source (input_bytes (reading ++ writing)) (partials givens) × (output_bytes (reading ++ writing) ≡ output_bytes writing) × (bytes_given (before_next is_opening (reading ++ writing)) ≡ [])
 unfolding AreReadAs
@@ -177,7 +180,8 @@ module _ (source : Option ℕ) (out : List ℕ) (names : List (List ℕ)) (joine
 
 -- ---- inputs and pictures
 
-input_of_member : (source : Option ℕ) (inputs : List (List ℕ)) (ps : List PartialPicture) (p : PartialPicture) → AreReadAs source inputs ps → Contains ps p
+input_of_member : (source : Option ℕ) (inputs : List (List ℕ)) (ps : List PartialPicture) (p : PartialPicture) → AreReadAs source inputs ps
+    → Contains ps p
     → (bytes : List ℕ) × Contains inputs bytes × AreBytes bytes × GivesPartial source bytes p
 unfolding AreReadAs
 input_of_member source [] [] p h (k, lt, e) = absurd (omega (arith, lt))
@@ -187,7 +191,8 @@ input_of_member source (bytes ∷ inputs) (q ∷ ps) p h (zero, lt, e) = (bytes,
 input_of_member source (bytes ∷ inputs) (q ∷ ps) p h (suc k, lt, e) =
     let m = input_of_member source inputs ps p h.2 (k, omega (arith, lt), e) in (m.0, (suc m.1.0, omega (arith, m.1.1), m.1.2), m.2, m.3)
 
-member_of_input : (source : Option ℕ) (inputs : List (List ℕ)) (ps : List PartialPicture) (bytes : List ℕ) → AreReadAs source inputs ps → Contains inputs bytes
+member_of_input : (source : Option ℕ) (inputs : List (List ℕ)) (ps : List PartialPicture) (bytes : List ℕ) → AreReadAs source inputs ps
+    → Contains inputs bytes
     → (p : PartialPicture) × Contains ps p × GivesPartial source bytes p
 unfolding AreReadAs
 member_of_input source [] [] bytes h (k, lt, e) = absurd (omega (arith, lt))
@@ -203,18 +208,21 @@ text_begins bytes p is = ap is_text is.bytes_are
 
 module _ (apart : (bytes : List ℕ) (p q : PartialPicture) → IsTextOf bytes p → IsTextOf bytes q → p ≡ q) (decide : BytesDecide) where
   -- what an input gives is decided by its bytes
-  one_given : (source : Option ℕ) (bytes : List ℕ) (g g' : Given) → AreBytes bytes → Gives source bytes g → Gives source bytes g' → g.partial ≡ g'.partial
+  one_given : (source : Option ℕ) (bytes : List ℕ) (g g' : Given) → AreBytes bytes → Gives source bytes g → Gives source bytes g'
+      → g.partial ≡ g'.partial
   one_given source bytes _ _ low (by_text _ _ p is) (by_text _ _ q is') = apart bytes p q is is'
   one_given source bytes _ _ low (by_text _ _ p is) (by_copy _ _ r stop copied reads) = not_so (sym copied ∙ text_begins bytes p is)
   one_given source bytes _ _ low (by_copy _ _ r stop copied reads) (by_text _ _ p is) = not_so (sym copied ∙ text_begins bytes p is)
   one_given source bytes _ _ low (by_copy _ _ r stop copied reads) (by_copy _ _ r' stop' copied' reads') =
       ap (λ (x : ReadCopy). marked source x.partial) ((decide bytes low).one_reading r r' reads reads')
 
-  one_picture : (source : Option ℕ) (bytes : List ℕ) (p q : PartialPicture) → AreBytes bytes → GivesPartial source bytes p → GivesPartial source bytes q → p ≡ q
+  one_picture : (source : Option ℕ) (bytes : List ℕ) (p q : PartialPicture) → AreBytes bytes → GivesPartial source bytes p
+      → GivesPartial source bytes q → p ≡ q
   one_picture source bytes p q low h k = sym h.2 ∙ (one_given source bytes h.0 k.0 low h.1 k.1 ∙ k.2)
 
   -- where the inputs of one list are among those of another, so are the pictures
-  among : (source : Option ℕ) (inputs others : List (List ℕ)) (ps qs : List PartialPicture) → AreReadAs source inputs ps → AreReadAs source others qs
+  among : (source : Option ℕ) (inputs others : List (List ℕ)) (ps qs : List PartialPicture) → AreReadAs source inputs ps
+      → AreReadAs source others qs
       → ((bytes : List ℕ) → Contains inputs bytes → Contains others bytes) → (p : PartialPicture) → Contains ps p → Contains qs p
   among source inputs others ps qs h k inside p c =
       let t = input_of_member source inputs ps p h c in
@@ -222,7 +230,8 @@ module _ (apart : (bytes : List ℕ) (p q : PartialPicture) → IsTextOf bytes p
       subst (λ (q : PartialPicture). Contains qs q) (one_picture source t.0 m.0 p t.2 m.2 t.3) m.1
 
   -- pictures of one list of inputs are one list
-  same_pictures : (source : Option ℕ) (inputs : List (List ℕ)) (ps qs : List PartialPicture) → AreReadAs source inputs ps → AreInputsOf source inputs qs → ps ≡ qs
+  same_pictures : (source : Option ℕ) (inputs : List (List ℕ)) (ps qs : List PartialPicture) → AreReadAs source inputs ps
+      → AreInputsOf source inputs qs → ps ≡ qs
   unfolding AreReadAs
   same_pictures source [] [] [] h k = refl
   same_pictures source [] [] (q ∷ qs) h k = absurd k
@@ -236,7 +245,8 @@ module _ (apart : (bytes : List ℕ) (p q : PartialPicture) → IsTextOf bytes p
 
   module _ (one_join : (x y : PartialPicture) (xs ys : List PartialPicture) → AllOfShape has_same_shape x xs → AllOfShape has_same_shape y ys
       → ((z : PartialPicture) → Contains (x ∷ xs) z ↔ Contains (y ∷ ys) z) → join_all union x xs ≡ join_all union y ys) where
-    unions_agree : (ps qs : List PartialPicture) (joined joined' : PartialPicture) → IsUnionOf ps joined → IsUnionOf qs joined' → AreOfOneShape ps → AreOfOneShape qs
+    unions_agree : (ps qs : List PartialPicture) (joined joined' : PartialPicture) → IsUnionOf ps joined → IsUnionOf qs joined'
+        → AreOfOneShape ps → AreOfOneShape qs
         → ((p : PartialPicture) → Contains ps p ↔ Contains qs p) → joined ≡ joined'
     unions_agree [] qs joined joined' u v a b same = absurd u
     unions_agree (p ∷ ps) [] joined joined' u v a b same = absurd v
@@ -253,7 +263,8 @@ module _ (apart : (bytes : List ℕ) (p q : PartialPicture) → IsTextOf bytes p
         let e = unions_agree ps qs joined joined' h.taken.union_is h'.taken.union_is h.taken.taken.one_shape h'.taken.taken.one_shape (λ p. (there p, back p)) in
         (e, t.1 ∙ (ap (λ (p : PartialPicture). text p ∷ []) e ∙ sym t'.1))
 
-  union_of_parts : PartsGiveThePicture → (picture joined : PartialPicture) → IsPartial picture → IsSettled picture → (ps : List PartialPicture) → IsUnionOf ps joined
+  union_of_parts : PartsGiveThePicture → (picture joined : PartialPicture) → IsPartial picture → IsSettled picture
+      → (ps : List PartialPicture) → IsUnionOf ps joined
       → All (IsPartOf picture) ps → EachLineIsHeld picture.shape ps → joined ≡ sourced ps picture
   union_of_parts join picture joined is settled [] u are survives = absurd u
   union_of_parts join picture joined is settled (p ∷ ps) u are survives = u ∙ join picture is.fitting settled p ps are survives

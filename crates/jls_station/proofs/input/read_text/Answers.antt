@@ -13,7 +13,8 @@ use Rattle.jls_station.proofs.OneInput.{out_of_memory_in_part, read_in_part, ref
 use Rattle.jls_station.proofs.input.read_text.Goals as goal
 
 -- the copy of what the first read gave
-as_first : (before now : History) (first items : List ℕ) → items ≡ first → GrewBy (ReadSoFar IsEnough 1 first) before now → GrewBy (ReadSoFar IsEnough 1 items) before now
+as_first : (before now : History) (first items : List ℕ) → items ≡ first → GrewBy (ReadSoFar IsEnough 1 first) before now
+    → GrewBy (ReadSoFar IsEnough 1 items) before now
 as_first before now first items is h = subst (λ (t : List ℕ). GrewBy (ReadSoFar IsEnough 1 t) before now) (sym is) h
 
 pub returns-in-Err-clause-refused : goal.returns-in-Err-clause-refused

@@ -14,5 +14,6 @@ invariant-loop g l =
       text : is_text l.bytes.items ≡ true;
       so_far : (before : History) → GrewBy (ReadSoFar IsEnough 1 l.fn.bytes.items) before (history l.fn.device)
           → GrewBy (ReadSoFar IsEnough l.counter l.bytes.items) before (history l.device);
-      known : (before : Option (List ℕ)) → Consumes before (remaining l.fn.device) l.fn.bytes.items → Consumes before (remaining l.device) l.bytes.items;
+      known : (before : Option (List ℕ)) → Consumes before (remaining l.fn.device) l.fn.bytes.items
+          → Consumes before (remaining l.device) l.bytes.items;
     }
