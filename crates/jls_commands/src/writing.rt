@@ -87,7 +87,8 @@ fn hand_out_jls<D: Desk>(
     picture: &Picture<'_>,
 ) -> Result<(), Cause>
     ensures fit { OnOk result (OptionsFit picture.now options.now) }
-    ensures written { OnOk result (GrewBy (HandsOut name.now (written_file picture.now options.now)) (D.history desk.old) (D.history desk.new)) }
+    ensures written { OnOk result (GrewBy (HandsOut name.now (written_file picture.now options.now)) (D.history desk.old)
+        (D.history desk.new)) }
     ensures stopped { IfErr result (λ cause. GrewBy (StopsAtFile (OptionsFit picture.now options.now) true name.now
         (written_file picture.now options.now) cause) (D.history desk.old) (D.history desk.new)) }
 {

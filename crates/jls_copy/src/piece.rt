@@ -22,7 +22,8 @@ pub enum PieceKind {
     Beyond,
 }
 
-/// A piece of scan data that didn't read as the lines of its interval. If the input's end cut it off, its first lines may be readings still.
+/// A piece of scan data that didn't read as the lines of its interval. If the input's end cut it off, its first lines may be
+/// readings still.
 #[derive(Clone, Copy, Debug, PartialEq, Eq)]
 pub struct PieceRecord {
     /// The scan of the copy, counted from 0.

@@ -33,7 +33,8 @@ interrupted_run_bits run rest =
 -- `order`
 abbrev pub interrupting_bits : CodingParameters → RunCell → Neighbours → ℕ → ℕ → List Bool
 interrupting_bits p cell near order sample =
-    golomb (run_k (is_same near) cell) (limit p - order - 1) (qbpp p) (interruption_mapped (is_same near) cell (interruption_error p near sample))
+    golomb (run_k (is_same near) cell) (limit p - order - 1) (qbpp p)
+    (interruption_mapped (is_same near) cell (interruption_error p near sample))
 
 -- the bits of an event after the earlier ones. J is taken at RUNindex after the full blocks, before its fall
 unfoldable pub event_bits : CodingParameters → List Event → Event → List Bool

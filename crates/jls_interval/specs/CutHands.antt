@@ -31,7 +31,8 @@ pub record BeginsRun (r0 w0 : ℕ) (told : List Bool) : Type 0 where
   pub cut : (sample : List Bool) → IsProperPrefix told (interrupted_run_bits (blocks r0 count) sample)
 
 -- of those of an event that can come next in a line of a component
-pub record BeginsEvent (p : CodingParameters) (w component : ℕ) (up : Above) (line : List ℕ) (told : List Bool) (earlier : List Event) : Type 0 where
+pub record BeginsEvent (p : CodingParameters) (w component : ℕ) (up : Above) (line : List ℕ) (told : List Bool)
+    (earlier : List Event) : Type 0 where
   pub event : Event
   pub fits : Fits p w component up line (now_at w up line) event
   pub cut : IsProperPrefix told (event_bits p earlier event)

@@ -17,7 +17,8 @@ use Rattle.jls_interval.specs.declared.interval_reader.IntervalReader.{IntervalR
 
 -- Lines are still to come. Of the bits given, the first ones are those of whole events, which lead from the start to these finished
 -- lines and this begun one; the machine in hand was told the others
-pub record IsWorking (p : CodingParameters) (w c n : ℕ) (given : List Bool) (lines : List (List ℕ)) (line : List ℕ) (cells : Variables) (run_indices : List ℕ) (hand : Hand) : Type 0 where
+pub record IsWorking (p : CodingParameters) (w c n : ℕ) (given : List Bool) (lines : List (List ℕ)) (line : List ℕ) (cells : Variables)
+    (run_indices : List ℕ) (hand : Hand) : Type 0 where
   pub earlier : List Event
   pub told : List Bool
   pub leads : Leads (interval_steps p w c n) start earlier (record { lines = lines; line = line; earlier = earlier })

@@ -72,7 +72,8 @@ module _ (width components : ℕ) (lines : List (List ℕ)) (component y : ℕ) 
 abbrev pub AreParted : ℕ → ℕ → List (List ℕ) → ℕ → ℕ → List Event → Type 0
 AreParted width components lines j zero events = events ≡ []
 AreParted width components lines j (suc more) events =
-    (first : List Event) × (later : List Event) × (events ≡ first ++ later) × IsParted width components lines (j % components) (j / components) 0 first × AreParted width components lines (j + 1) more later
+    (first : List Event) × (later : List Event) × (events ≡ first ++ later)
+    × IsParted width components lines (j % components) (j / components) 0 first × AreParted width components lines (j + 1) more later
 
 -- these are the events of the interval with these lines. For lines as `AreLines` has them there is exactly one such list
 abbrev pub AreEvents : ℕ → ℕ → List (List ℕ) → List Event → Type 0
@@ -88,9 +89,19 @@ pub record Above : Type 0 where
 -- `neighbours_at` for a line whose samples before column x are known
 abbrev pub neighbours : ℕ → Above → List ℕ → ℕ → Neighbours
 neighbours width up line zero =
-    record { ra = get_or up.line_above 0 0; rb = get_or up.line_above 0 0; rc = get_or up.line_two_above 0 0; rd = if (nat_lt 1 width) then get_or up.line_above 1 0 else get_or up.line_above 0 0 }
+    record {
+      ra = get_or up.line_above 0 0;
+      rb = get_or up.line_above 0 0;
+      rc = get_or up.line_two_above 0 0;
+      rd = if (nat_lt 1 width) then get_or up.line_above 1 0 else get_or up.line_above 0 0;
+    }
 neighbours width up line (suc x) =
-    record { ra = get_or line x 0; rb = get_or up.line_above (suc x) 0; rc = get_or up.line_above x 0; rd = if (nat_lt (x + 2) width) then get_or up.line_above (x + 2) 0 else get_or up.line_above (suc x) 0 }
+    record {
+      ra = get_or line x 0;
+      rb = get_or up.line_above (suc x) 0;
+      rc = get_or up.line_above x 0;
+      rd = if (nat_lt (x + 2) width) then get_or up.line_above (x + 2) 0 else get_or up.line_above (suc x) 0;
+    }
 
 -- the first column from x on whose sample isn't v, or the column after the line
 abbrev pub run_stop : List ℕ → ℕ → ℕ → ℕ
@@ -105,7 +116,13 @@ pub record Stretch : Type 0 where
 abbrev pub stretch : ℕ → ℕ → Above → List ℕ → ℕ → Stretch
 stretch width component up line x =
     let near = neighbours width up line x in let stop = run_stop line near.ra x in
-    if (is_run_mode near) then (if (nat_lt stop width) then record { event = interrupted_run component (stop - x) (neighbours width up line stop) (get_or line stop 0); next = suc stop } else record { event = run_to_end component (width - x); next = width }) else record { event = regular near (get_or line x 0); next = suc x }
+    if (is_run_mode near) then (if (nat_lt stop width) then record {
+      event = interrupted_run component (stop - x)
+          (neighbours width up line stop) (get_or line stop 0);
+      next = suc stop;
+    }
+    else record { event = run_to_end component (width - x); next = width })
+    else record { event = regular near (get_or line x 0); next = suc x }
 
 -- the events of the columns from x on; `fuel` is at least their number
 unfoldable pub events_from : ℕ → ℕ → Above → List ℕ → ℕ → ℕ → List Event
@@ -130,7 +147,8 @@ above components lines = record { line_above = line_back lines components; line_
 unfoldable pub events_after : ℕ → ℕ → List (List ℕ) → List (List ℕ) → List Event
 events_after width components before [] = []
 events_after width components before (line ∷ lines) =
-    line_events width (length before % components) (above components before) line ++ events_after width components (before ++ line ∷ []) lines
+    line_events width (length before % components) (above components before) line
+    ++ events_after width components (before ++ line ∷ []) lines
 
 -- The events of an interval, computed. They are those of `AreEvents` for lines as `AreLines` has them; a line of another
 -- width is read as if it had zeros where it is too short, which means nothing

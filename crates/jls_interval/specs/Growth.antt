@@ -32,17 +32,20 @@ Fits p width component up line near (regular n sample) =
 Fits p width component up line near (run_to_end of_component count) =
     (is_run_mode near ≡ true) × (of_component ≡ component) × (length line + count ≡ width)
 Fits p width component up line near (interrupted_run of_component count n sample) =
-    (is_run_mode near ≡ true) × (of_component ≡ component) × (length line + count < width) × (n ≡ neighbours width up (line ++ replicate count near.ra) (length line + count)) × (sample ≤ p.maxval) × (sample ≡ near.ra → ⊥)
+    (is_run_mode near ≡ true) × (of_component ≡ component) × (length line + count < width)
+    × (n ≡ neighbours width up (line ++ replicate count near.ra) (length line + count)) × (sample ≤ p.maxval) × (sample ≡ near.ra → ⊥)
 
 -- an event can come next at a position, where there are to be `count` lines
 abbrev pub IsNext : CodingParameters → ℕ → ℕ → ℕ → Position → Event → Type 0
 IsNext p width components count position event =
-    (length position.lines < count) × Fits p width (length position.lines % components) (above components position.lines) position.line (here width components position) event
+    (length position.lines < count) × Fits p width (length position.lines % components) (above components position.lines) position.line
+    (here width components position) event
 
 -- the position with this line begun, or among the finished lines where it is whole
 abbrev pub grown : ℕ → List (List ℕ) → List ℕ → List Event → Position
 grown width lines line earlier =
-    if (length line == width) then record { lines = lines ++ line ∷ []; line = []; earlier = earlier } else record { lines = lines; line = line; earlier = earlier }
+    if (length line == width) then record { lines = lines ++ line ∷ []; line = []; earlier = earlier }
+    else record { lines = lines; line = line; earlier = earlier }
 
 -- the position after an event
 abbrev pub moved : ℕ → ℕ → Position → Event → Position
@@ -52,7 +55,8 @@ moved width components position event =
 -- no sample is above MAXVAL
 abbrev pub HasSamples : CodingParameters → Position → Type 0
 HasSamples p position =
-    AllByRecursion (λ line. AllByRecursion (λ sample. sample ≤ p.maxval) line) position.lines × AllByRecursion (λ sample. sample ≤ p.maxval) position.line
+    AllByRecursion (λ line. AllByRecursion (λ sample. sample ≤ p.maxval) line) position.lines
+    × AllByRecursion (λ sample. sample ≤ p.maxval) position.line
 
 -- the code of an interval of `count` lines, read event by event
 abbrev pub interval_steps : CodingParameters → ℕ → ℕ → ℕ → StepwiseCode

@@ -39,13 +39,15 @@ HandAt p w up line cells r (InRun state) told =
     (is_run_mode (now_at w up line) ≡ true) × IsRunState (w - length line) state × RunAt r (w - length line) told state
 HandAt p w up line cells r (Interruption i) told =
     (is_run_mode (now_at w up line) ≡ true) × (i.run_index ≤ 31)
-    × IsOpen (run_k (is_same (behind w up line i.count)) (run_cell_at cells (is_same (behind w up line i.count)))) (limit p - run_order i.run_index - 1) (qbpp p) i.code
+    × IsOpen (run_k (is_same (behind w up line i.count)) (run_cell_at cells (is_same (behind w up line i.count))))
+    (limit p - run_order i.run_index - 1) (qbpp p) i.code
     × RunIs r (w - length line) told (bits_told (limit p - run_order i.run_index - 1) (qbpp p) i.code) (Interrupted i.count i.run_index)
 
 -- the same of what a reader holds, in a line of a component
 abbrev pub Holds : ℕ → Above → LineReader → List Bool → Type 0
 Holds component up reader told =
-    HandAt reader.coder.cells.parameters reader.width up reader.line.items reader.coder.cells (get_or reader.coder.run_indices component 0) reader.hand told
+    HandAt reader.coder.cells.parameters reader.width up reader.line.items reader.coder.cells
+    (get_or reader.coder.run_indices component 0) reader.hand told
 
 -- no event that can come next stands at the front of the bits
 abbrev pub NoEvent : CodingParameters → ℕ → ℕ → Above → List ℕ → List Bool → List Event → Type 0
@@ -54,7 +56,8 @@ NoEvent p w component up line given earlier =
     → ⊥
 
 -- the bits are an event's that can come next, the line grew by its samples, and these are the variables and RUNindices after it
-pub record EventDone (p : CodingParameters) (w component : ℕ) (up : Above) (line line' : List ℕ) (cells' : Variables) (run_indices' : List ℕ) (told : List Bool) (earlier : List Event) : Type 0 where
+pub record EventDone (p : CodingParameters) (w component : ℕ) (up : Above) (line line' : List ℕ) (cells' : Variables)
+    (run_indices' : List ℕ) (told : List Bool) (earlier : List Event) : Type 0 where
   pub event : Event
   pub fits : Fits p w component up line (now_at w up line) event
   pub line_is : line' ≡ line ++ added (now_at w up line).ra event
@@ -80,7 +83,8 @@ HasTakenAll Moved unread = Unit {0}
 HasTakenAll Refused unread = Unit {0}
 
 -- the first bits of the chunk were taken, and the step is what the bits told before and these make of the event
-pub record EventPushed (component : ℕ) (up : Above) (old new : LineReader) (told chunk unread : List Bool) (earlier : List Event) (step : EventStep) : Type 0 where
+pub record EventPushed (component : ℕ) (up : Above) (old new : LineReader) (told chunk unread : List Bool) (earlier : List Event)
+    (step : EventStep) : Type 0 where
   pub taken : List Bool
   pub chunk_is : chunk ≡ taken ++ unread
   pub step_is : EventStepIs component up old new (told ++ taken) earlier step

@@ -35,7 +35,8 @@ IsHeadOfPiece p width components count piece head =
 abbrev pub HeadsAreOne : Type 0
 HeadsAreOne =
     (p : CodingParameters) (width components count : ℕ) → AreCodingParameters p → 0 < width
-    → (given : List Bool) (xs ys : List (List ℕ)) → IsHead p width components count given xs → IsHead p width components count given ys → xs ≡ ys
+    → (given : List Bool) (xs ys : List (List ℕ)) → IsHead p width components count given xs → IsHead p width components count given ys
+    → xs ≡ ys
 
 -- where the bits cut an event, the head is the lines that were finished before it
 abbrev pub HeadsAreFinishedLines : Type 0
@@ -47,4 +48,5 @@ HeadsAreFinishedLines =
 abbrev pub ReadPiecesHaveNone : Type 0
 ReadPiecesHaveNone =
     (p : CodingParameters) (width components count : ℕ) → AreCodingParameters p → 0 < width
-    → (piece : List ℕ) (lines head : List (List ℕ)) → Reads p width components count piece lines → IsHeadOfPiece p width components count piece head → head ≡ []
+    → (piece : List ℕ) (lines head : List (List ℕ)) → Reads p width components count piece lines
+    → IsHeadOfPiece p width components count piece head → head ≡ []

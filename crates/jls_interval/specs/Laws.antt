@@ -19,18 +19,21 @@ PartedOnce =
 abbrev pub NeighboursAgree : Type 0
 NeighboursAgree =
     (width components : ℕ) (lines : List (List ℕ)) (j x : ℕ) → 0 < components → j ≤ length lines
-    → neighbours_at width components lines (j % components) (j / components) x ≡ neighbours width (above components (take j lines)) (get_or lines j []) x
+    → neighbours_at width components lines (j % components) (j / components) x
+    ≡ neighbours width (above components (take j lines)) (get_or lines j []) x
 
 -- the full blocks are as many as fit, and one more does not
 abbrev pub FullBlocksFit : Type 0
 FullBlocksFit =
-    (run_index count : ℕ) → (block_columns run_index (full_blocks run_index count) ≤ count) × (count < block_columns run_index (full_blocks run_index count + 1))
+    (run_index count : ℕ) → (block_columns run_index (full_blocks run_index count) ≤ count)
+    × (count < block_columns run_index (full_blocks run_index count + 1))
 
 -- Lines that grow from the start, event by event, until no event can come next, are whole lines, and the events are theirs
 abbrev pub GrowthEndsInLines : Type 0
 GrowthEndsInLines =
     (p : CodingParameters) (width components count : ℕ) → 0 < width
-    → (es : List Event) (z : Position) → Leads (interval_steps p width components count) start es z → IsEnd (interval_steps p width components count) z
+    → (es : List Event) (z : Position) → Leads (interval_steps p width components count) start es z
+    → IsEnd (interval_steps p width components count) z
     → AreLines p width count z.lines × (z ≡ finish width components z.lines) × (es ≡ events width components z.lines)
 
 -- and all lines grow so
@@ -48,7 +51,8 @@ EventsAreApart =
 abbrev pub EventsHaveBits : Type 0
 EventsHaveBits =
     (p : CodingParameters) (width components count : ℕ) → 0 < width
-    → (es : List Event) (z : Position) (e : Event) → Leads (interval_steps p width components count) start es z → IsNext p width components count z e → event_bits p z.earlier e ≡ [] → ⊥
+    → (es : List Event) (z : Position) (e : Event) → Leads (interval_steps p width components count) start es z
+    → IsNext p width components count z e → event_bits p z.earlier e ≡ [] → ⊥
 
 -- of the codes of two different lists of lines, of one width and number, neither begins the other
 abbrev pub CodesAreApart : Type 0
@@ -68,7 +72,8 @@ PiecesReadOnce =
 abbrev pub BrokenBeginsWithNone : Type 0
 BrokenBeginsWithNone =
     (p : CodingParameters) (width components count : ℕ) (piece : List ℕ)
-    → IsBroken p width components count piece ↔ ((lines : List (List ℕ)) (unread : List Bool) → BeginsWithCode p width components count piece lines unread → ⊥)
+    → IsBroken p width components count piece ↔ ((lines : List (List ℕ)) (unread : List Bool)
+    → BeginsWithCode p width components count piece lines unread → ⊥)
 
 -- bits that are a proper prefix of the code of some lines
 pub record IsCutCode (p : CodingParameters) (width components count : ℕ) (given : List Bool) : Type 0 where

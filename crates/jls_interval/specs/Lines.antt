@@ -25,6 +25,8 @@ unfoldable pub neighbours_at : ℕ → ℕ → List (List ℕ) → ℕ → ℕ �
 neighbours_at width components lines component y x = record {
   ra = if (x == 0) then sample_at components lines component (pos y -ℤ pos 1) x else sample_at components lines component (pos y) (x - 1);
   rb = sample_at components lines component (pos y -ℤ pos 1) x;
-  rc = if (x == 0) then sample_at components lines component (pos y -ℤ pos 2) x else sample_at components lines component (pos y -ℤ pos 1) (x - 1);
-  rd = if (nat_lt (x + 1) width) then sample_at components lines component (pos y -ℤ pos 1) (x + 1) else sample_at components lines component (pos y -ℤ pos 1) x;
+  rc = if (x == 0) then sample_at components lines component (pos y -ℤ pos 2) x
+      else sample_at components lines component (pos y -ℤ pos 1) (x - 1);
+  rd = if (nat_lt (x + 1) width) then sample_at components lines component (pos y -ℤ pos 1) (x + 1)
+      else sample_at components lines component (pos y -ℤ pos 1) x;
 }

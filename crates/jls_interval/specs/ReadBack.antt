@@ -9,4 +9,5 @@ abbrev pub PackedLinesReadBack : Type 0
 PackedLinesReadBack =
     (p : CodingParameters) (width components count : ℕ) (lines : List (List ℕ)) → AreLines p width count lines
     → Reads p width components count (packed p width components lines) lines
-    × (AreCodingParameters p → 0 < width → (others : List (List ℕ)) → Reads p width components count (packed p width components lines) others → others ≡ lines)
+    × (AreCodingParameters p → 0 < width → (others : List (List ℕ))
+    → Reads p width components count (packed p width components lines) others → others ≡ lines)

@@ -11,7 +11,8 @@ use Rattle.jls_interval.specs.Code.{regular_bits, run_to_end_bits, interrupted_r
 -- RUNindex r0
 abbrev pub NoRun : ℕ → ℕ → List Bool → Type 0
 NoRun r0 w0 given =
-    ((rest : List Bool) → given ≡ run_to_end_bits (blocks r0 w0) ++ rest → ⊥) × ((c : ℕ) (rest : List Bool) → c < w0 → given ≡ interrupted_run_bits (blocks r0 c) rest → ⊥)
+    ((rest : List Bool) → given ≡ run_to_end_bits (blocks r0 w0) ++ rest → ⊥)
+    × ((c : ℕ) (rest : List Bool) → c < w0 → given ≡ interrupted_run_bits (blocks r0 c) rest → ⊥)
 
 -- no sample of regular mode stands at the front
 abbrev pub NoSample : CodingParameters → Cell → Neighbours → List Bool → Type 0
@@ -21,7 +22,8 @@ NoSample p cell near given =
 -- no sample that can interrupt a run stands at the front, behind a count of so many bits
 abbrev pub NoInterruption : CodingParameters → RunCell → Neighbours → ℕ → List Bool → Type 0
 NoInterruption p cell near order given =
-    (sample : ℕ) (rest : List Bool) → sample ≤ p.maxval → (sample ≡ near.ra → ⊥) → given ≡ interrupting_bits p cell near order sample ++ rest → ⊥
+    (sample : ℕ) (rest : List Bool) → sample ≤ p.maxval → (sample ≡ near.ra → ⊥)
+    → given ≡ interrupting_bits p cell near order sample ++ rest → ⊥
 
 -- so many more full blocks before these
 abbrev pub after_blocks : ℕ → Blocks → Blocks

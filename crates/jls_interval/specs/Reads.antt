@@ -9,7 +9,8 @@ use Rattle.jls_interval.specs.Lines.{AreLines}
 use Rattle.jls_interval.specs.Code.{code}
 
 -- the piece is bytes whose data bits are the code of these lines and then some more bits
-pub record BeginsWithCode (p : CodingParameters) (width components count : ℕ) (piece : List ℕ) (lines : List (List ℕ)) (unread : List Bool) : Type 0 where
+pub record BeginsWithCode (p : CodingParameters) (width components count : ℕ) (piece : List ℕ) (lines : List (List ℕ))
+    (unread : List Bool) : Type 0 where
   pub are_bytes : AllByRecursion (λ x. x < 256) piece
   pub are_lines : AreLines p width count lines
   pub data_bits : AreDataBits piece (code p width components lines ++ unread)

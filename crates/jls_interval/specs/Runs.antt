@@ -7,7 +7,8 @@ use Rattle.jls_interval.specs.Events.{Event, regular, run_to_end, interrupted_ru
 -- J, by RUNindex from 0 to 31 (the table of T.87 A.7.1): a full block has 2^J columns
 abbrev pub run_order : ℕ → ℕ
 run_order run_index =
-    get_or (0 ∷ 0 ∷ 0 ∷ 0 ∷ 1 ∷ 1 ∷ 1 ∷ 1 ∷ 2 ∷ 2 ∷ 2 ∷ 2 ∷ 3 ∷ 3 ∷ 3 ∷ 3 ∷ 4 ∷ 4 ∷ 5 ∷ 5 ∷ 6 ∷ 6 ∷ 7 ∷ 7 ∷ 8 ∷ 9 ∷ 10 ∷ 11 ∷ 12 ∷ 13 ∷ 14 ∷ 15 ∷ []) run_index 0
+    get_or (0 ∷ 0 ∷ 0 ∷ 0 ∷ 1 ∷ 1 ∷ 1 ∷ 1 ∷ 2 ∷ 2 ∷ 2 ∷ 2 ∷ 3 ∷ 3 ∷ 3 ∷ 3 ∷ 4 ∷ 4 ∷ 5 ∷ 5 ∷ 6 ∷ 6 ∷ 7 ∷ 7 ∷ 8 ∷ 9 ∷ 10 ∷ 11 ∷ 12 ∷ 13 ∷ 14
+    ∷ 15 ∷ []) run_index 0
 
 -- RUNindex after so many full blocks: it rises by one with each, up to 31
 abbrev pub run_index_raised : ℕ → ℕ → ℕ

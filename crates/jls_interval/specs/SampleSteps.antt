@@ -39,13 +39,15 @@ InterruptionStepIs p cell near order told Refused =
     (more : List Bool) → NoInterruption p cell near order (told ++ more)
 
 -- the first bits of the chunk were taken, and the step is what the bits told before and these make of the sample
-pub record SamplePushed (p : CodingParameters) (cell : Cell) (near : Neighbours) (told chunk unread : List Bool) (step : SampleStep) : Type 0 where
+pub record SamplePushed (p : CodingParameters) (cell : Cell) (near : Neighbours) (told chunk unread : List Bool)
+    (step : SampleStep) : Type 0 where
   pub taken : List Bool
   pub chunk_is : chunk ≡ taken ++ unread
   pub step_is : SampleStepIs p cell near (told ++ taken) step
   pub all : HasTakenAll step unread
 
-pub record InterruptionPushed (p : CodingParameters) (cell : RunCell) (near : Neighbours) (order : ℕ) (told chunk unread : List Bool) (step : SampleStep) : Type 0 where
+pub record InterruptionPushed (p : CodingParameters) (cell : RunCell) (near : Neighbours) (order : ℕ) (told chunk unread : List Bool)
+    (step : SampleStep) : Type 0 where
   pub taken : List Bool
   pub chunk_is : chunk ≡ taken ++ unread
   pub step_is : InterruptionStepIs p cell near order (told ++ taken) step

@@ -29,7 +29,8 @@ IsEnd m s = (e : m.Event) → m.Next s e → ⊥
 -- of two different events that can come next at one sound state, neither's bits begin the other's
 abbrev pub IsPrefixFree : StepwiseCode → Type 0
 IsPrefixFree m =
-    (s : m.State) (e f : m.Event) (t u : List Bool) → m.Sound s → m.Next s e → m.Next s f → m.step_bits s e ++ t ≡ m.step_bits s f ++ u → e ≡ f
+    (s : m.State) (e f : m.Event) (t u : List Bool) → m.Sound s → m.Next s e → m.Next s f → m.step_bits s e ++ t ≡ m.step_bits s f ++ u
+    → e ≡ f
 
 -- each event that can come next leads to a sound state
 abbrev pub IsKept : StepwiseCode → Type 0

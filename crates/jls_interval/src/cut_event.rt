@@ -44,7 +44,8 @@ fn least_count(value: u32, bits: u8, order: u8) -> u32
 fn run_goes_on(state: RunState) -> bool
     requires { (w0 : ℕ) × IsRunState w0 state }
     ensures yes { result ≡ true → (r0 w0 : ℕ) (told : List Bool) → IsRunState w0 state → RunAt r0 w0 told state → BeginsRun r0 w0 told }
-    ensures no { result ≡ false → (r0 w0 : ℕ) (told : List Bool) → IsRunState w0 state → RunAt r0 w0 told state → (more : List Bool) → NoRun r0 w0 (told ++ more) }
+    ensures no { result ≡ false → (r0 w0 : ℕ) (told : List Bool) → IsRunState w0 state → RunAt r0 w0 told state → (more : List Bool)
+        → NoRun r0 w0 (told ++ more) }
 {
     match state {
         RunState::Blocks { .. } => true,
@@ -61,9 +62,15 @@ fn run_goes_on(state: RunState) -> bool
 fn regular_goes_on(reader: &LineReader, place: &Place<'_>, code: CodeState) -> bool
     requires columns { length reader.now.line.items < reader.now.width }
     requires mode { is_run_mode (now_at reader.now.width (above_of place.now) reader.now.line.items) ≡ false }
-    requires opened { let near = now_at reader.now.width (above_of place.now) reader.now.line.items in IsOpen (regular_k (cell_at reader.now.coder.cells (context reader.now.coder.cells.parameters near))) (limit reader.now.coder.cells.parameters) (qbpp reader.now.coder.cells.parameters) code }
-    ensures yes { result ≡ true → (let p = reader.now.coder.cells.parameters in let near = now_at reader.now.width (above_of place.now) reader.now.line.items in BeginsSample p (cell_at reader.now.coder.cells (context p near)) near (bits_told (limit p) (qbpp p) code)) }
-    ensures no { result ≡ false → (more : List Bool) → (let p = reader.now.coder.cells.parameters in let near = now_at reader.now.width (above_of place.now) reader.now.line.items in NoSample p (cell_at reader.now.coder.cells (context p near)) near (bits_told (limit p) (qbpp p) code ++ more)) }
+    requires opened { let near = now_at reader.now.width (above_of place.now) reader.now.line.items in
+        IsOpen (regular_k (cell_at reader.now.coder.cells (context reader.now.coder.cells.parameters near)))
+        (limit reader.now.coder.cells.parameters) (qbpp reader.now.coder.cells.parameters) code }
+    ensures yes { result ≡ true → (let p = reader.now.coder.cells.parameters in
+        let near = now_at reader.now.width (above_of place.now) reader.now.line.items in
+        BeginsSample p (cell_at reader.now.coder.cells (context p near)) near (bits_told (limit p) (qbpp p) code)) }
+    ensures no { result ≡ false → (more : List Bool) → (let p = reader.now.coder.cells.parameters in
+        let near = now_at reader.now.width (above_of place.now) reader.now.line.items in
+        NoSample p (cell_at reader.now.coder.cells (context p near)) near (bits_told (limit p) (qbpp p) code ++ more)) }
 {
     let near = place.neighbours(reader.width, &reader.line, reader.line.len());
     match reader.coder.cells.mode(near.ra, near.rb, near.rc, near.rd) {
@@ -83,9 +90,18 @@ fn interrupted_goes_on(reader: &LineReader, place: &Place<'_>, interruption: Int
     requires above { AllByRecursion (λ s. s ≤ reader.now.coder.cells.parameters.maxval) place.now.line_above.now }
     requires columns { interruption.count < reader.now.width - length reader.now.line.items }
     requires run_index { interruption.run_index ≤ 31 }
-    requires opened { let there = behind reader.now.width (above_of place.now) reader.now.line.items interruption.count in IsOpen (run_k (is_same there) (run_cell_at reader.now.coder.cells (is_same there))) (limit reader.now.coder.cells.parameters - Runs.run_order interruption.run_index - 1) (qbpp reader.now.coder.cells.parameters) interruption.code }
-    ensures yes { result ≡ true → (let p = reader.now.coder.cells.parameters in let there = behind reader.now.width (above_of place.now) reader.now.line.items interruption.count in let j = Runs.run_order interruption.run_index in BeginsInterruption p (run_cell_at reader.now.coder.cells (is_same there)) there j (bits_told (limit p - j - 1) (qbpp p) interruption.code)) }
-    ensures no { result ≡ false → (more : List Bool) → (let p = reader.now.coder.cells.parameters in let there = behind reader.now.width (above_of place.now) reader.now.line.items interruption.count in let j = Runs.run_order interruption.run_index in NoInterruption p (run_cell_at reader.now.coder.cells (is_same there)) there j (bits_told (limit p - j - 1) (qbpp p) interruption.code ++ more)) }
+    requires opened { let there = behind reader.now.width (above_of place.now) reader.now.line.items interruption.count in
+        IsOpen (run_k (is_same there) (run_cell_at reader.now.coder.cells (is_same there)))
+        (limit reader.now.coder.cells.parameters - Runs.run_order interruption.run_index - 1)
+        (qbpp reader.now.coder.cells.parameters) interruption.code }
+    ensures yes { result ≡ true → (let p = reader.now.coder.cells.parameters in
+        let there = behind reader.now.width (above_of place.now) reader.now.line.items interruption.count in
+        let j = Runs.run_order interruption.run_index in BeginsInterruption p (run_cell_at reader.now.coder.cells (is_same there)) there j
+        (bits_told (limit p - j - 1) (qbpp p) interruption.code)) }
+    ensures no { result ≡ false → (more : List Bool) → (let p = reader.now.coder.cells.parameters in
+        let there = behind reader.now.width (above_of place.now) reader.now.line.items interruption.count in
+        let j = Runs.run_order interruption.run_index in NoInterruption p (run_cell_at reader.now.coder.cells (is_same there)) there j
+        (bits_told (limit p - j - 1) (qbpp p) interruption.code ++ more)) }
 {
     let Interruption {
         count,
@@ -111,13 +127,17 @@ pub(crate) fn event_goes_on(reader: &LineReader, place: &Place<'_>) -> bool
     requires hand { (told : List Bool) × Holds place.now.component (above_of place.now) reader.now told }
     ensures yes { result ≡ true → (told : List Bool) (earlier : List Event)
         → IsAfter reader.now.coder.cells.parameters reader.now.coder.cells reader.now.coder.run_indices earlier
-        → ((e : Event) → Fits reader.now.coder.cells.parameters reader.now.width place.now.component (above_of place.now) reader.now.line.items (now_at reader.now.width (above_of place.now) reader.now.line.items) e → event_bits reader.now.coder.cells.parameters earlier e ≡ [] → ⊥)
+        → ((e : Event) → Fits reader.now.coder.cells.parameters reader.now.width place.now.component
+        (above_of place.now) reader.now.line.items (now_at reader.now.width (above_of place.now) reader.now.line.items) e
+        → event_bits reader.now.coder.cells.parameters earlier e ≡ [] → ⊥)
         → Holds place.now.component (above_of place.now) reader.now told
-        → BeginsEvent reader.now.coder.cells.parameters reader.now.width place.now.component (above_of place.now) reader.now.line.items told earlier }
+        → BeginsEvent reader.now.coder.cells.parameters reader.now.width place.now.component
+        (above_of place.now) reader.now.line.items told earlier }
     ensures no { result ≡ false → (told : List Bool) (earlier : List Event)
         → IsAfter reader.now.coder.cells.parameters reader.now.coder.cells reader.now.coder.run_indices earlier
         → Holds place.now.component (above_of place.now) reader.now told
-        → (more : List Bool) → NoEvent reader.now.coder.cells.parameters reader.now.width place.now.component (above_of place.now) reader.now.line.items (told ++ more) earlier }
+        → (more : List Bool) → NoEvent reader.now.coder.cells.parameters reader.now.width place.now.component
+        (above_of place.now) reader.now.line.items (told ++ more) earlier }
 {
     match reader.hand {
         Hand::Fresh => true,

@@ -34,10 +34,16 @@ fn sample_begins(
     mapped: u32,
 ) -> bool
     requires mode { IsRegularMode coder.now.cells.parameters neighbours mode.context mode.negative }
-    requires opened { IsOpen (regular_k (cell_at coder.now.cells mode.context)) (limit coder.now.cells.parameters) (qbpp coder.now.cells.parameters) code }
+    requires opened { IsOpen (regular_k (cell_at coder.now.cells mode.context)) (limit coder.now.cells.parameters)
+        (qbpp coder.now.cells.parameters) code }
     requires mapped { mapped ≤ 2 ^ qbpp coder.now.cells.parameters }
-    ensures yes { result ≡ true → BeginsSample coder.now.cells.parameters (cell_at coder.now.cells mode.context) neighbours (bits_told (limit coder.now.cells.parameters) (qbpp coder.now.cells.parameters) code) }
-    ensures no { result ≡ false → BeginsCodeOf (regular_k (cell_at coder.now.cells mode.context)) (limit coder.now.cells.parameters) (qbpp coder.now.cells.parameters) (bits_told (limit coder.now.cells.parameters) (qbpp coder.now.cells.parameters) code) mapped → (given unread : List Bool) → given ≡ golomb (regular_k (cell_at coder.now.cells mode.context)) (limit coder.now.cells.parameters) (qbpp coder.now.cells.parameters) mapped ++ unread → NoSample coder.now.cells.parameters (cell_at coder.now.cells mode.context) neighbours given }
+    ensures yes { result ≡ true → BeginsSample coder.now.cells.parameters (cell_at coder.now.cells mode.context) neighbours
+        (bits_told (limit coder.now.cells.parameters) (qbpp coder.now.cells.parameters) code) }
+    ensures no { result ≡ false → BeginsCodeOf (regular_k (cell_at coder.now.cells mode.context)) (limit coder.now.cells.parameters)
+        (qbpp coder.now.cells.parameters) (bits_told (limit coder.now.cells.parameters) (qbpp coder.now.cells.parameters) code) mapped
+        → (given unread : List Bool) → given ≡ golomb (regular_k (cell_at coder.now.cells mode.context)) (limit coder.now.cells.parameters)
+        (qbpp coder.now.cells.parameters) mapped ++ unread → NoSample coder.now.cells.parameters
+        (cell_at coder.now.cells mode.context) neighbours given }
 {
     let k = coder.cells.regular_k(mode.context);
     if !code.allows(k, coder.lengths.limit, coder.lengths.qbpp, mapped) {
@@ -57,9 +63,12 @@ pub(crate) fn sample_goes_on(
     code: CodeState,
 ) -> bool
     requires mode { IsRegularMode coder.now.cells.parameters neighbours mode.context mode.negative }
-    requires opened { IsOpen (regular_k (cell_at coder.now.cells mode.context)) (limit coder.now.cells.parameters) (qbpp coder.now.cells.parameters) code }
-    ensures yes { result ≡ true → BeginsSample coder.now.cells.parameters (cell_at coder.now.cells mode.context) neighbours (bits_told (limit coder.now.cells.parameters) (qbpp coder.now.cells.parameters) code) }
-    ensures no { result ≡ false → (more : List Bool) → NoSample coder.now.cells.parameters (cell_at coder.now.cells mode.context) neighbours ((bits_told (limit coder.now.cells.parameters) (qbpp coder.now.cells.parameters) code) ++ more) }
+    requires opened { IsOpen (regular_k (cell_at coder.now.cells mode.context)) (limit coder.now.cells.parameters)
+        (qbpp coder.now.cells.parameters) code }
+    ensures yes { result ≡ true → BeginsSample coder.now.cells.parameters (cell_at coder.now.cells mode.context) neighbours
+        (bits_told (limit coder.now.cells.parameters) (qbpp coder.now.cells.parameters) code) }
+    ensures no { result ≡ false → (more : List Bool) → NoSample coder.now.cells.parameters (cell_at coder.now.cells mode.context) neighbours
+        ((bits_told (limit coder.now.cells.parameters) (qbpp coder.now.cells.parameters) code) ++ more) }
 {
     for mapped in 0..numbers(coder.lengths.qbpp) {
         if sample_begins(coder, neighbours, mode, code, mapped) {
@@ -80,10 +89,18 @@ fn interruption_begins(
 ) -> bool
     requires order { order ≤ 15 }
     requires above { neighbours.rb ≤ coder.now.cells.parameters.maxval }
-    requires opened { IsOpen (run_k (is_same neighbours) (run_cell_at coder.now.cells (is_same neighbours))) (limit coder.now.cells.parameters - order - 1) (qbpp coder.now.cells.parameters) code }
+    requires opened { IsOpen (run_k (is_same neighbours) (run_cell_at coder.now.cells (is_same neighbours)))
+        (limit coder.now.cells.parameters - order - 1) (qbpp coder.now.cells.parameters) code }
     requires mapped { mapped ≤ 2 ^ qbpp coder.now.cells.parameters }
-    ensures yes { result ≡ true → BeginsInterruption coder.now.cells.parameters (run_cell_at coder.now.cells (is_same neighbours)) neighbours order (bits_told (limit coder.now.cells.parameters - order - 1) (qbpp coder.now.cells.parameters) code) }
-    ensures no { result ≡ false → BeginsCodeOf (run_k (is_same neighbours) (run_cell_at coder.now.cells (is_same neighbours))) (limit coder.now.cells.parameters - order - 1) (qbpp coder.now.cells.parameters) (bits_told (limit coder.now.cells.parameters - order - 1) (qbpp coder.now.cells.parameters) code) mapped → (given unread : List Bool) → given ≡ golomb (run_k (is_same neighbours) (run_cell_at coder.now.cells (is_same neighbours))) (limit coder.now.cells.parameters - order - 1) (qbpp coder.now.cells.parameters) mapped ++ unread → NoInterruption coder.now.cells.parameters (run_cell_at coder.now.cells (is_same neighbours)) neighbours order given }
+    ensures yes { result ≡ true → BeginsInterruption coder.now.cells.parameters
+        (run_cell_at coder.now.cells (is_same neighbours)) neighbours order
+        (bits_told (limit coder.now.cells.parameters - order - 1) (qbpp coder.now.cells.parameters) code) }
+    ensures no { result ≡ false → BeginsCodeOf (run_k (is_same neighbours) (run_cell_at coder.now.cells (is_same neighbours)))
+        (limit coder.now.cells.parameters - order - 1) (qbpp coder.now.cells.parameters)
+        (bits_told (limit coder.now.cells.parameters - order - 1) (qbpp coder.now.cells.parameters) code) mapped
+        → (given unread : List Bool) → given ≡ golomb (run_k (is_same neighbours) (run_cell_at coder.now.cells (is_same neighbours)))
+        (limit coder.now.cells.parameters - order - 1) (qbpp coder.now.cells.parameters) mapped ++ unread
+        → NoInterruption coder.now.cells.parameters (run_cell_at coder.now.cells (is_same neighbours)) neighbours order given }
 {
     let k = coder.cells.run_k(neighbours.ra == neighbours.rb);
     let limit = coder.lengths.limit - order - 1;
@@ -105,9 +122,14 @@ pub(crate) fn interruption_goes_on(
 ) -> bool
     requires order { order ≤ 15 }
     requires above { neighbours.rb ≤ coder.now.cells.parameters.maxval }
-    requires opened { IsOpen (run_k (is_same neighbours) (run_cell_at coder.now.cells (is_same neighbours))) (limit coder.now.cells.parameters - order - 1) (qbpp coder.now.cells.parameters) code }
-    ensures yes { result ≡ true → BeginsInterruption coder.now.cells.parameters (run_cell_at coder.now.cells (is_same neighbours)) neighbours order (bits_told (limit coder.now.cells.parameters - order - 1) (qbpp coder.now.cells.parameters) code) }
-    ensures no { result ≡ false → (more : List Bool) → NoInterruption coder.now.cells.parameters (run_cell_at coder.now.cells (is_same neighbours)) neighbours order ((bits_told (limit coder.now.cells.parameters - order - 1) (qbpp coder.now.cells.parameters) code) ++ more) }
+    requires opened { IsOpen (run_k (is_same neighbours) (run_cell_at coder.now.cells (is_same neighbours)))
+        (limit coder.now.cells.parameters - order - 1) (qbpp coder.now.cells.parameters) code }
+    ensures yes { result ≡ true → BeginsInterruption coder.now.cells.parameters
+        (run_cell_at coder.now.cells (is_same neighbours)) neighbours order
+        (bits_told (limit coder.now.cells.parameters - order - 1) (qbpp coder.now.cells.parameters) code) }
+    ensures no { result ≡ false → (more : List Bool) → NoInterruption coder.now.cells.parameters
+        (run_cell_at coder.now.cells (is_same neighbours)) neighbours order
+        ((bits_told (limit coder.now.cells.parameters - order - 1) (qbpp coder.now.cells.parameters) code) ++ more) }
 {
     for mapped in 0..numbers(coder.lengths.qbpp) {
         if interruption_begins(coder, neighbours, order, code, mapped) {

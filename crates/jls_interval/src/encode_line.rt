@@ -42,7 +42,8 @@ fn write_run(
     requires run { is_run_mode (neighbours (length line.now) (above_of place.now) line.now x) ≡ true }
     requires value { value ≡ (neighbours (length line.now) (above_of place.now) line.now x).ra }
     ensures column { IfOk result (λ next. next ≡ (stretch (length line.now) place.now.component (above_of place.now) line.now x).next) }
-    ensures written { OnOk result (Writes encoder.old.coder.cells.parameters (written_by encoder.old) (written_by encoder.new) ((stretch (length line.now) place.now.component (above_of place.now) line.now x).event ∷ [])) }
+    ensures written { OnOk result (Writes encoder.old.coder.cells.parameters (written_by encoder.old) (written_by encoder.new)
+        ((stretch (length line.now) place.now.component (above_of place.now) line.now x).event ∷ [])) }
     ensures parameters { encoder.new.coder.cells.parameters ≡ encoder.old.coder.cells.parameters }
 {
     let count = run_length(&line[x..], value);
@@ -75,7 +76,8 @@ fn write_stretch(
     requires width { length line.now < 2 ^ 16 }
     requires column { x < length line.now }
     ensures column { IfOk result (λ next. next ≡ (stretch (length line.now) place.now.component (above_of place.now) line.now x).next) }
-    ensures written { OnOk result (Writes encoder.old.coder.cells.parameters (written_by encoder.old) (written_by encoder.new) ((stretch (length line.now) place.now.component (above_of place.now) line.now x).event ∷ [])) }
+    ensures written { OnOk result (Writes encoder.old.coder.cells.parameters (written_by encoder.old) (written_by encoder.new)
+        ((stretch (length line.now) place.now.component (above_of place.now) line.now x).event ∷ [])) }
     ensures parameters { encoder.new.coder.cells.parameters ≡ encoder.old.coder.cells.parameters }
 {
     let neighbours = place.neighbours(line.len(), line, x);
@@ -105,7 +107,8 @@ pub(crate) fn write_line(
     requires above { AllByRecursion (λ sample. sample ≤ encoder.old.coder.cells.parameters.maxval) place.now.line_above.now }
     requires samples { AllByRecursion (λ sample. sample ≤ encoder.old.coder.cells.parameters.maxval) line.now }
     requires width { length line.now < 2 ^ 16 }
-    ensures written { OnOk result (Writes encoder.old.coder.cells.parameters (written_by encoder.old) (written_by encoder.new) (line_events (length line.now) place.now.component (above_of place.now) line.now)) }
+    ensures written { OnOk result (Writes encoder.old.coder.cells.parameters (written_by encoder.old) (written_by encoder.new)
+        (line_events (length line.now) place.now.component (above_of place.now) line.now)) }
     ensures parameters { encoder.new.coder.cells.parameters ≡ encoder.old.coder.cells.parameters }
 {
     let mut x = 0;

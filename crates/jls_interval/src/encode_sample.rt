@@ -35,7 +35,8 @@ pub(crate) fn write_regular(
 ) -> Result<(), AllocError>
     requires mode { IsRegularMode encoder.old.coder.cells.parameters neighbours mode.context mode.negative }
     requires sample { sample ≤ encoder.old.coder.cells.parameters.maxval }
-    ensures written { OnOk result (Writes encoder.old.coder.cells.parameters (written_by encoder.old) (written_by encoder.new) (regular neighbours sample ∷ [])) }
+    ensures written { OnOk result (Writes encoder.old.coder.cells.parameters (written_by encoder.old) (written_by encoder.new)
+        (regular neighbours sample ∷ [])) }
     ensures parameters { encoder.new.coder.cells.parameters ≡ encoder.old.coder.cells.parameters }
 {
     let RegularMode { context, negative } = mode;
@@ -62,9 +63,14 @@ pub(crate) fn write_interrupting(
     requires sample { sample ≤ encoder.old.coder.cells.parameters.maxval }
     requires another { sample ≢ neighbours.ra }
     ensures written { OnOk result (encoder.new.writer ≡ encoder.old.writer
-        ++ interrupting_bits encoder.old.coder.cells.parameters (run_cell_at encoder.old.coder.cells (is_same neighbours)) neighbours order sample) }
-    ensures updated { OnOk result (run_cell_at encoder.new.coder.cells (is_same neighbours) ≡ run_updated encoder.old.coder.cells.parameters.reset (is_same neighbours) (run_cell_at encoder.old.coder.cells (is_same neighbours)) (interruption_error encoder.old.coder.cells.parameters neighbours sample)) }
-    ensures other { run_cell_at encoder.new.coder.cells (not (is_same neighbours)) ≡ run_cell_at encoder.old.coder.cells (not (is_same neighbours)) }
+        ++ interrupting_bits encoder.old.coder.cells.parameters
+        (run_cell_at encoder.old.coder.cells (is_same neighbours)) neighbours order sample) }
+    ensures updated { OnOk result (run_cell_at encoder.new.coder.cells (is_same neighbours)
+        ≡ run_updated encoder.old.coder.cells.parameters.reset (is_same neighbours)
+        (run_cell_at encoder.old.coder.cells (is_same neighbours))
+        (interruption_error encoder.old.coder.cells.parameters neighbours sample)) }
+    ensures other { run_cell_at encoder.new.coder.cells (not (is_same neighbours))
+        ≡ run_cell_at encoder.old.coder.cells (not (is_same neighbours)) }
     ensures regular { encoder.new.coder.cells.regular ≡ encoder.old.coder.cells.regular }
     ensures parameters { encoder.new.coder.cells.parameters ≡ encoder.old.coder.cells.parameters }
     ensures run_indices { encoder.new.coder.run_indices ≡ encoder.old.coder.run_indices }

@@ -74,7 +74,8 @@ fn push_bytes(
     ensures are_bytes { AllByRecursion (λ x. x < 256) unstuffer.old → AllByRecursion (λ x. x < 256) unstuffer.new }
     ensures pushed { OnOk result (unstuffer.new ≡ unstuffer.old ++ bytes.now) }
     ensures whole { IfOk result (λ whole. whole ≡ is_whole unstuffer.new) }
-    ensures reading { OnOk result ((p : CodingParameters) → IsReadingOf p unstuffer.old reader.old → IsReadingOf p unstuffer.new reader.new) }
+    ensures reading { OnOk result ((p : CodingParameters) → IsReadingOf p unstuffer.old reader.old
+        → IsReadingOf p unstuffer.new reader.new) }
     ensures lengths { OnOk result (HasLengths unstuffer.new reader.new) }
 {
     let mut chunk = Chunk::new();
@@ -117,7 +118,13 @@ impl Model for IntervalDecoder {
 
     ghost Value = { IntervalBytes };
 
-    ghost view = { λ d. record { parameters = d.params; width = d.reader.reader.width; components = d.reader.components; rows = d.rows; bytes = bytes_of d.refused d.unstuffer } };
+    ghost view = { λ d. record {
+      parameters = d.params;
+      width = d.reader.reader.width;
+      components = d.reader.components;
+      rows = d.rows;
+      bytes = bytes_of d.refused d.unstuffer;
+    } };
 
     ghost invariant = { λ d. IsDecoder d.params d.rows d.unstuffer d.ended d.refused d.reader };
 }
@@ -243,7 +250,8 @@ impl IntervalDecoder {
     /// their head, as `finish` would answer. The only refusal is out of memory, where a push was refused. No memory is taken.
     pub fn finish_cut(self) -> Result<CutEnd, AllocError>
         ensures refused { IfNone self.bytes (IsErr result) }
-        ensures cut_end { IfSome self.bytes (λ bytes. MatchResult result (λ end. CutEndIs self.parameters self.width self.components (self.rows * self.components) bytes end) (λ _. ⊥)) }
+        ensures cut_end { IfSome self.bytes (λ bytes. MatchResult result
+            (λ end. CutEndIs self.parameters self.width self.components (self.rows * self.components) bytes end) (λ _. ⊥)) }
     {
         if self.refused {
             return Err(AllocError);

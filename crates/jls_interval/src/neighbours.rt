@@ -25,7 +25,8 @@ pub(crate) fn neighbours_at(
     x: usize,
 ) -> Neighbours
     requires { x < width }
-    ensures { result ≡ Rattle.jls_interval.specs.Events.neighbours width (record { line_above = line_above.now; line_two_above = line_two_above.now }) line.now x }
+    ensures { result ≡ Rattle.jls_interval.specs.Events.neighbours width
+        (record { line_above = line_above.now; line_two_above = line_two_above.now }) line.now x }
 {
     let rb = sample_at(line_above, x);
     let rd = if x + 1 < width {

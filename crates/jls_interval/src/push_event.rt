@@ -37,7 +37,8 @@ fn push_to_regular(
     chunk: &mut Chunk,
 ) -> Result<EventStep, AllocError>
     requires mode { IsRegularMode reader.old.coder.cells.parameters neighbours mode.context mode.negative }
-    requires opened { IsOpen (regular_k (cell_at reader.old.coder.cells mode.context)) (limit reader.old.coder.cells.parameters) (qbpp reader.old.coder.cells.parameters) code }
+    requires opened { IsOpen (regular_k (cell_at reader.old.coder.cells mode.context)) (limit reader.old.coder.cells.parameters)
+        (qbpp reader.old.coder.cells.parameters) code }
     ensures step { IfOk result (λ s. (component : ℕ) (up : Above) (told : List Bool) (earlier : List Event)
         → neighbours ≡ now_at reader.old.width up reader.old.line.items
         → IsAfter reader.old.coder.cells.parameters reader.old.coder.cells reader.old.coder.run_indices earlier
@@ -87,10 +88,15 @@ fn push_to_interrupted(
     requires value { value ≡ (now_at reader.old.width (above_of place.now) reader.old.line.items).ra }
     requires columns { interruption.count < reader.old.width - length reader.old.line.items }
     requires run_index { interruption.run_index ≤ 31 }
-    requires opened { let there = behind reader.old.width (above_of place.now) reader.old.line.items interruption.count in IsOpen (run_k (is_same there) (run_cell_at reader.old.coder.cells (is_same there))) (limit reader.old.coder.cells.parameters - Runs.run_order interruption.run_index - 1) (qbpp reader.old.coder.cells.parameters) interruption.code }
+    requires opened { let there = behind reader.old.width (above_of place.now) reader.old.line.items interruption.count in
+        IsOpen (run_k (is_same there) (run_cell_at reader.old.coder.cells (is_same there)))
+        (limit reader.old.coder.cells.parameters - Runs.run_order interruption.run_index - 1)
+        (qbpp reader.old.coder.cells.parameters) interruption.code }
     ensures step { IfOk result (λ s. (told : List Bool) (earlier : List Event)
         → IsAfter reader.old.coder.cells.parameters reader.old.coder.cells reader.old.coder.run_indices earlier
-        → RunIs (get_or reader.old.coder.run_indices place.now.component 0) (reader.old.width - length reader.old.line.items) told (bits_told (limit reader.old.coder.cells.parameters - Runs.run_order interruption.run_index - 1) (qbpp reader.old.coder.cells.parameters) interruption.code) (Interrupted interruption.count interruption.run_index)
+        → RunIs (get_or reader.old.coder.run_indices place.now.component 0) (reader.old.width - length reader.old.line.items) told
+        (bits_told (limit reader.old.coder.cells.parameters - Runs.run_order interruption.run_index - 1)
+        (qbpp reader.old.coder.cells.parameters) interruption.code) (Interrupted interruption.count interruption.run_index)
         → EventPushed place.now.component (above_of place.now) reader.old reader.new told chunk.old chunk.new earlier s) }
     ensures width { reader.new.width ≡ reader.old.width }
     ensures parameters { reader.new.coder.cells.parameters ≡ reader.old.coder.cells.parameters }

@@ -43,15 +43,19 @@ pub(crate) fn sample_of(
     mapped: u32,
 ) -> Option<Sample>
     requires mode { IsRegularMode coder.now.cells.parameters neighbours mode.context mode.negative }
-    requires code { has_golomb (regular_k (cell_at coder.now.cells mode.context)) (limit coder.now.cells.parameters) (qbpp coder.now.cells.parameters) mapped ≡ true }
+    requires code { has_golomb (regular_k (cell_at coder.now.cells mode.context)) (limit coder.now.cells.parameters)
+        (qbpp coder.now.cells.parameters) mapped ≡ true }
     ensures sample { IfSome result (λ s. s.value ≤ coder.now.cells.parameters.maxval) }
     ensures error { IfSome result
         (λ s. s.error ≡ regular_error coder.now.cells.parameters (cell_at coder.now.cells mode.context) neighbours s.value) }
     ensures reduced { IfSome result (λ s. IsError coder.now.cells.parameters s.error) }
     ensures bits { IfSome result
-        (λ s. regular_bits coder.now.cells.parameters (cell_at coder.now.cells mode.context) neighbours s.value ≡ golomb (regular_k (cell_at coder.now.cells mode.context)) (limit coder.now.cells.parameters) (qbpp coder.now.cells.parameters) mapped) }
+        (λ s. regular_bits coder.now.cells.parameters (cell_at coder.now.cells mode.context) neighbours s.value
+        ≡ golomb (regular_k (cell_at coder.now.cells mode.context)) (limit coder.now.cells.parameters)
+        (qbpp coder.now.cells.parameters) mapped) }
     ensures none { IfNone result ((given unread : List Bool)
-        → given ≡ golomb (regular_k (cell_at coder.now.cells mode.context)) (limit coder.now.cells.parameters) (qbpp coder.now.cells.parameters) mapped
+        → given ≡ golomb (regular_k (cell_at coder.now.cells mode.context)) (limit coder.now.cells.parameters)
+        (qbpp coder.now.cells.parameters) mapped
         ++ unread → NoSample coder.now.cells.parameters (cell_at coder.now.cells mode.context) neighbours given) }
 {
     let RegularMode { context, negative } = mode;
@@ -76,8 +80,10 @@ pub(crate) fn push_to_sample(
     chunk: &mut Chunk,
 ) -> SampleStep
     requires mode { IsRegularMode coder.now.cells.parameters neighbours mode.context mode.negative }
-    requires opened { IsOpen (regular_k (cell_at coder.now.cells mode.context)) (limit coder.now.cells.parameters) (qbpp coder.now.cells.parameters) code }
-    ensures { SamplePushed coder.now.cells.parameters (cell_at coder.now.cells mode.context) neighbours (bits_told (limit coder.now.cells.parameters) (qbpp coder.now.cells.parameters) code) chunk.old chunk.new result }
+    requires opened { IsOpen (regular_k (cell_at coder.now.cells mode.context)) (limit coder.now.cells.parameters)
+        (qbpp coder.now.cells.parameters) code }
+    ensures { SamplePushed coder.now.cells.parameters (cell_at coder.now.cells mode.context) neighbours
+        (bits_told (limit coder.now.cells.parameters) (qbpp coder.now.cells.parameters) code) chunk.old chunk.new result }
 {
     let k = coder.cells.regular_k(mode.context);
     match code.push_chunk(k, coder.lengths.limit, coder.lengths.qbpp, chunk) {
@@ -100,16 +106,20 @@ pub(crate) fn interruption_of(
 ) -> Option<Sample>
     requires order { order ≤ 15 }
     requires above { neighbours.rb ≤ coder.now.cells.parameters.maxval }
-    requires code { has_golomb (run_k (is_same neighbours) (run_cell_at coder.now.cells (is_same neighbours))) (limit coder.now.cells.parameters - order - 1) (qbpp coder.now.cells.parameters) mapped ≡ true }
+    requires code { has_golomb (run_k (is_same neighbours) (run_cell_at coder.now.cells (is_same neighbours)))
+        (limit coder.now.cells.parameters - order - 1) (qbpp coder.now.cells.parameters) mapped ≡ true }
     ensures sample { IfSome result (λ s. s.value ≤ coder.now.cells.parameters.maxval) }
     ensures another { IfSome result (λ s. s.value ≢ neighbours.ra) }
     ensures error { IfSome result (λ s. s.error ≡ interruption_error coder.now.cells.parameters neighbours s.value) }
     ensures reduced { IfSome result (λ s. IsError coder.now.cells.parameters s.error) }
     ensures another_error { IfSome result (λ s. is_same neighbours ≡ true → s.error ≢ pos 0) }
     ensures bits { IfSome result
-        (λ s. interrupting_bits coder.now.cells.parameters (run_cell_at coder.now.cells (is_same neighbours)) neighbours order s.value ≡ golomb (run_k (is_same neighbours) (run_cell_at coder.now.cells (is_same neighbours))) (limit coder.now.cells.parameters - order - 1) (qbpp coder.now.cells.parameters) mapped) }
+        (λ s. interrupting_bits coder.now.cells.parameters (run_cell_at coder.now.cells (is_same neighbours)) neighbours order s.value
+        ≡ golomb (run_k (is_same neighbours) (run_cell_at coder.now.cells (is_same neighbours)))
+        (limit coder.now.cells.parameters - order - 1) (qbpp coder.now.cells.parameters) mapped) }
     ensures none { IfNone result ((given unread : List Bool)
-        → given ≡ golomb (run_k (is_same neighbours) (run_cell_at coder.now.cells (is_same neighbours))) (limit coder.now.cells.parameters - order - 1) (qbpp coder.now.cells.parameters) mapped
+        → given ≡ golomb (run_k (is_same neighbours) (run_cell_at coder.now.cells (is_same neighbours)))
+        (limit coder.now.cells.parameters - order - 1) (qbpp coder.now.cells.parameters) mapped
         ++ unread → NoInterruption coder.now.cells.parameters (run_cell_at coder.now.cells (is_same neighbours)) neighbours order given) }
 {
     let Neighbours { ra, rb, .. } = neighbours;
@@ -136,8 +146,10 @@ pub(crate) fn push_to_interruption(
 ) -> SampleStep
     requires order { order ≤ 15 }
     requires above { neighbours.rb ≤ coder.now.cells.parameters.maxval }
-    requires opened { IsOpen (run_k (is_same neighbours) (run_cell_at coder.now.cells (is_same neighbours))) (limit coder.now.cells.parameters - order - 1) (qbpp coder.now.cells.parameters) code }
-    ensures { InterruptionPushed coder.now.cells.parameters (run_cell_at coder.now.cells (is_same neighbours)) neighbours order (bits_told (limit coder.now.cells.parameters - order - 1) (qbpp coder.now.cells.parameters) code) chunk.old chunk.new result }
+    requires opened { IsOpen (run_k (is_same neighbours) (run_cell_at coder.now.cells (is_same neighbours)))
+        (limit coder.now.cells.parameters - order - 1) (qbpp coder.now.cells.parameters) code }
+    ensures { InterruptionPushed coder.now.cells.parameters (run_cell_at coder.now.cells (is_same neighbours)) neighbours order
+        (bits_told (limit coder.now.cells.parameters - order - 1) (qbpp coder.now.cells.parameters) code) chunk.old chunk.new result }
 {
     let k = coder.cells.run_k(neighbours.ra == neighbours.rb);
     let limit = coder.lengths.limit - order - 1;

@@ -21,15 +21,18 @@ pub record Begins (h after : HeaderState) (scan : Scan) : Type 0 where
   pub restart_interval : scan.restart_interval ≡ h.restart_interval
 
 abbrev pub ScansBegin : Type 0
-ScansBegin = (h after : HeaderState) (code : ℕ) (payload : List ℕ) (scan : Scan) → headers_after h code payload ≡ Ok (after, Some scan) → Begins h after scan
+ScansBegin = (h after : HeaderState) (code : ℕ) (payload : List ℕ) (scan : Scan) → headers_after h code payload ≡ Ok (after, Some scan)
+    → Begins h after scan
 
 -- a scan that begins is in its ranges, if the headers before it are in theirs and the payload consists of bytes
 abbrev pub ScansAreInRange : Type 0
-ScansAreInRange = (h after : HeaderState) (code : ℕ) (payload : List ℕ) (scan : Scan) → IsHeaderState h → AreBytes payload → headers_after h code payload ≡ Ok (after, Some scan) → IsScan scan
+ScansAreInRange = (h after : HeaderState) (code : ℕ) (payload : List ℕ) (scan : Scan) → IsHeaderState h → AreBytes payload
+    → headers_after h code payload ≡ Ok (after, Some scan) → IsScan scan
 
 -- other segments count no scan
 abbrev pub OthersCountNone : Type 0
-OthersCountNone = (h after : HeaderState) (code : ℕ) (payload : List ℕ) → headers_after h code payload ≡ Ok (after, None) → after.scans ≡ h.scans
+OthersCountNone = (h after : HeaderState) (code : ℕ) (payload : List ℕ) → headers_after h code payload ≡ Ok (after, None)
+    → after.scans ≡ h.scans
 
 -- a whole segment is never refused as one that ends too early
 abbrev pub NeverEnded : Type 0

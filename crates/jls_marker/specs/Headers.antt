@@ -38,7 +38,8 @@ begin_tests f preset restart_interval scans s =
     ∷ []
 
 abbrev pub scan_judged : PictureShape → PresetParameters → ℕ → ℕ → ScanSelection → Result Scan MarkerFault
-scan_judged f preset restart_interval scans s = first_failing (begin_tests f preset restart_interval scans s) (scan_in f preset restart_interval s)
+scan_judged f preset restart_interval scans s = first_failing (begin_tests f preset restart_interval scans s)
+    (scan_in f preset restart_interval s)
 
 abbrev pub scan_under : HeaderState → ScanSelection → Option PictureShape → Result Scan MarkerFault
 scan_under h s None = Err fault.NoFrame
@@ -53,7 +54,18 @@ begun h (Err e) = Err e
 abbrev pub accepted : HeaderState → Segment → Result (HeaderState × Option Scan) MarkerFault
 accepted h (segment.Frame f) = first_failing ((is_none h.frame, fault.SecondFrame) ∷ []) (record h { frame = Some f }, None)
 accepted h (segment.Scan s) = begun h (scan_under h s h.frame)
-accepted h (segment.Preset maxval t1 t2 t3 reset) = Ok (record h { preset = record { maxval = maxval; t1 = t1; t2 = t2; t3 = t3; reset = reset } }, None)
+accepted h (segment.Preset maxval t1 t2 t3 reset) = Ok (
+  record h {
+    preset = record {
+      maxval = maxval;
+      t1 = t1;
+      t2 = t2;
+      t3 = t3;
+      reset = reset;
+    };
+  },
+  None,
+)
 accepted h (segment.Restart n) = Ok (record h { restart_interval = n }, None)
 accepted h (segment.Skipped code) = Ok (h, None)
 

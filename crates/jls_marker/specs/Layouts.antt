@@ -25,7 +25,8 @@ frame_component_bytes c = c.id ∷ c.sampling ∷ c.table ∷ []
 
 abbrev pub frame_header_bytes : FrameHeader → List ℕ
 frame_header_bytes h =
-    h.precision ∷ (to_be_bytes w16 h.height ++ (to_be_bytes w16 h.width ++ (length h.components ∷ flat_map frame_component_bytes h.components)))
+    h.precision ∷ (to_be_bytes w16 h.height ++ (to_be_bytes w16 h.width
+    ++ (length h.components ∷ flat_map frame_component_bytes h.components)))
 
 pub record HasFrameLayout (payload : List ℕ) (h : FrameHeader) : Type 0 where
   pub bytes : payload ≡ frame_header_bytes h
@@ -41,7 +42,12 @@ frame_components _ = []
 abbrev pub frame_header : List ℕ → Option FrameHeader
 frame_header (p ∷ y1 ∷ y0 ∷ x1 ∷ x0 ∷ n ∷ body) =
     if length body == 3 * n
-    then Some (record { precision = p; height = from_be_bytes w16 (y1 ∷ y0 ∷ []); width = from_be_bytes w16 (x1 ∷ x0 ∷ []); components = frame_components body })
+    then Some (record {
+      precision = p;
+      height = from_be_bytes w16 (y1 ∷ y0 ∷ []);
+      width = from_be_bytes w16 (x1 ∷ x0 ∷ []);
+      components = frame_components body;
+    })
     else None
 frame_header _ = None
 
@@ -81,7 +87,12 @@ abbrev pub scan_header : List ℕ → Option ScanHeader
 scan_header [] = None
 scan_header (n ∷ body) =
     if nat_le 1 n && (nat_le n 4 && (length body == 2 * n + 3))
-    then Some (record { components = scan_components (take (2 * n) body); near = get_or body (2 * n) 0; interleave = get_or body (2 * n + 1) 0; approximation = get_or body (2 * n + 2) 0 })
+    then Some (record {
+      components = scan_components (take (2 * n) body);
+      near = get_or body (2 * n) 0;
+      interleave = get_or body (2 * n + 1) 0;
+      approximation = get_or body (2 * n + 2) 0;
+    })
     else None
 
 -- Preset parameters (T.87, C.2.4.1.1) ----------------------------------------------------------------------

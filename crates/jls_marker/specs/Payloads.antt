@@ -35,6 +35,7 @@ abbrev pub IsPayload : ℕ → List ℕ → Segment → Type 0
 IsPayload code payload (Frame s) = (code ≡ sof55) × ((h : FrameHeader) × HasFrameLayout payload h × IsFrameHeaderOf s h)
 IsPayload code payload (Scan s) = (code ≡ sos) × ((h : ScanHeader) × HasScanLayout payload h × IsScanHeaderOf s h)
 IsPayload code payload (Preset maxval t1 t2 t3 reset) =
-    (code ≡ lse) × ((values : List ℕ) × (payload ≡ 1 ∷ values) × HasPresetLayout values (record { maxval = maxval; t1 = t1; t2 = t2; t3 = t3; reset = reset }))
+    (code ≡ lse) × ((values : List ℕ) × (payload ≡ 1 ∷ values)
+    × HasPresetLayout values (record { maxval = maxval; t1 = t1; t2 = t2; t3 = t3; reset = reset }))
 IsPayload code payload (Restart n) = (code ≡ dri) × HasRestartLayout payload n
 IsPayload code payload (Skipped c) = (c ≡ code) × ((is_skipped code ≡ true) ⊎ ((code ≡ lse) × (HasLseId payload 2 ⊎ HasLseId payload 3)))

@@ -22,7 +22,8 @@ pub record LayoutsAreRead : Type 0 where
 
 -- a payload is read as a segment exactly where it is a payload of this segment
 abbrev pub PayloadsAreRead : Type 0
-PayloadsAreRead = (code : ℕ) (payload : List ℕ) (s : Segment) → AreBytes payload → (segment_of code payload ≡ Ok s) ↔ IsPayload code payload s
+PayloadsAreRead = (code : ℕ) (payload : List ℕ) (s : Segment) → AreBytes payload
+    → (segment_of code payload ≡ Ok s) ↔ IsPayload code payload s
 
 -- what is written of a segment reads as this segment
 abbrev pub WrittenReadsBack : Type 0

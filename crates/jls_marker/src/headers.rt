@@ -47,7 +47,8 @@ impl PresetValues {
 
 /// How many samples the first restart interval of a scan has, which none of the others passes.
 fn first_samples(frame: &Shape, head: &ScanHead, restart_interval: u32) -> u64
-    ensures { result ≡ frame.now.width * length head.now.ids * (if restart_interval == 0 then frame.now.height else min restart_interval (frame.now.height - 0 * restart_interval)) }
+    ensures { result ≡ frame.now.width * length head.now.ids
+        * (if restart_interval == 0 then frame.now.height else min restart_interval (frame.now.height - 0 * restart_interval)) }
 {
     let row = u64::from(frame.width()) * head.ids().len() as u64;
     let height = u32::from(frame.height());
@@ -65,7 +66,13 @@ fn begin(
     scans: u8,
     head: &ScanHead,
 ) -> Result<ScanPlan, MarkerFault>
-    ensures judged { result ≡ scan_judged frame.now (record { maxval = preset.maxval; t1 = preset.t1; t2 = preset.t2; t3 = preset.t3; reset = preset.reset }) restart_interval scans head.now }
+    ensures judged { result ≡ scan_judged frame.now (record {
+      maxval = preset.maxval;
+      t1 = preset.t1;
+      t2 = preset.t2;
+      t3 = preset.t3;
+      reset = preset.reset;
+    }) restart_interval scans head.now }
     ensures few { OnOk result (scans < 16) }
 {
     let components = match indices_of(frame.ids(), head.ids()) {
@@ -101,7 +108,18 @@ impl Model for Headers {
 
     ghost Value = { HeaderState };
 
-    ghost view = { λ h. record { frame = h.frame; preset = record { maxval = h.preset.maxval; t1 = h.preset.t1; t2 = h.preset.t2; t3 = h.preset.t3; reset = h.preset.reset }; restart_interval = h.restart_interval; scans = h.scans } };
+    ghost view = { λ h. record {
+      frame = h.frame;
+      preset = record {
+        maxval = h.preset.maxval;
+        t1 = h.preset.t1;
+        t2 = h.preset.t2;
+        t3 = h.preset.t3;
+        reset = h.preset.reset;
+      };
+      restart_interval = h.restart_interval;
+      scans = h.scans;
+    } };
 
     ghost invariant = { λ h. h.scans ≤ 16 };
 }

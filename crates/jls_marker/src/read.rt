@@ -100,7 +100,12 @@ fn judge_scan(
 ) -> Result<Segment, MarkerFault>
     requires at_least { 1 ≤ length (scan_components components.now) }
     requires at_most { length components.now ≤ 8 }
-    ensures { result ≡ scan_of (Some (record { components = scan_components components.now; near = near; interleave = interleave; approximation = approximation })) }
+    ensures { result ≡ scan_of (Some (record {
+      components = scan_components components.now;
+      near = near;
+      interleave = interleave;
+      approximation = approximation;
+    })) }
 {
     let ids = scan_ids(components);
     if has_repeat(&ids) {

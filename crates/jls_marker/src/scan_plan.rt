@@ -20,9 +20,21 @@ impl Model for ScanPlan {
 
     ghost Value = { Scan };
 
-    ghost view = { λ s. record { components = s.components.items; params = s.params; width = s.width; height = s.height; restart_interval = s.restart_interval } };
+    ghost view = { λ s. record {
+      components = s.components.items;
+      params = s.params;
+      width = s.width;
+      height = s.height;
+      restart_interval = s.restart_interval;
+    } };
 
-    ghost invariant = { λ s. IsScan (record { components = s.components.items; params = s.params; width = s.width; height = s.height; restart_interval = s.restart_interval }) };
+    ghost invariant = { λ s. IsScan (record {
+      components = s.components.items;
+      params = s.params;
+      width = s.width;
+      height = s.height;
+      restart_interval = s.restart_interval;
+    }) };
 }
 
 impl ScanPlan {
@@ -42,7 +54,8 @@ impl ScanPlan {
         requires at_least { 1 ≤ length components.items }
         requires at_most { length components.items ≤ 4 }
         requires bytes { AllByRecursion (λ c. c < 256) components.items }
-        requires samples { frame.now.width * length components.items * row_count (scan_with frame.now components.items params restart_interval) 0 ≤ 2 ^ 28 }
+        requires samples { frame.now.width * length components.items
+            * row_count (scan_with frame.now components.items params restart_interval) 0 ≤ 2 ^ 28 }
         ensures { result ≡ scan_with frame.now components.items params restart_interval }
     {
         ScanPlan {

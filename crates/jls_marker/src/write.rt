@@ -97,7 +97,8 @@ fn put(out: &mut Vec<u8>, code: u8, payload: &[u8]) -> Result<(), AllocError>
 /// nothing is appended.
 pub fn write_segment(out: &mut Vec<u8>, segment: &Segment) -> Result<(), AllocError>
     requires { written.CanBeWritten segment.now }
-    ensures written { OnOk result (out.new.items ≡ out.old.items ++ written.segment_bytes (written.code_of segment.now) (written.payload_of segment.now)) }
+    ensures written { OnOk result (out.new.items ≡ out.old.items
+        ++ written.segment_bytes (written.code_of segment.now) (written.payload_of segment.now)) }
     ensures reads_back { segment_of (written.code_of segment.now) (written.payload_of segment.now) ≡ Ok segment.now }
     ensures unchanged { OnErr result (out.new.items ≡ out.old.items) }
 {

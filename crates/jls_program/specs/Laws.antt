@@ -27,7 +27,8 @@ pub record JoinRan (source : Option ℕ) (out : Text) (names : List Text) (joine
   pub is_done : JoinIsDone source out names joined settled true events
   pub status_is : (status ≡ 0) ↔ IsSettled joined
 
--- Where the words ask for a join and the status is 0 or 1, the join is done under the source that they name, with status 0 exactly where each line is
+-- Where the words ask for a join and the status is 0 or 1, the join is done under the source that they name, with status 0
+-- exactly where each line is
 -- settled; and nothing is reported or printed
 abbrev pub DoneJoinsRan : Type 0
 DoneJoinsRan =

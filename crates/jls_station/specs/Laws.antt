@@ -36,7 +36,8 @@ AreInputsOf source (bytes ∷ inputs) (p ∷ ps) = GivesPartial source bytes p �
 AreInputsOf source _ _ = ⊥
 
 -- Two runs of `join` under one source that are done and whose inputs, texts and copies, gave the same bytes, in whatever order, however
--- often, under whatever names, and however their reading stopped: what they join is one picture, and their outputs are handed the same bytes
+-- often, under whatever names, and however their reading stopped: what they join is one picture, and their outputs are handed the
+-- same bytes
 abbrev pub SameInputsSameOutput : Type 0
 SameInputsSameOutput =
     (source : Option ℕ) (out : List ℕ) (names : List (List ℕ)) (joined : PartialPicture) (settled whole : Bool) (events : List Event)

@@ -37,9 +37,11 @@ pub data CopyStops : TakeFault → List Event → Type 0 where
   no_picture : (bytes : List ℕ) (f : MarkerFault) (offset : ℕ) (reads : List Event)
       → IsRead IsCopyDone reads bytes Whole → CopyGivesNone bytes (copy.NoPicture f offset) → CopyStops (fault.NoPicture f offset) reads
   not_read : (bytes : List ℕ) (stop : ReadStop) (f : MarkerFault) (offset : ℕ) (reads : List Event) → (stop ≡ Whole → ⊥)
-      → IsRead IsCopyDone reads bytes stop → CopyGivesNone bytes (copy.NoPicture f offset) → CopyStops (fault.Read stop (length bytes)) reads
+      → IsRead IsCopyDone reads bytes stop → CopyGivesNone bytes (copy.NoPicture f offset)
+      → CopyStops (fault.Read stop (length bytes)) reads
   between_reads : (reads : List Event) → IsReadInPart IsCopyDone reads → CopyStops fault.OutOfMemory reads
-  behind_the_last : (bytes : List ℕ) (stop : ReadStop) (reads : List Event) → IsRead IsCopyDone reads bytes stop → CopyStops fault.OutOfMemory reads
+  behind_the_last : (bytes : List ℕ) (stop : ReadStop) (reads : List Event) → IsRead IsCopyDone reads bytes stop
+      → CopyStops fault.OutOfMemory reads
 
 -- a station that held `old` took a copy of its shape, whose report this is, and holds `new`
 pub record TakesCopy (source : Option ℕ) (old new : PartialPicture) (report : CopyReport) (reads : List Event) : Type 0 where
@@ -51,7 +53,8 @@ pub record TakesCopy (source : Option ℕ) (old new : PartialPicture) (report : 
 -- A station that held the first of these refused a copy for this fault, and holds the second: the copy gives nothing; it has another
 -- shape; or it has not, and memory ran out as the two were joined, so that some of the copy's readings may be held
 pub data RefusesCopy : Option ℕ → PartialPicture → PartialPicture → TakeFault → List Event → Type 0 where
-  gives_none : (source : Option ℕ) (old : PartialPicture) (f : TakeFault) (reads : List Event) → CopyStops f reads → RefusesCopy source old old f reads
+  gives_none : (source : Option ℕ) (old : PartialPicture) (f : TakeFault) (reads : List Event) → CopyStops f reads
+      → RefusesCopy source old old f reads
   other_shape : (source : Option ℕ) (old p : PartialPicture) (report : CopyReport) (reads : List Event)
       → CopyGives source p report reads → has_same_shape old p ≡ false → RefusesCopy source old old fault.ShapeDiffers reads
   no_memory : (source : Option ℕ) (old new p : PartialPicture) (report : CopyReport) (reads : List Event)

@@ -101,7 +101,8 @@ impl InputRead {
 
     /// The report of a copy. There is none of a text.
     pub fn copy(&self) -> Option<&TakeReport>
-        ensures { MatchOption result (self.now.copy ≡ None) (λ report. (self.now.copy ≡ Some report.now.found) × (self.now.stop ≡ report.now.stop)) }
+        ensures { MatchOption result (self.now.copy ≡ None) (λ report. (self.now.copy ≡ Some report.now.found)
+            × (self.now.stop ≡ report.now.stop)) }
     {
         self.copy.as_ref()
     }
@@ -219,7 +220,8 @@ fn read_copy<S: Source>(
     }
 }
 
-/// What a device gives, from its current position on: a copy under the number of a source if there is one. An input whose first byte is 4A is the text of a partial picture, and is read to
+/// What a device gives, from its current position on: a copy under the number of a source if there is one. An input whose first
+/// byte is 4A is the text of a partial picture, and is read to
 /// its end. Every other input is a damaged copy, the empty one too, and is read as long as more bytes can change what it gives.
 /// Reads have room for at most 4,096 bytes, and there are at most 4,294,967,295 of them.
 ///

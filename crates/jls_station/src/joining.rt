@@ -12,7 +12,8 @@ use std::alloc::Global;
 
 /// The command `join`: takes these inputs, in turn, and then creates the output and writes the text of their
 /// union to it. An input is a text or a copy; the readings of each copy
-/// are taken under the source of the inputs, if there is one. A copy whose source stopped behind a frame is taken as far as it was read, and then the
+/// are taken under the source of the inputs, if there is one. A copy whose source stopped behind a frame is taken as far as it
+/// was read, and then the
 /// outcome says that not every input was read whole.
 pub fn join<'a, D: Desk>(
     alloc: Global,

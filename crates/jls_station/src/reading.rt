@@ -73,9 +73,12 @@ pub(crate) fn read_copy_on<S: Source>(
     requires fed_few { IsSomeAnd reader.old (λ fed. length fed ≤ 4096 * made) }
     ensures begins { (fed : List ℕ) → reader.old ≡ Some fed → 0 < length fed
         → IfOk result (λ stop. IsSomeAnd reader.new (λ bytes. is_text bytes ≡ is_text fed)) }
-    ensures read { (before : History) (fed : List ℕ) → reader.old ≡ Some fed → GrewBy (ReadSoFar IsCopyDone made fed) before (S.history device.old)
-        → IfOk result (λ stop. IsSomeAnd reader.new (λ bytes. GrewBy (λ reads. IsRead IsCopyDone reads bytes stop) before (S.history device.new))) }
-    ensures refused { (before : History) (fed : List ℕ) → reader.old ≡ Some fed → GrewBy (ReadSoFar IsCopyDone made fed) before (S.history device.old)
+    ensures read { (before : History) (fed : List ℕ) → reader.old ≡ Some fed
+        → GrewBy (ReadSoFar IsCopyDone made fed) before (S.history device.old)
+        → IfOk result (λ stop. IsSomeAnd reader.new (λ bytes. GrewBy (λ reads. IsRead IsCopyDone reads bytes stop) before
+        (S.history device.new))) }
+    ensures refused { (before : History) (fed : List ℕ) → reader.old ≡ Some fed
+        → GrewBy (ReadSoFar IsCopyDone made fed) before (S.history device.old)
         → OnErr result (GrewBy (IsReadInPart IsCopyDone) before (S.history device.new)) }
 {
     let mut chunk = [0u8; 4096];

@@ -65,7 +65,8 @@ fn read_from_start<S: Source>(
 
 impl Station {
     /// Takes in the readings of a damaged copy, under the number of a source if there is one: reads it whole, from the device's current
-    /// position on, then checks its shape, and then merges. A device that stops behind a frame ends the copy there, and the report tells how it stopped. Reads have room for at most
+    /// position on, then checks its shape, and then merges. A device that stops behind a frame ends the copy there, and the
+    /// report tells how it stopped. Reads have room for at most
     /// 4,096 bytes, there are at most 4,294,967,295 of them, and none is made where no byte more can change what the copy gives.
     ///
     /// At `NoPicture`, `Read` and `ShapeDiffers` nothing has changed; after `OutOfMemory` all that was held is still held, with some or

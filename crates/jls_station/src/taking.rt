@@ -59,7 +59,8 @@ pub fn take_inputs<'a, D: Desk>(
     inputs: JoinInputs<'_, 'a>,
 ) -> Result<Taken, Refusal<'a>>
     ensures taken { IfOk result (λ taken.
-        GrewBy (TakesUnion inputs.entry.source (names_of inputs.entry) taken.station taken.whole) (D.history desk.old) (D.history desk.new)) }
+        GrewBy (TakesUnion inputs.entry.source (names_of inputs.entry) taken.station taken.whole) (D.history desk.old)
+        (D.history desk.new)) }
     ensures stopped { IfErr result (λ refusal.
         GrewBy (StopsAtInput inputs.entry.source (names_of inputs.entry) refusal) (D.history desk.old) (D.history desk.new)) }
 {

@@ -59,7 +59,8 @@ abbrev pub bare_app : App
 bare_app = let app = new_app (codes "jls-salvage") in record app { top = record app.top { has_version = true; subcommand_required = true } }
 
 abbrev pub salvage_app : App
-salvage_app = with_subcommand (with_subcommand (with_subcommand (with_subcommand bare_app check_app.top) show_app.top) join_app.top) write_app.top
+salvage_app = with_subcommand (with_subcommand (with_subcommand
+    (with_subcommand bare_app check_app.top) show_app.top) join_app.top) write_app.top
 
 -- by clap's own definitions the program takes the words, or there is no fault in them
 abbrev pub AreTaken : List Text → Type 0

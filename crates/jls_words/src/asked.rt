@@ -56,7 +56,8 @@ fn asked_join<'m, 'a>(
     files: Option<&'m [&'a str]>,
 ) -> Option<Asked<'m, 'a>>
     ensures { option_map asked_of result
-        ≡ spec.asked_join (option_map (λ s. s.now) source.entry) (option_map (λ s. s.now) out.entry) (option_map (λ s. map (λ f. f.now) s.now) files.entry) }
+        ≡ spec.asked_join (option_map (λ s. s.now) source.entry) (option_map (λ s. s.now) out.entry)
+        (option_map (λ s. map (λ f. f.now) s.now) files.entry) }
 {
     let (Some(out), Some([first, others @ ..])) = (out, files) else {
         return None;
@@ -133,7 +134,8 @@ fn asked_write<'m, 'a>(
     file: Option<&'a str>,
 ) -> Option<Asked<'m, 'a>>
     ensures { option_map asked_of result
-        ≡ spec.asked_write (option_map (λ s. s.now) format.entry) options (option_map (λ s. s.now) out.entry) (option_map (λ s. s.now) file.entry) }
+        ≡ spec.asked_write (option_map (λ s. s.now) format.entry) options (option_map (λ s. s.now) out.entry)
+        (option_map (λ s. s.now) file.entry) }
 {
     let (Some(format), Some((line, ri)), Some(out), Some(file)) = (format, options, out, file)
     else {
