@@ -2,7 +2,7 @@
 
 /// The bytes of a copy, and what it gives: its readings as component, line and samples, then each faulty piece as scan, interval,
 /// offset and kind, their number and the copy's end; or the fault for which it has no picture.
-pub(crate) const COPIES: [(&str, &str); 39] = [
+pub(crate) const COPIES: [(&str, &str); 42] = [
     // A picture of four lines.
     (
         "FF D8 FF F7 00 0B 08 00 04 00 04 01 01 11 00 FF DA 00 08 01 01 00 00 00 00 C0 00 00 6C 80 20 8E 01 C0 00 00 \
@@ -210,6 +210,24 @@ pub(crate) const COPIES: [(&str, &str); 39] = [
     (
         "FF D8 FF F7 00 0E 08 00 02 00 01 02 01 11 00 02 11 00 FF DA 00 0A 02 01 00 02 00 00 01 00 07 07",
         "0.0=[10] | 0 0 30 Broken; 1 Input(32)",
+    ),
+    // Two components by line and two rows, whole.
+    (
+        "FF D8 FF F7 00 0E 08 00 02 00 01 02 01 11 00 02 11 00 FF DA 00 0A 02 01 00 02 00 00 01 00 07 07 80 10 B0 FF \
+         D9",
+        "0.0=[10] 0.1=[30] 1.0=[20] 1.1=[40] | 0 Eoi(35)",
+    ),
+    // Fill before every marker, and preset parameters that hold for the second scan too.
+    (
+        "FF FF D8 FF FF F7 00 0E 08 00 02 00 01 02 01 11 00 02 11 00 FF F8 00 0D 01 00 0F 00 00 00 00 00 00 00 00 FF \
+         FF DD 00 04 00 01 FF DA 00 08 01 01 00 00 00 00 40 FF FF FF D0 40 FF FF DA 00 08 01 02 00 00 00 00 40 FF FF \
+         D0 FF A3 FF FF FF D9",
+        "0.0=[15] 0.1=[15] 1.0=[15] | 1 1 73 Broken; 1 Eoi(77)",
+    ),
+    // A length of 1 behind fill.
+    (
+        "FF D8 FF F7 00 0B 08 00 01 00 01 01 01 11 00 FF FF E0 00 01",
+        "| 0 Header(Length, 16)",
     ),
 ];
 
