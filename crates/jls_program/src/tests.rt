@@ -1,5 +1,6 @@
 //! The program over a desk in memory: what it writes and prints, and how it ends.
 
+mod checking;
 mod copies;
 mod cutting;
 mod failing;

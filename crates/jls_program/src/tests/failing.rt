@@ -1,5 +1,7 @@
 //! Devices that fail.
 
+ghost use Rattle.std.specs.Prelude.{◌≤◌};
+
 use super::memory::{GOOD, Manners};
 use super::pictures::{DISPUTED, TEN};
 use super::run_words;
@@ -27,12 +29,23 @@ fn stops_where_a_read_fails(rt: HostRuntime) -> Result<(), Fail> {
 }
 
 /// How many lines of the copy `whole` stand in its first so many bytes.
-fn lines_in(count: usize) -> usize {
-    if count < 31 { 0 } else { (count - 29) / 3 }
+pub(super) fn lines_in(count: usize) -> usize
+    ensures { result ≤ 10 }
+{
+    if count < 31 {
+        0
+    } else {
+        ((count - 29) / 3).min(10)
+    }
 }
 
-/// What `check whole` reports where a read fails behind so many bytes, with the frame among them and the end of the image not.
-fn report_of_front(alloc: Global, count: usize) -> Result<String, Fail> {
+/// What `check` reports of the first so many bytes of `whole`, with the frame among them and the end of the image not: where a read fails
+/// behind them, and where they are all.
+pub(super) fn report_of_front(
+    alloc: Global,
+    count: usize,
+    has_failed: bool,
+) -> Result<String, Fail> {
     let mut out = String::new(alloc);
     if 31 <= count && count <= 58 && count % 3 == 1 {
         write!(out, "piece 0 {} {count} broken\n", (count - 31) / 3)?;
@@ -44,10 +57,10 @@ fn report_of_front(alloc: Global, count: usize) -> Result<String, Fail> {
     }
     let lines = lines_in(count);
     let missing = 10usize.saturating_sub(lines);
-    write!(
-        out,
-        "read failed {count}\npicture 1x10, 8 bits, components 1\n"
-    )?;
+    if has_failed {
+        write!(out, "read failed {count}\n")?;
+    }
+    out.push_str("picture 1x10, 8 bits, components 1\n")?;
     write!(out, "settled {lines}, missing {missing}, disputed 0\n")?;
     if lines < 10 {
         write!(out, "missing 1 {lines}-9\n")?;
@@ -56,7 +69,9 @@ fn report_of_front(alloc: Global, count: usize) -> Result<String, Fail> {
 }
 
 /// The text of the first so many lines of the picture of ten.
-fn text_of_front(alloc: Global, lines: usize) -> Result<Vec<u8>, Fail> {
+fn text_of_front(alloc: Global, lines: usize) -> Result<Vec<u8>, Fail>
+    requires { lines ≤ 10 }
+{
     let mut text = Vec::from_slice(alloc, &TEN[..15])?;
     text.push(lines as u8)?;
     text.extend_from_slice(&TEN[16..16 + 21 * lines])?;
@@ -80,7 +95,7 @@ fn keeps_what_was_read_of_a_copy(rt: HostRuntime) -> Result<(), Fail> {
             assert_eq!(rt; joined.faults.as_slice(), line, "at {count}");
             assert!(rt; checked.report.is_empty() && joined.output.is_none());
         } else {
-            let report = report_of_front(alloc, count)?;
+            let report = report_of_front(alloc, count, true)?;
             let text = text_of_front(alloc, lines_in(count))?;
             let output = joined.output.ok_or("no output")?;
             assert_eq!(rt; checked.report.as_slice(), report.as_bytes(), "at {count}");
