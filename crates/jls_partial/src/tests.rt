@@ -46,6 +46,18 @@ const OTHER_SHAPE: &[u8] =
 const SECOND_LINE: &[u8] =
     b"JLSP\x02\x08\0\x01\0\x02\x01\x01\0\0\0\x01\0\0\x01\0\0\0\0\0\0\0\x01\0\xFF\0\0\0\0\0\0\0\0";
 
+/// Two components of two lines, of which the second line of the first was read as 4.
+const IN_FIRST: &[u8] =
+    b"JLSP\x02\x08\0\x01\0\x02\x02\x01\x02\0\0\0\x01\0\0\x01\0\0\0\0\0\0\0\x01\0\x04\0\0\0\0\0\0\0\0";
+
+/// The first line of the second was read as 9.
+const IN_SECOND: &[u8] =
+    b"JLSP\x02\x08\0\x01\0\x02\x02\x01\x02\0\0\0\x01\x01\0\0\0\0\0\0\0\0\0\x01\0\x09\0\0\0\0\0\0\0\0";
+
+/// Both: entries stand by component, and then by line.
+const IN_BOTH: &[u8] =
+    b"JLSP\x02\x08\0\x01\0\x02\x02\x01\x02\0\0\0\x02\0\0\x01\0\0\0\0\0\0\0\x01\0\x04\0\0\0\0\0\0\0\0\x01\0\0\0\0\0\0\0\0\0\x01\0\x09\0\0\0\0\0\0\0\0";
+
 /// What stands before the entries of ten lines of one sample.
 const TEN_LINES: [u8; 16] = [0x4A, 0x4C, 0x53, 0x50, 2, 8, 0, 1, 0, 10, 1, 1, 0, 0, 0, 10];
 
@@ -68,6 +80,7 @@ fn joins_of_two(rt: HostRuntime) -> Result<(), Fail> {
         (THREE, SOURCE_7, SOURCE_7),
         (SOURCE_2, SOURCE_7, TWO_SOURCES),
         (TWO_READINGS, SOURCE_7, ONE_SOURCE),
+        (IN_SECOND, IN_FIRST, IN_BOTH),
     ] {
         assert_eq!(rt; join_of(rt.alloc(), one, other)?.as_slice(), joined);
         assert_eq!(rt; join_of(rt.alloc(), other, one)?.as_slice(), joined);

@@ -24,6 +24,9 @@ defaults_2 = refl
 maxval_127 : params_of 8 127 0 0 0 0 ≡ values 8 127 2 3 10 64
 maxval_127 = refl
 
+maxval_64 : params_of 8 64 0 0 0 0 ≡ values 8 64 2 3 7 64
+maxval_64 = refl
+
 maxval_15 : params_of 8 15 0 0 0 0 ≡ values 8 15 2 3 4 64
 maxval_15 = refl
 

@@ -300,6 +300,8 @@ fn long_pieces(rt: HostRuntime) -> Result<(), Fail> {
     let long = Some(PieceFault::Long);
     assert!(rt; reads_as(alloc, &params, 1, 1, 1, &[0xC0], &[&[0]]));
     assert_eq!(rt; fault(alloc, &params, 1, 1, &[0x80, 0x00]), long);
+    // Eight bits, behind a code of eight.
+    assert_eq!(rt; fault(alloc, &params, 1, 1, &[0x05, 0x00]), long);
     assert_eq!(rt;
         fault(alloc, &params, 1, 1, &[0x80, 0x00, 0xFF, 0x00]),
         long

@@ -92,6 +92,20 @@ fn several_lines(rt: HostRuntime) -> Result<(), Fail> {
     Ok(())
 }
 
+/// RESET is 3. Runs go on over lines, and are interrupted above, below and beside Rb. CharLS 2.4.1 writes the same.
+#[test]
+fn runs_of_several_lines(rt: HostRuntime) -> Result<(), Fail> {
+    let params = Params::new(8, 0, 0, 0, 0, 3)?;
+    let lines: [&[u16]; 3] = [
+        &[11, 9, 11, 11, 11, 9],
+        &[11, 11, 11, 11, 11, 8],
+        &[11, 11, 11, 11, 11, 9],
+    ];
+    let bytes = [0x02, 0xA2, 0xC8, 0xA2, 0x4D, 0xBC, 0xA0];
+    assert!(rt; written_as(rt.alloc(), &params, 6, 1, &lines, &bytes)?);
+    Ok(())
+}
+
 #[test]
 fn several_components(rt: HostRuntime) -> Result<(), Fail> {
     let alloc = rt.alloc();
@@ -100,5 +114,12 @@ fn several_components(rt: HostRuntime) -> Result<(), Fail> {
     let zeros: &[u16] = &[0; 4];
     let lines = [zeros, zeros, zeros];
     assert!(rt; written_as(alloc, &params, 4, 3, &lines, &[0xFF, 0x78])?);
+    // Two rows; and both components in the contexts of one MAXVAL, which isn't that of the precision.
+    let lines: [&[u16]; 4] = [&[10], &[20], &[30], &[40]];
+    let bytes = [0x07, 0x07, 0x80, 0x10, 0xB0];
+    assert!(rt; written_as(alloc, &params, 1, 2, &lines, &bytes)?);
+    let params = Params::new(8, 159, 0, 0, 0, 0)?;
+    let lines: [&[u16]; 2] = [&[10, 12], &[10, 12]];
+    assert!(rt; written_as(alloc, &params, 2, 2, &lines, &[0x07, 0xE2, 0xE8])?);
     Ok(())
 }
