@@ -23,7 +23,7 @@ abbrev filled : ScanCut
 filled = record { closed = record { piece = 0x80 ∷ []; fill = 2; mark = 5 } ∷ []; last = []; end = at_input 2 }
 
 filled_told : IsCut (0x80 ∷ 0xFF ∷ 0xFF ∷ 0xFF ∷ 0xD5 ∷ 0xFF ∷ 0xFF ∷ []) filled
-filled_told = record { whole = refl; each = ((λ h. omega arith, lit< tt), tt); last = λ h. omega arith; end = refl }
+filled_told = record { whole = refl; each = ((λ h. omega arith, lit< tt), tt); last = tt; end = tt }
 
 -- where lines 0 to 9 have an interval each and the marks 0 to 6 are lost, the mark 7 gives 8; eight lost marks can't be told from none
 seven_lost : numbers_behind 10 0 (7 ∷ 0 ∷ []) ≡ Interval 8 ∷ Interval 9 ∷ []

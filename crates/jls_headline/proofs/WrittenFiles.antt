@@ -7,7 +7,7 @@ use Rattle.jls_values.specs.Shape.{PictureShape}
 use Rattle.jls_partial.specs.Reading.{Reading}
 use Rattle.jls_partial.specs.Partial.{PartialPicture}
 use Rattle.jls_copy.specs.Course.{Course}
-use Rattle.jls_copy.specs.Pieces.{FoundPiece, Outcome, Lines, pieces, AreOutcomes, readings_of, readings}
+use Rattle.jls_copy.specs.Pieces.{FoundPiece, PieceOutcome, Lines, pieces, AreOutcomes, readings_of, readings}
 use Rattle.jls_copy.proofs.OneCourse.{one_course}
 use Rattle.jls_picture.specs.Picture.{WholePicture, line_of, picture_of}
 use Rattle.jls_file.specs.WrittenFile.{written_file}
@@ -49,8 +49,8 @@ is_whole pic is = record { shape = is.shape; widths = widths }
 -- What a file that is read back gives ----------------------------------------------------------------------------
 
 -- outcomes of which one is this piece's own
-with_own : (ps : List FoundPiece) (os : List Outcome) (p : FoundPiece) (r : Reading) → AreOutcomes ps os → Contains ps p → PieceGives p r
-    → (others : List Outcome) × AreOutcomes ps others × Contains (readings ps others) r
+with_own : (ps : List FoundPiece) (os : List PieceOutcome) (p : FoundPiece) (r : Reading) → AreOutcomes ps os → Contains ps p → PieceGives p r
+    → (others : List PieceOutcome) × AreOutcomes ps others × Contains (readings ps others) r
 with_own [] os p r are c g = absurd (none_in p c)
 with_own (q ∷ ps) [] p r are c g = absurd are
 with_own (q ∷ ps) (o ∷ os) p r are c g =
