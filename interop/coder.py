@@ -244,25 +244,27 @@ def most_significant_first(samples):
     return samples
 
 
-def built():
-    """The path of the program, which is built first where it is not there or older than its sources."""
-    program = os.path.join(KEPT, f"{NAME}-{key()}")
+def built(name=NAME, text=PROGRAM, crates=CRATES, libraries="jls_values jls_interval"):
+    """The path of a program of this name and text over these libraries, which stand on `crates`. It is built first where it is not there or
+    older than its sources."""
+    program = os.path.join(KEPT, f"{name}-{key(text, crates)}")
     if not os.path.exists(program):
         if shutil.which("rt") is None:
             sys.exit("the command 'rt' of the Rattle toolchain is not on the PATH")
-        print("building and proving the coder's program, which can take minutes", file=sys.stderr)
+        print(f"building and proving the program {name}, which can take minutes", file=sys.stderr)
         os.makedirs(KEPT, exist_ok=True)
-        for old in glob.glob(os.path.join(KEPT, f"{NAME}-*")):
+        for old in glob.glob(os.path.join(KEPT, f"{name}-*")):
             os.remove(old)
         with tempfile.TemporaryDirectory() as folder:
-            os.replace(shutil.copy(build(folder), program + ".new"), program)
+            made = build(folder, name, text, crates, libraries)
+            os.replace(shutil.copy(made, program + ".new"), program)
     return program
 
 
-def key():
-    """A hash of all that the program is made of: its text, and the crates' sources without their tests."""
-    made = hashlib.sha256(PROGRAM.encode())
-    parts = [f"{crate}/{source}/**" for crate in CRATES for source in SOURCES]
+def key(text, crates):
+    """A hash of all that a program is made of: its text, and the crates' sources without their tests."""
+    made = hashlib.sha256(text.encode())
+    parts = [f"{crate}/{source}/**" for crate in crates for source in SOURCES]
     for name in sorted(name for part in parts for name in glob.glob(part, root_dir=CRATES_FOLDER, recursive=True)):
         path = os.path.join(CRATES_FOLDER, name)
         if os.path.isfile(path) and "/tests" not in name:
@@ -271,21 +273,21 @@ def key():
     return made.hexdigest()[:16]
 
 
-def build(folder):
-    """The program, built in a copy of the crates with one crate more. What was checked before, in `out`, is copied too."""
-    for crate in CRATES:
+def build(folder, name, text, crates, libraries):
+    """A program, built in a copy of the crates with one crate more. What was checked before, in `out`, is copied too."""
+    for crate in crates:
         shutil.copytree(os.path.join(CRATES_FOLDER, crate), os.path.join(folder, "crates", crate), symlinks=True)
     with open(os.path.join(TOP, "crates.txt")) as file:
-        lines = [line for line in file if line.split(":")[0] in CRATES]
+        lines = [line for line in file if line.split(":")[0] in crates]
     with open(os.path.join(folder, "crates.txt"), "w") as file:
-        file.writelines([*lines, f"{NAME}: jls_values jls_interval\n"])
-    crate = os.path.join(folder, "crates", NAME)
+        file.writelines([*lines, f"{name}: {libraries}\n"])
+    crate = os.path.join(folder, "crates", name)
     for source in SOURCES:
         os.makedirs(os.path.join(crate, source))
     open(os.path.join(crate, "specs", "Lib.antt"), "w").close()
     with open(os.path.join(crate, "src", "main.rt"), "w") as file:
-        file.write(PROGRAM)
+        file.write(text)
     done = subprocess.run(["rt", "run"], cwd=crate, stdin=subprocess.DEVNULL, stdout=subprocess.PIPE, stderr=subprocess.STDOUT)
     if done.returncode != 0:
-        sys.exit(f"{done.stdout.decode()}the coder's program could not be built")
-    return os.path.join(crate, "out", NAME)
+        sys.exit(f"{done.stdout.decode()}the program {name} could not be built")
+    return os.path.join(crate, "out", name)
