@@ -49,7 +49,8 @@ is_whole pic is = record { shape = is.shape; widths = widths }
 -- What a file that is read back gives ----------------------------------------------------------------------------
 
 -- outcomes of which one is this piece's own
-with_own : (ps : List FoundPiece) (os : List PieceOutcome) (p : FoundPiece) (r : Reading) → AreOutcomes ps os → Contains ps p → PieceGives p r
+with_own : (ps : List FoundPiece) (os : List PieceOutcome) (p : FoundPiece) (r : Reading) → AreOutcomes ps os → Contains ps p
+    → PieceGives p r
     → (others : List PieceOutcome) × AreOutcomes ps others × Contains (readings ps others) r
 with_own [] os p r are c g = absurd (none_in p c)
 with_own (q ∷ ps) [] p r are c g = absurd are

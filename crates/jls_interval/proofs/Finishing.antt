@@ -1,7 +1,6 @@
 -- What a decoder holds at the end of its bytes.
-use Rattle.std.proofs.Common.{◌≡◌, ℕ, ◌*◌, ◌<◌, ◌≤◌, Bool, true, false, List, [], ◌∷◌, ◌++◌, length, get_or, suc, map, Vec, Global, Result, Ok, Err, refl, sym, ap, ◌∙◌, subst, arith, inl, inr, append_assoc, length-append}
+use Rattle.std.proofs.Common.{◌≡◌, ℕ, ◌*◌, ◌<◌, ◌≤◌, Bool, true, false, List, [], ◌∷◌, ◌++◌, length, get_or, suc, map, Vec, Global, Result, Ok, Err, sym, ap, ◌∙◌, subst, arith, inl, inr, append_assoc, length-append}
 use Rattle.std.specs.Prelude.{not, Option, Some, None, MatchOption, IfSome, MatchResult}
-use Rattle.std.specs.Option.{option_map}
 use Rattle.std.proofs.lemmas.List.{append-nil}
 use Rattle.std.proofs.lemmas.Bool.{cases_Bool}
 use Rattle.std.specs.List.{AllByRecursion}
@@ -12,34 +11,13 @@ use Rattle.jls_bits.proofs.Appending.{whole_front}
 use Rattle.jls_interval.specs.Reads.{Reads, IsLong, IsBroken}
 use Rattle.jls_interval.specs.PieceFaults.{NoLines, OutcomeIs}
 use Rattle.jls_interval.specs.Decoding.{IsOver, IsDead, IsReading, TakesFirst}
-use Rattle.jls_interval.specs.IntervalBytes.{IntervalBytes, bytes_of, IsReadingBefore, HasLengths}
+use Rattle.jls_interval.specs.IntervalBytes.{IsReadingBefore, HasLengths}
 use Rattle.jls_interval.specs.declared.interval_reader.IntervalReader.{IntervalReader}
 use Rattle.jls_interval.specs.declared.decode_piece.PieceFault.{PieceFault}
 use Rattle.jls_interval.specs.declared.decode_piece.PieceFault.TheVariants.{Long, Broken, OutOfMemory}
 use Rattle.jls_interval.proofs.PiecesReadOnce.{reads_once, read_not_long}
 
 -- The bytes so far ---------------------------------------------------------------------------
-
--- nothing more, and more twice
-more_none : (o : Option (List ℕ)) → o ≡ option_map (λ bytes. bytes ++ []) o
-more_none None = refl
-more_none (Some bytes) = ap Some (sym (append-nil bytes))
-
-more_twice : (xs ys zs : List ℕ) → zs ≡ xs ++ ys → (o : Option (List ℕ))
-    → option_map (λ bytes. bytes ++ ys) (option_map (λ bytes. bytes ++ xs) o) ≡ option_map (λ bytes. bytes ++ zs) o
-more_twice xs ys zs e None = refl
-more_twice xs ys zs e (Some bytes) = ap Some (append_assoc bytes xs ys ∙ ap (λ z. bytes ++ z) (sym e))
-
-pub pushed_none : (v : IntervalBytes) → v ≡ record v { bytes = option_map (λ bytes. bytes ++ []) v.bytes }
-pushed_none v = ap (λ o. record v { bytes = o }) (more_none v.bytes)
-
-pub pushed_then : (v a b : IntervalBytes) (xs ys zs : List ℕ) → a ≡ record v { bytes = option_map (λ bytes. bytes ++ xs) v.bytes } → b ≡ record a { bytes = option_map (λ bytes. bytes ++ ys) a.bytes } → zs ≡ xs ++ ys
-    → b ≡ record v { bytes = option_map (λ bytes. bytes ++ zs) v.bytes }
-pushed_then v a b xs ys zs e f h =
-    f ∙ ap (λ (z : IntervalBytes). record z { bytes = option_map (λ bytes. bytes ++ ys) z.bytes }) e ∙ ap (λ o. record v { bytes = o }) (more_twice xs ys zs h v.bytes)
-
-pub refused_then : (v a b : IntervalBytes) (xs : List ℕ) → a ≡ record v { bytes = option_map (λ bytes. bytes ++ xs) v.bytes } → b ≡ record a { bytes = None } → b ≡ record v { bytes = None }
-refused_then v a b xs e f = f ∙ ap (λ (z : IntervalBytes). record z { bytes = None }) e
 
 -- a piece goes on after bytes that have data bits
 pub goes_on : (bytes more : List ℕ) (ended : Bool) → (ended ≡ true → is_whole bytes ≡ false) → is_whole (bytes ++ more) ≡ true

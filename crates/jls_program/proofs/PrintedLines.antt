@@ -2,8 +2,8 @@
 use Rattle.std.proofs.Common.{◌≡◌, ℕ, ◌+◌, Bool, true, false, inl, inr, List, [], ◌++◌, length, refl, sym, subst, ◌∙◌}
 use Rattle.jls_device.specs.Event.{History, GrewBy}
 use Rattle.jls_device.specs.Writing.{Wrote, WroteFront, Printed}
-use Rattle.jls_device.proofs.Growing.{grew_as, grew_not}
-use Rattle.jls_device.proofs.Writes.{wrote_nothing, written_on, cut_behind, front_before, nothing_written}
+use Rattle.jls_device.proofs.Growing.{grew_as}
+use Rattle.jls_device.proofs.Writes.{written_on, cut_behind, front_before, nothing_written}
 use Rattle.jls_program.specs.Lines.{PrintsOn}
 
 -- ---- one part
@@ -48,6 +48,3 @@ prints_next false false false a b old mid new h k = k ∙ h
 pub printed : (line : List ℕ) (went : Bool) (old new : History) → PrintsOn true line went old new → GrewBy (Printed line) old new
 printed line true old new h = grew_as (Wrote line) (Printed line) old new (λ events w. inl w) h
 printed line false old new h = grew_as (WroteFront line h.0) (Printed line) old new (λ events w. inr (h.0, w)) h.1
-
-pub printed_nothing : (h : History) → GrewBy (Printed []) h h
-printed_nothing h = grew_not (Printed []) h (inl wrote_nothing)

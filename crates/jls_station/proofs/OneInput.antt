@@ -233,11 +233,6 @@ consumes_on (Some xs) None new a b h k = absurd h
 consumes_on (Some xs) (Some ys) None a b h k = k
 consumes_on (Some xs) (Some ys) (Some zs) a b h k = h ∙ (ap (λ (t : List ℕ). a ++ t) k ∙ sym (append_assoc a b zs))
 
--- the last read gave nothing
-pub consumes_end : (old mid new : Option (List ℕ)) (a b : List ℕ) → Consumes old mid a → Consumes mid new b → b ≡ [] → Consumes old new a
-consumes_end old mid new a b h k is =
-    subst (λ (t : List ℕ). Consumes old new t) (ap (λ (t : List ℕ). a ++ t) is ∙ append-nil a) (consumes_on old mid new a b h k)
-
 -- ---- what the bytes of one input are
 
 module _ (old new : History) where
