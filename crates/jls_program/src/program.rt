@@ -16,7 +16,7 @@ use std::alloc::Global;
 /// - 0: done, and each line of what was read is settled; or help or the version was asked for;
 /// - 1: `check`, `show` and `join` are done, with lines that are missing or disputed; `write` is refused for such a line, and
 ///   its output is not created;
-/// - 2: the words were not understood;
+/// - 2: the words were not understood, or an interval of a JPEG-LS file would be too large;
 /// - 3: an input is no copy with a picture and not the text of a partial picture, or shapes differ;
 /// - 4: an input can't be opened or read, the output can't be created, or a write failed; or the command is done, but a read of
 ///   a copy failed behind its frame;
