@@ -2,7 +2,7 @@
 
 ghost use Rattle.std.specs.Prelude.{◌≡◌};
 
-use crate::*;
+use jls_values::*;
 use std::test::Fail;
 
 /// A set of the numbers 0 and 1.

@@ -1,6 +1,6 @@
 //! Data bits read and written, with the stuffed bits at each place.
 
-use crate::*;
+use jls_bits::*;
 use std::alloc::{AllocError, Global};
 use std::test::Fail;
 

@@ -2,7 +2,7 @@
 
 ghost use Rattle.std.specs.Prelude.{◌≡◌, ◌+◌, ◌^◌, ◌≤◌, length};
 
-use crate::*;
+use jls_bits::*;
 use std::alloc::{AllocError, Global};
 use std::test::Fail;
 

@@ -1,6 +1,6 @@
 //! The piece of a small picture with its end cut off or one bit changed: every prefix, and every change of a bit.
 
-use crate::*;
+use jls_interval::*;
 use jls_values::Params;
 use std::fmt::Write;
 use std::test::Fail;

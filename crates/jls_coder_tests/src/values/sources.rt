@@ -1,6 +1,6 @@
 //! Sets of source numbers: each call, and the order of what is lent.
 
-use crate::*;
+use jls_values::*;
 use std::test::Fail;
 
 #[test]
@@ -18,8 +18,9 @@ fn numbers_are_kept_once_and_lent_in_order(rt: HostRuntime) -> Result<(), Fail> 
     assert_eq!(rt; held.as_slice(), [0, 2, 7, u32::MAX].as_slice());
     let mut other = SourceSet::empty(rt.alloc());
     other.add(3)?;
-    other.merge(&held)?;
-    other.merge(&held)?;
+    for _ in 0..2 {
+        other.merge(&held)?;
+    }
     assert_eq!(rt; other.as_slice(), [0, 2, 3, 7, u32::MAX].as_slice());
     Ok(())
 }

@@ -2,7 +2,7 @@
 
 ghost use Rattle.std.specs.Prelude.{◌*◌, ◌^◌, ◌≤◌};
 
-use crate::*;
+use jls_interval::*;
 use jls_values::Params;
 use std::alloc::Global;
 use std::test::Fail;

@@ -2,8 +2,8 @@
 
 ghost use Rattle.std.specs.Prelude.{◌*◌, ◌^◌, ◌≤◌};
 
-use crate::tests::damaged::PIECE;
-use crate::*;
+use super::damaged::PIECE;
+use jls_interval::*;
 use jls_values::Params;
 use std::alloc::{AllocError, Global};
 use std::test::Fail;

@@ -1,6 +1,6 @@
 use Rattle.std.proofs.Common.{◌≡◌}
 use Rattle.jls_bits.specs.CodeState.{BeginsCode}
-use Rattle.jls_bits.proofs.tests.codes.told.Given as goal
+use Rattle.jls_coder_tests.proofs.bits.codes.told.Given as goal
 
 abbrev pub invariant-loop-index : goal.invariant-loop-index
 invariant-loop-index l = record {

@@ -1,7 +1,7 @@
 use Rattle.std.proofs.Common.{ap, ◌∙◌, arith, length, length-append}
 use Rattle.jls_bits.proofs.NumberBits.{length-bits}
-use Rattle.jls_bits.proofs.tests.codes.chunk_of.Goals as goal
-use Rattle.jls_bits.proofs.tests.codes.chunk_of.Goals.{then-len-lt50, else-len-lt50}
+use Rattle.jls_coder_tests.proofs.bits.codes.chunk_of.Goals as goal
+use Rattle.jls_coder_tests.proofs.bits.codes.chunk_of.Goals.{then-len-lt50, else-len-lt50}
 
 pub loop-digit-preserved : goal.loop-digit-preserved
 loop-digit-preserved c =

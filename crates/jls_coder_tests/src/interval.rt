@@ -6,3 +6,4 @@ mod damaged;
 mod decoding;
 mod encoding;
 mod large;
+mod lines;

@@ -1,7 +1,7 @@
 //! Lines, and the bytes that they are written as.
 
 use super::decoding::SINGLE_SAMPLES;
-use crate::*;
+use jls_interval::*;
 use jls_values::Params;
 use std::alloc::{AllocError, Global};
 use std::test::Fail;

@@ -3,7 +3,7 @@
 
 ghost use Rattle.std.specs.Prelude.{◌≡◌, ◌≢◌, ◌≤◌, true, pos, negsuc, ◌≤ℤ◌, IfOk};
 
-use crate::*;
+use jls_context::*;
 use jls_values::{ParamFault, Params};
 use std::process::Abort;
 use std::test::Fail;

@@ -1,6 +1,6 @@
 //! `fits` where lines are an interval, and one step outside each of its bounds.
 
-use super::fits;
+use jls_interval::fits;
 use jls_values::Params;
 use std::alloc::{AllocError, Global};
 use std::test::Fail;
