@@ -65,10 +65,9 @@ impl CodeState {
         requires open { IsOpen k g qbpp self }
         ensures { ChunkStep k g qbpp (bits_told g qbpp self) chunk.old chunk.new result }
     {
-        if let CodeState::Zeros(zeros) = self {
-            if let Some((more, low)) = chunk.take_short(g - qbpp - 1 - zeros, k) {
-                let quotient = (zeros + more) as u32;
-                return CodeStep::Done((quotient << k) + low);
+        if let CodeState::Zeros(0) = self {
+            if let Some(number) = chunk.take_code(k, g, qbpp) {
+                return CodeStep::Done(number);
             }
         }
         push_bit_by_bit(self, k, g, qbpp, chunk)
