@@ -24,6 +24,3 @@ pub use line_set::LineSet;
 pub use partial::Partial;
 pub use status::Status;
 pub use text_fault::TextFault;
-
-#[cfg(test)]
-mod tests;

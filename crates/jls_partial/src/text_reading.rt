@@ -231,6 +231,3 @@ impl Partial {
         read_partial(alloc, bytes)
     }
 }
-
-#[cfg(test)]
-mod tests;

@@ -1,6 +1,6 @@
 //! What segments set, in their order, and the intervals of a scan.
 
-use crate::*;
+use jls_marker::*;
 use jls_values::Shape;
 use std::test::Fail;
 

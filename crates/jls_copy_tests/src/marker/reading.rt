@@ -1,6 +1,6 @@
 //! Segments that are read: each fault where no other is, and the first of two.
 
-use crate::*;
+use jls_marker::*;
 
 /// The number of the fault of a segment, or 0.
 fn fault_of(code: u8, payload: &[u8]) -> u8 {

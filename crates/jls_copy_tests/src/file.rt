@@ -1,39 +1,14 @@
 //! Small pictures and their files, worked out by hand.
 
-use crate::write_jls;
+use crate::limited::Limited;
 use jls_device::Counted;
+use jls_file::write_jls;
 use jls_partial::Partial;
 use jls_picture::{Options, OutputFault, Picture};
 use jls_values::{Params, Shape};
 use std::alloc::Global;
-use std::io;
-use std::io::Write;
 use std::process::Abort;
 use std::test::Fail;
-
-/// A writer into memory that takes so many bytes in a call, and so many in all.
-#[derive(Drop)]
-struct Limited {
-    held: Vec<u8>,
-    most: usize,
-    limit: usize,
-}
-
-impl Write for Limited {
-    fn write(&mut self, bytes: &[u8]) -> io::Result<usize> {
-        let room = self.limit.saturating_sub(self.held.len());
-        let n = bytes.len().min(self.most).min(room);
-        if n == 0 {
-            return Err(io::Error::from(io::ErrorKind::WriteZero));
-        }
-        self.held.extend_from_slice(&bytes[..n])?;
-        Ok(n)
-    }
-
-    fn flush(&mut self) -> io::Result<()> {
-        Ok(())
-    }
-}
 
 /// A picture of 8 bits: its width, identifiers and lines, row by row and in a row by component. The options that are not
 /// defaults, and the file.

@@ -1,7 +1,7 @@
 //! Texts that were written out by hand, and what is wrong with each change of them.
 
-use crate::tests::{TWO_READINGS as TWO_READINGS_2, TWO_SOURCES};
-use crate::{Partial, TextFault};
+use super::{TWO_READINGS as TWO_READINGS_2, TWO_SOURCES};
+use jls_partial::{Partial, TextFault};
 use jls_values::Shape;
 use std::alloc::Global;
 use std::test::Fail;

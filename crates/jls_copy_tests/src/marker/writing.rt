@@ -3,7 +3,7 @@
 
 ghost use Rattle.jls_marker.specs.Written as written;
 
-use crate::*;
+use jls_marker::*;
 use jls_values::Shape;
 use std::alloc::{AllocError, Global};
 use std::test::Fail;

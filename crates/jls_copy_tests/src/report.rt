@@ -1,7 +1,7 @@
 //! Reports of small pictures, worked out by hand.
 
-use crate::{Report, ReportEntry};
 use jls_partial::Partial;
+use jls_report::{Report, ReportEntry};
 use jls_values::Shape;
 use std::alloc::Global;
 use std::test::Fail;

@@ -1,6 +1,6 @@
 //! Places of cuts at every length and start.
 
-use crate::next_cut;
+use jls_copy::next_cut;
 
 /// A list of 200 zeros in which two bytes stand at `place`.
 fn zeros_with(place: usize, first: u8, second: u8) -> [u8; 200] {

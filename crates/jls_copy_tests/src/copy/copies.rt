@@ -1,7 +1,7 @@
 //! Whole copies, read in slices of several sizes.
 
-use crate::tests::known::{COPIES, INTERVALS};
-use crate::{CopyFault, CopyRead, CopyReader, End, PieceKind, PieceRecord};
+use super::known::{COPIES, INTERVALS};
+use jls_copy::{CopyFault, CopyRead, CopyReader, End, PieceKind, PieceRecord};
 use std::alloc::Global;
 use std::fmt::Write;
 use std::process::Abort;

@@ -1,4 +1,6 @@
-use crate::{InsertFault, LineSet, Partial, Status};
+mod texts;
+
+use jls_partial::{InsertFault, LineSet, Partial, Status};
 use jls_values::{Merge, MergeFault, Shape, merge_all};
 use std::alloc::Global;
 use std::test::Fail;
