@@ -15,6 +15,7 @@ mod status;
 mod text_fault;
 mod text_fields;
 mod text_reading;
+mod text_samples;
 mod version;
 mod writing;
 

@@ -7,7 +7,7 @@ use Rattle.jls_station.specs.Reading.{AreBytes, ReadSoFar}
 use Rattle.jls_station.specs.declared.input.ReadStop.TheVariants.{Whole, Failed}
 use Rattle.jls_station.specs.declared.input.InputFault.TheVariants as fault
 use Rattle.jls_station.proofs.OneInput.{nothing_read, one_read_more, read_to_end, read_to_failure, refused_for, empty_gives_none, empty_goes_on}
-use Rattle.jls_station.proofs.input.read_input.Goals as goal
+use Rattle.jls_station.proofs.input.read_input_into.Goals as goal
 
 pub returns-in-Err-clause-refused : goal.returns-in-Err-clause-refused
 returns-in-Err-clause-refused g c =

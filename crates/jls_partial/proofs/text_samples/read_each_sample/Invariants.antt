@@ -2,7 +2,7 @@ use Rattle.std.proofs.Common.{◌≡◌, ◌-◌, ◌+◌, ◌≤◌, ◌/◌, l
 use Rattle.std.specs.Prelude.{min, vec_len, vec_capacity}
 use Rattle.jls_partial.specs.TextReading.{samples_fields}
 use Rattle.jls_partial.proofs.TextLoops.{after_samples}
-use Rattle.jls_partial.proofs.text_reading.read_samples.Given as goal
+use Rattle.jls_partial.proofs.text_samples.read_each_sample.Given as goal
 
 abbrev pub invariant-loop : goal.invariant-loop
 invariant-loop l = record {

@@ -2,7 +2,7 @@ use Rattle.std.proofs.Common.{◌≡◌, arith}
 use Rattle.std.proofs.lemmas.Result.{err_from_is_err_and}
 use Rattle.jls_partial.specs.TextReading.{samples_fields}
 use Rattle.jls_partial.proofs.TextLoops.{sample_len, samples_go_on, samples_end, samples_done}
-use Rattle.jls_partial.proofs.text_reading.read_samples.Goals as goal
+use Rattle.jls_partial.proofs.text_samples.read_each_sample.Goals as goal
 
 pub returns-in_err-sample : goal.returns-in_err-sample
 returns-in_err-sample c =
