@@ -48,55 +48,52 @@ fn is_code(
 
 #[test]
 fn numbers_have_their_codes(rt: HostRuntime) -> Result<(), Fail> {
-    let alloc = rt.alloc();
-    assert!(rt; is_code(alloc, "00000000100", 32, 2, 32, 8)?);
-    assert!(rt; is_code(alloc, "0000000000000000000000111", 91, 2, 32, 8)?);
-    assert!(rt; is_code(alloc, "00000000000000000000000101011011", 92, 2, 32, 8)?);
-    assert!(rt; is_code(alloc, "00000000000000000000000101011101", 94, 2, 32, 8)?);
-    assert!(rt; is_code(alloc, "00000000000000000000000111111111", 256, 2, 32, 8)?);
+    for (text, mapped) in [
+        ("00000000100", 32u32),
+        ("0000000000000000000000111", 91),
+        ("00000000000000000000000101011011", 92),
+        ("00000000000000000000000101011101", 94),
+        ("00000000000000000000000111111111", 256),
+    ] {
+        assert!(rt;
+            is_code(rt.alloc(), text, mapped.min(256), 2, 32, 8)?,
+            "{mapped}"
+        );
+    }
     Ok(())
 }
 
 #[test]
 fn codes_at_the_ends_of_k_g_and_qbpp(rt: HostRuntime) -> Result<(), Fail> {
-    let alloc = rt.alloc();
-    assert!(rt; is_code(alloc, "1", 0, 0, 3, 1)?);
-    assert!(rt; is_code(alloc, "010", 1, 0, 3, 1)?);
-    assert!(rt; is_code(alloc, "011", 2, 0, 3, 1)?);
-    assert!(rt; is_code(alloc, "11111111111111111", 65535, 16, 64, 16)?);
-    assert!(rt; is_code(alloc, "010000000000000000", 65536, 16, 64, 16)?);
-    assert!(rt; is_code(alloc, "011111111111111111", 65536, 16, 18, 16)?);
-    assert!(rt;
-        is_code(
-            alloc,
-            "00000000000000000000000000000000000000000000001",
-            46,
-            0,
-            64,
-            16
-        )?
-    );
-    assert!(rt;
-        is_code(
-            alloc,
+    for (text, mapped) in [("1", 0u32), ("010", 1), ("011", 2)] {
+        assert!(rt;
+            is_code(rt.alloc(), text, mapped.min(2), 0, 3, 1)?,
+            "{mapped}"
+        );
+    }
+    // The bits, the number, k and g; qbpp is 16.
+    for (text, mapped, k, g) in [
+        ("11111111111111111", 65535u32, 16u8, 64u8),
+        ("010000000000000000", 65536, 16, 64),
+        ("011111111111111111", 65536, 16, 18),
+        ("00000000000000000000000000000000000000000000001", 46, 0, 64),
+        (
             "0000000000000000000000000000000000000000000000010000000000101110",
             47,
             0,
             64,
-            16
-        )?
-    );
-    assert!(rt;
-        is_code(
-            alloc,
+        ),
+        (
             "0000000000000000000000000000000000000000000000011111111111111111",
             65536,
             0,
             64,
-            16
-        )?
-    );
-    assert!(rt; is_code(alloc, "010000000000000000", 1, 0, 18, 16)?);
+        ),
+        ("010000000000000000", 1, 0, 18),
+    ] {
+        let (mapped, k, g) = (mapped.min(65536), k.min(16), g.max(18).min(64));
+        assert!(rt; is_code(rt.alloc(), text, mapped, k, g, 16)?, "{text}");
+    }
     Ok(())
 }
 
@@ -133,38 +130,36 @@ fn read_alone(
 #[test]
 fn a_code_that_is_cut_is_none(rt: HostRuntime) -> Result<(), Fail> {
     let alloc = rt.alloc();
-    let escape = b"00000000000000000000000101011101";
-    for length in 0..32 {
-        let read = read_alone(alloc, &escape[..length], 2, 32, 8)?;
-        assert_eq!(rt; read, (None, length as u128));
+    let codes: [(&[u8], u32); 2] = [
+        (b"00000000000000000000000101011101", 94),
+        (b"00000000100", 32),
+    ];
+    for (code, number) in codes {
+        for length in 0..code.len() {
+            let read = read_alone(alloc, &code[..length], 2, 32, 8)?;
+            assert_eq!(rt; read, (None, length as u128));
+        }
+        assert_eq!(rt; read_alone(alloc, code, 2, 32, 8)?, (Some(number), 0));
     }
-    assert_eq!(rt; read_alone(alloc, escape, 2, 32, 8)?, (Some(94), 0));
-    let short = b"00000000100";
-    for length in 0..11 {
-        let read = read_alone(alloc, &short[..length], 2, 32, 8)?;
-        assert_eq!(rt; read, (None, length as u128));
-    }
-    assert_eq!(rt; read_alone(alloc, short, 2, 32, 8)?, (Some(32), 0));
     Ok(())
 }
 
 #[test]
 fn a_reader_stays_where_no_code_stands(rt: HostRuntime) -> Result<(), Fail> {
-    let alloc = rt.alloc();
-    // An escape for 91, which has a short code.
-    let needless = b"00000000000000000000000101011010";
-    assert_eq!(rt; read_alone(alloc, needless, 2, 32, 8)?, (None, 32));
-    // One zero more than announces an escape.
-    let zeros = b"000000000000000000000000101011101";
-    assert_eq!(rt; read_alone(alloc, zeros, 2, 32, 8)?, (None, 33));
-    // All 256 numbers of an escape have a short code at k 4.
-    let no_escape = b"00000000000000000000000111111110";
-    assert_eq!(rt; read_alone(alloc, no_escape, 4, 32, 8)?, (None, 32));
-    // A quotient of 1 at k 16: more than 2^qbpp.
-    assert_eq!(rt;
-        read_alone(alloc, b"010000000000000001", 16, 32, 8)?,
-        (Some(65537), 0)
-    );
+    let rows: [(&[u8], u8, Option<u32>, u128); 4] = [
+        // An escape for 91, which has a short code.
+        (b"00000000000000000000000101011010", 2, None, 32),
+        // One zero more than announces an escape.
+        (b"000000000000000000000000101011101", 2, None, 33),
+        // All 256 numbers of an escape have a short code at k 4.
+        (b"00000000000000000000000111111110", 4, None, 32),
+        // A quotient of 1 at k 16: more than 2^qbpp.
+        (b"010000000000000001", 16, Some(65537), 0),
+    ];
+    for (bits, k, number, left) in rows {
+        let read = read_alone(rt.alloc(), bits, k.min(16), 32, 8)?;
+        assert_eq!(rt; read, (number, left), "{bits:?}");
+    }
     Ok(())
 }
 

@@ -29,20 +29,18 @@ fn cut(
 fn prefixes(rt: HostRuntime) -> Result<(), Fail> {
     let alloc = rt.alloc();
     let params = Params::new(8, 0, 0, 0, 0, 0)?;
+    let lines: [[u16; 4]; 3] = [[0, 0, 90, 74], [68, 50, 43, 205], [64, 145, 145, 145]];
     for n in 0..PIECE.len() {
-        let head = match n {
-            0..6 => vec![in alloc;]?,
-            6..17 => vec![in alloc; vec![in alloc; 0, 0, 90, 74]?]?,
-            17..26 => vec![in alloc;
-                vec![in alloc; 0, 0, 90, 74]?,
-                vec![in alloc; 68, 50, 43, 205]?,
-            ]?,
-            _ => vec![in alloc;
-                vec![in alloc; 0, 0, 90, 74]?,
-                vec![in alloc; 68, 50, 43, 205]?,
-                vec![in alloc; 64, 145, 145, 145]?,
-            ]?,
+        let count = match n {
+            0..6 => 0,
+            6..17 => 1,
+            17..26 => 2,
+            _ => 3,
         };
+        let mut head = Vec::new(alloc);
+        for line in &lines[..count] {
+            head.push(line.to_vec(alloc)?)?;
+        }
         let end = cut(alloc, (4, 4), &params, &PIECE[..n]);
         assert_eq!(rt;
             end,
@@ -91,12 +89,13 @@ fn whole_and_faulty(rt: HostRuntime) -> Result<(), Fail> {
     let lines = vec![in alloc; vec![in alloc; 1]?, vec![in alloc; 34]?]?;
     let whole = cut(alloc, (1, 2), &params, &[0x50, 0x00, 0x0C]);
     assert_eq!(rt; whole, Ok(CutEnd::Whole(lines)));
-    let long = cut(alloc, (1, 2), &params, &[0x50, 0x00, 0x0C, 0x00]);
-    assert_eq!(rt; long, Ok(CutEnd::Head(Vec::new(alloc), PieceFault::Long)));
-    let broken = cut(alloc, (1, 2), &params, &[0x50, 0xFF, 0x80]);
-    assert_eq!(rt;
-        broken,
-        Ok(CutEnd::Head(Vec::new(alloc), PieceFault::Broken))
-    );
+    let faulty: [(&[u8], PieceFault); 2] = [
+        (&[0x50, 0x00, 0x0C, 0x00], PieceFault::Long),
+        (&[0x50, 0xFF, 0x80], PieceFault::Broken),
+    ];
+    for (piece, fault) in faulty {
+        let end = cut(alloc, (1, 2), &params, piece);
+        assert_eq!(rt; end, Ok(CutEnd::Head(Vec::new(alloc), fault)));
+    }
     Ok(())
 }

@@ -154,16 +154,21 @@ fn single_samples(rt: HostRuntime) -> Result<(), Fail> {
 
 #[test]
 fn other_parameters(rt: HostRuntime) -> Result<(), Fail> {
-    let alloc = rt.alloc();
-    let params = Params::new(2, 0, 0, 0, 0, 0)?;
-    assert!(rt; reads_as(alloc, &params, 1, 1, 1, &[0x40], &[&[3]]));
-    assert!(rt; reads_as(alloc, &params, 1, 1, 1, &[0x60], &[&[1]]));
-    assert!(rt; reads_as(alloc, &params, 1, 1, 1, &[0x20], &[&[2]]));
-    let params = Params::new(16, 0, 0, 0, 0, 0)?;
-    assert!(rt; reads_as(alloc, &params, 1, 1, 1, &[0x40, 0x00], &[&[65535]]));
-    // A MAXVAL of 15.
-    let params = Params::new(8, 15, 0, 0, 0, 0)?;
-    assert!(rt; reads_as(alloc, &params, 1, 1, 1, &[0x40], &[&[15]]));
+    // Precision, MAXVAL, a sample, and the piece of an interval that has nothing else.
+    let rows: [(u8, u16, u16, &[u8]); 5] = [
+        (2, 0, 3, &[0x40]),
+        (2, 0, 1, &[0x60]),
+        (2, 0, 2, &[0x20]),
+        (16, 0, 65535, &[0x40, 0x00]),
+        (8, 15, 15, &[0x40]),
+    ];
+    for (precision, maxval, sample, piece) in rows {
+        let params = Params::new(precision, maxval, 0, 0, 0, 0)?;
+        assert!(rt;
+            reads_as(rt.alloc(), &params, 1, 1, 1, piece, &[&[sample]]),
+            "{sample}"
+        );
+    }
     Ok(())
 }
 
@@ -171,12 +176,20 @@ fn other_parameters(rt: HostRuntime) -> Result<(), Fail> {
 fn runs(rt: HostRuntime) -> Result<(), Fail> {
     let alloc = rt.alloc();
     let params = Params::new(8, 0, 0, 0, 0, 0)?;
-    assert!(rt; reads_as(alloc, &params, 12, 1, 1, &[0xFF, 0x00], &[&[0; 12]]));
-    assert!(rt; reads_as(alloc, &params, 13, 1, 1, &[0xFF, 0x40], &[&[0; 13]]));
-    assert!(rt; reads_as(alloc, &params, 16, 1, 1, &[0xFF, 0x40], &[&[0; 16]]));
-    assert!(rt; reads_as(alloc, &params, 5, 1, 1, &[0xF8], &[&[0; 5]]));
-    let piece = [0xF0, 0x00, 0x00, 0x1B, 0x20];
-    assert!(rt; reads_as(alloc, &params, 5, 1, 1, &piece, &[&[0, 0, 0, 0, 90]]));
+    let rows: [(u16, &[u8], &[u16]); 5] = [
+        (12, &[0xFF, 0x00], &[0; 12]),
+        (13, &[0xFF, 0x40], &[0; 13]),
+        (16, &[0xFF, 0x40], &[0; 16]),
+        (5, &[0xF8], &[0; 5]),
+        (5, &[0xF0, 0x00, 0x00, 0x1B, 0x20], &[0, 0, 0, 0, 90]),
+    ];
+    for (width, piece, line) in rows {
+        let width = width.max(1);
+        assert!(rt;
+            reads_as(alloc, &params, width, 1, 1, piece, &[line]),
+            "{line:?}"
+        );
+    }
     assert!(rt; reads_as(alloc, &params, 1, 1, 2, &[0xC0], &[&[0], &[0]]));
     Ok(())
 }
@@ -226,22 +239,18 @@ fn an_escape(rt: HostRuntime) -> Result<(), Fail> {
     let alloc = rt.alloc();
     let params = Params::new(8, 0, 0, 0, 0, 0)?;
     assert!(rt; reads_as(alloc, &params, 1, 1, 2, &[0x50, 0x00, 0x0C], &[&[1], &[34]]));
-    let broken = Some(PieceFault::Broken);
     // Cut in front of the escape and inside it; escapes of a number with a short code, and with too many zeros.
-    assert_eq!(rt; fault(alloc, &params, 1, 2, &[0x50]), broken);
-    assert_eq!(rt; fault(alloc, &params, 1, 2, &[0x50, 0x00]), broken);
-    assert_eq!(rt;
-        fault(alloc, &params, 1, 2, &[0x50, 0x00, 0x00, 0x15]),
-        broken
-    );
-    assert_eq!(rt;
-        fault(alloc, &params, 1, 2, &[0x50, 0x00, 0x00, 0x10]),
-        broken
-    );
-    assert_eq!(rt;
-        fault(alloc, &params, 1, 2, &[0x50, 0x00, 0x00, 0x00, 0x00]),
-        broken
-    );
+    let pieces: [&[u8]; 5] = [
+        &[0x50],
+        &[0x50, 0x00],
+        &[0x50, 0x00, 0x00, 0x15],
+        &[0x50, 0x00, 0x00, 0x10],
+        &[0x50, 0x00, 0x00, 0x00, 0x00],
+    ];
+    for piece in pieces {
+        let fault = fault(alloc, &params, 1, 2, piece);
+        assert_eq!(rt; fault, Some(PieceFault::Broken), "of {piece:?}");
+    }
     Ok(())
 }
 
@@ -270,26 +279,22 @@ fn broken_pieces(rt: HostRuntime) -> Result<(), Fail> {
     let alloc = rt.alloc();
     let params = Params::new(8, 0, 0, 0, 0, 0)?;
     let broken = Some(PieceFault::Broken);
-    assert_eq!(rt; fault(alloc, &params, 1, 1, &[]), broken);
-    // An escape for 1, which has a short code, and one for 256, to which no error is mapped.
-    assert_eq!(rt;
-        fault(alloc, &params, 1, 1, &[0x00, 0x00, 0x01, 0x00]),
-        broken
-    );
-    assert_eq!(rt;
-        fault(alloc, &params, 1, 1, &[0x00, 0x00, 0x01, 0xFF, 0x00]),
-        broken
-    );
+    let pieces: [&[u8]; 5] = [
+        &[],
+        // An escape for 1, which has a short code, and one for 256, to which no error is mapped.
+        &[0x00, 0x00, 0x01, 0x00],
+        &[0x00, 0x00, 0x01, 0xFF, 0x00],
+        // A marker behind the last line, and behind more bits than may follow it.
+        &[0x70, 0xFF, 0xA3],
+        &[0x80, 0x00, 0xFF, 0x90],
+    ];
+    for piece in pieces {
+        assert_eq!(rt; fault(alloc, &params, 1, 1, piece), broken, "of {piece:?}");
+    }
     // A zero, and a count that reaches the end of the line.
     assert_eq!(rt; fault(alloc, &params, 5, 1, &[0xF4]), broken);
     // A run that is interrupted by its own value.
     assert_eq!(rt; fault(alloc, &params, 3, 2, &[0xC5, 0xC5]), broken);
-    // A marker behind the last line, and behind more bits than may follow it.
-    assert_eq!(rt; fault(alloc, &params, 1, 1, &[0x70, 0xFF, 0xA3]), broken);
-    assert_eq!(rt;
-        fault(alloc, &params, 1, 1, &[0x80, 0x00, 0xFF, 0x90]),
-        broken
-    );
     Ok(())
 }
 
@@ -297,15 +302,17 @@ fn broken_pieces(rt: HostRuntime) -> Result<(), Fail> {
 fn long_pieces(rt: HostRuntime) -> Result<(), Fail> {
     let alloc = rt.alloc();
     let params = Params::new(8, 0, 0, 0, 0, 0)?;
-    let long = Some(PieceFault::Long);
     assert!(rt; reads_as(alloc, &params, 1, 1, 1, &[0xC0], &[&[0]]));
-    assert_eq!(rt; fault(alloc, &params, 1, 1, &[0x80, 0x00]), long);
-    // Eight bits, behind a code of eight.
-    assert_eq!(rt; fault(alloc, &params, 1, 1, &[0x05, 0x00]), long);
-    assert_eq!(rt;
-        fault(alloc, &params, 1, 1, &[0x80, 0x00, 0xFF, 0x00]),
-        long
-    );
-    assert_eq!(rt; fault(alloc, &params, 1, 1, &[0x28, 0x38]), long);
+    let pieces: [&[u8]; 4] = [
+        &[0x80, 0x00],
+        // Eight bits, behind a code of eight.
+        &[0x05, 0x00],
+        &[0x80, 0x00, 0xFF, 0x00],
+        &[0x28, 0x38],
+    ];
+    for piece in pieces {
+        let fault = fault(alloc, &params, 1, 1, piece);
+        assert_eq!(rt; fault, Some(PieceFault::Long), "of {piece:?}");
+    }
     Ok(())
 }

@@ -42,53 +42,70 @@ fn single_samples(rt: HostRuntime) -> Result<(), Fail> {
 
 #[test]
 fn other_parameters(rt: HostRuntime) -> Result<(), Fail> {
-    let alloc = rt.alloc();
-    let params = Params::new(2, 0, 0, 0, 0, 0)?;
-    assert!(rt; written_as(alloc, &params, 1, 1, &[&[3]], &[0x40])?);
-    assert!(rt; written_as(alloc, &params, 1, 1, &[&[1]], &[0x60])?);
-    assert!(rt; written_as(alloc, &params, 1, 1, &[&[2]], &[0x20])?);
-    let params = Params::new(16, 0, 0, 0, 0, 0)?;
-    assert!(rt; written_as(alloc, &params, 1, 1, &[&[65535]], &[0x40, 0x00])?);
-    // A MAXVAL of 15.
-    let params = Params::new(8, 15, 0, 0, 0, 0)?;
-    assert!(rt; written_as(alloc, &params, 1, 1, &[&[15]], &[0x40])?);
+    // Precision, MAXVAL, a sample, and the bytes of an interval that has nothing else.
+    let rows: [(u8, u16, u16, &[u8]); 5] = [
+        (2, 0, 3, &[0x40]),
+        (2, 0, 1, &[0x60]),
+        (2, 0, 2, &[0x20]),
+        (16, 0, 65535, &[0x40, 0x00]),
+        (8, 15, 15, &[0x40]),
+    ];
+    for (precision, maxval, sample, bytes) in rows {
+        let params = Params::new(precision, maxval, 0, 0, 0, 0)?;
+        assert!(rt;
+            written_as(rt.alloc(), &params, 1, 1, &[&[sample]], bytes)?,
+            "{sample}"
+        );
+    }
     Ok(())
+}
+
+/// Whether the lines of this width, of one component and 8 bits, are written as these bytes.
+fn alone(alloc: Global, width: u16, lines: &[&[u16]], wanted: &[u8]) -> Result<bool, Fail> {
+    let params = Params::new(8, 0, 0, 0, 0, 0)?;
+    Ok(written_as(alloc, &params, width, 1, lines, wanted)?)
 }
 
 #[test]
 fn runs(rt: HostRuntime) -> Result<(), Fail> {
-    let alloc = rt.alloc();
-    let params = Params::new(8, 0, 0, 0, 0, 0)?;
-    assert!(rt; written_as(alloc, &params, 12, 1, &[&[0; 12]], &[0xFF, 0x00])?);
-    assert!(rt; written_as(alloc, &params, 13, 1, &[&[0; 13]], &[0xFF, 0x40])?);
-    assert!(rt; written_as(alloc, &params, 16, 1, &[&[0; 16]], &[0xFF, 0x40])?);
-    assert!(rt; written_as(alloc, &params, 5, 1, &[&[0; 5]], &[0xF8])?);
-    let bytes = [0xF0, 0x00, 0x00, 0x1B, 0x20];
-    assert!(rt; written_as(alloc, &params, 5, 1, &[&[0, 0, 0, 0, 90]], &bytes)?);
-    assert!(rt; written_as(alloc, &params, 1, 1, &[&[0], &[0]], &[0xC0])?);
+    let rows: [(u16, &[&[u16]], &[u8]); 6] = [
+        (12, &[&[0; 12]], &[0xFF, 0x00]),
+        (13, &[&[0; 13]], &[0xFF, 0x40]),
+        (16, &[&[0; 16]], &[0xFF, 0x40]),
+        (5, &[&[0; 5]], &[0xF8]),
+        (5, &[&[0, 0, 0, 0, 90]], &[0xF0, 0x00, 0x00, 0x1B, 0x20]),
+        (1, &[&[0], &[0]], &[0xC0]),
+    ];
+    for (width, lines, bytes) in rows {
+        assert!(rt; alone(rt.alloc(), width, lines, bytes)?, "{lines:?}");
+    }
     Ok(())
 }
 
 #[test]
 fn several_lines(rt: HostRuntime) -> Result<(), Fail> {
-    let alloc = rt.alloc();
-    let params = Params::new(8, 0, 0, 0, 0, 0)?;
-    let lines: [&[u16]; 4] = [
-        &[0, 0, 90, 74],
-        &[68, 50, 43, 205],
-        &[64, 145, 145, 145],
-        &[100, 145, 145, 145],
+    let rows: [(u16, &[&[u16]], &[u8]); 4] = [
+        (
+            4,
+            &[
+                &[0, 0, 90, 74],
+                &[68, 50, 43, 205],
+                &[64, 145, 145, 145],
+                &[100, 145, 145, 145],
+            ],
+            &[
+                0xC0, 0x00, 0x00, 0x6C, 0x80, 0x20, 0x8E, 0x01, 0xC0, 0x00, 0x00, 0x57, 0x40, 0x00,
+                0x00, 0x6E, 0xE6, 0x00, 0x00, 0x01, 0xBC, 0x18, 0x00, 0x00, 0x05, 0xD8, 0x00, 0x00,
+                0x91, 0x60,
+            ],
+        ),
+        (3, &[&[0, 0, 5], &[0, 0, 5]], &[0xC5, 0xD0]),
+        (3, &[&[0, 0, 5], &[0, 0, 0]], &[0xC5, 0xE0]),
+        (1, &[&[1], &[34]], &[0x50, 0x00, 0x0C]),
     ];
-    let bytes = [
-        0xC0, 0x00, 0x00, 0x6C, 0x80, 0x20, 0x8E, 0x01, 0xC0, 0x00, 0x00, 0x57, 0x40, 0x00, 0x00,
-        0x6E, 0xE6, 0x00, 0x00, 0x01, 0xBC, 0x18, 0x00, 0x00, 0x05, 0xD8, 0x00, 0x00, 0x91, 0x60,
-    ];
-    assert!(rt; written_as(alloc, &params, 4, 1, &lines, &bytes)?);
-    let lines: [&[u16]; 2] = [&[0, 0, 5], &[0, 0, 5]];
-    assert!(rt; written_as(alloc, &params, 3, 1, &lines, &[0xC5, 0xD0])?);
-    let lines: [&[u16]; 2] = [&[0, 0, 5], &[0, 0, 0]];
-    assert!(rt; written_as(alloc, &params, 3, 1, &lines, &[0xC5, 0xE0])?);
-    assert!(rt; written_as(alloc, &params, 1, 1, &[&[1], &[34]], &[0x50, 0x00, 0x0C])?);
+    for (width, lines, bytes) in rows {
+        assert!(rt; alone(rt.alloc(), width, lines, bytes)?, "{lines:?}");
+    }
     Ok(())
 }
 
@@ -108,18 +125,27 @@ fn runs_of_several_lines(rt: HostRuntime) -> Result<(), Fail> {
 
 #[test]
 fn several_components(rt: HostRuntime) -> Result<(), Fail> {
-    let alloc = rt.alloc();
-    let params = Params::new(8, 0, 0, 0, 0, 0)?;
-    assert!(rt; written_as(alloc, &params, 1, 2, &[&[10], &[10]], &[0x07, 0x16])?);
     let zeros: &[u16] = &[0; 4];
-    let lines = [zeros, zeros, zeros];
-    assert!(rt; written_as(alloc, &params, 4, 3, &lines, &[0xFF, 0x78])?);
-    // Two rows; and both components in the contexts of one MAXVAL, which isn't that of the precision.
-    let lines: [&[u16]; 4] = [&[10], &[20], &[30], &[40]];
-    let bytes = [0x07, 0x07, 0x80, 0x10, 0xB0];
-    assert!(rt; written_as(alloc, &params, 1, 2, &lines, &bytes)?);
-    let params = Params::new(8, 159, 0, 0, 0, 0)?;
-    let lines: [&[u16]; 2] = [&[10, 12], &[10, 12]];
-    assert!(rt; written_as(alloc, &params, 2, 2, &lines, &[0x07, 0xE2, 0xE8])?);
+    // MAXVAL, width, count, lines and bytes. Two rows; and both components in the contexts of one MAXVAL, which isn't that of
+    // the precision.
+    let rows: [(u16, u16, u8, &[&[u16]], &[u8]); 4] = [
+        (0, 1, 2, &[&[10], &[10]], &[0x07, 0x16]),
+        (0, 4, 3, &[zeros, zeros, zeros], &[0xFF, 0x78]),
+        (
+            0,
+            1,
+            2,
+            &[&[10], &[20], &[30], &[40]],
+            &[0x07, 0x07, 0x80, 0x10, 0xB0],
+        ),
+        (159, 2, 2, &[&[10, 12], &[10, 12]], &[0x07, 0xE2, 0xE8]),
+    ];
+    for (maxval, width, count, lines, bytes) in rows {
+        let params = Params::new(8, maxval, 0, 0, 0, 0)?;
+        assert!(rt;
+            written_as(rt.alloc(), &params, width, count, lines, bytes)?,
+            "{lines:?}"
+        );
+    }
     Ok(())
 }

@@ -22,26 +22,32 @@ fn lines_of(alloc: Global, count: usize, samples: &[u16]) -> Result<Vec<Vec<u16>
 fn whole_rows_fit(rt: HostRuntime) -> Result<(), Fail> {
     let params = Params::new(8, 0, 0, 0, 0, 0)?;
     let lines = lines_of(rt.alloc(), 4, &[0, 255])?;
-    assert!(rt; fits(&params, 2, 1, lines.as_slice()));
-    assert!(rt; fits(&params, 2, 2, lines.as_slice()));
-    assert!(rt; fits(&params, 2, 4, lines.as_slice()));
+    for components in [1, 2, 4] {
+        assert!(rt; fits(&params, 2, components, lines.as_slice()));
+    }
     Ok(())
 }
 
 #[test]
 fn other_lines_do_not_fit(rt: HostRuntime) -> Result<(), Fail> {
     let params = Params::new(8, 0, 0, 0, 0, 0)?;
-    let lines = lines_of(rt.alloc(), 4, &[0, 255])?;
-    assert!(rt; !fits(&params, 2, 0, lines.as_slice()));
-    assert!(rt; !fits(&params, 2, 3, lines.as_slice()));
-    assert!(rt; !fits(&params, 1, 1, lines.as_slice()));
-    assert!(rt; !fits(&params, 3, 1, lines.as_slice()));
-    assert!(rt; !fits(&params, 2, 1, &[]));
-    let five = lines_of(rt.alloc(), 5, &[0, 255])?;
-    assert!(rt; !fits(&params, 2, 5, five.as_slice()));
-    let bright = lines_of(rt.alloc(), 1, &[0, 256])?;
-    assert!(rt; !fits(&params, 2, 1, bright.as_slice()));
-    let empty = lines_of(rt.alloc(), 1, &[])?;
-    assert!(rt; !fits(&params, 0, 1, empty.as_slice()));
+    // Width, components, and how many lines there are of these samples.
+    let rows: [(u16, u8, usize, &[u16]); 8] = [
+        (2, 0, 4, &[0, 255]),
+        (2, 3, 4, &[0, 255]),
+        (1, 1, 4, &[0, 255]),
+        (3, 1, 4, &[0, 255]),
+        (2, 1, 0, &[]),
+        (2, 5, 5, &[0, 255]),
+        (2, 1, 1, &[0, 256]),
+        (0, 1, 1, &[]),
+    ];
+    for (width, components, count, samples) in rows {
+        let lines = lines_of(rt.alloc(), count, samples)?;
+        assert!(rt;
+            !fits(&params, width, components, lines.as_slice()),
+            "{width} {components} {count}"
+        );
+    }
     Ok(())
 }

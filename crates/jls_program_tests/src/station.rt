@@ -2,10 +2,9 @@
 
 mod copies;
 
-use crate::input::{InputFault, ReadStop, read_input};
-use crate::station::Station;
 use jls_device::Counted;
 use jls_partial::Partial;
+use jls_station::{InputFault, ReadStop, Station, read_input};
 use jls_values::MergeFault;
 use std::alloc::Global;
 use std::io;

@@ -1,10 +1,8 @@
 //! Damaged copies as inputs, from sources that give so many bytes a read at most, and that end or fail behind the last one.
 
-use crate::input::read_input;
-use crate::station::Station;
-use crate::take_report::TakeReport;
 use jls_device::Counted;
 use jls_partial::Partial;
+use jls_station::{Station, TakeReport, read_input};
 use jls_values::Shape;
 use std::alloc::Global;
 use std::fmt::Write;

@@ -10,8 +10,8 @@ mod pictures;
 mod telling;
 mod words;
 
-use crate::program::run;
 use jls_device::{Counted, Sink};
+use jls_program::run;
 use memory::{Manners, MemoryFiles};
 use pictures::FILES;
 use std::alloc::{AllocError, Global};
