@@ -1,6 +1,6 @@
 -- What the store keeps, as entries and as a partial picture; and what one reading more leaves.
 use Rattle.std.proofs.Common.{◌≡◌, ℕ, ◌<◌, ◌≤◌, ◌^◌, Bool, true, false, cond, ◌&&◌, ◌||◌, List, [], ◌∷◌, length, get_or, map, zero, suc, Option, Some, None, refl, ap, sym, subst, ◌∙◌, arith}
-use Rattle.std.specs.Prelude.{IfSome, unwrap_or, nat_le, slice_get}
+use Rattle.std.specs.Prelude.{IfSome, unwrap_or, nat_le}
 use Rattle.std.specs.declared.cmp.Ordering.{Ordering}
 use Rattle.std.specs.declared.cmp.Ordering.TheVariants.{Less, Equal, Greater}
 use Rattle.std.specs.BTreeMap.{is_at}
@@ -10,7 +10,7 @@ use Rattle.std.specs.List.Sorted.{IsStrictlySortedBy}
 use Rattle.std.specs.Map.{lookup}
 use Rattle.std.specs.Option.{option_map}
 use Rattle.std.specs.Ordering.{nat_cmp, eq_by_cmp, is_eq}
-use Rattle.std.proofs.lemmas.Bool.{and_parts, or_right}
+use Rattle.std.proofs.lemmas.Bool.{and_parts}
 use Rattle.std.proofs.lemmas.Cmp.{tied_itself, eq_by_cmp_equiv, nat_cmp_total}
 use Rattle.std.proofs.lemmas.Map.Lookups.{exact_unsigned}
 use Rattle.jls_values.specs.OrderedSet as set
@@ -259,15 +259,6 @@ module _ (p w : ℕ) (shape : PictureShape) (es : List LineEntry) (kept : IsStor
 
     pub entries_there : map kept_entry es ≡ entries q
     entries_there = sym (store_entries shape es kept) ∙ ap entries is
-
--- what is got from a set is in it
-pub got_held : (s : set.OrderedSet S) (i : ℕ) (x : List ℕ) → slice_get (set.items s) i ≡ Some x → set.contains s x ≡ true
-got_held s i x e = contains-items s x ∙ got (set.items s) i e
-  where
-    got : (xs : List (List ℕ)) (i : ℕ) → slice_get xs i ≡ Some x → list_any (eq_by_cmp S x) xs ≡ true
-    got [] i e = absurd cc
-    got (y ∷ xs) zero e = let same : y ≡ x = cc in ap (λ b. b || list_any (eq_by_cmp S x) xs) (ap (λ (z : List ℕ). eq_by_cmp S x z) same ∙ ap is_eq (tied_itself lines_total x))
-    got (y ∷ xs) (suc i) e = or_right (eq_by_cmp S x y) (list_any (eq_by_cmp S x) xs) (got xs i e)
 
 -- ---- one reading more
 

@@ -14,7 +14,8 @@ use Rattle.jls_partial.specs.LineSet.{PictureLines, no_lines}
 use Rattle.jls_partial.specs.Partial.{PartialPicture, readings_at, with_all, with_marks}
 use Rattle.jls_partial.specs.Place.{place_cmp}
 use Rattle.jls_partial.proofs.Marked.{got_held, taken_is_marked}
-use Rattle.jls_partial.proofs.Store.{IsAt, is_there, no_items, readings_at_there, kept_put, seen_put, got_held as got_there}
+use Rattle.jls_partial.proofs.Store.{IsAt, is_there, no_items, readings_at_there, kept_put, seen_put}
+use Rattle.jls_partial.proofs.Views.{got_held as got_there}
 use Rattle.jls_partial.proofs.partial.Partial.mark_reading.Goals as goal
 
 -- where there is a reading, the lines are the same whatever stands for none

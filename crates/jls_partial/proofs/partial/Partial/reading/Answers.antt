@@ -5,7 +5,8 @@ use Rattle.jls_partial.specs.Held.{lines_or}
 use Rattle.jls_partial.specs.LineSet.{PictureLines, no_lines}
 use Rattle.jls_partial.specs.Partial.{holds}
 use Rattle.jls_partial.specs.Place.{place}
-use Rattle.jls_partial.proofs.Store.{readings_at_there, holds_there, fitting, got_held}
+use Rattle.jls_partial.proofs.Store.{readings_at_there, holds_there, fitting}
+use Rattle.jls_partial.proofs.Views.{got_held}
 use Rattle.jls_partial.proofs.partial.Partial.reading.Goals as goal
 
 pub lines_at-requires : goal.lines_at-requires
