@@ -1,7 +1,7 @@
 //! Taking samples of regular mode from a line in work, one after another (ITU-T T.87, A.3 to A.6).
 
-ghost use Rattle.std.specs.Prelude.{◌≡◌, ◌<◌, ◌≤◌, ◌++◌, length, IfSome, IfNone, OnOk};
-ghost use Rattle.jls_context.specs.Mode.{IsRegularMode};
+ghost use Rattle.std.specs.Prelude.{◌≡◌, ◌<◌, ◌≤◌, ◌++◌, length, pos, ◌-ℤ◌, IfSome, IfNone, OnOk};
+ghost use Rattle.jls_context.specs.Mode.{IsRegularMode, IsStep, quantized_gradient};
 ghost use Rattle.jls_context.specs.Errors.{IsError};
 ghost use Rattle.jls_context.specs.Variables.{cell_at};
 ghost use Rattle.jls_interval.specs.Cells.{regular_error};
@@ -41,14 +41,24 @@ fn read_sample(
 }
 
 /// Takes a sample of regular mode whose code is short and stands whole at the front, and gives it. Else it takes nothing.
+/// The quantized gradients from Rb to Rd and from Rc to Rb are given.
 #[inline(always)]
-fn take_sample(coder: &mut Coder, neighbours: Neighbours, chunk: &mut Chunk) -> Option<u16>
+fn take_sample(
+    coder: &mut Coder,
+    neighbours: Neighbours,
+    first: i32,
+    second: i32,
+    chunk: &mut Chunk,
+) -> Option<u16>
+    requires first { first ≡ quantized_gradient coder.old.cells.parameters (pos neighbours.rd -ℤ pos neighbours.rb) }
+    requires second { second ≡ quantized_gradient coder.old.cells.parameters (pos neighbours.rb -ℤ pos neighbours.rc) }
+    requires steps { IsStep first × IsStep second }
     ensures some { IfSome result (λ value. SampleTaken coder.old.cells.parameters neighbours value coder.old coder.new chunk.old chunk.new) }
     ensures none { IfNone result ((coder.new ≡ coder.old) × (chunk.new ≡ chunk.old)) }
     ensures parameters { coder.new.cells.parameters ≡ coder.old.cells.parameters }
 {
-    let Neighbours { ra, rb, rc, rd } = neighbours;
-    match coder.cells.mode(ra, rb, rc, rd) {
+    let third = coder.cells.gradient(neighbours.rc, neighbours.ra);
+    match coder.cells.mode_of(first, second, third) {
         Mode::Run => None,
         Mode::Regular { cell, negative } => {
             let mode = RegularMode {
@@ -86,12 +96,15 @@ pub(crate) fn take_samples(
 {
     let mut column = reader.line.len();
     let mut near = place.neighbours(reader.width, &reader.line, column);
+    let mut second = reader.coder.cells.gradient(near.rb, near.rc);
     'columns: while column + 2 < reader.width && chunk.len() >= LOOKED_FOR {
-        match take_sample(&mut reader.coder, near, chunk) {
+        let first = reader.coder.cells.gradient(near.rd, near.rb);
+        match take_sample(&mut reader.coder, near, first, second, chunk) {
             None => return Ok(()),
             Some(value) => {
                 reader.line.push(value)?;
                 near = place.neighbours_behind(near, value, column);
+                second = first;
                 column += 1;
             }
         }

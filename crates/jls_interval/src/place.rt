@@ -49,7 +49,8 @@ impl<'a> Place<'a> {
     #[inline(always)]
     pub(crate) fn neighbours_behind(&self, near: Neighbours, value: u16, x: usize) -> Neighbours
         requires { x < 2 ^ 16 }
-        ensures { (width : ℕ) (line : List ℕ) → x ≡ length line → near ≡ neighbours width (above_of self.now) line x → x + 2 < width
+        ensures rolled { (result.rb ≡ near.rd) × (result.rc ≡ near.rb) }
+        ensures behind { (width : ℕ) (line : List ℕ) → x ≡ length line → near ≡ neighbours width (above_of self.now) line x → x + 2 < width
             → result ≡ neighbours width (above_of self.now) (line ++ value ∷ []) (x + 1) }
     {
         Neighbours {

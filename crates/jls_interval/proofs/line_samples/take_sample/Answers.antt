@@ -9,10 +9,18 @@ use Rattle.jls_interval.specs.Code.{regular_bits}
 use Rattle.jls_interval.proofs.AfterEvents.{after_regular, sample_bits}
 use Rattle.jls_interval.proofs.line_samples.take_sample.Goals as goal
 
+pub read_sample-requires : goal.read_sample-requires
+read_sample-requires c =
+    let a : to_z w32 (of_z w32 c.args.first) ≡ c.args.first = omega (arith, ints) in let b : to_z w32 (of_z w32 c.args.second) ≡ c.args.second = omega (arith, ints) in
+    let d : to_z w32 (of_z w32 c.gradient-third.result) ≡ c.gradient-third.result = omega (arith, ints) in
+    record { mode = c.in-Regular.ensures c.args.neighbours (record { first = a ∙ c.requires.first; second = b ∙ c.requires.second; third = d ∙ c.gradient-third.ensures.value }) }
+
 pub returns-in-Some-clause-some : goal.returns-in-Some-clause-some
 returns-in-Some-clause-some c =
     let old = c.args.coder.now in let cells : Variables = old.cells in let p = cells.parameters in let near : Neighbours = c.args.neighbours in
-    let m = c.in-Regular.ensures in let q : ℕ = c.in-Regular.cell in let q_is : q ≡ context p near = m.context_is in
+    let a : to_z w32 (of_z w32 c.args.first) ≡ c.args.first = omega (arith, ints) in let b : to_z w32 (of_z w32 c.args.second) ≡ c.args.second = omega (arith, ints) in
+    let d : to_z w32 (of_z w32 c.gradient-third.result) ≡ c.gradient-third.result = omega (arith, ints) in
+    let m = c.in-Regular.ensures near (record { first = a ∙ c.requires.first; second = b ∙ c.requires.second; third = d ∙ c.gradient-third.ensures.value }) in let q : ℕ = c.in-Regular.cell in let q_is : q ≡ context p near = m.context_is in
     let v : ℕ = c.in-Some.sample.value in let e : ℤ = c.in-Some.sample.error in let s = c.in-Some.ensures in let u = c.update_regular.ensures in
     let unread : List Bool = c.read_sample.new.chunk in let same : to_z w32 (of_z w32 e) ≡ e = omega (arith, ints) in
     record {

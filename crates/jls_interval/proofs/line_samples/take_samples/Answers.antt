@@ -1,4 +1,8 @@
-use Rattle.std.proofs.Common.{◌≡◌, ℕ, ◌+◌, ◌<◌, List, [], ◌∷◌, ◌++◌, length, length-append, refl, ap, sym, ◌∙◌, arith}
+use Rattle.std.proofs.Common.{◌≡◌, ℕ, ◌+◌, ◌<◌, List, [], ◌∷◌, ◌++◌, length, length-append, w32, to_z, of_z, refl, ap, sym, ◌∙◌, subst, arith}
+use Rattle.std.proofs.lemmas.Int.{ints}
+use Rattle.std.specs.Prelude.{pos, ◌-ℤ◌}
+use Rattle.jls_values.specs.Params.{CodingParameters}
+use Rattle.jls_context.specs.Mode.{IsStep, quantized_gradient}
 use Rattle.jls_interval.specs.Events.{Above, neighbours}
 use Rattle.jls_interval.specs.Place.{above_of}
 use Rattle.jls_interval.proofs.LineSamples.{taken_more, taken_same}
@@ -16,7 +20,9 @@ columns-preserved c =
     let grown : line' ≡ line ++ v ∷ [] = c.in_ok-push-in-Some.ensures.items in let a = length-append line (v ∷ []) in let b = ap length grown in
     let room : x + 2 < w = c.columns-test.true in let at : x ≡ length line = i.column in
     let at' : x + 1 ≡ length line' = omega arith in
-    let next = c.neighbours_behind-near.ensures w line at (i.near ∙ ap (neighbours w up line) (sym at)) room in
+    let next = c.neighbours_behind-near.ensures.behind w line at (i.near ∙ ap (neighbours w up line) (sym at)) room in
+    let near = c.columns.near in let near' = c.neighbours_behind-near.result in let same : to_z w32 (of_z w32 c.gradient-first.result) ≡ c.gradient-first.result = omega (arith, ints) in
+    let rolled = c.neighbours_behind-near.ensures.rolled in
     record {
       column = at';
       columns = omega arith;
@@ -24,5 +30,7 @@ columns-preserved c =
       parameters = c.take_sample.ensures.parameters ∙ i.parameters;
       hand = i.hand;
       near = next ∙ ap (λ z. neighbours w up z (x + 1)) (sym grown) ∙ ap (neighbours w up line') at';
+      second = same ∙ c.gradient-first.ensures.value ∙ ap (λ (q : CodingParameters). quantized_gradient q (pos near.rd -ℤ pos near.rb)) (sym c.take_sample.ensures.parameters) ∙ ap (λ z. quantized_gradient c.take_sample.new.coder.cells.parameters (pos z -ℤ pos near.rb)) (sym rolled.0) ∙ ap (λ z. quantized_gradient c.take_sample.new.coder.cells.parameters (pos near'.rb -ℤ pos z)) (sym rolled.1);
+      step = subst IsStep (sym same) c.gradient-first.ensures.step;
       taking = taken_more c.args.place.now.component up c.args.reader.now now (record now { coder = c.take_sample.new.coder; line = c.push.new.self }) c.args.chunk.now c.columns.chunk c.take_sample.new.chunk c.columns.near v c.in-Some.ensures.some i.hand i.hand refl grown i.parameters i.near (omega arith) i.taking;
     }

@@ -1,4 +1,6 @@
 use Rattle.std.proofs.Common.{◌≡◌, ◌-◌, ◌<◌, length}
+use Rattle.std.specs.Prelude.{pos, ◌-ℤ◌}
+use Rattle.jls_context.specs.Mode.{IsStep, quantized_gradient}
 use Rattle.jls_interval.specs.Place.{above_of}
 use Rattle.jls_interval.specs.Hands.{now_at}
 use Rattle.jls_interval.specs.LineSamples.{TakesInLine}
@@ -13,6 +15,8 @@ invariant-columns l = record {
   parameters : l.reader.coder.cells.parameters ≡ l.initial.reader.coder.cells.parameters;
   hand : l.reader.hand ≡ Fresh;
   near : l.near ≡ now_at l.reader.width (above_of l.place) l.reader.line.items;
+  second : l.second ≡ quantized_gradient l.reader.coder.cells.parameters (pos l.near.rb -ℤ pos l.near.rc);
+  step : IsStep l.second;
   taking : TakesInLine l.place.component (above_of l.place) l.initial.reader l.reader l.initial.chunk l.chunk;
 }
 
