@@ -49,7 +49,9 @@ impl CodeState {
                 count,
                 value,
             } => push_to_remainder(quotient, count, value, k, bit),
-            CodeState::Escape { count, value } => push_to_escape(count, value, k, g, qbpp, bit),
+            CodeState::Escape { count, value } => {
+                push_to_escape(FirstBits { count, value }, k, g, qbpp, bit)
+            }
         }
     }
 
@@ -166,14 +168,22 @@ fn push_to_remainder(quotient: u8, count: u8, value: u32, k: u8, bit: bool) -> C
     }
 }
 
+/// The first bits of a number: how many, and the number that they are.
+#[derive(Clone, Copy)]
+struct FirstBits {
+    count: u8,
+    value: u32,
+}
+
 /// Takes a bit of an escape's number.
-fn push_to_escape(count: u8, value: u32, k: u8, g: u8, qbpp: u8, bit: bool) -> CodeStep
+fn push_to_escape(number: FirstBits, k: u8, g: u8, qbpp: u8, bit: bool) -> CodeStep
     requires k { k ≤ 16 }
     requires qbpp { qbpp ≤ 16 }
     requires g { (qbpp + 2 ≤ g) × (g ≤ 64) }
-    requires open { IsOpen k g qbpp (Escape count value) }
-    ensures { StepIs k g qbpp (bits_told g qbpp (Escape count value) ++ bit ∷ []) result }
+    requires open { IsOpen k g qbpp (Escape number.count number.value) }
+    ensures { StepIs k g qbpp (bits_told g qbpp (Escape number.count number.value) ++ bit ∷ []) result }
 {
+    let FirstBits { count, value } = number;
     let escape = g - qbpp - 1;
     let value = 2 * value + bit as u32;
     let count = count + 1;
