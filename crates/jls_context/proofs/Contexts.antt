@@ -4,8 +4,8 @@ use Rattle.std.specs.Prelude.{ℤ, pos, ◌-ℤ◌, unsigned_abs}
 use Rattle.std.proofs.lemmas.Int.{ints}
 use Rattle.jls_values.specs.Params.{CodingParameters}
 use Rattle.jls_context.specs.declared.mode.Neighbours.{Neighbours}
-use Rattle.jls_context.specs.Mode.{with_sign, quantized_gradient, quantized_gradients, is_negative, weighed, context, signed_gradients, ContextsAreApart}
-use Rattle.jls_context.proofs.Gradients.{IsStep, gradient_range, sign_is, size_is}
+use Rattle.jls_context.specs.Mode.{with_sign, quantized_gradient, quantized_gradients, is_negative, weighed, context, signed_gradients, ContextsAreApart, IsStep}
+use Rattle.jls_context.proofs.Gradients.{gradient_range, sign_is, size_is}
 
 signed_step : (negative : Bool) (q : ℤ) → IsStep q → IsStep (with_sign negative q)
 signed_step true q s = let low = s.at_least in let high = s.at_most in record { at_least = omega (arith, ints); at_most = omega (arith, ints) }

@@ -6,7 +6,7 @@ use mir.Val.{bool_byte}
 use Rattle.std.proofs.lemmas.Bool.{cases_Bool, cases_lt, eq-eqb, eqb-true, ne_eqb, le-leb, lt-leb, lt-ltb, le-ltb, false≢true}
 use Rattle.jls_values.specs.Params.{CodingParameters, AreCodingParameters}
 use Rattle.jls_context.specs.declared.mode.Neighbours.{Neighbours}
-use Rattle.jls_context.specs.Mode.{with_sign, is_run_mode, quantized_size, quantized_gradient, quantized_gradients, is_first_negative, is_negative, weighed, context, IsRegularMode}
+use Rattle.jls_context.specs.Mode.{with_sign, is_run_mode, quantized_size, quantized_gradient, quantized_gradients, is_first_negative, is_negative, weighed, context, IsRegularMode, IsStep, AreGradients}
 
 pub gradient_below : (p : CodingParameters) (to from : ℕ) → to < from
     → quantized_gradient p (pos to -ℤ pos from) ≡ neg_ℤ (pos (quantized_size p (from - to)))
@@ -71,10 +71,6 @@ size_zero p n some =
     ]
 
 -- nine steps
-pub record IsStep (q : ℤ) : Type 0 where
-  pub at_least : negsuc 3 ≤ℤ q
-  pub at_most : q ≤ℤ pos 4
-
 pub gradient_range : (p : CodingParameters) (z : ℤ) → IsStep (quantized_gradient p z)
 unfolding quantized_gradient
 gradient_range p z =
@@ -172,3 +168,9 @@ regular_mode p near regular number is =
       at_least = omega (arith, ints);
       at_most = omega (arith, ints);
     }
+
+-- the sum of the gradients of a sample
+pub weighed_is : (p : CodingParameters) (near : Neighbours) (q1 q2 q3 number : ℤ) → AreGradients p near q1 q2 q3 → number ≡ weighed q1 q2 q3
+    → number ≡ (let q = quantized_gradients p near in weighed q.q1 q.q2 q.q3)
+weighed_is p near q1 q2 q3 number are is =
+    is ∙ ap (λ z. weighed z q2 q3) are.first ∙ ap (λ z. weighed (quantized_gradient p (pos near.rd -ℤ pos near.rb)) z q3) are.second ∙ ap (λ z. weighed (quantized_gradient p (pos near.rd -ℤ pos near.rb)) (quantized_gradient p (pos near.rb -ℤ pos near.rc)) z) are.third

@@ -1,6 +1,6 @@
 -- The mode of a sample: run mode, or regular mode with the context and the SIGN of its neighbours (T.87, A.3).
 use Rattle.std.specs.Prelude.{◌≡◌, ℕ, zero, suc, ◌≤◌, Bool, true, false, ◌&&◌, nat_lt, ◌==◌, if◌then◌else◌, List, [], ◌∷◌}
-use Rattle.std.specs.Prelude.{ℤ, pos, negsuc, ◌+ℤ◌, ◌-ℤ◌, ◌*ℤ◌, neg_ℤ, unsigned_abs, int_lt}
+use Rattle.std.specs.Prelude.{ℤ, pos, negsuc, ◌+ℤ◌, ◌-ℤ◌, ◌*ℤ◌, neg_ℤ, ◌≤ℤ◌, unsigned_abs, int_lt}
 use Rattle.jls_values.specs.Params.{CodingParameters}
 use Rattle.jls_context.specs.declared.mode.Neighbours.{Neighbours}
 use Rattle.jls_context.specs.declared.mode.Mode.{Mode}
@@ -40,6 +40,17 @@ quantized_gradients p near = record {
   q2 = quantized_gradient p (pos near.rb -ℤ pos near.rc);
   q3 = quantized_gradient p (pos near.rc -ℤ pos near.ra);
 }
+
+-- a quantized gradient is from -4 to 4
+pub record IsStep (q : ℤ) : Type 0 where
+  pub at_least : negsuc 3 ≤ℤ q
+  pub at_most : q ≤ℤ pos 4
+
+-- these are the quantized gradients of a sample with these neighbours
+pub record AreGradients (p : CodingParameters) (near : Neighbours) (q1 q2 q3 : ℤ) : Type 0 where
+  pub first : q1 ≡ quantized_gradient p (pos near.rd -ℤ pos near.rb)
+  pub second : q2 ≡ quantized_gradient p (pos near.rb -ℤ pos near.rc)
+  pub third : q3 ≡ quantized_gradient p (pos near.rc -ℤ pos near.ra)
 
 -- whether the first of these that is not 0 is negative
 abbrev pub is_first_negative : List ℤ → Bool

@@ -1,9 +1,9 @@
 //! The cells of all contexts.
 
-ghost use Rattle.std.specs.Prelude.{◌≡◌, ◌≢◌, ℕ, ◌*◌, ◌^◌, ◌<◌, ◌≤◌, Bool, not, true, ℤ, pos, neg_ℤ, ◌<ℤ◌, IfSome, IfNone};
+ghost use Rattle.std.specs.Prelude.{◌≡◌, ◌≢◌, ℕ, ◌*◌, ◌^◌, ◌<◌, ◌≤◌, Bool, not, true, ℤ, pos, neg_ℤ, ◌-ℤ◌, ◌<ℤ◌, IfSome, IfNone};
 ghost use Rattle.jls_values.specs.Params.{range, qbpp};
 ghost use Rattle.jls_context.specs.declared.mode.Neighbours.{Neighbours};
-ghost use Rattle.jls_context.specs.Mode.{IsMode};
+ghost use Rattle.jls_context.specs.Mode.{IsMode, IsStep, AreGradients};
 ghost use Rattle.jls_context.specs.Prediction.{edge_detecting_predictor, corrected_prediction};
 ghost use Rattle.jls_context.specs.Errors.{IsError, IsModuloReduced, modulo_reduced, prediction_error};
 ghost use Rattle.jls_context.specs.Regular.{initial_cell, regular_k, regular_mapped, updated, IsGolombK};
@@ -13,7 +13,7 @@ ghost use Rattle.jls_context.specs.Bounds.{IsCell, IsRunCell, AreVariables};
 
 use crate::errors::{error_mapped, error_unmapped, is_error, reduced, restored};
 use crate::interruption::RunCell;
-use crate::mode::{Mode, Neighbours};
+use crate::mode::{Mode, quantized_gradient};
 use crate::prediction::{corrected_prediction, edge_detecting_predictor};
 use crate::regular::Cell;
 use jls_values::Params;
@@ -69,7 +69,31 @@ impl Cells {
     pub fn mode(&self, ra: u16, rb: u16, rc: u16, rd: u16) -> Mode
         ensures { let near : Neighbours = record { ra = ra; rb = rb; rc = rc; rd = rd } in IsMode self.now.parameters near result }
     {
-        Mode::of(&self.params, Neighbours { ra, rb, rc, rd })
+        let first = self.gradient(rd, rb);
+        let second = self.gradient(rb, rc);
+        let third = self.gradient(rc, ra);
+        self.mode_of(first, second, third)
+    }
+
+    /// The quantized gradient from one sample to another (A.3.1, A.3.3).
+    #[inline(always)]
+    pub fn gradient(&self, to: u16, from: u16) -> i32
+        ensures value { result ≡ Rattle.jls_context.specs.Mode.quantized_gradient self.now.parameters (pos to -ℤ pos from) }
+        ensures step { IsStep result }
+    {
+        quantized_gradient(&self.params, to, from)
+    }
+
+    /// The mode of a sample with these quantized gradients, as `gradient` gives them of Rd and Rb, Rb and Rc, and Rc and Ra
+    /// (A.3.2 to A.3.4).
+    #[inline(always)]
+    pub fn mode_of(&self, first: i32, second: i32, third: i32) -> Mode
+        requires first { IsStep first }
+        requires second { IsStep second }
+        requires third { IsStep third }
+        ensures { (near : Neighbours) → AreGradients self.now.parameters near first second third → IsMode self.now.parameters near result }
+    {
+        Mode::of(first, second, third)
     }
 
     fn regular_cell(&self, cell: u16) -> Cell

@@ -1,7 +1,8 @@
 //! Run mode and regular mode.
 
 ghost use Rattle.std.specs.Prelude.{◌≡◌, ◌^◌, pos, negsuc, ◌-ℤ◌, ◌≤ℤ◌, unsigned_abs};
-ghost use Rattle.jls_context.specs.Mode.{IsMode, quantized_gradients, weighed};
+ghost use Rattle.jls_values.specs.Params.{CodingParameters};
+ghost use Rattle.jls_context.specs.Mode.{IsMode, IsStep, AreGradients};
 
 use jls_values::Params;
 
@@ -55,31 +56,37 @@ fn quantized_size(params: &Params, size: u16) -> i32
 }
 
 /// The quantized gradient from one sample to another.
-fn quantized_gradient(params: &Params, to: u16, from: u16) -> i32
+#[inline(always)]
+pub(crate) fn quantized_gradient(params: &Params, to: u16, from: u16) -> i32
     ensures value { result ≡ Rattle.jls_context.specs.Mode.quantized_gradient params.now (pos to -ℤ pos from) }
-    ensures at_least { negsuc 3 ≤ℤ result }
-    ensures at_most { result ≤ℤ pos 4 }
+    ensures step { IsStep result }
 {
     let steps = quantized_size(params, to.abs_diff(from));
     if to < from { -steps } else { steps }
 }
 
-/// The quantized gradients, weighed. It is 0 in run mode; else its size is the context's number, and its sign is SIGN.
-fn weighed_gradients(params: &Params, near: Neighbours) -> i32
-    ensures { let q = quantized_gradients params.now near in result ≡ weighed q.q1 q.q2 q.q3 }
+/// Three quantized gradients, weighed. The sum is 0 in run mode; else its size is the context's number, and its sign is SIGN.
+fn weighed(q1: i32, q2: i32, q3: i32) -> i32
+    requires q1 { IsStep q1 }
+    requires q2 { IsStep q2 }
+    requires q3 { IsStep q3 }
+    ensures value { result ≡ Rattle.jls_context.specs.Mode.weighed q1 q2 q3 }
+    ensures at_least { negsuc 363 ≤ℤ result }
+    ensures at_most { result ≤ℤ pos 364 }
 {
-    81 * quantized_gradient(params, near.rd, near.rb)
-        + 9 * quantized_gradient(params, near.rb, near.rc)
-        + quantized_gradient(params, near.rc, near.ra)
+    81 * q1 + 9 * q2 + q3
 }
 
 impl Mode {
-    /// The mode of a sample with these neighbours.
+    /// The mode of a sample with these quantized gradients.
     #[inline(always)]
-    pub(crate) fn of(params: &Params, near: Neighbours) -> Mode
-        ensures { IsMode params.now near result }
+    pub(crate) fn of(q1: i32, q2: i32, q3: i32) -> Mode
+        requires q1 { IsStep q1 }
+        requires q2 { IsStep q2 }
+        requires q3 { IsStep q3 }
+        ensures { (p : CodingParameters) (near : Neighbours) → AreGradients p near q1 q2 q3 → IsMode p near result }
     {
-        let number = weighed_gradients(params, near);
+        let number = weighed(q1, q2, q3);
         if number == 0 {
             return Mode::Run;
         }

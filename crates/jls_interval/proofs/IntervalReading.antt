@@ -7,7 +7,8 @@ use Rattle.jls_context.specs.Variables.{Variables}
 use Rattle.jls_interval.specs.Events.{Event, Above, above}
 use Rattle.jls_interval.specs.After.{IsAfter}
 use Rattle.jls_interval.specs.Hands.{NoEvent, HandAt, Holds, EventDone, EventPushed}
-use Rattle.jls_interval.specs.Decoding.{IsWorking, IsDead, StateIs, IsReading, TakesAll, TakesFirst, TakesEvent, HasShape}
+use Rattle.jls_interval.specs.Decoding.{IsWorking, IsDead, StateIs, IsReading, TakesAll, Taken, TakesFirst, TakesEvent, HasShape}
+use Rattle.jls_interval.specs.LineSamples.{Works, TakesInLine}
 use Rattle.jls_interval.specs.declared.line_reader.Hand.{Hand}
 use Rattle.jls_interval.specs.declared.line_reader.Hand.TheVariants.{Fresh}
 use Rattle.jls_interval.specs.declared.line_reader.LineReader.{LineReader}
@@ -29,14 +30,18 @@ pub taking_none : (old : IntervalReader) (chunk : List Bool) → TakesFirst old 
 taking_none old chunk = λ p given h. record { taken = []; chunk_is = refl; reading = subst (λ z. IsReading p z old) (sym (append-nil given)) h }
 
 module _ (old now next : IntervalReader) (chunk unread : List Bool) (t : TakesFirst old chunk now unread) where
-  pub taking_more : (unread' : List Bool) → TakesEvent now next unread unread' true → TakesFirst old chunk next unread'
-  taking_more unread' s = λ p given h.
+  pub taking_then : (unread' : List Bool) → TakesFirst now unread next unread' → TakesFirst old chunk next unread'
+  taking_then unread' s = λ p given h.
       let a = t p given h in let b = s p (given ++ a.taken) a.reading in
       record {
         taken = a.taken ++ b.taken;
         chunk_is = a.chunk_is ∙ ap (λ z. a.taken ++ z) b.chunk_is ∙ sym (append_assoc a.taken b.taken unread');
         reading = subst (λ z. IsReading p z next) (append_assoc given a.taken b.taken) b.reading;
       }
+
+  pub taking_more : (unread' : List Bool) → TakesEvent now next unread unread' true → TakesFirst old chunk next unread'
+  taking_more unread' s =
+      taking_then unread' (λ p given h. (let b = s p given h in record { taken = b.taken; chunk_is = b.chunk_is; reading = b.reading }))
 
   pub taking_all : (none : List Bool) → none ≡ [] → TakesAll now next unread → TakesFirst old chunk next none
   taking_all none e s = λ p given h.
@@ -52,6 +57,12 @@ module _ (old now next : IntervalReader) (chunk unread : List Bool) (t : TakesFi
   taking_shorter unread' s p given h =
       let a = t p given h in let b = s p (given ++ a.taken) a.reading in
       let l = b.some in let e = ap length b.chunk_is in let n = length-append b.taken unread' in omega arith
+
+-- no bit comes back
+pub taking_fewer : (old new : IntervalReader) (chunk unread : List Bool) → TakesFirst old chunk new unread → (p : CodingParameters) (given : List Bool)
+    → IsReading p given old → length unread ≤ length chunk
+taking_fewer old new chunk unread t p given h =
+    let a = t p given h in let e = ap length a.chunk_is in let n = length-append a.taken unread in omega arith
 
 -- One event ------------------------------------------------------------------------------------
 
@@ -136,3 +147,24 @@ module _ (p : CodingParameters) (d : IntervalReader) (given : List Bool) (h : Is
     moved_taken all =
         let e = pushed Moved all in
         (e.taken, e.chunk_is, subst (λ q. EventDone q w component (above n lines) line new.line.items new.coder.cells new.coder.run_indices (working.told ++ e.taken) working.earlier) h.parameters e.step_is.0, e.step_is.1)
+
+    -- samples that end no line
+    pub samples_taken : new.width ≡ w → new.coder.cells.parameters ≡ cells.parameters → TakesInLine k up d.reader new chunk unread
+        → Taken p given (record d { reader = new }) chunk unread
+    samples_taken wide params t =
+        let a = t n d.count given lines k_is up_is (subst (λ q. Works q n d.count given lines d.reader) (sym h.parameters) working) in
+        let works : Works p n d.count (given ++ a.taken) lines new = subst (λ q. Works q n d.count (given ++ a.taken) lines new) h.parameters a.works in
+        record {
+          taken = a.taken;
+          chunk_is = a.chunk_is;
+          reading = record {
+            parameters = params ∙ h.parameters;
+            width_at_least = (let b = h.width_at_least in omega arith);
+            components_at_least = h.components_at_least;
+            components_at_most = h.components_at_most;
+            lines_at_most = h.lines_at_most;
+            lines_paid = (let b = h.lines_paid in let m = length-append given a.taken in omega arith);
+            line_at_most = (let b = works.unfinished in omega arith);
+            state_is = subst (λ s. StateIs p new.width n d.count (given ++ a.taken) lines new.line.items new.coder.cells new.coder.run_indices new.hand s) (sym is) works;
+          };
+        }

@@ -22,6 +22,7 @@ pub mod RunChunks
 pub mod SampleSteps
 pub mod Hands
 pub mod Decoding
+pub mod LineSamples
 pub mod IntervalBytes
 pub mod CutHands
 pub mod CutEnds

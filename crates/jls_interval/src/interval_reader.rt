@@ -3,7 +3,8 @@
 ghost use Rattle.std.specs.Prelude.{◌≡◌, ◌↔◌, ◌-◌, ◌≤◌, List, Bool, length, IsTrue, IfOk, OnOk};
 ghost use Rattle.jls_values.specs.Params.{CodingParameters};
 
-use crate::line_reader::{EventStep, LineReader};
+use crate::line_reader::{EventStep, Hand, LineReader};
+use crate::line_samples::take_samples;
 use crate::place::Place;
 use crate::push_event::push_to_event;
 use jls_bits::Chunk;
@@ -66,6 +67,21 @@ impl IntervalReader {
         }
     }
 
+    /// Takes samples from the front of a chunk that are no last ones of their line, where no event has begun.
+    fn push_samples(&mut self, chunk: &mut Chunk) -> Result<(), AllocError>
+        requires state { self.old.state ≡ State.Working }
+        requires reading { (p : CodingParameters) × (given : List Bool) × IsReading p given self.old }
+        ensures shape { HasShape self.old self.new }
+        ensures state { self.new.state ≡ self.old.state }
+        ensures bits { OnOk result (TakesFirst self.old chunk.old self.new chunk.new) }
+    {
+        if let Hand::Fresh = self.reader.hand {
+            let place = Place::after(&self.lines, self.components);
+            take_samples(&mut self.reader, &place, chunk)?;
+        }
+        Ok(())
+    }
+
     /// Counts the bits that come behind the lines' code.
     fn count_bits(&mut self, chunk: &Chunk)
         ensures shape { HasShape self.old self.new }
@@ -92,6 +108,7 @@ impl IntervalReader {
         ensures few { OnOk result (length chunk.new ≤ waiting - 1) }
     {
         'events: while self.is_working() {
+            self.push_samples(chunk)?;
             if chunk.len() < waiting {
                 return Ok(());
             }

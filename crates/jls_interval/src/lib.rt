@@ -18,6 +18,7 @@ mod interval_decoder;
 mod interval_reader;
 mod laws;
 mod line_reader;
+mod line_samples;
 mod lines;
 mod neighbours;
 mod place;

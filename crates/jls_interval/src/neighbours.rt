@@ -6,7 +6,7 @@ ghost use Rattle.jls_interval.specs.Events.{line_back};
 use jls_context::Neighbours;
 
 /// The sample in a column. Where the line isn't there, or ends before, it is 0.
-fn sample_at(line: &[u16], x: usize) -> u16
+pub(crate) fn sample_at(line: &[u16], x: usize) -> u16
     ensures { result ≡ get_or line.now x 0 }
 {
     match line.get(x) {

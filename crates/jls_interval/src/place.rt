@@ -1,9 +1,9 @@
 //! Where a line stands in its interval.
 
-ghost use Rattle.std.specs.Prelude.{◌≡◌, ◌+◌, ◌*◌, ◌%◌, ◌<◌, ◌≤◌, length, map};
-ghost use Rattle.jls_interval.specs.Events.{above};
+ghost use Rattle.std.specs.Prelude.{◌≡◌, ℕ, ◌+◌, ◌*◌, ◌%◌, ◌^◌, ◌<◌, ◌≤◌, List, [], ◌∷◌, ◌++◌, length, map};
+ghost use Rattle.jls_interval.specs.Events.{above, neighbours};
 
-use crate::neighbours::{line_back, neighbours_at};
+use crate::neighbours::{line_back, neighbours_at, sample_at};
 use jls_context::Neighbours;
 
 /// Where a line stands in its interval: its component, and the two lines of the component above it. One
@@ -40,8 +40,24 @@ impl<'a> Place<'a> {
     /// The samples round column x of the line here, which has this width and begins with these samples.
     pub(crate) fn neighbours(&self, width: usize, line: &[u16], x: usize) -> Neighbours
         requires { x < width }
-        ensures { result ≡ Rattle.jls_interval.specs.Events.neighbours width (above_of self.now) line.now x }
+        ensures { result ≡ neighbours width (above_of self.now) line.now x }
     {
         neighbours_at(width, self.line_above, self.line_two_above, line, x)
+    }
+
+    /// The samples round the column behind column x, which has these samples round it, and this value.
+    #[inline(always)]
+    pub(crate) fn neighbours_behind(&self, near: Neighbours, value: u16, x: usize) -> Neighbours
+        requires { x < 2 ^ 16 }
+        ensures rolled { (result.rb ≡ near.rd) × (result.rc ≡ near.rb) }
+        ensures behind { (width : ℕ) (line : List ℕ) → x ≡ length line → near ≡ neighbours width (above_of self.now) line x → x + 2 < width
+            → result ≡ neighbours width (above_of self.now) (line ++ value ∷ []) (x + 1) }
+    {
+        Neighbours {
+            ra: value,
+            rb: near.rd,
+            rc: near.rb,
+            rd: sample_at(self.line_above, x + 2),
+        }
     }
 }

@@ -1,0 +1,36 @@
+use Rattle.std.proofs.Common.{◌≡◌, ℕ, ◌+◌, ◌<◌, List, [], ◌∷◌, ◌++◌, length, length-append, w32, to_z, of_z, refl, ap, sym, ◌∙◌, subst, arith}
+use Rattle.std.proofs.lemmas.Int.{ints}
+use Rattle.std.specs.Prelude.{pos, ◌-ℤ◌}
+use Rattle.jls_values.specs.Params.{CodingParameters}
+use Rattle.jls_context.specs.Mode.{IsStep, quantized_gradient}
+use Rattle.jls_interval.specs.Events.{Above, neighbours}
+use Rattle.jls_interval.specs.Place.{above_of}
+use Rattle.jls_interval.proofs.LineSamples.{taken_more, taken_same}
+use Rattle.jls_interval.proofs.line_samples.take_samples.Goals as goal
+
+pub returns-in-None-clause-taken : goal.returns-in-None-clause-taken
+returns-in-None-clause-taken c =
+    let none = c.in-None.ensures.none in
+    taken_same c.args.place.now.component (above_of c.args.place.now) c.args.reader.now c.columns.reader c.args.chunk.now c.columns.chunk c.take_sample.new.chunk c.take_sample.new.coder none.0 none.1 c.columns.invariant.taking
+
+pub columns-preserved : goal.columns-preserved
+columns-preserved c =
+    let i = c.columns.invariant in let now = c.columns.reader in let w : ℕ = now.width in let line : List ℕ = now.line.items in let line' : List ℕ = c.push.new.self.items in
+    let up : Above = above_of c.args.place.now in let x : ℕ = c.columns.column in let v : ℕ = c.in-Some.value in
+    let grown : line' ≡ line ++ v ∷ [] = c.in_ok-push-in-Some.ensures.items in let a = length-append line (v ∷ []) in let b = ap length grown in
+    let room : x + 2 < w = c.columns-test.true in let at : x ≡ length line = i.column in
+    let at' : x + 1 ≡ length line' = omega arith in
+    let next = c.neighbours_behind-near.ensures.behind w line at (i.near ∙ ap (neighbours w up line) (sym at)) room in
+    let near = c.columns.near in let near' = c.neighbours_behind-near.result in let same : to_z w32 (of_z w32 c.gradient-first.result) ≡ c.gradient-first.result = omega (arith, ints) in
+    let rolled = c.neighbours_behind-near.ensures.rolled in
+    record {
+      column = at';
+      columns = omega arith;
+      width = i.width;
+      parameters = c.take_sample.ensures.parameters ∙ i.parameters;
+      hand = i.hand;
+      near = next ∙ ap (λ z. neighbours w up z (x + 1)) (sym grown) ∙ ap (neighbours w up line') at';
+      second = same ∙ c.gradient-first.ensures.value ∙ ap (λ (q : CodingParameters). quantized_gradient q (pos near.rd -ℤ pos near.rb)) (sym c.take_sample.ensures.parameters) ∙ ap (λ z. quantized_gradient c.take_sample.new.coder.cells.parameters (pos z -ℤ pos near.rb)) (sym rolled.0) ∙ ap (λ z. quantized_gradient c.take_sample.new.coder.cells.parameters (pos near'.rb -ℤ pos z)) (sym rolled.1);
+      step = subst IsStep (sym same) c.gradient-first.ensures.step;
+      taking = taken_more c.args.place.now.component up c.args.reader.now now (record now { coder = c.take_sample.new.coder; line = c.push.new.self }) c.args.chunk.now c.columns.chunk c.take_sample.new.chunk c.columns.near v c.in-Some.ensures.some i.hand i.hand refl grown i.parameters i.near (omega arith) i.taking;
+    }

@@ -1,0 +1,24 @@
+use Rattle.std.proofs.Common.{◌≡◌, ◌-◌, ◌<◌, length}
+use Rattle.std.specs.Prelude.{pos, ◌-ℤ◌}
+use Rattle.jls_context.specs.Mode.{IsStep, quantized_gradient}
+use Rattle.jls_interval.specs.Place.{above_of}
+use Rattle.jls_interval.specs.Hands.{now_at}
+use Rattle.jls_interval.specs.LineSamples.{TakesInLine}
+use Rattle.jls_interval.specs.declared.line_reader.Hand.TheVariants.{Fresh}
+use Rattle.jls_interval.proofs.line_samples.take_samples.Given as goal
+
+abbrev pub invariant-columns : goal.invariant-columns
+invariant-columns l = record {
+  column : l.column ≡ length l.reader.line.items;
+  columns : length l.reader.line.items < l.reader.width;
+  width : l.reader.width ≡ l.initial.reader.width;
+  parameters : l.reader.coder.cells.parameters ≡ l.initial.reader.coder.cells.parameters;
+  hand : l.reader.hand ≡ Fresh;
+  near : l.near ≡ now_at l.reader.width (above_of l.place) l.reader.line.items;
+  second : l.second ≡ quantized_gradient l.reader.coder.cells.parameters (pos l.near.rb -ℤ pos l.near.rc);
+  step : IsStep l.second;
+  taking : TakesInLine l.place.component (above_of l.place) l.initial.reader l.reader l.initial.chunk l.chunk;
+}
+
+abbrev pub decreases-columns : goal.decreases-columns
+decreases-columns l = l.reader.width - l.column

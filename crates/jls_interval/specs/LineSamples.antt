@@ -1,0 +1,45 @@
+-- Samples of regular mode that are taken from the front of a chunk, one after another, in a line that goes on behind them.
+use Rattle.std.specs.Prelude.{◌≡◌, ℕ, ◌%◌, ◌≤◌, Bool, false, List, [], ◌∷◌, ◌++◌, length}
+use Rattle.jls_values.specs.Params.{CodingParameters}
+use Rattle.jls_context.specs.declared.mode.Neighbours.{Neighbours}
+use Rattle.jls_context.specs.Mode.{is_run_mode}
+use Rattle.jls_context.specs.Variables.{Variables}
+use Rattle.jls_interval.specs.Events.{Event, regular, Above, above}
+use Rattle.jls_interval.specs.Code.{event_bits}
+use Rattle.jls_interval.specs.After.{IsAfter}
+use Rattle.jls_interval.specs.Decoding.{IsWorking}
+use Rattle.jls_interval.specs.declared.coder.Coder.{Coder}
+use Rattle.jls_interval.specs.declared.line_reader.Hand.{Hand}
+use Rattle.jls_interval.specs.declared.line_reader.LineReader.{LineReader}
+
+-- the bits of a sample of regular mode were taken, and the coder carries what the sample leaves
+pub record SampleTaken (p : CodingParameters) (near : Neighbours) (value : ℕ) (old new : Coder) (chunk unread : List Bool) : Type 0 where
+  pub not_run : is_run_mode near ≡ false
+  pub at_most : value ≤ p.maxval
+  pub is_after : (earlier : List Event) → IsAfter p old.cells old.run_indices earlier → IsAfter p new.cells new.run_indices (earlier
+      ++ regular near value ∷ [])
+  pub bits_are : (earlier : List Event) → IsAfter p old.cells old.run_indices earlier → chunk ≡ event_bits p earlier (regular near value)
+      ++ unread
+
+-- lines are still to come, and a reader has the one in work
+abbrev pub Works : CodingParameters → ℕ → ℕ → List Bool → List (List ℕ) → LineReader → Type 0
+Works p c n given lines reader =
+    IsWorking p reader.width c n given lines reader.line.items reader.coder.cells reader.coder.run_indices reader.hand
+
+-- the first bits of a chunk were taken, and the line goes on
+pub record TakenInLine (p : CodingParameters) (w c n : ℕ) (given : List Bool) (lines : List (List ℕ)) (line : List ℕ) (cells : Variables)
+    (run_indices : List ℕ) (hand : Hand) (chunk unread : List Bool) : Type 0 where
+  pub taken : List Bool
+  pub chunk_is : chunk ≡ taken ++ unread
+  pub works : IsWorking p w c n (given ++ taken) lines line cells run_indices hand
+
+-- the same of the line that a reader has
+abbrev pub TakenBy : CodingParameters → ℕ → ℕ → List Bool → List (List ℕ) → LineReader → List Bool → List Bool → Type 0
+TakenBy p c n given lines new chunk unread =
+    TakenInLine p new.width c n given lines new.line.items new.coder.cells new.coder.run_indices new.hand chunk unread
+
+-- the same of a line of a component, whatever came before
+abbrev pub TakesInLine : ℕ → Above → LineReader → LineReader → List Bool → List Bool → Type 0
+TakesInLine component up old new chunk unread =
+    (c n : ℕ) (given : List Bool) (lines : List (List ℕ)) → component ≡ length lines % c → up ≡ above c lines
+    → Works old.coder.cells.parameters c n given lines old → TakenBy old.coder.cells.parameters c n given lines new chunk unread
