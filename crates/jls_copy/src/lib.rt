@@ -24,6 +24,3 @@ pub use cut_search::next_cut;
 pub use end::End;
 pub use piece::{PieceKind, PieceRecord};
 pub use reader::{CopyFault, CopyRead, CopyReader};
-
-#[cfg(test)]
-mod tests;

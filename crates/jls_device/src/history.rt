@@ -80,6 +80,8 @@ pub(crate) struct HistoryCell {
     pub ghost history: { History } by { coded_history },
 }
 
+const _: () = prove!(size_of::<HistoryCell>() == 0);
+
 impl Model for HistoryCell {
     ghost also_owns = { λ _. ftrue };
 }

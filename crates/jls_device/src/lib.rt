@@ -14,6 +14,3 @@ pub use device::{Desk, DeskFault, Device, Sink, SinkFault, Source, SourceFault};
 pub use host::HostFiles;
 pub use laws::{reads_give_the_content, sink_over_list, source_over_bytes, writes_are_held};
 pub use writing::write_all;
-
-#[cfg(test)]
-mod tests;

@@ -7,6 +7,3 @@ mod scan_part;
 mod write;
 
 pub use write::write_jls;
-
-#[cfg(test)]
-mod tests;

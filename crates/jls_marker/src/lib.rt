@@ -25,6 +25,3 @@ pub use scan_head::ScanHead;
 pub use scan_plan::ScanPlan;
 pub use segment::Segment;
 pub use write::write_segment;
-
-#[cfg(test)]
-mod tests;

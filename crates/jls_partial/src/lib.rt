@@ -15,6 +15,7 @@ mod status;
 mod text_fault;
 mod text_fields;
 mod text_reading;
+mod text_samples;
 mod version;
 mod writing;
 
@@ -24,6 +25,3 @@ pub use line_set::LineSet;
 pub use partial::Partial;
 pub use status::Status;
 pub use text_fault::TextFault;
-
-#[cfg(test)]
-mod tests;

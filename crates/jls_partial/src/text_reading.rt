@@ -3,7 +3,7 @@
 ghost use Rattle.jls_partial.specs.Partial.{PartialPicture};
 ghost use Rattle.jls_partial.specs.Text.{IsTextOf};
 ghost use Rattle.jls_partial.specs.TextInto.{with_readings, with_entry, with_entries};
-ghost use Rattle.jls_partial.specs.TextReading.{GivesText, samples_fields, reading_fields, sources_fields, own_sources_fields, kept_fields};
+ghost use Rattle.jls_partial.specs.TextReading.{GivesText, reading_fields, sources_fields, own_sources_fields, kept_fields};
 ghost use Rattle.jls_partial.specs.TextReading.{readings_fields, entry_fields, entries_fields, read_text};
 ghost use Rattle.std.specs.Option.{option_map};
 ghost use Rattle.std.specs.Prelude.{◌≡◌, ◌<◌, length, None, Ok, IfOk};
@@ -12,32 +12,13 @@ use crate::partial::Partial;
 use crate::place::Place;
 use crate::text_fault::TextFault;
 use crate::text_fields::{
-    offset, read_count, read_magic, read_place, read_sample, read_shape, read_source, read_u32,
-    read_u64, read_version,
+    offset, read_count, read_magic, read_place, read_shape, read_source, read_u32, read_u64,
+    read_version,
 };
+use crate::text_samples::read_samples;
 use crate::version::Version;
 use jls_values::Shape;
 use std::alloc::Global;
-
-/// As many samples as `count` says. Room is made for those whose bytes are there.
-fn read_samples(
-    alloc: Global,
-    size: u64,
-    limit: u32,
-    count: u16,
-    bytes: &[u8],
-) -> Result<(Vec<u16>, &[u8]), TextFault>
-    ensures { GivesText (λ x. (x.0.items, x.1.now)) result (samples_fields size limit count bytes.now) }
-{
-    let mut samples = Vec::with_capacity(alloc, (bytes.len() / 2).min(count as usize))?;
-    let mut rest = bytes;
-    for _ in 0..count {
-        let (sample, after) = read_sample(size, limit, rest)?;
-        samples.push_reserved(sample);
-        rest = after;
-    }
-    Ok((samples, rest))
-}
 
 /// Whether a reading is above the one before.
 fn is_above(before: &Option<Vec<u16>>, samples: &[u16]) -> bool
@@ -231,6 +212,3 @@ impl Partial {
         read_partial(alloc, bytes)
     }
 }
-
-#[cfg(test)]
-mod tests;

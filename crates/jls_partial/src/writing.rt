@@ -112,6 +112,29 @@ fn put_head(out: &mut Vec<u8>, shape: &Shape) -> Result<(), AllocError>
     Ok(())
 }
 
+/// How many bytes the entry of a line takes. Room is made for them.
+fn entry_size(lines: &LineSet) -> usize {
+    let mut size = 11usize;
+    for i in 0..lines.len() {
+        let samples = lines.get(i).len().saturating_mul(2);
+        let sources = lines.sources(i).len().saturating_mul(4);
+        size = size
+            .saturating_add(samples)
+            .saturating_add(sources)
+            .saturating_add(8);
+    }
+    size
+}
+
+/// How many bytes all entries take.
+fn entries_size(partial: &Partial) -> usize {
+    let mut size = 0usize;
+    for (_, lines) in partial.entries() {
+        size = size.saturating_add(entry_size(lines));
+    }
+    size
+}
+
 impl Partial {
     /// The text of the partial picture, in version 2, which alone is written. It takes time in proportion to the bytes of the
     /// text.
@@ -119,9 +142,19 @@ impl Partial {
         ensures { IfOk result (λ bytes. bytes.items ≡ text self.now) }
     {
         let mut out = Vec::new(alloc);
-        put_head(&mut out, self.shape())?;
-        out.extend_from_slice(&self.entry_count().to_be_bytes())?;
-        put_entries(&mut out, self)?;
+        self.write_text(&mut out)?;
         Ok(out)
+    }
+
+    /// Writes the same text behind what `out` holds, and makes room for the whole text at once. After want of memory `out` may hold a
+    /// part of it.
+    pub fn write_text(&self, out: &mut Vec<u8>) -> Result<(), AllocError>
+        ensures { OnOk result (out.new.items ≡ out.old.items ++ text self.now) }
+    {
+        put_head(out, self.shape())?;
+        out.extend_from_slice(&self.entry_count().to_be_bytes())?;
+        out.reserve(entries_size(self))?;
+        put_entries(out, self)?;
+        Ok(())
     }
 }

@@ -12,6 +12,3 @@ pub use options::Options;
 pub use output::{OutputFault, write_part};
 pub use picture::{Picture, PictureFault, pictures_are_whole};
 pub use pnm::write_pnm;
-
-#[cfg(test)]
-mod tests;

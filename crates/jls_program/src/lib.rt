@@ -6,8 +6,6 @@ mod laws;
 mod performing;
 mod printing;
 mod program;
-#[cfg(test)]
-mod tests;
 
 pub use laws::{
     done_checks_ran, done_joins_ran, done_shows_ran, done_writes_ran, failures_are_behind_status_4,

@@ -13,6 +13,3 @@ pub use entry::ReportEntry;
 pub use laws::{counts_are_all_lines, disputed_are_listed, each_line_once, ranges_are_longest};
 pub use report::Report;
 pub use text::put_number;
-
-#[cfg(test)]
-mod tests;

@@ -151,12 +151,13 @@ fn copy_fault(fault: CopyFault, stop: ReadStop, count: u64) -> InputFault
     }
 }
 
-/// Reads a text, whose first read gave these bytes.
+/// Reads a text, whose first read gave these bytes, into the room of `text`.
 // `before` is what the device had done, or what it had left to give, before the first read.
 fn read_text<S: Source>(
     alloc: Global,
     device: &mut S,
     first: &[u8],
+    text: &mut Vec<u8>,
 ) -> Result<InputRead, InputFault>
     requires { is_text first.now ≡ true }
     // Whatever source a copy would be taken under.
@@ -167,19 +168,20 @@ fn read_text<S: Source>(
     ensures known { (before : Option (List ℕ)) → Consumes before (S.remaining device.old) first.now
         → IfOk result (λ given. IfSome before (λ bytes. IsTextOf bytes given.partial)) }
 {
-    let mut bytes = match Vec::from_slice(alloc, first) {
-        Ok(bytes) => bytes,
+    text.clear();
+    match text.extend_from_slice(first) {
+        Ok(()) => {}
         Err(_) => return Err(InputFault::OutOfMemory),
-    };
-    let stop = match read_text_on(device, &mut bytes) {
+    }
+    let stop = match read_text_on(device, text) {
         Ok(stop) => stop,
         Err(_) => return Err(InputFault::OutOfMemory),
     };
     match stop {
         ReadStop::Whole => {}
-        stop => return Err(InputFault::Read(stop, bytes.len() as u64)),
+        stop => return Err(InputFault::Read(stop, text.len() as u64)),
     }
-    match Partial::from_bytes(alloc, &bytes) {
+    match Partial::from_bytes(alloc, text) {
         Ok(partial) => Ok(InputRead::of_text(partial)),
         Err(fault) => Err(input_fault(fault)),
     }
@@ -220,17 +222,12 @@ fn read_copy<S: Source>(
     }
 }
 
-/// What a device gives, from its current position on: a copy under the number of a source if there is one. An input whose first
-/// byte is 4A is the text of a partial picture, and is read to
-/// its end. Every other input is a damaged copy, the empty one too, and is read as long as more bytes can change what it gives.
-/// Reads have room for at most 4,096 bytes, and there are at most 4,294,967,295 of them.
-///
-/// A copy in which a frame was taken is never refused, but where memory runs out: what was read before the source stopped is kept, and
-/// the report tells how it did. A text is refused as `Read` if the source stopped before its end, whatever the bytes are.
-pub fn read_input<S: Source>(
+/// The same as `read_input`. A text is read into the room of `text`, which grows as far as it has to.
+pub(crate) fn read_input_into<S: Source>(
     alloc: Global,
     source: Option<u32>,
     device: &mut S,
+    text: &mut Vec<u8>,
 ) -> Result<InputRead, InputFault>
     ensures given { IfOk result (λ given. GrewBy (ReadsGive source given) (S.history device.old) (S.history device.new)) }
     ensures refused { IfErr result (λ fault. GrewBy (ReadsRefuse fault) (S.history device.old) (S.history device.new)) }
@@ -247,8 +244,28 @@ pub fn read_input<S: Source>(
     }
     let first = front(&chunk, count);
     if first[0] == FIRST_OF_TEXT {
-        read_text(alloc, device, first)
+        read_text(alloc, device, first, text)
     } else {
         read_copy(alloc, source, device, first)
     }
+}
+
+/// What a device gives, from its current position on: a copy under the number of a source if there is one. An input whose first
+/// byte is 4A is the text of a partial picture, and is read to
+/// its end. Every other input is a damaged copy, the empty one too, and is read as long as more bytes can change what it gives.
+/// Reads have room for at most 4,096 bytes, and there are at most 4,294,967,295 of them.
+///
+/// A copy in which a frame was taken is never refused, but where memory runs out: what was read before the source stopped is kept, and
+/// the report tells how it did. A text is refused as `Read` if the source stopped before its end, whatever the bytes are.
+pub fn read_input<S: Source>(
+    alloc: Global,
+    source: Option<u32>,
+    device: &mut S,
+) -> Result<InputRead, InputFault>
+    ensures given { IfOk result (λ given. GrewBy (ReadsGive source given) (S.history device.old) (S.history device.new)) }
+    ensures refused { IfErr result (λ fault. GrewBy (ReadsRefuse fault) (S.history device.old) (S.history device.new)) }
+    ensures known { IfOk result (λ given. given.copy ≡ None → IfSome (S.remaining device.old) (λ bytes. IsTextOf bytes given.partial)) }
+{
+    let mut text = Vec::new(alloc);
+    read_input_into(alloc, source, device, &mut text)
 }

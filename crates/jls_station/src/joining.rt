@@ -14,7 +14,7 @@ use std::alloc::Global;
 /// union to it. An input is a text or a copy; the readings of each copy
 /// are taken under the source of the inputs, if there is one. A copy whose source stopped behind a frame is taken as far as it
 /// was read, and then the
-/// outcome says that not every input was read whole.
+/// outcome says that not every input was read whole. The texts of the inputs and of the union have one room, in turn.
 pub fn join<'a, D: Desk>(
     alloc: Global,
     desk: &mut D,
@@ -23,18 +23,20 @@ pub fn join<'a, D: Desk>(
 ) -> Outcome<'a>
     ensures { GrewBy (Joins inputs.entry.source out.now (names_of inputs.entry) result) (D.history desk.old) (D.history desk.new) }
 {
-    let Taken { station, whole } = match take_inputs(alloc, desk, inputs) {
+    let mut text = Vec::new(alloc);
+    let Taken { station, whole } = match take_inputs(alloc, desk, inputs, &mut text) {
         Ok(taken) => taken,
         Err(refusal) => return Outcome::Refused(refusal),
     };
     let joined = station.partial();
-    let text = match joined.to_bytes(alloc) {
-        Ok(text) => text,
+    text.clear();
+    match joined.write_text(&mut text) {
+        Ok(()) => {}
         Err(_) => {
             let cause = Cause::OutOfMemory;
             return Outcome::Refused(Refusal { name: out, cause });
         }
-    };
+    }
     match write_output(desk, out, &text) {
         Ok(()) => {
             let settled = joined.is_settled();

@@ -21,6 +21,3 @@ pub use station::Station;
 pub use take_copy::TakeFault;
 pub use take_report::TakeReport;
 pub use taking::{JoinInputs, open_and_read};
-
-#[cfg(test)]
-mod tests;

@@ -5,7 +5,7 @@ ghost use Rattle.jls_device.specs.Event.{GrewBy};
 ghost use Rattle.jls_station.specs.Given.{Given};
 ghost use Rattle.jls_station.specs.Inputs.{names_of, IsTaken, TakesUnion, StopsAt, StopsAtInput};
 
-use crate::input::{InputRead, read_input};
+use crate::input::{InputRead, read_input_into};
 use crate::outcome::{Cause, Refusal};
 use crate::station::Station;
 use jls_device::Desk;
@@ -29,6 +29,29 @@ pub struct JoinInputs<'m, 'a> {
     pub others: &'m [&'a str],
 }
 
+/// The same as `open_and_read`. A text is read into the room of `text`.
+fn open_and_read_into<D: Desk>(
+    alloc: Global,
+    desk: &mut D,
+    source: Option<u32>,
+    name: &str,
+    text: &mut Vec<u8>,
+) -> Result<InputRead, Cause>
+    ensures taken { IfOk result (λ given. GrewBy (IsTaken source name.now given) (D.history desk.old) (D.history desk.new)) }
+    // Whatever the inputs before it gave.
+    ensures stopped { (before : List Given) → IfErr result (λ cause.
+        GrewBy (StopsAt source before name.now cause) (D.history desk.old) (D.history desk.new)) }
+{
+    match desk.open_input(name) {
+        Ok(()) => {}
+        Err(_) => return Err(Cause::NotOpened),
+    }
+    match read_input_into(alloc, source, desk, text) {
+        Ok(read) => Ok(read),
+        Err(fault) => Err(Cause::Input(fault)),
+    }
+}
+
 /// Opens one input and reads it; a copy under the number of a source if there is one.
 pub fn open_and_read<D: Desk>(
     alloc: Global,
@@ -41,22 +64,17 @@ pub fn open_and_read<D: Desk>(
     ensures stopped { (before : List Given) → IfErr result (λ cause.
         GrewBy (StopsAt source before name.now cause) (D.history desk.old) (D.history desk.new)) }
 {
-    match desk.open_input(name) {
-        Ok(()) => {}
-        Err(_) => return Err(Cause::NotOpened),
-    }
-    match read_input(alloc, source, desk) {
-        Ok(read) => Ok(read),
-        Err(fault) => Err(Cause::Input(fault)),
-    }
+    let mut text = Vec::new(alloc);
+    open_and_read_into(alloc, desk, source, name, &mut text)
 }
 
 /// Takes the inputs of these names, in turn, into a station. It stops at the first that is refused. A copy whose source stopped
-/// behind a frame is taken as far as it was read.
+/// behind a frame is taken as far as it was read. All texts are read into the room of `text`.
 pub fn take_inputs<'a, D: Desk>(
     alloc: Global,
     desk: &mut D,
     inputs: JoinInputs<'_, 'a>,
+    text: &mut Vec<u8>,
 ) -> Result<Taken, Refusal<'a>>
     ensures taken { IfOk result (λ taken.
         GrewBy (TakesUnion inputs.entry.source (names_of inputs.entry) taken.station taken.whole) (D.history desk.old)
@@ -69,14 +87,14 @@ pub fn take_inputs<'a, D: Desk>(
         first,
         others,
     } = inputs;
-    let read = match open_and_read(alloc, desk, source, first) {
+    let read = match open_and_read_into(alloc, desk, source, first, text) {
         Ok(read) => read,
         Err(cause) => return Err(Refusal { name: first, cause }),
     };
     let mut whole = read.is_whole();
     let mut station = Station::holding(alloc, read.into_partial());
     for name in others {
-        let read = match open_and_read(alloc, desk, source, name) {
+        let read = match open_and_read_into(alloc, desk, source, name, text) {
             Ok(read) => read,
             Err(cause) => return Err(Refusal { name, cause }),
         };

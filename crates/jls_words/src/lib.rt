@@ -7,6 +7,3 @@ mod texts;
 
 pub use asked::{Asked, asked_command};
 pub use command::matches;
-
-#[cfg(test)]
-mod tests;

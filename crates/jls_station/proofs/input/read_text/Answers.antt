@@ -1,4 +1,4 @@
-use Rattle.std.proofs.Common.{rules, ◌≡◌, ℕ, List, sym, subst, arith, length}
+use Rattle.std.proofs.Common.{rules, ◌≡◌, ◌∙◌, ◌++◌, ℕ, List, ap, sym, subst, arith, length}
 use Rattle.jls_partial.specs.TextReading.{Fails, read_text}
 use Rattle.jls_device.specs.Event.{History, GrewBy}
 use Rattle.jls_station.specs.Given.{Given, by_text, given_by_text}
@@ -26,7 +26,7 @@ pub returns-in-Err-read_text_on-clause-refused : goal.returns-in-Err-read_text_o
 returns-in-Err-read_text_on-clause-refused g c before h =
     let history = g.S.Device.history in
     out_of_memory_in_part before (history c.read_text_on.new.device)
-    (c.in-Err-read_text_on.ensures.refused before (as_first before (history c.args.device.now) c.args.first.now c.in-Ok.bytes.items c.in-Ok.ensures.items h))
+    (c.in-Err-read_text_on.ensures.refused before (as_first before (history c.args.device.now) c.args.first.now c.extend_from_slice.new.self.items (c.in-Ok.ensures.items ∙ ap (λ (t : List ℕ). t ++ c.args.first.now) c.clear.ensures.items) h))
 
 pub returns-in_default-clause-refused : goal.returns-in_default-clause-refused
 returns-in_default-clause-refused g c before h =
@@ -36,7 +36,7 @@ returns-in_default-clause-refused g c before h =
     let count : c.len.result ≡ length bytes = search rules in
     subst (λ (n : ℕ). GrewBy (ReadsRefuse (fault.Read stop n)) before (history c.read_text_on.new.device)) (sym count)
     (refused_for before (history c.read_text_on.new.device) bytes stop
-    (c.in-Ok-read_text_on.ensures.read before (as_first before (history c.args.device.now) c.args.first.now c.in-Ok.bytes.items c.in-Ok.ensures.items h))
+    (c.in-Ok-read_text_on.ensures.read before (as_first before (history c.args.device.now) c.args.first.now c.extend_from_slice.new.self.items (c.in-Ok.ensures.items ∙ ap (λ (t : List ℕ). t ++ c.args.first.now) c.clear.ensures.items) h))
     (fault.Read stop (length bytes)) (text_not_read bytes stop c.in-Ok-read_text_on.ensures.text c.in_default.not-Whole))
 
 pub returns-in-Ok-from_bytes-clause-given : goal.returns-in-Ok-from_bytes-clause-given
@@ -47,16 +47,16 @@ returns-in-Ok-from_bytes-clause-given g c source before h =
     let is_text_of = by_text source bytes p (subst (λ (t : List ℕ). IsTextOf t p) c.deref.ensures.value c.in-Ok-from_bytes.ensures.found) in
     subst (λ (x : Given). GrewBy (ReadsGive source x) before (history c.read_text_on.new.device)) (sym c.of_text.ensures)
     (given_so before (history c.read_text_on.new.device) bytes c.in-Ok-read_text_on.stop
-    (c.in-Ok-read_text_on.ensures.read before (as_first before (history c.args.device.now) c.args.first.now c.in-Ok.bytes.items c.in-Ok.ensures.items h))
+    (c.in-Ok-read_text_on.ensures.read before (as_first before (history c.args.device.now) c.args.first.now c.extend_from_slice.new.self.items (c.in-Ok.ensures.items ∙ ap (λ (t : List ℕ). t ++ c.args.first.now) c.clear.ensures.items) h))
     source (given_by_text p) (sym c.in-Whole.is) is_text_of)
 
-pub returns-clause-refused : goal.returns-clause-refused
-returns-clause-refused g c before h =
+pub returns-in-Err-from_bytes-clause-refused : goal.returns-in-Err-from_bytes-clause-refused
+returns-in-Err-from_bytes-clause-refused g c before h =
     let history = g.S.Device.history in
     let bytes = c.read_text_on.new.bytes.items in
     let read : GrewBy (λ reads. IsRead IsEnough reads bytes Whole) before (history c.read_text_on.new.device) =
     subst (λ (stop : ReadStop). GrewBy (λ reads. IsRead IsEnough reads bytes stop) before (history c.read_text_on.new.device)) c.in-Whole.is
-    (c.in-Ok-read_text_on.ensures.read before (as_first before (history c.args.device.now) c.args.first.now c.in-Ok.bytes.items c.in-Ok.ensures.items h)) in
+    (c.in-Ok-read_text_on.ensures.read before (as_first before (history c.args.device.now) c.args.first.now c.extend_from_slice.new.self.items (c.in-Ok.ensures.items ∙ ap (λ (t : List ℕ). t ++ c.args.first.now) c.clear.ensures.items) h)) in
     subst (λ (f : InputFault). GrewBy (ReadsRefuse f) before (history c.read_text_on.new.device)) (sym c.input_fault.ensures)
     (refused_by before (history c.read_text_on.new.device) bytes c.in-Ok-read_text_on.ensures.text read c.in-Err-from_bytes.fault
     (subst (λ (t : List ℕ). Fails c.in-Err-from_bytes.fault (read_text t)) c.deref.ensures.value c.in-Err-from_bytes.ensures.exact))

@@ -1,0 +1,151 @@
+//! Lines, and the bytes that they are written as.
+
+use super::decoding::SINGLE_SAMPLES;
+use jls_interval::*;
+use jls_values::Params;
+use std::alloc::{AllocError, Global};
+use std::test::Fail;
+
+/// Whether the lines fit an interval and are written as these bytes.
+fn written_as(
+    alloc: Global,
+    params: &Params,
+    width: u16,
+    components: u8,
+    lines: &[&[u16]],
+    wanted: &[u8],
+) -> Result<bool, AllocError> {
+    let mut owned = Vec::new(alloc);
+    for line in lines {
+        owned.push(line.to_vec(alloc)?)?;
+    }
+    let given = owned.as_slice();
+    if !fits(params, width, components, given) {
+        return Ok(false);
+    }
+    let bytes = encode_interval(alloc, params, width, components, given)?;
+    Ok(bytes.as_slice() == wanted)
+}
+
+#[test]
+fn single_samples(rt: HostRuntime) -> Result<(), Fail> {
+    let alloc = rt.alloc();
+    let params = Params::new(8, 0, 0, 0, 0, 0)?;
+    for (sample, byte) in SINGLE_SAMPLES {
+        assert!(rt;
+            written_as(alloc, &params, 1, 1, &[&[sample]], &[byte])?,
+            "{sample}"
+        );
+    }
+    Ok(())
+}
+
+#[test]
+fn other_parameters(rt: HostRuntime) -> Result<(), Fail> {
+    // Precision, MAXVAL, a sample, and the bytes of an interval that has nothing else.
+    let rows: [(u8, u16, u16, &[u8]); 5] = [
+        (2, 0, 3, &[0x40]),
+        (2, 0, 1, &[0x60]),
+        (2, 0, 2, &[0x20]),
+        (16, 0, 65535, &[0x40, 0x00]),
+        (8, 15, 15, &[0x40]),
+    ];
+    for (precision, maxval, sample, bytes) in rows {
+        let params = Params::new(precision, maxval, 0, 0, 0, 0)?;
+        assert!(rt;
+            written_as(rt.alloc(), &params, 1, 1, &[&[sample]], bytes)?,
+            "{sample}"
+        );
+    }
+    Ok(())
+}
+
+/// Whether the lines of this width, of one component and 8 bits, are written as these bytes.
+fn alone(alloc: Global, width: u16, lines: &[&[u16]], wanted: &[u8]) -> Result<bool, Fail> {
+    let params = Params::new(8, 0, 0, 0, 0, 0)?;
+    Ok(written_as(alloc, &params, width, 1, lines, wanted)?)
+}
+
+#[test]
+fn runs(rt: HostRuntime) -> Result<(), Fail> {
+    let rows: [(u16, &[&[u16]], &[u8]); 6] = [
+        (12, &[&[0; 12]], &[0xFF, 0x00]),
+        (13, &[&[0; 13]], &[0xFF, 0x40]),
+        (16, &[&[0; 16]], &[0xFF, 0x40]),
+        (5, &[&[0; 5]], &[0xF8]),
+        (5, &[&[0, 0, 0, 0, 90]], &[0xF0, 0x00, 0x00, 0x1B, 0x20]),
+        (1, &[&[0], &[0]], &[0xC0]),
+    ];
+    for (width, lines, bytes) in rows {
+        assert!(rt; alone(rt.alloc(), width, lines, bytes)?, "{lines:?}");
+    }
+    Ok(())
+}
+
+#[test]
+fn several_lines(rt: HostRuntime) -> Result<(), Fail> {
+    let rows: [(u16, &[&[u16]], &[u8]); 4] = [
+        (
+            4,
+            &[
+                &[0, 0, 90, 74],
+                &[68, 50, 43, 205],
+                &[64, 145, 145, 145],
+                &[100, 145, 145, 145],
+            ],
+            &[
+                0xC0, 0x00, 0x00, 0x6C, 0x80, 0x20, 0x8E, 0x01, 0xC0, 0x00, 0x00, 0x57, 0x40, 0x00,
+                0x00, 0x6E, 0xE6, 0x00, 0x00, 0x01, 0xBC, 0x18, 0x00, 0x00, 0x05, 0xD8, 0x00, 0x00,
+                0x91, 0x60,
+            ],
+        ),
+        (3, &[&[0, 0, 5], &[0, 0, 5]], &[0xC5, 0xD0]),
+        (3, &[&[0, 0, 5], &[0, 0, 0]], &[0xC5, 0xE0]),
+        (1, &[&[1], &[34]], &[0x50, 0x00, 0x0C]),
+    ];
+    for (width, lines, bytes) in rows {
+        assert!(rt; alone(rt.alloc(), width, lines, bytes)?, "{lines:?}");
+    }
+    Ok(())
+}
+
+/// RESET is 3. Runs go on over lines, and are interrupted above, below and beside Rb. CharLS 2.4.1 writes the same.
+#[test]
+fn runs_of_several_lines(rt: HostRuntime) -> Result<(), Fail> {
+    let params = Params::new(8, 0, 0, 0, 0, 3)?;
+    let lines: [&[u16]; 3] = [
+        &[11, 9, 11, 11, 11, 9],
+        &[11, 11, 11, 11, 11, 8],
+        &[11, 11, 11, 11, 11, 9],
+    ];
+    let bytes = [0x02, 0xA2, 0xC8, 0xA2, 0x4D, 0xBC, 0xA0];
+    assert!(rt; written_as(rt.alloc(), &params, 6, 1, &lines, &bytes)?);
+    Ok(())
+}
+
+#[test]
+fn several_components(rt: HostRuntime) -> Result<(), Fail> {
+    let zeros: &[u16] = &[0; 4];
+    // MAXVAL, width, count, lines and bytes. Two rows; and both components in the contexts of one MAXVAL, which isn't that of
+    // the precision.
+    let rows: [(u16, u16, u8, &[&[u16]], &[u8]); 4] = [
+        (0, 1, 2, &[&[10], &[10]], &[0x07, 0x16]),
+        (0, 4, 3, &[zeros, zeros, zeros], &[0xFF, 0x78]),
+        (
+            0,
+            1,
+            2,
+            &[&[10], &[20], &[30], &[40]],
+            &[0x07, 0x07, 0x80, 0x10, 0xB0],
+        ),
+        (159, 2, 2, &[&[10, 12], &[10, 12]], &[0x07, 0xE2, 0xE8]),
+    ];
+    for (maxval, width, count, lines, bytes) in rows {
+        let params = Params::new(8, maxval, 0, 0, 0, 0)?;
+        assert!(rt;
+            written_as(rt.alloc(), &params, width, count, lines, bytes)?,
+            "{lines:?}"
+        );
+    }
+    Ok(())
+}

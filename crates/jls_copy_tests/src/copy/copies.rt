@@ -1,0 +1,292 @@
+//! Whole copies, read in slices of several sizes.
+
+use super::known::{COPIES, INTERVALS};
+use jls_copy::{CopyFault, CopyRead, CopyReader, End, PieceKind, PieceRecord};
+use std::alloc::Global;
+use std::fmt::Write;
+use std::process::Abort;
+use std::test::Fail;
+
+/// The bytes that hexadecimal digits spell.
+fn bytes_of(alloc: Global, text: &str) -> Result<Vec<u8>, Fail> {
+    let mut bytes = Vec::new(alloc);
+    for digits in text.split_whitespace() {
+        bytes.push(u8::from_str_radix(digits, 16)?)?;
+    }
+    Ok(bytes)
+}
+
+/// Feeds a piece, of which no test has so many bytes that they could not be counted.
+fn feed_piece(reader: &mut CopyReader, piece: &[u8]) -> Result<(), CopyFault> {
+    let fed = reader.fed();
+    if fed > 1_000_000 || piece.len() > 1_000_000 {
+        return Err(CopyFault::OutOfMemory);
+    }
+    match reader.feed(piece) {
+        Ok(()) => Ok(()),
+        Err(_) => Err(CopyFault::OutOfMemory),
+    }
+}
+
+/// The sizes of slices; 0 stands for slices that end behind each byte 0xFF.
+const SIZES: [usize; 6] = [0, 1, 2, 3, 7, 4096];
+
+/// Feeds a copy in slices that end behind each byte 0xFF.
+fn feed_to_each_ff(reader: &mut CopyReader, bytes: &[u8]) -> Result<(), CopyFault> {
+    let mut start = 0;
+    for place in 0..bytes.len() {
+        if bytes[place] == 0xFF {
+            feed_piece(reader, &bytes[start..place + 1])?;
+            start = place + 1;
+        }
+    }
+    feed_piece(reader, &bytes[start..])
+}
+
+/// What a reader says of a copy that comes in slices of this size.
+fn read_in_pieces(alloc: Global, bytes: &[u8], size: usize) -> Result<CopyRead, CopyFault> {
+    let mut reader = CopyReader::new(alloc);
+    if size == 0 {
+        feed_to_each_ff(&mut reader, bytes)?;
+        return reader.finish();
+    }
+    for piece in bytes.chunks(size) {
+        feed_piece(&mut reader, piece)?;
+    }
+    reader.finish()
+}
+
+/// The readings of one line.
+fn put_line(out: &mut String, read: &CopyRead, component: u8, line: u16) -> Result<(), Fail> {
+    let partial = read.partial();
+    let shape = partial.shape();
+    if usize::from(component) >= shape.ids().len() || line >= shape.height() {
+        return Ok(());
+    }
+    for i in 0..partial.count(component, line) {
+        write!(
+            out,
+            "{component}.{line}={:?} ",
+            partial.reading(component, line, i)
+        )?;
+    }
+    Ok(())
+}
+
+fn text_of(alloc: Global, read: &CopyRead) -> Result<String, Fail> {
+    let mut out = String::new(alloc);
+    let shape = read.partial().shape();
+    for component in 0..shape.ids().len() as u8 {
+        for line in 0..shape.height() {
+            put_line(&mut out, read, component, line)?;
+        }
+    }
+    write!(out, "| ")?;
+    for piece in read.pieces() {
+        write!(
+            out,
+            "{} {} {} {:?}; ",
+            piece.scan, piece.interval, piece.offset, piece.kind
+        )?;
+    }
+    write!(out, "{} {:?}", read.piece_count(), read.ended())?;
+    Ok(out)
+}
+
+fn told(alloc: Global, read: Result<CopyRead, CopyFault>) -> Result<String, Fail> {
+    match read {
+        Ok(read) => text_of(alloc, &read),
+        Err(fault) => Ok(format!(in alloc; "{fault:?}")?),
+    }
+}
+
+/// Makes sure that a copy gives this, in slices of every size.
+fn check_copy(rt: &impl Abort, alloc: Global, bytes: &[u8], wanted: &str) -> Result<(), Fail> {
+    for size in SIZES {
+        let read = read_in_pieces(alloc, bytes, size);
+        assert_eq!(rt; told(alloc, read)?.as_str(), wanted, "in slices of {size}");
+    }
+    Ok(())
+}
+
+#[test]
+fn copies_in_pieces_of_every_size(rt: HostRuntime) -> Result<(), Fail> {
+    let alloc = rt.alloc();
+    for (text, wanted) in COPIES {
+        let bytes = bytes_of(alloc, text)?;
+        check_copy(&rt, alloc, &bytes, wanted)?;
+    }
+    Ok(())
+}
+
+#[test]
+fn intervals_as_copies(rt: HostRuntime) -> Result<(), Fail> {
+    let alloc = rt.alloc();
+    for (frame, data, wanted) in INTERVALS {
+        let text = format!(in alloc;
+            "FF D8 FF F7 00 0B {frame} 01 01 11 00 FF DA 00 08 01 01 00 00 00 00 {data} FF D9"
+        )?;
+        let bytes = bytes_of(alloc, &text)?;
+        check_copy(&rt, alloc, &bytes, wanted)?;
+    }
+    Ok(())
+}
+
+/// The first `end` bytes of the copy of ten lines with a restart interval each.
+#[test]
+fn copies_cut_anywhere(rt: HostRuntime) -> Result<(), Fail> {
+    let alloc = rt.alloc();
+    for end in 0..=61usize {
+        let mut bytes = bytes_of(alloc, COPIES[3].0)?;
+        bytes.truncate(end);
+        let wanted = match end {
+            0..=14 => format!(in alloc; "NoPicture(Ended, {end})")?,
+            15 | 21 => format!(in alloc; "| 0 Input({end})")?,
+            16..=30 => format!(in alloc; "| 0 Header(Ended, {end})")?,
+            _ => lines_and_end(alloc, end)?,
+        };
+        check_copy(&rt, alloc, &bytes, &wanted)?;
+    }
+    Ok(())
+}
+
+/// What these bytes give, of which some are scan data: a line for each interval that is whole, and a record of one that has no byte yet.
+fn lines_and_end(alloc: Global, end: usize) -> Result<String, Fail> {
+    let mut out = String::new(alloc);
+    let data = if end > 31 { end - 31 } else { 0 };
+    for line in 0..10usize {
+        if 3 * line < data {
+            write!(&mut out, "0.{line}=[{line}] ")?;
+        }
+    }
+    write!(&mut out, "| ")?;
+    if end == 61 {
+        write!(&mut out, "0 Eoi(59)")?;
+    } else if data % 3 == 0 {
+        write!(&mut out, "0 {} {end} Broken; 1 Input({end})", data / 3)?;
+    } else {
+        write!(&mut out, "0 Input({end})")?;
+    }
+    Ok(out)
+}
+
+/// A picture of 4,096 lines whose input ends behind eight times FF 7F: 45 lines stand whole.
+#[test]
+fn a_large_picture_is_cut(rt: HostRuntime) -> Result<(), Fail> {
+    let mut bytes = bytes_of(rt.alloc(), COPIES[36].0)?;
+    bytes.truncate(41);
+    let read = read_in_pieces(rt.alloc(), &bytes, 4096)?;
+    assert_eq!(rt; read.piece_count(), 1);
+    assert_eq!(rt; read.ended(), End::Input(41));
+    for line in 0..4096u16 {
+        assert_eq!(rt; lines_of(&read, line), if line < 45 { 1 } else { 0 });
+    }
+    Ok(())
+}
+
+/// How many readings a line of the first component has; none where there is no such line.
+fn lines_of(read: &CopyRead, line: u16) -> usize {
+    let partial = read.partial();
+    if line >= partial.shape().height() {
+        return 0;
+    }
+    partial.count(0, line)
+}
+
+#[test]
+fn seventeen_scans(rt: HostRuntime) -> Result<(), Fail> {
+    let alloc = rt.alloc();
+    let mut bytes = bytes_of(alloc, "FF D8 FF F7 00 0B 08 00 01 00 01 01 01 11 00")?;
+    let scan = bytes_of(alloc, "FF DA 00 08 01 01 00 00 00 00 80")?;
+    for _ in 0..17u8 {
+        bytes.extend_from_slice(&scan)?;
+    }
+    check_copy(&rt, alloc, &bytes, "0.0=[0] | 0 Header(TooManyScans, 191)")
+}
+
+/// A header of 5,000 lines of one sample, with a restart interval for each line.
+const LINES: &str =
+    "FF D8 FF F7 00 0B 08 13 88 00 01 01 01 11 00 FF DD 00 04 00 01 FF DA 00 08 01 01 00 00 00 00";
+
+/// A copy of 5,000 lines of one sample, each written as `piece`.
+fn copy_of_lines(alloc: Global, piece: &[u8]) -> Result<Vec<u8>, Fail> {
+    let mut bytes = bytes_of(alloc, LINES)?;
+    for interval in 0..5000u32 {
+        bytes.extend_from_slice(piece)?;
+        bytes.push(0xFF)?;
+        let mark = 0xD0 + (interval % 8) as u8;
+        bytes.push(if interval == 4999 { 0xD9 } else { mark })?;
+    }
+    Ok(bytes)
+}
+
+#[test]
+fn many_lines(rt: HostRuntime) -> Result<(), Fail> {
+    let bytes = copy_of_lines(rt.alloc(), &[0x80])?;
+    let read = read_in_pieces(rt.alloc(), &bytes, 4096)?;
+    assert!(rt; read.partial().is_settled());
+    assert_eq!(rt; read.piece_count(), 0);
+    assert_eq!(rt; read.ended(), End::Eoi(15_029));
+    Ok(())
+}
+
+#[test]
+fn many_faulty_pieces(rt: HostRuntime) -> Result<(), Fail> {
+    let bytes = copy_of_lines(rt.alloc(), &[])?;
+    let read = read_in_pieces(rt.alloc(), &bytes, 4096)?;
+    let last = PieceRecord {
+        scan: 0,
+        interval: 4095,
+        offset: 8221,
+        kind: PieceKind::Broken,
+    };
+    assert_eq!(rt; read.pieces().len(), 4096);
+    assert_eq!(rt; read.pieces().last(), Some(&last));
+    assert_eq!(rt; read.piece_count(), 5000);
+    assert_eq!(rt; read.ended(), End::Eoi(10_029));
+    Ok(())
+}
+
+#[test]
+fn a_long_comment(rt: HostRuntime) -> Result<(), Fail> {
+    let mut bytes = bytes_of(rt.alloc(), "FF D8 FF FE FF FF")?;
+    for _ in 0..65_533u32 {
+        bytes.push(0)?;
+    }
+    let picture = bytes_of(
+        rt.alloc(),
+        "FF F7 00 0B 08 00 01 00 01 01 01 11 00 FF DA 00 08 01 01 00 00 00 00 80 FF D9",
+    )?;
+    bytes.extend_from_slice(&picture)?;
+    let read = read_in_pieces(rt.alloc(), &bytes, 1000);
+    assert_eq!(rt; told(rt.alloc(), read)?.as_str(), "0.0=[0] | 0 Eoi(65563)");
+    Ok(())
+}
+
+/// The copy of four lines, of which the input ends behind so many bytes of the scan data: 30 bytes and EOI.
+#[test]
+fn cut_copies(rt: HostRuntime) -> Result<(), Fail> {
+    let alloc = rt.alloc();
+    for left in 0..=31usize {
+        let end = 25 + left;
+        let mut bytes = bytes_of(alloc, COPIES[0].0)?;
+        bytes.truncate(end);
+        let lines = match left {
+            0..6 => "",
+            6..17 => "0.0=[0, 0, 90, 74] ",
+            17..26 => "0.0=[0, 0, 90, 74] 0.1=[68, 50, 43, 205] ",
+            26..30 => "0.0=[0, 0, 90, 74] 0.1=[68, 50, 43, 205] 0.2=[64, 145, 145, 145] ",
+            _ =>
+                "0.0=[0, 0, 90, 74] 0.1=[68, 50, 43, 205] 0.2=[64, 145, 145, 145] 0.3=[100, 145, 145, 145] ",
+        };
+        let record = if left < 30 { "0 0 25 Broken; 1" } else { "0" };
+        let wanted = format!(in alloc; "{lines}| {record} Input({end})")?;
+        let read = read_in_pieces(alloc, &bytes, 5);
+        assert_eq!(rt;
+            told(alloc, read)?.as_str(),
+            wanted.as_str(),
+            "of the first {end} bytes"
+        );
+    }
+    Ok(())
+}

@@ -1,0 +1,121 @@
+//! Segments that are read: each fault where no other is, and the first of two.
+
+use jls_marker::*;
+
+/// The number of the fault of a segment, or 0.
+fn fault_of(code: u8, payload: &[u8]) -> u8 {
+    match read_segment(code, payload) {
+        Ok(_) => 0,
+        Err(fault) => fault.number(),
+    }
+}
+
+#[test]
+fn frames_are_judged_in_order(rt: HostRuntime) {
+    let rows: [(&[u8], u8); 10] = [
+        (&[8, 0, 10, 0, 1, 1, 1, 0x11, 0], 0),
+        (&[8, 0, 10, 0, 1, 1, 1, 0x11, 7], 0),
+        (&[], 1),
+        (&[8, 0, 10, 0, 1, 2, 1, 0x11, 0], 1),
+        (&[1, 0, 10, 0, 1, 2, 1, 0x21, 0], 1),
+        (&[1, 0, 10, 0, 1, 1, 1, 0x11, 0], 2),
+        (&[8, 0, 10, 0, 1, 0], 2),
+        (&[8, 0, 10, 0, 1, 2, 1, 0x11, 0, 1, 0x11, 0], 2),
+        (&[8, 0, 0, 0, 1, 1, 1, 0x21, 0], 2),
+        (&[8, 0, 10, 0, 1, 1, 1, 0x21, 0], 3),
+    ];
+    for (payload, number) in rows {
+        assert_eq!(rt; fault_of(0xF7, payload), number);
+    }
+}
+
+#[test]
+fn scans_are_judged_in_order(rt: HostRuntime) {
+    let rows: [(&[u8], u8); 16] = [
+        (&[1, 1, 0, 0, 0, 0], 0),
+        (&[1, 1, 0, 0, 1, 0x20], 0),
+        (&[2, 1, 0, 2, 0, 0, 1, 0], 0),
+        (&[], 1),
+        (&[0, 0, 0, 0], 1),
+        (&[1, 1, 0, 0, 0], 1),
+        (&[5, 1, 0, 2, 0, 3, 0, 4, 0, 5, 0, 0, 1, 0], 1),
+        (&[2, 1, 0, 1, 0, 0, 1, 0], 11),
+        (&[2, 1, 3, 1, 0, 0, 1, 0], 11),
+        (&[2, 1, 3, 2, 0, 0, 1, 0], 8),
+        (&[2, 1, 3, 2, 0, 1, 1, 0], 8),
+        (&[1, 1, 0, 1, 2, 0], 6),
+        (&[1, 1, 0, 0, 2, 0], 7),
+        (&[2, 1, 0, 2, 0, 0, 0, 0], 7),
+        (&[1, 1, 0, 0, 2, 1], 7),
+        (&[1, 1, 0, 0, 0, 1], 9),
+    ];
+    for (payload, number) in rows {
+        assert_eq!(rt; fault_of(0xDA, payload), number);
+    }
+}
+
+#[test]
+fn other_segments_are_judged_in_order(rt: HostRuntime) {
+    let rows: [(u8, &[u8], u8); 15] = [
+        (0xF8, &[1, 0, 15, 0, 0, 0, 0, 0, 0, 0, 0], 0),
+        (0xF8, &[2], 0),
+        (0xF8, &[3, 9, 9], 0),
+        (0xF8, &[], 1),
+        (0xF8, &[1, 0], 1),
+        (0xF8, &[4], 13),
+        (0xDD, &[5], 1),
+        (0xDD, &[0, 0, 0, 0, 5], 1),
+        (0xE0, &[], 0),
+        (0xEF, &[1, 2, 3], 0),
+        (0xFE, &[0x41], 0),
+        (0xC9, &[], 14),
+        (0xD8, &[], 14),
+        (0xD0, &[], 14),
+        (0x00, &[], 14),
+    ];
+    for (code, payload, number) in rows {
+        assert_eq!(rt; fault_of(code, payload), number);
+        assert_eq!(rt; has_segment(code), number != 14);
+    }
+}
+
+#[test]
+fn restart_intervals_have_two_to_four_bytes(rt: HostRuntime) {
+    let rows: [(&[u8], u32); 6] = [
+        (&[0, 1], 1),
+        (&[0xFF, 0xFF], 65535),
+        (&[1, 0, 0], 65536),
+        (&[0, 0, 0], 0),
+        (&[0, 0, 0, 5], 5),
+        (&[0xFF, 0xFF, 0xFF, 0xFF], 4294967295),
+    ];
+    for (payload, want) in rows {
+        assert!(rt; read_segment(0xDD, payload) == Ok(Segment::Restart(want)));
+    }
+}
+
+#[test]
+fn faults_have_their_numbers(rt: HostRuntime) {
+    assert_eq!(rt; MarkerFault::Length.number(), 1);
+    assert_eq!(rt; MarkerFault::PointTransform.number(), 9);
+    assert_eq!(rt; MarkerFault::NoMarker.number(), 17);
+    assert_eq!(rt; MarkerFault::Ended.number(), 19);
+}
+
+#[test]
+fn selections_are_refused_in_order(rt: HostRuntime) {
+    assert_eq!(rt; ScanHead::new(&[], false).err(), Some(MarkerFault::Length));
+    assert_eq!(rt;
+        ScanHead::new(&[1, 1, 1, 1, 1], false).err(),
+        Some(MarkerFault::Length)
+    );
+    assert_eq!(rt;
+        ScanHead::new(&[1, 2, 1], false).err(),
+        Some(MarkerFault::RepeatedComponent)
+    );
+    assert_eq!(rt;
+        ScanHead::new(&[1, 2], false).err(),
+        Some(MarkerFault::Interleave)
+    );
+    assert_eq!(rt; ScanHead::new(&[1, 2, 3, 4], true).err(), None);
+}

@@ -1,0 +1,151 @@
+//! Reports of small pictures, worked out by hand.
+
+use jls_partial::Partial;
+use jls_report::{Report, ReportEntry};
+use jls_values::Shape;
+use std::alloc::Global;
+use std::test::Fail;
+
+/// The partial picture with these readings, each a component, a line and its one sample of 8 bits.
+fn partial_of(
+    alloc: Global,
+    height: u16,
+    ids: &[u8],
+    readings: &[(u8, u16, u16)],
+) -> Result<Partial, Fail> {
+    let mut partial = Partial::empty(alloc, Shape::new(8, 1, height, ids)?);
+    for (component, line, sample) in readings {
+        partial.insert(*component, *line, &[*sample])?;
+    }
+    Ok(partial)
+}
+
+/// A height, identifiers, readings as above, and the text of the report.
+const REPORTS: [(u16, &[u8], &[(u8, u16, u16)], &str); 9] = [
+    (
+        10,
+        &[1],
+        &[
+            (0, 0, 0),
+            (0, 1, 1),
+            (0, 2, 2),
+            (0, 3, 3),
+            (0, 4, 4),
+            (0, 5, 5),
+            (0, 6, 6),
+            (0, 7, 7),
+            (0, 8, 8),
+            (0, 9, 9),
+        ],
+        "picture 1x10, 8 bits, components 1\nsettled 10, missing 0, disputed 0\n",
+    ),
+    (
+        10,
+        &[1],
+        &[(0, 0, 0), (0, 8, 8), (0, 9, 9)],
+        "picture 1x10, 8 bits, components 1\nsettled 3, missing 7, disputed 0\nmissing 1 1-7\n",
+    ),
+    (
+        10,
+        &[1],
+        &[(0, 0, 0), (0, 1, 1)],
+        "picture 1x10, 8 bits, components 1\nsettled 2, missing 8, disputed 0\nmissing 1 2-9\n",
+    ),
+    (
+        10,
+        &[1],
+        &[
+            (0, 0, 0),
+            (0, 1, 1),
+            (0, 2, 2),
+            (0, 5, 5),
+            (0, 6, 6),
+            (0, 7, 7),
+            (0, 8, 8),
+            (0, 9, 9),
+        ],
+        "picture 1x10, 8 bits, components 1\nsettled 8, missing 2, disputed 0\nmissing 1 3-4\n",
+    ),
+    (
+        10,
+        &[1],
+        &[
+            (0, 0, 0),
+            (0, 1, 1),
+            (0, 2, 2),
+            (0, 3, 3),
+            (0, 4, 4),
+            (0, 5, 5),
+            (0, 6, 6),
+            (0, 7, 7),
+            (0, 8, 8),
+            (0, 9, 9),
+            (0, 6, 8),
+        ],
+        "picture 1x10, 8 bits, components 1\nsettled 9, missing 0, disputed 1\ndisputed 1 6 2\n",
+    ),
+    (
+        1,
+        &[2],
+        &[],
+        "picture 1x1, 8 bits, components 2\nsettled 0, missing 1, disputed 0\nmissing 2 0-0\n",
+    ),
+    (
+        1,
+        &[1],
+        &[(0, 0, 3), (0, 0, 5)],
+        "picture 1x1, 8 bits, components 1\nsettled 0, missing 0, disputed 1\ndisputed 1 0 2\n",
+    ),
+    (
+        1,
+        &[1],
+        &[(0, 0, 1), (0, 0, 255)],
+        "picture 1x1, 8 bits, components 1\nsettled 0, missing 0, disputed 1\ndisputed 1 0 2\n",
+    ),
+    (
+        3,
+        &[9, 1],
+        &[(0, 1, 4), (1, 1, 9), (1, 1, 8), (1, 1, 7)],
+        "picture 1x3, 8 bits, components 9,1\nsettled 1, missing 4, disputed 1\nmissing 9 0-0\nmissing 9 2-2\n\
+missing 1 0-0\ndisputed 1 1 3\nmissing 1 2-2\n",
+    ),
+];
+
+/// Pictures of ten lines, each its own number as its sample, some without lines or with another reading; of one line; and of two
+/// components: a range ends with its component, and components are named by their identifiers.
+#[test]
+fn texts(rt: HostRuntime) -> Result<(), Fail> {
+    let alloc = rt.alloc();
+    for (height, ids, readings, text) in REPORTS {
+        let partial = partial_of(alloc, height, ids, readings)?;
+        let report = Report::of(alloc, &partial)?;
+        assert_eq!(rt; report.to_text(alloc)?.as_slice(), text.as_bytes());
+    }
+    Ok(())
+}
+
+#[test]
+fn as_a_value(rt: HostRuntime) -> Result<(), Fail> {
+    let alloc = rt.alloc();
+    let partial = partial_of(alloc, 4, &[5], &[(0, 2, 1), (0, 2, 2), (0, 3, 0)])?;
+    let report = Report::of(alloc, &partial)?;
+    let entries = [
+        ReportEntry::Missing {
+            component: 0,
+            first: 0,
+            last: 1,
+        },
+        ReportEntry::Disputed {
+            component: 0,
+            line: 2,
+            readings: 2,
+        },
+    ];
+    assert_eq!(rt; report.entries(), entries.as_slice());
+    assert_eq!(rt;
+        (report.settled(), report.missing(), report.disputed()),
+        (1, 2, 1)
+    );
+    assert!(rt; *report.shape() == *partial.shape());
+    Ok(())
+}
