@@ -1,5 +1,5 @@
 -- How far a search has come down the index.
-use Rattle.std.proofs.Common.{◌≡◌, ℕ, suc, ◌+◌, ◌<◌, ◌≤◌, List, [], ◌∷◌, ◌++◌, length, get_or, take, drop, refl, ap, sym, ◌∙◌, append_assoc, arith}
+use Rattle.std.proofs.Common.{◌≡◌, ℕ, suc, ◌+◌, ◌<◌, ◌≤◌, List, [], ◌∷◌, ◌++◌, length, get_or, take, drop, refl, ap, sym, subst, ◌∙◌, append_assoc, arith}
 use Rattle.std.specs.Cmp.Lexicographic.{slice_cmp}
 use Rattle.std.specs.declared.cmp.Ordering.{Ordering}
 use Rattle.std.specs.declared.cmp.Ordering.TheVariants.{Less, Equal, Greater}
@@ -7,11 +7,12 @@ use Rattle.std.specs.List.{AllByRecursion}
 use Rattle.std.specs.List.Sorted.{IsStrictlySortedBy}
 use Rattle.std.specs.Ordering.{nat_cmp}
 use Rattle.std.proofs.Math.Seq.{get_or-append_seam}
+use Rattle.std.proofs.lemmas.Cmp.{nat_list_cmp_total}
 use Rattle.std.proofs.lemmas.List.{append-nil, get_or-append-add, length-append, length-map}
 use Rattle.jls_partial.specs.declared.index.Slot.{Slot}
 use Rattle.jls_partial.specs.LineSetLaws.{lines_exact}
 use Rattle.jls_partial.specs.Packed.{lines_of, IsGap}
-use Rattle.jls_partial.proofs.PackedLines.{all_below, all_above, inside_at, line_at}
+use Rattle.jls_partial.proofs.PackedLines.{turned_greater, all_below, all_above, inside_at, line_at}
 
 abbrev S : List ℕ → List ℕ → Ordering
 S = slice_cmp nat_cmp
@@ -111,3 +112,23 @@ module _ (width : ℕ) (packed : List ℕ) (whole rest : List Slot) (before : �
             below = is.below;
             above = λ k le lt. all_above (lines_of width packed whole) sorted x (before + length l) in_lines (at_middle Greater test) k le (omega (arith, lines, lt));
           }
+
+-- ---- where there is one line alone
+
+module _ (width : ℕ) (packed : List ℕ) (slots : List Slot) (s : Slot) (is : slots ≡ s ∷ []) where
+  pub one_inside : AllByRecursion (λ (t : Slot). t.start + width ≤ length packed) slots → s.start + width ≤ length packed
+  one_inside inside = (subst (AllByRecursion (λ (t : Slot). t.start + width ≤ length packed)) is inside).0
+
+  module _ (line x : List ℕ) (read : line ≡ take width (drop s.start packed)) where
+    compared : (o : Ordering) → S line x ≡ o → S (take width (drop s.start packed)) x ≡ o
+    compared o test = ap (λ (z : List ℕ). S z x) (sym read) ∙ test
+
+    pub one_found : S line x ≡ Equal → get_or (lines_of width packed slots) 0 x ≡ x
+    one_found test = ap (λ (ts : List Slot). get_or (lines_of width packed ts) 0 x) is ∙ lines_exact (take width (drop s.start packed)) x (compared Equal test)
+
+    pub one_above : S line x ≡ Greater → IsGap S (lines_of width packed slots) 0 x
+    one_above test = subst (λ (ts : List Slot). IsGap S (lines_of width packed ts) 0 x) (sym is) (record {
+      within = omega arith;
+      below = λ k lt. absurd (omega (arith, lt));
+      above = λ k le lt. let first : k ≡ 0 = omega (arith, lt) in subst (λ (j : ℕ). S x (get_or (take width (drop s.start packed) ∷ []) j x) ≡ Less) (sym first) (turned_greater nat_list_cmp_total (take width (drop s.start packed)) x (compared Greater test));
+    })

@@ -5,7 +5,7 @@ use Rattle.std.proofs.Math.Nat.{le-mul_of_pos_right, mul_comm}
 use Rattle.std.proofs.lemmas.List.{get_or_default, length-map}
 use Rattle.jls_values.specs.OrderedSet as sets
 use Rattle.jls_partial.specs.declared.index.Slot.{Slot}
-use Rattle.jls_partial.specs.Index.{with_sources_at}
+use Rattle.jls_partial.specs.Tree.{with_sources_at}
 use Rattle.jls_partial.specs.InsertFaults.{samples_fault}
 use Rattle.jls_partial.specs.LineSet.{with_lines}
 use Rattle.jls_partial.specs.Packed.{lines_of}

@@ -22,3 +22,4 @@ pub mod Status
 pub mod Text
 pub mod TextInto
 pub mod TextReading
+pub mod Tree

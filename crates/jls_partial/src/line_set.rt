@@ -7,7 +7,7 @@ ghost use Rattle.jls_values.specs.Join.{IsBetween};
 ghost use Rattle.jls_values.specs.OrderedSet as set;
 ghost use Rattle.std.specs.Prelude.{◌≡◌, ℕ, List, ◌<◌, ◌≤◌, ◌∷◌, [], length, true, not, IfOk, IfSome, OnOk, OnErr, IsOk, None, Some, slice_get};
 
-use crate::index::{Fork, Index, Slot};
+use crate::index::{Index, Slot};
 use crate::insert_fault::{InsertFault, find_samples_fault};
 use crate::packed::{find, put, samples_at};
 use jls_values::{Merge, MergeFault, SourceSet};
@@ -34,11 +34,12 @@ impl Model for LineSet {
 
     ghost coded = { coded_lines };
 
+    ghost use Rattle.jls_partial.specs.Index.{slots_of};
     ghost use Rattle.jls_partial.specs.PackedLines.{seen_lines, IsLineSet};
 
-    ghost view = { λ a. seen_lines a.precision a.width a.samples.items a.index };
+    ghost view = { λ a. seen_lines a.precision a.width a.samples.items (slots_of a.index) };
 
-    ghost invariant = { λ a. IsLineSet a.precision a.width a.samples.items a.index };
+    ghost invariant = { λ a. IsLineSet a.precision a.width a.samples.items (slots_of a.index) };
 }
 
 impl LineSet {
@@ -75,7 +76,7 @@ impl LineSet {
             Err(at) => {
                 let start = self.samples.len();
                 let sources = SourceSet::empty(self.alloc);
-                let new = Fork::single(self.alloc, Slot { start, sources })?;
+                let new = self.index.room_for(self.alloc, Slot { start, sources })?;
                 put(&mut self.index, &mut self.samples, at, samples, new)?;
                 Ok(true)
             }
@@ -134,7 +135,7 @@ impl LineSet {
                     start,
                     sources: own,
                 };
-                let new = Fork::single(self.alloc, slot)?;
+                let new = self.index.room_for(self.alloc, slot)?;
                 put(&mut self.index, &mut self.samples, at, samples, new)?;
             }
         }

@@ -5,9 +5,10 @@ ghost use Rattle.std.specs.List.{AllByRecursion, insert};
 ghost use Rattle.std.specs.List.Sorted.{IsStrictlySortedBy};
 ghost use Rattle.std.specs.Ordering.{nat_cmp};
 ghost use Rattle.std.specs.Prelude.{◌≡◌, ◌<◌, ◌≤◌, ◌+◌, ◌++◌, [], length, take, drop, IfOk, IfErr, OnOk, OnErr, slice_index_or};
+ghost use Rattle.jls_partial.specs.Index.{slots_of, HasRoom};
 ghost use Rattle.jls_partial.specs.Packed.{lines_of, IsGap};
 
-use crate::index::{Fork, Index};
+use crate::index::{Fork, Index, Tree};
 use std::alloc::AllocError;
 use std::cmp::Ordering;
 
@@ -28,16 +29,34 @@ pub(crate) fn find(
     width: u16,
     samples: &[u16],
 ) -> Result<usize, usize>
-    requires inside { AllByRecursion (λ s. s.start + width ≤ length packed.now) index.now }
-    requires sorted { IsStrictlySortedBy (slice_cmp nat_cmp) (lines_of width packed.now index.now) }
-    ensures found { IfOk result (λ i. i < length index.now) }
-    ensures same { IfOk result (λ i. slice_index_or (lines_of width packed.now index.now) i samples.now ≡ samples.now) }
-    ensures gap { IfErr result (λ i. IsGap (slice_cmp nat_cmp) (lines_of width packed.now index.now) i samples.now) }
+    requires inside { AllByRecursion (λ s. s.start + width ≤ length packed.now) (slots_of index.now) }
+    requires sorted { IsStrictlySortedBy (slice_cmp nat_cmp) (lines_of width packed.now (slots_of index.now)) }
+    ensures found { IfOk result (λ i. i < length (slots_of index.now)) }
+    ensures same { IfOk result (λ i. slice_index_or (lines_of width packed.now (slots_of index.now)) i samples.now ≡ samples.now) }
+    ensures gap { IfErr result (λ i. IsGap (slice_cmp nat_cmp) (lines_of width packed.now (slots_of index.now)) i samples.now) }
+{
+    match index {
+        Index::One(slot) => match samples_at(packed, width, slot.start).cmp(samples) {
+            Ordering::Less => Err(1),
+            Ordering::Greater => Err(0),
+            Ordering::Equal => Ok(0),
+        },
+        Index::Many(tree) => find_in_tree(tree, packed, width, samples),
+    }
+}
+
+/// The same in a tree.
+fn find_in_tree(tree: &Tree, packed: &[u16], width: u16, samples: &[u16]) -> Result<usize, usize>
+    requires inside { AllByRecursion (λ s. s.start + width ≤ length packed.now) tree.now }
+    requires sorted { IsStrictlySortedBy (slice_cmp nat_cmp) (lines_of width packed.now tree.now) }
+    ensures found { IfOk result (λ i. i < length tree.now) }
+    ensures same { IfOk result (λ i. slice_index_or (lines_of width packed.now tree.now) i samples.now ≡ samples.now) }
+    ensures gap { IfErr result (λ i. IsGap (slice_cmp nat_cmp) (lines_of width packed.now tree.now) i samples.now) }
 {
     // The slots are as many as a `usize` can say: the sums rest on it.
-    prove!(index.len() <= usize::MAX);
+    prove!(tree.len() <= usize::MAX);
     let mut before = 0;
-    let mut rest = index;
+    let mut rest = tree;
     while let Some((left, slot, right)) = rest.parts() {
         let at = before + left.len();
         match samples_at(packed, width, slot.start).cmp(samples) {
@@ -60,13 +79,14 @@ pub(crate) fn put(
     samples: &[u16],
     new: Box<Fork>,
 ) -> Result<(), AllocError>
-    requires within { at ≤ length index.old }
-    requires room { length index.old < length packed.old.items + length samples.now }
+    requires within { at ≤ length (slots_of index.old) }
+    requires fits { length (slots_of index.old) < length packed.old.items + length samples.now }
+    requires room { HasRoom index.old }
     requires left { new.value.left ≡ [] }
     requires right { new.value.right ≡ [] }
-    ensures index_ok { OnOk result (index.new ≡ insert index.old at new.value.slot) }
+    ensures index_ok { OnOk result (slots_of index.new ≡ insert (slots_of index.old) at new.value.slot) }
     ensures packed_ok { OnOk result (packed.new.items ≡ packed.old.items ++ samples.now) }
-    ensures index_err { OnErr result (index.new ≡ index.old) }
+    ensures index_err { OnErr result (slots_of index.new ≡ slots_of index.old) }
     ensures packed_err { OnErr result (packed.new.items ≡ packed.old.items) }
 {
     packed.extend_from_slice(samples)?;

@@ -2,6 +2,7 @@ use Rattle.std.proofs.Common.{◌≡◌, ℕ, ◌+◌, ◌<◌, ◌≤◌, List,
 use Rattle.std.specs.Prelude.{slice_get}
 use Rattle.std.proofs.lemmas.List.{length-map}
 use Rattle.std.proofs.lemmas.Option.{slice_get_read}
+use Rattle.jls_partial.specs.Index.{slots_of}
 use Rattle.jls_partial.specs.declared.index.Slot.{Slot}
 use Rattle.jls_partial.specs.InsertFaults.{samples_fault}
 use Rattle.jls_partial.specs.LineSet.{PictureLines}
@@ -13,7 +14,7 @@ use Rattle.jls_partial.proofs.line_set.LineSet.get.Goals as goal
 
 pub slot-requires : goal.slot-requires
 slot-requires c =
-    let many = length_kept c.self.inside.precision c.self.inside.width c.self.inside.samples.items c.self.inside.index c.args.self.now c.self.invariant c.self.view_is in
+    let many = length_kept c.self.inside.precision c.self.inside.width c.self.inside.samples.items (slots_of c.self.inside.index) c.args.self.now c.self.invariant c.self.view_is in
     let below = c.requires in
     omega (arith, many, below)
 
@@ -26,22 +27,22 @@ read precision width packed slots i s x lt is e =
 
 pub samples_at-requires : goal.samples_at-requires
 samples_at-requires c =
-    let many = length_kept c.self.inside.precision c.self.inside.width c.self.inside.samples.items c.self.inside.index c.args.self.now c.self.invariant c.self.view_is in
+    let many = length_kept c.self.inside.precision c.self.inside.width c.self.inside.samples.items (slots_of c.self.inside.index) c.args.self.now c.self.invariant c.self.view_is in
     let below = c.requires in
     subst (λ (ps : List ℕ). c.slot.result.now.start + c.self.inside.width ≤ length ps) (sym c.deref.ensures.value)
-    (inside_at c.self.inside.width c.self.inside.samples.items c.self.inside.index c.args.i c.slot.result.now c.self.invariant.packed_lines.inside (omega (arith, many, below)) c.slot.ensures)
+    (inside_at c.self.inside.width c.self.inside.samples.items (slots_of c.self.inside.index) c.args.i c.slot.result.now c.self.invariant.packed_lines.inside (omega (arith, many, below)) c.slot.ensures)
 
 pub returns-clause-value : goal.returns-clause-value
 returns-clause-value c =
-    let many = length_kept c.self.inside.precision c.self.inside.width c.self.inside.samples.items c.self.inside.index c.args.self.now c.self.invariant c.self.view_is in
+    let many = length_kept c.self.inside.precision c.self.inside.width c.self.inside.samples.items (slots_of c.self.inside.index) c.args.self.now c.self.invariant c.self.view_is in
     let below = c.requires in
-    ap (λ (xs : List (List ℕ)). slice_get xs c.args.i) (lines_kept c.self.inside.precision c.self.inside.width c.self.inside.samples.items c.self.inside.index c.args.self.now c.self.invariant c.self.view_is)
-    ∙ read c.self.inside.precision c.self.inside.width c.self.inside.samples.items c.self.inside.index c.args.i c.slot.result.now c.samples_at.result.now (omega (arith, many, below)) c.slot.ensures
+    ap (λ (xs : List (List ℕ)). slice_get xs c.args.i) (lines_kept c.self.inside.precision c.self.inside.width c.self.inside.samples.items (slots_of c.self.inside.index) c.args.self.now c.self.invariant c.self.view_is)
+    ∙ read c.self.inside.precision c.self.inside.width c.self.inside.samples.items (slots_of c.self.inside.index) c.args.i c.slot.result.now c.samples_at.result.now (omega (arith, many, below)) c.slot.ensures
     (c.samples_at.ensures ∙ ap (λ (ps : List ℕ). take c.self.inside.width (drop c.slot.result.now.start ps)) c.deref.ensures.value)
 
 pub returns-clause-fitting : goal.returns-clause-fitting
 returns-clause-fitting c =
-    let lines = lines_of c.self.inside.width c.self.inside.samples.items c.self.inside.index in
+    let lines = lines_of c.self.inside.width c.self.inside.samples.items (slots_of c.self.inside.index) in
     subst (λ (z : PictureLines). samples_fault z.precision z.width c.samples_at.result.now ≡ None) c.self.view_is
     (all-slice_get (λ x. samples_fault c.self.inside.precision c.self.inside.width x ≡ None) lines c.args.i c.samples_at.result.now c.self.invariant.fitting
-    (ap (λ (xs : List (List ℕ)). slice_get xs c.args.i) (sym (lines_kept c.self.inside.precision c.self.inside.width c.self.inside.samples.items c.self.inside.index c.args.self.now c.self.invariant c.self.view_is)) ∙ returns-clause-value c))
+    (ap (λ (xs : List (List ℕ)). slice_get xs c.args.i) (sym (lines_kept c.self.inside.precision c.self.inside.width c.self.inside.samples.items (slots_of c.self.inside.index) c.args.self.now c.self.invariant c.self.view_is)) ∙ returns-clause-value c))

@@ -3,6 +3,7 @@ use Rattle.std.specs.Prelude.{slice_get, IfSome}
 use Rattle.std.proofs.lemmas.List.{length-map}
 use Rattle.std.proofs.lemmas.Option.{slice_get_read}
 use Rattle.jls_values.specs.OrderedSet as sets
+use Rattle.jls_partial.specs.Index.{slots_of}
 use Rattle.jls_partial.specs.declared.index.Slot.{Slot}
 use Rattle.jls_partial.specs.LineSet.{line_sources}
 use Rattle.jls_partial.specs.Packed.{lines_of}
@@ -12,7 +13,7 @@ use Rattle.jls_partial.proofs.line_set.LineSet.sources.Goals as goal
 
 pub slot-requires : goal.slot-requires
 slot-requires c =
-    let many = length_kept c.self.inside.precision c.self.inside.width c.self.inside.samples.items c.self.inside.index c.args.self.now c.self.invariant c.self.view_is in
+    let many = length_kept c.self.inside.precision c.self.inside.width c.self.inside.samples.items (slots_of c.self.inside.index) c.args.self.now c.self.invariant c.self.view_is in
     let below = c.requires in
     omega (arith, many, below)
 
@@ -20,7 +21,7 @@ pub returns : goal.returns
 returns c =
     let w = c.self.inside.width in
     let packed = c.self.inside.samples.items in
-    let slots = c.self.inside.index in
+    let slots = (slots_of c.self.inside.index) in
     let s = c.slot.result.now in
     let many = length_kept c.self.inside.precision w packed slots c.args.self.now c.self.invariant c.self.view_is in
     let below = c.requires in
