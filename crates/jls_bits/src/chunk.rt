@@ -1,7 +1,8 @@
 //! A few data bits at once.
 
-ghost use Rattle.std.specs.Prelude.{◌≡◌, ◌↔◌, ◌≤◌, ◌<◌, ◌^◌, true, false, [], ◌∷◌, ◌++◌, length, replicate, IsTrue, IfSome, IfNone};
+ghost use Rattle.std.specs.Prelude.{◌≡◌, ◌↔◌, ◌+◌, ◌≤◌, ◌<◌, ◌^◌, true, false, [], ◌∷◌, ◌++◌, length, replicate, IsTrue, IfSome, IfNone};
 ghost use Rattle.jls_bits.specs.Bits.{bits};
+ghost use Rattle.jls_bits.specs.Golomb.{golomb, has_golomb};
 
 use std::marker::Model;
 
@@ -72,6 +73,16 @@ impl Chunk {
         Some(bit)
     }
 
+    /// The same bits once more, to look ahead in.
+    pub fn fork(&self) -> Chunk
+        ensures { result ≡ self.now }
+    {
+        Chunk {
+            value: self.value,
+            count: self.count,
+        }
+    }
+
     /// Takes fewer than `limit` zeros, a one, and the k bits behind it, where they stand at the front: how many zeros,
     /// and the number of the k bits. Else it takes nothing.
     pub(crate) fn take_short(&mut self, limit: u8, k: u8) -> Option<(u8, u32)>
@@ -93,5 +104,19 @@ impl Chunk {
         self.value %= 1 << count;
         self.count = count;
         Some((zeros, number as u32))
+    }
+
+    /// Takes the code of a number, where it is short and stands whole at the front. Else it takes nothing.
+    pub fn take_code(&mut self, k: u8, g: u8, qbpp: u8) -> Option<u32>
+        requires k { k ≤ 16 }
+        requires qbpp { (1 ≤ qbpp) × (qbpp ≤ 16) }
+        requires g { (qbpp + 2 ≤ g) × (g ≤ 64) }
+        ensures some { IfSome result (λ m. (has_golomb k g qbpp m ≡ true) × (self.old ≡ golomb k g qbpp m ++ self.new)) }
+        ensures none { IfNone result (self.new ≡ self.old) }
+    {
+        match self.take_short(g - qbpp - 1, k) {
+            None => None,
+            Some((zeros, low)) => Some(((zeros as u32) << k) + low),
+        }
     }
 }

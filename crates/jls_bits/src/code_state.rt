@@ -49,7 +49,9 @@ impl CodeState {
                 count,
                 value,
             } => push_to_remainder(quotient, count, value, k, bit),
-            CodeState::Escape { count, value } => push_to_escape(count, value, k, g, qbpp, bit),
+            CodeState::Escape { count, value } => {
+                push_to_escape(FirstBits { count, value }, k, g, qbpp, bit)
+            }
         }
     }
 
@@ -63,10 +65,9 @@ impl CodeState {
         requires open { IsOpen k g qbpp self }
         ensures { ChunkStep k g qbpp (bits_told g qbpp self) chunk.old chunk.new result }
     {
-        if let CodeState::Zeros(zeros) = self {
-            if let Some((more, low)) = chunk.take_short(g - qbpp - 1 - zeros, k) {
-                let quotient = (zeros + more) as u32;
-                return CodeStep::Done((quotient << k) + low);
+        if let CodeState::Zeros(0) = self {
+            if let Some(number) = chunk.take_code(k, g, qbpp) {
+                return CodeStep::Done(number);
             }
         }
         push_bit_by_bit(self, k, g, qbpp, chunk)
@@ -167,14 +168,22 @@ fn push_to_remainder(quotient: u8, count: u8, value: u32, k: u8, bit: bool) -> C
     }
 }
 
+/// The first bits of a number: how many, and the number that they are.
+#[derive(Clone, Copy)]
+struct FirstBits {
+    count: u8,
+    value: u32,
+}
+
 /// Takes a bit of an escape's number.
-fn push_to_escape(count: u8, value: u32, k: u8, g: u8, qbpp: u8, bit: bool) -> CodeStep
+fn push_to_escape(number: FirstBits, k: u8, g: u8, qbpp: u8, bit: bool) -> CodeStep
     requires k { k ≤ 16 }
     requires qbpp { qbpp ≤ 16 }
     requires g { (qbpp + 2 ≤ g) × (g ≤ 64) }
-    requires open { IsOpen k g qbpp (Escape count value) }
-    ensures { StepIs k g qbpp (bits_told g qbpp (Escape count value) ++ bit ∷ []) result }
+    requires open { IsOpen k g qbpp (Escape number.count number.value) }
+    ensures { StepIs k g qbpp (bits_told g qbpp (Escape number.count number.value) ++ bit ∷ []) result }
 {
+    let FirstBits { count, value } = number;
     let escape = g - qbpp - 1;
     let value = 2 * value + bit as u32;
     let count = count + 1;

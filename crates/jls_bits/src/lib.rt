@@ -22,6 +22,3 @@ pub use pushed::PushedBytes;
 pub use reader::{BitReader, data_bits_end_at_a_marker};
 pub use unstuffer::Unstuffer;
 pub use writer::{BitWriter, bits_have_one_pad};
-
-#[cfg(test)]
-mod tests;

@@ -36,12 +36,18 @@ impl PushedBytes {
         PushedBytes {}
     }
 
+    /// Notes bytes.
+    pub fn note_all(&mut self, bytes: &[u8])
+        ensures { self.new.list ≡ self.old.list ++ bytes.now }
+    {
+        let next = PushedBytes::then(self, &NextBytes { bytes });
+        *self = next;
+    }
+
     /// Notes a byte.
     pub fn note(&mut self, byte: u8)
         ensures { self.new.list ≡ self.old.list ++ byte ∷ [] }
     {
-        let byte = [byte];
-        let next = PushedBytes::then(self, &NextBytes { bytes: &byte });
-        *self = next;
+        self.note_all(&[byte]);
     }
 }

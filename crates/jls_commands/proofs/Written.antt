@@ -25,7 +25,7 @@ use Rattle.jls_station.specs.declared.outcome.Outcome.TheVariants.{Done, Refused
 use Rattle.jls_station.proofs.InTurn.{grew_behind}
 use Rattle.jls_station.proofs.JoinSteps.{created_and_cut}
 use Rattle.jls_commands.specs.Telling.{Says}
-use Rattle.jls_commands.specs.WritingFiles.{cut_cause, file, Fits, options_for, takes_memory, StopsAtFile, too_large, at_output, no_memory, unsettled_cause, WritesFile, done, at_input, unsettled, at_file}
+use Rattle.jls_commands.specs.WritingFiles.{cut_cause, file, FitsFormat, options_for, takes_memory, StopsAtFile, too_large, at_output, no_memory, unsettled_cause, WritesFile, done, at_input, unsettled, at_file}
 use Rattle.jls_commands.specs.declared.writing.Format.{Format}
 use Rattle.jls_commands.specs.declared.writing.Format.TheVariants.{Pnm, Jls}
 
@@ -42,7 +42,7 @@ module _ (f : Format) (out name : List ℕ) (old mid new : History) where
         grew_as (IsTaken None name g) (WritesFile f out name (Refused r)) old mid (λ events h. unsettled f out name r g fault events named h first is) taken
 
     module _ (settled : IsSettled g.partial) where
-      pub is_written : (whole : Bool) → Says g true whole → Fits f (picture_of g.partial)
+      pub is_written : (whole : Bool) → Says g true whole → FitsFormat f (picture_of g.partial)
           → GrewBy (HandsOut out (file f (picture_of g.partial))) mid new
           → GrewBy (WritesFile f out name (Done true whole)) old new
       is_written whole says fit =
@@ -50,10 +50,10 @@ module _ (f : Format) (out name : List ℕ) (old mid new : History) where
           (λ a b t h. done f out name g whole a b t settled says fit h) taken
 
       pub stops_at_file : (r : Refusal) → r.name.now ≡ out
-          → GrewBy (StopsAtFile (Fits f (picture_of g.partial)) (takes_memory f) out (file f (picture_of g.partial)) r.cause) mid new
+          → GrewBy (StopsAtFile (FitsFormat f (picture_of g.partial)) (takes_memory f) out (file f (picture_of g.partial)) r.cause) mid new
           → GrewBy (WritesFile f out name (Refused r)) old new
       stops_at_file r named =
-          grew_on (IsTaken None name g) (StopsAtFile (Fits f (picture_of g.partial)) (takes_memory f) out (file f (picture_of g.partial)) r.cause) (WritesFile f out name (Refused r)) old mid new
+          grew_on (IsTaken None name g) (StopsAtFile (FitsFormat f (picture_of g.partial)) (takes_memory f) out (file f (picture_of g.partial)) r.cause) (WritesFile f out name (Refused r)) old mid new
           (λ a b t h. at_file f out name r g a b named t settled h) taken
 
 -- a file that went out in part
@@ -93,20 +93,20 @@ stopped_by_output F takes fit c old new name bytes =
 -- what stops a PNM file
 pnm_stopped : {T : Type 0} (r : Result T Cause) (old new : History) (name : List ℕ) (picture : WholePicture)
     → IfErr r (λ c. GrewBy (StopsAtOutput name (pnm picture) c) old new)
-    → IfErr r (λ c. GrewBy (StopsAtFile (Fits Pnm picture) (takes_memory Pnm) name (file Pnm picture) c) old new)
+    → IfErr r (λ c. GrewBy (StopsAtFile (FitsFormat Pnm picture) (takes_memory Pnm) name (file Pnm picture) c) old new)
 pnm_stopped (Ok x) old new name picture h = tt
 pnm_stopped (Err c) old new name picture h = stopped_by_output (Unit {0}) false tt c old new name (pnm picture) h
 
 pub stopped_as_pnm : {T : Type 0} (f : Format) → f ≡ Pnm → (r : Result T Cause) (old new : History) (name : List ℕ) (picture : WholePicture)
-    → IfErr r (λ c. GrewBy (StopsAtOutput name (pnm picture) c) old new) → IfErr r (λ c. GrewBy (StopsAtFile (Fits f picture) (takes_memory f) name (file f picture) c) old new)
+    → IfErr r (λ c. GrewBy (StopsAtOutput name (pnm picture) c) old new) → IfErr r (λ c. GrewBy (StopsAtFile (FitsFormat f picture) (takes_memory f) name (file f picture) c) old new)
 stopped_as_pnm {T} f e r old new name picture h =
-    subst (λ (x : Format). IfErr r (λ c. GrewBy (StopsAtFile (Fits x picture) (takes_memory x) name (file x picture) c) old new)) (sym e) (pnm_stopped r old new name picture h)
+    subst (λ (x : Format). IfErr r (λ c. GrewBy (StopsAtFile (FitsFormat x picture) (takes_memory x) name (file x picture) c) old new)) (sym e) (pnm_stopped r old new name picture h)
 
 -- and a JPEG-LS file
 pub stopped_as_jls : {T : Type 0} (f : Format) (line : Bool) (ri : ℕ) → f ≡ Jls line ri
     → (r : Result T Cause) (old new : History) (name : List ℕ) (picture : WholePicture)
     (o : WriteOptions) → o ≡ options_for line ri picture → IfErr r (λ c. GrewBy (StopsAtFile (OptionsFit picture o) true name (written_file picture o) c) old new)
-    → IfErr r (λ c. GrewBy (StopsAtFile (Fits f picture) (takes_memory f) name (file f picture) c) old new)
+    → IfErr r (λ c. GrewBy (StopsAtFile (FitsFormat f picture) (takes_memory f) name (file f picture) c) old new)
 stopped_as_jls {T} f line ri e r old new name picture o is h =
-    subst (λ (x : Format). IfErr r (λ c. GrewBy (StopsAtFile (Fits x picture) (takes_memory x) name (file x picture) c) old new)) (sym e)
+    subst (λ (x : Format). IfErr r (λ c. GrewBy (StopsAtFile (FitsFormat x picture) (takes_memory x) name (file x picture) c) old new)) (sym e)
     (subst (λ (x : WriteOptions). IfErr r (λ c. GrewBy (StopsAtFile (OptionsFit picture x) true name (written_file picture x) c) old new)) is h)

@@ -43,9 +43,9 @@ file Pnm picture = pnm picture
 file (Jls line ri) picture = written_file picture (options_for line ri picture)
 
 -- whether it can be written so: as PNM each can
-abbrev pub Fits : Format → WholePicture → Type 0
-Fits Pnm picture = Unit {0}
-Fits (Jls line ri) picture = OptionsFit picture (options_for line ri picture)
+abbrev pub FitsFormat : Format → WholePicture → Type 0
+FitsFormat Pnm picture = Unit {0}
+FitsFormat (Jls line ri) picture = OptionsFit picture (options_for line ri picture)
 
 -- whether memory is taken while the file goes out
 abbrev pub takes_memory : Format → Bool
@@ -76,7 +76,7 @@ cut_cause (OutOfMemory count) = cause.OutOfMemory
 -- was taken; the input stops it; the first line that is not settled does; or the file does
 pub data WritesFile : Format → List ℕ → List ℕ → Outcome → List Event → Type 0 where
   done : (f : Format) (out name : List ℕ) (g : Given) (whole : Bool) (reading writing : List Event)
-      → IsTaken None name g reading → IsSettled g.partial → Says g true whole → Fits f (picture_of g.partial)
+      → IsTaken None name g reading → IsSettled g.partial → Says g true whole → FitsFormat f (picture_of g.partial)
       → HandsOut out (file f (picture_of g.partial)) writing
       → WritesFile f out name (Done true whole) (reading ++ writing)
   at_input : (f : Format) (out name : List ℕ) (r : Refusal) (reading : List Event)
@@ -86,5 +86,5 @@ pub data WritesFile : Format → List ℕ → List ℕ → Outcome → List Even
       → r.cause ≡ unsettled_cause g.partial fault → WritesFile f out name (Refused r) reading
   at_file : (f : Format) (out name : List ℕ) (r : Refusal) (g : Given) (reading writing : List Event)
       → r.name.now ≡ out → IsTaken None name g reading → IsSettled g.partial
-      → StopsAtFile (Fits f (picture_of g.partial)) (takes_memory f) out (file f (picture_of g.partial)) r.cause writing
+      → StopsAtFile (FitsFormat f (picture_of g.partial)) (takes_memory f) out (file f (picture_of g.partial)) r.cause writing
       → WritesFile f out name (Refused r) (reading ++ writing)

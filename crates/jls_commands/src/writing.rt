@@ -7,7 +7,7 @@ ghost use Rattle.jls_picture.specs.Unsettled.{NamesFirstUnsettled};
 ghost use Rattle.jls_file.specs.WrittenFile.{written_file};
 ghost use Rattle.jls_picture.specs.Options.{OptionsFit};
 ghost use Rattle.jls_picture.specs.Pnm.{pnm};
-ghost use Rattle.jls_commands.specs.WritingFiles.{cut_cause, file, Fits, options_for, StopsAtFile, takes_memory, unsettled_cause, WritesFile};
+ghost use Rattle.jls_commands.specs.WritingFiles.{cut_cause, file, FitsFormat, options_for, StopsAtFile, takes_memory, unsettled_cause, WritesFile};
 
 use jls_device::Desk;
 use jls_file::write_jls;
@@ -113,9 +113,9 @@ fn hand_out<D: Desk>(
     name: &str,
     picture: &Picture<'_>,
 ) -> Result<(), Cause>
-    ensures fit { OnOk result (Fits format picture.now) }
+    ensures fit { OnOk result (FitsFormat format picture.now) }
     ensures written { OnOk result (GrewBy (HandsOut name.now (file format picture.now)) (D.history desk.old) (D.history desk.new)) }
-    ensures stopped { IfErr result (λ cause. GrewBy (StopsAtFile (Fits format picture.now) (takes_memory format) name.now
+    ensures stopped { IfErr result (λ cause. GrewBy (StopsAtFile (FitsFormat format picture.now) (takes_memory format) name.now
         (file format picture.now) cause) (D.history desk.old) (D.history desk.new)) }
 {
     match format {

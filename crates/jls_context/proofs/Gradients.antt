@@ -3,7 +3,7 @@ use Rattle.std.proofs.Common.{◌≡◌, ℕ, zero, suc, ◌+◌, ◌-◌, ◌<�
 use Rattle.std.specs.Prelude.{ℤ, pos, negsuc, ◌-ℤ◌, neg_ℤ, ◌≤ℤ◌, ◌<ℤ◌, unsigned_abs, int_lt}
 use Rattle.std.proofs.lemmas.Int.{ints}
 use mir.Val.{bool_byte}
-use Rattle.std.proofs.lemmas.Bool.{cases_Bool, cases_lt, eq-eqb, ne_eqb, le-leb, lt-leb, lt-ltb, le-ltb, false≢true}
+use Rattle.std.proofs.lemmas.Bool.{cases_Bool, cases_lt, eq-eqb, eqb-true, ne_eqb, le-leb, lt-leb, lt-ltb, le-ltb, false≢true}
 use Rattle.jls_values.specs.Params.{CodingParameters, AreCodingParameters}
 use Rattle.jls_context.specs.declared.mode.Neighbours.{Neighbours}
 use Rattle.jls_context.specs.Mode.{with_sign, is_run_mode, quantized_size, quantized_gradient, quantized_gradients, is_first_negative, is_negative, weighed, context, IsRegularMode}
@@ -116,6 +116,41 @@ none q1 q2 q3 a b c e = (omega (arith, ints), omega (arith, ints), omega (arith,
 
 same : (x y : ℕ) → (pos x -ℤ pos y) ≡ pos 0 → eqb x y ≡ true
 same x y e = eq-eqb x y (omega (arith, ints))
+
+-- equal samples have the quantized gradient 0
+zero_step : (p : CodingParameters) (x y : ℕ) → eqb x y ≡ true → quantized_gradient p (pos x -ℤ pos y) ≡ pos 0
+unfolding quantized_gradient
+zero_step p x y e = let i = eqb-true x y e in let d : (pos x -ℤ pos y) ≡ pos 0 = omega (arith, ints) in rw d refl
+
+-- run mode is where the sum is 0
+module _ (p : CodingParameters) (near : Neighbours) (number : ℤ) (is : number ≡ (let q = quantized_gradients p near in weighed q.q1 q.q2 q.q3)) where
+  abbrev d1 : ℤ
+  d1 = pos near.rd -ℤ pos near.rb
+
+  abbrev d2 : ℤ
+  d2 = pos near.rb -ℤ pos near.rc
+
+  abbrev d3 : ℤ
+  d3 = pos near.rc -ℤ pos near.ra
+
+  pub run_mode : number ≡ pos 0 → is_run_mode near ≡ true
+  run_mode e =
+      let zeros = none (quantized_gradient p d1) (quantized_gradient p d2) (quantized_gradient p d3) (gradient_range p d1) (gradient_range p d2) (gradient_range p d3) (ap unsigned_abs (sym is ∙ e)) in
+      let e1 = same near.rd near.rb (gradient_zero p d1 zeros.0) in let e2 = same near.rb near.rc (gradient_zero p d2 zeros.1) in let e3 = same near.rc near.ra (gradient_zero p d3 zeros.2) in
+      rw (e1, e2, e3) refl
+
+  pub no_run_mode : (number ≡ pos 0 → ⊥) → is_run_mode near ≡ false
+  no_run_mode some =
+      elim (cases_Bool (eqb near.rd near.rb)) [
+        | inr f ↦ rw f refl
+        | inl e1 ↦ elim (cases_Bool (eqb near.rb near.rc)) [
+          | inr f ↦ rw (e1, f) refl
+          | inl e2 ↦ elim (cases_Bool (eqb near.rc near.ra)) [
+            | inr f ↦ rw (e1, e2, f) refl
+            | inl e3 ↦ (let a = zero_step p near.rd near.rb e1 in let b = zero_step p near.rb near.rc e2 in let c = zero_step p near.rc near.ra e3 in absurd (some (is ∙ rw (a, b, c) refl)))
+          ]
+        ]
+      ]
 
 -- outside run mode the size of the weighed sum is the context, and its sign is SIGN
 pub regular_mode : (p : CodingParameters) (near : Neighbours) → is_run_mode near ≡ false

@@ -13,6 +13,3 @@ mod regular;
 pub use cells::Cells;
 pub use laws::contexts_are_apart;
 pub use mode::{Mode, Neighbours};
-
-#[cfg(test)]
-mod tests;

@@ -42,12 +42,6 @@ pub(crate) fn with_sign(negative: bool, value: i32) -> i32
     if negative { -value } else { value }
 }
 
-fn is_run_mode(near: Neighbours) -> bool
-    ensures { result ≡ Rattle.jls_context.specs.Mode.is_run_mode near }
-{
-    near.rd == near.rb && near.rb == near.rc && near.rc == near.ra
-}
-
 fn quantized_size(params: &Params, size: u16) -> i32
     ensures value { result ≡ pos (Rattle.jls_context.specs.Mode.quantized_size params.now size) }
     ensures at_least { pos 0 ≤ℤ result }
@@ -70,7 +64,7 @@ fn quantized_gradient(params: &Params, to: u16, from: u16) -> i32
     if to < from { -steps } else { steps }
 }
 
-/// The quantized gradients, weighed: its size is the context's number, and its sign is SIGN.
+/// The quantized gradients, weighed. It is 0 in run mode; else its size is the context's number, and its sign is SIGN.
 fn weighed_gradients(params: &Params, near: Neighbours) -> i32
     ensures { let q = quantized_gradients params.now near in result ≡ weighed q.q1 q.q2 q.q3 }
 {
@@ -85,10 +79,10 @@ impl Mode {
     pub(crate) fn of(params: &Params, near: Neighbours) -> Mode
         ensures { IsMode params.now near result }
     {
-        if is_run_mode(near) {
+        let number = weighed_gradients(params, near);
+        if number == 0 {
             return Mode::Run;
         }
-        let number = weighed_gradients(params, near);
         Mode::Regular {
             cell: number.unsigned_abs() as u16,
             negative: number < 0,

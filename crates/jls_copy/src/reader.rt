@@ -177,7 +177,7 @@ impl CopyReader {
             self.failed = true;
             return Err(AllocError);
         };
-        note_all(&mut self.bytes, &bytes[..count]);
+        self.bytes.note_all(&bytes[..count]);
         Ok(count)
     }
 
@@ -232,15 +232,6 @@ impl CopyReader {
             Err(AllocError) => Err(CopyFault::OutOfMemory),
             Ok(ended) => conclude(machine, ended),
         }
-    }
-}
-
-/// Notes bytes one after another.
-fn note_all(noted: &mut PushedBytes, bytes: &[u8])
-    ensures { noted.new.list ≡ noted.old.list ++ bytes.now }
-{
-    for byte in bytes {
-        noted.note(*byte);
     }
 }
 

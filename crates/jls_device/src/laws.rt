@@ -1,7 +1,7 @@
 //! Laws of devices over bytes in memory. Each is the contract of a function that makes one call.
 
-ghost use Rattle.std.specs.Prelude.{◌≡◌, ◌<◌, ℕ, List, length, IfOk};
-ghost use Rattle.jls_device.specs.Event.{bytes_given};
+ghost use Rattle.std.specs.Prelude.{◌≡◌, ◌<◌, ◌++◌, ◌∷◌, [], ℕ, List, length, take, IfOk, MatchResult};
+ghost use Rattle.jls_device.specs.Event.{bytes_given, gave, read_failed, took, write_failed};
 ghost use Rattle.jls_device.specs.Remaining.{HasGiven, HasTaken};
 
 use crate::counted::Counted;
@@ -22,7 +22,7 @@ pub fn sink_over_list(list: Vec<u8>) -> Counted<Vec<u8>>
 }
 
 /// Where the bytes behind a source are known, all reads together give exactly these bytes, in their order: each read keeps that,
-/// and where a read meets the end they were all given.
+/// and where a read meets the end they were all given. The history has this one read more, as one that gave bytes or as one that failed.
 pub fn reads_give_the_content<S: Source>(
     source: &mut S,
     into: &mut [u8],
@@ -31,15 +31,21 @@ pub fn reads_give_the_content<S: Source>(
         → HasGiven content (S.history source.new) (S.remaining source.new) }
     ensures end { (content : List ℕ) → HasGiven content (S.history source.old) (S.remaining source.old)
         → IfOk result (λ n. n ≡ 0 → 0 < length into.new → bytes_given (S.history source.new) ≡ content) }
+    ensures told { MatchResult result (λ n. S.history source.new ≡ S.history source.old ++ gave (length into.new) (take n into.new) ∷ [])
+        (λ _. S.history source.new ≡ S.history source.old ++ read_failed ∷ []) }
 {
     source.read_some(into)
 }
 
 /// Where the bytes that a sink holds are known, it holds exactly what it held before and what all writes took, in their order:
-/// each write keeps that.
+/// each write keeps that. The history has this one write more, as one that took bytes or as one that failed; a write of some bytes
+/// takes at least one.
 pub fn writes_are_held<W: Sink>(sink: &mut W, bytes: &[u8]) -> Result<usize, SinkFault>
-    ensures { (before : List ℕ) → HasTaken before (W.history sink.old) (W.contents sink.old)
+    ensures held { (before : List ℕ) → HasTaken before (W.history sink.old) (W.contents sink.old)
         → HasTaken before (W.history sink.new) (W.contents sink.new) }
+    ensures told { MatchResult result (λ n. W.history sink.new ≡ W.history sink.old ++ took (take n bytes.now) ∷ [])
+        (λ _. W.history sink.new ≡ W.history sink.old ++ write_failed ∷ []) }
+    ensures some { IfOk result (λ n. 0 < length bytes.now → 0 < n) }
 {
     sink.write_some(bytes)
 }

@@ -30,7 +30,7 @@ use Rattle.jls_marker.proofs.SegmentLaws.{written_reads_back}
 use Rattle.jls_picture.specs.Picture.{WholePicture}
 use Rattle.jls_picture.specs.Options.{WriteOptions, components_of_scan, rows_of_interval}
 use Rattle.jls_file.specs.WrittenFile.{are_values_of, are_defaults, restart_segments, components_of_scans, scan_of, scan_segment}
-use Rattle.jls_file_law.specs.FileLaw.{CanBeWritten}
+use Rattle.jls_file_law.specs.FileLaw.{IsWritable}
 use Rattle.jls_file_law.proofs.Covering.{IsScanOf, scans_of, scan_components}
 use Rattle.jls_file_law.proofs.WrittenUnits.{Steps, ScanSteps, AreTaken}
 
@@ -240,7 +240,7 @@ rows_zero : (h r : ℕ) → (if r == 0 then h else min r (h - 0 * r)) ≡ (if r 
 rows_zero h zero = refl
 rows_zero h (suc r) = let all : h - 0 * suc r ≡ h = omega arith in rw (ne_eqb (suc r) 0 (λ e. absurd (omega (arith, e)))) (ap (min (suc r)) all)
 
-module _ (pic : WholePicture) (o : WriteOptions) (can : CanBeWritten pic o) where
+module _ (pic : WholePicture) (o : WriteOptions) (can : IsWritable pic o) where
   abbrev taken_so : PresetParameters → ℕ → ℕ → HeaderState
   taken_so pr r i = record { frame = Some pic.shape; preset = pr; restart_interval = r; scans = i }
 
@@ -322,7 +322,7 @@ module _ (pic : WholePicture) (o : WriteOptions) (can : CanBeWritten pic o) wher
           rw e at (scan_steps scans (i + 1) (omega (arith, few)) are.1 differ.1 sized.1),
         )
 
-pub heads_are_taken : (pic : WholePicture) (o : WriteOptions) → CanBeWritten pic o → AreTaken pic o
+pub heads_are_taken : (pic : WholePicture) (o : WriteOptions) → IsWritable pic o → AreTaken pic o
 heads_are_taken pic o can =
     let same = are_defaults o.params in
     let pr = written_presets o.params same in

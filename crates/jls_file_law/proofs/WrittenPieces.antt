@@ -22,7 +22,7 @@ use Rattle.jls_copy.specs.declared.piece.PieceKind.TheVariants as kind
 use Rattle.jls_picture.specs.Picture.{WholePicture, line_of}
 use Rattle.jls_picture.specs.Options.{WriteOptions}
 use Rattle.jls_file.specs.WrittenFile.{row_lines, interval_lines, interval_code, scan_of}
-use Rattle.jls_file_law.specs.FileLaw.{CanBeWritten}
+use Rattle.jls_file_law.specs.FileLaw.{IsWritable}
 
 -- ---- packed bytes are a piece
 
@@ -56,7 +56,7 @@ map_length : (f : ℕ → List ℕ) (xs : List ℕ) → length (map f xs) ≡ le
 map_length f [] = refl
 map_length f (x ∷ xs) = let e = map_length f xs in omega (arith, e)
 
-module _ (pic : WholePicture) (o : WriteOptions) (can : CanBeWritten pic o) where
+module _ (pic : WholePicture) (o : WriteOptions) (can : IsWritable pic o) where
   line_is : (c row : ℕ) → c < length pic.shape.ids → row < pic.shape.height → IsLine o.params pic.shape.width (line_of pic c row)
   line_is c row h k = (can.whole.widths c row h k, all_by (λ sample. sample ≤ o.params.maxval) (line_of pic c row) (can.fit.samples c h row k))
 
@@ -90,7 +90,7 @@ rows_within s k =
 
 -- ---- the piece is judged in one way only
 
-module _ (pic : WholePicture) (o : WriteOptions) (can : CanBeWritten pic o) (components : List ℕ) (inside : AllByRecursion (λ c. c < length pic.shape.ids) components) (k : ℕ) where
+module _ (pic : WholePicture) (o : WriteOptions) (can : IsWritable pic o) (components : List ℕ) (inside : AllByRecursion (λ c. c < length pic.shape.ids) components) (k : ℕ) where
   abbrev plan : Scan
   plan = scan_of pic o components
 

@@ -14,7 +14,7 @@ use Rattle.jls_picture.specs.Picture.{WholePicture}
 use Rattle.jls_picture.specs.Options.{WriteOptions}
 use Rattle.jls_file.specs.WrittenFile.{interval_lines, interval_code, restart_marker, before_interval, marked_interval, scan_of}
 use Rattle.jls_file_law.specs.Covering.{interval_readings}
-use Rattle.jls_file_law.specs.FileLaw.{CanBeWritten}
+use Rattle.jls_file_law.specs.FileLaw.{IsWritable}
 use Rattle.jls_file_law.proofs.WrittenPieces.{packed_is_piece, reads_lines, only_lines}
 
 -- ---- the cut
@@ -92,7 +92,7 @@ module _ (pic : WholePicture) where
   some_outcomes [] h = ([], tt)
   some_outcomes (p ∷ ps) h = let rest = some_outcomes ps h.1 in (Lines (interval_lines pic p.plan h.0.0) ∷ rest.0, (h.0.2, rest.1))
 
-module _ (pic : WholePicture) (o : WriteOptions) (can : CanBeWritten pic o) (components : List ℕ) (inside : AllByRecursion (λ c. c < length pic.shape.ids) components) (index : ℕ) where
+module _ (pic : WholePicture) (o : WriteOptions) (can : IsWritable pic o) (components : List ℕ) (inside : AllByRecursion (λ c. c < length pic.shape.ids) components) (index : ℕ) where
   abbrev s : Scan
   s = scan_of pic o components
 

@@ -23,7 +23,7 @@ use Rattle.jls_picture.specs.Picture.{WholePicture}
 use Rattle.jls_picture.specs.Options.{WriteOptions}
 use Rattle.jls_file.specs.WrittenFile.{bytes_of, header_segments, components_of_scans, scan_of, scan_segment, interval_code, marked_interval, scan_bytes, written_file}
 use Rattle.jls_file_law.specs.Covering.{interval_readings, scan_readings, written_readings}
-use Rattle.jls_file_law.specs.FileLaw.{CanBeWritten, ReadsBack}
+use Rattle.jls_file_law.specs.FileLaw.{IsWritable, ReadsBack}
 use Rattle.jls_file_law.proofs.Covering.{IsScanOf, scans_of}
 use Rattle.jls_file_law.proofs.WrittenScans.{closed_from, last_from, bytes_are, each_closed, last_piece, GivesLines, lines_of, all_give, some_outcomes, pieces_give, pieces_lines}
 
@@ -140,7 +140,7 @@ module _ (pic : WholePicture) (o : WriteOptions) where
 
   -- ---- pieces
 
-  scans_give : (can : CanBeWritten pic o) (scans : List (List ℕ)) → AllByRecursion (IsScanOf (length pic.shape.ids)) scans → (index at : ℕ)
+  scans_give : (can : IsWritable pic o) (scans : List (List ℕ)) → AllByRecursion (IsScanOf (length pic.shape.ids)) scans → (index at : ℕ)
       → AllByRecursion (GivesLines pic) (pieces_in index at (map scan_unit scans))
   scans_give can [] are index at = tt
   scans_give can (c ∷ scans) are index at =
@@ -149,7 +149,7 @@ module _ (pic : WholePicture) (o : WriteOptions) where
       all_append (GivesLines pic) (pieces_from index s 0 (Interval 0) _ (closed_from pic s 0 (intervals s - 1)) (last_from pic s 0 (intervals s - 1))) _
       (pieces_give pic o can c are.0.2 index 0 (intervals s - 1) _ (omega (arith, some))) (scans_give can scans are.1 _ _)
 
-  scans_lines : (can : CanBeWritten pic o) (scans : List (List ℕ)) → AllByRecursion (IsScanOf (length pic.shape.ids)) scans → (index at : ℕ)
+  scans_lines : (can : IsWritable pic o) (scans : List (List ℕ)) → AllByRecursion (IsScanOf (length pic.shape.ids)) scans → (index at : ℕ)
       → flat_map (lines_of pic) (pieces_in index at (map scan_unit scans)) ≡ flat_map (λ components. scan_readings pic (scan_of pic o components)) scans
   scans_lines can [] are index at = refl
   scans_lines can (c ∷ scans) are index at =
@@ -187,7 +187,7 @@ module _ (pic : WholePicture) (o : WriteOptions) where
       → cut_pieces (record { begin = begin; units = us; headers = h; end = e }) ≡ []
   uncut_pieces begin us h e none = rw none refl
 
-  pub reads_back : CanBeWritten pic o → AreTaken → ReadsBack pic (written_file pic o) (written_readings pic o)
+  pub reads_back : IsWritable pic o → AreTaken → ReadsBack pic (written_file pic o) (written_readings pic o)
   reads_back can taken =
       let before = header_segments pic o in
       let scans = components_of_scans pic o in

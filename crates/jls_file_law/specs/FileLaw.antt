@@ -16,7 +16,7 @@ use Rattle.jls_file.specs.WrittenFile.{written_file}
 use Rattle.jls_file_law.specs.Covering.{written_readings, AreThePicture}
 
 -- it can be written under these options
-pub record CanBeWritten (pic : WholePicture) (o : WriteOptions) : Type 0 where
+pub record IsWritable (pic : WholePicture) (o : WriteOptions) : Type 0 where
   pub whole : IsWholePicture pic
   pub fit : OptionsFit pic o
   pub params : AreCodingParameters o.params
@@ -38,7 +38,7 @@ pub record ReadsBack (pic : WholePicture) (copy : List ℕ) (rs : List Reading) 
 
 -- what is read back of a written file is the picture's lines, each once
 abbrev pub FileLaw : Type 0
-FileLaw = (pic : WholePicture) (o : WriteOptions) → CanBeWritten pic o
+FileLaw = (pic : WholePicture) (o : WriteOptions) → IsWritable pic o
     → ReadsBack pic (written_file pic o) (written_readings pic o) × AreThePicture pic (written_readings pic o)
 
 -- what a reader of copies answers of it: the picture's shape, its lines as the only readings, no record, and the end at EOI
@@ -51,5 +51,5 @@ pub record AnswersOnly (pic : WholePicture) (rs : List Reading) (read : ReadCopy
   pub ended : read.ended ≡ Eoi offset
 
 abbrev pub FileIsRead : Type 0
-FileIsRead = (pic : WholePicture) (o : WriteOptions) → CanBeWritten pic o → (read : ReadCopy) → CopyReads (written_file pic o) read
+FileIsRead = (pic : WholePicture) (o : WriteOptions) → IsWritable pic o → (read : ReadCopy) → CopyReads (written_file pic o) read
     → AnswersOnly pic (written_readings pic o) read

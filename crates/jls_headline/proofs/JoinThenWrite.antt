@@ -27,7 +27,7 @@ use Rattle.jls_station.specs.declared.outcome.Cause.TheVariants.{Unsettled}
 use Rattle.jls_station.specs.declared.outcome.Outcome.{Outcome}
 use Rattle.jls_station.specs.declared.outcome.Outcome.TheVariants.{Done, Refused}
 use Rattle.jls_commands.specs.WritingFiles as writing
-use Rattle.jls_commands.specs.WritingFiles.{file, Fits, options_for, WritesFile, StopsAtFile}
+use Rattle.jls_commands.specs.WritingFiles.{file, FitsFormat, options_for, WritesFile, StopsAtFile}
 use Rattle.jls_commands.specs.declared.writing.Format.{Format}
 use Rattle.jls_commands.specs.declared.writing.Format.TheVariants.{Jls}
 use Rattle.jls_commands.proofs.Defaults.{defaults_are}
@@ -92,7 +92,7 @@ record DidWrite (f : Format) (events : List Event) : Type 0 where
   reading : List Event
   is_taken : IsTaken None name g reading
   bytes_are : input_bytes events ≡ is_taken.give.bytes ∷ []
-  fits : Fits f (picture_of g.partial)
+  fits : FitsFormat f (picture_of g.partial)
   handed : output_bytes events ≡ file f (picture_of g.partial) ∷ []
 
 IsDone : Outcome → Type 0
@@ -219,7 +219,7 @@ refused_as_unsettled pic joining j _ _ _ _ _ (writing.unsettled f out name r g f
     let p = read_again pic joining j name g reading reading taken bytes same in
     none_named g.partial fault (subst IsSettled (sym p) (gives pic joining j).0.0) names
 refused_as_unsettled pic joining j _ _ _ _ _ (writing.at_file f out name r g reading handing e taken settled stops) same u =
-    not_at_file (Fits f (picture_of g.partial)) (writing.takes_memory f) out (file f (picture_of g.partial)) r.cause handing stops u
+    not_at_file (FitsFormat f (picture_of g.partial)) (writing.takes_memory f) out (file f (picture_of g.partial)) r.cause handing stops u
 
 pub written_joins_are_settled : WrittenJoinsAreSettled
 unfolding IsUnsettledCause IsRefusedFor

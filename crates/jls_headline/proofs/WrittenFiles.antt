@@ -12,7 +12,7 @@ use Rattle.jls_copy.proofs.OneCourse.{one_course}
 use Rattle.jls_picture.specs.Picture.{WholePicture, line_of, picture_of}
 use Rattle.jls_file.specs.WrittenFile.{written_file}
 use Rattle.jls_file_law.specs.Covering.{IsLineOf, AreThePicture}
-use Rattle.jls_file_law.specs.FileLaw.{CanBeWritten, ReadsBack}
+use Rattle.jls_file_law.specs.FileLaw.{IsWritable, ReadsBack}
 use Rattle.jls_file_law.proofs.Covering.{contains_the_picture}
 use Rattle.jls_file_law.proofs.FileRead.{file_law}
 use Rattle.jls_headline.specs.Gives.{PieceGives, CourseGives, GivesReading}
@@ -94,7 +94,7 @@ reads_as_only file pic is r = record { reads = r; no_other = λ other is' r'. fi
 
 pub files_read_back : (pic : WholePicture) → IsPicture pic → FilesReadBack pic
 files_read_back pic is o params below fit =
-    let can : CanBeWritten pic o = record { whole = is_whole pic is; fit = fit; params = params; restart_below = below } in
+    let can : IsWritable pic o = record { whole = is_whole pic is; fit = fit; params = params; restart_below = below } in
     let law = file_law pic o can in
     reads_as_only (written_file pic o) pic is (reads_as pic (written_file pic o) _ law.0 law.1)
 

@@ -39,6 +39,3 @@ pub use laws::{
     neighbours_agree, pieces_read_once,
 };
 pub use lines::fits;
-
-#[cfg(test)]
-mod tests;

@@ -42,6 +42,3 @@ pub fn fits(params: &Params, width: u16, components: u8, lines: &[Vec<u16>]) -> 
         && lines.len() <= MOST_SAMPLES / usize::from(width)
         && are_lines(params, width, lines)
 }
-
-#[cfg(test)]
-mod tests;

@@ -78,7 +78,10 @@ impl RunState {
                 columns,
                 bits,
                 value,
-            } => push_to_count(run_index, columns, bits, value, width, bit),
+            } => {
+                let count = FirstBits { bits, value };
+                push_to_count(run_index, columns, count, width, bit)
+            }
         }
     }
 }
@@ -127,22 +130,22 @@ fn push_one(run_index: u8, columns: u32, width: u32) -> RunStep
     }
 }
 
-/// Takes a bit of the count.
-fn push_to_count(
-    run_index: u8,
-    columns: u32,
+/// The first bits of a count: how many, and the number that they are.
+#[derive(Clone, Copy)]
+struct FirstBits {
     bits: u8,
     value: u32,
-    width: u32,
-    bit: bool,
-) -> RunStep
-    requires { IsRunState width (Count run_index columns bits value) }
+}
+
+/// Takes a bit of the count.
+fn push_to_count(run_index: u8, columns: u32, count: FirstBits, width: u32, bit: bool) -> RunStep
+    requires { IsRunState width (Count run_index columns count.bits count.value) }
     ensures state { IsRunStep width result }
-    ensures step { (r0 : ℕ) (given : List Bool) → RunAt r0 width given (Count run_index columns bits value) → RunStepIs r0 width (given
-        ++ bit ∷ []) result }
+    ensures step { (r0 : ℕ) (given : List Bool) → RunAt r0 width given (Count run_index columns count.bits count.value)
+        → RunStepIs r0 width (given ++ bit ∷ []) result }
 {
-    let value = 2 * value + bit as u32;
-    let bits = bits + 1;
+    let value = 2 * count.value + bit as u32;
+    let bits = count.bits + 1;
     if bits < run_order(run_index) {
         RunStep::More(RunState::Count {
             run_index,

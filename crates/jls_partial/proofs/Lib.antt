@@ -1,5 +1,6 @@
 pub mod BareEntries
 pub mod Entries
+pub mod Forks
 pub mod Growth
 pub mod KeptEntries
 pub mod LineMarks
@@ -11,6 +12,8 @@ pub mod PartialRows
 pub mod Parts
 pub mod ReadBack
 pub mod SameEntries
+pub mod Searches
+pub mod SourcedLines
 pub mod Store
 pub mod TextEntries
 pub mod TextFields

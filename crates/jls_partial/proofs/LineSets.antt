@@ -16,7 +16,7 @@ use Rattle.std.proofs.lemmas.Map.Lookups.{CmpEqualImpliesEq, exact_unsigned}
 use Rattle.jls_values.specs.Join.{IsBelow}
 use Rattle.jls_values.specs.OrderedSet as sets
 use Rattle.jls_values.specs.OrderedSetLaws.{items-from_list, same_set, contains-insert, contains-insert_all, contains-from_list, contains-items, contains-union, contains-empty, insert_all-append}
-use Rattle.jls_partial.specs.declared.packed.Slot.{Slot}
+use Rattle.jls_partial.specs.declared.index.Slot.{Slot}
 use Rattle.jls_partial.specs.declared.insert_fault.InsertFault.{InsertFault}
 use Rattle.jls_partial.specs.InsertFaults.{samples_fault}
 use Rattle.jls_partial.specs.LineSet.{PictureLines, with_lines, line_sources, union_of_lines, has_same_line_shape, AreLineMarksHeld, kept_lines as kept_lines_of}
@@ -33,9 +33,9 @@ abbrev S : List ℕ → List ℕ → Ordering
 S = slice_cmp nat_cmp
 
 -- nothing is kept of an empty set
-pub none_kept : (precision width : ℕ) → precision ≤ 16 → IsLineSet precision width [] []
+pub none_kept : (precision width : ℕ) → precision ≤ 16 → 1 ≤ width → IsLineSet precision width [] []
 unfolding IsStrictlySortedBy
-none_kept precision width h = record { precision_at_most = h; packed_lines = record { inside = tt; whole = omega arith; sorted = tt }; fitting = tt }
+none_kept precision width h wide = record { precision_at_most = h; width_at_least = wide; packed_lines = record { inside = tt; whole = omega arith; sorted = tt }; fitting = tt }
 
 module _ (precision width : ℕ) (packed : List ℕ) (slots : List Slot) (s : PictureLines) (kept : IsLineSet precision width packed slots) (is : seen_lines precision width packed slots ≡ s) where
   -- the lines are what is kept, in order
@@ -100,6 +100,7 @@ module _ (precision width : ℕ) (packed samples : List ℕ) (slots : List Slot)
       let P : List ℕ → Type 0 = λ y. samples_fault precision width y ≡ None in
       record {
         precision_at_most = kept.precision_at_most;
+        width_at_least = kept.width_at_least;
         packed_lines = packed_more width packed samples slots i sources len in_slots kept.packed_lines.inside kept.packed_lines gap;
         fitting = subst (AllByRecursion P) (sym (lines_more width packed samples slots i sources len in_slots kept.packed_lines.inside)) (all-insert P (lines_of width packed slots) i samples gap.within kept.fitting fits);
       }
@@ -143,6 +144,7 @@ module _ (precision width : ℕ) (packed samples : List ℕ) (slots : List Slot)
       let whole = kept.packed_lines.whole in
       record {
         precision_at_most = kept.precision_at_most;
+        width_at_least = kept.width_at_least;
         packed_lines = record {
           inside = all_set (λ t. t.start + width ≤ length packed) slots i changed kept.packed_lines.inside (inside_at width packed slots i s kept.packed_lines.inside lt is);
           whole = whole ∙ ap (λ (n : ℕ). width * n) (sym (length-set slots i changed));

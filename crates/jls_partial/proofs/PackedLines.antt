@@ -1,7 +1,7 @@
 -- Lines in a packed store: what is found, and what one line more leaves.
-use Rattle.std.proofs.Common.{◌≡◌, ℕ, zero, suc, ◌+◌, ◌*◌, ◌<◌, ◌≤◌, Bool, true, false, ◌||◌, List, [], ◌∷◌, ◌++◌, length, get_or, take, drop, map, refl, ap, sym, subst, ◌∙◌, arith, inl, inr}
+use Rattle.std.proofs.Common.{◌≡◌, ℕ, zero, suc, ◌+◌, ◌<◌, ◌≤◌, Bool, true, false, ◌||◌, List, [], ◌∷◌, ◌++◌, length, get_or, take, drop, map, refl, ap, sym, subst, ◌∙◌, arith, inl, inr}
 use Rattle.std.specs.declared.cmp.Ordering.{Ordering}
-use Rattle.std.specs.declared.cmp.Ordering.TheVariants.{Less, Equal, Greater}
+use Rattle.std.specs.declared.cmp.Ordering.TheVariants.{Less, Greater}
 use Rattle.std.specs.Cmp.{IsTotalOrder}
 use Rattle.std.specs.Cmp.Lexicographic.{slice_cmp}
 use Rattle.std.specs.List.{list_any, insert, AllByRecursion}
@@ -10,16 +10,14 @@ use Rattle.std.specs.Ordering.{nat_cmp, eq_by_cmp, is_eq, ordering_reverse}
 use Rattle.std.proofs.Math.Seq.{drop-append_seam}
 use Rattle.std.proofs.lemmas.Bool.{cases_lt}
 use Rattle.std.proofs.lemmas.Cmp.{tied_itself, nat_list_cmp_total}
-use Rattle.std.proofs.lemmas.List.{append-nil, take_at, drop-append-le, take-append-le, length-drop, length-map, length-append, map-append, get_or-map}
-use Rattle.std.proofs.lemmas.List.Folds.{list_any-append}
+use Rattle.std.proofs.lemmas.List.{append-nil, take_at, drop-append-le, take-append-le, length-drop, length-append, get_or-map}
 use Rattle.std.proofs.lemmas.List.Edits.{length-insert}
 use Rattle.std.proofs.lemmas.Map.Keys.{Less-from_sorted}
 use Rattle.std.proofs.lemmas.Map.Lookups.{CmpEqualImpliesEq}
 use Rattle.jls_values.specs.OrderedSet as set
-use Rattle.jls_values.specs.OrderedSetLaws.{same_set, contains-insert, contains-from_list, items-from_list}
-use Rattle.jls_partial.specs.declared.packed.Slot.{Slot}
+use Rattle.jls_values.specs.OrderedSetLaws.{same_set, contains-insert, contains-from_list}
+use Rattle.jls_partial.specs.declared.index.Slot.{Slot}
 use Rattle.jls_partial.specs.LineSetLaws.{lines_exact}
-use Rattle.jls_partial.specs.Marks.{marks_of}
 use Rattle.jls_partial.specs.Packed.{Kept, kept_of, lines_of, IsPacked, IsGap}
 
 abbrev S : List ℕ → List ℕ → Ordering

@@ -1,6 +1,7 @@
 pub mod Entries
 pub mod Equality
 pub mod Held
+pub mod Index
 pub mod InsertFaults
 pub mod LineSet
 pub mod LineSetLaws
@@ -16,6 +17,7 @@ pub mod PartialLaws
 pub mod Place
 pub mod Reading
 pub mod ReadingOrder
+pub mod Slots
 pub mod Status
 pub mod Text
 pub mod TextInto

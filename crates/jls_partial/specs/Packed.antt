@@ -1,14 +1,13 @@
 -- The packed store of lines: all samples one after the other, and an index of them in ascending order.
-use Rattle.std.specs.BTreeSet.{insert_key}
 use Rattle.std.specs.Cmp.Lexicographic.{slice_cmp}
 use Rattle.std.specs.List.{AllByRecursion}
 use Rattle.std.specs.List.Sorted.{IsStrictlySortedBy}
 use Rattle.std.specs.Ordering.{nat_cmp}
 use Rattle.std.specs.declared.cmp.Ordering.{Ordering}
-use Rattle.std.specs.declared.cmp.Ordering.TheVariants.{Less, Greater}
-use Rattle.std.specs.Prelude.{◌≡◌, ℕ, ◌+◌, ◌*◌, ◌<◌, ◌≤◌, List, [], length, map, take, drop, slice_index_or}
+use Rattle.std.specs.declared.cmp.Ordering.TheVariants.{Less}
+use Rattle.std.specs.Prelude.{◌≡◌, ℕ, ◌+◌, ◌*◌, ◌<◌, ◌≤◌, List, length, map, take, drop, slice_index_or}
 use Rattle.jls_values.specs.OrderedSet as set
-use Rattle.jls_partial.specs.declared.packed.Slot.{Slot}
+use Rattle.jls_partial.specs.declared.index.Slot.{Slot}
 
 -- a line as it is kept: its samples, and its source numbers in ascending order
 abbrev pub Kept : Type 0

@@ -1,8 +1,8 @@
 -- What the program keeps for a set of lines.
 use Rattle.std.specs.List.{AllByRecursion}
-use Rattle.std.specs.Prelude.{◌≡◌, ℕ, ◌≤◌, None, List, map}
+use Rattle.std.specs.Prelude.{◌≡◌, ℕ, ◌≤◌, None, List}
 use Rattle.jls_values.specs.OrderedSet as set
-use Rattle.jls_partial.specs.declared.packed.Slot.{Slot}
+use Rattle.jls_partial.specs.declared.index.Slot.{Slot}
 use Rattle.jls_partial.specs.InsertFaults.{samples_fault}
 use Rattle.jls_partial.specs.LineSet.{PictureLines}
 use Rattle.jls_partial.specs.Marks.{marks_of}
@@ -20,5 +20,6 @@ seen_lines precision width packed slots = record {
 -- the lines are packed, and each fits the precision and the width
 pub record IsLineSet (precision width : ℕ) (packed : List ℕ) (slots : List Slot) : Type 0 where
   pub precision_at_most : precision ≤ 16
+  pub width_at_least : 1 ≤ width
   pub packed_lines : IsPacked width packed slots
   pub fitting : AllByRecursion (λ samples. samples_fault precision width samples ≡ None) (lines_of width packed slots)

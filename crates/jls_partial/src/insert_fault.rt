@@ -45,13 +45,18 @@ impl<T: Drop> From<AllocFailed<T>> for InsertFault {
     }
 }
 
-/// Whether a sample has more bits than the precision.
+/// Whether a sample has more bits than the precision. Each is looked at, so that the machine can take several at once.
+#[tactic(auto, using(std::proofs::lemmas::List::Folds::list_any_more))]
 fn has_large_sample(samples: &[u16], precision: u8) -> bool
     requires { precision ≤ 16 }
     ensures { result ≡ list_any (λ x. nat_le (2 ^ precision) x) samples.now }
 {
     let limit = 2u32.pow(precision as u32);
-    samples.iter().any(|x| limit <= *x as u32)
+    let mut is_large = false;
+    for x in samples {
+        is_large |= limit <= *x as u32;
+    }
+    is_large
 }
 
 /// What is wrong with the samples of a line, in a picture of this precision and width.

@@ -2,6 +2,7 @@
 #![tactic(auto)]
 
 mod equality;
+mod index;
 mod insert_fault;
 mod laws;
 mod line_set;

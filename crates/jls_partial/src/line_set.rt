@@ -7,8 +7,9 @@ ghost use Rattle.jls_values.specs.Join.{IsBetween};
 ghost use Rattle.jls_values.specs.OrderedSet as set;
 ghost use Rattle.std.specs.Prelude.{◌≡◌, ℕ, List, ◌<◌, ◌≤◌, ◌∷◌, [], length, true, not, IfOk, IfSome, OnOk, OnErr, IsOk, None, Some, slice_get};
 
+use crate::index::{Fork, Index, Slot};
 use crate::insert_fault::{InsertFault, find_samples_fault};
-use crate::packed::{Slot, find, put, samples_at};
+use crate::packed::{find, put, samples_at};
 use jls_values::{Merge, MergeFault, SourceSet};
 use std::alloc::{AllocError, Global};
 use std::marker::Model;
@@ -22,7 +23,7 @@ pub struct LineSet {
     precision: u8,
     width: u16,
     samples: Vec<u16>,
-    index: Vec<Slot>,
+    index: Index,
     alloc: Global,
 }
 
@@ -35,9 +36,9 @@ impl Model for LineSet {
 
     ghost use Rattle.jls_partial.specs.PackedLines.{seen_lines, IsLineSet};
 
-    ghost view = { λ a. seen_lines a.precision a.width a.samples.items a.index.items };
+    ghost view = { λ a. seen_lines a.precision a.width a.samples.items a.index };
 
-    ghost invariant = { λ a. IsLineSet a.precision a.width a.samples.items a.index.items };
+    ghost invariant = { λ a. IsLineSet a.precision a.width a.samples.items a.index };
 }
 
 impl LineSet {
@@ -52,7 +53,7 @@ impl LineSet {
             precision,
             width,
             samples: Vec::new(alloc),
-            index: Vec::new(alloc),
+            index: Index::empty(),
             alloc,
         }
     }
@@ -72,8 +73,10 @@ impl LineSet {
         match find(&self.index, &self.samples, self.width, samples) {
             Ok(_) => Ok(false),
             Err(at) => {
+                let start = self.samples.len();
                 let sources = SourceSet::empty(self.alloc);
-                put(&mut self.index, &mut self.samples, at, samples, sources)?;
+                let new = Fork::single(self.alloc, Slot { start, sources })?;
+                put(&mut self.index, &mut self.samples, at, samples, new)?;
                 Ok(true)
             }
         }
@@ -104,7 +107,7 @@ impl LineSet {
         ensures value { slice_get (set.items self.now.lines) i ≡ Some result.now }
         ensures fitting { samples_fault self.now.precision self.now.width result.now ≡ None }
     {
-        samples_at(&self.samples, self.width, self.index[i].start)
+        samples_at(&self.samples, self.width, self.index.slot(i).start)
     }
 
     /// The source numbers of that line in ascending order, lent from the set.
@@ -112,7 +115,7 @@ impl LineSet {
         requires { i < length (set.items self.now.lines) }
         ensures { IfSome (slice_get (set.items self.now.lines) i) (λ samples. result.now ≡ line_sources self.now samples) }
     {
-        self.index[i].sources.as_slice()
+        self.index.slot(i).sources.as_slice()
     }
 
     /// Takes one line that fits, and adds these source numbers to its own.
@@ -122,11 +125,17 @@ impl LineSet {
         ensures err { OnErr result (self.new ≡ self.old) }
     {
         match find(&self.index, &self.samples, self.width, samples) {
-            Ok(at) => self.index[at].sources.add_all(sources)?,
+            Ok(at) => self.index.add_sources(at, sources)?,
             Err(at) => {
+                let start = self.samples.len();
                 let mut own = SourceSet::empty(self.alloc);
                 own.add_all(sources)?;
-                put(&mut self.index, &mut self.samples, at, samples, own)?;
+                let slot = Slot {
+                    start,
+                    sources: own,
+                };
+                let new = Fork::single(self.alloc, slot)?;
+                put(&mut self.index, &mut self.samples, at, samples, new)?;
             }
         }
         Ok(())
@@ -139,7 +148,7 @@ impl LineSet {
             → self.new ≡ with_lines self.old ((samples, source ∷ []) ∷ [])) }
         ensures err { OnErr result (self.new ≡ self.old) }
     {
-        self.index[i].sources.add(source)?;
+        self.index.add_sources(i, &[source])?;
         Ok(())
     }
 

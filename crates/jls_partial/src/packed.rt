@@ -4,19 +4,12 @@ ghost use Rattle.std.specs.Cmp.Lexicographic.{slice_cmp};
 ghost use Rattle.std.specs.List.{AllByRecursion, insert};
 ghost use Rattle.std.specs.List.Sorted.{IsStrictlySortedBy};
 ghost use Rattle.std.specs.Ordering.{nat_cmp};
-ghost use Rattle.std.specs.Prelude.{◌≡◌, ◌<◌, ◌≤◌, ◌+◌, ◌++◌, length, take, drop, vec_len, IfOk, IfErr, OnOk, OnErr, slice_index_or};
+ghost use Rattle.std.specs.Prelude.{◌≡◌, ◌<◌, ◌≤◌, ◌+◌, ◌++◌, [], length, take, drop, IfOk, IfErr, OnOk, OnErr, slice_index_or};
 ghost use Rattle.jls_partial.specs.Packed.{lines_of, IsGap};
 
-use jls_values::SourceSet;
+use crate::index::{Fork, Index};
 use std::alloc::AllocError;
 use std::cmp::Ordering;
-
-/// A line in the store: where its samples begin, and its sources.
-#[derive(Drop)]
-pub(crate) struct Slot {
-    pub start: usize,
-    pub sources: SourceSet,
-}
 
 /// The samples that begin at a place of the store.
 pub(crate) fn samples_at(packed: &[u16], width: u16, start: usize) -> &[u16]
@@ -30,7 +23,7 @@ pub(crate) fn samples_at(packed: &[u16], width: u16, start: usize) -> &[u16]
 
 /// Where these samples stand in the index, or where they belong.
 pub(crate) fn find(
-    index: &[Slot],
+    index: &Index,
     packed: &[u16],
     width: u16,
     samples: &[u16],
@@ -41,44 +34,42 @@ pub(crate) fn find(
     ensures same { IfOk result (λ i. slice_index_or (lines_of width packed.now index.now) i samples.now ≡ samples.now) }
     ensures gap { IfErr result (λ i. IsGap (slice_cmp nat_cmp) (lines_of width packed.now index.now) i samples.now) }
 {
-    let mut low = 0;
-    let mut high = index.len();
-    while low < high {
-        let middle = low + (high - low) / 2;
-        let line = samples_at(packed, width, index[middle].start);
-        match line.cmp(samples) {
-            Ordering::Less => low = middle + 1,
-            Ordering::Greater => high = middle,
-            Ordering::Equal => return Ok(middle),
+    // The slots are as many as a `usize` can say: the sums rest on it.
+    prove!(index.len() <= usize::MAX);
+    let mut before = 0;
+    let mut rest = index;
+    while let Some((left, slot, right)) = rest.parts() {
+        let at = before + left.len();
+        match samples_at(packed, width, slot.start).cmp(samples) {
+            Ordering::Less => {
+                before = at + 1;
+                rest = right;
+            }
+            Ordering::Greater => rest = left,
+            Ordering::Equal => return Ok(at),
         }
     }
-    Err(low)
+    Err(before)
 }
 
-/// Puts a line at its place in the index. All room is made before anything changes. A first line gets no more room than it needs,
-/// since most sets stay with one.
+/// Puts a line at its place in the index. Its slot comes with its room, so nothing changes before the last growth.
 pub(crate) fn put(
-    index: &mut Vec<Slot>,
+    index: &mut Index,
     packed: &mut Vec<u16>,
     at: usize,
     samples: &[u16],
-    sources: SourceSet,
+    new: Box<Fork>,
 ) -> Result<(), AllocError>
-    requires { at ≤ vec_len index.old }
-    ensures index_ok { OnOk result
-        (index.new.items ≡ insert index.old.items at (record { start = length packed.old.items; sources = sources })) }
+    requires within { at ≤ length index.old }
+    requires room { length index.old < length packed.old.items + length samples.now }
+    requires left { new.value.left ≡ [] }
+    requires right { new.value.right ≡ [] }
+    ensures index_ok { OnOk result (index.new ≡ insert index.old at new.value.slot) }
     ensures packed_ok { OnOk result (packed.new.items ≡ packed.old.items ++ samples.now) }
-    ensures index_err { OnErr result (index.new.items ≡ index.old.items) }
+    ensures index_err { OnErr result (index.new ≡ index.old) }
     ensures packed_err { OnErr result (packed.new.items ≡ packed.old.items) }
 {
-    packed.reserve(samples.len())?;
-    if index.is_empty() {
-        index.reserve_exact(1)?;
-    }
-    let start = packed.len();
-    index.insert(at, Slot { start, sources })?;
-    match packed.extend_from_slice(samples) {
-        Ok(()) => Ok(()),
-        Err(_) => unreachable!(),
-    }
+    packed.extend_from_slice(samples)?;
+    index.insert(at, new);
+    Ok(())
 }

@@ -58,6 +58,9 @@ const IN_SECOND: &[u8] =
 const IN_BOTH: &[u8] =
     b"JLSP\x02\x08\0\x01\0\x02\x02\x01\x02\0\0\0\x02\0\0\x01\0\0\0\0\0\0\0\x01\0\x04\0\0\0\0\0\0\0\0\x01\0\0\0\0\0\0\0\0\0\x01\0\x09\0\0\0\0\0\0\0\0";
 
+/// What stands before 1024 readings of one line of one sample of 16 bits.
+const MANY_READINGS: &[u8] = b"JLSP\x02\x10\0\x01\0\x01\x01\x01\0\0\0\x01\0\0\0\0\0\0\0\0\0\x04\0";
+
 /// What stands before the entries of ten lines of one sample.
 const TEN_LINES: [u8; 16] = [0x4A, 0x4C, 0x53, 0x50, 2, 8, 0, 1, 0, 10, 1, 1, 0, 0, 0, 10];
 
@@ -202,6 +205,39 @@ fn shapes_that_differ(rt: HostRuntime) -> Result<(), Fail> {
     let other = Partial::from_bytes(rt.alloc(), OTHER_SHAPE)?;
     assert_eq!(rt; one.merge(&other), Err(MergeFault::ShapeDiffers));
     assert_eq!(rt; one.to_bytes(rt.alloc())?.as_slice(), THREE);
+    Ok(())
+}
+
+/// The text of a picture of one sample that was read as each even number below 1024, in the order of the multiples of `step`, then
+/// marked, and then read as each odd one.
+fn read_in_steps(alloc: Global, step: u16) -> Result<Vec<u8>, Fail> {
+    let mut one = Partial::empty(alloc, Shape::new(16, 1, 1, &[1])?);
+    for number in 0..512u16 {
+        one.insert(0, 0, &[number.wrapping_mul(step) % 512 * 2])?;
+    }
+    one.mark(7)?;
+    for number in 0..512u16 {
+        one.insert(0, 0, &[number.wrapping_mul(step) % 512 * 2 + 1])?;
+    }
+    Ok(one.to_bytes(alloc)?)
+}
+
+#[test]
+fn readings_of_one_line_in_any_order(rt: HostRuntime) -> Result<(), Fail> {
+    let mut text = Vec::from_slice(rt.alloc(), MANY_READINGS)?;
+    for sample in 0..1024u16 {
+        text.extend_from_slice(&sample.to_be_bytes())?;
+        text.extend_from_slice(&[0, 0, 0, 0, 0, 0, 0])?;
+        if sample % 2 == 0 {
+            text.extend_from_slice(&[1, 0, 0, 0, 7])?;
+        } else {
+            text.push(0)?;
+        }
+    }
+    // Rising, falling, and neither.
+    for step in [1, 511, 195] {
+        assert_eq!(rt; read_in_steps(rt.alloc(), step)?, text);
+    }
     Ok(())
 }
 

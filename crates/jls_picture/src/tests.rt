@@ -95,62 +95,63 @@ fn check(rt: &impl Abort, alloc: Global, row: &Row<'_>) -> Result<(), Fail> {
 }
 
 /// One component with samples of two bytes and of one, three, and two and four.
+const FILES: [Row<'static>; 6] = [
+    Row {
+        precision: 16,
+        width: 1,
+        ids: &[1],
+        lines: &[&[65535]],
+        file: b"P5\n1 1\n65535\n\xFF\xFF",
+    },
+    Row {
+        precision: 9,
+        width: 2,
+        ids: &[1],
+        lines: &[&[258, 3]],
+        file: b"P5\n2 1\n511\n\x01\x02\x00\x03",
+    },
+    Row {
+        precision: 8,
+        width: 1,
+        ids: &[1],
+        lines: &[&[0], &[1], &[2], &[3], &[4], &[5], &[6], &[7], &[8], &[9]],
+        file: b"P5\n1 10\n255\n\x00\x01\x02\x03\x04\x05\x06\x07\x08\x09",
+    },
+    Row {
+        precision: 8,
+        width: 1,
+        ids: &[1, 2],
+        lines: &[&[10], &[10]],
+        file: b"P7\nWIDTH 1\nHEIGHT 1\nDEPTH 2\nMAXVAL 255\nENDHDR\n\x0A\x0A",
+    },
+    Row {
+        precision: 8,
+        width: 4,
+        ids: &[1, 2, 3],
+        lines: &[&[0, 0, 0, 0], &[0, 0, 0, 0], &[0, 0, 0, 0]],
+        file: b"P6\n4 1\n255\n\x00\x00\x00\x00\x00\x00\x00\x00\x00\x00\x00\x00",
+    },
+    Row {
+        precision: 2,
+        width: 2,
+        ids: &[9, 8, 7, 6],
+        lines: &[
+            &[0, 1],
+            &[1, 2],
+            &[2, 3],
+            &[3, 0],
+            &[3, 3],
+            &[2, 2],
+            &[1, 1],
+            &[0, 0],
+        ],
+        file: b"P7\nWIDTH 2\nHEIGHT 2\nDEPTH 4\nMAXVAL 3\nENDHDR\n\x00\x01\x02\x03\x01\x02\x03\x00\x03\x02\x01\x00\x03\x02\x01\x00",
+    },
+];
+
 #[test]
 fn files(rt: HostRuntime) -> Result<(), Fail> {
-    let rows = [
-        Row {
-            precision: 16,
-            width: 1,
-            ids: &[1],
-            lines: &[&[65535]],
-            file: b"P5\n1 1\n65535\n\xFF\xFF",
-        },
-        Row {
-            precision: 9,
-            width: 2,
-            ids: &[1],
-            lines: &[&[258, 3]],
-            file: b"P5\n2 1\n511\n\x01\x02\x00\x03",
-        },
-        Row {
-            precision: 8,
-            width: 1,
-            ids: &[1],
-            lines: &[&[0], &[1], &[2], &[3], &[4], &[5], &[6], &[7], &[8], &[9]],
-            file: b"P5\n1 10\n255\n\x00\x01\x02\x03\x04\x05\x06\x07\x08\x09",
-        },
-        Row {
-            precision: 8,
-            width: 1,
-            ids: &[1, 2],
-            lines: &[&[10], &[10]],
-            file: b"P7\nWIDTH 1\nHEIGHT 1\nDEPTH 2\nMAXVAL 255\nENDHDR\n\x0A\x0A",
-        },
-        Row {
-            precision: 8,
-            width: 4,
-            ids: &[1, 2, 3],
-            lines: &[&[0, 0, 0, 0], &[0, 0, 0, 0], &[0, 0, 0, 0]],
-            file: b"P6\n4 1\n255\n\x00\x00\x00\x00\x00\x00\x00\x00\x00\x00\x00\x00",
-        },
-        Row {
-            precision: 2,
-            width: 2,
-            ids: &[9, 8, 7, 6],
-            lines: &[
-                &[0, 1],
-                &[1, 2],
-                &[2, 3],
-                &[3, 0],
-                &[3, 3],
-                &[2, 2],
-                &[1, 1],
-                &[0, 0],
-            ],
-            file: b"P7\nWIDTH 2\nHEIGHT 2\nDEPTH 4\nMAXVAL 3\nENDHDR\n\x00\x01\x02\x03\x01\x02\x03\x00\x03\x02\x01\x00\x03\x02\x01\x00",
-        },
-    ];
-    for row in &rows {
+    for row in &FILES {
         check(&rt, rt.alloc(), row)?;
     }
     Ok(())

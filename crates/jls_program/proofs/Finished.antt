@@ -29,7 +29,7 @@ use Rattle.jls_picture.specs.declared.picture.PictureFault.{PictureFault}
 use Rattle.jls_picture.specs.declared.picture.PictureFault.TheVariants.{Unsettled}
 use Rattle.jls_commands.specs.declared.writing.Format.{Format}
 use Rattle.jls_commands.specs.declared.writing.Format.TheVariants.{Pnm, Jls}
-use Rattle.jls_words.specs.Asking.{Asked, ReadsAs}
+use Rattle.jls_words.specs.Asking.{Asked, AskFor}
 use Rattle.jls_program.specs.FaultLines.{fault_line}
 use Rattle.jls_program.specs.Runs.{CameOf, Run, came_of, misused, helped, help_cut, nothing_begun, nothing_asked}
 use Rattle.jls_program.specs.Laws.{JoinRan, DoneJoinsRan, TellRan, DoneChecksRan, DoneShowsRan, WriteRan, DoneWritesRan, UnsettledWritesStop, written_as}
@@ -95,7 +95,7 @@ unchanged old new events e is = e ∙ (ap (λ (es : List Event). old ++ es) is �
 
 -- ---- what came of the words
 
-one_asked : (words : List Text) (a b : Asked) → ReadsAs words a → ReadsAs words b → a ≡ b
+one_asked : (words : List Text) (a b : Asked) → AskFor words a → AskFor words b → a ≡ b
 one_asked words a b h k = let e : Some a ≡ Some b = sym h.asks ∙ k.asks in cc
 
 record Came (asked : Asked) (status : ℕ) (desk report faults : List Event) : Type 0 where
@@ -105,7 +105,7 @@ record Came (asked : Asked) (status : ℕ) (desk report faults : List Event) : T
   printed : Printed (fault_line outcome) faults
 
 came_of_run : (words : List Text) (status : ℕ) (desk report faults : List Event) → Run words status desk report faults → (asked : Asked)
-    → ReadsAs words asked → status ≤ 1
+    → AskFor words asked → status ≤ 1
     → Came asked status desk report faults
 came_of_run words _ desk report faults (came_of _ a outcome _ _ _ reads came line) asked k le =
     record { outcome = outcome; came = subst (λ (x : Asked). CameOf x outcome desk report) (one_asked words a asked reads k) came; status_is = refl; printed = line }

@@ -11,7 +11,7 @@ use Rattle.jls_station.specs.Outcomes.{exit_status}
 use Rattle.jls_station.specs.declared.outcome.Outcome.{Outcome}
 use Rattle.jls_commands.specs.Histories.{GrewBoth}
 use Rattle.jls_words.specs.Words.{AreRefused}
-use Rattle.jls_words.specs.Asking.{Asked, ReadsAs, AskForNothing}
+use Rattle.jls_words.specs.Asking.{Asked, AskFor, AskForNothing}
 use Rattle.jls_program.specs.FaultLines.{fault_line, unknown_value_line}
 use Rattle.jls_program.specs.Answers.{Answered}
 use Rattle.jls_program.specs.Runs.{CameOf, Run, came_of, nothing_asked, Ran}
@@ -42,7 +42,7 @@ module _ (words : List Text) (desk desk' report report' faults faults' : History
     run = run_of_answer words k status a.report_events a.fault_events r a.answer;
   }
 
-  pub ran : (status : ℕ) (asked : Asked) (outcome : Outcome) → status ≡ exit_status outcome → ReadsAs words asked
+  pub ran : (status : ℕ) (asked : Asked) (outcome : Outcome) → status ≡ exit_status outcome → AskFor words asked
       → GrewBoth (CameOf asked outcome) desk desk' report report' → GrewBy (Printed (fault_line outcome)) faults faults'
       → Ran words status desk desk' report report' faults faults'
   ran status asked outcome is reads h line = record {

@@ -15,7 +15,7 @@ use Rattle.jls_commands.specs.Telling.{lines}
 use Rattle.jls_commands.specs.WritingFiles.{file}
 use Rattle.jls_commands.specs.declared.writing.Format.{Format}
 use Rattle.jls_commands.specs.declared.writing.Format.TheVariants.{Pnm, Jls}
-use Rattle.jls_words.specs.Asking.{Asked, ReadsAs, check, join, show, write_pnm, write_jls}
+use Rattle.jls_words.specs.Asking.{Asked, AskFor, check, join, show, write_pnm, write_jls}
 use Rattle.jls_program.specs.Runs.{Ran}
 
 -- a run of `join` under a source, or under none, that is done, as the history of the desk has it
@@ -34,7 +34,7 @@ abbrev pub DoneJoinsRan : Type 0
 DoneJoinsRan =
     (words : List Text) (status : ℕ) (desk desk' report report' faults faults' : History)
     → Ran words status desk desk' report report' faults faults'
-    → (source : Option ℕ) (out : Text) (names : List Text) → ReadsAs words (join source out names) → status ≤ 1
+    → (source : Option ℕ) (out : Text) (names : List Text) → AskFor words (join source out names) → status ≤ 1
     → (joined : PartialPicture) × JoinRan source out names joined status desk desk' × (report' ≡ report) × (faults' ≡ faults)
 
 -- a run of `check` or `show` that is done: the input was read whole, and nothing else was done with the desk; the report output was
@@ -51,7 +51,7 @@ abbrev pub DoneChecksRan : Type 0
 DoneChecksRan =
     (words : List Text) (status : ℕ) (desk desk' report report' faults faults' : History)
     → Ran words status desk desk' report report' faults faults'
-    → (name : Text) → ReadsAs words (check name) → status ≤ 1
+    → (name : Text) → AskFor words (check name) → status ≤ 1
     → (g : Given) × TellRan true name g status desk desk' report report' × (faults' ≡ faults)
 
 -- Where the words ask for a report and the status is 0 or 1, it is printed, with status 0 exactly where each line is settled;
@@ -60,7 +60,7 @@ abbrev pub DoneShowsRan : Type 0
 DoneShowsRan =
     (words : List Text) (status : ℕ) (desk desk' report report' faults faults' : History)
     → Ran words status desk desk' report report' faults faults'
-    → (name : Text) → ReadsAs words (show name) → status ≤ 1
+    → (name : Text) → AskFor words (show name) → status ≤ 1
     → (g : Given) × TellRan false name g status desk desk' report report' × (faults' ≡ faults)
 
 -- words that ask for a file in this format
@@ -85,7 +85,7 @@ abbrev pub UnsettledWritesStop : Type 0
 UnsettledWritesStop =
     (words : List Text) (status : ℕ) (desk desk' report report' faults faults' : History)
     → Ran words status desk desk' report report' faults faults'
-    → (f : Format) (out name : Text) → ReadsAs words (written_as f out name) → status ≡ 1
+    → (f : Format) (out name : Text) → AskFor words (written_as f out name) → status ≡ 1
     → (g : Given) × GrewBy (IsTaken None name g) desk desk' × (IsSettled g.partial → ⊥)
 
 -- Where the words ask for a file and the status is 0, it is written; and nothing is reported or printed
@@ -93,5 +93,5 @@ abbrev pub DoneWritesRan : Type 0
 DoneWritesRan =
     (words : List Text) (status : ℕ) (desk desk' report report' faults faults' : History)
     → Ran words status desk desk' report report' faults faults'
-    → (f : Format) (out name : Text) → ReadsAs words (written_as f out name) → status ≡ 0
+    → (f : Format) (out name : Text) → AskFor words (written_as f out name) → status ≡ 0
     → (g : Given) × WriteRan f out name g desk desk' × (report' ≡ report) × (faults' ≡ faults)

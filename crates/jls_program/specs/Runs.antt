@@ -12,7 +12,7 @@ use Rattle.jls_commands.specs.Telling.{Tells, lines}
 use Rattle.jls_commands.specs.WritingFiles.{WritesFile}
 use Rattle.jls_commands.specs.declared.writing.Format.TheVariants.{Pnm, Jls}
 use Rattle.jls_words.specs.Words.{AreRefused, is_help}
-use Rattle.jls_words.specs.Asking.{Asked, check, join, show, write_pnm, write_jls, ReadsAs, AskForNothing}
+use Rattle.jls_words.specs.Asking.{Asked, check, join, show, write_pnm, write_jls, AskFor, AskForNothing}
 use Rattle.jls_program.specs.FaultLines.{cause_line, fault_line, out_of_memory_line, unknown_value_line}
 
 -- what came of what was asked, by the events of the desk and of the report output
@@ -27,7 +27,7 @@ CameOf (write_jls line ri out name) outcome desk report = WritesFile (Jls line r
 pub data Run : List Text → ℕ → List Event → List Event → List Event → Type 0 where
   -- the words ask for something: what came of it has the status and the fault line
   came_of : (words : List Text) (asked : Asked) (outcome : Outcome) (desk report faults : List Event)
-      → ReadsAs words asked → CameOf asked outcome desk report → Printed (fault_line outcome) faults
+      → AskFor words asked → CameOf asked outcome desk report → Printed (fault_line outcome) faults
       → Run words (exit_status outcome) desk report faults
   -- clap refuses the words, and not to show help: some text, which may be any, goes to the fault output
   misused : (words : List Text) (k : ErrorKind) (usage : List ℕ) (faults : List Event)

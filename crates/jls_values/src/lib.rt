@@ -10,6 +10,3 @@ pub use merge::{Merge, MergeFault, merge_all, same_members_same_join};
 pub use params::{ParamFault, Params, equal_params_are_one};
 pub use shape::{Shape, ShapeFault, equal_shapes_are_one};
 pub use source_set::SourceSet;
-
-#[cfg(test)]
-mod tests;

@@ -126,20 +126,35 @@ fn largest_sample(precision: u8) -> u16
     (2u32.pow(u32::from(precision)) - 1) as u16
 }
 
-fn range_fault(
-    precision: u8,
-    maxval: u16,
+/// The thresholds of the local gradients.
+#[derive(Clone, Copy)]
+struct Thresholds {
     t1: u16,
     t2: u16,
     t3: u16,
-    reset: u16,
-) -> Option<ParamFault>
+}
+
+fn range_fault(precision: u8, maxval: u16, thresholds: Thresholds, reset: u16) -> Option<ParamFault>
     requires at_least { 2 ≤ precision }
     requires at_most { precision ≤ 16 }
-    ensures value { result ≡ param_fault (record { precision = precision; maxval = maxval; t1 = t1; t2 = t2; t3 = t3; reset = reset }) }
-    ensures in_range { IfNone result
-        (AreCodingParameters (record { precision = precision; maxval = maxval; t1 = t1; t2 = t2; t3 = t3; reset = reset })) }
+    ensures value { result ≡ param_fault (record {
+      precision = precision;
+      maxval = maxval;
+      t1 = thresholds.t1;
+      t2 = thresholds.t2;
+      t3 = thresholds.t3;
+      reset = reset;
+    }) }
+    ensures in_range { IfNone result (AreCodingParameters (record {
+      precision = precision;
+      maxval = maxval;
+      t1 = thresholds.t1;
+      t2 = thresholds.t2;
+      t3 = thresholds.t3;
+      reset = reset;
+    })) }
 {
+    let Thresholds { t1, t2, t3 } = thresholds;
     if maxval < 1 || maxval > largest_sample(precision) {
         Some(ParamFault::MaxVal)
     } else if t1 < 1 || t1 > maxval {
@@ -176,7 +191,7 @@ impl Params {
         let t2 = or_default(t2, default_t2(maxval, t1));
         let t3 = or_default(t3, default_t3(maxval, t2));
         let reset = or_default(reset, 64);
-        if let Some(fault) = range_fault(precision, maxval, t1, t2, t3, reset) {
+        if let Some(fault) = range_fault(precision, maxval, Thresholds { t1, t2, t3 }, reset) {
             return Err(fault);
         }
         Ok(Params {

@@ -4,7 +4,7 @@ use Rattle.std.specs.Prelude.{codes}
 use Rattle.clap.specs.Words.{Text, is_simple, is_simple_and_free}
 use Rattle.clap.proofs.OnLiterals.{clap_on_literals}
 use Rattle.jls_words.specs.Words.{salvage_app}
-use Rattle.jls_words.specs.Asking.{ReadsAs, AskForNothing, check, join, show, write_pnm, write_jls}
+use Rattle.jls_words.specs.Asking.{AskFor, AskForNothing, check, join, show, write_pnm, write_jls}
 
 -- `jls-salvage join OUT A B`
 abbrev pub two_files : List Text
@@ -31,11 +31,11 @@ pub is_simple_program : is_simple salvage_app ≡ true
 unfolding clap_on_literals
 is_simple_program = refl
 
-pub two_files-join : ReadsAs two_files (join None (codes "OUT") (codes "A" ∷ codes "B" ∷ []))
+pub two_files-join : AskFor two_files (join None (codes "OUT") (codes "A" ∷ codes "B" ∷ []))
 unfolding clap_on_literals
 two_files-join = record { taken = inl refl; asks = refl }
 
-pub dashes-join : ReadsAs dashes (join None (codes "-") (codes "-" ∷ []))
+pub dashes-join : AskFor dashes (join None (codes "-") (codes "-" ∷ []))
 unfolding clap_on_literals
 dashes-join = record { taken = inl refl; asks = refl }
 
@@ -43,23 +43,23 @@ dashes-join = record { taken = inl refl; asks = refl }
 abbrev pub with_source : List Text
 with_source = codes "jls-salvage" ∷ codes "join" ∷ codes "--source" ∷ codes "7" ∷ codes "OUT" ∷ codes "A" ∷ []
 
-pub with_source-join : ReadsAs with_source (join (Some 7) (codes "OUT") (codes "A" ∷ []))
+pub with_source-join : AskFor with_source (join (Some 7) (codes "OUT") (codes "A" ∷ []))
 unfolding clap_on_literals
 with_source-join = record { taken = inl refl; asks = refl }
 
-pub one_file-check : ReadsAs (one_file (codes "check")) (check (codes "A"))
+pub one_file-check : AskFor (one_file (codes "check")) (check (codes "A"))
 unfolding clap_on_literals
 one_file-check = record { taken = inl refl; asks = refl }
 
-pub one_file-show : ReadsAs (one_file (codes "show")) (show (codes "A"))
+pub one_file-show : AskFor (one_file (codes "show")) (show (codes "A"))
 unfolding clap_on_literals
 one_file-show = record { taken = inl refl; asks = refl }
 
-pub as_pnm-write : ReadsAs (as_format (codes "pnm")) (write_pnm (codes "OUT") (codes "A"))
+pub as_pnm-write : AskFor (as_format (codes "pnm")) (write_pnm (codes "OUT") (codes "A"))
 unfolding clap_on_literals
 as_pnm-write = record { taken = inl refl; asks = refl }
 
-as_jls-write : ReadsAs (as_format (codes "jls")) (write_jls false 0 (codes "OUT") (codes "A"))
+as_jls-write : AskFor (as_format (codes "jls")) (write_jls false 0 (codes "OUT") (codes "A"))
 unfolding clap_on_literals
 as_jls-write = record { taken = inl refl; asks = refl }
 
@@ -68,7 +68,7 @@ abbrev pub with_options : List Text
 with_options =
     codes "jls-salvage" ∷ codes "write" ∷ codes "--as" ∷ codes "jls" ∷ codes "--ilv" ∷ codes "line" ∷ codes "--ri" ∷ codes "12" ∷ codes "OUT" ∷ codes "A" ∷ []
 
-pub with_options-write : ReadsAs with_options (write_jls true 12 (codes "OUT") (codes "A"))
+pub with_options-write : AskFor with_options (write_jls true 12 (codes "OUT") (codes "A"))
 unfolding clap_on_literals
 with_options-write = record { taken = inl refl; asks = refl }
 

@@ -77,7 +77,7 @@ abbrev pub asked_in : List Text → Option Asked
 asked_in words = option_and_then (λ p. asked_by p.0 p.1) (subcommand_of salvage_app words)
 
 -- clap takes the words, and they ask for this
-pub record ReadsAs (words : List Text) (a : Asked) : Type 0 where
+pub record AskFor (words : List Text) (a : Asked) : Type 0 where
   pub taken : AreTaken words
   pub asks : asked_in words ≡ Some a
 

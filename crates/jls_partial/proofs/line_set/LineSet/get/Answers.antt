@@ -1,23 +1,21 @@
 use Rattle.std.proofs.Common.{◌≡◌, ℕ, ◌+◌, ◌<◌, ◌≤◌, List, length, get_or, take, drop, Some, None, refl, ap, sym, subst, ◌∙◌, arith}
-use Rattle.std.specs.Prelude.{slice_get, IfSome}
+use Rattle.std.specs.Prelude.{slice_get}
 use Rattle.std.proofs.lemmas.List.{length-map}
 use Rattle.std.proofs.lemmas.Option.{slice_get_read}
-use Rattle.jls_values.specs.OrderedSet as sets
-use Rattle.jls_partial.specs.declared.packed.Slot.{Slot}
+use Rattle.jls_partial.specs.declared.index.Slot.{Slot}
 use Rattle.jls_partial.specs.InsertFaults.{samples_fault}
-use Rattle.jls_partial.specs.LineSet.{PictureLines, line_sources}
+use Rattle.jls_partial.specs.LineSet.{PictureLines}
 use Rattle.jls_partial.specs.Packed.{lines_of}
-use Rattle.jls_partial.proofs.LineSets.{lines_kept, length_kept, sources_lent}
+use Rattle.jls_partial.proofs.LineSets.{lines_kept, length_kept}
 use Rattle.jls_partial.proofs.PackedLines.{inside_at, line_at}
 use Rattle.jls_partial.proofs.Views.{all-slice_get}
 use Rattle.jls_partial.proofs.line_set.LineSet.get.Goals as goal
 
-pub index-requires : goal.index-requires
-index-requires c =
-    let many = length_kept c.self.inside.precision c.self.inside.width c.self.inside.samples.items c.self.inside.index.items c.args.self.now c.self.invariant c.self.view_is in
-    let items = c.self.inside.index.ok.0 in
+pub slot-requires : goal.slot-requires
+slot-requires c =
+    let many = length_kept c.self.inside.precision c.self.inside.width c.self.inside.samples.items c.self.inside.index c.args.self.now c.self.invariant c.self.view_is in
     let below = c.requires in
-    omega (arith, many, items, below)
+    omega (arith, many, below)
 
 -- the line is the one of its slot
 read : (precision width : ℕ) (packed : List ℕ) (slots : List Slot) (i : ℕ) (s : Slot) (x : List ℕ) → i < length slots → s ≡ get_or slots i s
@@ -28,22 +26,22 @@ read precision width packed slots i s x lt is e =
 
 pub samples_at-requires : goal.samples_at-requires
 samples_at-requires c =
-    let many = length_kept c.self.inside.precision c.self.inside.width c.self.inside.samples.items c.self.inside.index.items c.args.self.now c.self.invariant c.self.view_is in
+    let many = length_kept c.self.inside.precision c.self.inside.width c.self.inside.samples.items c.self.inside.index c.args.self.now c.self.invariant c.self.view_is in
     let below = c.requires in
-    subst (λ (ps : List ℕ). c.index.result.now.start + c.self.inside.width ≤ length ps) (sym c.deref.ensures.value)
-    (inside_at c.self.inside.width c.self.inside.samples.items c.self.inside.index.items c.args.i c.index.result.now c.self.invariant.packed_lines.inside (omega (arith, many, below)) c.index.ensures)
+    subst (λ (ps : List ℕ). c.slot.result.now.start + c.self.inside.width ≤ length ps) (sym c.deref.ensures.value)
+    (inside_at c.self.inside.width c.self.inside.samples.items c.self.inside.index c.args.i c.slot.result.now c.self.invariant.packed_lines.inside (omega (arith, many, below)) c.slot.ensures)
 
 pub returns-clause-value : goal.returns-clause-value
 returns-clause-value c =
-    let many = length_kept c.self.inside.precision c.self.inside.width c.self.inside.samples.items c.self.inside.index.items c.args.self.now c.self.invariant c.self.view_is in
+    let many = length_kept c.self.inside.precision c.self.inside.width c.self.inside.samples.items c.self.inside.index c.args.self.now c.self.invariant c.self.view_is in
     let below = c.requires in
-    ap (λ (xs : List (List ℕ)). slice_get xs c.args.i) (lines_kept c.self.inside.precision c.self.inside.width c.self.inside.samples.items c.self.inside.index.items c.args.self.now c.self.invariant c.self.view_is)
-    ∙ read c.self.inside.precision c.self.inside.width c.self.inside.samples.items c.self.inside.index.items c.args.i c.index.result.now c.samples_at.result.now (omega (arith, many, below)) c.index.ensures
-    (c.samples_at.ensures ∙ ap (λ (ps : List ℕ). take c.self.inside.width (drop c.index.result.now.start ps)) c.deref.ensures.value)
+    ap (λ (xs : List (List ℕ)). slice_get xs c.args.i) (lines_kept c.self.inside.precision c.self.inside.width c.self.inside.samples.items c.self.inside.index c.args.self.now c.self.invariant c.self.view_is)
+    ∙ read c.self.inside.precision c.self.inside.width c.self.inside.samples.items c.self.inside.index c.args.i c.slot.result.now c.samples_at.result.now (omega (arith, many, below)) c.slot.ensures
+    (c.samples_at.ensures ∙ ap (λ (ps : List ℕ). take c.self.inside.width (drop c.slot.result.now.start ps)) c.deref.ensures.value)
 
 pub returns-clause-fitting : goal.returns-clause-fitting
 returns-clause-fitting c =
-    let lines = lines_of c.self.inside.width c.self.inside.samples.items c.self.inside.index.items in
+    let lines = lines_of c.self.inside.width c.self.inside.samples.items c.self.inside.index in
     subst (λ (z : PictureLines). samples_fault z.precision z.width c.samples_at.result.now ≡ None) c.self.view_is
     (all-slice_get (λ x. samples_fault c.self.inside.precision c.self.inside.width x ≡ None) lines c.args.i c.samples_at.result.now c.self.invariant.fitting
-    (ap (λ (xs : List (List ℕ)). slice_get xs c.args.i) (sym (lines_kept c.self.inside.precision c.self.inside.width c.self.inside.samples.items c.self.inside.index.items c.args.self.now c.self.invariant c.self.view_is)) ∙ returns-clause-value c))
+    (ap (λ (xs : List (List ℕ)). slice_get xs c.args.i) (sym (lines_kept c.self.inside.precision c.self.inside.width c.self.inside.samples.items c.self.inside.index c.args.self.now c.self.invariant c.self.view_is)) ∙ returns-clause-value c))

@@ -1,30 +1,27 @@
-use Rattle.std.proofs.Common.{◌≡◌, ℕ, ◌+◌, ◌<◌, ◌≤◌, List, length, get_or, take, drop, Some, None, refl, ap, sym, subst, ◌∙◌, arith}
+use Rattle.std.proofs.Common.{◌≡◌, ℕ, ◌<◌, List, length, take, drop, Some, refl, ap, sym, subst, ◌∙◌, arith}
 use Rattle.std.specs.Prelude.{slice_get, IfSome}
 use Rattle.std.proofs.lemmas.List.{length-map}
 use Rattle.std.proofs.lemmas.Option.{slice_get_read}
 use Rattle.jls_values.specs.OrderedSet as sets
-use Rattle.jls_partial.specs.declared.packed.Slot.{Slot}
-use Rattle.jls_partial.specs.InsertFaults.{samples_fault}
-use Rattle.jls_partial.specs.LineSet.{PictureLines, line_sources}
+use Rattle.jls_partial.specs.declared.index.Slot.{Slot}
+use Rattle.jls_partial.specs.LineSet.{line_sources}
 use Rattle.jls_partial.specs.Packed.{lines_of}
 use Rattle.jls_partial.proofs.LineSets.{lines_kept, length_kept, sources_lent}
-use Rattle.jls_partial.proofs.PackedLines.{inside_at, line_at}
-use Rattle.jls_partial.proofs.Views.{all-slice_get}
+use Rattle.jls_partial.proofs.PackedLines.{line_at}
 use Rattle.jls_partial.proofs.line_set.LineSet.sources.Goals as goal
 
-pub index-requires : goal.index-requires
-index-requires c =
-    let many = length_kept c.self.inside.precision c.self.inside.width c.self.inside.samples.items c.self.inside.index.items c.args.self.now c.self.invariant c.self.view_is in
-    let items = c.self.inside.index.ok.0 in
+pub slot-requires : goal.slot-requires
+slot-requires c =
+    let many = length_kept c.self.inside.precision c.self.inside.width c.self.inside.samples.items c.self.inside.index c.args.self.now c.self.invariant c.self.view_is in
     let below = c.requires in
-    omega (arith, many, items, below)
+    omega (arith, many, below)
 
 pub returns : goal.returns
 returns c =
     let w = c.self.inside.width in
     let packed = c.self.inside.samples.items in
-    let slots = c.self.inside.index.items in
-    let s = c.index.result.now in
+    let slots = c.self.inside.index in
+    let s = c.slot.result.now in
     let many = length_kept c.self.inside.precision w packed slots c.args.self.now c.self.invariant c.self.view_is in
     let below = c.requires in
     let lt : c.args.i < length slots = omega (arith, many, below) in
@@ -32,6 +29,6 @@ returns c =
     let many_lines : length (lines_of w packed slots) ≡ length slots = length-map slots (λ (t : Slot). take w (drop t.start packed)) in
     let read : slice_get (sets.items c.args.self.now.lines) c.args.i ≡ Some line =
     ap (λ (xs : List (List ℕ)). slice_get xs c.args.i) (lines_kept c.self.inside.precision w packed slots c.args.self.now c.self.invariant c.self.view_is)
-    ∙ slice_get_read (lines_of w packed slots) (length (lines_of w packed slots)) c.args.i line refl (omega (arith, many_lines, lt)) (sym (line_at w packed slots c.args.i s line lt c.index.ensures)) in
+    ∙ slice_get_read (lines_of w packed slots) (length (lines_of w packed slots)) c.args.i line refl (omega (arith, many_lines, lt)) (sym (line_at w packed slots c.args.i s line lt c.slot.ensures)) in
     subst (λ o. IfSome o (λ samples. c.as_slice.result.now ≡ line_sources c.args.self.now samples)) (sym read)
-    (c.as_slice.ensures.value ∙ sym (sources_lent c.self.inside.precision w packed slots c.args.self.now c.args.i s c.self.invariant c.self.view_is lt c.index.ensures))
+    (c.as_slice.ensures.value ∙ sym (sources_lent c.self.inside.precision w packed slots c.args.self.now c.args.i s c.self.invariant c.self.view_is lt c.slot.ensures))

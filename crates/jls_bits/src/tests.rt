@@ -1,4 +1,0 @@
-//! What no clause says: that the calls succeed, and examples worked out by hand from the standard.
-
-mod bits;
-mod codes;

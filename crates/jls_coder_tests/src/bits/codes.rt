@@ -1,0 +1,262 @@
+//! Golomb codes written and read, cut and damaged.
+
+ghost use Rattle.std.specs.Prelude.{◌≡◌, ◌+◌, ◌^◌, ◌≤◌, length};
+
+use jls_bits::*;
+use std::alloc::{AllocError, Global};
+use std::test::Fail;
+
+/// A writer of these bits, given as ones and zeros.
+fn written(alloc: Global, text: &[u8]) -> Result<BitWriter, AllocError> {
+    let mut writer = BitWriter::new(alloc);
+    for digit in text {
+        writer.push_bit(*digit == b'1')?;
+    }
+    Ok(writer)
+}
+
+/// Whether the code of a number is these bits, and whether a reader over them gives the number back and stops behind
+/// its code.
+fn is_code(
+    alloc: Global,
+    text: &str,
+    mapped: u32,
+    k: u8,
+    g: u8,
+    qbpp: u8,
+) -> Result<bool, AllocError>
+    requires k { k ≤ 16 }
+    requires qbpp { (1 ≤ qbpp) × (qbpp ≤ 16) }
+    requires g { (qbpp + 2 ≤ g) × (g ≤ 64) }
+    requires mapped { mapped ≤ 2 ^ qbpp }
+{
+    let mut writer = BitWriter::new(alloc);
+    write_golomb(&mut writer, mapped, k, g, qbpp)?;
+    let bytes = writer.finish()?;
+    let expected = written(alloc, text.as_bytes())?.finish()?;
+    let mut reader = BitReader::over(&bytes);
+    let all = reader.left();
+    let number = read_golomb(&mut reader, k, g, qbpp);
+    let length = text.len() as u128;
+    Ok(
+        bytes == expected
+            && number == Some(mapped)
+            && all >= length
+            && reader.left() == all - length,
+    )
+}
+
+#[test]
+fn numbers_have_their_codes(rt: HostRuntime) -> Result<(), Fail> {
+    let alloc = rt.alloc();
+    assert!(rt; is_code(alloc, "00000000100", 32, 2, 32, 8)?);
+    assert!(rt; is_code(alloc, "0000000000000000000000111", 91, 2, 32, 8)?);
+    assert!(rt; is_code(alloc, "00000000000000000000000101011011", 92, 2, 32, 8)?);
+    assert!(rt; is_code(alloc, "00000000000000000000000101011101", 94, 2, 32, 8)?);
+    assert!(rt; is_code(alloc, "00000000000000000000000111111111", 256, 2, 32, 8)?);
+    Ok(())
+}
+
+#[test]
+fn codes_at_the_ends_of_k_g_and_qbpp(rt: HostRuntime) -> Result<(), Fail> {
+    let alloc = rt.alloc();
+    assert!(rt; is_code(alloc, "1", 0, 0, 3, 1)?);
+    assert!(rt; is_code(alloc, "010", 1, 0, 3, 1)?);
+    assert!(rt; is_code(alloc, "011", 2, 0, 3, 1)?);
+    assert!(rt; is_code(alloc, "11111111111111111", 65535, 16, 64, 16)?);
+    assert!(rt; is_code(alloc, "010000000000000000", 65536, 16, 64, 16)?);
+    assert!(rt; is_code(alloc, "011111111111111111", 65536, 16, 18, 16)?);
+    assert!(rt;
+        is_code(
+            alloc,
+            "00000000000000000000000000000000000000000000001",
+            46,
+            0,
+            64,
+            16
+        )?
+    );
+    assert!(rt;
+        is_code(
+            alloc,
+            "0000000000000000000000000000000000000000000000010000000000101110",
+            47,
+            0,
+            64,
+            16
+        )?
+    );
+    assert!(rt;
+        is_code(
+            alloc,
+            "0000000000000000000000000000000000000000000000011111111111111111",
+            65536,
+            0,
+            64,
+            16
+        )?
+    );
+    assert!(rt; is_code(alloc, "010000000000000000", 1, 0, 18, 16)?);
+    Ok(())
+}
+
+/// What a reader finds at the front of exactly these bits, and how many it leaves. Other bits, zeros, fill up the first
+/// byte and are passed before.
+fn read_alone(
+    alloc: Global,
+    text: &[u8],
+    k: u8,
+    g: u8,
+    qbpp: u8,
+) -> Result<(Option<u32>, u128), AllocError>
+    requires k { k ≤ 16 }
+    requires qbpp { (1 ≤ qbpp) × (qbpp ≤ 16) }
+    requires g { (qbpp + 2 ≤ g) × (g ≤ 64) }
+{
+    let filler = (8 - text.len() % 8) % 8;
+    let mut writer = BitWriter::new(alloc);
+    for _ in 0..filler {
+        writer.push_bit(false)?;
+    }
+    for digit in text {
+        writer.push_bit(*digit == b'1')?;
+    }
+    let bytes = writer.finish()?;
+    let mut reader = BitReader::over(&bytes);
+    for _ in 0..filler {
+        let _passed = reader.read_bit();
+    }
+    let number = read_golomb(&mut reader, k, g, qbpp);
+    Ok((number, reader.left()))
+}
+
+#[test]
+fn a_code_that_is_cut_is_none(rt: HostRuntime) -> Result<(), Fail> {
+    let alloc = rt.alloc();
+    let escape = b"00000000000000000000000101011101";
+    for length in 0..32 {
+        let read = read_alone(alloc, &escape[..length], 2, 32, 8)?;
+        assert_eq!(rt; read, (None, length as u128));
+    }
+    assert_eq!(rt; read_alone(alloc, escape, 2, 32, 8)?, (Some(94), 0));
+    let short = b"00000000100";
+    for length in 0..11 {
+        let read = read_alone(alloc, &short[..length], 2, 32, 8)?;
+        assert_eq!(rt; read, (None, length as u128));
+    }
+    assert_eq!(rt; read_alone(alloc, short, 2, 32, 8)?, (Some(32), 0));
+    Ok(())
+}
+
+#[test]
+fn a_reader_stays_where_no_code_stands(rt: HostRuntime) -> Result<(), Fail> {
+    let alloc = rt.alloc();
+    // An escape for 91, which has a short code.
+    let needless = b"00000000000000000000000101011010";
+    assert_eq!(rt; read_alone(alloc, needless, 2, 32, 8)?, (None, 32));
+    // One zero more than announces an escape.
+    let zeros = b"000000000000000000000000101011101";
+    assert_eq!(rt; read_alone(alloc, zeros, 2, 32, 8)?, (None, 33));
+    // All 256 numbers of an escape have a short code at k 4.
+    let no_escape = b"00000000000000000000000111111110";
+    assert_eq!(rt; read_alone(alloc, no_escape, 4, 32, 8)?, (None, 32));
+    // A quotient of 1 at k 16: more than 2^qbpp.
+    assert_eq!(rt;
+        read_alone(alloc, b"010000000000000001", 16, 32, 8)?,
+        (Some(65537), 0)
+    );
+    Ok(())
+}
+
+/// A reader that was pushed these bits up to the first that decides, how many it took, and its last answer.
+fn told(bits: &[u8], k: u8, g: u8, qbpp: u8) -> (GolombReader, usize, GolombStep)
+    requires k { k ≤ 16 }
+    requires qbpp { (1 ≤ qbpp) × (qbpp ≤ 16) }
+    requires g { (qbpp + 2 ≤ g) × (g ≤ 64) }
+    ensures { result.0.qbpp ≡ qbpp }
+{
+    let mut reader = GolombReader::new(k, g, qbpp);
+    for (index, digit) in bits.iter().enumerate() {
+        match reader.push(*digit == b'1') {
+            GolombStep::More => {}
+            step => return (reader, index + 1, step),
+        }
+    }
+    (reader, bits.len(), GolombStep::More)
+}
+
+#[test]
+fn a_reader_answers_at_the_first_bit_that_decides(rt: HostRuntime) {
+    // At k 2 the least escape is 92; at k 4 there is none, since 256 has a short code.
+    let table: [(&[u8], u8, usize, GolombStep); 9] = [
+        (b"0000000010", 2, 10, GolombStep::More),
+        (b"00000000100", 2, 11, GolombStep::Done(32)),
+        (b"00000000000000000000000", 2, 23, GolombStep::More),
+        (b"000000000000000000000000", 2, 24, GolombStep::Refused),
+        (b"0000000000000000000000010", 2, 25, GolombStep::More),
+        (b"00000000000000000000000100", 2, 26, GolombStep::Refused),
+        (b"0000000000000000000000", 4, 22, GolombStep::More),
+        (b"00000000000000000000000", 4, 23, GolombStep::Refused),
+        (b"1", 0, 1, GolombStep::Done(0)),
+    ];
+    for (bits, k, count, step) in table {
+        let k = k.min(16);
+        let (_, taken, answer) = told(bits, k, 32, 8);
+        assert_eq!(rt; (taken, answer), (count, step), "{bits:?}");
+    }
+}
+
+#[test]
+fn a_cut_code_allows_the_numbers_whose_codes_it_begins(rt: HostRuntime) {
+    // The bits so far, and the first and the last number that they allow: 32 to 35 have eight zeros, an escape that
+    // begins 0101 is a number from 81 to 96, of which 92 and more have no short code.
+    let table: [(&[u8], u32, u32); 7] = [
+        (b"", 0, 256),
+        (b"00000000", 32, 256),
+        (b"000000001", 32, 35),
+        (b"0000000010", 32, 33),
+        (b"00000000100", 32, 32),
+        (b"000000000000000000000001", 92, 256),
+        (b"0000000000000000000000010101", 92, 96),
+    ];
+    for (bits, first, last) in table {
+        let (reader, _, _) = told(bits, 2, 32, 8);
+        for number in 0..257 {
+            let allowed = first <= number && number <= last;
+            assert_eq!(rt; reader.allows(number), allowed, "{bits:?} {number}");
+        }
+    }
+    let (refused, _, _) = told(b"000000000000000000000000", 2, 32, 8);
+    assert!(rt; !refused.allows(256));
+}
+
+/// A chunk of up to 50 bits, given as ones and zeros.
+fn chunk_of(bits: &[u8]) -> Chunk
+    ensures { length result ≤ 50 }
+{
+    let mut chunk = Chunk::new();
+    for digit in bits {
+        if chunk.len() < 50 {
+            chunk.append((*digit == b'1') as u8, 1);
+        }
+    }
+    chunk
+}
+
+#[test]
+fn a_chunk_gives_a_code_its_bits(rt: HostRuntime) {
+    let code = b"00000000101";
+    for cut in 0..11 {
+        let mut first = chunk_of(&code[..cut]);
+        let CodeStep::More(state) = CodeState::START.push_chunk(2, 32, 8, &mut first) else {
+            panic!(rt; "a code is whole at {cut}")
+        };
+        assert!(rt; first.is_empty());
+        let mut second = chunk_of(&code[cut..]);
+        second.append(0b101, 3);
+        let CodeStep::Done(number) = state.push_chunk(2, 32, 8, &mut second) else {
+            panic!(rt; "no code is whole behind {cut}")
+        };
+        assert_eq!(rt; (number, second.len()), (33, 3));
+    }
+}

@@ -1,0 +1,311 @@
+//! Pieces of scan data, and the lines that they read as.
+
+ghost use Rattle.std.specs.Prelude.{◌*◌, ◌^◌, ◌≤◌};
+
+use jls_interval::*;
+use jls_values::Params;
+use std::alloc::Global;
+use std::test::Fail;
+
+/// What a decoder answers that is given the piece by slices of this length.
+fn by_slices(
+    alloc: Global,
+    params: &Params,
+    shape: (u16, u8, u32),
+    piece: &[u8],
+    length: usize,
+) -> Result<Vec<Vec<u16>>, PieceFault>
+    requires width { 1 ≤ shape.0 }
+    requires components_at_least { 1 ≤ shape.1 }
+    requires components_at_most { shape.1 ≤ 4 }
+    requires rows { 1 ≤ shape.2 }
+    requires samples { shape.0 * shape.1 * shape.2 ≤ 2 ^ 28 }
+    requires length { 1 ≤ length }
+{
+    let (width, components, rows) = shape;
+    let mut decoder = IntervalDecoder::new(alloc, params, width, components, rows);
+    for slice in piece.chunks(length) {
+        if decoder.push_all(slice).is_err() {
+            return Err(PieceFault::OutOfMemory);
+        }
+    }
+    decoder.finish()
+}
+
+/// What a decoder answers that is given the piece byte by byte.
+fn by_bytes(
+    alloc: Global,
+    params: &Params,
+    shape: (u16, u8, u32),
+    piece: &[u8],
+) -> Result<Vec<Vec<u16>>, PieceFault>
+    requires width { 1 ≤ shape.0 }
+    requires components_at_least { 1 ≤ shape.1 }
+    requires components_at_most { shape.1 ≤ 4 }
+    requires rows { 1 ≤ shape.2 }
+    requires samples { shape.0 * shape.1 * shape.2 ≤ 2 ^ 28 }
+{
+    let (width, components, rows) = shape;
+    let mut decoder = IntervalDecoder::new(alloc, params, width, components, rows);
+    for byte in piece {
+        if decoder.push(*byte).is_err() {
+            return Err(PieceFault::OutOfMemory);
+        }
+    }
+    decoder.finish()
+}
+
+/// What the piece reads as, where it is given whole, byte by byte and by slices of every length. Two answers
+/// that differ are out of memory.
+fn decoded(
+    alloc: Global,
+    params: &Params,
+    shape: (u16, u8, u32),
+    piece: &[u8],
+) -> Result<Vec<Vec<u16>>, PieceFault>
+    requires width { 1 ≤ shape.0 }
+    requires components_at_least { 1 ≤ shape.1 }
+    requires components_at_most { shape.1 ≤ 4 }
+    requires rows { 1 ≤ shape.2 }
+    requires samples { shape.0 * shape.1 * shape.2 ≤ 2 ^ 28 }
+{
+    let (width, components, rows) = shape;
+    let whole = decode_interval(alloc, params, width, components, rows, piece);
+    if by_bytes(alloc, params, shape, piece) != whole {
+        return Err(PieceFault::OutOfMemory);
+    }
+    for length in 1..=piece.len() {
+        if by_slices(alloc, params, shape, piece, length) != whole {
+            return Err(PieceFault::OutOfMemory);
+        }
+    }
+    whole
+}
+
+fn reads_as(
+    alloc: Global,
+    params: &Params,
+    width: u16,
+    components: u8,
+    rows: u32,
+    piece: &[u8],
+    lines: &[&[u16]],
+) -> bool
+    requires width { 1 ≤ width }
+    requires components_at_least { 1 ≤ components }
+    requires components_at_most { components ≤ 4 }
+    requires rows { 1 ≤ rows }
+    requires samples { width * components * rows ≤ 2 ^ 28 }
+{
+    match decoded(alloc, params, (width, components, rows), piece) {
+        Err(_) => false,
+        Ok(read) => {
+            if read.len() != lines.len() {
+                return false;
+            }
+            for (line, wanted) in read.iter().zip(lines.iter()) {
+                if line.as_slice() != *wanted {
+                    return false;
+                }
+            }
+            true
+        }
+    }
+}
+
+/// The fault of a piece of one component.
+fn fault(alloc: Global, params: &Params, width: u16, rows: u32, piece: &[u8]) -> Option<PieceFault>
+    requires width { 1 ≤ width }
+    requires rows { 1 ≤ rows }
+    requires samples { width * 1 * rows ≤ 2 ^ 28 }
+{
+    decoded(alloc, params, (width, 1, rows), piece).err()
+}
+
+/// Samples of 8 bits, and the pieces of intervals that have nothing else.
+pub const SINGLE_SAMPLES: [(u16, u8); 13] = [
+    (0, 0x80),
+    (1, 0x50),
+    (2, 0x70),
+    (3, 0x28),
+    (4, 0x38),
+    (5, 0x14),
+    (6, 0x1C),
+    (7, 0x0A),
+    (8, 0x0E),
+    (9, 0x05),
+    (10, 0x07),
+    (254, 0x60),
+    (255, 0x40),
+];
+
+#[test]
+fn single_samples(rt: HostRuntime) -> Result<(), Fail> {
+    let alloc = rt.alloc();
+    let params = Params::new(8, 0, 0, 0, 0, 0)?;
+    for (sample, byte) in SINGLE_SAMPLES {
+        assert!(rt;
+            reads_as(alloc, &params, 1, 1, 1, &[byte], &[&[sample]]),
+            "{sample}"
+        );
+    }
+    Ok(())
+}
+
+#[test]
+fn other_parameters(rt: HostRuntime) -> Result<(), Fail> {
+    let alloc = rt.alloc();
+    let params = Params::new(2, 0, 0, 0, 0, 0)?;
+    assert!(rt; reads_as(alloc, &params, 1, 1, 1, &[0x40], &[&[3]]));
+    assert!(rt; reads_as(alloc, &params, 1, 1, 1, &[0x60], &[&[1]]));
+    assert!(rt; reads_as(alloc, &params, 1, 1, 1, &[0x20], &[&[2]]));
+    let params = Params::new(16, 0, 0, 0, 0, 0)?;
+    assert!(rt; reads_as(alloc, &params, 1, 1, 1, &[0x40, 0x00], &[&[65535]]));
+    // A MAXVAL of 15.
+    let params = Params::new(8, 15, 0, 0, 0, 0)?;
+    assert!(rt; reads_as(alloc, &params, 1, 1, 1, &[0x40], &[&[15]]));
+    Ok(())
+}
+
+#[test]
+fn runs(rt: HostRuntime) -> Result<(), Fail> {
+    let alloc = rt.alloc();
+    let params = Params::new(8, 0, 0, 0, 0, 0)?;
+    assert!(rt; reads_as(alloc, &params, 12, 1, 1, &[0xFF, 0x00], &[&[0; 12]]));
+    assert!(rt; reads_as(alloc, &params, 13, 1, 1, &[0xFF, 0x40], &[&[0; 13]]));
+    assert!(rt; reads_as(alloc, &params, 16, 1, 1, &[0xFF, 0x40], &[&[0; 16]]));
+    assert!(rt; reads_as(alloc, &params, 5, 1, 1, &[0xF8], &[&[0; 5]]));
+    let piece = [0xF0, 0x00, 0x00, 0x1B, 0x20];
+    assert!(rt; reads_as(alloc, &params, 5, 1, 1, &piece, &[&[0, 0, 0, 0, 90]]));
+    assert!(rt; reads_as(alloc, &params, 1, 1, 2, &[0xC0], &[&[0], &[0]]));
+    Ok(())
+}
+
+#[test]
+fn several_lines(rt: HostRuntime) -> Result<(), Fail> {
+    let alloc = rt.alloc();
+    let params = Params::new(8, 0, 0, 0, 0, 0)?;
+    let piece = [
+        0xC0, 0x00, 0x00, 0x6C, 0x80, 0x20, 0x8E, 0x01, 0xC0, 0x00, 0x00, 0x57, 0x40, 0x00, 0x00,
+        0x6E, 0xE6, 0x00, 0x00, 0x01, 0xBC, 0x18, 0x00, 0x00, 0x05, 0xD8, 0x00, 0x00, 0x91, 0x60,
+    ];
+    let lines: [&[u16]; 4] = [
+        &[0, 0, 90, 74],
+        &[68, 50, 43, 205],
+        &[64, 145, 145, 145],
+        &[100, 145, 145, 145],
+    ];
+    assert!(rt; reads_as(alloc, &params, 4, 1, 4, &piece, &lines));
+    assert!(rt;
+        reads_as(
+            alloc,
+            &params,
+            3,
+            1,
+            2,
+            &[0xC5, 0xD0],
+            &[&[0, 0, 5], &[0, 0, 5]]
+        )
+    );
+    assert!(rt;
+        reads_as(
+            alloc,
+            &params,
+            3,
+            1,
+            2,
+            &[0xC5, 0xE0],
+            &[&[0, 0, 5], &[0, 0, 0]]
+        )
+    );
+    Ok(())
+}
+
+#[test]
+fn an_escape(rt: HostRuntime) -> Result<(), Fail> {
+    let alloc = rt.alloc();
+    let params = Params::new(8, 0, 0, 0, 0, 0)?;
+    assert!(rt; reads_as(alloc, &params, 1, 1, 2, &[0x50, 0x00, 0x0C], &[&[1], &[34]]));
+    let broken = Some(PieceFault::Broken);
+    // Cut in front of the escape and inside it; escapes of a number with a short code, and with too many zeros.
+    assert_eq!(rt; fault(alloc, &params, 1, 2, &[0x50]), broken);
+    assert_eq!(rt; fault(alloc, &params, 1, 2, &[0x50, 0x00]), broken);
+    assert_eq!(rt;
+        fault(alloc, &params, 1, 2, &[0x50, 0x00, 0x00, 0x15]),
+        broken
+    );
+    assert_eq!(rt;
+        fault(alloc, &params, 1, 2, &[0x50, 0x00, 0x00, 0x10]),
+        broken
+    );
+    assert_eq!(rt;
+        fault(alloc, &params, 1, 2, &[0x50, 0x00, 0x00, 0x00, 0x00]),
+        broken
+    );
+    Ok(())
+}
+
+#[test]
+fn several_components(rt: HostRuntime) -> Result<(), Fail> {
+    let alloc = rt.alloc();
+    let params = Params::new(8, 0, 0, 0, 0, 0)?;
+    assert!(rt; reads_as(alloc, &params, 1, 2, 1, &[0x07, 0x16], &[&[10], &[10]]));
+    let zeros: &[u16] = &[0; 4];
+    assert!(rt;
+        reads_as(
+            alloc,
+            &params,
+            4,
+            3,
+            1,
+            &[0xFF, 0x78],
+            &[zeros, zeros, zeros]
+        )
+    );
+    Ok(())
+}
+
+#[test]
+fn broken_pieces(rt: HostRuntime) -> Result<(), Fail> {
+    let alloc = rt.alloc();
+    let params = Params::new(8, 0, 0, 0, 0, 0)?;
+    let broken = Some(PieceFault::Broken);
+    assert_eq!(rt; fault(alloc, &params, 1, 1, &[]), broken);
+    // An escape for 1, which has a short code, and one for 256, to which no error is mapped.
+    assert_eq!(rt;
+        fault(alloc, &params, 1, 1, &[0x00, 0x00, 0x01, 0x00]),
+        broken
+    );
+    assert_eq!(rt;
+        fault(alloc, &params, 1, 1, &[0x00, 0x00, 0x01, 0xFF, 0x00]),
+        broken
+    );
+    // A zero, and a count that reaches the end of the line.
+    assert_eq!(rt; fault(alloc, &params, 5, 1, &[0xF4]), broken);
+    // A run that is interrupted by its own value.
+    assert_eq!(rt; fault(alloc, &params, 3, 2, &[0xC5, 0xC5]), broken);
+    // A marker behind the last line, and behind more bits than may follow it.
+    assert_eq!(rt; fault(alloc, &params, 1, 1, &[0x70, 0xFF, 0xA3]), broken);
+    assert_eq!(rt;
+        fault(alloc, &params, 1, 1, &[0x80, 0x00, 0xFF, 0x90]),
+        broken
+    );
+    Ok(())
+}
+
+#[test]
+fn long_pieces(rt: HostRuntime) -> Result<(), Fail> {
+    let alloc = rt.alloc();
+    let params = Params::new(8, 0, 0, 0, 0, 0)?;
+    let long = Some(PieceFault::Long);
+    assert!(rt; reads_as(alloc, &params, 1, 1, 1, &[0xC0], &[&[0]]));
+    assert_eq!(rt; fault(alloc, &params, 1, 1, &[0x80, 0x00]), long);
+    // Eight bits, behind a code of eight.
+    assert_eq!(rt; fault(alloc, &params, 1, 1, &[0x05, 0x00]), long);
+    assert_eq!(rt;
+        fault(alloc, &params, 1, 1, &[0x80, 0x00, 0xFF, 0x00]),
+        long
+    );
+    assert_eq!(rt; fault(alloc, &params, 1, 1, &[0x28, 0x38]), long);
+    Ok(())
+}

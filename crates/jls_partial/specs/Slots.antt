@@ -1,0 +1,11 @@
+-- Slots of the index: how the checker's logic stores one.
+use Rattle.std.specs.Coded.{Coded, code_by, coded×, coded_ℕ}
+use Rattle.std.specs.Ordering.{nat_cmp}
+use Rattle.std.specs.Prelude.{ℕ, refl}
+use Rattle.jls_values.specs.OrderedSet as set
+use Rattle.jls_partial.specs.declared.index.Slot.{Slot}
+
+abbrev pub coded_slot : Coded Slot
+coded_slot = code_by (ℕ × set.OrderedSet nat_cmp)
+    (coded× coded_ℕ (set.code coded_ℕ))
+    (λ s. (s.start, s.sources)) (λ p. record { start = p.0; sources = p.1 }) (λ _. refl)
