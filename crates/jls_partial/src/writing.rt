@@ -141,20 +141,20 @@ impl Partial {
     pub fn to_bytes(&self, alloc: Global) -> Result<Vec<u8>, AllocError>
         ensures { IfOk result (λ bytes. bytes.items ≡ text self.now) }
     {
-        let mut out = Vec::new(alloc);
-        self.write_text(&mut out)?;
-        Ok(out)
+        self.to_bytes_in(Vec::new(alloc))
     }
 
-    /// Writes the same text behind what `out` holds, and makes room for the whole text at once. After want of memory `out` may hold a
-    /// part of it.
-    pub fn write_text(&self, out: &mut Vec<u8>) -> Result<(), AllocError>
-        ensures { OnOk result (out.new.items ≡ out.old.items ++ text self.now) }
+    /// The same text in the room of a vector that is given up for it. Where the room is too small, it is made larger for the whole
+    /// text at once.
+    pub fn to_bytes_in(&self, room: Vec<u8>) -> Result<Vec<u8>, AllocError>
+        ensures { IfOk result (λ bytes. bytes.items ≡ text self.now) }
     {
-        put_head(out, self.shape())?;
+        let mut out = room;
+        out.clear();
+        put_head(&mut out, self.shape())?;
         out.extend_from_slice(&self.entry_count().to_be_bytes())?;
         out.reserve(entries_size(self))?;
-        put_entries(out, self)?;
-        Ok(())
+        put_entries(&mut out, self)?;
+        Ok(out)
     }
 }

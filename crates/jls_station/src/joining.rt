@@ -29,14 +29,13 @@ pub fn join<'a, D: Desk>(
         Err(refusal) => return Outcome::Refused(refusal),
     };
     let joined = station.partial();
-    text.clear();
-    match joined.write_text(&mut text) {
-        Ok(()) => {}
+    let text = match joined.to_bytes_in(text) {
+        Ok(text) => text,
         Err(_) => {
             let cause = Cause::OutOfMemory;
             return Outcome::Refused(Refusal { name: out, cause });
         }
-    }
+    };
     match write_output(desk, out, &text) {
         Ok(()) => {
             let settled = joined.is_settled();

@@ -1,7 +1,6 @@
-use Rattle.std.proofs.Common.{◌∙◌, ◌++◌, ℕ, List, ap, refl, sym, subst}
+use Rattle.std.proofs.Common.{◌∙◌, refl, sym, subst}
 use Rattle.jls_device.specs.Event.{GrewBy}
 use Rattle.jls_partial.specs.Partial.{PartialPicture}
-use Rattle.jls_partial.specs.Text.{text}
 use Rattle.jls_station.specs.Inputs.{names_of, TakesUnion}
 use Rattle.jls_station.proofs.JoinSteps.{ends_at_input, ends_for_memory, is_done, ends_at_output}
 use Rattle.jls_station.proofs.joining.join.Goals as goal
@@ -11,8 +10,8 @@ returns-in-Err g c =
     let history = g.D.Device.history in
     ends_at_input c.args.inputs.source c.args.out.now _ (history c.args.desk.now) (history c.take_inputs.new.desk) (history c.take_inputs.new.desk) c.in-Err.refusal c.in-Err.ensures.stopped
 
-pub returns-in-Err-write_text : goal.returns-in-Err-write_text
-returns-in-Err-write_text g c =
+pub returns-in-Err-to_bytes_in : goal.returns-in-Err-to_bytes_in
+returns-in-Err-to_bytes_in g c =
     let history = g.D.Device.history in
     ends_for_memory c.args.inputs.source c.args.out.now _ (history c.args.desk.now) (history c.take_inputs.new.desk) (history c.take_inputs.new.desk) c.in-Ok.taken.station c.in-Ok.taken.whole c.in-Ok.ensures.taken _ refl refl
 
@@ -23,7 +22,7 @@ returns-in-Ok-write_output g c =
     let names = names_of c.args.inputs in
     let taken = subst (λ (p : PartialPicture). GrewBy (TakesUnion source names p c.in-Ok.taken.whole) (history c.args.desk.now) (history c.take_inputs.new.desk)) (sym c.partial-joined.ensures) c.in-Ok.ensures.taken in
     is_done source c.args.out.now names (history c.args.desk.now) (history c.take_inputs.new.desk) (history c.write_output.new.desk) c.partial-joined.result.now c.in-Ok.taken.whole taken
-    c.is_settled-settled.result c.deref.result.now (c.deref.ensures.value ∙ c.in-Ok-write_text.ensures ∙ ap (λ (t : List ℕ). t ++ text c.partial-joined.result.now) c.clear.ensures.items) c.is_settled-settled.ensures c.in-Ok-write_output.ensures.written
+    c.is_settled-settled.result c.deref.result.now (c.deref.ensures.value ∙ c.in-Ok-to_bytes_in.ensures) c.is_settled-settled.ensures c.in-Ok-write_output.ensures.written
 
 pub returns : goal.returns
 returns g c =
@@ -32,4 +31,4 @@ returns g c =
     let names = names_of c.args.inputs in
     let taken = subst (λ (p : PartialPicture). GrewBy (TakesUnion source names p c.in-Ok.taken.whole) (history c.args.desk.now) (history c.take_inputs.new.desk)) (sym c.partial-joined.ensures) c.in-Ok.ensures.taken in
     ends_at_output source c.args.out.now names (history c.args.desk.now) (history c.take_inputs.new.desk) (history c.write_output.new.desk) c.partial-joined.result.now c.in-Ok.taken.whole taken
-    _ c.deref.result.now refl (c.deref.ensures.value ∙ c.in-Ok-write_text.ensures ∙ ap (λ (t : List ℕ). t ++ text c.partial-joined.result.now) c.clear.ensures.items) c.in-Err-write_output.ensures.stopped
+    _ c.deref.result.now refl (c.deref.ensures.value ∙ c.in-Ok-to_bytes_in.ensures) c.in-Err-write_output.ensures.stopped
