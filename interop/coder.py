@@ -262,12 +262,12 @@ def built(name=NAME, text=PROGRAM, crates=CRATES, libraries="jls_values jls_inte
 
 
 def key(text, crates):
-    """A hash of all that a program is made of: its text, and the crates' sources without their tests."""
+    """A hash of all that a program is made of: its text, and the crates' sources."""
     made = hashlib.sha256(text.encode())
     parts = [f"{crate}/{source}/**" for crate in crates for source in SOURCES]
     for name in sorted(name for part in parts for name in glob.glob(part, root_dir=CRATES_FOLDER, recursive=True)):
         path = os.path.join(CRATES_FOLDER, name)
-        if os.path.isfile(path) and "/tests" not in name:
+        if os.path.isfile(path):
             with open(path, "rb") as file:
                 made.update(name.encode() + b"\0" + hashlib.sha256(file.read()).digest())
     return made.hexdigest()[:16]

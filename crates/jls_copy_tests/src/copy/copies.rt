@@ -1,6 +1,6 @@
 //! Whole copies, read in slices of several sizes.
 
-use super::known::{COPIES, INTERVALS};
+use super::known::{COPIES, FOUR_LINES, INTERVALS, LARGE_PICTURE, TEN_LINES};
 use jls_copy::{CopyFault, CopyRead, CopyReader, End, PieceKind, PieceRecord};
 use std::alloc::Global;
 use std::fmt::Write;
@@ -137,7 +137,7 @@ fn intervals_as_copies(rt: HostRuntime) -> Result<(), Fail> {
 fn copies_cut_anywhere(rt: HostRuntime) -> Result<(), Fail> {
     let alloc = rt.alloc();
     for end in 0..=61usize {
-        let mut bytes = bytes_of(alloc, COPIES[3].0)?;
+        let mut bytes = bytes_of(alloc, TEN_LINES)?;
         bytes.truncate(end);
         let wanted = match end {
             0..=14 => format!(in alloc; "NoPicture(Ended, {end})")?,
@@ -173,7 +173,7 @@ fn lines_and_end(alloc: Global, end: usize) -> Result<String, Fail> {
 /// A picture of 4,096 lines whose input ends behind eight times FF 7F: 45 lines stand whole.
 #[test]
 fn a_large_picture_is_cut(rt: HostRuntime) -> Result<(), Fail> {
-    let mut bytes = bytes_of(rt.alloc(), COPIES[36].0)?;
+    let mut bytes = bytes_of(rt.alloc(), LARGE_PICTURE)?;
     bytes.truncate(41);
     let read = read_in_pieces(rt.alloc(), &bytes, 4096)?;
     assert_eq!(rt; read.piece_count(), 1);
@@ -269,7 +269,7 @@ fn cut_copies(rt: HostRuntime) -> Result<(), Fail> {
     let alloc = rt.alloc();
     for left in 0..=31usize {
         let end = 25 + left;
-        let mut bytes = bytes_of(alloc, COPIES[0].0)?;
+        let mut bytes = bytes_of(alloc, FOUR_LINES)?;
         bytes.truncate(end);
         let lines = match left {
             0..6 => "",

@@ -1,12 +1,26 @@
 //! Copies, and what each gives: worked out by hand from the formats or by another reader, not by this crate.
 
+/// A copy of a picture of four lines.
+pub(crate) const FOUR_LINES: &str =
+    "FF D8 FF F7 00 0B 08 00 04 00 04 01 01 11 00 FF DA 00 08 01 01 00 00 00 00 C0 00 00 6C 80 20 8E 01 C0 00 00 \
+     57 40 00 00 6E E6 00 00 01 BC 18 00 00 05 D8 00 00 91 60 FF D9";
+
+/// A copy of ten lines, each an interval of its own.
+pub(crate) const TEN_LINES: &str =
+    "FF D8 FF F7 00 0B 08 00 0A 00 01 01 01 11 00 FF DD 00 04 00 01 FF DA 00 08 01 01 00 00 00 00 80 FF D0 50 FF \
+     D1 70 FF D2 28 FF D3 38 FF D4 14 FF D5 1C FF D6 0A FF D7 0E FF D0 05 FF D9";
+
+/// A copy of a large picture of which there are eight bytes FF 7F.
+pub(crate) const LARGE_PICTURE: &str =
+    "FF D8 FF F7 00 0B 08 10 00 FF FF 01 01 11 00 FF DA 00 08 01 01 00 00 00 00 FF 7F FF 7F FF 7F FF 7F FF 7F FF \
+     7F FF 7F FF 7F FF D9";
+
 /// The bytes of a copy, and what it gives: its readings as component, line and samples, then each faulty piece as scan, interval,
 /// offset and kind, their number and the copy's end; or the fault for which it has no picture.
 pub(crate) const COPIES: [(&str, &str); 42] = [
     // A picture of four lines.
     (
-        "FF D8 FF F7 00 0B 08 00 04 00 04 01 01 11 00 FF DA 00 08 01 01 00 00 00 00 C0 00 00 6C 80 20 8E 01 C0 00 00 \
-         57 40 00 00 6E E6 00 00 01 BC 18 00 00 05 D8 00 00 91 60 FF D9",
+        FOUR_LINES,
         "0.0=[0, 0, 90, 74] 0.1=[68, 50, 43, 205] 0.2=[64, 145, 145, 145] 0.3=[100, 145, 145, 145] | 0 Eoi(55)",
     ),
     // The same with ILV 1 for its one component.
@@ -23,8 +37,7 @@ pub(crate) const COPIES: [(&str, &str); 42] = [
     ),
     // Ten lines, each an interval of its own.
     (
-        "FF D8 FF F7 00 0B 08 00 0A 00 01 01 01 11 00 FF DD 00 04 00 01 FF DA 00 08 01 01 00 00 00 00 80 FF D0 50 FF \
-         D1 70 FF D2 28 FF D3 38 FF D4 14 FF D5 1C FF D6 0A FF D7 0E FF D0 05 FF D9",
+        TEN_LINES,
         "0.0=[0] 0.1=[1] 0.2=[2] 0.3=[3] 0.4=[4] 0.5=[5] 0.6=[6] 0.7=[7] 0.8=[8] 0.9=[9] | 0 Eoi(59)",
     ),
     // Seven markers lost.
@@ -196,11 +209,7 @@ pub(crate) const COPIES: [(&str, &str); 42] = [
         "| 0 0 31 Broken; 1 Input(31)",
     ),
     // A large picture of which there are eight bytes FF 7F.
-    (
-        "FF D8 FF F7 00 0B 08 10 00 FF FF 01 01 11 00 FF DA 00 08 01 01 00 00 00 00 FF 7F FF 7F FF 7F FF 7F FF 7F FF \
-         7F FF 7F FF 7F FF D9",
-        "| 0 0 25 Broken; 1 Eoi(41)",
-    ),
+    (LARGE_PICTURE, "| 0 0 25 Broken; 1 Eoi(41)"),
     // Two components by line, cut behind the first line of the second row.
     (
         "FF D8 FF F7 00 0E 08 00 02 00 01 02 01 11 00 02 11 00 FF DA 00 0A 02 01 00 02 00 00 01 00 07 07 80 10",

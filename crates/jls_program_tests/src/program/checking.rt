@@ -9,12 +9,16 @@ use std::fmt::Write;
 use std::process::Abort;
 use std::test::Fail;
 
+/// A copy of four lines of four samples.
+const FOUR_LINES: &str =
+    "FF D8 FF F7 00 0B 08 00 04 00 04 01 01 11 00 FF DA 00 08 01 01 00 00 00 00 C0 00 00 6C 80 20 8E 01 C0 00 00 57 \
+     40 00 00 6E E6 00 00 01 BC 18 00 00 05 D8 00 00 91 60 FF D9";
+
 /// A copy, the status, and the report, whose lines are parted by ` / `.
 const COPIES: [(&str, u8, &str); 20] = [
-    // Four lines of four samples; with another interleave mode; and with a segment that is passed over.
+    // Four lines; with another interleave mode; and with a segment that is passed over.
     (
-        "FF D8 FF F7 00 0B 08 00 04 00 04 01 01 11 00 FF DA 00 08 01 01 00 00 00 00 C0 00 00 6C 80 20 8E 01 C0 00 00 57 \
-         40 00 00 6E E6 00 00 01 BC 18 00 00 05 D8 00 00 91 60 FF D9",
+        FOUR_LINES,
         0,
         "end eoi 55 / picture 4x4, 8 bits, components 1 / settled 4, missing 0, disputed 0",
     ),
@@ -229,7 +233,7 @@ fn report_of_head(alloc: Global, count: usize) -> Result<String, Fail> {
 #[test]
 fn checks_the_front_of_an_interval(rt: HostRuntime) -> Result<(), Fail> {
     let alloc = rt.alloc();
-    let copy = bytes_of(alloc, COPIES[0].0)?;
+    let copy = bytes_of(alloc, FOUR_LINES)?;
     for count in 0..32usize {
         let report = report_of_head(alloc, count)?;
         let status = if lines_in_head(count) == 4 { 0 } else { 1 };
