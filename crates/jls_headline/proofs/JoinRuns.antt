@@ -31,7 +31,7 @@ use Rattle.jls_headline.proofs.SameCopies.{same_copy_has_shape}
 use Rattle.jls_headline.proofs.Stations.{copy_holds, union_holds, same_readings}
 use Rattle.jls_headline.proofs.SourcedStations.{marked_shape, marked_readings, copy_holds_under, union_holds_under, same_under}
 use Rattle.jls_headline.proofs.StationPictures.{say_the_same, damaged_copies_give_the_picture}
-use Rattle.jls_headline.proofs.InputBytes.{AreGiven, inputs_of_join, output_of_join}
+use Rattle.jls_station.proofs.InputBytes.{AreGiven, inputs_of_join, output_of_join}
 
 -- One input ------------------------------------------------------------------------------------------------------
 

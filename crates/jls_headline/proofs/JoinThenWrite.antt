@@ -36,7 +36,7 @@ use Rattle.jls_headline.specs.ReadsAs.{GivesPicture, FilesReadAs, ReadsAsOnly}
 use Rattle.jls_headline.specs.RunLaws.{AreNoTexts}
 use Rattle.jls_headline.specs.JoinThenWrite.{JoinsDamagedCopies, WrittenJoinsAreThePicture, WrittenJoinsReadAsThePicture, WrittenJoinsAreSettled}
 use Rattle.jls_headline.proofs.Members.{all_map}
-use Rattle.jls_headline.proofs.InputBytes.{ReadsNone, one_input, handed_out, output_of_join}
+use Rattle.jls_station.proofs.InputBytes.{ReadsNone, one_input, handed_out, output_of_join}
 use Rattle.jls_headline.proofs.JoinRuns.{framed_is_no_text, marks_of_run, runs_hold_exactly, runs_give_the_picture}
 use Rattle.jls_headline.proofs.JoinedTexts.{held_are_lines, its_text, text_given}
 

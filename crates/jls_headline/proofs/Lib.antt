@@ -14,7 +14,6 @@ mod SourcedStations
 mod Pictures
 mod WrittenFiles
 mod StationPictures
-mod InputBytes
 mod JoinRuns
 mod JoinedTexts
 mod JoinThenWrite

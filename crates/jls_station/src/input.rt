@@ -152,7 +152,7 @@ fn copy_fault(fault: CopyFault, stop: ReadStop, count: u64) -> InputFault
 }
 
 /// Reads a text, whose first read gave these bytes, into the room of `text`.
-// `before` is what the device had done, or what it had left to give, before the first read.
+/// In the clauses `before` is what the device had done, or what it had left to give, before the first read.
 fn read_text<S: Source>(
     alloc: Global,
     device: &mut S,

@@ -26,7 +26,7 @@ pub(crate) fn front(buffer: &[u8], count: usize) -> &[u8]
 }
 
 /// Reads a text on, whose first read gave these bytes, to its end or as far as the source goes, and adds what the reads give.
-// `before` is what the device had done, or what it had left to give, before the first read.
+/// In the clauses `before` is what the device had done, or what it had left to give, before the first read.
 pub(crate) fn read_text_on<S: Source>(
     device: &mut S,
     bytes: &mut Vec<u8>,

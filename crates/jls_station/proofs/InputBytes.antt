@@ -15,12 +15,15 @@ use Rattle.jls_station.specs.Joining.{JoinIsDone}
 use Rattle.jls_station.specs.Laws.{before_next, input_bytes, output_bytes}
 use Rattle.jls_station.specs.declared.input.ReadStop.{ReadStop}
 use Rattle.jls_station.specs.declared.input.ReadStop.TheVariants.{Whole, Failed, Turns}
-use Rattle.jls_headline.proofs.Members.{all_append}
 
 -- Events that open no input and create no output -----------------------------------------------------------------
 
 abbrev AreReads : List Event → Type 0
 AreReads events = AllByRecursion (λ e. is_read e ≡ true) events
+
+reads_both : (a b : List Event) → AreReads a → AreReads b → AreReads (a ++ b)
+reads_both [] b h k = k
+reads_both (e ∷ a) b h k = (h.0, reads_both a b h.1 k)
 
 past_one : (e : Event) (more : List Event) → is_read e ≡ true
     → (is_opening e ≡ false) × (input_bytes (e ∷ more) ≡ input_bytes more) × (output_bytes (e ∷ more) ≡ output_bytes more)
@@ -82,7 +85,7 @@ pub all_reads : (Enough : List ℕ → Type 0) (bytes : List ℕ) (reads : List 
     → AreReads reads × (bytes_given reads ≡ bytes)
 all_reads Enough bytes reads stop h =
     let l = last_read Enough bytes h.last stop h.stops in (
-      subst AreReads (sym h.reads_are) (all_append (λ e. is_read e ≡ true) h.on h.last (reads_on Enough [] h.on h.goes_on) l.0),
+      subst AreReads (sym h.reads_are) (reads_both h.on h.last (reads_on Enough [] h.on h.goes_on) l.0),
       ap bytes_given h.reads_are ∙ flat_map-append bytes_given_by h.on h.last
           ∙ ap (λ (x : List ℕ). bytes_given h.on ++ x) l.1 ∙ append-nil (bytes_given h.on) ∙ sym h.bytes_are,
     )
@@ -164,7 +167,7 @@ handed_out out bytes writing h =
 -- Runs of `join` -------------------------------------------------------------------------------------------------
 
 -- the inputs of a join that is done gave what was read of them, and its one output was handed the text of their union
-bytes_of_join : (source : Option ℕ) (out : List ℕ) (names : List (List ℕ)) (joined : PartialPicture) (settled whole : Bool)
+pub bytes_of_join : (source : Option ℕ) (out : List ℕ) (names : List (List ℕ)) (joined : PartialPicture) (settled whole : Bool)
     (events : List Event) (h : JoinIsDone source out names joined settled whole events)
     → AreGiven source (input_bytes events) (partials h.taken.givens) × (output_bytes events ≡ text joined ∷ [])
 bytes_of_join source out names joined settled whole events h =
