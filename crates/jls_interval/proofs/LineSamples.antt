@@ -43,10 +43,6 @@ behind_sample w up line near value rd x x_is is room rd_at =
 
 -- One sample more -----------------------------------------------------------------------------------
 
-pub taken_none : (k : ℕ) (up : Above) (old : LineReader) (chunk : List Bool) → TakesInLine k up old old chunk chunk
-taken_none k up old chunk = λ c n given lines k_is up_is h.
-    record { taken = []; chunk_is = refl; works = subst (λ z. Works old.coder.cells.parameters c n z lines old) (sym (append-nil given)) h }
-
 module _ (p : CodingParameters) (near : Neighbours) (value : ℕ) (now next : LineReader) (chunk unread : List Bool) (s : SampleTaken p near value now.coder next.coder chunk unread)
     (fresh : now.hand ≡ Fresh) (fresh' : next.hand ≡ Fresh) (wide : next.width ≡ now.width) (grown : next.line.items ≡ now.line.items ++ value ∷ []) (params : now.coder.cells.parameters ≡ p) where
   sample_more : (c n : ℕ) (given : List Bool) (lines : List (List ℕ)) → near ≡ now_at now.width (above c lines) now.line.items

@@ -53,7 +53,8 @@ fn take_sample(
     requires first { first ≡ quantized_gradient coder.old.cells.parameters (pos neighbours.rd -ℤ pos neighbours.rb) }
     requires second { second ≡ quantized_gradient coder.old.cells.parameters (pos neighbours.rb -ℤ pos neighbours.rc) }
     requires steps { IsStep first × IsStep second }
-    ensures some { IfSome result (λ value. SampleTaken coder.old.cells.parameters neighbours value coder.old coder.new chunk.old chunk.new) }
+    ensures some { IfSome result
+        (λ value. SampleTaken coder.old.cells.parameters neighbours value coder.old coder.new chunk.old chunk.new) }
     ensures none { IfNone result ((coder.new ≡ coder.old) × (chunk.new ≡ chunk.old)) }
     ensures parameters { coder.new.cells.parameters ≡ coder.old.cells.parameters }
 {
