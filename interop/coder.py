@@ -288,6 +288,8 @@ def build(folder, name, text, crates, libraries):
     with open(os.path.join(crate, "src", "main.rt"), "w") as file:
         file.write(text)
     done = subprocess.run(["rt", "run"], cwd=crate, stdin=subprocess.DEVNULL, stdout=subprocess.PIPE, stderr=subprocess.STDOUT)
-    if done.returncode != 0:
+    # The program itself is run too, and may refuse to have no input.
+    program = os.path.join(crate, "out", name)
+    if not os.path.isfile(program):
         sys.exit(f"{done.stdout.decode()}the program {name} could not be built")
-    return os.path.join(crate, "out", name)
+    return program
