@@ -1,12 +1,12 @@
 -- Bits that wait for whole bytes, up to 64 of them: the next byte is taken from their front.
-use Rattle.std.proofs.Common.{◌≡◌, ℕ, ◌+◌, ◌-◌, ◌*◌, ◌/◌, ◌%◌, ◌^◌, ◌<◌, ◌≤◌, Bool, false, List, [], ◌∷◌, ◌++◌, replicate, sym, ap, ◌∙◌, subst, arith, append_assoc}
+use Rattle.std.proofs.Common.{◌≡◌, ℕ, ◌+◌, ◌-◌, ◌*◌, ◌/◌, ◌%◌, ◌^◌, ◌<◌, ◌≤◌, Bool, false, List, [], ◌∷◌, ◌++◌, replicate, refl, sym, ap, ◌∙◌, subst, arith, append_assoc}
 use mir.Val.{bool_byte}
-use Rattle.std.proofs.lemmas.List.{replicate-append-replicate}
+use Rattle.std.proofs.lemmas.List.{append-nil, replicate-append-replicate}
 use Rattle.std.proofs.lemmas.Nat.{pow_pos, mod_below, shr_below}
 use Rattle.jls_bits.specs.Bits.{bits, width_after, bits_read}
 use Rattle.jls_bits.specs.Appending.{last_after, AreFilled}
 use Rattle.jls_bits.proofs.NumberBits.{bits_split, bits_none, bits_push_bool}
-use Rattle.jls_bits.proofs.Appending.{filled_more}
+use Rattle.jls_bits.proofs.Appending.{filled_more, last_append}
 use Rattle.jls_bits.proofs.Padding.{zero_bits}
 use Rattle.jls_bits.proofs.ChunkBits.{joined_bits, joined_small, low_bits, shifted, one_of_64}
 

@@ -1,4 +1,4 @@
-use Rattle.std.proofs.Common.{◌≡◌, ◌-◌, ◌*◌, ◌/◌, ◌%◌, ◌^◌, ◌<◌, ◌≤◌, ◌++◌, ap, sym, subst, refl, ◌∙◌, arith, append_assoc}
+use Rattle.std.proofs.Common.{◌≡◌, ◌+◌, ◌-◌, ◌*◌, ◌/◌, ◌%◌, ◌^◌, ◌<◌, ◌≤◌, ◌++◌, ap, sym, subst, refl, ◌∙◌, arith, append_assoc}
 use Rattle.std.proofs.Math.Pow.{pow_mono}
 use Rattle.jls_bits.specs.Bits.{bits, bits_read}
 use Rattle.jls_bits.specs.Appending.{last_after, AreFilled}
