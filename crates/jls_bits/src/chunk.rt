@@ -95,7 +95,6 @@ impl Chunk {
     /// So many zeros, a one, and the low `count` bits of a number.
     pub(crate) fn zeros_and_one(zeros: u8, count: u8, value: u32) -> Chunk
         requires room { zeros + count < 64 }
-        requires count { count ≤ 16 }
         requires value { value < 2 ^ count }
         ensures { result ≡ replicate zeros false ++ true ∷ bits count value }
     {

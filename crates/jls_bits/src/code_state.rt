@@ -63,7 +63,7 @@ impl CodeState {
         requires k { k ≤ 16 }
         requires qbpp { (1 ≤ qbpp) × (qbpp ≤ 16) }
         requires g { (qbpp + 2 ≤ g) × (g ≤ 64) }
-        ensures open { IfSome result (λ s. IsOpen k g qbpp s) }
+        ensures opened { IfSome result (λ s. IsOpen k g qbpp s) }
         ensures told { IfSome result (λ s. bits_told g qbpp s ≡ chunk.now) }
         ensures none { IfNone result ((s : CodeState) → IsOfShort g qbpp s → IsOpen k g qbpp s → bits_told g qbpp s ≡ chunk.now → ⊥) }
     {
@@ -95,7 +95,7 @@ impl CodeState {
     pub fn told(self, g: u8, qbpp: u8) -> Option<Chunk>
         requires qbpp { (1 ≤ qbpp) × (qbpp ≤ 16) }
         requires g { (qbpp + 2 ≤ g) × (g ≤ 64) }
-        requires open { (k : ℕ) × (k ≤ 16) × IsOpen k g qbpp self }
+        requires open { (k : ℕ) × IsOpen k g qbpp self }
         ensures some { IfSome result (λ c. c ≡ bits_told g qbpp self) }
         ensures few { IfSome result (λ c. length c ≤ 56) }
         ensures none { IfNone result (56 < length (bits_told g qbpp self)) }
@@ -167,15 +167,13 @@ impl CodeState {
 
 /// So many zeros, a one, and the first bits of a number. None where they are more than 56.
 fn told_one(zeros: u8, number: FirstBits) -> Option<Chunk>
-    requires zeros { zeros ≤ 64 }
-    requires count { number.count ≤ 16 }
-    requires value { number.value < 2 ^ number.count }
+    requires { number.value < 2 ^ number.count }
     ensures some { IfSome result (λ c. c ≡ replicate zeros false ++ true ∷ bits number.count number.value) }
     ensures few { IfSome result (λ c. length c ≤ 56) }
     ensures none { IfNone result (56 < length (replicate zeros false ++ true ∷ bits number.count number.value)) }
 {
     let FirstBits { count, value } = number;
-    if zeros + count < 56 {
+    if zeros.saturating_add(count) < 56 {
         Some(Chunk::zeros_and_one(zeros, count, value))
     } else {
         None
