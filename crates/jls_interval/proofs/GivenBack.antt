@@ -1,5 +1,5 @@
 -- Bits of an event that isn't whole, given back to be taken once more.
-use Rattle.std.proofs.Common.{◌≡◌, ℕ, ◌+◌, ◌%◌, ◌^◌, ◌<◌, ◌≤◌, Bool, List, [], ◌∷◌, ◌++◌, length, get_or, map, refl, sym, ap, ◌∙◌, subst, Vec, Global, arith, inl, inr, length-append}
+use Rattle.std.proofs.Common.{◌≡◌, ℕ, ◌+◌, ◌%◌, ◌^◌, ◌<◌, ◌≤◌, Bool, List, [], ◌∷◌, ◌++◌, length, get_or, refl, sym, ap, ◌∙◌, subst, Vec, Global, arith, inl, inr, length-append}
 use Rattle.std.proofs.lemmas.List.{append-nil, length-map}
 use Rattle.std.proofs.lemmas.Bool.{cases_lt}
 use Rattle.jls_values.specs.Params.{CodingParameters, limit, qbpp}
@@ -11,10 +11,8 @@ use Rattle.jls_interval.specs.Code.{event_bits}
 use Rattle.jls_interval.specs.Stepwise.{Leads, bits_of_steps}
 use Rattle.jls_interval.specs.Growth.{Position, added, here, IsNext, moved, interval_steps, start}
 use Rattle.jls_interval.specs.Hands.{HandAt}
-use Rattle.jls_interval.specs.Decoding.{IsWorking, IsReading, GivenBack, StateIs}
-use Rattle.jls_interval.specs.declared.line_reader.Hand.{Hand}
+use Rattle.jls_interval.specs.Decoding.{IsReading, GivenBack, StateIs}
 use Rattle.jls_interval.specs.declared.line_reader.Hand.TheVariants.{Fresh, Sample}
-use Rattle.jls_interval.specs.declared.line_reader.LineReader.{LineReader}
 use Rattle.jls_interval.specs.declared.interval_reader.State.TheVariants.{Working}
 use Rattle.jls_interval.specs.declared.interval_reader.IntervalReader.{IntervalReader}
 use Rattle.jls_interval.proofs.GrownLines.{added_fits, grown_full, grown_part}

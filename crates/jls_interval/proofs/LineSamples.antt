@@ -1,5 +1,5 @@
 -- Samples of regular mode that are taken one after another.
-use Rattle.std.proofs.Common.{◌≡◌, ℕ, zero, suc, ◌+◌, ◌%◌, ◌<◌, ◌≤◌, Bool, false, List, [], ◌∷◌, ◌++◌, length, get_or, refl, sym, ap, ◌∙◌, subst, arith, append_assoc, length-append}
+use Rattle.std.proofs.Common.{◌≡◌, ℕ, zero, suc, ◌+◌, ◌%◌, ◌<◌, Bool, false, List, [], ◌∷◌, ◌++◌, length, get_or, refl, sym, ap, ◌∙◌, subst, arith, append_assoc, length-append}
 use Rattle.std.proofs.Math.Seq.{get_or-append_seam}
 use Rattle.std.proofs.lemmas.List.{append-nil}
 use Rattle.std.proofs.lemmas.Bool.{lt-ltb}
@@ -16,7 +16,6 @@ use Rattle.jls_interval.specs.Hands.{now_at, HandAt, EventDone}
 use Rattle.jls_interval.specs.Decoding.{IsWorking}
 use Rattle.jls_interval.specs.LineSamples.{SampleTaken, SampleBegun, Works, TakenBy, TakesInLine}
 use Rattle.jls_interval.specs.declared.coder.Coder.{Coder}
-use Rattle.jls_interval.specs.declared.line_reader.Hand.{Hand}
 use Rattle.jls_interval.specs.declared.line_reader.Hand.TheVariants.{Fresh, Sample}
 use Rattle.jls_interval.specs.declared.line_reader.LineReader.{LineReader}
 use Rattle.jls_interval.proofs.Decoding.{working_on, working_more}

@@ -1,4 +1,4 @@
-use Rattle.std.proofs.Common.{◌≡◌, ℕ, ◌+◌, ◌-◌, ◌*◌, ◌<◌, ◌≤◌, true, false, List, ◌++◌, take, drop, length, refl, sym, ap, subst, ◌∙◌, arith, append_assoc}
+use Rattle.std.proofs.Common.{◌≡◌, ℕ, ◌+◌, ◌-◌, true, false, List, ◌++◌, take, drop, length, sym, ap, subst, ◌∙◌, arith, append_assoc}
 use Rattle.std.proofs.lemmas.List.{append-nil}
 use Rattle.std.proofs.Math.Seq.{take-add}
 use Rattle.jls_values.specs.Params.{CodingParameters}
@@ -6,7 +6,7 @@ use Rattle.jls_bits.specs.Bits.{is_whole}
 use Rattle.jls_interval.specs.IntervalBytes.{ReadsBefore, IsReadingBefore, HasLengths}
 use Rattle.jls_bits.proofs.Appending.{whole_front}
 use Rattle.jls_interval.proofs.IntervalReading.{shape_none, shape_then}
-use Rattle.jls_interval.proofs.Finishing.{lengths_more, before_lengths, before_start, before_appended, before_taken, before_end}
+use Rattle.jls_interval.proofs.Finishing.{lengths_more, before_lengths, before_appended, before_taken, before_end}
 use Rattle.jls_interval.proofs.interval_decoder.push_bytes.Goals as goal
 use Rattle.jls_interval.proofs.interval_decoder.push_bytes.Goals.{then-at-bytes, else-at-bytes}
 

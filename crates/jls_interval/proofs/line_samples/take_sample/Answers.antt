@@ -39,10 +39,12 @@ returns-in-Some-begun_sample-clause-front c =
     let a : to_z w32 (of_z w32 c.args.first) ≡ c.args.first = omega (arith, ints) in let b : to_z w32 (of_z w32 c.args.second) ≡ c.args.second = omega (arith, ints) in
     let d : to_z w32 (of_z w32 c.gradient-third.result) ≡ c.gradient-third.result = omega (arith, ints) in
     let m = c.in-Regular.ensures near (record { first = a ∙ c.requires.first; second = b ∙ c.requires.second; third = d ∙ c.gradient-third.ensures.value }) in
-    let code : CodeState = c.in-Some-begun_sample.code in let s = c.in-Some-begun_sample.ensures in
-    (record {
-      not_run = m.not_run;
-      opened = subst (λ q. IsOpen (regular_k (cell_at cells q)) (limit p) (qbpp p) code) m.context_is s.opened;
-      told = s.told;
-      all = c.new.ensures;
-    }, refl)
+    let code : CodeState = c.in-Some-begun_sample.code in let s = c.in-Some-begun_sample.ensures in (
+      record {
+        not_run = m.not_run;
+        opened = subst (λ q. IsOpen (regular_k (cell_at cells q)) (limit p) (qbpp p) code) m.context_is s.opened;
+        told = s.told;
+        all = c.new.ensures;
+      },
+      refl,
+    )

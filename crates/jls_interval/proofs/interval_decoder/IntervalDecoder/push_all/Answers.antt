@@ -1,7 +1,5 @@
 use Rattle.std.proofs.Common.{◌≡◌, ◌*◌, ◌≤◌, true, false, length, sym, ap, subst, ◌∙◌, arith}
-use Rattle.jls_bits.specs.Bits.{bits_read, is_whole}
-use Rattle.jls_values.specs.Params.{CodingParameters}
-use Rattle.jls_interval.specs.Decoding.{IsReading}
+use Rattle.jls_bits.specs.Bits.{bits_read}
 use Rattle.jls_interval.specs.IntervalBytes.{ReadsBefore}
 use Rattle.jls_interval.proofs.Finishing.{turned, not_ended, before_back, lengths_same}
 use Rattle.jls_interval.proofs.interval_decoder.IntervalDecoder.push_all.Goals as goal

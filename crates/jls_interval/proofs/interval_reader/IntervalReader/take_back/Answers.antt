@@ -1,5 +1,5 @@
-use Rattle.std.proofs.Common.{◌≡◌, ℕ, sym, ap, ◌∙◌, subst}
-use Rattle.jls_values.specs.Params.{CodingParameters, limit, qbpp}
+use Rattle.std.proofs.Common.{sym, ap, ◌∙◌, subst}
+use Rattle.jls_values.specs.Params.{limit, qbpp}
 use Rattle.jls_bits.specs.CodeState.{bits_told, IsOpen}
 use Rattle.jls_bits.specs.declared.code_state.CodeState.{CodeState}
 use Rattle.jls_interval.proofs.GivenBack.{sample_open, sample_back}
