@@ -15,7 +15,7 @@ use Rattle.jls_partial.specs.PartialLaws.{shape_itself}
 use Rattle.jls_partial.specs.Text.{magic, IsTextOf}
 use Rattle.jls_partial.specs.TextFront.{unless_fault, entries_front, text_front}
 use Rattle.jls_partial.specs.TextInto.{head_fields, with_entries, with_rest}
-use Rattle.jls_partial.specs.TextMerging.{MergesText, IsOfOtherShape}
+use Rattle.jls_partial.specs.TextMerging.{MergesText, HasOtherShape}
 use Rattle.jls_partial.specs.TextReading.{◌>>=◌, Fails, offset, number_field, magic_field, version_field, shape_fields, entries_fields, text_fields, read_text}
 use Rattle.jls_partial.proofs.Growth.{entries_union, between_of}
 use Rattle.jls_partial.proofs.TextFields.{IsBytes, bind_ok, passed_ok, ok_is}
@@ -125,7 +125,7 @@ module _ (bytes : List ℕ) (h : ℕ × Version × PictureShape × ℕ × List �
   fault_behind e f = subst (Fails e) (sym (text_behind bytes h head)) f
 
   pub differs : (old p : PartialPicture) → IsBytes bytes → same_shape old.shape h.2 ≡ false
-      → with_rest h.0 (nothing_known h.2) (entries_fields h.0 h.1 h.2 None h.3 h.4) ≡ Ok p → IsOfOtherShape old bytes
+      → with_rest h.0 (nothing_known h.2) (entries_fields h.0 h.1 h.2 None h.3 h.4) ≡ Ok p → HasOtherShape old bytes
   differs old p fits other read = record {
     said = p;
     is_text = read_takes bytes p fits (text_behind bytes h head ∙ read);

@@ -19,7 +19,8 @@ unless_fault (Err e) f = []
 unfoldable pub readings_front : ℕ → Version → PictureShape → Option (List ℕ) → ℕ → List ℕ → List Kept
 readings_front size version shape before zero bytes = []
 readings_front size version shape before (suc n) bytes =
-    unless_fault (kept_fields size version shape before bytes) (λ first. first.0 ∷ readings_front size version shape (Some first.0.0) n first.1)
+    unless_fault (kept_fields size version shape before bytes)
+    (λ first. first.0 ∷ readings_front size version shape (Some first.0.0) n first.1)
 
 -- the readings of an entry before the first fault
 unfoldable pub entry_front : ℕ → Version → PictureShape → Option Place → List ℕ → List (Reading × List ℕ)

@@ -14,12 +14,12 @@ pub record MergesText (old : PartialPicture) (bytes : List ℕ) (new : PartialPi
   pub union_is : new ≡ union old said
 
 -- the bytes are a text of a partial picture of another shape
-pub record IsOfOtherShape (old : PartialPicture) (bytes : List ℕ) : Type 0 where
+pub record HasOtherShape (old : PartialPicture) (bytes : List ℕ) : Type 0 where
   pub said : PartialPicture
   pub is_text : IsTextOf bytes said
   pub other_shape : has_same_shape old said ≡ false
 
 -- why the bytes were not merged: this is the first fault of theirs, unless memory ran out; or they are of another shape
-abbrev pub IsRefused : PartialPicture → List ℕ → MergeTextFault → Type 0
-IsRefused old bytes (Text f) = Fails f (read_text bytes)
-IsRefused old bytes ShapeDiffers = IsOfOtherShape old bytes
+abbrev pub RefusesText : PartialPicture → List ℕ → MergeTextFault → Type 0
+RefusesText old bytes (Text f) = Fails f (read_text bytes)
+RefusesText old bytes ShapeDiffers = HasOtherShape old bytes

@@ -4,7 +4,7 @@ ghost use Rattle.jls_partial.specs.Merging.{TakesFront};
 ghost use Rattle.jls_partial.specs.Partial.{PartialPicture, union};
 ghost use Rattle.jls_partial.specs.Text.{IsTextOf};
 ghost use Rattle.jls_partial.specs.TextFront.{text_front};
-ghost use Rattle.jls_partial.specs.TextMerging.{MergesText, IsRefused};
+ghost use Rattle.jls_partial.specs.TextMerging.{MergesText, RefusesText};
 ghost use Rattle.jls_partial.specs.declared.text_merging.MergeTextFault.TheVariants.{Text, ShapeDiffers};
 ghost use Rattle.jls_values.specs.Join.{IsBetween};
 ghost use Rattle.std.specs.Prelude.{◌≡◌, OnOk, OnErr, IfErr, IsErrOf};
@@ -41,12 +41,13 @@ impl Partial {
     /// the readings that stand in the text before the fault; after want of memory the same call can be made again.
     pub fn merge_text(&mut self, alloc: Global, bytes: &[u8]) -> Result<(), MergeTextFault>
         ensures ok { OnOk result (MergesText self.old bytes.now self.new) }
-        ensures refused { IfErr result (λ fault. IsRefused self.old bytes.now fault) }
+        ensures refused { IfErr result (λ fault. RefusesText self.old bytes.now fault) }
         ensures unchanged { IsErrOf result ShapeDiffers → self.new ≡ self.old }
         // What is held after a fault.
         ensures front { OnErr result (TakesFront self.old self.new (text_front bytes.now)) }
         // Where memory ran out for what is a text.
-        ensures between { (p : PartialPicture) → IsTextOf bytes.now p → OnErr result (IsBetween union self.old self.new (union self.old p)) }
+        ensures between { (p : PartialPicture) → IsTextOf bytes.now p
+            → OnErr result (IsBetween union self.old self.new (union self.old p)) }
     {
         let head = read_head(alloc, bytes)?;
         if *self.shape() != head.shape {
