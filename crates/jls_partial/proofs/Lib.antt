@@ -17,8 +17,10 @@ pub mod SourcedLines
 pub mod Store
 pub mod TextEntries
 pub mod TextFields
+pub mod TextFronts
 pub mod TextLaws
 pub mod TextLoops
+pub mod TextMerges
 pub mod TextReadings
 pub mod TextRows
 pub mod Unions

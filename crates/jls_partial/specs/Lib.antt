@@ -20,6 +20,8 @@ pub mod ReadingOrder
 pub mod Slots
 pub mod Status
 pub mod Text
+pub mod TextFront
 pub mod TextInto
+pub mod TextMerging
 pub mod TextReading
 pub mod Tree
