@@ -49,10 +49,6 @@ pub record IsStore (shape : PictureShape) (entries : List LineEntry) : Type 0 wh
   pub sorted : IsStrictlySortedBy place_cmp (map (λ e. e.0) entries)
   pub each : AllByRecursion (IsLineEntry shape) entries
 
--- these samples fit the lines
-abbrev pub FitsIn : PictureLines → List ℕ → Type 0
-FitsIn lines samples = samples_fault lines.precision lines.width samples ≡ None
-
 -- one line with its sources was put in; there are few enough lines to be counted, and each source is of one of them
 pub record PutsLine (old : PictureLines) (samples sources : List ℕ) (new : PictureLines) : Type 0 where
   pub new_is : new ≡ with_lines old ((samples, sources) ∷ [])

@@ -5,7 +5,7 @@ ghost use Rattle.jls_partial.specs.LineSet.{no_lines, line_sources, AreLineMarks
 ghost use Rattle.jls_partial.specs.LineSet.{has_same_line_shape};
 ghost use Rattle.jls_values.specs.Join.{IsBetween};
 ghost use Rattle.jls_values.specs.OrderedSet as set;
-ghost use Rattle.std.specs.Prelude.{◌≡◌, ℕ, List, ◌<◌, ◌≤◌, ◌∷◌, [], length, true, not, IfOk, IfSome, OnOk, OnErr, IsOk, None, Some, slice_get};
+ghost use Rattle.std.specs.Prelude.{◌≡◌, ◌<◌, ◌≤◌, ◌∷◌, [], length, true, not, IfOk, IfSome, OnOk, OnErr, IsOk, None, Some, slice_get};
 
 use crate::index::Index;
 use crate::insert_fault::{InsertFault, find_samples_fault};

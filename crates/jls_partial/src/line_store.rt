@@ -1,13 +1,12 @@
 //! What is kept of all lines of a picture, in one packed store.
 
 ghost use Rattle.jls_partial.specs.Held.{MarksLine, PutsAt, PutsLine, lines_or};
-ghost use Rattle.jls_partial.specs.Index.{slots_of};
 ghost use Rattle.jls_partial.specs.InsertFaults.{samples_fault};
 ghost use Rattle.jls_partial.specs.LineSet.{no_lines};
 ghost use Rattle.jls_partial.specs.Place.{place_cmp};
 ghost use Rattle.jls_partial.specs.Stored.{AreIndicesOf, entries_in, Extends};
 ghost use Rattle.jls_values.specs.OrderedSet as set;
-ghost use Rattle.std.specs.BTreeMap.{IsOrdered, is_at};
+ghost use Rattle.std.specs.BTreeMap.{is_at};
 ghost use Rattle.std.specs.List.Sorted.{IsStrictlySortedBy};
 ghost use Rattle.std.specs.Map.{lookup};
 ghost use Rattle.std.specs.Prelude.{◌≡◌, ◌<◌, ◌≤◌, [], length, map, true, not, IfOk, OnOk, OnErr, IsOk, None};

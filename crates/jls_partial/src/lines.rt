@@ -55,7 +55,11 @@ impl<'a> Lines<'a> {
         ensures value { slice_get (set.items self.now.lines) i ≡ Some result.now }
         ensures fitting { samples_fault self.now.precision self.now.width result.now ≡ None }
     {
-        samples_at(&self.packed.samples, self.packed.width, self.index.slot(i).start)
+        samples_at(
+            &self.packed.samples,
+            self.packed.width,
+            self.index.slot(i).start,
+        )
     }
 
     /// The source numbers of that line in ascending order, lent from the store.

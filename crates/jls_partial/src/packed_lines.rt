@@ -1,7 +1,6 @@
 //! Samples of lines of one width, one line after the other.
 
-ghost use Rattle.std.specs.List.{insert};
-ghost use Rattle.std.specs.Prelude.{◌≡◌, ◌<◌, ◌≤◌, ◌+◌, ◌++◌, ◌∷◌, [], length, true, not, IfOk, IsOk, OnOk, OnErr, slice_get, Some};
+ghost use Rattle.std.specs.Prelude.{◌≡◌, ◌<◌, ◌≤◌, ◌+◌, ◌++◌, ◌∷◌, [], length, true, not, IfOk, IsOk, OnOk, OnErr};
 ghost use Rattle.std.specs.Prelude.{vec_len, vec_capacity};
 ghost use Rattle.jls_partial.specs.Held.{MarksLine};
 ghost use Rattle.jls_partial.specs.Index.{slots_of};
@@ -104,8 +103,8 @@ impl PackedLines {
         ensures precision { self.new.precision ≡ self.old.precision }
         ensures width { self.new.width ≡ self.old.width }
         ensures index { IfOk result (λ index. slots_of index ≡ record {
-            start = length self.old.samples.items;
-            sources = set.insert_all set.empty sources.now;
+          start = length self.old.samples.items;
+          sources = set.insert_all set.empty sources.now;
         } ∷ []) }
         ensures room { OnOk result (vec_len self.new.samples + self.new.width ≤ vec_capacity self.new.samples) }
     {

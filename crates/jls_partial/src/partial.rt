@@ -1,17 +1,15 @@
 //! A partial picture over its store. What stands here is all that knows how readings are kept.
 
 ghost use Rattle.jls_partial.specs.Entries.{at_place, partial_of};
-ghost use Rattle.jls_partial.specs.Held.{FitsIn, IsLineEntry, MarksLine, PutsAt, PutsLine, lines_or, kept_entry};
+ghost use Rattle.jls_partial.specs.Held.{IsLineEntry, lines_or, kept_entry};
 ghost use Rattle.jls_partial.specs.InsertFaults.{reading_fault, Refuses};
 ghost use Rattle.jls_partial.specs.LineSet.{no_lines};
 ghost use Rattle.jls_partial.specs.Partial.{nothing_known, holds, with_reading, with_all, with_marks, readings_at, sources_at, IsFitting};
 ghost use Rattle.jls_partial.specs.Partial.{IsCountable, AreMarksHeld, AreSourcesSmall};
-ghost use Rattle.jls_partial.specs.Place.{place_cmp};
 ghost use Rattle.jls_partial.specs.Text.{entries};
 ghost use Rattle.jls_values.specs.OrderedSet as set;
-ghost use Rattle.std.specs.BTreeMap.{IsOrdered};
 ghost use Rattle.std.specs.List.{AllByRecursion};
-ghost use Rattle.std.specs.Prelude.{◌≡◌, ◌<◌, ◌≤◌, ◌^◌, ◌∷◌, [], length, map, true, not, IfOk, IfSome, OnOk, OnErr, IsOk, Some, None};
+ghost use Rattle.std.specs.Prelude.{◌≡◌, ◌<◌, ◌^◌, ◌∷◌, [], length, map, true, not, IfOk, IfSome, OnOk, OnErr, IsOk, Some, None};
 ghost use Rattle.std.specs.Prelude.{slice_get};
 
 use crate::insert_fault::{InsertFault, find_reading_fault};
@@ -114,7 +112,7 @@ impl Partial {
         ensures added { IfOk result (λ added. added ≡ not (holds self.old at.component at.line samples.now)) }
         ensures no_memory { holds self.old at.component at.line samples.now ≡ true → sources.now ≡ [] → IsOk result }
     {
-        self.store.take(at, samples, sources)
+        Ok(self.store.take(at, samples, sources)?)
     }
 
     /// Takes one reading that fits, and adds these sources to its own.
@@ -146,7 +144,8 @@ impl Partial {
             (λ samples. self.new ≡ with_marks self.old source (at_place at samples ∷ []))) }
         ensures err { OnErr result (self.new ≡ self.old) }
     {
-        self.store.mark(at, i, source)
+        self.store.mark(at, i, source)?;
+        Ok(())
     }
 
     /// How many readings a line has.

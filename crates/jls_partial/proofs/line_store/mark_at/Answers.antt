@@ -6,7 +6,7 @@ use Rattle.jls_partial.specs.declared.index.Index.{Index}
 use Rattle.jls_partial.specs.Held.{MarksLine, lines_or}
 use Rattle.jls_partial.specs.Index.{slots_of}
 use Rattle.jls_partial.specs.LineSet.{PictureLines, no_lines}
-use Rattle.jls_partial.specs.Stored.{LineSlots, slots_of_entries, seen_entries, entries_in, lines_in, AreIndexed, Extends}
+use Rattle.jls_partial.specs.Stored.{LineSlots, slots_of_entries, seen_entries, entries_in, lines_in, AreIndexed}
 use Rattle.jls_partial.proofs.LineSets.{length_kept}
 use Rattle.jls_partial.proofs.Store.{no_items}
 use Rattle.jls_partial.proofs.StoredLines.{updated-map, there, puts_at, indexed_more, lines_found, lines_missing, index_found, entries_same, ordered_slots, ordered_seen, itself}

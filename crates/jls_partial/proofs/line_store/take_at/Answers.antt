@@ -9,7 +9,7 @@ use Rattle.jls_values.specs.OrderedSet as set
 use Rattle.jls_partial.specs.Held.{PutsLine, lines_or}
 use Rattle.jls_partial.specs.Index.{slots_of}
 use Rattle.jls_partial.specs.LineSet.{PictureLines, no_lines, with_lines}
-use Rattle.jls_partial.specs.Stored.{LineSlots, slots_of_entries, seen_entries, entries_in, lines_in, AreIndexed}
+use Rattle.jls_partial.specs.Stored.{LineSlots, slots_of_entries, seen_entries, entries_in, AreIndexed}
 use Rattle.jls_partial.proofs.StoredLines.{updated-map, there, puts_at, puts_line, indexed_more, indexed_still, all_stay, lines_found, lines_missing, index_found, entries_same, ordered_slots, ordered_seen}
 use Rattle.jls_partial.proofs.line_store.take_at.Goals as goal
 

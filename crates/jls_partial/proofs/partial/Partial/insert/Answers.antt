@@ -14,8 +14,3 @@ returns-in-Some-clause-no_memory c = λ h.
     ∙ fitting 0 0 c.self.inside.shape c.self.inside.store.entries c.self.invariant.kept c.args.self.now c.self.view_is c.args.component c.args.line c.args.samples.now h in
     let bad : Some c.in-Some.fault ≡ None = c.in-Some.ensures ∙ f in
     absurd cc
-
-pub returns-then-has-clause-held : goal.returns-then-has-clause-held
-returns-then-has-clause-held c =
-    let h : holds c.args.self.now c.args.component c.args.line c.args.samples.now ≡ true = sym c.has.ensures.value ∙ c.if-has.true in
-    ap (λ s. record { shape = c.args.self.now.shape; readings = s; marks = c.args.self.now.marks }) (sym (held_same c.args.self.now.readings (at_place (place c.args.component c.args.line) c.args.samples.now) h))

@@ -30,5 +30,5 @@ pub returns-clause-fitting : goal.returns-clause-fitting
 returns-clause-fitting c =
     let held : holds c.args.self.now c.args.component c.args.line c.get.result.now ≡ true =
     holds_there 0 0 c.self.inside.shape c.self.inside.store.entries c.self.invariant.kept c.args.self.now c.self.view_is c.args.component c.args.line c.get.result.now
-    ∙ ap (λ (L : PictureLines). set.contains L.lines c.get.result.now) (sym c.lines_at.ensures) ∙ got_held c.lines_at.result.now.lines c.args.i c.get.result.now c.get.ensures.value in
+    ∙ ap (λ (L : PictureLines). set.contains L.lines c.get.result.now) (sym c.lines_at.ensures) ∙ got_held c.lines_at.result.lines c.args.i c.get.result.now c.get.ensures.value in
     fitting 0 0 c.self.inside.shape c.self.inside.store.entries c.self.invariant.kept c.args.self.now c.self.view_is c.args.component c.args.line c.get.result.now held
