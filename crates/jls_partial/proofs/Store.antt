@@ -1,6 +1,6 @@
 -- What the store keeps, as entries and as a partial picture; and what one reading more leaves.
 use Rattle.std.proofs.Common.{◌≡◌, ℕ, ◌<◌, ◌≤◌, ◌^◌, Bool, true, false, cond, ◌&&◌, ◌||◌, List, [], ◌∷◌, length, get_or, map, suc, Option, Some, None, refl, ap, sym, subst, ◌∙◌, arith}
-use Rattle.std.specs.Prelude.{IfSome, unwrap_or, nat_le}
+use Rattle.std.specs.Prelude.{IfSome, unwrap_or}
 use Rattle.std.specs.declared.cmp.Ordering.{Ordering}
 use Rattle.std.specs.declared.cmp.Ordering.TheVariants.{Less, Equal, Greater}
 use Rattle.std.specs.BTreeMap.{is_at}
@@ -19,7 +19,7 @@ use Rattle.jls_values.specs.Shape.{PictureShape}
 use Rattle.jls_partial.specs.declared.place.Place.{Place}
 use Rattle.jls_partial.specs.Entries.{Entry, BareEntry, bare, at_place, readings_of_entries, partial_of}
 use Rattle.jls_partial.specs.Held.{IsEntry, AreEntries, LineEntry, kept_entry, bare_entry, IsLineEntry, IsStore, PutsLine, lines_or, PutsAt}
-use Rattle.jls_partial.specs.InsertFaults.{reading_fault, samples_fault}
+use Rattle.jls_partial.specs.InsertFaults.{reading_fault}
 use Rattle.jls_partial.specs.LineSet.{PictureLines, AreLineMarksHeld, no_lines, kept_lines, line_sources, with_lines}
 use Rattle.jls_partial.specs.LineSetLaws.{lines_total, lines_exact, line_marks_total}
 use Rattle.jls_partial.specs.Marks.{mark_cmp, marks_of, sources_of}
@@ -30,7 +30,7 @@ use Rattle.jls_partial.specs.Place.{place, place_cmp, place_of}
 use Rattle.jls_partial.specs.Reading.{Reading, reading_of, reading_cmp}
 use Rattle.jls_partial.specs.ReadingOrder.{place_total, reading_total, reading_exact, marks_total, marks_exact, eq_reading, same_place, same_samples}
 use Rattle.jls_partial.specs.Text.{entries}
-use Rattle.jls_partial.proofs.BareEntries.{items_rise, all_members, first_none}
+use Rattle.jls_partial.proofs.BareEntries.{items_rise, all_members}
 use Rattle.jls_partial.proofs.Entries.{S, samples_at, each_from_lookup, lookup_from_each, holds_kept, fits_kept, countable_at, any_all}
 use Rattle.jls_partial.proofs.KeptEntries.{SourcesRise, kept_at, readings_are, holds_reading, holds_mark, has-entries, entries_again}
 use Rattle.jls_partial.proofs.MarkSets.{has_item, has_mark, any_items, any_marks, has_given}

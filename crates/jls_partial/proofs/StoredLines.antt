@@ -20,11 +20,11 @@ use Rattle.jls_partial.specs.Held.{LineEntry, PutsAt, PutsLine, lines_or}
 use Rattle.jls_partial.specs.Index.{slots_of}
 use Rattle.jls_partial.specs.InsertFaults.{samples_fault}
 use Rattle.jls_partial.specs.LineSet.{PictureLines, no_lines, with_lines}
-use Rattle.jls_partial.specs.Marks.{mark_cmp, marks_of}
+use Rattle.jls_partial.specs.Marks.{marks_of}
 use Rattle.jls_partial.specs.Packed.{Kept, lines_of, IsGap}
 use Rattle.jls_partial.specs.PackedLines.{seen_lines, IsLineSet}
 use Rattle.jls_partial.specs.Place.{place_cmp}
-use Rattle.jls_partial.specs.ReadingOrder.{place_total, same_place}
+use Rattle.jls_partial.specs.ReadingOrder.{place_total}
 use Rattle.jls_partial.specs.Stored.{LineSlots, slots_of_entries, seen_entries, AreIndexed, Extends, lines_in}
 use Rattle.jls_partial.proofs.Entries.{each_from_lookup, lookup_from_each}
 use Rattle.jls_partial.proofs.LineSets.{none_kept, put_kept, put_seen, with_own, fitting_length, length_kept, marks_held}

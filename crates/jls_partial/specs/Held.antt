@@ -10,7 +10,7 @@ use Rattle.jls_values.specs.OrderedSet as set
 use Rattle.jls_values.specs.Shape.{PictureShape}
 use Rattle.jls_partial.specs.declared.place.Place.{Place}
 use Rattle.jls_partial.specs.Entries.{BareEntry, Entry}
-use Rattle.jls_partial.specs.InsertFaults.{reading_fault, samples_fault}
+use Rattle.jls_partial.specs.InsertFaults.{reading_fault}
 use Rattle.jls_partial.specs.LineSet.{PictureLines, AreLineMarksHeld, kept_lines, with_lines}
 use Rattle.jls_partial.specs.Place.{place_cmp}
 

@@ -94,7 +94,8 @@ fn start_at(
     ensures indexed { AreIndicesOf packed.new index.new.entries }
     ensures ordered { OnOk result (IsStrictlySortedBy place_cmp (map (λ e. e.0) (entries_in packed.new index.new.entries))) }
     ensures ok { OnOk result (PutsAt (entries_in packed.old index.old.entries) at
-        (lines_or (no_lines packed.old.precision packed.old.width) (entries_in packed.new index.new.entries) at) (entries_in packed.new index.new.entries)) }
+        (lines_or (no_lines packed.old.precision packed.old.width) (entries_in packed.new index.new.entries) at)
+        (entries_in packed.new index.new.entries)) }
     ensures lines { OnOk result (PutsLine (no_lines packed.old.precision packed.old.width) samples.now sources.now
         (lines_or (no_lines packed.old.precision packed.old.width) (entries_in packed.new index.new.entries) at)) }
     ensures err { OnErr result (entries_in packed.new index.new.entries ≡ entries_in packed.old index.old.entries) }
@@ -120,14 +121,17 @@ fn take_at(
     ensures indexed { AreIndicesOf packed.new index.new.entries }
     ensures ordered { OnOk result (IsStrictlySortedBy place_cmp (map (λ e. e.0) (entries_in packed.new index.new.entries))) }
     ensures ok { OnOk result (PutsAt (entries_in packed.old index.old.entries) at
-        (lines_or (no_lines packed.old.precision packed.old.width) (entries_in packed.new index.new.entries) at) (entries_in packed.new index.new.entries)) }
-    ensures lines { OnOk result (PutsLine (lines_or (no_lines packed.old.precision packed.old.width) (entries_in packed.old index.old.entries) at)
-        samples.now sources.now (lines_or (no_lines packed.old.precision packed.old.width) (entries_in packed.new index.new.entries) at)) }
+        (lines_or (no_lines packed.old.precision packed.old.width) (entries_in packed.new index.new.entries) at)
+        (entries_in packed.new index.new.entries)) }
+    ensures lines { OnOk result (PutsLine
+        (lines_or (no_lines packed.old.precision packed.old.width) (entries_in packed.old index.old.entries) at) samples.now sources.now
+        (lines_or (no_lines packed.old.precision packed.old.width) (entries_in packed.new index.new.entries) at)) }
     ensures err { OnErr result (entries_in packed.new index.new.entries ≡ entries_in packed.old index.old.entries) }
     ensures added { IfOk result (λ added. added ≡ not (set.contains
         (lines_or (no_lines packed.old.precision packed.old.width) (entries_in packed.old index.old.entries) at).lines samples.now)) }
-    ensures no_memory { set.contains (lines_or (no_lines packed.old.precision packed.old.width) (entries_in packed.old index.old.entries) at).lines
-        samples.now ≡ true → sources.now ≡ [] → IsOk result }
+    ensures no_memory { set.contains
+        (lines_or (no_lines packed.old.precision packed.old.width) (entries_in packed.old index.old.entries) at).lines samples.now ≡ true
+        → sources.now ≡ [] → IsOk result }
 {
     match index.get_mut(&at) {
         Some(own) => {
@@ -223,7 +227,8 @@ impl Store {
         ensures err { OnErr result (self.new ≡ self.old) }
         ensures added { IfOk result (λ added. added ≡ not (set.contains
             (lines_or (no_lines self.old.precision self.old.width) self.old.entries at).lines samples.now)) }
-        ensures no_memory { set.contains (lines_or (no_lines self.old.precision self.old.width) self.old.entries at).lines samples.now ≡ true
+        ensures no_memory { set.contains
+            (lines_or (no_lines self.old.precision self.old.width) self.old.entries at).lines samples.now ≡ true
             → sources.now ≡ [] → IsOk result }
     {
         take_at(&mut self.packed, &mut self.index, at, samples, sources)

@@ -49,11 +49,13 @@ impl PackedLines {
         requires fits { samples_fault self.old.precision self.old.width samples.now ≡ None }
         ensures extends { Extends self.old self.new }
         ensures index { IsIndexOf self.new index.new }
-        ensures ok { OnOk result (lines_in self.new index.new ≡ with_lines (lines_in self.old index.old) ((samples.now, sources.now) ∷ [])) }
+        ensures ok { OnOk result (lines_in self.new index.new
+            ≡ with_lines (lines_in self.old index.old) ((samples.now, sources.now) ∷ [])) }
         ensures err_samples { OnErr result (self.new.samples.items ≡ self.old.samples.items) }
         ensures err_index { OnErr result (slots_of index.new ≡ slots_of index.old) }
         ensures added { IfOk result (λ added. added ≡ not (set.contains (lines_in self.old index.old).lines samples.now)) }
-        ensures no_memory { set.contains (lines_in self.old index.old).lines samples.now ≡ true → sources.now ≡ [] → IsOk result }
+        ensures no_memory { set.contains (lines_in self.old index.old).lines samples.now ≡ true
+            → sources.now ≡ [] → IsOk result }
     {
         match find(index, &self.samples, self.width, samples) {
             Ok(at) => {

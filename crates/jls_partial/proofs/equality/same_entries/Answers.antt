@@ -1,4 +1,4 @@
-use Rattle.std.proofs.Common.{◌≡◌, ◌∙◌, ◌∷◌, map, ap, sym}
+use Rattle.std.proofs.Common.{map, ap}
 use Rattle.jls_partial.specs.Entries.{Entry}
 use Rattle.jls_partial.specs.Held.{LineEntry, kept_entry}
 use Rattle.jls_partial.specs.Text.{entries}

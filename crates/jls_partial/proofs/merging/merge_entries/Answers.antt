@@ -1,7 +1,6 @@
-use Rattle.std.proofs.Common.{◌≡◌, ◌∙◌, ◌∷◌, ◌++◌, List, ℕ, map, ap, sym, subst}
+use Rattle.std.proofs.Common.{◌≡◌, ◌∙◌, ◌∷◌, ◌++◌, List, ℕ, map, ap, subst}
 use Rattle.std.specs.List.{AllByRecursion}
 use Rattle.std.proofs.lemmas.Result.{err_from_is_err_and}
-use Rattle.jls_values.specs.Shape.{PictureShape}
 use Rattle.jls_partial.specs.Entries.{kept_at_place, kept_readings}
 use Rattle.jls_partial.specs.Held.{LineEntry, IsLineEntry, kept_entry}
 use Rattle.jls_partial.specs.LineSet.{kept_lines}

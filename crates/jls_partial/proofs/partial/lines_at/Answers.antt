@@ -1,4 +1,4 @@
-use Rattle.std.proofs.Common.{◌≡◌, ◌∙◌, ◌<◌, ap, sym, length, Option, arith}
+use Rattle.std.proofs.Common.{◌≡◌, ◌∙◌, ap, sym, length, Option, arith}
 use Rattle.std.specs.Prelude.{unwrap_or}
 use Rattle.jls_values.specs.OrderedSet as set
 use Rattle.jls_partial.specs.LineSet.{PictureLines, no_lines}

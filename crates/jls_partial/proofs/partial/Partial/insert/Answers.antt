@@ -1,10 +1,6 @@
-use Rattle.std.proofs.Common.{◌≡◌, ◌∙◌, true, Some, None, ap, sym}
+use Rattle.std.proofs.Common.{◌≡◌, ◌∙◌, Some, None, ap}
 use Rattle.jls_values.specs.Shape.{PictureShape}
-use Rattle.jls_partial.specs.Entries.{at_place}
 use Rattle.jls_partial.specs.InsertFaults.{reading_fault}
-use Rattle.jls_partial.specs.Partial.{holds}
-use Rattle.jls_partial.specs.Place.{place}
-use Rattle.jls_partial.proofs.Entries.{held_same}
 use Rattle.jls_partial.proofs.Store.{fitting}
 use Rattle.jls_partial.proofs.partial.Partial.insert.Goals as goal
 
