@@ -1,4 +1,5 @@
 -- What the contracts of this crate cite.
+pub mod Asked
 pub mod Counts
 pub mod Event
 pub mod EventCode

@@ -2,6 +2,7 @@
 
 ghost use Rattle.std.specs.Prelude.{◌≡◌, ℕ, List, [], ◌∷◌, ◌++◌, Option, None, IfSome, OnOk, OnErr};
 ghost use Rattle.std.specs.Io.KnownBytes.{Keeps, IsAtEnd};
+ghost use Rattle.jls_device.specs.Asked.{AskedOnce, Request, input, output as request_output};
 ghost use Rattle.jls_device.specs.Event.{History, opened, not_opened, created, not_created, has_input};
 ghost use Rattle.jls_device.specs.Remaining.{remaining_behind};
 
@@ -20,14 +21,19 @@ pub trait Open: Read + Write {
     // The name of the output that was created last, where it is known.
     ghost output: { Self → Option (List ℕ) } = { λ _. None };
 
+    // The names that were asked for so far, those that could not be opened or created among them, where they are known.
+    ghost asked: { Self → Option (List Request) } = { λ _. None };
+
     /// Opens the input of this name.
     fn open_input(&mut self, name: &str) -> io::Result<()>
-        ensures file { OnOk result (Keeps (file self.old name.now) (Self.remaining self.new)) };
+        ensures file { OnOk result (Keeps (file self.old name.now) (Self.remaining self.new)) }
+        ensures asked { AskedOnce (input name.now) (asked self.old) (asked self.new) };
 
     /// Creates the output of this name, or empties it.
     fn create_output(&mut self, name: &str) -> io::Result<()>
         ensures named { OnOk result (IfSome (output self.new) (λ created. created ≡ name.now)) }
-        ensures empty { OnOk result (IsAtEnd (Self.contents self.new)) };
+        ensures empty { OnOk result (IsAtEnd (Self.contents self.new)) }
+        ensures asked { AskedOnce (request_output name.now) (asked self.old) (asked self.new) };
 }
 
 /// A device over a reader, a writer or files of std: it notes each call, with what the call gave or took.
@@ -37,8 +43,8 @@ pub trait Open: Read + Write {
 /// output is open fails; the stream behind is not asked.
 ///
 /// Contracts speak of what is noted. Where the bytes behind the device are known, as those of a list in memory, what is noted is
-/// what they lose or gain (`reads_give_the_content`, `writes_are_held`), and names are handed on (`Open`). That each call asks the
-/// stream or the files behind it only once no contract says: it is read here.
+/// what they lose or gain (`reads_give_the_content`, `writes_are_held`), and names are handed on, each once (`Open`). That each read
+/// and each write asks the stream behind it only once no contract says: it is read here.
 #[derive(Drop)]
 pub struct Counted<T> {
     inner: T,
@@ -129,6 +135,7 @@ impl<F: Open> Desk for Counted<F> {
         ensures opened { OnOk result (self.new.ledger ≡ self.old.ledger ++ opened name.now ∷ []) }
         ensures failed { OnErr result (self.new.ledger ≡ self.old.ledger ++ not_opened name.now ∷ []) }
         ensures file { OnOk result (Keeps (F.file self.old.inner name.now) (F.remaining self.new.inner)) }
+        ensures asked { AskedOnce (input name.now) (F.asked self.old.inner) (F.asked self.new.inner) }
     {
         match self.inner.open_input(name) {
             Ok(()) => {
@@ -147,6 +154,7 @@ impl<F: Open> Desk for Counted<F> {
         ensures failed { OnErr result (self.new.ledger ≡ self.old.ledger ++ not_created name.now ∷ []) }
         ensures named { OnOk result (IfSome (F.output self.new.inner) (λ created. created ≡ name.now)) }
         ensures empty { OnOk result (IsAtEnd (F.contents self.new.inner)) }
+        ensures asked { AskedOnce (request_output name.now) (F.asked self.old.inner) (F.asked self.new.inner) }
     {
         match self.inner.create_output(name) {
             Ok(()) => {

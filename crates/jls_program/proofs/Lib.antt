@@ -1,5 +1,6 @@
 pub mod Finished
 pub mod PrintedLines
+mod RefusedRuns
 pub mod RefusedWords
 pub mod Running
 mod Statuses

@@ -1,7 +1,7 @@
 //! The laws of whole runs. Each is a function that does nothing and whose contract is the law.
 
 ghost use Rattle.jls_program.specs.Laws.{DoneChecksRan, DoneJoinsRan, DoneShowsRan, DoneWritesRan, UnsettledWritesStop};
-ghost use Rattle.jls_program.specs.Statuses.{FailuresAreBehindStatus4, RefusedRunsCreateNothing, WantOfMemoryIsTold};
+ghost use Rattle.jls_program.specs.Statuses.{FailuresAreBehindStatus4, InputsAreBehindStatus3, RefusedRunsCreateNothing, WantOfMemoryIsTold, WordsAreBehindStatus2};
 
 /// If the words of a run ask for a join and the run ends with status 0 or 1, the join is done under the source that the words name or
 /// under none, the status is 0 if and only if each line of the union is settled, and nothing was reported or printed as a fault.
@@ -33,6 +33,18 @@ pub fn done_writes_ran()
 /// line of what the input gave is not settled.
 pub fn unsettled_writes_stop()
     ensures { UnsettledWritesStop }
+{}
+
+/// If a run ends with status 2, clap refused the words and not to show help; or they ask for nothing that there is; or they ask for a
+/// JPEG-LS file, and the input was read, each of its lines is settled, and an interval of the file would be too large.
+pub fn words_are_behind_status_2()
+    ensures { WordsAreBehindStatus2 }
+{}
+
+/// If a run ends with status 3, the inputs before one that the words name were taken; that one was opened and read to its end, and it
+/// is no text of a partial picture or a copy in which no frame was taken, or has another shape than the first; and nothing else was done.
+pub fn inputs_are_behind_status_3()
+    ensures { InputsAreBehindStatus3 }
 {}
 
 /// If a run ends with status 4, something was not opened or created in it, or a read or a write failed; or so many reads were made as

@@ -39,7 +39,7 @@ pub enum InputFault {
     Text(TextFault),
     /// It is a copy that was read whole and in which no frame was taken: the fault that ended it, and its offset.
     NoPicture(MarkerFault, u64),
-    /// The source stopped before its end, when it had given so many bytes: in a text, or in a copy in which no frame was taken.
+    /// The device stopped before its end, when it had given so many bytes: in a text, or in a copy in which no frame was taken.
     Read(ReadStop, u64),
     /// Memory ran out for it.
     OutOfMemory,
@@ -278,12 +278,12 @@ pub(crate) fn read_input_into<S: Source>(
 }
 
 /// What a device gives, from its current position on: a copy under the number of a source if there is one. An input whose first
-/// byte is 4A is the text of a partial picture, and is read to
-/// its end. Every other input is a damaged copy, the empty one too, and is read as long as more bytes can change what it gives.
-/// Reads have room for at most 4,096 bytes, and there are at most 4,294,967,295 of them.
+/// byte is 4A is the text of a partial picture, and is read to its end. Every other input is a damaged copy, the empty one too, and
+/// is read as long as more bytes can change what it gives. Reads have room for at most 4,096 bytes, and there are at most
+/// 4,294,967,295 of them.
 ///
-/// A copy in which a frame was taken is never refused, but where memory runs out: what was read before the source stopped is kept, and
-/// the report tells how it did. A text is refused as `Read` if the source stopped before its end, whatever the bytes are.
+/// A copy in which a frame was taken is never refused, but where memory runs out: what was read before the device stopped is kept, and
+/// the report tells how it did. A text is refused as `Read` if the device stopped before its end, whatever the bytes are.
 pub fn read_input<S: Source>(
     alloc: Global,
     source: Option<u32>,

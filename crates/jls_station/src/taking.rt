@@ -104,8 +104,8 @@ fn take_next<D: Desk>(
     }
 }
 
-/// Takes the inputs of these names, in turn, into a station. It stops at the first that is refused. A copy whose source stopped
-/// behind a frame is taken as far as it was read. All texts are read into the room of `text`.
+/// Takes the inputs of these names, in turn, into a station. It stops at the first that is refused. A copy that can't be read to its
+/// end is taken as far as it was read, if a frame was. All texts are read into the room of `text`.
 pub fn take_inputs<'a, D: Desk>(
     alloc: Global,
     desk: &mut D,
