@@ -15,6 +15,7 @@ pub mod SameEntries
 pub mod Searches
 pub mod SourcedLines
 pub mod Store
+pub mod StoredLines
 pub mod TextEntries
 pub mod TextFields
 pub mod TextFronts

@@ -19,6 +19,7 @@ pub mod Reading
 pub mod ReadingOrder
 pub mod Slots
 pub mod Status
+pub mod Stored
 pub mod Text
 pub mod TextFront
 pub mod TextInto
