@@ -284,3 +284,29 @@ fn a_chunk_gives_a_code_its_bits(rt: HostRuntime) {
         assert_eq!(rt; (number, second.len()), (33, 3));
     }
 }
+
+#[test]
+fn a_short_code_is_taken_where_it_stands_whole(rt: HostRuntime) {
+    // The bits, with k, LIMIT and qbpp; the number of the short code at the front, and how many bits are left. 33 is 8 times 4 and 1;
+    // at k 2 and LIMIT 32 an escape has 23 zeros, so 91 is the last number with a short code.
+    let table: [(&[u8], (u8, u8, u8), Option<u32>, u8); 12] = [
+        (b"", (2, 32, 8), None, 0),
+        (b"00000000", (2, 32, 8), None, 8),
+        (b"000000001", (2, 32, 8), None, 9),
+        (b"0000000010", (2, 32, 8), None, 10),
+        (b"00000000101", (2, 32, 8), Some(33), 0),
+        (b"00000000101110", (2, 32, 8), Some(33), 3),
+        (b"0000000000000000000000111", (2, 32, 8), Some(91), 0),
+        (b"00000000000000000000000101011011", (2, 32, 8), None, 32),
+        (b"0010", (0, 32, 8), Some(2), 1),
+        (b"1111111111111111", (16, 64, 16), None, 16),
+        (b"11111111111111110", (16, 64, 16), Some(65534), 0),
+        (b"010000000000000000", (0, 18, 16), None, 18),
+    ];
+    for (bits, (k, g, qbpp), number, left) in table {
+        let (k, g, qbpp) = (k.min(16), g.max(18).min(64), qbpp.max(1).min(16));
+        let mut chunk = chunk_of(bits);
+        let taken = chunk.take_code(k, g, qbpp);
+        assert_eq!(rt; (taken, chunk.len()), (number, left), "{bits:?}");
+    }
+}
