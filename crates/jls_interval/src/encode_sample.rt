@@ -23,7 +23,7 @@ fn signed_difference(negative: bool, sample: u16, prediction: u16) -> i32
     if negative { -difference } else { difference }
 }
 
-// A call of its own: in the loop that calls it, the compiler would make jumps of what are moves here.
+// A call of its own: within the loop that calls it, the compiler makes jumps of what are moves here.
 /// Writes a sample of regular mode.
 #[inline(never)]
 pub(crate) fn write_regular(

@@ -1,10 +1,9 @@
 -- What stands behind the exit statuses 2 and 3 of a run.
-use Rattle.std.proofs.Common.{◌≡◌, ◌⊎◌, inl, inr, ℕ, Bool, true, false, List, [], ◌∷◌, ◌++◌, Option, None, sym, subst, ap, ◌∙◌, refl, arith}
+use Rattle.std.proofs.Common.{◌≡◌, ◌⊎◌, inl, inr, ℕ, Bool, true, false, List, [], ◌∷◌, ◌++◌, Option, None, ap, ◌∙◌, refl, arith}
 use Rattle.std.proofs.lemmas.List.{append-nil}
-use Rattle.jls_device.specs.Event.{Event, History, GrewBy, opened}
-use Rattle.jls_picture.specs.Picture.{picture_of}
+use Rattle.jls_device.specs.Event.{Event, History, opened}
 use Rattle.jls_station.specs.Given.{Given}
-use Rattle.jls_station.specs.Inputs.{IsRefused, no_text, no_picture, text_not_read, copy_not_read, ReadsRefuse, for_fault, for_memory, StopsAt, not_there, refused, other_shape, no_memory}
+use Rattle.jls_station.specs.Inputs.{no_text, no_picture, text_not_read, copy_not_read, ReadsRefuse, for_fault, for_memory, StopsAt, not_there, refused, other_shape, no_memory}
 use Rattle.jls_station.specs.Joining as joining
 use Rattle.jls_station.specs.Joining.{Joins}
 use Rattle.jls_station.specs.Outputs as outputs
@@ -15,7 +14,7 @@ use Rattle.jls_station.specs.declared.outcome.Cause.TheVariants as cause
 use Rattle.jls_station.specs.declared.input.InputFault.{InputFault}
 use Rattle.jls_station.specs.declared.input.InputFault.TheVariants as fault
 use Rattle.jls_station.specs.declared.outcome.Outcome.{Outcome}
-use Rattle.jls_station.specs.declared.outcome.Outcome.TheVariants.{Done, Refused}
+use Rattle.jls_station.specs.declared.outcome.Outcome.TheVariants.{Done}
 use Rattle.jls_commands.specs.Telling as telling
 use Rattle.jls_commands.specs.Telling.{Tells, lines}
 use Rattle.jls_commands.specs.WritingFiles as writing

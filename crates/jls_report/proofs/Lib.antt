@@ -1,5 +1,6 @@
 pub mod AllLines
 pub mod EachLine
+mod FullCount
 pub mod LongestRanges
 pub mod Members
 pub mod OfShape

@@ -2,6 +2,7 @@
 use Rattle.std.specs.Prelude.{◌≡◌, ℕ, ◌+◌, ◌*◌, ◌<◌, ◌≤◌, ◌↔◌, Bool, true, false, ◌&&◌}
 use Rattle.std.specs.Prelude.{◌==◌, nat_le, length, count_by, Contains, if◌then◌else◌}
 use Rattle.jls_partial.specs.Partial.{PartialPicture}
+use Rattle.jls_partial.specs.Status.{IsSettled}
 use Rattle.jls_report.specs.declared.entry.ReportEntry.{ReportEntry}
 use Rattle.jls_report.specs.declared.entry.ReportEntry.TheVariants.{Missing, Disputed}
 use Rattle.jls_report.specs.Lines.{line_count, reading_count, is_missing, is_settled_line, is_disputed}
@@ -49,3 +50,7 @@ abbrev pub CountsAreAllLines : Type 0
 CountsAreAllLines = (p : PartialPicture) →
     line_count p.shape (is_settled_line p) + line_count p.shape (is_missing p) + line_count p.shape (is_disputed p)
     ≡ length p.shape.ids * p.shape.height
+
+-- all lines are counted as settled exactly where each line of the picture is settled
+abbrev pub FullCountIsSettled : Type 0
+FullCountIsSettled = (p : PartialPicture) → (line_count p.shape (is_settled_line p) ≡ length p.shape.ids * p.shape.height) ↔ IsSettled p

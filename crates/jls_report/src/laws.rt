@@ -1,6 +1,6 @@
 //! What the entries of a report say of each line. Each law is a function that does nothing and whose contract is the law.
 
-ghost use Rattle.jls_report.specs.Ranges.{RangesAreLongest, DisputedAreListed, EachLineOnce, CountsAreAllLines};
+ghost use Rattle.jls_report.specs.Ranges.{RangesAreLongest, DisputedAreListed, EachLineOnce, CountsAreAllLines, FullCountIsSettled};
 
 /// The ranges of missing lines in a report are the longest ones, and no others.
 pub fn ranges_are_longest()
@@ -20,4 +20,9 @@ pub fn each_line_once()
 /// The numbers of settled, missing and disputed lines add up to all lines of all components.
 pub fn counts_are_all_lines()
     ensures { CountsAreAllLines }
+{}
+
+/// The number of settled lines is that of all lines of all components if and only if each line of the picture is settled.
+pub fn full_count_is_settled()
+    ensures { FullCountIsSettled }
 {}

@@ -10,6 +10,9 @@ mod report;
 mod text;
 
 pub use entry::ReportEntry;
-pub use laws::{counts_are_all_lines, disputed_are_listed, each_line_once, ranges_are_longest};
+pub use laws::{
+    counts_are_all_lines, disputed_are_listed, each_line_once, full_count_is_settled,
+    ranges_are_longest,
+};
 pub use report::Report;
 pub use text::put_number;

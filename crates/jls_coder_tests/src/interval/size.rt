@@ -26,6 +26,7 @@ impl Model for Size {
 }
 
 impl Size {
+    /// An interval that a decoder takes has at least a line, one to four components, and at most 2^28 samples.
     pub(super) fn new(width: u16, components: u8, rows: u32) -> Size
         requires width { 1 ≤ width }
         requires components_at_least { 1 ≤ components }
@@ -40,6 +41,7 @@ impl Size {
         }
     }
 
+    /// A decoder of no byte, for an interval of this size.
     pub(super) fn decoder(&self, alloc: Global, params: &Params) -> IntervalDecoder {
         IntervalDecoder::new(alloc, params, self.width, self.components, self.rows)
     }
