@@ -1,14 +1,24 @@
 -- What the index of a store is seen as: the list of its slots, in order.
-use Rattle.std.specs.Prelude.{List, [], ◌∷◌}
+use Rattle.std.specs.Prelude.{ℕ, List, [], ◌∷◌, slice_index_or}
+use Rattle.jls_values.specs.OrderedSet as set
 use Rattle.jls_partial.specs.declared.index.Index.{Index}
-use Rattle.jls_partial.specs.declared.index.Index.TheVariants.{One, Many}
+use Rattle.jls_partial.specs.declared.index.Index.TheVariants.{Empty, Lone, Many}
 use Rattle.jls_partial.specs.declared.index.Slot.{Slot}
 
 abbrev pub slots_of : Index → List Slot
-slots_of (One slot) = slot ∷ []
-slots_of (Many tree) = tree
+slots_of Empty = []
+slots_of (Lone start) = record { start = start; sources = set.empty } ∷ []
+slots_of (Many tree) = tree.value
 
 -- whether the slot of one more can be put in beside those that are there
 abbrev pub HasRoom : Index → Type 0
-HasRoom (One slot) = ⊥
+HasRoom Empty = ⊥
+HasRoom (Lone start) = ⊥
 HasRoom (Many tree) = Unit {0}
+
+-- the slot that has so many others before it
+abbrev pub no_slot : Slot
+no_slot = record { start = 0; sources = set.empty }
+
+abbrev pub slot_at : List Slot → ℕ → Slot
+slot_at slots at = slice_index_or slots at no_slot

@@ -1,9 +1,10 @@
 //! The index of the lines in a store, in ascending order of the lines.
 
 ghost use Rattle.std.specs.List.{insert};
-ghost use Rattle.std.specs.Prelude.{◌≡◌, ◌<◌, ◌≤◌, ◌+◌, ◌^◌, ◌++◌, ◌∷◌, [], length, IfOk, IsOk, OnOk, OnErr, MatchOption, slice_index_or};
-ghost use Rattle.jls_partial.specs.Index.{slots_of, HasRoom};
+ghost use Rattle.std.specs.Prelude.{◌≡◌, ◌<◌, ◌≤◌, ◌+◌, ◌^◌, ◌++◌, ◌∷◌, [], length, IfOk, IsOk, OnOk, OnErr, MatchOption};
+ghost use Rattle.jls_partial.specs.Index.{slots_of, slot_at, HasRoom};
 ghost use Rattle.jls_partial.specs.Tree.{root_slots, fork_slots, with_sources_at};
+ghost use Rattle.jls_values.specs.OrderedSet as set;
 
 use crate::sources::Sources;
 use std::alloc::{AllocError, Global};
@@ -17,11 +18,15 @@ pub(crate) struct Slot {
     pub sources: Sources,
 }
 
-/// The slots of a store. The slot of a single line takes no memory of its own, since most stores stay with one line.
+/// The slots of a store. A single line without sources takes no memory of its own, since most stores stay with one.
 #[derive(Drop)]
 pub(crate) enum Index {
-    One(Slot),
-    Many(Tree),
+    /// No line.
+    Empty,
+    /// A single line without sources, by where its samples begin.
+    Lone(usize),
+    /// Lines with their sources.
+    Many(Box<Tree>),
 }
 
 /// Slots in a search tree. Contracts see the list of them.
@@ -68,11 +73,15 @@ impl Model for Tree {
 }
 
 impl Index {
-    /// No slot. It takes no memory.
-    pub(crate) fn empty() -> Index
-        ensures { slots_of result ≡ [] }
+    /// The slot of a single line.
+    pub(crate) fn of(alloc: Global, slot: Slot) -> Result<Index, AllocError>
+        ensures { IfOk result (λ index. slots_of index ≡ slot ∷ []) }
     {
-        Index::Many(Tree::empty())
+        if slot.sources.is_empty() {
+            return Ok(Index::Lone(slot.start));
+        }
+        let tree = Tree::from_root(Fork::single(alloc, slot)?);
+        Ok(Index::Many(Box::new(alloc, tree)?))
     }
 
     /// How many slots there are.
@@ -81,19 +90,33 @@ impl Index {
         ensures small { length (slots_of self.now) < 2 ^ 64 }
     {
         match self {
-            Index::One(_) => 1,
+            Index::Empty => 0,
+            Index::Lone(_) => 1,
             Index::Many(tree) => tree.len(),
         }
     }
 
-    /// The slot that has `at` others before it.
-    pub(crate) fn slot(&self, at: usize) -> &Slot
+    /// Where the samples begin of the line that has `at` others before it.
+    pub(crate) fn start(&self, at: usize) -> usize
         requires { at < length (slots_of self.now) }
-        ensures { result.now ≡ slice_index_or (slots_of self.now) at result.now }
+        ensures { result ≡ (slot_at (slots_of self.now) at).start }
     {
         match self {
-            Index::One(slot) => slot,
-            Index::Many(tree) => tree.slot(at),
+            Index::Empty => unreachable!(),
+            Index::Lone(start) => *start,
+            Index::Many(tree) => tree.slot(at).start,
+        }
+    }
+
+    /// The sources of that line in ascending order.
+    pub(crate) fn sources(&self, at: usize) -> &[u32]
+        requires { at < length (slots_of self.now) }
+        ensures { result.now ≡ set.items (slot_at (slots_of self.now) at).sources }
+    {
+        match self {
+            Index::Empty => unreachable!(),
+            Index::Lone(_) => &[],
+            Index::Many(tree) => tree.slot(at).sources.as_slice(),
         }
     }
 
@@ -110,7 +133,16 @@ impl Index {
         ensures no_memory { sources.now ≡ [] → IsOk result }
     {
         match self {
-            Index::One(slot) => slot.sources.add_all(alloc, sources),
+            Index::Empty => unreachable!(),
+            Index::Lone(start) => {
+                if sources.is_empty() {
+                    return Ok(());
+                }
+                let mut slot = Slot::without_sources(*start);
+                slot.sources.add_all(alloc, sources)?;
+                *self = Index::of(alloc, slot)?;
+                Ok(())
+            }
             Index::Many(tree) => tree.add_sources(alloc, at, sources),
         }
     }
@@ -122,13 +154,14 @@ impl Index {
         ensures room { IfOk result (λ _. HasRoom self.new) }
     {
         let new = Fork::single(alloc, slot)?;
-        if let Index::One(held) = self {
-            let start = held.start;
-            let sources = Sources::none();
-            let mut first = Fork::single(alloc, Slot { start, sources })?;
-            mem::swap(&mut first.slot.sources, &mut held.sources);
-            *self = Index::Many(Tree::from_root(first));
-        }
+        let tree = match self {
+            Index::Empty => Tree::empty(),
+            Index::Lone(start) => {
+                Tree::from_root(Fork::single(alloc, Slot::without_sources(*start))?)
+            }
+            Index::Many(_) => return Ok(new),
+        };
+        *self = Index::Many(Box::new(alloc, tree)?);
         Ok(new)
     }
 
@@ -142,14 +175,20 @@ impl Index {
         ensures { slots_of self.new ≡ insert (slots_of self.old) at new.value.slot }
     {
         match self {
-            Index::One(_) => unreachable!(),
-            Index::Many(tree) => {
-                if tree.len() > 0 {
-                    tree.insert(at, new);
-                } else {
-                    *self = Index::One(Box::into_inner(new).slot);
-                }
-            }
+            Index::Empty | Index::Lone(_) => unreachable!(),
+            Index::Many(tree) => tree.insert(at, new),
+        }
+    }
+}
+
+impl Slot {
+    /// The slot of a line without sources.
+    fn without_sources(start: usize) -> Slot
+        ensures { result ≡ record { start = start; sources = set.empty } }
+    {
+        Slot {
+            start,
+            sources: Sources::none(),
         }
     }
 }
@@ -194,7 +233,7 @@ impl Tree {
     #[tactic(auto, using(crate::proofs::Forks::fork_reads))]
     pub(crate) fn slot(&self, at: usize) -> &Slot
         requires { at < length self.now }
-        ensures { result.now ≡ slice_index_or self.now at result.now }
+        ensures { result.now ≡ slot_at self.now at }
     {
         match &self.root {
             None => unreachable!(),

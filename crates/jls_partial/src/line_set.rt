@@ -49,7 +49,7 @@ impl LineSet {
     {
         LineSet {
             packed: PackedLines::empty(alloc, precision, width),
-            index: Index::empty(),
+            index: Index::Empty,
         }
     }
 

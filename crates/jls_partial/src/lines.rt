@@ -55,11 +55,7 @@ impl<'a> Lines<'a> {
         ensures value { slice_get (set.items self.now.lines) i ≡ Some result.now }
         ensures fitting { samples_fault self.now.precision self.now.width result.now ≡ None }
     {
-        samples_at(
-            &self.packed.samples,
-            self.packed.width,
-            self.index.slot(i).start,
-        )
+        samples_at(&self.packed.samples, self.packed.width, self.index.start(i))
     }
 
     /// The source numbers of that line in ascending order, lent from the store.
@@ -67,6 +63,6 @@ impl<'a> Lines<'a> {
         requires { i < length (set.items self.now.lines) }
         ensures { IfSome (slice_get (set.items self.now.lines) i) (λ samples. result.now ≡ line_sources self.now samples) }
     {
-        self.index.slot(i).sources.as_slice()
+        self.index.sources(i)
     }
 }

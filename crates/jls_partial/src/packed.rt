@@ -36,7 +36,8 @@ pub(crate) fn find(
     ensures gap { IfErr result (λ i. IsGap (slice_cmp nat_cmp) (lines_of width packed.now (slots_of index.now)) i samples.now) }
 {
     match index {
-        Index::One(slot) => match samples_at(packed, width, slot.start).cmp(samples) {
+        Index::Empty => Err(0),
+        Index::Lone(start) => match samples_at(packed, width, *start).cmp(samples) {
             Ordering::Less => Err(1),
             Ordering::Greater => Err(0),
             Ordering::Equal => Ok(0),

@@ -110,9 +110,9 @@ impl PackedLines {
         } ∷ []) }
         ensures room { OnOk result (vec_len self.new.samples + self.new.width ≤ vec_capacity self.new.samples) }
     {
-        let slot = self.next_slot(sources)?;
+        let index = Index::of(self.alloc, self.next_slot(sources)?)?;
         self.samples.reserve(self.width as usize)?;
-        Ok(Index::One(slot))
+        Ok(index)
     }
 
     /// Puts a line in where there is room for it. This needs no memory.
