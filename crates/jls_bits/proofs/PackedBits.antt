@@ -1,35 +1,32 @@
 -- Bits that wait for whole bytes, up to 64 of them: the next byte is taken from their front.
-use Rattle.std.proofs.Common.{◌≡◌, ℕ, ◌+◌, ◌-◌, ◌*◌, ◌/◌, ◌%◌, ◌^◌, ◌<◌, ◌≤◌, Bool, false, List, [], ◌∷◌, ◌++◌, replicate, refl, sym, ap, ◌∙◌, subst, arith, append_assoc}
+use Rattle.std.proofs.Common.{◌≡◌, ℕ, ◌+◌, ◌-◌, ◌*◌, ◌/◌, ◌%◌, ◌^◌, ◌<◌, ◌≤◌, Bool, false, List, [], ◌∷◌, ◌++◌, replicate, sym, ap, ◌∙◌, subst, arith, append_assoc}
 use mir.Val.{bool_byte}
-use Rattle.std.proofs.lemmas.List.{append-nil, replicate-append-replicate}
+use Rattle.std.proofs.lemmas.List.{replicate-append-replicate}
 use Rattle.std.proofs.lemmas.Nat.{pow_pos, mod_below, shr_below}
 use Rattle.jls_bits.specs.Bits.{bits, width_after, bits_read}
 use Rattle.jls_bits.specs.Appending.{last_after, AreFilled}
 use Rattle.jls_bits.proofs.NumberBits.{bits_split, bits_none, bits_push_bool}
-use Rattle.jls_bits.proofs.Appending.{filled_more, last_append}
+use Rattle.jls_bits.proofs.Appending.{filled_more}
 use Rattle.jls_bits.proofs.Padding.{zero_bits}
-use Rattle.jls_bits.proofs.ChunkBits.{joined_bits, joined_small, low_bits, shifted, one_of_64}
+use Rattle.jls_bits.proofs.ChunkBits.{joined_bits, joined_small, low_bits, shifted}
 
--- a number's low bits behind those that wait
-module _ (count partial n value : ℕ) (few : count < 8) (small : partial < 2 ^ count) (less : n ≤ 32) where
-  abbrev low : ℕ
-  low = value % (1 * 2 ^ n % 18446744073709551616)
+-- a number's bits behind those that wait
+module _ (count waiting n value : ℕ) (few : count + n < 64) (small : waiting < 2 ^ count) (low : value < 2 ^ n) where
+  pub waiting_shifted : (waiting * 2 ^ n % 18446744073709551616 ≡ waiting * 2 ^ n) × (waiting * 2 ^ n + value < 18446744073709551616)
+  waiting_shifted = shifted count n waiting value (omega arith) small low
 
-  low_is : low ≡ value % 2 ^ n
-  low_is = ap (λ z. value % z) (one_of_64 n (omega arith))
+  pub waiting_small : waiting * 2 ^ n % 18446744073709551616 + value < 2 ^ (count + n)
+  waiting_small = subst (λ z. z + value < 2 ^ (count + n)) (sym waiting_shifted.0) (joined_small count n waiting value small low)
 
-  low_small : low < 2 ^ n
-  low_small = subst (λ z. z < 2 ^ n) (sym low_is) (mod_below value (2 ^ n) (pow_pos n))
+  pub waiting_bits : (given : List Bool) → given ++ bits (count + n) (waiting * 2 ^ n % 18446744073709551616 + value) ≡ (given ++ bits count waiting) ++ bits n value
+  waiting_bits given =
+      ap (λ z. given ++ bits (count + n) (z + value)) waiting_shifted.0 ∙ ap (λ z. given ++ z) (joined_bits count n waiting value low) ∙ sym (append_assoc given (bits count waiting) (bits n value))
 
-  pub waiting_shifted : (partial * 2 ^ n % 18446744073709551616 ≡ partial * 2 ^ n) × (partial * 2 ^ n + low < 18446744073709551616)
-  waiting_shifted = shifted count n partial low (omega arith) small low_small
-
-  pub waiting_small : partial * 2 ^ n % 18446744073709551616 + low < 2 ^ (count + n)
-  waiting_small = subst (λ z. z + low < 2 ^ (count + n)) (sym waiting_shifted.0) (joined_small count n partial low small low_small)
-
-  pub waiting_bits : bits (count + n) (partial * 2 ^ n % 18446744073709551616 + low) ≡ bits count partial ++ bits n value
-  waiting_bits =
-      ap (λ z. bits (count + n) (z + low)) waiting_shifted.0 ∙ joined_bits count n partial low low_small ∙ ap (λ z. bits count partial ++ z) (ap (bits n) low_is ∙ low_bits n value)
+-- zeros in front of a number's bits
+pub zeros_in_front : (zeros n value : ℕ) → value < 2 ^ n → (bits (zeros + n) value ≡ replicate zeros false ++ bits n value) × (value < 2 ^ (zeros + n))
+zeros_in_front zeros n value low =
+    let e : 0 * 2 ^ n + value ≡ value = omega arith in let none : 0 < 2 ^ zeros = pow_pos zeros in
+    (ap (bits (zeros + n)) (sym e) ∙ joined_bits zeros n 0 value low ∙ ap (λ z. z ++ bits n value) (zero_bits zeros), subst (λ z. z < 2 ^ (zeros + n)) e (joined_small zeros n 0 value none low))
 
 -- the byte at the front of the waiting bits, and the bits that go on waiting
 module _ (bytes : List ℕ) (last width left waiting : ℕ) (f : AreFilled bytes) (e : last ≡ last_after 0 bytes) (w : width ≡ width_after last) (h : width ≤ left) (small : waiting < 2 ^ left) where

@@ -1,5 +1,5 @@
 -- A Golomb code that is given several bits at once.
-use Rattle.std.specs.Prelude.{◌≡◌, ℕ, Bool, List, [], ◌++◌}
+use Rattle.std.specs.Prelude.{◌≡◌, ℕ, ◌<◌, Bool, true, false, List, [], ◌∷◌, ◌++◌, length, replicate}
 use Rattle.jls_bits.specs.CodeState.{StepIs}
 use Rattle.jls_bits.specs.declared.code_state.CodeStep.{CodeStep}
 use Rattle.jls_bits.specs.declared.code_state.CodeStep.TheVariants.{More, Done, Refused}
@@ -16,3 +16,8 @@ pub record ChunkStep (k g qbpp : ℕ) (told chunk unread : List Bool) (step : Co
   pub chunk_is : chunk ≡ taken ++ unread
   pub step_is : StepIs k g qbpp (told ++ taken) step
   pub all : AllTaken step unread
+
+-- fewer than `limit` zeros, a one, and k bits behind it don't stand at the front
+abbrev pub NoShortFront : ℕ → ℕ → List Bool → Type 0
+NoShortFront limit k given =
+    (zeros : ℕ) (low rest : List Bool) → zeros < limit → length low ≡ k → given ≡ replicate zeros false ++ true ∷ (low ++ rest) → ⊥

@@ -22,6 +22,12 @@ IsOpen k g qbpp (Remainder quotient count value) = (quotient < escape_zeros g qb
 IsOpen k g qbpp (Escape count value) =
     (count < qbpp) × (value < 2 ^ count) × (escape_zeros g qbpp * 2 ^ k ≤ (value + 1) * 2 ^ (qbpp - count))
 
+-- the bits of the state are not an escape's: they are fewer zeros, or have a one behind fewer
+abbrev pub IsOfShort : ℕ → ℕ → CodeState → Type 0
+IsOfShort g qbpp (Zeros zeros) = zeros < escape_zeros g qbpp
+IsOfShort g qbpp (Remainder quotient count value) = quotient < escape_zeros g qbpp
+IsOfShort g qbpp (Escape count value) = ⊥
+
 -- the bits begin the code of some number, and aren't all of it
 pub record BeginsCode (k g qbpp : ℕ) (given : List Bool) : Type 0 where
   pub number : ℕ

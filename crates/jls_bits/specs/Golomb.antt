@@ -26,6 +26,11 @@ abbrev pub NoCodeBegins : ℕ → ℕ → ℕ → List Bool → Type 0
 NoCodeBegins k g qbpp given =
     (m : ℕ) (rest : List Bool) → has_golomb k g qbpp m ≡ true → given ≡ golomb k g qbpp m ++ rest → ⊥
 
+-- no short code stands at the front of the bits
+abbrev pub NoShortCodeBegins : ℕ → ℕ → ℕ → List Bool → Type 0
+NoShortCodeBegins k g qbpp given =
+    (m : ℕ) (rest : List Bool) → is_short k g qbpp m ≡ true → given ≡ golomb k g qbpp m ++ rest → ⊥
+
 -- the bits are a prefix of the code of m: its first bits, or all of it
 pub record BeginsCodeOf (k g qbpp : ℕ) (given : List Bool) (m : ℕ) : Type 0 where
   pub rest : List Bool

@@ -2,7 +2,8 @@
 
 ghost use Rattle.std.specs.Prelude.{◌≡◌, ◌↔◌, ◌+◌, ◌≤◌, ◌<◌, ◌^◌, true, false, [], ◌∷◌, ◌++◌, length, replicate, IsTrue, IfSome, IfNone};
 ghost use Rattle.jls_bits.specs.Bits.{bits};
-ghost use Rattle.jls_bits.specs.Golomb.{golomb, has_golomb};
+ghost use Rattle.jls_bits.specs.Golomb.{golomb, has_golomb, NoShortCodeBegins};
+ghost use Rattle.jls_bits.specs.Chunk.{NoShortFront};
 
 use std::marker::Model;
 
@@ -83,6 +84,40 @@ impl Chunk {
         }
     }
 
+    /// So many zeros.
+    pub(crate) fn zeros(count: u8) -> Chunk
+        requires { count ≤ 64 }
+        ensures { result ≡ replicate count false }
+    {
+        Chunk { value: 0, count }
+    }
+
+    /// So many zeros, a one, and the low `count` bits of a number.
+    pub(crate) fn zeros_and_one(zeros: u8, count: u8, value: u32) -> Chunk
+        requires room { zeros + count < 64 }
+        requires value { value < 2 ^ count }
+        ensures { result ≡ replicate zeros false ++ true ∷ bits count value }
+    {
+        Chunk {
+            value: (1 << count) + value as u64,
+            count: zeros + count + 1,
+        }
+    }
+
+    /// How many zeros stand before the first one, how many bits behind it, and the number of these. None where there is no one.
+    #[inline(always)]
+    pub(crate) fn first_one(&self) -> Option<(u8, u8, u64)>
+        ensures some { IfSome result (λ x. self.now ≡ replicate x.0 false ++ true ∷ bits x.1 x.2) }
+        ensures value { IfSome result (λ x. x.2 < 2 ^ x.1) }
+        ensures none { IfNone result (self.now ≡ replicate (length self.now) false) }
+    {
+        if self.value == 0 {
+            return None;
+        }
+        let first = self.value.ilog2() as u8;
+        Some((self.count - first - 1, first, self.value % (1 << first)))
+    }
+
     /// Takes fewer than `limit` zeros, a one, and the k bits behind it, where they stand at the front: how many zeros,
     /// and the number of the k bits. Else it takes nothing.
     pub(crate) fn take_short(&mut self, limit: u8, k: u8) -> Option<(u8, u32)>
@@ -90,6 +125,7 @@ impl Chunk {
         ensures some { IfSome result (λ x. self.old ≡ replicate x.0 false ++ true ∷ (bits k x.1 ++ self.new)) }
         ensures small { IfSome result (λ x. (x.0 < limit) × (x.1 < 2 ^ k)) }
         ensures none { IfNone result (self.new ≡ self.old) }
+        ensures none_stands { IfNone result (NoShortFront limit k self.old) }
     {
         if self.value == 0 {
             return None;
@@ -106,13 +142,15 @@ impl Chunk {
         Some((zeros, number as u32))
     }
 
-    /// Takes the code of a number, where it is short and stands whole at the front. Else it takes nothing.
+    /// Takes the code of a number, where it is short and stands whole at the front. None exactly where no short code does: then it
+    /// takes nothing.
     pub fn take_code(&mut self, k: u8, g: u8, qbpp: u8) -> Option<u32>
         requires k { k ≤ 16 }
         requires qbpp { (1 ≤ qbpp) × (qbpp ≤ 16) }
         requires g { (qbpp + 2 ≤ g) × (g ≤ 64) }
         ensures some { IfSome result (λ m. (has_golomb k g qbpp m ≡ true) × (self.old ≡ golomb k g qbpp m ++ self.new)) }
         ensures none { IfNone result (self.new ≡ self.old) }
+        ensures none_stands { IfNone result (NoShortCodeBegins k g qbpp self.old) }
     {
         match self.take_short(g - qbpp - 1, k) {
             None => None,

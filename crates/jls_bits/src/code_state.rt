@@ -1,8 +1,9 @@
 //! A Golomb code as a machine that is told its bits as they come.
 
-ghost use Rattle.std.specs.Prelude.{ℕ, ◌↔◌, ◌+◌, ◌^◌, ◌<◌, ◌≤◌, [], ◌∷◌, ◌++◌, IsTrue};
+ghost use Rattle.std.specs.Prelude.{◌≡◌, ℕ, ◌↔◌, ◌+◌, ◌^◌, ◌<◌, ◌≤◌, true, false, [], ◌∷◌, ◌++◌, length, replicate, IsTrue, IfSome, IfNone};
 ghost use Rattle.jls_bits.specs.Golomb.{escape_zeros, BeginsCodeOf};
-ghost use Rattle.jls_bits.specs.CodeState.{bits_told, IsOpen, StepIs};
+ghost use Rattle.jls_bits.specs.Bits.{bits};
+ghost use Rattle.jls_bits.specs.CodeState.{bits_told, IsOpen, IsOfShort, StepIs};
 ghost use Rattle.jls_bits.specs.Chunk.{ChunkStep};
 ghost use Rattle.jls_bits.specs.declared.code_state.CodeState.TheVariants.{Zeros, Remainder, Escape};
 
@@ -55,6 +56,69 @@ impl CodeState {
         }
     }
 
+    /// The state of a short code that all bits of a chunk begin: fewer zeros than an escape's, or the one behind them and too few bits
+    /// of the remainder. None where no such state has these bits.
+    #[inline(always)]
+    pub fn of_short(k: u8, g: u8, qbpp: u8, chunk: &Chunk) -> Option<CodeState>
+        requires k { k ≤ 16 }
+        requires qbpp { (1 ≤ qbpp) × (qbpp ≤ 16) }
+        requires g { (qbpp + 2 ≤ g) × (g ≤ 64) }
+        ensures opened { IfSome result (λ s. IsOpen k g qbpp s) }
+        ensures told { IfSome result (λ s. bits_told g qbpp s ≡ chunk.now) }
+        ensures none { IfNone result ((s : CodeState) → IsOfShort g qbpp s → IsOpen k g qbpp s → bits_told g qbpp s ≡ chunk.now → ⊥) }
+    {
+        let escape = g - qbpp - 1;
+        match chunk.first_one() {
+            None => {
+                if chunk.len() < escape {
+                    Some(CodeState::Zeros(chunk.len()))
+                } else {
+                    None
+                }
+            }
+            Some((quotient, count, value)) => {
+                if quotient < escape && count < k {
+                    let value = value as u32;
+                    Some(CodeState::Remainder {
+                        quotient,
+                        count,
+                        value,
+                    })
+                } else {
+                    None
+                }
+            }
+        }
+    }
+
+    /// The bits told so far, to be told once more with those that follow. None where they are more than 56.
+    pub fn told(self, g: u8, qbpp: u8) -> Option<Chunk>
+        requires qbpp { (1 ≤ qbpp) × (qbpp ≤ 16) }
+        requires g { (qbpp + 2 ≤ g) × (g ≤ 64) }
+        requires open { (k : ℕ) × IsOpen k g qbpp self }
+        ensures some { IfSome result (λ c. c ≡ bits_told g qbpp self) }
+        ensures few { IfSome result (λ c. length c ≤ 56) }
+        ensures none { IfNone result (56 < length (bits_told g qbpp self)) }
+    {
+        match self {
+            CodeState::Zeros(zeros) => {
+                if zeros <= 56 {
+                    Some(Chunk::zeros(zeros))
+                } else {
+                    None
+                }
+            }
+            CodeState::Remainder {
+                quotient,
+                count,
+                value,
+            } => told_one(quotient, FirstBits { count, value }),
+            CodeState::Escape { count, value } => {
+                told_one(g - qbpp - 1, FirstBits { count, value })
+            }
+        }
+    }
+
     /// Takes bits from the front of a chunk until the code is whole or refused, or no bit is left. Behind a refusal the
     /// rest of the chunk is of no use.
     #[inline(always)]
@@ -68,6 +132,10 @@ impl CodeState {
         if let CodeState::Zeros(0) = self {
             if let Some(number) = chunk.take_code(k, g, qbpp) {
                 return CodeStep::Done(number);
+            }
+            if let Some(state) = CodeState::of_short(k, g, qbpp, chunk) {
+                *chunk = Chunk::new();
+                return CodeStep::More(state);
             }
         }
         push_bit_by_bit(self, k, g, qbpp, chunk)
@@ -94,6 +162,21 @@ impl CodeState {
                 escape <= mapped >> k && (mapped - 1) >> (qbpp - count) == value
             }
         }
+    }
+}
+
+/// So many zeros, a one, and the first bits of a number. None where they are more than 56.
+fn told_one(zeros: u8, number: FirstBits) -> Option<Chunk>
+    requires { number.value < 2 ^ number.count }
+    ensures some { IfSome result (λ c. c ≡ replicate zeros false ++ true ∷ bits number.count number.value) }
+    ensures few { IfSome result (λ c. length c ≤ 56) }
+    ensures none { IfNone result (56 < length (replicate zeros false ++ true ∷ bits number.count number.value)) }
+{
+    let FirstBits { count, value } = number;
+    if zeros.saturating_add(count) < 56 {
+        Some(Chunk::zeros_and_one(zeros, count, value))
+    } else {
+        None
     }
 }
 

@@ -1,6 +1,6 @@
 //! Golomb codes of a limited length, LG(k, g) (ITU-T T.87, A.5.3).
 
-ghost use Rattle.std.specs.Prelude.{◌≡◌, ℕ, ◌+◌, ◌^◌, ◌≤◌, true, false, List, Bool, ◌++◌, replicate, length, IfSome, IfNone, OnOk, OnErr};
+ghost use Rattle.std.specs.Prelude.{◌≡◌, ℕ, ◌+◌, ◌^◌, ◌<◌, ◌≤◌, true, false, List, Bool, ◌++◌, replicate, length, IfSome, IfNone, OnOk, OnErr};
 ghost use Rattle.jls_bits.specs.Bits.{bits};
 ghost use Rattle.jls_bits.specs.Golomb.{golomb, has_golomb, NoCodeBegins};
 
@@ -69,6 +69,7 @@ fn golomb_code(mapped: u32, k: u8, g: u8, qbpp: u8) -> GolombCode
     ensures code { replicate result.zeros false ++ bits result.count result.value ≡ golomb k g qbpp mapped }
     ensures zeros { result.zeros ≤ 64 }
     ensures count { result.count ≤ 17 }
+    ensures value { result.value < 2 ^ result.count }
 {
     let escape = g - qbpp - 1;
     let quotient = mapped >> k;

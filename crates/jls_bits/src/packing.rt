@@ -1,7 +1,8 @@
-//! Whole bytes, and the bits of the next one.
+//! Whole bytes, and the bits that wait for the next ones.
 
-ghost use Rattle.std.specs.Prelude.{◌≡◌, ◌+◌, ◌*◌, ◌^◌, ◌<◌, ◌≤◌, false, [], ◌++◌, replicate};
-ghost use Rattle.std.specs.Prelude.{vec_len, vec_capacity, IfOk, OnOk, OnErr};
+ghost use Rattle.std.specs.Prelude.{◌≡◌, ◌↔◌, ◌+◌, ◌*◌, ◌^◌, ◌<◌, ◌≤◌, false, [], ◌++◌, replicate};
+ghost use Rattle.std.specs.Prelude.{vec_len, vec_capacity, IsTrue, IfOk, OnOk};
+ghost use Rattle.jls_bits.specs.Bits;
 ghost use Rattle.jls_bits.specs.Bits.{bits};
 ghost use Rattle.jls_bits.specs.Pad.{IsPad};
 ghost use Rattle.jls_bits.specs.Packing.{IsPacking, bits_put};
@@ -9,17 +10,18 @@ ghost use Rattle.jls_bits.specs.Packing.{IsPacking, bits_put};
 use crate::stuffing::width_after;
 use std::alloc::{AllocError, Global};
 
-/// Bits that are packed into bytes as they come. Only `reserve` and `finish` want memory.
+/// Bits that are packed into bytes as they come. Up to 63 of them wait in a number, so that most calls put no byte. Only `reserve` and
+/// `finish` want memory.
 #[derive(Drop)]
 pub(crate) struct Packing {
     /// The bytes that are whole.
     bytes: Vec<u8>,
     /// The last of them, or 0 where there is none.
     last: u8,
-    /// How many bits of the next byte are there.
+    /// How many bits wait behind them.
     count: u8,
     /// Those bits.
-    partial: u8,
+    waiting: u64,
 }
 
 impl Packing {
@@ -32,8 +34,33 @@ impl Packing {
             bytes: Vec::new(alloc),
             last: 0,
             count: 0,
-            partial: 0,
+            waiting: 0,
         }
+    }
+
+    /// Whether so many bits more can wait.
+    #[inline(always)]
+    pub(crate) fn has_place(&self, count: u8) -> bool
+        requires packing { IsPacking self.now }
+        requires count { count ≤ 128 }
+        ensures { IsTrue result ↔ self.now.count + count < 64 }
+    {
+        self.count + count < 64
+    }
+
+    /// Appends the low `count` bits of `value` to those that wait, the most significant first.
+    #[inline(always)]
+    pub(crate) fn append(&mut self, value: u32, count: u8)
+        requires packing { IsPacking self.old }
+        requires place { self.old.count + count < 64 }
+        requires value { value < 2 ^ count }
+        ensures packing { IsPacking self.new }
+        ensures bits { bits_put self.new ≡ bits_put self.old ++ bits count value }
+        ensures bytes { self.new.bytes ≡ self.old.bytes }
+        ensures count { self.new.count ≡ self.old.count + count }
+    {
+        self.waiting = (self.waiting << count) + value as u64;
+        self.count += count;
     }
 
     /// Makes room for so many bits more. Each byte takes seven at least.
@@ -64,19 +91,18 @@ impl Packing {
         self.put_bits(0, left);
     }
 
-    /// Appends the low `count` bits of `value`, for which there is room, the most significant first.
-    pub(crate) fn put_bits(&mut self, value: u32, count: u8)
+    /// Puts the bytes that the waiting bits fill, for which there is room.
+    fn put_bytes(&mut self)
         requires packing { IsPacking self.old }
-        requires count { count ≤ 32 }
-        requires room { 7 * vec_len self.old.bytes + self.old.count + count ≤ 7 * vec_capacity self.old.bytes }
+        requires room { 7 * vec_len self.old.bytes + self.old.count ≤ 7 * vec_capacity self.old.bytes }
         ensures packing { IsPacking self.new }
-        ensures bits { bits_put self.new ≡ bits_put self.old ++ bits count value }
+        ensures bits { bits_put self.new ≡ bits_put self.old }
+        ensures few { self.new.count < Bits.width_after self.new.last }
         ensures capacity { vec_capacity self.new.bytes ≡ vec_capacity self.old.bytes }
-        ensures growth { 7 * vec_len self.new.bytes + self.new.count ≤ 7 * vec_len self.old.bytes + self.old.count + count }
+        ensures growth { 7 * vec_len self.new.bytes + self.new.count ≤ 7 * vec_len self.old.bytes + self.old.count }
     {
-        let low = value as u64 % (1 << count);
-        let mut waiting = ((self.partial as u64) << count) + low;
-        let mut left = self.count + count;
+        let mut waiting = self.waiting;
+        let mut left = self.count;
         let mut width = width_after(self.last);
         while left >= width {
             left -= width;
@@ -87,25 +113,52 @@ impl Packing {
             width = width_after(byte);
         }
         self.count = left;
-        self.partial = waiting as u8;
+        self.waiting = waiting;
     }
 
-    /// The bytes of the bits, filled up with zeros, and without 0xFF at the end.
-    pub(crate) fn finish(self) -> Result<Vec<u8>, AllocError>
-        requires { IsPacking self }
+    /// Appends the low `count` bits of `value`, for which there is room, the most significant first.
+    pub(crate) fn put_bits(&mut self, value: u32, count: u8)
+        requires packing { IsPacking self.old }
+        requires count { count ≤ 32 }
+        requires value { value < 2 ^ count }
+        requires room { 7 * vec_len self.old.bytes + self.old.count + count ≤ 7 * vec_capacity self.old.bytes }
+        ensures packing { IsPacking self.new }
+        ensures bits { bits_put self.new ≡ bits_put self.old ++ bits count value }
+        ensures capacity { vec_capacity self.new.bytes ≡ vec_capacity self.old.bytes }
+        ensures growth { 7 * vec_len self.new.bytes + self.new.count ≤ 7 * vec_len self.old.bytes + self.old.count + count }
+    {
+        self.put_bytes();
+        self.append(value, count);
+    }
+
+    /// The bytes of the bits, filled up with zeros, and without 0xFF at the end, where fewer bits wait than fill a byte.
+    fn padded(self) -> Result<Vec<u8>, AllocError>
+        requires packing { IsPacking self }
+        requires few { self.count < Bits.width_after self.last }
         ensures { IfOk result (λ v. IsPad (bits_put self) v.items) }
     {
         let Packing {
             mut bytes,
             last,
             count,
-            partial,
+            waiting,
         } = self;
         if count > 0 {
+            let partial = waiting as u8;
             bytes.push(partial << (width_after(last) - count))?;
         } else if last == 0xFF {
             bytes.push(0)?;
         }
         Ok(bytes)
+    }
+
+    /// The bytes of the bits, filled up with zeros, and without 0xFF at the end.
+    pub(crate) fn finish(mut self) -> Result<Vec<u8>, AllocError>
+        requires { IsPacking self }
+        ensures { IfOk result (λ v. IsPad (bits_put self) v.items) }
+    {
+        self.reserve(0)?;
+        self.put_bytes();
+        self.padded()
     }
 }

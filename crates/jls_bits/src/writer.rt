@@ -56,6 +56,7 @@ impl BitWriter {
     }
 
     /// Appends zeros, and then the low `count` bits of `value`: all of them, or nothing where memory is refused.
+    #[inline(always)]
     pub(crate) fn push_zeros_then_bits(
         &mut self,
         zeros: u8,
@@ -64,6 +65,23 @@ impl BitWriter {
     ) -> Result<(), AllocError>
         requires count { count ≤ 32 }
         requires zeros { zeros ≤ 64 }
+        requires value { value < 2 ^ count }
+        ensures ok { OnOk result (self.new ≡ self.old ++ (replicate zeros false ++ bits count value)) }
+        ensures err { OnErr result (self.new ≡ self.old) }
+    {
+        if self.packing.has_place(zeros + count) {
+            self.packing.append(value, zeros + count);
+            return Ok(());
+        }
+        self.put_zeros_then_bits(zeros, value, count)
+    }
+
+    /// Does the same where not all of these bits can wait.
+    #[inline(never)]
+    fn put_zeros_then_bits(&mut self, zeros: u8, value: u32, count: u8) -> Result<(), AllocError>
+        requires count { count ≤ 32 }
+        requires zeros { zeros ≤ 64 }
+        requires value { value < 2 ^ count }
         ensures ok { OnOk result (self.new ≡ self.old ++ (replicate zeros false ++ bits count value)) }
         ensures err { OnErr result (self.new ≡ self.old) }
     {

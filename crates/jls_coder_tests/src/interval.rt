@@ -7,3 +7,4 @@ mod decoding;
 mod encoding;
 mod large;
 mod lines;
+mod size;

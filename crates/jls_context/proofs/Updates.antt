@@ -2,7 +2,7 @@
 use Rattle.std.proofs.Common.{◌≡◌, ℕ, ◌+◌, ◌/◌, refl, Bool, true, false, eqb, subst}
 use Rattle.std.specs.Prelude.{T, ℤ, pos, negsuc, neg_ℤ, ◌+ℤ◌, ◌-ℤ◌, ◌<ℤ◌, ◌≤ℤ◌, int_lt, int_le, unsigned_abs}
 use Rattle.std.specs.Int.{int_div_euclid, int_max, int_min}
-use Rattle.std.specs.Int.Signed.{le_z_yes, clash_ℤ}
+use Rattle.std.specs.Int.Signed.{le_z_yes, lt_z_yes, clash_ℤ}
 use Rattle.std.proofs.lemmas.Bool.{eq-eqb, ne_eqb}
 use Rattle.jls_context.specs.declared.regular.Cell.{Cell}
 use Rattle.jls_context.specs.Regular.{computed_bias, computed_correction, bias_computed, updated}
@@ -14,6 +14,10 @@ holds false h = absurd h
 fails : (a b : ℤ) (t : Bool) → t ≡ int_le a b → b <ℤ a → t ≡ false
 fails a b true is h = clash_ℤ h (le_z_yes (subst T is tt))
 fails a b false is h = refl
+
+not_above : (a b : ℤ) (t : Bool) → t ≡ int_lt a b → b ≤ℤ a → t ≡ false
+not_above a b true is h = clash_ℤ (lt_z_yes (subst T is tt)) h
+not_above a b false is h = refl
 
 pub bias_low : (n : ℕ) (b : ℤ) → b ≤ℤ neg_ℤ (pos n) → computed_bias n b ≡ int_max (b +ℤ pos n) (pos 1 -ℤ pos n)
 bias_low n b h = let low : int_le b (neg_ℤ (pos n)) ≡ true = holds _ h.le in rw low refl
@@ -28,6 +32,11 @@ correction_low n b c h = let low : int_le b (neg_ℤ (pos n)) ≡ true = holds _
 pub correction_high : (n : ℕ) (b c : ℤ) → neg_ℤ (pos n) <ℤ b → pos 0 <ℤ b → computed_correction n b c ≡ int_min (c +ℤ pos 1) (pos 127)
 correction_high n b c h i =
     let low : int_le b (neg_ℤ (pos n)) ≡ false = fails b (neg_ℤ (pos n)) _ refl h in let high : int_lt (pos 0) b ≡ true = holds _ i.lt in rw (low, high) refl
+
+-- a bias within its range
+pub neither : (n : ℕ) (b c : ℤ) → neg_ℤ (pos n) <ℤ b → b ≤ℤ pos 0 → (computed_bias n b ≡ b) × (computed_correction n b c ≡ c)
+neither n b c h i =
+    let low : int_le b (neg_ℤ (pos n)) ≡ false = fails b (neg_ℤ (pos n)) _ refl h in let high : int_lt (pos 0) b ≡ false = not_above (pos 0) b _ refl i in (rw (low, high) refl, rw (low, high) refl)
 
 -- before RESET
 pub updated-grown : (reset : ℕ) (cell : Cell) (e : ℤ) (grown : Cell) → (cell.occurrences ≡ reset → ⊥)

@@ -84,13 +84,9 @@ pub(crate) fn error_mapped(special: bool, error: i32) -> u32
     requires at_most { error ≤ℤ pos (2 ^ 17) }
     ensures { result ≡ Rattle.jls_context.specs.Errors.error_mapped special error }
 {
-    if error >= 0 {
-        let size = error as u32;
-        if special { 2 * size + 1 } else { 2 * size }
-    } else {
-        let size = (-(error + 1)) as u32;
-        if special { 2 * size } else { 2 * size + 1 }
-    }
+    let negative = error < 0;
+    let size = if negative { -(error + 1) } else { error };
+    2 * size as u32 + (negative != special) as u32
 }
 
 /// The error that is mapped to a number.

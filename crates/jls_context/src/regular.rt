@@ -40,14 +40,11 @@ fn computed_bias(occurrences: u32, bias: i32) -> i32
     ensures above { neg_ℤ (pos occurrences) <ℤ result }
     ensures at_most { result ≤ℤ pos 0 }
 {
+    // No jump for each case: of noisy samples a processor guesses every second one wrong.
     let count = occurrences as i32;
-    if bias <= -count {
-        (bias + count).max(1 - count)
-    } else if bias > 0 {
-        (bias - count).min(0)
-    } else {
-        bias
-    }
+    let raised = if bias <= -count { bias + count } else { bias };
+    let moved = if bias > 0 { raised - count } else { raised };
+    moved.max(1 - count).min(0)
 }
 
 /// C after a bias.
@@ -59,13 +56,14 @@ fn computed_correction(occurrences: u32, bias: i32, correction: i32) -> i32
     ensures at_least { negsuc 127 ≤ℤ result }
     ensures at_most { result ≤ℤ pos 127 }
 {
-    if bias <= -(occurrences as i32) {
-        (correction - 1).max(-128)
-    } else if bias > 0 {
-        (correction + 1).min(127)
+    let count = occurrences as i32;
+    let lowered = if bias <= -count {
+        correction - 1
     } else {
         correction
-    }
+    };
+    let moved = if bias > 0 { lowered + 1 } else { lowered };
+    moved.max(-128).min(127)
 }
 
 impl Cell {

@@ -1,6 +1,6 @@
 //! Where scan data can be cut.
 
-ghost use Rattle.std.specs.Prelude.{◌≡◌, ℕ, ◌≤◌, ◌<◌, IfSome, IfNone, take, length};
+ghost use Rattle.std.specs.Prelude.{ℕ, ◌≤◌, ◌<◌, IfSome, IfNone, take, length};
 ghost use Rattle.jls_copy.specs.Stretch.{IsStretch};
 ghost use Rattle.jls_copy.specs.ScanData.{IsCutPlace};
 

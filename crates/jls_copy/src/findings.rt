@@ -1,6 +1,6 @@
 //! What a copy gives: readings, and records of the pieces that give none.
 
-ghost use Rattle.std.specs.Prelude.{◌≡◌, ◌≢◌, ◌+◌, ◌*◌, ◌^◌, ◌≤◌, ◌<◌, ◌++◌, ◌∷◌, [], ℕ, OnOk, IfOk, length, map, take, Some, None};
+ghost use Rattle.std.specs.Prelude.{◌≡◌, ◌≢◌, ◌+◌, ◌*◌, ◌^◌, ◌≤◌, ◌<◌, ◌∷◌, [], ℕ, OnOk, length, map, take, Some, None};
 ghost use Rattle.jls_copy.specs.Findings.{with_readings, picture_of, HoldsShape, kept_with, Adds, AddsCut, IsKindOf};
 ghost use Rattle.jls_copy.specs.Fits.{FitFrom};
 ghost use Rattle.jls_partial.specs.InsertFaults.{reading_fault};

@@ -1,6 +1,6 @@
 //! Pieces of scan data.
 
-ghost use Rattle.std.specs.Prelude.{◌≡◌, ◌+◌, ◌∷◌, ◌++◌, [], ◌<◌, ◌^◌, OnOk, IfOk};
+ghost use Rattle.std.specs.Prelude.{◌≡◌, ◌∷◌, [], ◌<◌, ◌^◌, OnOk, IfOk};
 ghost use Rattle.jls_marker.specs.Scan.{intervals};
 ghost use Rattle.jls_copy.specs.Numbers.{numbered};
 ghost use Rattle.jls_copy.specs.ReaderState.{piece_opened, piece_with};

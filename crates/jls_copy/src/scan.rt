@@ -1,12 +1,11 @@
 //! Scan data, byte after byte.
 
-ghost use Rattle.std.specs.Prelude.{◌≡◌, ℕ, ◌+◌, ◌-◌, ◌*◌, ◌^◌, ◌∷◌, ◌++◌, [], ◌<◌, ◌≤◌, OnOk, IfOk, true, List, Option, length, take};
-ghost use Rattle.jls_marker.specs.Scan.{intervals};
-ghost use Rattle.jls_copy.specs.Numbers.{next_number as number_rule, number_behind};
+ghost use Rattle.std.specs.Prelude.{◌≡◌, ℕ, ◌+◌, ◌-◌, ◌^◌, ◌<◌, ◌≤◌, OnOk, IfOk, List, Option, length, take};
+ghost use Rattle.jls_copy.specs.Numbers.{next_number as number_rule};
 ghost use Rattle.jls_copy.specs.ScanData.{is_restart_code as restart_code, ends_scan_data as end_code};
 ghost use Rattle.jls_copy.specs.ReaderState as state;
 ghost use Rattle.jls_copy.specs.declared.scan.ByteClass.TheVariants.{Mark};
-ghost use Rattle.jls_copy.specs.Sound.{IsOpenScan, IsOpenPiece, IsPlace};
+ghost use Rattle.jls_copy.specs.Sound.{IsOpenScan, IsPlace};
 ghost use Rattle.jls_copy.specs.Stretch.{LeadsTo};
 ghost use Rattle.jls_copy.specs.declared.place.Place.TheVariants.{InScan};
 ghost use Rattle.jls_values.specs.Shape.{PictureShape};

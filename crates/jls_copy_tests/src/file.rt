@@ -1,45 +1,54 @@
 //! Small pictures and their files, worked out by hand.
 
 use crate::limited::Limited;
+use crate::lines::{Lines, settled};
 use jls_device::Counted;
 use jls_file::write_jls;
-use jls_partial::Partial;
 use jls_picture::{Options, OutputFault, Picture};
-use jls_values::{Params, Shape};
+use jls_values::Params;
 use std::alloc::Global;
 use std::process::Abort;
 use std::test::Fail;
 
-/// A picture of 8 bits: its width, identifiers and lines, row by row and in a row by component. The options that are not
-/// defaults, and the file.
+/// How a file is written: with a scan for all components or one for each, so many lines in a restart interval, and this MAXVAL.
 #[derive(Clone, Copy)]
-struct Row<'a> {
-    width: u16,
-    ids: &'a [u8],
-    lines: &'a [&'a [u16]],
+struct How {
     line: bool,
     ri: u16,
     maxval: u16,
+}
+
+/// A scan for each component, without restart intervals, and with the largest MAXVAL of the precision.
+const APART: How = How {
+    line: false,
+    ri: 0,
+    maxval: 0,
+};
+
+/// The same with one scan for all components.
+const TOGETHER: How = How {
+    line: true,
+    ri: 0,
+    maxval: 0,
+};
+
+/// A picture, how it is written, and the file.
+#[derive(Clone, Copy)]
+struct Row<'a> {
+    lines: Lines<'a>,
+    how: How,
     file: &'a [u8],
 }
 
 /// The picture is written as the file; a write that fails after n bytes is told, for each n.
 fn check(rt: &impl Abort, alloc: Global, row: &Row<'_>) -> Result<(), Fail> {
-    let components = row.ids.len();
-    if components == 0 {
-        return Ok(());
-    }
-    let height = u16::try_from(row.lines.len() / components)?;
-    let mut partial = Partial::empty(alloc, Shape::new(8, row.width, height, row.ids)?);
-    for (i, samples) in row.lines.iter().enumerate() {
-        partial.insert(
-            u8::try_from(i % components)?,
-            u16::try_from(i / components)?,
-            samples,
-        )?;
-    }
+    let partial = settled(alloc, &row.lines)?;
     let picture = Picture::of(&partial).expect(rt, "a line is not settled");
-    let options = Options::new(row.line, row.ri, Params::new(8, row.maxval, 0, 0, 0, 0)?);
+    let options = Options::new(
+        row.how.line,
+        row.how.ri,
+        Params::new(8, row.how.maxval, 0, 0, 0, 0)?,
+    );
     assert!(rt; options.fits(&picture));
     for most in [1, usize::MAX] {
         for n in 0..=row.file.len() {
@@ -65,29 +74,31 @@ fn check(rt: &impl Abort, alloc: Global, row: &Row<'_>) -> Result<(), Fail> {
 /// of one row, with ILV of one component; and a MAXVAL of 15, whose thresholds are no defaults.
 const FILES: [Row<'static>; 8] = [
     Row {
-        width: 1,
-        ids: &[1],
-        lines: &[&[0]],
-        line: false,
-        ri: 0,
-        maxval: 0,
+        lines: Lines {
+            precision: 8,
+            width: 1,
+            ids: &[1],
+            lines: &[&[0]],
+        },
+        how: APART,
         file: &[
             0xFF, 0xD8, 0xFF, 0xF7, 0x00, 0x0B, 0x08, 0x00, 0x01, 0x00, 0x01, 0x01, 0x01, 0x11,
             0x00, 0xFF, 0xDA, 0x00, 0x08, 0x01, 0x01, 0x00, 0x00, 0x00, 0x00, 0x80, 0xFF, 0xD9,
         ],
     },
     Row {
-        width: 4,
-        ids: &[1],
-        lines: &[
-            &[0, 0, 90, 74],
-            &[68, 50, 43, 205],
-            &[64, 145, 145, 145],
-            &[100, 145, 145, 145],
-        ],
-        line: false,
-        ri: 0,
-        maxval: 0,
+        lines: Lines {
+            precision: 8,
+            width: 4,
+            ids: &[1],
+            lines: &[
+                &[0, 0, 90, 74],
+                &[68, 50, 43, 205],
+                &[64, 145, 145, 145],
+                &[100, 145, 145, 145],
+            ],
+        },
+        how: APART,
         file: &[
             0xFF, 0xD8, 0xFF, 0xF7, 0x00, 0x0B, 0x08, 0x00, 0x04, 0x00, 0x04, 0x01, 0x01, 0x11,
             0x00, 0xFF, 0xDA, 0x00, 0x08, 0x01, 0x01, 0x00, 0x00, 0x00, 0x00, 0xC0, 0x00, 0x00,
@@ -97,12 +108,13 @@ const FILES: [Row<'static>; 8] = [
         ],
     },
     Row {
-        width: 1,
-        ids: &[1, 2],
-        lines: &[&[10], &[10]],
-        line: true,
-        ri: 0,
-        maxval: 0,
+        lines: Lines {
+            precision: 8,
+            width: 1,
+            ids: &[1, 2],
+            lines: &[&[10], &[10]],
+        },
+        how: TOGETHER,
         file: &[
             0xFF, 0xD8, 0xFF, 0xF7, 0x00, 0x0E, 0x08, 0x00, 0x01, 0x00, 0x01, 0x02, 0x01, 0x11,
             0x00, 0x02, 0x11, 0x00, 0xFF, 0xDA, 0x00, 0x0A, 0x02, 0x01, 0x00, 0x02, 0x00, 0x00,
@@ -110,12 +122,13 @@ const FILES: [Row<'static>; 8] = [
         ],
     },
     Row {
-        width: 1,
-        ids: &[1, 2],
-        lines: &[&[10], &[10]],
-        line: false,
-        ri: 0,
-        maxval: 0,
+        lines: Lines {
+            precision: 8,
+            width: 1,
+            ids: &[1, 2],
+            lines: &[&[10], &[10]],
+        },
+        how: APART,
         file: &[
             0xFF, 0xD8, 0xFF, 0xF7, 0x00, 0x0E, 0x08, 0x00, 0x01, 0x00, 0x01, 0x02, 0x01, 0x11,
             0x00, 0x02, 0x11, 0x00, 0xFF, 0xDA, 0x00, 0x08, 0x01, 0x01, 0x00, 0x00, 0x00, 0x00,
@@ -123,12 +136,13 @@ const FILES: [Row<'static>; 8] = [
         ],
     },
     Row {
-        width: 1,
-        ids: &[1, 2],
-        lines: &[&[10], &[20], &[30], &[40]],
-        line: true,
-        ri: 0,
-        maxval: 0,
+        lines: Lines {
+            precision: 8,
+            width: 1,
+            ids: &[1, 2],
+            lines: &[&[10], &[20], &[30], &[40]],
+        },
+        how: TOGETHER,
         file: &[
             0xFF, 0xD8, 0xFF, 0xF7, 0x00, 0x0E, 0x08, 0x00, 0x02, 0x00, 0x01, 0x02, 0x01, 0x11,
             0x00, 0x02, 0x11, 0x00, 0xFF, 0xDA, 0x00, 0x0A, 0x02, 0x01, 0x00, 0x02, 0x00, 0x00,
@@ -136,12 +150,13 @@ const FILES: [Row<'static>; 8] = [
         ],
     },
     Row {
-        width: 4,
-        ids: &[1, 2, 3],
-        lines: &[&[0, 0, 0, 0], &[0, 0, 0, 0], &[0, 0, 0, 0]],
-        line: true,
-        ri: 0,
-        maxval: 0,
+        lines: Lines {
+            precision: 8,
+            width: 4,
+            ids: &[1, 2, 3],
+            lines: &[&[0, 0, 0, 0], &[0, 0, 0, 0], &[0, 0, 0, 0]],
+        },
+        how: TOGETHER,
         file: &[
             0xFF, 0xD8, 0xFF, 0xF7, 0x00, 0x11, 0x08, 0x00, 0x01, 0x00, 0x04, 0x03, 0x01, 0x11,
             0x00, 0x02, 0x11, 0x00, 0x03, 0x11, 0x00, 0xFF, 0xDA, 0x00, 0x0C, 0x03, 0x01, 0x00,
@@ -149,12 +164,17 @@ const FILES: [Row<'static>; 8] = [
         ],
     },
     Row {
-        width: 1,
-        ids: &[1],
-        lines: &[&[0], &[1], &[2], &[3], &[4], &[5], &[6], &[7], &[8], &[9]],
-        line: true,
-        ri: 1,
-        maxval: 0,
+        lines: Lines {
+            precision: 8,
+            width: 1,
+            ids: &[1],
+            lines: &[&[0], &[1], &[2], &[3], &[4], &[5], &[6], &[7], &[8], &[9]],
+        },
+        how: How {
+            line: true,
+            ri: 1,
+            maxval: 0,
+        },
         file: &[
             0xFF, 0xD8, 0xFF, 0xF7, 0x00, 0x0B, 0x08, 0x00, 0x0A, 0x00, 0x01, 0x01, 0x01, 0x11,
             0x00, 0xFF, 0xDD, 0x00, 0x04, 0x00, 0x01, 0xFF, 0xDA, 0x00, 0x08, 0x01, 0x01, 0x00,
@@ -164,12 +184,17 @@ const FILES: [Row<'static>; 8] = [
         ],
     },
     Row {
-        width: 1,
-        ids: &[1],
-        lines: &[&[15]],
-        line: false,
-        ri: 0,
-        maxval: 15,
+        lines: Lines {
+            precision: 8,
+            width: 1,
+            ids: &[1],
+            lines: &[&[15]],
+        },
+        how: How {
+            line: false,
+            ri: 0,
+            maxval: 15,
+        },
         file: &[
             0xFF, 0xD8, 0xFF, 0xF7, 0x00, 0x0B, 0x08, 0x00, 0x01, 0x00, 0x01, 0x01, 0x01, 0x11,
             0x00, 0xFF, 0xF8, 0x00, 0x0D, 0x01, 0x00, 0x0F, 0x00, 0x02, 0x00, 0x03, 0x00, 0x04,

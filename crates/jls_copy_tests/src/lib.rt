@@ -11,6 +11,8 @@ mod file;
 #[cfg(test)]
 mod limited;
 #[cfg(test)]
+mod lines;
+#[cfg(test)]
 mod marker;
 #[cfg(test)]
 mod partial;

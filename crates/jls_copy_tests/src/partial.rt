@@ -1,3 +1,4 @@
+mod merged_texts;
 mod texts;
 
 use jls_partial::{InsertFault, LineSet, Partial, Status};

@@ -1,6 +1,7 @@
 //! Small pictures and their files, worked out by hand.
 
 use crate::limited::Limited;
+use crate::lines::{Lines, settled};
 use jls_device::Counted;
 use jls_partial::Partial;
 use jls_picture::{Options, OutputFault, Picture, PictureFault, write_pnm};
@@ -25,109 +26,96 @@ fn written(
     (result, sink.held)
 }
 
-/// A picture: its precision, width, identifiers and lines, row by row and in a row by component. And its file.
-#[derive(Clone, Copy)]
-struct Row<'a> {
-    precision: u8,
-    width: u16,
-    ids: &'a [u8],
-    lines: &'a [&'a [u16]],
-    file: &'a [u8],
-}
-
 /// The lines are written as this file, and a write that fails after n bytes is told, for each n.
-fn check(rt: &impl Abort, alloc: Global, row: &Row<'_>) -> Result<(), Fail> {
-    let components = row.ids.len();
-    if components == 0 {
-        return Ok(());
-    }
-    let height = u16::try_from(row.lines.len() / components)?;
-    let mut partial = Partial::empty(
-        alloc,
-        Shape::new(row.precision, row.width, height, row.ids)?,
-    );
-    for (i, samples) in row.lines.iter().enumerate() {
-        partial.insert(
-            u8::try_from(i % components)?,
-            u16::try_from(i / components)?,
-            samples,
-        )?;
-    }
+fn check(rt: &impl Abort, alloc: Global, lines: &Lines<'_>, file: &[u8]) -> Result<(), Fail> {
+    let partial = settled(alloc, lines)?;
     let picture = Picture::of(&partial).expect(rt, "a line is not settled");
     for most in [1, 7, usize::MAX] {
-        for n in 0..=row.file.len() {
+        for n in 0..=file.len() {
             let (result, bytes) = written(alloc, &picture, most, n);
-            let wanted = if n == row.file.len() {
+            let wanted = if n == file.len() {
                 Ok(())
             } else {
                 Err(OutputFault::Write(n as u64))
             };
             assert_eq!(rt; result, wanted);
-            assert_eq!(rt; bytes.as_slice(), &row.file[..n]);
+            assert_eq!(rt; bytes.as_slice(), &file[..n]);
         }
     }
     Ok(())
 }
 
 /// One component with samples of two bytes and of one, three, and two and four.
-const FILES: [Row<'static>; 6] = [
-    Row {
-        precision: 16,
-        width: 1,
-        ids: &[1],
-        lines: &[&[65535]],
-        file: b"P5\n1 1\n65535\n\xFF\xFF",
-    },
-    Row {
-        precision: 9,
-        width: 2,
-        ids: &[1],
-        lines: &[&[258, 3]],
-        file: b"P5\n2 1\n511\n\x01\x02\x00\x03",
-    },
-    Row {
-        precision: 8,
-        width: 1,
-        ids: &[1],
-        lines: &[&[0], &[1], &[2], &[3], &[4], &[5], &[6], &[7], &[8], &[9]],
-        file: b"P5\n1 10\n255\n\x00\x01\x02\x03\x04\x05\x06\x07\x08\x09",
-    },
-    Row {
-        precision: 8,
-        width: 1,
-        ids: &[1, 2],
-        lines: &[&[10], &[10]],
-        file: b"P7\nWIDTH 1\nHEIGHT 1\nDEPTH 2\nMAXVAL 255\nENDHDR\n\x0A\x0A",
-    },
-    Row {
-        precision: 8,
-        width: 4,
-        ids: &[1, 2, 3],
-        lines: &[&[0, 0, 0, 0], &[0, 0, 0, 0], &[0, 0, 0, 0]],
-        file: b"P6\n4 1\n255\n\x00\x00\x00\x00\x00\x00\x00\x00\x00\x00\x00\x00",
-    },
-    Row {
-        precision: 2,
-        width: 2,
-        ids: &[9, 8, 7, 6],
-        lines: &[
-            &[0, 1],
-            &[1, 2],
-            &[2, 3],
-            &[3, 0],
-            &[3, 3],
-            &[2, 2],
-            &[1, 1],
-            &[0, 0],
-        ],
-        file: b"P7\nWIDTH 2\nHEIGHT 2\nDEPTH 4\nMAXVAL 3\nENDHDR\n\x00\x01\x02\x03\x01\x02\x03\x00\x03\x02\x01\x00\x03\x02\x01\x00",
-    },
+const FILES: [(Lines<'static>, &[u8]); 6] = [
+    (
+        Lines {
+            precision: 16,
+            width: 1,
+            ids: &[1],
+            lines: &[&[65535]],
+        },
+        b"P5\n1 1\n65535\n\xFF\xFF",
+    ),
+    (
+        Lines {
+            precision: 9,
+            width: 2,
+            ids: &[1],
+            lines: &[&[258, 3]],
+        },
+        b"P5\n2 1\n511\n\x01\x02\x00\x03",
+    ),
+    (
+        Lines {
+            precision: 8,
+            width: 1,
+            ids: &[1],
+            lines: &[&[0], &[1], &[2], &[3], &[4], &[5], &[6], &[7], &[8], &[9]],
+        },
+        b"P5\n1 10\n255\n\x00\x01\x02\x03\x04\x05\x06\x07\x08\x09",
+    ),
+    (
+        Lines {
+            precision: 8,
+            width: 1,
+            ids: &[1, 2],
+            lines: &[&[10], &[10]],
+        },
+        b"P7\nWIDTH 1\nHEIGHT 1\nDEPTH 2\nMAXVAL 255\nENDHDR\n\x0A\x0A",
+    ),
+    (
+        Lines {
+            precision: 8,
+            width: 4,
+            ids: &[1, 2, 3],
+            lines: &[&[0, 0, 0, 0], &[0, 0, 0, 0], &[0, 0, 0, 0]],
+        },
+        b"P6\n4 1\n255\n\x00\x00\x00\x00\x00\x00\x00\x00\x00\x00\x00\x00",
+    ),
+    (
+        Lines {
+            precision: 2,
+            width: 2,
+            ids: &[9, 8, 7, 6],
+            lines: &[
+                &[0, 1],
+                &[1, 2],
+                &[2, 3],
+                &[3, 0],
+                &[3, 3],
+                &[2, 2],
+                &[1, 1],
+                &[0, 0],
+            ],
+        },
+        b"P7\nWIDTH 2\nHEIGHT 2\nDEPTH 4\nMAXVAL 3\nENDHDR\n\x00\x01\x02\x03\x01\x02\x03\x00\x03\x02\x01\x00\x03\x02\x01\x00",
+    ),
 ];
 
 #[test]
 fn files(rt: HostRuntime) -> Result<(), Fail> {
-    for row in &FILES {
-        check(&rt, rt.alloc(), row)?;
+    for (lines, file) in &FILES {
+        check(&rt, rt.alloc(), lines, file)?;
     }
     Ok(())
 }

@@ -3,7 +3,7 @@
 ghost use Rattle.std.specs.Prelude.{◌≡◌, ℕ, List, [], ◌∷◌, ◌++◌, Option, None, IfSome, OnOk, OnErr};
 ghost use Rattle.std.specs.Io.KnownBytes.{Keeps, IsAtEnd};
 ghost use Rattle.jls_device.specs.Asked.{AskedOnce, Request, input, output as request_output};
-ghost use Rattle.jls_device.specs.Event.{History, opened, not_opened, created, not_created, has_input};
+ghost use Rattle.jls_device.specs.Event.{opened, not_opened, created, not_created, has_input};
 ghost use Rattle.jls_device.specs.Remaining.{remaining_behind};
 
 use crate::device::{Desk, DeskFault, Device, Sink, SinkFault, Source, SourceFault};

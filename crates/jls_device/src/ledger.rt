@@ -1,6 +1,6 @@
 //! The counts of a device, kept beside its history.
 
-ghost use Rattle.std.specs.Prelude.{◌≡◌, Bool, ◌+◌, ◌-◌, ◌^◌, min, [], ◌∷◌, ◌++◌, if◌then◌else◌};
+ghost use Rattle.std.specs.Prelude.{◌≡◌, ◌+◌, ◌-◌, ◌^◌, min, [], ◌∷◌, ◌++◌, if◌then◌else◌};
 
 use crate::history::{HistoryCell, Noted};
 use std::marker::Model;

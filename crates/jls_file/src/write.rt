@@ -7,7 +7,7 @@ ghost use Rattle.jls_marker.specs.Scan.{intervals};
 ghost use Rattle.jls_picture.specs.Options.{OptionsFit};
 ghost use Rattle.jls_picture.specs.Outcomes.{HandedOut};
 ghost use Rattle.jls_values.specs.Params.{AreCodingParameters};
-ghost use Rattle.std.specs.Prelude.{◌≡◌, ◌+◌, ◌<◌, ◌≤◌, ◌^◌, length, IfOk, IfErr, OnOk};
+ghost use Rattle.std.specs.Prelude.{◌≡◌, ◌+◌, ◌<◌, ◌^◌, length, IfOk, IfErr, OnOk};
 
 use crate::headers::header_bytes;
 use crate::intervals::{before_interval, interval_code};

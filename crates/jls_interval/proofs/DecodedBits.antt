@@ -26,7 +26,7 @@ bits_more m s z [] e l = append-nil (m.step_bits s e) ∙ ap (λ v. m.step_bits 
 bits_more m s z (f ∷ es) e l = ap (λ v. m.step_bits s f ++ v) (bits_more m (m.after s f) z es e l.1) ∙ sym (append_assoc (m.step_bits s f) (bits_of_steps m (m.after s f) es) (m.step_bits z e))
 
 module _ (p : CodingParameters) (w c n : ℕ) (some : 0 < w) where
-  moved_open : (z : Position) (e : Event) → length z.line < w → IsNext p w c n z e → length (moved w c z e).line < w
+  pub moved_open : (z : Position) (e : Event) → length z.line < w → IsNext p w c n z e → length (moved w c z e).line < w
   moved_open z e o a =
       let line = z.line ++ added (here w c z).ra e in let es = z.earlier ++ e ∷ [] in
       let f = added_fits p w (length z.lines % c) (above c z.lines) z.line e o a.1 in

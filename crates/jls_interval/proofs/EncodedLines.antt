@@ -1,17 +1,19 @@
 -- Lines that were written, column by column and line by line.
-use Rattle.std.proofs.Common.{◌≡◌, ℕ, zero, suc, ◌+◌, ◌-◌, ◌%◌, ◌<◌, ◌≤◌, Bool, true, false, ltb, List, [], ◌∷◌, ◌++◌, length, take, get_or, set, refl, sym, ap, ◌∙◌, subst, arith, inl, inr, append_assoc}
+use Rattle.std.proofs.Common.{◌≡◌, ℕ, zero, suc, ◌+◌, ◌-◌, ◌%◌, ◌<◌, ◌≤◌, Bool, true, false, ltb, List, [], ◌∷◌, ◌++◌, length, take, drop, get_or, refl, sym, ap, ◌∙◌, subst, arith, inl, inr, append_assoc, add-one}
 use Rattle.std.specs.List.{AllByRecursion}
-use Rattle.std.proofs.lemmas.List.{append-nil, take_more, take_all, length-take-le, get_or-take, get_or-set_same, get_or-set_other}
-use Rattle.std.proofs.lemmas.Bool.{cases_eq, cases_lt, lt-ltb, le-ltb}
+use Rattle.std.proofs.lemmas.List.{append-nil, take_more, take_all, length-take-le, get_or-take, take-append-drop}
+use Rattle.std.proofs.lemmas.Bool.{cases_lt, lt-ltb, le-ltb}
 use Rattle.jls_values.specs.Params.{CodingParameters}
+use Rattle.jls_context.specs.declared.mode.Neighbours.{Neighbours}
+use Rattle.jls_context.specs.Mode.{is_run_mode}
 use Rattle.jls_context.specs.Variables.{Variables, initial_variables}
 use Rattle.jls_interval.specs.Lines.{IsLine}
-use Rattle.jls_interval.specs.Events.{Above, above, line_back, stretch, events_from, line_events, events_after, events}
+use Rattle.jls_interval.specs.Events.{Above, above, line_back, neighbours, regular, Stretch, stretch, events_from, line_events, events_after, events}
 use Rattle.jls_interval.specs.Code.{bits_of_events, code}
 use Rattle.jls_interval.specs.After.{IsAfter}
-use Rattle.jls_interval.specs.Encoding.{Written, Writes, IsBegun, AreWritten}
+use Rattle.jls_interval.specs.Encoding.{Written, Writes, WritesColumns, AreWritten}
 use Rattle.jls_interval.proofs.AfterEvents.{after_none}
-use Rattle.jls_interval.proofs.Stretches.{past, more}
+use Rattle.jls_interval.proofs.Stretches.{past, more, at_regular, at_front}
 use Rattle.jls_interval.proofs.GrownLines.{fuel_same}
 use Rattle.jls_interval.proofs.EncodedEvents.{bits_append, bits_none, writes_none, writes_then}
 
@@ -21,24 +23,58 @@ module _ (p : CodingParameters) (component : ℕ) (up : Above) (line : List ℕ)
   abbrev width : ℕ
   width = length line
 
-  pub begun_start : (old : Written) → IsBegun p component up line 0 old old
-  begun_start old = record { before = []; writes = writes_none p old; parted = refl }
+  pub columns_none : (x : ℕ) (old : Written) → WritesColumns p component up line x x old old
+  columns_none x old = record { first = []; writes = writes_none p old; parted = refl }
 
-  pub begun_more : (x next : ℕ) (old middle new : Written) → x < width → IsBegun p component up line x old middle
-      → Writes p middle new ((stretch width component up line x).event ∷ []) → next ≡ (stretch width component up line x).next
-      → IsBegun p component up line next old new
-  begun_more x next old middle new l b w e =
+  pub columns_then : (x y z : ℕ) (old middle new : Written) → WritesColumns p component up line x y old middle
+      → WritesColumns p component up line y z middle new → WritesColumns p component up line x z old new
+  columns_then x y z old middle new a b = record {
+    first = a.first ++ b.first;
+    writes = writes_then p old middle new a.first b.first a.writes b.writes;
+    parted = a.parted ∙ ap (λ u. a.first ++ u) b.parted ∙ sym (append_assoc a.first b.first (events_from width component up line width z));
+  }
+
+  -- one stretch
+  pub columns_one : (x next : ℕ) (old new : Written) → x < width → Writes p old new ((stretch width component up line x).event ∷ [])
+      → next ≡ (stretch width component up line x).next
+      → WritesColumns p component up line x next old new
+  columns_one x next old new l w e =
       let s = stretch width component up line x in
       record {
-        before = b.before ++ s.event ∷ [];
-        writes = writes_then p old middle new b.before (s.event ∷ []) b.writes w;
-        parted = b.parted ∙ ap (λ z. b.before ++ z) (fuel_same width component up width (suc width) line x (omega arith) (omega arith) ∙ more width component up width line x l ∙ ap (λ z. s.event ∷ events_from width component up line width z) (sym e)) ∙ sym (append_assoc b.before (s.event ∷ []) (events_from width component up line width next));
+        first = s.event ∷ [];
+        writes = w;
+        parted = fuel_same width component up width (suc width) line x (omega arith) (omega arith) ∙ more width component up width line x l ∙ ap (λ z. s.event ∷ events_from width component up line width z) (sym e);
       }
 
-  pub begun_end : (x : ℕ) (old new : Written) → width ≤ x → IsBegun p component up line x old new
+  pub columns_end : (x : ℕ) (old new : Written) → width ≤ x → WritesColumns p component up line 0 x old new
       → Writes p old new (line_events width component up line)
-  begun_end x old new l b =
-      subst (Writes p old new) (sym (b.parted ∙ ap (λ z. b.before ++ z) (past width component up width line x l) ∙ append-nil b.before)) b.writes
+  columns_end x old new l b =
+      subst (Writes p old new) (sym (b.parted ∙ ap (λ z. b.first ++ z) (past width component up width line x l) ∙ append-nil b.first)) b.writes
+
+  -- a sample of regular mode
+  pub columns_sample : (x y : ℕ) (old middle new : Written) (near : Neighbours) (sample : ℕ) → y < width → near ≡ neighbours width up line y
+      → is_run_mode near ≡ false → sample ≡ get_or line y 0 → WritesColumns p component up line x y old middle
+      → Writes p middle new (regular near sample ∷ []) → WritesColumns p component up line x (y + 1) old new
+  columns_sample x y old middle new near sample l near_is not_run sample_is b w =
+      let s = at_regular width component up line y (subst (λ (z : Neighbours). is_run_mode z ≡ false) near_is not_run) in
+      let e : regular near sample ≡ (stretch width component up line y).event = ap (λ z. regular z sample) near_is ∙ ap (regular (neighbours width up line y)) sample_is ∙ ap (λ (z : Stretch). z.event) (sym s) in
+      let n : y + 1 ≡ (stretch width component up line y).next = add-one y ∙ ap (λ (z : Stretch). z.next) (sym s) in
+      columns_then x y (y + 1) old middle new b (columns_one y (y + 1) middle new l (subst (λ z. Writes p middle new (z ∷ [])) e w) n)
+
+-- The neighbours of a column in a line that is there to its end ------------------------------
+
+module _ (w : ℕ) (up : Above) (line : List ℕ) where
+  pub neighbours_taken : (x : ℕ) → x ≤ length line → neighbours w up (take x line) x ≡ neighbours w up line x
+  neighbours_taken x l =
+      sym (at_front w 0 up (take x line) (drop x line) x (omega (arith, length-take-le x line l))) ∙ ap (λ z. neighbours w up z x) (take-append-drop x line)
+
+  -- those of the next column, as they move along
+  pub neighbours_next : (x value : ℕ) (near next : Neighbours) → x < length line → value ≡ get_or line x 0 → near ≡ neighbours w up line x
+      → ((before : List ℕ) → x ≡ length before → near ≡ neighbours w up before x → next ≡ neighbours w up (before ++ value ∷ []) (x + 1))
+      → next ≡ neighbours w up line (x + 1)
+  neighbours_next x value near next l value_is near_is moves =
+      let grown : take x line ++ value ∷ [] ≡ take (x + 1) line = ap (λ z. take x line ++ z ∷ []) value_is ∙ sym (take_more line x 0 l) in
+      moves (take x line) (sym (length-take-le x line (omega arith))) (near_is ∙ sym (neighbours_taken x (omega arith))) ∙ ap (λ z. neighbours w up z (x + 1)) grown ∙ neighbours_taken (x + 1) (omega arith)
 
 -- The lines of an interval -----------------------------------------------------------------
 

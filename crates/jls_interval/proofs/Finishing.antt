@@ -10,7 +10,7 @@ use Rattle.jls_bits.proofs.DataBits.{data_end, data_stop, length_more, width_bou
 use Rattle.jls_bits.proofs.Appending.{whole_front}
 use Rattle.jls_interval.specs.Reads.{Reads, IsLong, IsBroken}
 use Rattle.jls_interval.specs.PieceFaults.{NoLines, OutcomeIs}
-use Rattle.jls_interval.specs.Decoding.{IsOver, IsDead, IsReading, TakesFirst}
+use Rattle.jls_interval.specs.Decoding.{IsOver, IsDead, IsReading, TakesFirst, GivesBack, HasShape}
 use Rattle.jls_interval.specs.IntervalBytes.{IsReadingBefore, HasLengths}
 use Rattle.jls_interval.specs.declared.interval_reader.IntervalReader.{IntervalReader}
 use Rattle.jls_interval.specs.declared.decode_piece.PieceFault.{PieceFault}
@@ -125,3 +125,16 @@ module _ (p : CodingParameters) (bytes : List ℕ) (d : IntervalReader) where
   pub before_end : (chunk : List Bool) → length chunk ≤ 0 → IsReadingBefore p bytes chunk d → IsReading p (bits_read bytes) d
   before_end [] l h = subst (λ z. IsReading p z d) (sym (h.bits_are ∙ append-nil h.given)) h.reading
   before_end (b ∷ bs) l h = absurd (omega arith)
+
+-- bits given back
+pub before_back : (p : CodingParameters) (bytes : List ℕ) (d d' : IntervalReader) (chunk : List Bool) → IsReading p (bits_read bytes) d → GivesBack d d' chunk
+    → IsReadingBefore p bytes chunk d'
+before_back p bytes d d' chunk h b = let g = b p (bits_read bytes) h in record { given = g.before; bits_are = g.given_is; reading = g.reading }
+
+pub lengths_same : (bytes : List ℕ) (d d' : IntervalReader) → HasShape d d' → (d'.lines ≡ d.lines) × (d'.reader.line ≡ d.reader.line) → HasLengths bytes d
+    → HasLengths bytes d'
+lengths_same bytes d d' s e h = record {
+  lines_paid = (let a = h.lines_paid in let q = ap (λ (v : Vec (Vec ℕ Global) Global). length v.items) e.0 in omega arith);
+  lines_at_most = (let a = h.lines_at_most in let q = ap (λ (v : Vec (Vec ℕ Global) Global). length v.items) e.0 in let n = s.count in omega arith);
+  line_at_most = (let a = h.line_at_most in let q = ap (λ (v : Vec ℕ Global). length v.items) e.1 in let n = s.width in omega arith);
+}

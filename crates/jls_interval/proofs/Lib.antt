@@ -30,6 +30,7 @@ pub mod RunChunks
 pub mod HandBits
 pub mod Decoding
 pub mod IntervalReading
+pub mod GivenBack
 pub mod LineSamples
 pub mod Finishing
 pub mod CutSamples

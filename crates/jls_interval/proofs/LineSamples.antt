@@ -1,22 +1,24 @@
 -- Samples of regular mode that are taken one after another.
-use Rattle.std.proofs.Common.{◌≡◌, ℕ, zero, suc, ◌+◌, ◌%◌, ◌<◌, ◌≤◌, Bool, false, List, [], ◌∷◌, ◌++◌, length, get_or, refl, sym, ap, ◌∙◌, subst, arith, append_assoc, length-append}
+use Rattle.std.proofs.Common.{◌≡◌, ℕ, zero, suc, ◌+◌, ◌%◌, ◌<◌, Bool, false, List, [], ◌∷◌, ◌++◌, length, get_or, refl, sym, ap, ◌∙◌, subst, arith, append_assoc, length-append}
 use Rattle.std.proofs.Math.Seq.{get_or-append_seam}
 use Rattle.std.proofs.lemmas.List.{append-nil}
 use Rattle.std.proofs.lemmas.Bool.{lt-ltb}
-use Rattle.jls_values.specs.Params.{CodingParameters, AreCodingParameters}
+use Rattle.jls_values.specs.Params.{CodingParameters, AreCodingParameters, limit, qbpp}
 use Rattle.jls_context.specs.declared.mode.Neighbours.{Neighbours}
-use Rattle.jls_context.specs.Mode.{is_run_mode}
-use Rattle.jls_context.specs.Variables.{Variables}
+use Rattle.jls_context.specs.Mode.{is_run_mode, context}
+use Rattle.jls_context.specs.Regular.{regular_k}
+use Rattle.jls_context.specs.Variables.{Variables, cell_at}
+use Rattle.jls_bits.specs.CodeState.{IsOpen}
+use Rattle.jls_bits.specs.declared.code_state.CodeState.{CodeState}
 use Rattle.jls_interval.specs.Events.{regular, Above, above, neighbours}
 use Rattle.jls_interval.specs.Code.{event_bits}
 use Rattle.jls_interval.specs.Hands.{now_at, HandAt, EventDone}
 use Rattle.jls_interval.specs.Decoding.{IsWorking}
-use Rattle.jls_interval.specs.LineSamples.{SampleTaken, Works, TakenBy, TakesInLine}
+use Rattle.jls_interval.specs.LineSamples.{SampleTaken, SampleBegun, Works, TakenBy, TakesInLine}
 use Rattle.jls_interval.specs.declared.coder.Coder.{Coder}
-use Rattle.jls_interval.specs.declared.line_reader.Hand.{Hand}
-use Rattle.jls_interval.specs.declared.line_reader.Hand.TheVariants.{Fresh}
+use Rattle.jls_interval.specs.declared.line_reader.Hand.TheVariants.{Fresh, Sample}
 use Rattle.jls_interval.specs.declared.line_reader.LineReader.{LineReader}
-use Rattle.jls_interval.proofs.Decoding.{working_on}
+use Rattle.jls_interval.proofs.Decoding.{working_on, working_more}
 
 -- The neighbours of the next column -----------------------------------------------------------------
 
@@ -89,3 +91,27 @@ pub taken_same : (k : ℕ) (up : Above) (old now : LineReader) (chunk unread unr
     → unread' ≡ unread → TakesInLine k up old now chunk unread → TakesInLine k up old (record now { coder = coder' }) chunk unread'
 taken_same k up old now chunk unread unread' coder' a b t =
     subst (λ (z : Coder). TakesInLine k up old (record now { coder = z }) chunk unread') (sym a) (subst (λ z. TakesInLine k up old now chunk z) (sym b) t)
+
+-- the first bits of a sample
+pub begun_same : (k : ℕ) (up : Above) (old now : LineReader) (chunk unread unread' : List Bool) (near : Neighbours) (code : CodeState) (coder' : Coder)
+    → SampleBegun now.coder.cells.parameters near now.coder.cells code unread unread' → coder' ≡ now.coder → now.hand ≡ Fresh
+    → now.coder.cells.parameters ≡ old.coder.cells.parameters → near ≡ now_at now.width up now.line.items
+    → TakesInLine k up old now chunk unread → TakesInLine k up old (record now { coder = coder'; hand = Sample code }) chunk unread'
+begun_same k up old now chunk unread unread' near code coder' s same fresh params near_is t = λ c n given lines k_is up_is h.
+    let p = old.coder.cells.parameters in let w : ℕ = now.width in let line : List ℕ = now.line.items in let cells : Variables = now.coder.cells in let ri : List ℕ = now.coder.run_indices in
+    let a = t c n given lines k_is up_is h in let x = a.works in let there = above c lines in
+    let told : x.told ≡ [] = subst (λ z. HandAt p w there line cells (get_or ri (length lines % c) 0) z x.told) fresh x.hand_at in
+    let s' = subst (λ q. SampleBegun q near cells code unread unread') params s in
+    let near' : near ≡ now_at w there line = subst (λ (z : Above). near ≡ now_at w z line) up_is near_is in
+    let at : HandAt p w there line cells (get_or ri (length lines % c) 0) (Sample code) (x.told ++ unread) = (
+      subst (λ (z : Neighbours). is_run_mode z ≡ false) near' s'.not_run,
+      subst (λ (z : Neighbours). IsOpen (regular_k (cell_at cells (context p z))) (limit p) (qbpp p) code) near' s'.opened,
+      ap (λ z. z ++ unread) told ∙ s'.told,
+    ) in
+    let more = working_more p (subst AreCodingParameters params now.coder.in_range) w c n (let u = x.unfinished in omega arith) (given ++ a.taken) lines line cells ri now.hand x unread (Sample code) at in
+    let all = append_assoc given a.taken unread in
+    record {
+      taken = a.taken ++ unread;
+      chunk_is = a.chunk_is ∙ sym (append-nil (a.taken ++ unread)) ∙ ap (λ z. (a.taken ++ unread) ++ z) (sym s.all);
+      works = subst (λ (z : Coder). Works p c n (given ++ (a.taken ++ unread)) lines (record now { coder = z; hand = Sample code })) (sym same) (subst (λ z. IsWorking p w c n z lines line cells ri (Sample code)) all more);
+    }

@@ -74,6 +74,15 @@ abbrev pub TakesFirst : IntervalReader → List Bool → IntervalReader → List
 TakesFirst old chunk new unread =
     (p : CodingParameters) (given : List Bool) → IsReading p given old → Taken p given new chunk unread
 
+-- the last bits given are those of a chunk, and were not taken
+pub record GivenBack (p : CodingParameters) (given : List Bool) (new : IntervalReader) (chunk : List Bool) : Type 0 where
+  pub before : List Bool
+  pub given_is : given ≡ before ++ chunk
+  pub reading : IsReading p before new
+
+abbrev pub GivesBack : IntervalReader → IntervalReader → List Bool → Type 0
+GivesBack old new chunk = (p : CodingParameters) (given : List Bool) → IsReading p given old → GivenBack p given new chunk
+
 -- the first bits of a chunk were taken, some of them
 pub record Takes (p : CodingParameters) (given : List Bool) (new : IntervalReader) (chunk unread : List Bool) : Type 0 where
   pub taken : List Bool

@@ -2,7 +2,7 @@
 use Rattle.std.specs.Prelude.{◌≡◌, ℕ, Bool, List, ◌++◌, length, take}
 use Rattle.jls_values.specs.Params.{CodingParameters}
 use Rattle.jls_context.specs.Variables.{Variables}
-use Rattle.jls_interval.specs.Events.{Event, Above, events_from, line_events, events}
+use Rattle.jls_interval.specs.Events.{Event, Above, events_from, events}
 use Rattle.jls_interval.specs.Code.{bits_of_events, code}
 use Rattle.jls_interval.specs.After.{IsAfter}
 use Rattle.jls_interval.specs.declared.encoder.Encoder.{Encoder}
@@ -25,11 +25,11 @@ pub record Writes (p : CodingParameters) (old new : Written) (later : List Event
   pub bits_are : (earlier : List Event) → IsAfter p old.cells old.run_indices earlier → new.written ≡ old.written
       ++ bits_of_events p earlier later
 
--- the columns of a line before column x were written
-pub record IsBegun (p : CodingParameters) (component : ℕ) (up : Above) (line : List ℕ) (x : ℕ) (old new : Written) : Type 0 where
-  pub before : List Event
-  pub writes : Writes p old new before
-  pub parted : line_events (length line) component up line ≡ before ++ events_from (length line) component up line (length line) x
+-- from one state to the other the columns of a line from column x to before column `next` were written
+pub record WritesColumns (p : CodingParameters) (component : ℕ) (up : Above) (line : List ℕ) (x next : ℕ) (old new : Written) : Type 0 where
+  pub first : List Event
+  pub writes : Writes p old new first
+  pub parted : let w = length line in events_from w component up line w x ≡ first ++ events_from w component up line w next
 
 -- the lines before line j were written, from the start of an interval
 pub record AreWritten (p : CodingParameters) (width components : ℕ) (lines : List (List ℕ)) (j : ℕ) (now : Written) : Type 0 where

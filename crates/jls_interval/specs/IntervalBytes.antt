@@ -35,6 +35,10 @@ pub record IsReadingBefore (p : CodingParameters) (bytes : List ℕ) (chunk : Li
   pub bits_are : bits_read bytes ≡ given ++ chunk
   pub reading : IsReading p given d
 
+-- the same, where the bytes have data bits
+abbrev pub ReadsBefore : CodingParameters → List ℕ → List Bool → IntervalReader → Type 0
+ReadsBefore p bytes chunk d = is_whole bytes ≡ true → IsReadingBefore p bytes chunk d
+
 -- The fields of a decoder, until memory is refused: what they say of the bytes so far, and how much they hold. There
 -- are at most eight finished lines for each byte, and no more than the interval has; beside them a line in work
 pub record IsDecoding (p : CodingParameters) (rows : ℕ) (bytes : List ℕ) (ended : Bool) (d : IntervalReader) : Type 0 where

@@ -10,6 +10,7 @@ ghost use Rattle.jls_interval.specs.Encoding.{Writes, written_by};
 use crate::coder::RegularMode;
 use crate::encode_run::{write_interrupted_run, write_run_to_end};
 use crate::encode_sample::{write_interrupting, write_regular};
+use crate::encode_samples::write_samples;
 use crate::encoder::Encoder;
 use crate::place::Place;
 use crate::run_index::{lowered, run_order};
@@ -113,7 +114,8 @@ pub(crate) fn write_line(
 {
     let mut x = 0;
     while x < line.len() {
-        x = write_stretch(encoder, place, line, x)?;
+        let next = write_samples(encoder, place, line, x)?;
+        x = write_stretch(encoder, place, line, next)?;
     }
     Ok(())
 }

@@ -19,14 +19,13 @@ use std::alloc::AllocError;
 fn signed_difference(negative: bool, sample: u16, prediction: u16) -> i32
     ensures { result ≡ with_sign negative (pos sample -ℤ pos prediction) }
 {
-    if negative {
-        i32::from(prediction) - i32::from(sample)
-    } else {
-        i32::from(sample) - i32::from(prediction)
-    }
+    let difference = i32::from(sample) - i32::from(prediction);
+    if negative { -difference } else { difference }
 }
 
+// A call of its own: within the loop that calls it, the compiler makes jumps of what are moves here.
 /// Writes a sample of regular mode.
+#[inline(never)]
 pub(crate) fn write_regular(
     encoder: &mut Encoder,
     neighbours: Neighbours,

@@ -1,6 +1,6 @@
 //! The lines of an interval, from bytes that come a few at a time.
 
-ghost use Rattle.std.specs.Prelude.{◌≡◌, ℕ, ◌*◌, ◌^◌, ◌<◌, ◌≤◌, ◌++◌, ◌+◌, true, [], ◌∷◌, Bool, List, length, Some, None, IsSome, IsErr, map, OnOk, OnErr, IfOk, IfSome, IfNone, MatchOption, MatchResult};
+ghost use Rattle.std.specs.Prelude.{◌≡◌, ℕ, ◌*◌, ◌^◌, ◌<◌, ◌≤◌, ◌++◌, ◌+◌, true, false, [], ◌∷◌, Bool, List, length, Some, None, IsSome, IsErr, map, OnOk, OnErr, IfOk, IfSome, IfNone, MatchOption, MatchResult};
 ghost use Rattle.std.specs.Option.{option_map};
 ghost use Rattle.jls_bits.specs.Bits.{bits_read, is_whole};
 ghost use Rattle.std.specs.List.{AllByRecursion};
@@ -8,8 +8,8 @@ ghost use Rattle.jls_values.specs.Params.{AreCodingParameters, CodingParameters}
 ghost use Rattle.jls_interval.specs.Reads.{Reads};
 ghost use Rattle.jls_interval.specs.PieceFaults.{OutcomeIs};
 ghost use Rattle.jls_interval.specs.CutEnds.{CutEndIs};
-ghost use Rattle.jls_interval.specs.Decoding.{HasShape};
-ghost use Rattle.jls_interval.specs.IntervalBytes.{IsReadingOf, HasLengths};
+ghost use Rattle.jls_interval.specs.Decoding.{GivesBack, HasShape, IsReading};
+ghost use Rattle.jls_interval.specs.IntervalBytes.{IsReadingOf, ReadsBefore, HasLengths};
 
 use crate::coder::Coder;
 use crate::cut_end::CutEnd;
@@ -61,24 +61,41 @@ fn append_bytes(unstuffer: &mut Unstuffer, bytes: &[u8], chunk: &mut Chunk) -> b
 /// event whose bits are all there is read at once.
 const WAITING: u8 = 32;
 
-/// Takes the next bytes, and says whether none of the bytes so far ends the data.
+/// Gives back the bits of the sample in hand, where no byte so far ends the data: else none.
+fn take_back(ended: bool, reader: &mut IntervalReader) -> Chunk
+    requires { ended ≡ false → (p : CodingParameters) × (given : List Bool) × IsReading p given reader.old }
+    ensures shape { HasShape reader.old reader.new }
+    ensures kept { (reader.new.lines ≡ reader.old.lines) × (reader.new.reader.line ≡ reader.old.reader.line) }
+    ensures bits { ended ≡ false → GivesBack reader.old reader.new result }
+    ensures few { length result ≤ 56 }
+{
+    if ended {
+        Chunk::new()
+    } else {
+        reader.take_back()
+    }
+}
+
+/// Takes the next bytes behind the bits of a chunk, and says whether none of the bytes so far ends the data.
 fn push_bytes(
     unstuffer: &mut Unstuffer,
     reader: &mut IntervalReader,
+    given_back: Chunk,
     bytes: &[u8],
 ) -> Result<bool, AllocError>
     requires some { 0 < length bytes.now }
-    requires reading { (p : CodingParameters) × IsReadingOf p unstuffer.old reader.old }
+    requires room { length given_back ≤ 56 }
+    requires reading { (p : CodingParameters) × ReadsBefore p unstuffer.old given_back reader.old }
     requires lengths { HasLengths unstuffer.old reader.old }
     ensures shape { HasShape reader.old reader.new }
     ensures are_bytes { AllByRecursion (λ x. x < 256) unstuffer.old → AllByRecursion (λ x. x < 256) unstuffer.new }
     ensures pushed { OnOk result (unstuffer.new ≡ unstuffer.old ++ bytes.now) }
     ensures whole { IfOk result (λ whole. whole ≡ is_whole unstuffer.new) }
-    ensures reading { OnOk result ((p : CodingParameters) → IsReadingOf p unstuffer.old reader.old
+    ensures reading { OnOk result ((p : CodingParameters) → ReadsBefore p unstuffer.old given_back reader.old
         → IsReadingOf p unstuffer.new reader.new) }
     ensures lengths { OnOk result (HasLengths unstuffer.new reader.new) }
 {
-    let mut chunk = Chunk::new();
+    let mut chunk = given_back;
     let mut whole = false;
     let mut at = 0;
     while at < bytes.len() {
@@ -87,13 +104,11 @@ fn push_bytes(
         whole = append_bytes(unstuffer, &bytes[at..end], &mut chunk);
         at = end;
         if whole {
-            reader.push_chunk(WAITING, &mut chunk)?;
+            let waiting = if at < bytes.len() { WAITING } else { 0 };
+            reader.push_chunk(waiting, &mut chunk)?;
         } else {
             chunk = Chunk::new();
         }
-    }
-    if whole {
-        reader.push_chunk(0, &mut chunk)?;
     }
     Ok(whole)
 }
@@ -192,7 +207,8 @@ impl IntervalDecoder {
         if more.is_empty() {
             return Ok(());
         }
-        match push_bytes(&mut self.unstuffer, &mut self.reader, more) {
+        let given_back = take_back(self.ended, &mut self.reader);
+        match push_bytes(&mut self.unstuffer, &mut self.reader, given_back, more) {
             Ok(whole) => {
                 self.ended = !whole;
                 Ok(())

@@ -36,8 +36,12 @@ pub(crate) struct IntervalReader {
     pub state: State,
 }
 
+/// As long as a chunk has so many bits, a sample is taken from it while others wait for more bytes. A code of fewer that isn't whole is
+/// looked for in vain.
+const LOOKED_FOR: u8 = 20;
+
 impl IntervalReader {
-    ghost use Rattle.jls_interval.specs.Decoding.{IsReading, TakesAll, TakesFirst, TakesEvent, HasShape};
+    ghost use Rattle.jls_interval.specs.Decoding.{IsReading, TakesAll, TakesFirst, TakesEvent, GivesBack, HasShape};
 
     /// Takes the bits of the event in hand, where lines are still to come, and says whether it is whole. Else
     /// nothing more is to be taken.
@@ -67,19 +71,47 @@ impl IntervalReader {
         }
     }
 
-    /// Takes samples from the front of a chunk that are no last ones of their line, where no event has begun.
-    fn push_samples(&mut self, chunk: &mut Chunk) -> Result<(), AllocError>
+    /// Takes samples from the front of a chunk that are no last ones of their line, where no event has begun, as long as there are at
+    /// least so many bits.
+    fn push_samples(&mut self, looked_for: u8, chunk: &mut Chunk) -> Result<(), AllocError>
         requires state { self.old.state ≡ State.Working }
         requires reading { (p : CodingParameters) × (given : List Bool) × IsReading p given self.old }
         ensures shape { HasShape self.old self.new }
         ensures state { self.new.state ≡ self.old.state }
         ensures bits { OnOk result (TakesFirst self.old chunk.old self.new chunk.new) }
     {
+        if chunk.len() < looked_for {
+            return Ok(());
+        }
         if let Hand::Fresh = self.reader.hand {
             let place = Place::after(&self.lines, self.components);
-            take_samples(&mut self.reader, &place, chunk)?;
+            take_samples(&mut self.reader, &place, looked_for, chunk)?;
         }
         Ok(())
+    }
+
+    /// Gives back the bits of the sample in hand, to be taken once more with those that follow them: none, where no short code has begun.
+    pub(crate) fn take_back(&mut self) -> Chunk
+        requires { (p : CodingParameters) × (given : List Bool) × IsReading p given self.old }
+        ensures shape { HasShape self.old self.new }
+        ensures kept { (self.new.lines ≡ self.old.lines) × (self.new.reader.line ≡ self.old.reader.line) }
+        ensures bits { GivesBack self.old self.new result }
+        ensures few { length result ≤ 56 }
+    {
+        let State::Working = self.state else {
+            return Chunk::new();
+        };
+        let Hand::Sample(code) = self.reader.hand else {
+            return Chunk::new();
+        };
+        let lengths = self.reader.coder.lengths;
+        match code.told(lengths.limit, lengths.qbpp) {
+            None => Chunk::new(),
+            Some(chunk) => {
+                self.reader.hand = Hand::Fresh;
+                chunk
+            }
+        }
     }
 
     /// Counts the bits that come behind the lines' code.
@@ -107,9 +139,10 @@ impl IntervalReader {
         ensures bits { OnOk result (TakesFirst self.old chunk.old self.new chunk.new) }
         ensures few { OnOk result (length chunk.new ≤ waiting - 1) }
     {
+        let fewest = waiting.max(1);
         'events: while self.is_working() {
-            self.push_samples(chunk)?;
-            if chunk.len() < waiting {
+            self.push_samples(fewest.min(LOOKED_FOR), chunk)?;
+            if chunk.len() < fewest {
                 return Ok(());
             }
             let goes_on = self.push_event(chunk)?;

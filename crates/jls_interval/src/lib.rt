@@ -12,6 +12,7 @@ mod encode;
 mod encode_line;
 mod encode_run;
 mod encode_sample;
+mod encode_samples;
 mod encoder;
 mod heads;
 mod interval_decoder;

@@ -1,19 +1,22 @@
 //! Taking samples of regular mode from a line in work, one after another (ITU-T T.87, A.3 to A.6).
 
-ghost use Rattle.std.specs.Prelude.{◌≡◌, ◌<◌, ◌≤◌, ◌++◌, length, pos, ◌-ℤ◌, IfSome, IfNone, OnOk};
+ghost use Rattle.std.specs.Prelude.{◌≡◌, ◌<◌, ◌≤◌, ◌++◌, length, pos, ◌-ℤ◌, IfSome, OnOk};
+ghost use Rattle.jls_values.specs.Params.{limit, qbpp};
 ghost use Rattle.jls_context.specs.Mode.{IsRegularMode, IsStep, quantized_gradient};
 ghost use Rattle.jls_context.specs.Errors.{IsError};
+ghost use Rattle.jls_context.specs.Regular.{regular_k};
 ghost use Rattle.jls_context.specs.Variables.{cell_at};
+ghost use Rattle.jls_bits.specs.CodeState.{IsOpen, bits_told};
 ghost use Rattle.jls_interval.specs.Cells.{regular_error};
 ghost use Rattle.jls_interval.specs.Code.{regular_bits};
 ghost use Rattle.jls_interval.specs.Place.{above_of};
-ghost use Rattle.jls_interval.specs.LineSamples.{SampleTaken, TakesInLine};
+ghost use Rattle.jls_interval.specs.LineSamples.{FrontIs, TakesInLine};
 
 use crate::coder::{Coder, RegularMode};
 use crate::line_reader::{Hand, LineReader};
 use crate::place::Place;
 use crate::push_sample::{Sample, sample_of};
-use jls_bits::Chunk;
+use jls_bits::{Chunk, CodeState};
 use jls_context::{Mode, Neighbours};
 use std::alloc::AllocError;
 
@@ -40,8 +43,32 @@ fn read_sample(
     }
 }
 
-/// Takes a sample of regular mode whose code is short and stands whole at the front, and gives it. Else it takes nothing.
-/// The quantized gradients from Rb to Rd and from Rc to Rb are given.
+/// What stands at the front of a chunk, where a sample of regular mode may come.
+#[derive(Clone, Copy)]
+pub(crate) enum Front {
+    /// This sample, which was taken.
+    Taken(u16),
+    /// The first bits of a short code and no more, which were all taken.
+    Begun(CodeState),
+    /// Something else, of which nothing was taken.
+    Other,
+}
+
+/// The state of a short code that all bits of a chunk begin, in regular mode. None where they are no such bits.
+#[inline(always)]
+fn begun_sample(coder: &Coder, mode: RegularMode, chunk: &Chunk) -> Option<CodeState>
+    requires context { mode.context ≤ 364 }
+    ensures opened { IfSome result (λ code. IsOpen (regular_k (cell_at coder.now.cells mode.context)) (limit coder.now.cells.parameters)
+        (qbpp coder.now.cells.parameters) code) }
+    ensures told { IfSome result
+        (λ code. chunk.now ≡ bits_told (limit coder.now.cells.parameters) (qbpp coder.now.cells.parameters) code) }
+{
+    let k = coder.cells.regular_k(mode.context);
+    CodeState::of_short(k, coder.lengths.limit, coder.lengths.qbpp, chunk)
+}
+
+/// Takes a sample of regular mode whose code is short, where it stands whole at the front, or the first bits of one, where these are all
+/// bits. The quantized gradients from Rb to Rd and from Rc to Rb are given.
 #[inline(always)]
 fn take_sample(
     coder: &mut Coder,
@@ -49,18 +76,16 @@ fn take_sample(
     first: i32,
     second: i32,
     chunk: &mut Chunk,
-) -> Option<u16>
+) -> Front
     requires first { first ≡ quantized_gradient coder.old.cells.parameters (pos neighbours.rd -ℤ pos neighbours.rb) }
     requires second { second ≡ quantized_gradient coder.old.cells.parameters (pos neighbours.rb -ℤ pos neighbours.rc) }
     requires steps { IsStep first × IsStep second }
-    ensures some { IfSome result
-        (λ value. SampleTaken coder.old.cells.parameters neighbours value coder.old coder.new chunk.old chunk.new) }
-    ensures none { IfNone result ((coder.new ≡ coder.old) × (chunk.new ≡ chunk.old)) }
+    ensures front { FrontIs coder.old.cells.parameters neighbours coder.old coder.new chunk.old chunk.new result }
     ensures parameters { coder.new.cells.parameters ≡ coder.old.cells.parameters }
 {
     let third = coder.cells.gradient(neighbours.rc, neighbours.ra);
     match coder.cells.mode_of(first, second, third) {
-        Mode::Run => None,
+        Mode::Run => Front::Other,
         Mode::Regular { cell, negative } => {
             let mode = RegularMode {
                 context: cell,
@@ -68,25 +93,29 @@ fn take_sample(
             };
             let mut ahead = chunk.fork();
             match read_sample(coder, neighbours, mode, &mut ahead) {
-                None => None,
                 Some(sample) => {
                     *chunk = ahead;
                     coder.cells.update_regular(cell, sample.error);
-                    Some(sample.value)
+                    Front::Taken(sample.value)
                 }
+                None => match begun_sample(coder, mode, chunk) {
+                    None => Front::Other,
+                    Some(code) => {
+                        *chunk = Chunk::new();
+                        Front::Begun(code)
+                    }
+                },
             }
         }
     }
 }
 
-/// As long as a chunk has so many bits, a sample is taken from it. A code of fewer that isn't whole is looked for in vain.
-const LOOKED_FOR: u8 = 20;
-
-/// Takes samples of regular mode as long as their codes are short and stand whole at the front. The last two columns of the
-/// line are not taken.
+/// Takes samples of regular mode as long as there are at least `looked_for` bits and their codes are short and stand whole at the
+/// front, and the first bits of one behind them. The last two columns of the line are not taken.
 pub(crate) fn take_samples(
     reader: &mut LineReader,
     place: &Place<'_>,
+    looked_for: u8,
     chunk: &mut Chunk,
 ) -> Result<(), AllocError>
     requires hand { reader.old.hand ≡ Hand.Fresh }
@@ -98,11 +127,15 @@ pub(crate) fn take_samples(
     let mut column = reader.line.len();
     let mut near = place.neighbours(reader.width, &reader.line, column);
     let mut second = reader.coder.cells.gradient(near.rb, near.rc);
-    'columns: while column + 2 < reader.width && chunk.len() >= LOOKED_FOR {
+    'columns: while column + 2 < reader.width && chunk.len() >= looked_for {
         let first = reader.coder.cells.gradient(near.rd, near.rb);
         match take_sample(&mut reader.coder, near, first, second, chunk) {
-            None => return Ok(()),
-            Some(value) => {
+            Front::Other => return Ok(()),
+            Front::Begun(code) => {
+                reader.hand = Hand::Sample(code);
+                return Ok(());
+            }
+            Front::Taken(value) => {
                 reader.line.push(value)?;
                 near = place.neighbours_behind(near, value, column);
                 second = first;

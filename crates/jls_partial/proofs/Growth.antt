@@ -1,10 +1,11 @@
 -- Readings with sources that are taken one after the other.
-use Rattle.std.proofs.Common.{◌≡◌, ℕ, zero, suc, ◌+◌, ◌<◌, ◌||◌, List, [], ◌∷◌, ◌++◌, length, get_or, take, drop, map, Option, Some, refl, ap, sym, subst, ◌∙◌, append_assoc, arith}
+use Rattle.std.proofs.Common.{◌≡◌, ℕ, zero, suc, ◌+◌, ◌<◌, ◌||◌, List, [], ◌∷◌, ◌++◌, length, get_or, take, drop, map, Option, Some, ap, sym, subst, ◌∙◌, append_assoc, arith}
 use Rattle.std.specs.Prelude.{IfSome, slice_get}
-use Rattle.std.proofs.lemmas.List.{append-nil, map-append, length-map, get_or-map, take_more, drop_more, take-append-drop}
+use Rattle.std.proofs.lemmas.List.{map-append, length-map, get_or-map, take_more, drop_more}
 use Rattle.std.proofs.lemmas.List.Concat.{flat_map-cons}
 use Rattle.jls_values.specs.Join.{IsBelow, IsBetween}
 use Rattle.jls_values.specs.OrderedSet as set
+use Rattle.jls_values.specs.Shape.{PictureShape}
 use Rattle.jls_values.specs.OrderedSetLaws.{same_set, contains-insert_all, contains-union, insert_all-append}
 use Rattle.jls_partial.specs.Entries.{Entry, kept_at_place, kept_readings, partial_of}
 use Rattle.jls_partial.specs.Held.{LineEntry, kept_entry}
@@ -87,22 +88,26 @@ next_entry e es = flat_map-cons (λ (e : Entry). map (kept_at_place e.0) e.1) (k
 
 -- ---- the union
 
--- all readings of another picture make the union with it
-pub all_is_union : (p q : PartialPicture) → AreMarksHeld q → with_all p (kept_readings (entries q)) ≡ union p q
-all_is_union p q held = λ i. record {
+-- the readings of entries make the union with their picture
+pub entries_union : (p : PartialPicture) (shape : PictureShape) (es : List Entry) → with_all p (kept_readings es) ≡ union p (partial_of shape es)
+entries_union p shape es = λ i. record {
   shape = p.shape;
-  readings = same_set reading_total reading_exact (set.insert_all p.readings (map (λ k. k.0) ks)) (set.union p.readings q.readings) (λ r.
+  readings = same_set reading_total reading_exact (set.insert_all p.readings (map (λ k. k.0) ks)) (set.union p.readings (partial_of shape es).readings) (λ r.
       contains-insert_all reading_total p.readings (map (λ k. k.0) ks) r
-      ∙ ap (λ b. set.contains p.readings r || b) (any_items reading_cmp r ks ∙ sym (holds_reading q.shape (entries q) r) ∙ ap (λ (z : PartialPicture). set.contains z.readings r) (partial_again q held))
-      ∙ sym (contains-union reading_total p.readings q.readings r)) i;
-  marks = same_set marks_total marks_exact (set.insert_all p.marks (marks_of ks)) (set.union p.marks q.marks) (λ m.
+      ∙ ap (λ b. set.contains p.readings r || b) (any_items reading_cmp r ks ∙ sym (holds_reading shape es r))
+      ∙ sym (contains-union reading_total p.readings (partial_of shape es).readings r)) i;
+  marks = same_set marks_total marks_exact (set.insert_all p.marks (marks_of ks)) (set.union p.marks (partial_of shape es).marks) (λ m.
       contains-insert_all marks_total p.marks (marks_of ks) m
-      ∙ ap (λ b. set.contains p.marks m || b) (any_marks reading_cmp m.0 m.1 ks ∙ sym (holds_mark q.shape (entries q) m.0 m.1) ∙ ap (λ (z : PartialPicture). set.contains z.marks m) (partial_again q held))
-      ∙ sym (contains-union marks_total p.marks q.marks m)) i;
+      ∙ ap (λ b. set.contains p.marks m || b) (any_marks reading_cmp m.0 m.1 ks ∙ sym (holds_mark shape es m.0 m.1))
+      ∙ sym (contains-union marks_total p.marks (partial_of shape es).marks m)) i;
 }
   where
     ks : List (Reading × List ℕ)
-    ks = kept_readings (entries q)
+    ks = kept_readings es
+
+-- all readings of another picture make the union with it
+pub all_is_union : (p q : PartialPicture) → AreMarksHeld q → with_all p (kept_readings (entries q)) ≡ union p q
+all_is_union p q held = entries_union p q.shape (entries q) ∙ ap (union p) (partial_again q held)
 
 -- what is taken is above what was there
 above_old : (p : PartialPicture) (ks : List (Reading × List ℕ)) → IsBelow union p (with_all p ks)
@@ -112,10 +117,15 @@ above_old p ks = λ i. record {
   marks = front_above marks_total marks_exact p.marks (marks_of ks) i;
 }
 
-pub front_between : (p q r : PartialPicture) → AreMarksHeld q → TakesFront p r (kept_readings (entries q)) → IsBetween union p r (union p q)
-front_between p q r held f =
-    let whole : with_all (with_all p f.taken) f.left ≡ union p q = sym (with_all-append p f.taken f.left) ∙ ap (with_all p) (sym f.parts) ∙ all_is_union p q held in
-    subst (λ (z : PartialPicture). IsBetween union p z (union p q)) (sym f.new_is) (
+-- a front of what makes the union is between what was there and that
+pub between_of : (p r high : PartialPicture) (all : List (Reading × List ℕ)) → with_all p all ≡ high → TakesFront p r all
+    → IsBetween union p r high
+between_of p r high all is f =
+    let whole : with_all (with_all p f.taken) f.left ≡ high = sym (with_all-append p f.taken f.left) ∙ ap (with_all p) (sym f.parts) ∙ is in
+    subst (λ (z : PartialPicture). IsBetween union p z high) (sym f.new_is) (
       above_old p f.taken,
       subst (λ (z : PartialPicture). IsBelow union (with_all p f.taken) z) whole (above_old (with_all p f.taken) f.left),
     )
+
+pub front_between : (p q r : PartialPicture) → AreMarksHeld q → TakesFront p r (kept_readings (entries q)) → IsBetween union p r (union p q)
+front_between p q r held f = between_of p r (union p q) (kept_readings (entries q)) (all_is_union p q held) f

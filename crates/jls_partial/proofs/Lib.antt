@@ -15,10 +15,13 @@ pub mod SameEntries
 pub mod Searches
 pub mod SourcedLines
 pub mod Store
+pub mod StoredLines
 pub mod TextEntries
 pub mod TextFields
+pub mod TextFronts
 pub mod TextLaws
 pub mod TextLoops
+pub mod TextMerges
 pub mod TextReadings
 pub mod TextRows
 pub mod Unions

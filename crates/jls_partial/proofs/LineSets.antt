@@ -1,5 +1,5 @@
 -- Sets of lines: what is kept, what one line more leaves, and lines taken one after the other.
-use Rattle.std.proofs.Common.{◌≡◌, ℕ, zero, suc, ◌+◌, ◌*◌, ◌<◌, ◌≤◌, Bool, true, false, not, cond, eqb, ◌&&◌, ◌||◌, List, [], ◌∷◌, ◌++◌, length, get_or, set, take, drop, map, Option, Some, None, refl, ap, sym, subst, ◌∙◌, append_assoc, arith}
+use Rattle.std.proofs.Common.{◌≡◌, ℕ, zero, suc, ◌+◌, ◌<◌, ◌≤◌, Bool, true, false, not, cond, eqb, ◌&&◌, ◌||◌, List, [], ◌∷◌, ◌++◌, length, get_or, set, take, drop, map, Option, Some, None, refl, ap, sym, subst, ◌∙◌, append_assoc, arith}
 use Rattle.std.specs.Prelude.{IfSome, slice_get}
 use Rattle.std.specs.declared.cmp.Ordering.{Ordering}
 use Rattle.std.specs.declared.cmp.Ordering.TheVariants.{Less}
@@ -33,9 +33,9 @@ abbrev S : List ℕ → List ℕ → Ordering
 S = slice_cmp nat_cmp
 
 -- nothing is kept of an empty set
-pub none_kept : (precision width : ℕ) → precision ≤ 16 → 1 ≤ width → IsLineSet precision width [] []
+pub none_kept : (precision width : ℕ) (packed : List ℕ) → precision ≤ 16 → 1 ≤ width → IsLineSet precision width packed []
 unfolding IsStrictlySortedBy
-none_kept precision width h wide = record { precision_at_most = h; width_at_least = wide; packed_lines = record { inside = tt; whole = omega arith; sorted = tt }; fitting = tt }
+none_kept precision width packed h wide = record { precision_at_most = h; width_at_least = wide; packed_lines = record { inside = tt; few = omega arith; sorted = tt }; fitting = tt }
 
 module _ (precision width : ℕ) (packed : List ℕ) (slots : List Slot) (s : PictureLines) (kept : IsLineSet precision width packed slots) (is : seen_lines precision width packed slots ≡ s) where
   -- the lines are what is kept, in order
@@ -101,7 +101,7 @@ module _ (precision width : ℕ) (packed samples : List ℕ) (slots : List Slot)
       record {
         precision_at_most = kept.precision_at_most;
         width_at_least = kept.width_at_least;
-        packed_lines = packed_more width packed samples slots i sources len in_slots kept.packed_lines.inside kept.packed_lines gap;
+        packed_lines = packed_more width packed samples slots i sources len in_slots kept.packed_lines.inside kept.width_at_least kept.packed_lines gap;
         fitting = subst (AllByRecursion P) (sym (lines_more width packed samples slots i sources len in_slots kept.packed_lines.inside)) (all-insert P (lines_of width packed slots) i samples gap.within kept.fitting fits);
       }
 
@@ -141,13 +141,13 @@ module _ (precision width : ℕ) (packed samples : List ℕ) (slots : List Slot)
   pub set_kept : IsLineSet precision width packed (set slots i changed)
   set_kept =
       let P : List ℕ → Type 0 = λ y. samples_fault precision width y ≡ None in
-      let whole = kept.packed_lines.whole in
+      let few = kept.packed_lines.few in
       record {
         precision_at_most = kept.precision_at_most;
         width_at_least = kept.width_at_least;
         packed_lines = record {
           inside = all_set (λ t. t.start + width ≤ length packed) slots i changed kept.packed_lines.inside (inside_at width packed slots i s kept.packed_lines.inside lt is);
-          whole = whole ∙ ap (λ (n : ℕ). width * n) (sym (length-set slots i changed));
+          few = subst (λ (n : ℕ). n ≤ length packed) (sym (length-set slots i changed)) few;
           sorted = subst (IsStrictlySortedBy S) (sym lines_same) kept.packed_lines.sorted;
         };
         fitting = subst (AllByRecursion P) (sym lines_same) kept.fitting;

@@ -155,7 +155,7 @@ pub line_appended : (width : ℕ) (packed samples : List ℕ) → length samples
     → take width (drop (length packed) (packed ++ samples)) ≡ samples
 line_appended width packed samples len = ap (take width) (drop-append_seam packed samples ∙ sym (append-nil samples)) ∙ take_at samples [] width len
 
-inside_more : (width n m : ℕ) (slots : List Slot) → n ≤ m → AllByRecursion (λ s. s.start + width ≤ n) slots
+pub inside_more : (width n m : ℕ) (slots : List Slot) → n ≤ m → AllByRecursion (λ s. s.start + width ≤ n) slots
     → AllByRecursion (λ s. s.start + width ≤ m) slots
 inside_more width n m [] le h = tt
 inside_more width n m (s ∷ slots) le h = (let first : s.start + width ≤ n = h.0 in omega (arith, first, le), inside_more width n m slots le h.1)
@@ -187,12 +187,12 @@ module _ (width : ℕ) (packed samples : List ℕ) (slots : List Slot) (i : ℕ)
       ∙ map-insert (λ (k : Kept). k.0) (kept_of width packed slots) i (samples, set.items sources) (let many : length (kept_of width packed slots) ≡ length slots = length-kept width packed slots in omega (arith, le, many))
       ∙ ap (λ (ls : List (List ℕ)). insert ls i samples) (lines-kept width packed slots)
 
-  pub packed_more : IsPacked width packed slots → IsGap S (lines_of width packed slots) i samples
+  pub packed_more : 1 ≤ width → IsPacked width packed slots → IsGap S (lines_of width packed slots) i samples
       → IsPacked width (packed ++ samples) (insert slots i added)
-  packed_more is gap =
+  packed_more wide is gap =
       let longer = length-append packed samples in
       record {
         inside = all-insert (λ s. s.start + width ≤ length (packed ++ samples)) slots i added le (inside_more width (length packed) (length (packed ++ samples)) slots (omega (arith, longer)) inside) (omega (arith, longer, len));
-        whole = let more = length-insert slots i added le in let before = is.whole in rw (longer, more, before, len) (omega arith);
+        few = let more = length-insert slots i added le in let before = is.few in omega (arith, longer, more, before, len, wide);
         sorted = subst (IsStrictlySortedBy S) (sym lines_more) (sorted-insert nat_list_cmp_total lines_exact (lines_of width packed slots) i samples gap is.sorted);
       }

@@ -5,6 +5,7 @@ use Rattle.std.specs.Cmp.Lexicographic.{pointwise}
 use Rattle.std.proofs.lemmas.List.{append_cancel_left}
 use Rattle.std.proofs.lemmas.Bool.{and_parts, eqb-true}
 use Rattle.jls_values.specs.OrderedSet.{items}
+use Rattle.jls_values.specs.SameShape.{same_shape}
 use Rattle.jls_values.specs.Shape.{PictureShape}
 use Rattle.jls_partial.specs.LineSet.{PictureLines, kept_lines, line_sources}
 use Rattle.jls_partial.specs.Packed.{Kept}
@@ -101,6 +102,19 @@ shapes_from_test s t differ is same =
     four true true false d e = absurd cc
     four true false c d e = absurd cc
     four false b c d e = absurd cc
+
+-- and those that it finds different
+pub shapes_differ : (s t : PictureShape) (differ : Bool)
+    → differ ≡ not (s.precision == t.precision && (s.width == t.width && (s.height == t.height && pointwise nat_eq s.ids t.ids)))
+    → differ ≡ true → same_shape s t ≡ false
+shapes_differ s t differ is other = four (s.precision == t.precision) (s.width == t.width) (s.height == t.height) (pointwise nat_eq s.ids t.ids) (sym is ∙ other)
+  where
+    four : (a b c d : Bool) → not (a && (b && (c && d))) ≡ true → (a && b && c && d) ≡ false
+    four true true true true e = absurd cc
+    four true true true false e = refl
+    four true true false d e = refl
+    four true false c d e = refl
+    four false b c d e = refl
 
 -- ---- two lines
 

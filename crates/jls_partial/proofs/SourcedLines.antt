@@ -1,7 +1,6 @@
 -- Sets of lines: a line that is held gets more sources, and there is room in the index for one line more.
-use Rattle.std.proofs.Common.{◌≡◌, ℕ, zero, suc, ◌+◌, ◌*◌, ◌<◌, ◌≤◌, List, [], ◌∷◌, length, get_or, set, take, drop, None, Some, refl, ap, sym, subst, ◌∙◌, arith}
+use Rattle.std.proofs.Common.{◌≡◌, ℕ, zero, suc, ◌+◌, ◌<◌, List, [], ◌∷◌, length, get_or, set, take, drop, None, Some, refl, ap, sym, subst, ◌∙◌, arith}
 use Rattle.std.specs.Prelude.{slice_get}
-use Rattle.std.proofs.Math.Nat.{le-mul_of_pos_right, mul_comm}
 use Rattle.std.proofs.lemmas.List.{get_or_default, length-map}
 use Rattle.jls_values.specs.OrderedSet as sets
 use Rattle.jls_partial.specs.declared.index.Slot.{Slot}
@@ -42,13 +41,11 @@ line_got [] i x e = absurd cc
 line_got (y ∷ lines) zero x e = cc
 line_got (y ∷ lines) (suc i) x e = line_got lines i x e
 
--- each line has a sample at least, so there are fewer lines than samples with one line more
+-- each line has a sample at least, so there are fewer lines than samples with those of one line more
 pub room : (precision width : ℕ) (packed samples : List ℕ) (slots : List Slot) → IsLineSet precision width packed slots
     → samples_fault precision width samples ≡ None → length slots < length packed + length samples
 room precision width packed samples slots kept fits =
     let wide = kept.width_at_least in
-    let whole = kept.packed_lines.whole in
+    let few = kept.packed_lines.few in
     let long = fitting_length precision width samples fits in
-    let each : length slots ≤ length slots * width = le-mul_of_pos_right (length slots) (omega (arith, wide)) in
-    let turned : length slots * width ≡ width * length slots = mul_comm (length slots) width in
-    omega (arith, wide, whole, long, each, turned)
+    omega (arith, wide, few, long)

@@ -1,6 +1,6 @@
 -- What the store keeps, as entries and as a partial picture; and what one reading more leaves.
 use Rattle.std.proofs.Common.{◌≡◌, ℕ, ◌<◌, ◌≤◌, ◌^◌, Bool, true, false, cond, ◌&&◌, ◌||◌, List, [], ◌∷◌, length, get_or, map, suc, Option, Some, None, refl, ap, sym, subst, ◌∙◌, arith}
-use Rattle.std.specs.Prelude.{IfSome, unwrap_or, nat_le}
+use Rattle.std.specs.Prelude.{IfSome, unwrap_or}
 use Rattle.std.specs.declared.cmp.Ordering.{Ordering}
 use Rattle.std.specs.declared.cmp.Ordering.TheVariants.{Less, Equal, Greater}
 use Rattle.std.specs.BTreeMap.{is_at}
@@ -18,8 +18,8 @@ use Rattle.jls_values.specs.OrderedSetLaws.{same_set, contains-items, contains-i
 use Rattle.jls_values.specs.Shape.{PictureShape}
 use Rattle.jls_partial.specs.declared.place.Place.{Place}
 use Rattle.jls_partial.specs.Entries.{Entry, BareEntry, bare, at_place, readings_of_entries, partial_of}
-use Rattle.jls_partial.specs.Held.{IsEntry, AreEntries, LineEntry, kept_entry, bare_entry, IsLineEntry, IsStore, FitsIn, PutsLine, lines_or, PutsAt}
-use Rattle.jls_partial.specs.InsertFaults.{reading_fault, samples_fault}
+use Rattle.jls_partial.specs.Held.{IsEntry, AreEntries, LineEntry, kept_entry, bare_entry, IsLineEntry, IsStore, PutsLine, lines_or, PutsAt}
+use Rattle.jls_partial.specs.InsertFaults.{reading_fault}
 use Rattle.jls_partial.specs.LineSet.{PictureLines, AreLineMarksHeld, no_lines, kept_lines, line_sources, with_lines}
 use Rattle.jls_partial.specs.LineSetLaws.{lines_total, lines_exact, line_marks_total}
 use Rattle.jls_partial.specs.Marks.{mark_cmp, marks_of, sources_of}
@@ -30,7 +30,7 @@ use Rattle.jls_partial.specs.Place.{place, place_cmp, place_of}
 use Rattle.jls_partial.specs.Reading.{Reading, reading_of, reading_cmp}
 use Rattle.jls_partial.specs.ReadingOrder.{place_total, reading_total, reading_exact, marks_total, marks_exact, eq_reading, same_place, same_samples}
 use Rattle.jls_partial.specs.Text.{entries}
-use Rattle.jls_partial.proofs.BareEntries.{items_rise, all_members, first_none}
+use Rattle.jls_partial.proofs.BareEntries.{items_rise, all_members}
 use Rattle.jls_partial.proofs.Entries.{S, samples_at, each_from_lookup, lookup_from_each, holds_kept, fits_kept, countable_at, any_all}
 use Rattle.jls_partial.proofs.KeptEntries.{SourcesRise, kept_at, readings_are, holds_reading, holds_mark, has-entries, entries_again}
 use Rattle.jls_partial.proofs.MarkSets.{has_item, has_mark, any_items, any_marks, has_given}
@@ -149,14 +149,6 @@ is_there shape p w es at p_is w_is kept =
         fitting = λ x e. any_all (λ y. reading_fault shape at.component at.line y ≡ None) x (set.items L.lines) k.entry.fitting (sym (contains-items L.lines x) ∙ e);
       }
     ] (lookup_from_each (IsLineEntry shape) es at kept.each)
-
--- a reading that fits the picture fits the lines at its place
-pub fits_in : (shape : PictureShape) (at : Place) (L : PictureLines) (x : List ℕ) → IsAt shape at L
-    → reading_fault shape at.component at.line x ≡ None → FitsIn L x
-fits_in shape at L x there e =
-    let a = first_none (nat_le (length shape.ids) at.component) _ _ e in
-    let b = first_none (nat_le shape.height at.line) _ _ a.1 in
-    (λ i. samples_fault (there.precision i) (there.width i) x) ∙ b.1
 
 -- ---- what the partial picture that is seen holds
 

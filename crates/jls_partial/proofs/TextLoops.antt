@@ -2,21 +2,20 @@
 use Rattle.std.proofs.Common.{◌≡◌, ℕ, suc, ◌-◌, ◌+◌, ◌≤◌, ◌<◌, List, [], ◌∷◌, ◌++◌, map, length, take, drop, cond, leb, ltb, Option, Some, None, Result, Ok, Err, refl, sym, ap, subst, ◌∙◌, append_assoc, arith}
 use Rattle.std.proofs.lemmas.Bool.{eq-eqb, ltb-false, ne_eqb}
 use Rattle.std.proofs.lemmas.List.{append-nil, length-drop}
-use Rattle.std.specs.Int.{w16, w32, from_be_bytes}
+use Rattle.std.specs.Int.{w16, from_be_bytes}
 use Rattle.std.proofs.lemmas.List.Concat.{flat_map-cons}
 use Rattle.jls_values.specs.Shape.{PictureShape}
 use Rattle.jls_partial.specs.declared.place.Place.{Place}
 use Rattle.jls_partial.specs.declared.text_fault.TextFault.{TextFault}
 use Rattle.jls_partial.specs.declared.text_fault.TextFault.TheVariants as fault
 use Rattle.jls_partial.specs.declared.version.Version.{Version}
-use Rattle.jls_partial.specs.Entries.{Entry, kept_at_place, kept_readings, partial_of}
+use Rattle.jls_partial.specs.Entries.{Entry, kept_at_place, kept_readings}
 use Rattle.jls_partial.specs.InsertFaults.{samples_fault}
 use Rattle.jls_partial.specs.Packed.{Kept}
-use Rattle.jls_partial.specs.Partial.{PartialPicture, nothing_known, with_all}
+use Rattle.jls_partial.specs.Partial.{PartialPicture, with_all}
 use Rattle.jls_partial.specs.Reading.{Reading}
 use Rattle.jls_partial.specs.TextInto.{with_readings, with_entry, with_entries}
-use Rattle.jls_partial.specs.Text.{magic}
-use Rattle.jls_partial.specs.TextReading.{◌>>=◌, Fails, offset, byte_field, number_field, magic_field, version_field, shape_fields, sample_field, samples_fields, source_field, sources_fields, reading_fields, own_sources_fields, kept_fields, readings_fields, entry_fields, entries_fields, text_fields, read_text}
+use Rattle.jls_partial.specs.TextReading.{◌>>=◌, Fails, offset, byte_field, number_field, magic_field, sample_field, samples_fields, source_field, sources_fields, reading_fields, own_sources_fields, kept_fields, readings_fields, entry_fields, entries_fields}
 use Rattle.jls_partial.proofs.Growth.{with_all-append}
 use Rattle.jls_partial.proofs.TextFields.{bind_ok, guard_ok, ok_is, magic_then}
 use Rattle.jls_partial.proofs.TextReadings.{reading_fits}
@@ -208,7 +207,7 @@ regroup_entries p e (Ok y) =
 regroup_entries p e (Err f) = refl
 
 -- what one entry gave, from what reading it into the partial gave
-entry_given : (p q : PartialPicture) (at : Place) (after : List ℕ) (read : Result (Entry × List ℕ) TextFault)
+pub entry_given : (p q : PartialPicture) (at : Place) (after : List ℕ) (read : Result (Entry × List ℕ) TextFault)
     → with_entry p read ≡ Ok (q, at, after)
     → (xs : List Kept) × (read ≡ Ok ((at, xs), after)) × (with_all p (map (kept_at_place at) xs) ≡ q)
 entry_given p q at after (Ok ((a, xs), bytes)) e =
@@ -238,7 +237,7 @@ pub entry_keeps_shape : (size : ℕ) (version : Version) (shape : PictureShape) 
 entry_keeps_shape size version shape p q before bytes at after h = let given = entry_given p q at after (entry_fields size version shape before bytes) h in ap (λ (z : PartialPicture). z.shape) (sym given.2)
 
 -- a fault of an entry that is read into a partial is one of the entry
-fault_given : {A B : Type 0} (e : TextFault) (read : Result A TextFault) (f : A → B) → Fails e (read >>= λ x. Ok (f x)) → Fails e read
+pub fault_given : {A B : Type 0} (e : TextFault) (read : Result A TextFault) (f : A → B) → Fails e (read >>= λ x. Ok (f x)) → Fails e read
 fault_given fault.OutOfMemory read f h = tt
 fault_given (fault.Magic n) (Ok x) f h = absurd cc
 fault_given (fault.Magic n) (Err d) f h = cc
@@ -279,30 +278,9 @@ entries_done size version shape p before count i bytes total le so_far =
 -- ---- the whole
 
 -- what all entries gave, from what reading them into the partial gave
-entries_given : (p q : PartialPicture) (rest : List ℕ) (read : Result (List Entry × List ℕ) TextFault) → with_entries p read ≡ Ok (q, rest)
+pub entries_given : (p q : PartialPicture) (rest : List ℕ) (read : Result (List Entry × List ℕ) TextFault) → with_entries p read ≡ Ok (q, rest)
     → (es : List Entry) × (read ≡ Ok (es, rest)) × (with_all p (kept_readings es) ≡ q)
 entries_given p q rest (Ok (es, bytes)) e =
     let parts : ◌≡◌ {A = PartialPicture × List ℕ} (with_all p (kept_readings es), bytes) (q, rest) = cc in
     (es, (λ i. Ok (es, (parts i).1)), ap (λ (y : PartialPicture × List ℕ). y.0) parts)
 entries_given p q rest (Err f) e = absurd cc
-
-text_read : (bytes version_bytes : List ℕ) (version : Version) (shape_bytes : List ℕ) (shape : PictureShape) (count_bytes : List ℕ) (count : ℕ) (entry_bytes : List ℕ) (es : List Entry) (rest : List ℕ)
-    → magic_field (length bytes) magic bytes ≡ Ok version_bytes
-    → version_field (length bytes) version_bytes ≡ Ok (version, shape_bytes) → shape_fields (length bytes) shape_bytes ≡ Ok (shape, count_bytes) → number_field (length bytes) w32 count_bytes ≡ Ok (count, entry_bytes)
-    → entries_fields (length bytes) version shape None count entry_bytes ≡ Ok (es, rest) → length rest ≡ 0 → read_text bytes ≡ Ok (partial_of shape es)
-unfolding read_text text_fields
-text_read bytes version_bytes version shape_bytes shape count_bytes count entry_bytes es rest m v s n r nothing = rw (m, v, s, n, r, nothing) refl
-
-pub whole_read : (size : ℕ) (bytes version_bytes : List ℕ) (version : Version) (shape_bytes : List ℕ) (shape : PictureShape) (count_bytes : List ℕ) (count : ℕ) (entry_bytes : List ℕ) (p q : PartialPicture) (rest : List ℕ)
-    → length bytes ≡ size
-    → magic_field size magic bytes ≡ Ok version_bytes → version_field size version_bytes ≡ Ok (version, shape_bytes) → shape_fields size shape_bytes ≡ Ok (shape, count_bytes) → number_field size w32 count_bytes ≡ Ok (count, entry_bytes)
-    → p ≡ nothing_known shape → with_entries p (entries_fields size version p.shape None count entry_bytes) ≡ Ok (q, rest) → length rest ≡ 0 → read_text bytes ≡ Ok q
-whole_read size bytes version_bytes version shape_bytes shape count_bytes count entry_bytes p q rest is m v s n p-is r nothing =
-    let given = entries_given p q rest (entries_fields size version p.shape None count entry_bytes) r in
-    let back : size ≡ length bytes = sym is in
-    let entries : entries_fields (length bytes) version shape None count entry_bytes ≡ Ok (given.0, rest) =
-    ap (λ (z : PictureShape). entries_fields (length bytes) version z None count entry_bytes) (sym (ap (λ (z : PartialPicture). z.shape) p-is)) ∙ ap (λ (k : ℕ). entries_fields k version p.shape None count entry_bytes) is ∙ given.1 in
-    let read = text_read bytes version_bytes version shape_bytes shape count_bytes count entry_bytes given.0 rest (subst (λ (k : ℕ). magic_field k magic bytes ≡ Ok version_bytes) back m) (subst (λ (k : ℕ). version_field k version_bytes ≡ Ok (version, shape_bytes)) back v)
-    (subst (λ (k : ℕ). shape_fields k shape_bytes ≡ Ok (shape, count_bytes)) back s) (subst (λ (k : ℕ). number_field k w32 count_bytes ≡ Ok (count, entry_bytes)) back n) entries nothing in
-    let made : partial_of shape given.0 ≡ q = ap (λ (z : PartialPicture). with_all z (kept_readings given.0)) (sym p-is) ∙ given.2 in
-    read ∙ ap (λ (z : PartialPicture). Ok z) made

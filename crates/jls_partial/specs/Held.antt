@@ -10,7 +10,7 @@ use Rattle.jls_values.specs.OrderedSet as set
 use Rattle.jls_values.specs.Shape.{PictureShape}
 use Rattle.jls_partial.specs.declared.place.Place.{Place}
 use Rattle.jls_partial.specs.Entries.{BareEntry, Entry}
-use Rattle.jls_partial.specs.InsertFaults.{reading_fault, samples_fault}
+use Rattle.jls_partial.specs.InsertFaults.{reading_fault}
 use Rattle.jls_partial.specs.LineSet.{PictureLines, AreLineMarksHeld, kept_lines, with_lines}
 use Rattle.jls_partial.specs.Place.{place_cmp}
 
@@ -48,10 +48,6 @@ pub record IsLineEntry (shape : PictureShape) (e : LineEntry) : Type 0 where
 pub record IsStore (shape : PictureShape) (entries : List LineEntry) : Type 0 where
   pub sorted : IsStrictlySortedBy place_cmp (map (λ e. e.0) entries)
   pub each : AllByRecursion (IsLineEntry shape) entries
-
--- these samples fit the lines
-abbrev pub FitsIn : PictureLines → List ℕ → Type 0
-FitsIn lines samples = samples_fault lines.precision lines.width samples ≡ None
 
 -- one line with its sources was put in; there are few enough lines to be counted, and each source is of one of them
 pub record PutsLine (old : PictureLines) (samples sources : List ℕ) (new : PictureLines) : Type 0 where

@@ -19,7 +19,10 @@ pub mod Reading
 pub mod ReadingOrder
 pub mod Slots
 pub mod Status
+pub mod Stored
 pub mod Text
+pub mod TextFront
 pub mod TextInto
+pub mod TextMerging
 pub mod TextReading
 pub mod Tree

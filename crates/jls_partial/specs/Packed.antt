@@ -1,11 +1,11 @@
--- The packed store of lines: all samples one after the other, and an index of them in ascending order.
+-- The packed store of lines: the samples of one line after the other, and an index of some of them in ascending order.
 use Rattle.std.specs.Cmp.Lexicographic.{slice_cmp}
 use Rattle.std.specs.List.{AllByRecursion}
 use Rattle.std.specs.List.Sorted.{IsStrictlySortedBy}
 use Rattle.std.specs.Ordering.{nat_cmp}
 use Rattle.std.specs.declared.cmp.Ordering.{Ordering}
 use Rattle.std.specs.declared.cmp.Ordering.TheVariants.{Less}
-use Rattle.std.specs.Prelude.{◌≡◌, ℕ, ◌+◌, ◌*◌, ◌<◌, ◌≤◌, List, length, map, take, drop, slice_index_or}
+use Rattle.std.specs.Prelude.{◌≡◌, ℕ, ◌+◌, ◌<◌, ◌≤◌, List, length, map, take, drop, slice_index_or}
 use Rattle.jls_values.specs.OrderedSet as set
 use Rattle.jls_partial.specs.declared.index.Slot.{Slot}
 
@@ -21,10 +21,10 @@ kept_of width packed slots = map (λ s. (take width (drop s.start packed), set.i
 abbrev pub lines_of : ℕ → List ℕ → List Slot → List (List ℕ)
 lines_of width packed slots = map (λ s. take width (drop s.start packed)) slots
 
--- each slot's samples stand in the store, which has those of the slots and nothing else, and the lines rise
+-- each slot's samples stand in the store, there are no more slots than samples, and the lines rise
 pub record IsPacked (width : ℕ) (packed : List ℕ) (slots : List Slot) : Type 0 where
   pub inside : AllByRecursion (λ s. s.start + width ≤ length packed) slots
-  pub whole : length packed ≡ width * length slots
+  pub few : length slots ≤ length packed
   pub sorted : IsStrictlySortedBy (slice_cmp nat_cmp) (lines_of width packed slots)
 
 -- where an item belongs in a list: those before the place are below it, those from there on above it

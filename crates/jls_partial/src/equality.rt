@@ -4,11 +4,11 @@ ghost use Rattle.jls_partial.specs.LineSet.{kept_lines};
 ghost use Rattle.jls_partial.specs.Text.{entries};
 ghost use Rattle.std.specs.Prelude.{◌≡◌, ◌↔◌, IsTrue};
 
-use crate::line_set::LineSet;
+use crate::lines::Lines;
 use crate::partial::Partial;
 
 /// Whether two lines have the same readings, with the same sources.
-fn same_line(one: &LineSet, other: &LineSet) -> bool
+fn same_line(one: &Lines<'_>, other: &Lines<'_>) -> bool
     ensures { IsTrue result ↔ (kept_lines one.now ≡ kept_lines other.now) }
 {
     if one.len() != other.len() {
@@ -36,11 +36,11 @@ fn same_entries(one: &Partial, other: &Partial) -> bool
         let Some((other_at, others)) = left.next() else {
             return false;
         };
-        let same_place = *at == *other_at;
+        let same_place = at == other_at;
         if !same_place {
             return false;
         }
-        let same_lines = same_line(lines, others);
+        let same_lines = same_line(&lines, &others);
         if !same_lines {
             return false;
         }

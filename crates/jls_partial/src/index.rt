@@ -1,11 +1,11 @@
 //! The index of the lines in a store, in ascending order of the lines.
 
 ghost use Rattle.std.specs.List.{insert};
-ghost use Rattle.std.specs.Prelude.{◌≡◌, ◌<◌, ◌≤◌, ◌+◌, ◌^◌, ◌++◌, ◌∷◌, [], length, IfOk, OnOk, OnErr, MatchOption, slice_index_or};
+ghost use Rattle.std.specs.Prelude.{◌≡◌, ◌<◌, ◌≤◌, ◌+◌, ◌^◌, ◌++◌, ◌∷◌, [], length, IfOk, IsOk, OnOk, OnErr, MatchOption, slice_index_or};
 ghost use Rattle.jls_partial.specs.Index.{slots_of, HasRoom};
 ghost use Rattle.jls_partial.specs.Tree.{root_slots, fork_slots, with_sources_at};
 
-use jls_values::SourceSet;
+use crate::sources::Sources;
 use std::alloc::{AllocError, Global};
 use std::marker::Model;
 use std::mem;
@@ -14,7 +14,7 @@ use std::mem;
 #[derive(Drop)]
 pub(crate) struct Slot {
     pub start: usize,
-    pub sources: SourceSet,
+    pub sources: Sources,
 }
 
 /// The slots of a store. The slot of a single line takes no memory of its own, since most stores stay with one line.
@@ -98,14 +98,20 @@ impl Index {
     }
 
     /// Adds these sources to the slot that has `at` others before it.
-    pub(crate) fn add_sources(&mut self, at: usize, sources: &[u32]) -> Result<(), AllocError>
+    pub(crate) fn add_sources(
+        &mut self,
+        alloc: Global,
+        at: usize,
+        sources: &[u32],
+    ) -> Result<(), AllocError>
         requires { at < length (slots_of self.old) }
         ensures ok { OnOk result (slots_of self.new ≡ with_sources_at (slots_of self.old) at sources.now) }
         ensures err { OnErr result (slots_of self.new ≡ slots_of self.old) }
+        ensures no_memory { sources.now ≡ [] → IsOk result }
     {
         match self {
-            Index::One(slot) => slot.sources.add_all(sources),
-            Index::Many(tree) => tree.add_sources(at, sources),
+            Index::One(slot) => slot.sources.add_all(alloc, sources),
+            Index::Many(tree) => tree.add_sources(alloc, at, sources),
         }
     }
 
@@ -118,7 +124,7 @@ impl Index {
         let new = Fork::single(alloc, slot)?;
         if let Index::One(held) = self {
             let start = held.start;
-            let sources = SourceSet::empty(alloc);
+            let sources = Sources::none();
             let mut first = Fork::single(alloc, Slot { start, sources })?;
             mem::swap(&mut first.slot.sources, &mut held.sources);
             *self = Index::Many(Tree::from_root(first));
@@ -207,10 +213,16 @@ impl Tree {
 
     /// Adds these sources to the slot that has `at` others before it.
     #[tactic(auto, using(crate::proofs::Forks::fork_sources))]
-    pub(crate) fn add_sources(&mut self, at: usize, sources: &[u32]) -> Result<(), AllocError>
+    pub(crate) fn add_sources(
+        &mut self,
+        alloc: Global,
+        at: usize,
+        sources: &[u32],
+    ) -> Result<(), AllocError>
         requires { at < length self.old }
         ensures ok { OnOk result (self.new ≡ with_sources_at self.old at sources.now) }
         ensures err { OnErr result (self.new ≡ self.old) }
+        ensures no_memory { sources.now ≡ [] → IsOk result }
         ensures len { length self.new ≡ length self.old }
     {
         match &mut self.root {
@@ -218,11 +230,11 @@ impl Tree {
             Some(fork) => {
                 let before = fork.left.len();
                 if at < before {
-                    fork.left.add_sources(at, sources)
+                    fork.left.add_sources(alloc, at, sources)
                 } else if at > before {
-                    fork.right.add_sources(at - before - 1, sources)
+                    fork.right.add_sources(alloc, at - before - 1, sources)
                 } else {
-                    fork.slot.sources.add_all(sources)
+                    fork.slot.sources.add_all(alloc, sources)
                 }
             }
         }

@@ -5,12 +5,13 @@ ghost use Rattle.jls_partial.specs.LineSet.{no_lines, line_sources, AreLineMarks
 ghost use Rattle.jls_partial.specs.LineSet.{has_same_line_shape};
 ghost use Rattle.jls_values.specs.Join.{IsBetween};
 ghost use Rattle.jls_values.specs.OrderedSet as set;
-ghost use Rattle.std.specs.Prelude.{◌≡◌, ℕ, List, ◌<◌, ◌≤◌, ◌∷◌, [], length, true, not, IfOk, IfSome, OnOk, OnErr, IsOk, None, Some, slice_get};
+ghost use Rattle.std.specs.Prelude.{◌≡◌, ◌<◌, ◌≤◌, ◌∷◌, [], length, true, not, IfOk, IfSome, OnOk, OnErr, IsOk, None, Some, slice_get};
 
-use crate::index::{Index, Slot};
+use crate::index::Index;
 use crate::insert_fault::{InsertFault, find_samples_fault};
-use crate::packed::{find, put, samples_at};
-use jls_values::{Merge, MergeFault, SourceSet};
+use crate::lines::Lines;
+use crate::packed_lines::PackedLines;
+use jls_values::{Merge, MergeFault};
 use std::alloc::{AllocError, Global};
 use std::marker::Model;
 
@@ -20,11 +21,8 @@ use std::marker::Model;
 /// All samples stand in one list, and an index of them in ascending order of the lines.
 #[derive(Drop)]
 pub struct LineSet {
-    precision: u8,
-    width: u16,
-    samples: Vec<u16>,
+    packed: PackedLines,
     index: Index,
-    alloc: Global,
 }
 
 impl Model for LineSet {
@@ -34,12 +32,11 @@ impl Model for LineSet {
 
     ghost coded = { coded_lines };
 
-    ghost use Rattle.jls_partial.specs.Index.{slots_of};
-    ghost use Rattle.jls_partial.specs.PackedLines.{seen_lines, IsLineSet};
+    ghost use Rattle.jls_partial.specs.Stored.{lines_in, IsIndexOf};
 
-    ghost view = { λ a. seen_lines a.precision a.width a.samples.items (slots_of a.index) };
+    ghost view = { λ a. lines_in a.packed a.index };
 
-    ghost invariant = { λ a. IsLineSet a.precision a.width a.samples.items (slots_of a.index) };
+    ghost invariant = { λ a. IsIndexOf a.packed a.index };
 }
 
 impl LineSet {
@@ -51,11 +48,8 @@ impl LineSet {
         ensures { result ≡ no_lines precision width }
     {
         LineSet {
-            precision,
-            width,
-            samples: Vec::new(alloc),
+            packed: PackedLines::empty(alloc, precision, width),
             index: Index::empty(),
-            alloc,
         }
     }
 
@@ -68,29 +62,17 @@ impl LineSet {
         ensures added { IfOk result (λ added. added ≡ not (set.contains self.old.lines samples.now)) }
         ensures no_memory { set.contains self.old.lines samples.now ≡ true → IsOk result }
     {
-        if let Some(fault) = find_samples_fault(samples, self.precision, self.width) {
+        if let Some(fault) = find_samples_fault(samples, self.packed.precision, self.packed.width) {
             return Err(fault);
         }
-        match find(&self.index, &self.samples, self.width, samples) {
-            Ok(_) => Ok(false),
-            Err(at) => {
-                let start = self.samples.len();
-                let sources = SourceSet::empty(self.alloc);
-                let new = self.index.room_for(self.alloc, Slot { start, sources })?;
-                put(&mut self.index, &mut self.samples, at, samples, new)?;
-                Ok(true)
-            }
-        }
+        Ok(self.packed.take(&mut self.index, samples, &[])?)
     }
 
-    /// Whether a line is held.
-    pub(crate) fn contains(&self, samples: &[u16]) -> bool
-        ensures { result ≡ set.contains self.now.lines samples.now }
+    /// The lines, lent.
+    fn lines(&self) -> Lines<'_>
+        ensures { result ≡ self.now }
     {
-        match find(&self.index, &self.samples, self.width, samples) {
-            Ok(_) => true,
-            Err(_) => false,
-        }
+        Lines::of(&self.packed, &self.index)
     }
 
     /// How many lines are held. Each source is of one of them.
@@ -98,7 +80,7 @@ impl LineSet {
         ensures value { result ≡ length (set.items self.now.lines) }
         ensures sources { AreLineMarksHeld self.now }
     {
-        self.index.len()
+        self.lines().len()
     }
 
     /// The line that has `i` others below it, lent from the set: lines stand in ascending order of
@@ -108,7 +90,7 @@ impl LineSet {
         ensures value { slice_get (set.items self.now.lines) i ≡ Some result.now }
         ensures fitting { samples_fault self.now.precision self.now.width result.now ≡ None }
     {
-        samples_at(&self.samples, self.width, self.index.slot(i).start)
+        self.lines().get(i)
     }
 
     /// The source numbers of that line in ascending order, lent from the set.
@@ -116,47 +98,23 @@ impl LineSet {
         requires { i < length (set.items self.now.lines) }
         ensures { IfSome (slice_get (set.items self.now.lines) i) (λ samples. result.now ≡ line_sources self.now samples) }
     {
-        self.index.slot(i).sources.as_slice()
+        self.lines().sources(i)
     }
 
     /// Takes one line that fits, and adds these source numbers to its own.
-    pub(crate) fn take(&mut self, samples: &[u16], sources: &[u32]) -> Result<(), AllocError>
+    fn take(&mut self, samples: &[u16], sources: &[u32]) -> Result<(), AllocError>
         requires { samples_fault self.old.precision self.old.width samples.now ≡ None }
         ensures ok { OnOk result (self.new ≡ with_lines self.old ((samples.now, sources.now) ∷ [])) }
         ensures err { OnErr result (self.new ≡ self.old) }
     {
-        match find(&self.index, &self.samples, self.width, samples) {
-            Ok(at) => self.index.add_sources(at, sources)?,
-            Err(at) => {
-                let start = self.samples.len();
-                let mut own = SourceSet::empty(self.alloc);
-                own.add_all(sources)?;
-                let slot = Slot {
-                    start,
-                    sources: own,
-                };
-                let new = self.index.room_for(self.alloc, slot)?;
-                put(&mut self.index, &mut self.samples, at, samples, new)?;
-            }
-        }
-        Ok(())
-    }
-
-    /// Adds a source number to the line that has `i` others below it.
-    pub(crate) fn mark_at(&mut self, i: usize, source: u32) -> Result<(), AllocError>
-        requires { i < length (set.items self.old.lines) }
-        ensures ok { OnOk result ((samples : List ℕ) → slice_get (set.items self.old.lines) i ≡ Some samples
-            → self.new ≡ with_lines self.old ((samples, source ∷ []) ∷ [])) }
-        ensures err { OnErr result (self.new ≡ self.old) }
-    {
-        self.index.add_sources(i, &[source])?;
+        self.packed.take(&mut self.index, samples, sources)?;
         Ok(())
     }
 
     fn has_same_shape(&self, other: &LineSet) -> bool
         ensures { result ≡ has_same_line_shape self.now other.now }
     {
-        self.precision == other.precision && self.width == other.width
+        self.packed.precision == other.packed.precision && self.packed.width == other.packed.width
     }
 }
 

@@ -8,14 +8,14 @@ ghost use Rattle.jls_partial.specs.Partial.{with_all};
 ghost use Rattle.jls_partial.specs.Text.{entries};
 ghost use Rattle.std.specs.Prelude.{◌≡◌, map, OnOk, OnErr};
 
-use crate::line_set::LineSet;
+use crate::lines::Lines;
 use crate::partial::Partial;
 use crate::place::Place;
 use jls_values::{Merge, MergeFault};
 use std::alloc::AllocError;
 
 /// Takes the readings of one line, with their sources.
-fn merge_line(into: &mut Partial, at: Place, lines: &LineSet) -> Result<(), AllocError>
+fn merge_line(into: &mut Partial, at: Place, lines: &Lines<'_>) -> Result<(), AllocError>
     requires { IsLineEntry into.old.shape (at, lines.now) }
     ensures ok { OnOk result (into.new ≡ with_all into.old (map (kept_at_place at) (kept_lines lines.now))) }
     ensures err { OnErr result (TakesFront into.old into.new (map (kept_at_place at) (kept_lines lines.now))) }
@@ -33,7 +33,7 @@ fn merge_entries(into: &mut Partial, other: &Partial) -> Result<(), AllocError>
     ensures err { OnErr result (TakesFront into.old into.new (kept_readings (entries other.now))) }
 {
     for (at, lines) in other.entries() {
-        merge_line(into, *at, lines)?;
+        merge_line(into, at, &lines)?;
     }
     Ok(())
 }

@@ -1,26 +1,23 @@
 //! A partial picture over its store. What stands here is all that knows how readings are kept.
 
 ghost use Rattle.jls_partial.specs.Entries.{at_place, partial_of};
-ghost use Rattle.jls_partial.specs.Held.{FitsIn, IsLineEntry, MarksLine, PutsAt, PutsLine, lines_or, kept_entry};
+ghost use Rattle.jls_partial.specs.Held.{IsLineEntry, lines_or, kept_entry};
 ghost use Rattle.jls_partial.specs.InsertFaults.{reading_fault, Refuses};
 ghost use Rattle.jls_partial.specs.LineSet.{no_lines};
 ghost use Rattle.jls_partial.specs.Partial.{nothing_known, holds, with_reading, with_all, with_marks, readings_at, sources_at, IsFitting};
 ghost use Rattle.jls_partial.specs.Partial.{IsCountable, AreMarksHeld, AreSourcesSmall};
-ghost use Rattle.jls_partial.specs.Place.{place_cmp};
 ghost use Rattle.jls_partial.specs.Text.{entries};
 ghost use Rattle.jls_values.specs.OrderedSet as set;
-ghost use Rattle.std.specs.BTreeMap.{IsOrdered};
 ghost use Rattle.std.specs.List.{AllByRecursion};
-ghost use Rattle.std.specs.Prelude.{◌≡◌, ◌<◌, ◌≤◌, ◌^◌, ◌∷◌, [], length, map, true, not, IfOk, IfSome, OnOk, OnErr, IsOk, Some, None};
+ghost use Rattle.std.specs.Prelude.{◌≡◌, ◌<◌, ◌^◌, ◌∷◌, [], length, map, true, not, IfOk, IfSome, OnOk, OnErr, IsOk, Some, None};
 ghost use Rattle.std.specs.Prelude.{slice_get};
 
 use crate::insert_fault::{InsertFault, find_reading_fault};
-use crate::line_set::LineSet;
+use crate::line_store::{Entries, Store};
+use crate::lines::Lines;
 use crate::place::Place;
 use jls_values::Shape;
 use std::alloc::{AllocError, Global};
-use std::collections::BTreeMap;
-use std::collections::btree_map::Iter;
 use std::marker::Model;
 
 /// What is known of a picture: its shape, and a set of readings of its lines. A reading is what some
@@ -29,8 +26,7 @@ use std::marker::Model;
 #[derive(Drop)]
 pub struct Partial {
     shape: Shape,
-    store: BTreeMap<Place, LineSet>,
-    alloc: Global,
+    store: Store,
 }
 
 impl Model for Partial {
@@ -41,111 +37,31 @@ impl Model for Partial {
     ghost coded = { coded_partial };
 
     ghost use Rattle.jls_partial.specs.Entries.{partial_of};
-    ghost use Rattle.jls_partial.specs.Held.{IsStore, kept_entry};
+    ghost use Rattle.jls_partial.specs.Held.{kept_entry};
+    ghost use Rattle.jls_partial.specs.Stored.{IsStoreOf};
     ghost use Rattle.std.specs.Prelude.{map};
 
     ghost view = { λ a. partial_of a.shape (map kept_entry a.store.entries) };
 
-    ghost invariant = { λ a. IsStore a.shape a.store.entries };
-}
-
-/// Takes one line that fits, with these sources.
-fn take_line(lines: &mut LineSet, samples: &[u16], sources: &[u32]) -> Result<(), AllocError>
-    requires { FitsIn lines.old samples.now }
-    ensures ok { OnOk result (PutsLine lines.old samples.now sources.now lines.new) }
-    ensures err { OnErr result (lines.new ≡ lines.old) }
-{
-    lines.take(samples, sources)?;
-    // The length of a set of lines is a `usize`, and so it is countable.
-    prove!(lines.len() <= usize::MAX);
-    Ok(())
-}
-
-/// Keeps one more reading at a place, with these sources. `none` is what a place without readings has.
-fn put(
-    store: &mut BTreeMap<Place, LineSet>,
-    none: LineSet,
-    at: Place,
-    samples: &[u16],
-    sources: &[u32],
-) -> Result<(), AllocError>
-    requires { FitsIn (lines_or none store.old.entries at) samples.now }
-    ensures ok { OnOk result (PutsAt store.old.entries at (lines_or none store.new.entries at) store.new.entries) }
-    ensures lines { OnOk result (PutsLine (lines_or none store.old.entries at) samples.now sources.now
-        (lines_or none store.new.entries at)) }
-    ensures err { OnErr result (store.new.entries ≡ store.old.entries) }
-    ensures ordered { IsOrdered place_cmp store.new }
-{
-    match store.get_mut(&at) {
-        Some(lines) => take_line(lines, samples, sources)?,
-        None => {
-            let mut lines = none;
-            take_line(&mut lines, samples, sources)?;
-            store.insert(at, lines)?;
-        }
-    }
-    Ok(())
-}
-
-/// Adds a source to the line that has `i` others below it.
-fn mark_line(lines: &mut LineSet, i: usize, source: u32) -> Result<(), AllocError>
-    requires { i < length (set.items lines.old.lines) }
-    ensures ok { OnOk result (MarksLine lines.old i source lines.new) }
-    ensures err { OnErr result (lines.new ≡ lines.old) }
-{
-    lines.mark_at(i, source)?;
-    // The length of a set of lines is a `usize`, and so it is countable.
-    prove!(lines.len() <= usize::MAX);
-    Ok(())
-}
-
-/// Adds a source to a reading that is kept at a place.
-fn mark_kept(
-    store: &mut BTreeMap<Place, LineSet>,
-    at: Place,
-    i: usize,
-    source: u32,
-) -> Result<(), AllocError>
-    requires { i < length (set.items (lines_or (no_lines 0 0) store.old.entries at).lines) }
-    ensures ok { OnOk result (PutsAt store.old.entries at (lines_or (no_lines 0 0) store.new.entries at) store.new.entries) }
-    ensures lines { OnOk result (MarksLine (lines_or (no_lines 0 0) store.old.entries at) i source
-        (lines_or (no_lines 0 0) store.new.entries at)) }
-    ensures err { OnErr result (store.new.entries ≡ store.old.entries) }
-    ensures ordered { IsOrdered place_cmp store.new }
-{
-    match store.get_mut(&at) {
-        Some(lines) => mark_line(lines, i, source)?,
-        None => unreachable!(),
-    }
-    Ok(())
-}
-
-/// Whether these samples are kept at a place.
-fn is_kept(store: &BTreeMap<Place, LineSet>, at: Place, samples: &[u16]) -> bool
-    ensures { result ≡ set.contains (lines_or (no_lines 0 0) store.now.entries at).lines samples.now }
-{
-    match store.get(&at) {
-        Some(lines) => lines.contains(samples),
-        None => false,
-    }
+    ghost invariant = { λ a. IsStoreOf a.shape a.store };
 }
 
 /// How many readings are kept at a place.
-fn count_at(store: &BTreeMap<Place, LineSet>, at: Place) -> usize
+fn count_at(store: &Store, at: Place) -> usize
     ensures { result ≡ length (set.items (lines_or (no_lines 0 0) store.now.entries at).lines) }
 {
-    match store.get(&at) {
+    match store.lines_at(at) {
         Some(lines) => lines.len(),
         None => 0,
     }
 }
 
 /// What is kept at a place that has a reading.
-fn lines_at(store: &BTreeMap<Place, LineSet>, at: Place) -> &LineSet
+fn lines_at(store: &Store, at: Place) -> Lines<'_>
     requires { 0 < length (set.items (lines_or (no_lines 0 0) store.now.entries at).lines) }
-    ensures { result.now ≡ lines_or (no_lines 0 0) store.now.entries at }
+    ensures { result ≡ lines_or (no_lines 0 0) store.now.entries at }
 {
-    match store.get(&at) {
+    match store.lines_at(at) {
         Some(lines) => lines,
         None => unreachable!(),
     }
@@ -156,11 +72,8 @@ impl Partial {
     pub fn empty(alloc: Global, shape: Shape) -> Partial
         ensures { result ≡ nothing_known shape }
     {
-        Partial {
-            shape,
-            store: BTreeMap::new(alloc),
-            alloc,
-        }
+        let store = Store::empty(alloc, shape.precision(), shape.width());
+        Partial { shape, store }
     }
 
     /// The shape. Each reading that is held fits it, and a line has fewer than 2^64 of them. Each source is of a reading that is
@@ -188,20 +101,18 @@ impl Partial {
         if let Some(fault) = find_reading_fault(&self.shape, component, line, samples) {
             return Err(fault);
         }
-        let at = Place { component, line };
-        if self.has(at, samples) {
-            return Ok(false);
-        }
-        self.take(at, samples, &[])?;
-        Ok(true)
+        Ok(self.keep(Place { component, line }, samples, &[])?)
     }
 
-    /// Whether these samples are held as a reading of a line.
-    fn has(&self, at: Place, samples: &[u16]) -> bool
-        ensures value { result ≡ holds self.now at.component at.line samples.now }
-        ensures fitting { IsFitting self.now }
+    /// Takes one reading that fits, and adds these sources to its own. True where it is new.
+    fn keep(&mut self, at: Place, samples: &[u16], sources: &[u32]) -> Result<bool, AllocError>
+        requires { reading_fault self.old.shape at.component at.line samples.now ≡ None }
+        ensures ok { OnOk result (self.new ≡ with_all self.old ((at_place at samples.now, sources.now) ∷ [])) }
+        ensures err { OnErr result (self.new ≡ self.old) }
+        ensures added { IfOk result (λ added. added ≡ not (holds self.old at.component at.line samples.now)) }
+        ensures no_memory { holds self.old at.component at.line samples.now ≡ true → sources.now ≡ [] → IsOk result }
     {
-        is_kept(&self.store, at, samples)
+        Ok(self.store.take(at, samples, sources)?)
     }
 
     /// Takes one reading that fits, and adds these sources to its own.
@@ -215,8 +126,7 @@ impl Partial {
         ensures ok { OnOk result (self.new ≡ with_all self.old ((at_place at samples.now, sources.now) ∷ [])) }
         ensures err { OnErr result (self.new ≡ self.old) }
     {
-        let none = LineSet::empty(self.alloc, self.shape.precision(), self.shape.width());
-        put(&mut self.store, none, at, samples, sources)?;
+        self.keep(at, samples, sources)?;
         Ok(())
     }
 
@@ -234,7 +144,7 @@ impl Partial {
             (λ samples. self.new ≡ with_marks self.old source (at_place at samples ∷ []))) }
         ensures err { OnErr result (self.new ≡ self.old) }
     {
-        mark_kept(&mut self.store, at, i, source)?;
+        self.store.mark(at, i, source)?;
         Ok(())
     }
 
@@ -271,12 +181,12 @@ impl Partial {
     }
 
     /// The lines that have a reading, in the order of their places, each with what is kept of it.
-    pub(crate) fn entries(&self) -> Iter<'_, Place, LineSet>
+    pub(crate) fn entries(&self) -> Entries<'_>
         ensures seen { partial_of self.now.shape (map kept_entry result) ≡ self.now }
         ensures entries { map kept_entry result ≡ entries self.now }
         ensures each { AllByRecursion (IsLineEntry self.now.shape) result }
     {
-        self.store.iter()
+        self.store.entries()
     }
 
     /// How many lines have a reading.

@@ -1,12 +1,15 @@
 //! Partial pictures from their texts.
 
-ghost use Rattle.jls_partial.specs.Partial.{PartialPicture};
+ghost use Rattle.jls_partial.specs.Entries.{kept_at_place};
+ghost use Rattle.jls_partial.specs.Merging.{TakesFront};
+ghost use Rattle.jls_partial.specs.Partial.{PartialPicture, nothing_known};
 ghost use Rattle.jls_partial.specs.Text.{IsTextOf};
-ghost use Rattle.jls_partial.specs.TextInto.{with_readings, with_entry, with_entries};
+ghost use Rattle.jls_partial.specs.TextFront.{readings_front, entry_front, entries_front};
+ghost use Rattle.jls_partial.specs.TextInto.{with_readings, with_entry, with_entries, with_rest, head_fields};
 ghost use Rattle.jls_partial.specs.TextReading.{GivesText, reading_fields, sources_fields, own_sources_fields, kept_fields};
 ghost use Rattle.jls_partial.specs.TextReading.{readings_fields, entry_fields, entries_fields, read_text};
 ghost use Rattle.std.specs.Option.{option_map};
-ghost use Rattle.std.specs.Prelude.{◌≡◌, ◌<◌, length, None, Ok, IfOk};
+ghost use Rattle.std.specs.Prelude.{◌≡◌, ◌<◌, length, map, None, Ok, IfOk, OnErr};
 
 use crate::partial::Partial;
 use crate::place::Place;
@@ -92,7 +95,7 @@ fn read_own_sources(
 
 /// What a text is read with: its length in bytes, its version, and the allocator.
 #[derive(Clone, Copy)]
-struct Form {
+pub(crate) struct Form {
     size: u64,
     version: Version,
     alloc: Global,
@@ -124,8 +127,10 @@ fn read_readings<'a>(
 ) -> Result<&'a [u8], TextFault>
     requires component_in { at.component < length partial.now.shape.ids }
     requires line_in { at.line < partial.now.shape.height }
-    ensures { GivesText (λ x. (partial.new, x.now)) result
+    ensures read { GivesText (λ x. (partial.new, x.now)) result
         (with_readings partial.old at (readings_fields form.size form.version partial.old.shape None count bytes.now)) }
+    ensures front { OnErr result (TakesFront partial.old partial.new
+        (map (kept_at_place at) (readings_front form.size form.version partial.old.shape None count bytes.now))) }
 {
     let mut before = None;
     let mut rest = bytes;
@@ -146,8 +151,10 @@ fn read_entry<'a>(
     before: Option<Place>,
     bytes: &'a [u8],
 ) -> Result<(Place, &'a [u8]), TextFault>
-    ensures { GivesText (λ x. (partial.new, x.0, x.1.now)) result
+    ensures read { GivesText (λ x. (partial.new, x.0, x.1.now)) result
         (with_entry partial.old (entry_fields form.size form.version partial.old.shape before bytes.now)) }
+    ensures front { OnErr result (TakesFront partial.old partial.new
+        (entry_front form.size form.version partial.old.shape before bytes.now)) }
 {
     let (at, rest) = read_place(form.size, partial.shape(), before, bytes)?;
     let (count, rest) = read_count(form.size, rest)?;
@@ -162,8 +169,10 @@ fn read_entries<'a>(
     count: u32,
     bytes: &'a [u8],
 ) -> Result<&'a [u8], TextFault>
-    ensures { GivesText (λ x. (partial.new, x.now)) result
+    ensures read { GivesText (λ x. (partial.new, x.now)) result
         (with_entries partial.old (entries_fields form.size form.version partial.old.shape None count bytes.now)) }
+    ensures front { OnErr result (TakesFront partial.old partial.new
+        (entries_front form.size form.version partial.old.shape None count bytes.now)) }
 {
     let mut before = None;
     let mut rest = bytes;
@@ -175,26 +184,76 @@ fn read_entries<'a>(
     Ok(rest)
 }
 
-#[tactic(auto, unfolding(crate::specs::TextReading::read_text, crate::specs::TextReading::text_fields))]
-fn read_partial(alloc: Global, bytes: &[u8]) -> Result<Partial, TextFault>
-    ensures { GivesText (λ p. p) result (read_text bytes.now) }
+/// What stands before the entries of a text, and the bytes after it.
+#[derive(Drop)]
+pub(crate) struct Head<'a> {
+    pub form: Form,
+    pub shape: Shape,
+    pub count: u32,
+    pub rest: &'a [u8],
+}
+
+#[tactic(auto, unfolding(crate::specs::TextInto::head_fields))]
+pub(crate) fn read_head(alloc: Global, bytes: &[u8]) -> Result<Head<'_>, TextFault>
+    ensures { GivesText (λ h. (h.form.size, h.form.version, h.shape, h.count, h.rest.now)) result (head_fields bytes.now) }
 {
     let size = bytes.len() as u64;
     let version_bytes = read_magic(size, b"JLSP", bytes)?;
     let (version, shape_bytes) = read_version(size, version_bytes)?;
     let (shape, count_bytes) = read_shape(size, shape_bytes)?;
-    let (count, entry_bytes) = read_u32(size, count_bytes)?;
-    let mut partial = Partial::empty(alloc, shape);
+    let (count, rest) = read_u32(size, count_bytes)?;
     let form = Form {
         size,
         version,
         alloc,
     };
-    let rest = read_entries(form, &mut partial, count, entry_bytes)?;
+    Ok(Head {
+        form,
+        shape,
+        count,
+        rest,
+    })
+}
+
+/// Takes the readings of all entries, behind which nothing may stand.
+pub(crate) fn read_rest(
+    form: Form,
+    partial: &mut Partial,
+    count: u32,
+    bytes: &[u8],
+) -> Result<(), TextFault>
+    ensures read { GivesText (λ _. partial.new) result
+        (with_rest form.size partial.old (entries_fields form.size form.version partial.old.shape None count bytes.now)) }
+    ensures front { OnErr result (TakesFront partial.old partial.new
+        (entries_front form.size form.version partial.old.shape None count bytes.now)) }
+{
+    let rest = read_entries(form, partial, count, bytes)?;
     if !rest.is_empty() {
-        return Err(TextFault::Trailing(offset(size, rest)));
+        return Err(TextFault::Trailing(offset(form.size, rest)));
     }
+    Ok(())
+}
+
+/// The partial picture of a text of which the head was read.
+pub(crate) fn read_behind(head: Head<'_>) -> Result<Partial, TextFault>
+    ensures { GivesText (λ p. p) result (with_rest head.entry.form.size (nothing_known head.entry.shape)
+        (entries_fields head.entry.form.size head.entry.form.version head.entry.shape None head.entry.count head.entry.rest.now)) }
+{
+    let Head {
+        form,
+        shape,
+        count,
+        rest,
+    } = head;
+    let mut partial = Partial::empty(form.alloc, shape);
+    read_rest(form, &mut partial, count, rest)?;
     Ok(partial)
+}
+
+fn read_partial(alloc: Global, bytes: &[u8]) -> Result<Partial, TextFault>
+    ensures { GivesText (λ p. p) result (read_text bytes.now) }
+{
+    read_behind(read_head(alloc, bytes)?)
 }
 
 impl Partial {

@@ -7,7 +7,7 @@ ghost use Rattle.std.specs.Int.{w16, w32, w64, to_be_bytes};
 ghost use Rattle.std.specs.List.{flat_map};
 ghost use Rattle.std.specs.Prelude.{◌≡◌, ◌∷◌, ◌++◌, length, IfOk, OnOk};
 
-use crate::line_set::LineSet;
+use crate::lines::Lines;
 use crate::partial::Partial;
 use crate::place::Place;
 use jls_values::Shape;
@@ -55,7 +55,7 @@ fn put_reading(out: &mut Vec<u8>, samples: &[u16], sources: &[u32]) -> Result<()
     Ok(())
 }
 
-fn put_readings(out: &mut Vec<u8>, lines: &LineSet) -> Result<(), AllocError>
+fn put_readings(out: &mut Vec<u8>, lines: &Lines<'_>) -> Result<(), AllocError>
     ensures { OnOk result (out.new.items ≡ out.old.items ++ flat_map (reading_text Two) (kept_lines lines.now)) }
 {
     for i in 0..lines.len() {
@@ -75,7 +75,7 @@ fn put_entry_head(out: &mut Vec<u8>, at: Place, count: u64) -> Result<(), AllocE
 }
 
 /// Writes the entry of a line.
-fn put_entry(out: &mut Vec<u8>, at: Place, lines: &LineSet) -> Result<(), AllocError>
+fn put_entry(out: &mut Vec<u8>, at: Place, lines: &Lines<'_>) -> Result<(), AllocError>
     ensures { OnOk result (out.new.items ≡ out.old.items ++ entry_text Two (at, kept_lines lines.now)) }
 {
     put_entry_head(out, at, lines.len() as u64)?;
@@ -87,7 +87,7 @@ fn put_entries(out: &mut Vec<u8>, partial: &Partial) -> Result<(), AllocError>
     ensures { OnOk result (out.new.items ≡ out.old.items ++ flat_map (entry_text Two) (entries partial.now)) }
 {
     for (at, lines) in partial.entries() {
-        put_entry(out, *at, lines)?;
+        put_entry(out, at, &lines)?;
     }
     Ok(())
 }
@@ -113,7 +113,7 @@ fn put_head(out: &mut Vec<u8>, shape: &Shape) -> Result<(), AllocError>
 }
 
 /// How many bytes the entry of a line takes. Room is made for them.
-fn entry_size(lines: &LineSet) -> usize {
+fn entry_size(lines: &Lines<'_>) -> usize {
     let mut size = 11usize;
     for i in 0..lines.len() {
         let samples = lines.get(i).len().saturating_mul(2);
@@ -130,7 +130,7 @@ fn entry_size(lines: &LineSet) -> usize {
 fn entries_size(partial: &Partial) -> usize {
     let mut size = 0usize;
     for (_, lines) in partial.entries() {
-        size = size.saturating_add(entry_size(lines));
+        size = size.saturating_add(entry_size(&lines));
     }
     size
 }

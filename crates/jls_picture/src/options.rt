@@ -3,7 +3,7 @@
 ghost use Rattle.jls_picture.specs.Options.{OptionsFit};
 ghost use Rattle.jls_picture.specs.Options as spec;
 ghost use Rattle.jls_picture.specs.Picture.{line_of};
-ghost use Rattle.std.specs.Prelude.{◌≡◌, ◌<◌, ◌≤◌, ◌↔◌, ◌*◌, ◌^◌, ℕ, All, IsTrue, length};
+ghost use Rattle.std.specs.Prelude.{◌≡◌, ◌<◌, ◌≤◌, ◌↔◌, ◌*◌, ℕ, All, IsTrue, length};
 
 use crate::picture::Picture;
 use jls_values::{Params, Shape};

@@ -1,12 +1,11 @@
 //! A whole picture, lent from a settled partial picture.
 
-ghost use Rattle.jls_partial.specs.Partial.{readings_at};
 ghost use Rattle.jls_partial.specs.Status.{IsComponentSettled, IsSettled};
 ghost use Rattle.jls_picture.specs.Picture.{picture_of, line_of};
 ghost use Rattle.jls_picture.specs.Unsettled.{IsFirstUnsettledLine, IsFirstUnsettled, NamesFirstUnsettled};
 ghost use Rattle.jls_picture.specs.WholePictures.{IsPicture, IsWholePicture};
 ghost use Rattle.std.specs.List.{AllByRecursion};
-ghost use Rattle.std.specs.Prelude.{◌≡◌, ◌≢◌, ◌<◌, ◌^◌, ℕ, length, IfOk, IfErr, OnOk, MatchOption};
+ghost use Rattle.std.specs.Prelude.{◌≡◌, ◌<◌, ◌^◌, length, IfOk, IfErr, OnOk, MatchOption};
 
 use jls_partial::Partial;
 use jls_values::Shape;

@@ -5,11 +5,11 @@ use Rattle.std.specs.List.{list_any}
 use Rattle.std.proofs.lemmas.List.{append-nil, length-append}
 use Rattle.std.proofs.lemmas.List.Elements.{All-cons, All-nil, filter-append}
 use Rattle.std.proofs.lemmas.List.Folds.{list_any-append}
-use Rattle.jls_device.specs.Event.{Event, History, opened, not_opened, gave, read_failed, created, not_created, took, write_failed, is_creation, is_read}
+use Rattle.jls_device.specs.Event.{Event, opened, not_opened, gave, read_failed, created, not_created, took, write_failed, is_creation, is_read}
 use Rattle.jls_device.specs.Writing.{WroteFront, Printed}
 use Rattle.jls_station.specs.Given.{Given}
 use Rattle.jls_station.specs.Reading.{GoesOn, StopsWith, IsRead}
-use Rattle.jls_station.specs.Inputs.{IsEnough, IsRefused, no_text, no_picture, text_not_read, copy_not_read, RunsOutOfMemory, between_reads, behind_the_last, ReadsRefuse, for_fault, for_memory, IsTaken, TakesInTurn, StopsAt, not_there, refused, other_shape, no_memory}
+use Rattle.jls_station.specs.Inputs.{IsEnough, IsRefused, no_text, no_picture, text_not_read, copy_not_read, between_reads, behind_the_last, ReadsRefuse, for_fault, for_memory, IsTaken, TakesInTurn, StopsAt, not_there, refused, other_shape, no_memory}
 use Rattle.jls_station.specs.Joining as joining
 use Rattle.jls_station.specs.Joining.{Joins}
 use Rattle.jls_station.specs.Outputs as outputs
@@ -26,7 +26,7 @@ use Rattle.jls_station.specs.declared.outcome.Outcome.TheVariants.{Done, Refused
 use Rattle.jls_commands.specs.Telling as telling
 use Rattle.jls_commands.specs.Telling.{Tells, lines}
 use Rattle.jls_commands.specs.WritingFiles as writing
-use Rattle.jls_commands.specs.WritingFiles.{WritesFile, StopsAtFile, unsettled_cause}
+use Rattle.jls_commands.specs.WritingFiles.{WritesFile, StopsAtFile}
 use Rattle.jls_commands.specs.declared.writing.Format.{Format}
 use Rattle.jls_commands.specs.declared.writing.Format.TheVariants.{Pnm, Jls}
 use Rattle.jls_words.specs.Asking.{Asked, check, join, show, write_pnm, write_jls}

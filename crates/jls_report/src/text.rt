@@ -3,7 +3,7 @@
 ghost use Rattle.jls_report.specs.Report.{component_of};
 ghost use Rattle.jls_report.specs.ReportText.{size_text, precision_text, shape_line, counts_line, entry_line, report_text};
 ghost use Rattle.std.specs.List.{flat_map, join_by, AllByRecursion};
-ghost use Rattle.std.specs.Prelude.{◌≡◌, ◌<◌, ◌≤◌, ◌++◌, length, codes, decimal, IfOk, OnOk};
+ghost use Rattle.std.specs.Prelude.{◌≡◌, ◌<◌, ◌++◌, length, codes, decimal, IfOk, OnOk};
 
 use crate::entry::ReportEntry;
 use crate::report::Report;

@@ -12,10 +12,9 @@ use Rattle.jls_partial.specs.Partial.{PartialPicture, has_same_shape, union}
 use Rattle.jls_device.specs.Event.{Event, History, GrewBy, opened, not_opened}
 use Rattle.jls_device.proofs.Growing.{grew_twice}
 use Rattle.jls_station.specs.Given.{Given}
-use Rattle.jls_station.specs.Inputs.{partials, AreOfOneShape, IsOfOtherShape, IsUnionOf, ReadsGive, ReadsRefuse, IsTaken, TakesInTurn, TakesUnion, StopsAt, not_there, refused, other_shape, no_memory, StopsAtInput}
+use Rattle.jls_station.specs.Inputs.{partials, AreOfOneShape, IsOfOtherShape, IsUnionOf, ReadsGive, ReadsRefuse, IsTaken, TakesInTurn, TakesUnion, StopsAt, not_there, refused, StopsAtInput}
 use Rattle.jls_station.specs.declared.input.ReadStop.TheVariants.{Whole}
 use Rattle.jls_station.specs.declared.input.InputFault.{InputFault}
-use Rattle.jls_station.specs.declared.outcome.Cause.{Cause}
 use Rattle.jls_station.specs.declared.outcome.Cause.TheVariants as cause
 use Rattle.jls_station.specs.declared.outcome.Refusal.{Refusal}
 
@@ -75,12 +74,12 @@ one_shape_more : (ps : List PartialPicture) (joined q : PartialPicture) → IsUn
 one_shape_more [] joined q u h e = absurd u
 one_shape_more (p ∷ ps) joined q u h e = shapes_one_more p ps q h (sym (shape_of_union p ps joined q u) ∙ e)
 
-other_shape_than_union : (ps : List PartialPicture) (joined q : PartialPicture) → IsUnionOf ps joined → has_same_shape joined q ≡ false
+pub other_shape_than_union : (ps : List PartialPicture) (joined q : PartialPicture) → IsUnionOf ps joined → has_same_shape joined q ≡ false
     → IsOfOtherShape ps q
 other_shape_than_union [] joined q u e = absurd u
 other_shape_than_union (p ∷ ps) joined q u e = sym (shape_of_union p ps joined q u) ∙ e
 
-same_shape_as_union : (ps : List PartialPicture) (joined q : PartialPicture) → IsUnionOf ps joined → (has_same_shape joined q ≡ false → ⊥)
+pub same_shape_as_union : (ps : List PartialPicture) (joined q : PartialPicture) → IsUnionOf ps joined → (has_same_shape joined q ≡ false → ⊥)
     → IsOfOtherShape ps q → ⊥
 same_shape_as_union [] joined q u same other = other
 same_shape_as_union (p ∷ ps) joined q u same other = same (shape_of_union p ps joined q u ∙ other)
@@ -166,45 +165,25 @@ module _ (source : Option ℕ) (old mid new : History) (names : List (List ℕ))
   }
 
   module _ (all after : List (List ℕ)) (r : Refusal) (among : all ≡ names ++ r.name.now ∷ after) where
-    stops_there : (last : List Event) → new ≡ mid ++ last → StopsAt source taken.they_are.givens r.name.now r.cause last
+    pub stops_next : ((before : List Given) → IsUnionOf (partials before) joined → GrewBy (StopsAt source before r.name.now r.cause) mid new)
         → GrewBy (StopsAtInput source all r) old new
-    stops_there last e s = record {
-      events = taken.events ++ last;
-      grew = grew_twice old mid new taken.events last taken.grew e;
-      they_are = record {
-        before = names;
-        after = after;
-        among = among;
-        givens = taken.they_are.givens;
-        reading = taken.events;
-        taken = taken.they_are.taken;
-        last = last;
-        stops = s;
-        events_are = refl;
-      };
-    }
-
-    pub stops_next : ((before : List Given) → GrewBy (StopsAt source before r.name.now r.cause) mid new)
-        → GrewBy (StopsAtInput source all r) old new
-    stops_next h = let s = h taken.they_are.givens in stops_there s.events s.grew s.they_are
-
-    pub differs_next : (g : Given) → r.cause ≡ cause.ShapeDiffers → GrewBy (IsTaken source r.name.now g) mid new
-        → has_same_shape joined g.partial ≡ false
-        → GrewBy (StopsAtInput source all r) old new
-    differs_next g is h e =
-        stops_there h.events h.grew
-        (subst (λ (c : Cause). StopsAt source taken.they_are.givens r.name.now c h.events) (sym is)
-        (other_shape source taken.they_are.givens r.name.now g h.events h.they_are
-        (other_shape_than_union (partials taken.they_are.givens) joined g.partial taken.they_are.union_is e)))
-
-    pub ran_out_next : (g : Given) → r.cause ≡ cause.OutOfMemory → GrewBy (IsTaken source r.name.now g) mid new
-        → (has_same_shape joined g.partial ≡ false → ⊥)
-        → GrewBy (StopsAtInput source all r) old new
-    ran_out_next g is h same =
-        stops_there h.events h.grew
-        (subst (λ (c : Cause). StopsAt source taken.they_are.givens r.name.now c h.events) (sym is)
-        (no_memory source taken.they_are.givens r.name.now g h.events h.they_are
-        (same_shape_as_union (partials taken.they_are.givens) joined g.partial taken.they_are.union_is same)))
+    stops_next h =
+        let s = h taken.they_are.givens taken.they_are.union_is in
+        record {
+          events = taken.events ++ s.events;
+          grew = grew_twice old mid new taken.events s.events taken.grew s.grew;
+          they_are = record {
+            before = names;
+            after = after;
+            among = among;
+            givens = taken.they_are.givens;
+            reading = taken.events;
+            taken = taken.they_are.taken;
+            last = s.events;
+            stops = s.they_are;
+            events_are = refl;
+          };
+        }
 
 -- the first input stops the command
 pub stops_first : (source : Option ℕ) (old new : History) (others : List (List ℕ)) (r : Refusal)

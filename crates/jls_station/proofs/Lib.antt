@@ -3,5 +3,6 @@ pub mod CopySteps
 pub mod InTurn
 pub mod InputBytes
 pub mod JoinSteps
+pub mod NextInputs
 pub mod OneInput
 pub mod WholeRuns

@@ -253,12 +253,16 @@ module _ (old new : History) where
       they_are = record { bytes = bytes; is_read = subst (λ (s : ReadStop). IsRead IsEnough h.events bytes s) (sym is) h.they_are; gives = gives };
     }
 
--- where the bytes of a source are known, they are those that were read
-pub known_text : (old new : Option (List ℕ)) (bytes : List ℕ) (p : PartialPicture) → Consumes old new bytes → IsAtEnd new → IsTextOf bytes p
+-- where the bytes of a source are known, they are those that were read to its end
+pub known_all : (old new : Option (List ℕ)) (bytes : List ℕ) → Consumes old new bytes → IsAtEnd new → IfSome old (λ known. known ≡ bytes)
+known_all None new bytes h e = tt
+known_all (Some xs) None bytes h e = absurd h
+known_all (Some xs) (Some ys) bytes h e = h ∙ (ap (λ (t : List ℕ). bytes ++ t) e ∙ append-nil bytes)
+
+pub known_text : (old : Option (List ℕ)) (bytes : List ℕ) (p : PartialPicture) → IfSome old (λ known. known ≡ bytes) → IsTextOf bytes p
     → IfSome old (λ known. IsTextOf known p)
-known_text None new bytes p h e is = tt
-known_text (Some xs) None bytes p h e is = absurd h
-known_text (Some xs) (Some ys) bytes p h e is = subst (λ (t : List ℕ). IsTextOf t p) (sym (h ∙ (ap (λ (t : List ℕ). bytes ++ t) e ∙ append-nil bytes))) is
+known_text None bytes p h is = tt
+known_text (Some xs) bytes p h is = subst (λ (t : List ℕ). IsTextOf t p) (sym h) is
 
 -- the fault of a text that a function answers, as the fault of an input
 module _ (old new : History) (bytes : List ℕ) (text : is_text bytes ≡ true) (h : GrewBy (λ reads. IsRead IsEnough reads bytes Whole) old new) where

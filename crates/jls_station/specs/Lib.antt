@@ -1,4 +1,5 @@
 -- What the contracts of this crate cite.
+pub mod Forms
 pub mod Given
 pub mod InputFaults
 pub mod Inputs

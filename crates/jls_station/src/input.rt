@@ -1,12 +1,13 @@
 //! Inputs of the program: partial pictures as texts, and damaged copies.
 
-ghost use Rattle.std.specs.Prelude.{◌≡◌, ◌↔◌, ◌<◌, ◌≤◌, ℕ, IsTrue, List, Option, None, Some, true, false, length, IfOk, IfErr, IfSome, MatchOption};
+ghost use Rattle.std.specs.Prelude.{◌≡◌, ◌↔◌, ◌<◌, ◌≤◌, ℕ, IsTrue, List, Option, None, Some, true, false, length, IfOk, IfErr, IfSome, OnOk, MatchOption};
 ghost use Rattle.std.specs.Io.KnownBytes.{Consumes, IsAtEnd};
 ghost use Rattle.jls_device.specs.Event.{History, GrewBy};
+ghost use Rattle.jls_station.specs.Forms.{IsForm, IsAllOf};
 ghost use Rattle.jls_station.specs.Given.{given_by_text, given_of};
 ghost use Rattle.jls_station.specs.Inputs.{IsEnough, IsCopyDone, ReadsGive, ReadsRefuse};
 ghost use Rattle.jls_station.specs.InputFaults.{input_fault_of, input_fault_of_copy};
-ghost use Rattle.jls_station.specs.Reading.{ReadSoFar};
+ghost use Rattle.jls_station.specs.Reading.{IsRead, ReadSoFar};
 ghost use Rattle.jls_station.specs.Texts.{is_text, IsTextOf};
 ghost use Rattle.jls_station.specs.declared.input.ReadStop.TheVariants.{Whole};
 
@@ -38,7 +39,7 @@ pub enum InputFault {
     Text(TextFault),
     /// It is a copy that was read whole and in which no frame was taken: the fault that ended it, and its offset.
     NoPicture(MarkerFault, u64),
-    /// The source stopped before its end, when it had given so many bytes: in a text, or in a copy in which no frame was taken.
+    /// The device stopped before its end, when it had given so many bytes: in a text, or in a copy in which no frame was taken.
     Read(ReadStop, u64),
     /// Memory ran out for it.
     OutOfMemory,
@@ -129,7 +130,7 @@ impl InputRead {
 const FIRST_OF_TEXT: u8 = 0x4A;
 
 #[tactic(auto, using(crate::proofs::OneInput::other_input_fault))]
-fn input_fault(fault: TextFault) -> InputFault
+pub(crate) fn input_fault(fault: TextFault) -> InputFault
     ensures { result ≡ input_fault_of fault }
 {
     match fault {
@@ -151,22 +152,17 @@ fn copy_fault(fault: CopyFault, stop: ReadStop, count: u64) -> InputFault
     }
 }
 
-/// Reads a text, whose first read gave these bytes, into the room of `text`.
+/// Reads a text to its end, whose first read gave these bytes, into the room of `text`.
 /// In the clauses `before` is what the device had done, or what it had left to give, before the first read.
-fn read_text<S: Source>(
-    alloc: Global,
-    device: &mut S,
-    first: &[u8],
-    text: &mut Vec<u8>,
-) -> Result<InputRead, InputFault>
+fn read_text<S: Source>(device: &mut S, first: &[u8], text: &mut Vec<u8>) -> Result<(), InputFault>
     requires { is_text first.now ≡ true }
-    // Whatever source a copy would be taken under.
-    ensures given { (source : Option ℕ) (before : History) → GrewBy (ReadSoFar IsEnough 1 first.now) before (S.history device.old)
-        → IfOk result (λ given. GrewBy (ReadsGive source given) before (S.history device.new)) }
+    ensures text { OnOk result (is_text text.new.items ≡ true) }
+    ensures read { (before : History) → GrewBy (ReadSoFar IsEnough 1 first.now) before (S.history device.old)
+        → OnOk result (GrewBy (λ reads. IsRead IsEnough reads text.new.items Whole) before (S.history device.new)) }
     ensures refused { (before : History) → GrewBy (ReadSoFar IsEnough 1 first.now) before (S.history device.old)
         → IfErr result (λ fault. GrewBy (ReadsRefuse fault) before (S.history device.new)) }
     ensures known { (before : Option (List ℕ)) → Consumes before (S.remaining device.old) first.now
-        → IfOk result (λ given. IfSome before (λ bytes. IsTextOf bytes given.partial)) }
+        → OnOk result (IfSome before (λ bytes. bytes ≡ text.new.items)) }
 {
     text.clear();
     match text.extend_from_slice(first) {
@@ -178,12 +174,8 @@ fn read_text<S: Source>(
         Err(_) => return Err(InputFault::OutOfMemory),
     };
     match stop {
-        ReadStop::Whole => {}
-        stop => return Err(InputFault::Read(stop, text.len() as u64)),
-    }
-    match Partial::from_bytes(alloc, text) {
-        Ok(partial) => Ok(InputRead::of_text(partial)),
-        Err(fault) => Err(input_fault(fault)),
+        ReadStop::Whole => Ok(()),
+        stop => Err(InputFault::Read(stop, text.len() as u64)),
     }
 }
 
@@ -222,16 +214,24 @@ fn read_copy<S: Source>(
     }
 }
 
-/// The same as `read_input`. A text is read into the room of `text`, which grows as far as it has to.
-pub(crate) fn read_input_into<S: Source>(
+/// What is read of an input: all bytes of a text, which stand in the room of texts and are not judged yet, or what a copy gives.
+#[derive(Drop)]
+pub(crate) enum InputForm {
+    Text,
+    Copy(InputRead),
+}
+
+/// Reads an input as `read_input` does, but for the text itself: its bytes are read into the room of `text`, which grows as far as
+/// it has to.
+pub(crate) fn read_form<S: Source>(
     alloc: Global,
     source: Option<u32>,
     device: &mut S,
     text: &mut Vec<u8>,
-) -> Result<InputRead, InputFault>
-    ensures given { IfOk result (λ given. GrewBy (ReadsGive source given) (S.history device.old) (S.history device.new)) }
+) -> Result<InputForm, InputFault>
+    ensures form { IfOk result (λ form. GrewBy (IsForm source text.new.items form) (S.history device.old) (S.history device.new)) }
     ensures refused { IfErr result (λ fault. GrewBy (ReadsRefuse fault) (S.history device.old) (S.history device.new)) }
-    ensures known { IfOk result (λ given. given.copy ≡ None → IfSome (S.remaining device.old) (λ bytes. IsTextOf bytes given.partial)) }
+    ensures known { IfOk result (λ form. IsAllOf (S.remaining device.old) text.new.items form) }
 {
     copies_have_one_course();
     let mut chunk = [0u8; 4096];
@@ -244,19 +244,46 @@ pub(crate) fn read_input_into<S: Source>(
     }
     let first = front(&chunk, count);
     if first[0] == FIRST_OF_TEXT {
-        read_text(alloc, device, first, text)
+        match read_text(device, first, text) {
+            Ok(()) => Ok(InputForm::Text),
+            Err(fault) => Err(fault),
+        }
     } else {
-        read_copy(alloc, source, device, first)
+        match read_copy(alloc, source, device, first) {
+            Ok(read) => Ok(InputForm::Copy(read)),
+            Err(fault) => Err(fault),
+        }
+    }
+}
+
+/// The same as `read_input`. A text is read into the room of `text`, which grows as far as it has to.
+pub(crate) fn read_input_into<S: Source>(
+    alloc: Global,
+    source: Option<u32>,
+    device: &mut S,
+    text: &mut Vec<u8>,
+) -> Result<InputRead, InputFault>
+    ensures given { IfOk result (λ given. GrewBy (ReadsGive source given) (S.history device.old) (S.history device.new)) }
+    ensures refused { IfErr result (λ fault. GrewBy (ReadsRefuse fault) (S.history device.old) (S.history device.new)) }
+    ensures known { IfOk result (λ given. given.copy ≡ None → IfSome (S.remaining device.old) (λ bytes. IsTextOf bytes given.partial)) }
+{
+    match read_form(alloc, source, device, text) {
+        Ok(InputForm::Text) => match Partial::from_bytes(alloc, text) {
+            Ok(partial) => Ok(InputRead::of_text(partial)),
+            Err(fault) => Err(input_fault(fault)),
+        },
+        Ok(InputForm::Copy(read)) => Ok(read),
+        Err(fault) => Err(fault),
     }
 }
 
 /// What a device gives, from its current position on: a copy under the number of a source if there is one. An input whose first
-/// byte is 4A is the text of a partial picture, and is read to
-/// its end. Every other input is a damaged copy, the empty one too, and is read as long as more bytes can change what it gives.
-/// Reads have room for at most 4,096 bytes, and there are at most 4,294,967,295 of them.
+/// byte is 4A is the text of a partial picture, and is read to its end. Every other input is a damaged copy, the empty one too, and
+/// is read as long as more bytes can change what it gives. Reads have room for at most 4,096 bytes, and there are at most
+/// 4,294,967,295 of them.
 ///
-/// A copy in which a frame was taken is never refused, but where memory runs out: what was read before the source stopped is kept, and
-/// the report tells how it did. A text is refused as `Read` if the source stopped before its end, whatever the bytes are.
+/// A copy in which a frame was taken is never refused, but where memory runs out: what was read before the device stopped is kept, and
+/// the report tells how it did. A text is refused as `Read` if the device stopped before its end, whatever the bytes are.
 pub fn read_input<S: Source>(
     alloc: Global,
     source: Option<u32>,

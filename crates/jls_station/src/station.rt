@@ -1,11 +1,12 @@
 //! Stations.
 
-ghost use Rattle.std.specs.Prelude.{◌≡◌, ◌↔◌, true, false, OnOk, IsErrOf};
+ghost use Rattle.std.specs.Prelude.{◌≡◌, ◌↔◌, true, false, OnOk, IfErr, IsErrOf};
 ghost use Rattle.jls_values.specs.Join.{IsBetween};
 ghost use Rattle.jls_values.specs.declared.merge.MergeFault.TheVariants.{ShapeDiffers, OutOfMemory};
 ghost use Rattle.jls_partial.specs.Partial.{has_same_shape, nothing_known, union};
+ghost use Rattle.jls_partial.specs.TextMerging.{RefusesText, MergesText};
 
-use jls_partial::Partial;
+use jls_partial::{MergeTextFault, Partial};
 use jls_values::{Merge, MergeFault, Shape};
 use std::alloc::Global;
 use std::marker::Model;
@@ -63,6 +64,14 @@ impl Station {
         ensures out_of_memory { IsErrOf result OutOfMemory → IsBetween union self.old self.new (union self.old other.now) }
     {
         self.held.merge(other)
+    }
+
+    /// Takes in the readings of the partial picture whose text the bytes are, as `Partial::merge_text` does.
+    pub(crate) fn take_text(&mut self, bytes: &[u8]) -> Result<(), MergeTextFault>
+        ensures ok { OnOk result (MergesText self.old bytes.now self.new) }
+        ensures refused { IfErr result (λ fault. RefusesText self.old bytes.now fault) }
+    {
+        self.held.merge_text(self.alloc, bytes)
     }
 
     /// What the station holds.

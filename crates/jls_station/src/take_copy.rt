@@ -20,7 +20,7 @@ use std::alloc::Global;
 pub enum TakeFault {
     /// The copy was read whole, and no frame was taken: the fault that ended it, and its offset.
     NoPicture(MarkerFault, u64),
-    /// The source stopped before a frame was taken, when it had given so many bytes.
+    /// The device stopped before a frame was taken, when it had given so many bytes.
     Read(ReadStop, u64),
     /// The frame of the copy has another shape than the station.
     ShapeDiffers,
@@ -65,9 +65,9 @@ fn read_from_start<S: Source>(
 
 impl Station {
     /// Takes in the readings of a damaged copy, under the number of a source if there is one: reads it whole, from the device's current
-    /// position on, then checks its shape, and then merges. A device that stops behind a frame ends the copy there, and the
-    /// report tells how it stopped. Reads have room for at most
-    /// 4,096 bytes, there are at most 4,294,967,295 of them, and none is made where no byte more can change what the copy gives.
+    /// position on, then checks its shape, and then merges. A device that stops behind a frame ends the copy there, and the report
+    /// tells how it stopped. Reads have room for at most 4,096 bytes, there are at most 4,294,967,295 of them, and none is made where
+    /// no byte more can change what the copy gives.
     ///
     /// At `NoPicture`, `Read` and `ShapeDiffers` nothing has changed; after `OutOfMemory` all that was held is still held, with some or
     /// all of the copy's readings, and nothing else. A copy that begins as a text does is read as a copy here.

@@ -2,13 +2,15 @@
 
 ghost use Rattle.std.specs.Prelude.{List, IfOk, IfErr};
 ghost use Rattle.jls_device.specs.Event.{GrewBy};
+ghost use Rattle.jls_station.specs.Forms.{JoinsInput};
 ghost use Rattle.jls_station.specs.Given.{Given};
-ghost use Rattle.jls_station.specs.Inputs.{names_of, IsTaken, TakesUnion, StopsAt, StopsAtInput};
+ghost use Rattle.jls_station.specs.Inputs.{names_of, partials, IsTaken, IsUnionOf, TakesUnion, StopsAt, StopsAtInput};
 
-use crate::input::{InputRead, read_input_into};
+use crate::input::{InputForm, InputRead, input_fault, read_form, read_input_into};
 use crate::outcome::{Cause, Refusal};
 use crate::station::Station;
 use jls_device::Desk;
+use jls_partial::MergeTextFault;
 use jls_values::MergeFault;
 use std::alloc::Global;
 
@@ -68,8 +70,42 @@ pub fn open_and_read<D: Desk>(
     open_and_read_into(alloc, desk, source, name, &mut text)
 }
 
-/// Takes the inputs of these names, in turn, into a station. It stops at the first that is refused. A copy whose source stopped
-/// behind a frame is taken as far as it was read. All texts are read into the room of `text`.
+/// Opens one input, reads it as `open_and_read` does, and takes what it gives into a station: the readings of a text go straight into
+/// what is held. True where the input was read whole.
+fn take_next<D: Desk>(
+    desk: &mut D,
+    station: &mut Station,
+    source: Option<u32>,
+    name: &str,
+    text: &mut Vec<u8>,
+) -> Result<bool, Cause>
+    ensures joined { IfOk result (λ whole.
+        GrewBy (JoinsInput source name.now station.old station.new whole) (D.history desk.old) (D.history desk.new)) }
+    // Whatever the inputs before it gave, of which the station held the union.
+    ensures stopped { (before : List Given) → IsUnionOf (partials before) station.old → IfErr result (λ cause.
+        GrewBy (StopsAt source before name.now cause) (D.history desk.old) (D.history desk.new)) }
+{
+    match desk.open_input(name) {
+        Ok(()) => {}
+        Err(_) => return Err(Cause::NotOpened),
+    }
+    match read_form(station.allocator(), source, desk, text) {
+        Ok(InputForm::Text) => match station.take_text(text) {
+            Ok(()) => Ok(true),
+            Err(MergeTextFault::Text(fault)) => Err(Cause::Input(input_fault(fault))),
+            Err(MergeTextFault::ShapeDiffers) => Err(Cause::ShapeDiffers),
+        },
+        Ok(InputForm::Copy(read)) => match station.take(read.partial()) {
+            Ok(()) => Ok(read.is_whole()),
+            Err(MergeFault::ShapeDiffers) => Err(Cause::ShapeDiffers),
+            Err(MergeFault::OutOfMemory) => Err(Cause::OutOfMemory),
+        },
+        Err(fault) => Err(Cause::Input(fault)),
+    }
+}
+
+/// Takes the inputs of these names, in turn, into a station. It stops at the first that is refused. A copy that can't be read to its
+/// end is taken as far as it was read, if a frame was. All texts are read into the room of `text`.
 pub fn take_inputs<'a, D: Desk>(
     alloc: Global,
     desk: &mut D,
@@ -94,21 +130,9 @@ pub fn take_inputs<'a, D: Desk>(
     let mut whole = read.is_whole();
     let mut station = Station::holding(alloc, read.into_partial());
     for name in others {
-        let read = match open_and_read_into(alloc, desk, source, name, text) {
-            Ok(read) => read,
+        match take_next(desk, &mut station, source, name, text) {
+            Ok(also) => whole &= also,
             Err(cause) => return Err(Refusal { name, cause }),
-        };
-        whole &= read.is_whole();
-        match station.take(read.partial()) {
-            Ok(()) => {}
-            Err(MergeFault::ShapeDiffers) => {
-                let cause = Cause::ShapeDiffers;
-                return Err(Refusal { name, cause });
-            }
-            Err(MergeFault::OutOfMemory) => {
-                let cause = Cause::OutOfMemory;
-                return Err(Refusal { name, cause });
-            }
         }
     }
     Ok(Taken { station, whole })

@@ -4,15 +4,13 @@ use Rattle.std.specs.Prelude.{◌⊎◌, codes, false, option_map, option_and_th
 use Rattle.std.specs.Str.{bytes_eq}
 use Rattle.clap.specs.declared.error.kind.ErrorKind.{ErrorKind}
 use Rattle.std.specs.Prelude.{IfOk, IfErr}
-use Rattle.clap.specs.Words.{App, FailsBy, HasKind, IsAmong, Kinds, Row, Text, all_of, fault_of, first_of, first_value, is_simple_and_free, kind_of, matched_of, raw_values, rows_of, takes}
+use Rattle.clap.specs.Words.{App, FailsBy, HasKind, IsAmong, Kinds, Row, Text, all_of, fault_of, first_of, is_simple_and_free, kind_of, takes}
 use Rattle.clap.specs.Matches.{subcommand_name_of}
 use Rattle.clap.specs.Simple.{HasMatchesOf, subcommand_of, subcommand_rows, subcommand_rows_of}
 use Rattle.clap.specs.declared.parser.matches.ArgMatches.{ArgMatches}
 use Rattle.clap.specs.declared.parser.matches.ArgMatches.TheViews.{out-ArgMatches}
 use Rattle.clap.specs.declared.error.Error.{Error}
 use Rattle.clap.specs.declared.error.kind.ErrorKind.TheVariants as kind
-use Rattle.clap.specs.declared.parser.matches.Found.{Found}
-use Rattle.clap.proofs.WalkLemmas.{first_value-rows, raw_values-rows}
 use Rattle.jls_words.specs.Asking.{Asked, asked_by, asked_check, asked_join, asked_show, asked_write, options_of}
 use Rattle.jls_words.specs.Words.{AreRefused, AreTaken, salvage_app}
 use Rattle.jls_words.proofs.WordsTaken.{is_simple_command, is_simple_program}

@@ -1,7 +1,7 @@
 //! What the words ask for.
 
-ghost use Rattle.std.specs.Prelude.{◌≡◌, ℕ, List, Some, map, option_map, option_and_then};
-ghost use Rattle.clap.specs.Words.{Text, subcommand_rows_of};
+ghost use Rattle.std.specs.Prelude.{◌≡◌, Some, map, option_map, option_and_then};
+ghost use Rattle.clap.specs.Words.{subcommand_rows_of};
 ghost use Rattle.jls_words.specs.Asking as spec;
 ghost use Rattle.jls_words.specs.Asking.{asked_of, number_up_to};
 

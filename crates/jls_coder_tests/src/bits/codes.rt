@@ -6,6 +6,21 @@ use jls_bits::*;
 use std::alloc::{AllocError, Global};
 use std::test::Fail;
 
+/// Which Golomb code: its k, its longest length g, and the bits qbpp of the number behind an escape.
+#[derive(Clone, Copy)]
+struct Code {
+    k: u8,
+    g: u8,
+    qbpp: u8,
+}
+
+/// Samples of 8 bits in regular mode, where k is 2: the least escape is 92.
+const OF_K_2: Code = Code {
+    k: 2,
+    g: 32,
+    qbpp: 8,
+};
+
 /// A writer of these bits, given as ones and zeros.
 fn written(alloc: Global, text: &[u8]) -> Result<BitWriter, AllocError> {
     let mut writer = BitWriter::new(alloc);
@@ -17,19 +32,13 @@ fn written(alloc: Global, text: &[u8]) -> Result<BitWriter, AllocError> {
 
 /// Whether the code of a number is these bits, and whether a reader over them gives the number back and stops behind
 /// its code.
-fn is_code(
-    alloc: Global,
-    text: &str,
-    mapped: u32,
-    k: u8,
-    g: u8,
-    qbpp: u8,
-) -> Result<bool, AllocError>
-    requires k { k ≤ 16 }
-    requires qbpp { (1 ≤ qbpp) × (qbpp ≤ 16) }
-    requires g { (qbpp + 2 ≤ g) × (g ≤ 64) }
-    requires mapped { mapped ≤ 2 ^ qbpp }
+fn is_code(alloc: Global, text: &str, mapped: u32, code: Code) -> Result<bool, AllocError>
+    requires k { code.k ≤ 16 }
+    requires qbpp { (1 ≤ code.qbpp) × (code.qbpp ≤ 16) }
+    requires g { (code.qbpp + 2 ≤ code.g) × (code.g ≤ 64) }
+    requires mapped { mapped ≤ 2 ^ code.qbpp }
 {
+    let Code { k, g, qbpp } = code;
     let mut writer = BitWriter::new(alloc);
     write_golomb(&mut writer, mapped, k, g, qbpp)?;
     let bytes = writer.finish()?;
@@ -56,7 +65,7 @@ fn numbers_have_their_codes(rt: HostRuntime) -> Result<(), Fail> {
         ("00000000000000000000000111111111", 256),
     ] {
         assert!(rt;
-            is_code(rt.alloc(), text, mapped.min(256), 2, 32, 8)?,
+            is_code(rt.alloc(), text, mapped.min(256), OF_K_2)?,
             "{mapped}"
         );
     }
@@ -64,13 +73,23 @@ fn numbers_have_their_codes(rt: HostRuntime) -> Result<(), Fail> {
 }
 
 #[test]
-fn codes_at_the_ends_of_k_g_and_qbpp(rt: HostRuntime) -> Result<(), Fail> {
+fn codes_of_the_least_length(rt: HostRuntime) -> Result<(), Fail> {
+    let least = Code {
+        k: 0,
+        g: 3,
+        qbpp: 1,
+    };
     for (text, mapped) in [("1", 0u32), ("010", 1), ("011", 2)] {
         assert!(rt;
-            is_code(rt.alloc(), text, mapped.min(2), 0, 3, 1)?,
+            is_code(rt.alloc(), text, mapped.min(2), least)?,
             "{mapped}"
         );
     }
+    Ok(())
+}
+
+#[test]
+fn codes_at_the_ends_of_k_and_g(rt: HostRuntime) -> Result<(), Fail> {
     // The bits, the number, k and g; qbpp is 16.
     for (text, mapped, k, g) in [
         ("11111111111111111", 65535u32, 16u8, 64u8),
@@ -91,24 +110,25 @@ fn codes_at_the_ends_of_k_g_and_qbpp(rt: HostRuntime) -> Result<(), Fail> {
         ),
         ("010000000000000000", 1, 0, 18),
     ] {
-        let (mapped, k, g) = (mapped.min(65536), k.min(16), g.max(18).min(64));
-        assert!(rt; is_code(rt.alloc(), text, mapped, k, g, 16)?, "{text}");
+        let code = Code {
+            k: k.min(16),
+            g: g.max(18).min(64),
+            qbpp: 16,
+        };
+        assert!(rt;
+            is_code(rt.alloc(), text, mapped.min(65536), code)?,
+            "{text}"
+        );
     }
     Ok(())
 }
 
 /// What a reader finds at the front of exactly these bits, and how many it leaves. Other bits, zeros, fill up the first
 /// byte and are passed before.
-fn read_alone(
-    alloc: Global,
-    text: &[u8],
-    k: u8,
-    g: u8,
-    qbpp: u8,
-) -> Result<(Option<u32>, u128), AllocError>
-    requires k { k ≤ 16 }
-    requires qbpp { (1 ≤ qbpp) × (qbpp ≤ 16) }
-    requires g { (qbpp + 2 ≤ g) × (g ≤ 64) }
+fn read_alone(alloc: Global, text: &[u8], code: Code) -> Result<(Option<u32>, u128), AllocError>
+    requires k { code.k ≤ 16 }
+    requires qbpp { (1 ≤ code.qbpp) × (code.qbpp ≤ 16) }
+    requires g { (code.qbpp + 2 ≤ code.g) × (code.g ≤ 64) }
 {
     let filler = (8 - text.len() % 8) % 8;
     let mut writer = BitWriter::new(alloc);
@@ -123,7 +143,7 @@ fn read_alone(
     for _ in 0..filler {
         let _passed = reader.read_bit();
     }
-    let number = read_golomb(&mut reader, k, g, qbpp);
+    let number = read_golomb(&mut reader, code.k, code.g, code.qbpp);
     Ok((number, reader.left()))
 }
 
@@ -136,10 +156,10 @@ fn a_code_that_is_cut_is_none(rt: HostRuntime) -> Result<(), Fail> {
     ];
     for (code, number) in codes {
         for length in 0..code.len() {
-            let read = read_alone(alloc, &code[..length], 2, 32, 8)?;
+            let read = read_alone(alloc, &code[..length], OF_K_2)?;
             assert_eq!(rt; read, (None, length as u128));
         }
-        assert_eq!(rt; read_alone(alloc, code, 2, 32, 8)?, (Some(number), 0));
+        assert_eq!(rt; read_alone(alloc, code, OF_K_2)?, (Some(number), 0));
     }
     Ok(())
 }
@@ -157,20 +177,25 @@ fn a_reader_stays_where_no_code_stands(rt: HostRuntime) -> Result<(), Fail> {
         (b"010000000000000001", 16, Some(65537), 0),
     ];
     for (bits, k, number, left) in rows {
-        let read = read_alone(rt.alloc(), bits, k.min(16), 32, 8)?;
+        let code = Code {
+            k: k.min(16),
+            g: 32,
+            qbpp: 8,
+        };
+        let read = read_alone(rt.alloc(), bits, code)?;
         assert_eq!(rt; read, (number, left), "{bits:?}");
     }
     Ok(())
 }
 
 /// A reader that was pushed these bits up to the first that decides, how many it took, and its last answer.
-fn told(bits: &[u8], k: u8, g: u8, qbpp: u8) -> (GolombReader, usize, GolombStep)
-    requires k { k ≤ 16 }
-    requires qbpp { (1 ≤ qbpp) × (qbpp ≤ 16) }
-    requires g { (qbpp + 2 ≤ g) × (g ≤ 64) }
-    ensures { result.0.qbpp ≡ qbpp }
+fn told(bits: &[u8], code: Code) -> (GolombReader, usize, GolombStep)
+    requires k { code.k ≤ 16 }
+    requires qbpp { (1 ≤ code.qbpp) × (code.qbpp ≤ 16) }
+    requires g { (code.qbpp + 2 ≤ code.g) × (code.g ≤ 64) }
+    ensures { result.0.qbpp ≡ code.qbpp }
 {
-    let mut reader = GolombReader::new(k, g, qbpp);
+    let mut reader = GolombReader::new(code.k, code.g, code.qbpp);
     for (index, digit) in bits.iter().enumerate() {
         match reader.push(*digit == b'1') {
             GolombStep::More => {}
@@ -195,8 +220,12 @@ fn a_reader_answers_at_the_first_bit_that_decides(rt: HostRuntime) {
         (b"1", 0, 1, GolombStep::Done(0)),
     ];
     for (bits, k, count, step) in table {
-        let k = k.min(16);
-        let (_, taken, answer) = told(bits, k, 32, 8);
+        let code = Code {
+            k: k.min(16),
+            g: 32,
+            qbpp: 8,
+        };
+        let (_, taken, answer) = told(bits, code);
         assert_eq!(rt; (taken, answer), (count, step), "{bits:?}");
     }
 }
@@ -215,13 +244,13 @@ fn a_cut_code_allows_the_numbers_whose_codes_it_begins(rt: HostRuntime) {
         (b"0000000000000000000000010101", 92, 96),
     ];
     for (bits, first, last) in table {
-        let (reader, _, _) = told(bits, 2, 32, 8);
+        let (reader, _, _) = told(bits, OF_K_2);
         for number in 0..257 {
             let allowed = first <= number && number <= last;
             assert_eq!(rt; reader.allows(number), allowed, "{bits:?} {number}");
         }
     }
-    let (refused, _, _) = told(b"000000000000000000000000", 2, 32, 8);
+    let (refused, _, _) = told(b"000000000000000000000000", OF_K_2);
     assert!(rt; !refused.allows(256));
 }
 
@@ -253,5 +282,31 @@ fn a_chunk_gives_a_code_its_bits(rt: HostRuntime) {
             panic!(rt; "no code is whole behind {cut}")
         };
         assert_eq!(rt; (number, second.len()), (33, 3));
+    }
+}
+
+#[test]
+fn a_short_code_is_taken_where_it_stands_whole(rt: HostRuntime) {
+    // The bits, with k, LIMIT and qbpp; the number of the short code at the front, and how many bits are left. 33 is 8 times 4 and 1;
+    // at k 2 and LIMIT 32 an escape has 23 zeros, so 91 is the last number with a short code.
+    let table: [(&[u8], (u8, u8, u8), Option<u32>, u8); 12] = [
+        (b"", (2, 32, 8), None, 0),
+        (b"00000000", (2, 32, 8), None, 8),
+        (b"000000001", (2, 32, 8), None, 9),
+        (b"0000000010", (2, 32, 8), None, 10),
+        (b"00000000101", (2, 32, 8), Some(33), 0),
+        (b"00000000101110", (2, 32, 8), Some(33), 3),
+        (b"0000000000000000000000111", (2, 32, 8), Some(91), 0),
+        (b"00000000000000000000000101011011", (2, 32, 8), None, 32),
+        (b"0010", (0, 32, 8), Some(2), 1),
+        (b"1111111111111111", (16, 64, 16), None, 16),
+        (b"11111111111111110", (16, 64, 16), Some(65534), 0),
+        (b"010000000000000000", (0, 18, 16), None, 18),
+    ];
+    for (bits, (k, g, qbpp), number, left) in table {
+        let (k, g, qbpp) = (k.min(16), g.max(18).min(64), qbpp.max(1).min(16));
+        let mut chunk = chunk_of(bits);
+        let taken = chunk.take_code(k, g, qbpp);
+        assert_eq!(rt; (taken, chunk.len()), (number, left), "{bits:?}");
     }
 }

@@ -1,25 +1,15 @@
 //! Pieces whose end is cut off, and the lines that stand whole in them.
 
-ghost use Rattle.std.specs.Prelude.{◌*◌, ◌^◌, ◌≤◌};
-
 use super::damaged::PIECE;
+use super::size::Size;
 use jls_interval::*;
 use jls_values::Params;
 use std::alloc::{AllocError, Global};
 use std::test::Fail;
 
-/// What the bytes of an interval of one component give where the input ends behind them.
-fn cut(
-    alloc: Global,
-    shape: (u16, u32),
-    params: &Params,
-    piece: &[u8],
-) -> Result<CutEnd, AllocError>
-    requires width { 1 ≤ shape.0 }
-    requires rows { 1 ≤ shape.1 }
-    requires samples { shape.0 * 1 * shape.1 ≤ 2 ^ 28 }
-{
-    let mut decoder = IntervalDecoder::new(alloc, params, shape.0, 1, shape.1);
+/// What the bytes of an interval give where the input ends behind them.
+fn cut(alloc: Global, params: &Params, size: &Size, piece: &[u8]) -> Result<CutEnd, AllocError> {
+    let mut decoder = size.decoder(alloc, params);
     decoder.push_all(piece)?;
     decoder.finish_cut()
 }
@@ -41,7 +31,7 @@ fn prefixes(rt: HostRuntime) -> Result<(), Fail> {
         for line in &lines[..count] {
             head.push(line.to_vec(alloc)?)?;
         }
-        let end = cut(alloc, (4, 4), &params, &PIECE[..n]);
+        let end = cut(alloc, &params, &Size::new(4, 1, 4), &PIECE[..n]);
         assert_eq!(rt;
             end,
             Ok(CutEnd::Head(head, PieceFault::Broken)),
@@ -71,7 +61,7 @@ fn cut_codes(rt: HostRuntime) -> Result<(), Fail> {
         if is_cut {
             head.push(vec![in alloc; 1]?)?;
         }
-        let end = cut(alloc, (1, 2), &params, piece);
+        let end = cut(alloc, &params, &Size::new(1, 1, 2), piece);
         assert_eq!(rt;
             end,
             Ok(CutEnd::Head(head, PieceFault::Broken)),
@@ -87,14 +77,14 @@ fn whole_and_faulty(rt: HostRuntime) -> Result<(), Fail> {
     let alloc = rt.alloc();
     let params = Params::new(8, 0, 0, 0, 0, 0)?;
     let lines = vec![in alloc; vec![in alloc; 1]?, vec![in alloc; 34]?]?;
-    let whole = cut(alloc, (1, 2), &params, &[0x50, 0x00, 0x0C]);
+    let whole = cut(alloc, &params, &Size::new(1, 1, 2), &[0x50, 0x00, 0x0C]);
     assert_eq!(rt; whole, Ok(CutEnd::Whole(lines)));
     let faulty: [(&[u8], PieceFault); 2] = [
         (&[0x50, 0x00, 0x0C, 0x00], PieceFault::Long),
         (&[0x50, 0xFF, 0x80], PieceFault::Broken),
     ];
     for (piece, fault) in faulty {
-        let end = cut(alloc, (1, 2), &params, piece);
+        let end = cut(alloc, &params, &Size::new(1, 1, 2), piece);
         assert_eq!(rt; end, Ok(CutEnd::Head(Vec::new(alloc), fault)));
     }
     Ok(())

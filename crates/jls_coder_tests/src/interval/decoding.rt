@@ -2,6 +2,7 @@
 
 ghost use Rattle.std.specs.Prelude.{◌*◌, ◌^◌, ◌≤◌};
 
+use super::size::Size;
 use jls_interval::*;
 use jls_values::Params;
 use std::alloc::Global;
@@ -11,19 +12,13 @@ use std::test::Fail;
 fn by_slices(
     alloc: Global,
     params: &Params,
-    shape: (u16, u8, u32),
+    size: &Size,
     piece: &[u8],
     length: usize,
 ) -> Result<Vec<Vec<u16>>, PieceFault>
-    requires width { 1 ≤ shape.0 }
-    requires components_at_least { 1 ≤ shape.1 }
-    requires components_at_most { shape.1 ≤ 4 }
-    requires rows { 1 ≤ shape.2 }
-    requires samples { shape.0 * shape.1 * shape.2 ≤ 2 ^ 28 }
     requires length { 1 ≤ length }
 {
-    let (width, components, rows) = shape;
-    let mut decoder = IntervalDecoder::new(alloc, params, width, components, rows);
+    let mut decoder = size.decoder(alloc, params);
     for slice in piece.chunks(length) {
         if decoder.push_all(slice).is_err() {
             return Err(PieceFault::OutOfMemory);
@@ -36,17 +31,10 @@ fn by_slices(
 fn by_bytes(
     alloc: Global,
     params: &Params,
-    shape: (u16, u8, u32),
+    size: &Size,
     piece: &[u8],
-) -> Result<Vec<Vec<u16>>, PieceFault>
-    requires width { 1 ≤ shape.0 }
-    requires components_at_least { 1 ≤ shape.1 }
-    requires components_at_most { shape.1 ≤ 4 }
-    requires rows { 1 ≤ shape.2 }
-    requires samples { shape.0 * shape.1 * shape.2 ≤ 2 ^ 28 }
-{
-    let (width, components, rows) = shape;
-    let mut decoder = IntervalDecoder::new(alloc, params, width, components, rows);
+) -> Result<Vec<Vec<u16>>, PieceFault> {
+    let mut decoder = size.decoder(alloc, params);
     for byte in piece {
         if decoder.push(*byte).is_err() {
             return Err(PieceFault::OutOfMemory);
@@ -60,44 +48,23 @@ fn by_bytes(
 fn decoded(
     alloc: Global,
     params: &Params,
-    shape: (u16, u8, u32),
+    size: &Size,
     piece: &[u8],
-) -> Result<Vec<Vec<u16>>, PieceFault>
-    requires width { 1 ≤ shape.0 }
-    requires components_at_least { 1 ≤ shape.1 }
-    requires components_at_most { shape.1 ≤ 4 }
-    requires rows { 1 ≤ shape.2 }
-    requires samples { shape.0 * shape.1 * shape.2 ≤ 2 ^ 28 }
-{
-    let (width, components, rows) = shape;
-    let whole = decode_interval(alloc, params, width, components, rows, piece);
-    if by_bytes(alloc, params, shape, piece) != whole {
+) -> Result<Vec<Vec<u16>>, PieceFault> {
+    let whole = size.decoded(alloc, params, piece);
+    if by_bytes(alloc, params, size, piece) != whole {
         return Err(PieceFault::OutOfMemory);
     }
     for length in 1..=piece.len() {
-        if by_slices(alloc, params, shape, piece, length) != whole {
+        if by_slices(alloc, params, size, piece, length) != whole {
             return Err(PieceFault::OutOfMemory);
         }
     }
     whole
 }
 
-fn reads_as(
-    alloc: Global,
-    params: &Params,
-    width: u16,
-    components: u8,
-    rows: u32,
-    piece: &[u8],
-    lines: &[&[u16]],
-) -> bool
-    requires width { 1 ≤ width }
-    requires components_at_least { 1 ≤ components }
-    requires components_at_most { components ≤ 4 }
-    requires rows { 1 ≤ rows }
-    requires samples { width * components * rows ≤ 2 ^ 28 }
-{
-    match decoded(alloc, params, (width, components, rows), piece) {
+fn reads_as(alloc: Global, params: &Params, size: &Size, piece: &[u8], lines: &[&[u16]]) -> bool {
+    match decoded(alloc, params, size, piece) {
         Err(_) => false,
         Ok(read) => {
             if read.len() != lines.len() {
@@ -119,7 +86,7 @@ fn fault(alloc: Global, params: &Params, width: u16, rows: u32, piece: &[u8]) ->
     requires rows { 1 ≤ rows }
     requires samples { width * 1 * rows ≤ 2 ^ 28 }
 {
-    decoded(alloc, params, (width, 1, rows), piece).err()
+    decoded(alloc, params, &Size::new(width, 1, rows), piece).err()
 }
 
 /// Samples of 8 bits, and the pieces of intervals that have nothing else.
@@ -145,7 +112,7 @@ fn single_samples(rt: HostRuntime) -> Result<(), Fail> {
     let params = Params::new(8, 0, 0, 0, 0, 0)?;
     for (sample, byte) in SINGLE_SAMPLES {
         assert!(rt;
-            reads_as(alloc, &params, 1, 1, 1, &[byte], &[&[sample]]),
+            reads_as(alloc, &params, &Size::new(1, 1, 1), &[byte], &[&[sample]]),
             "{sample}"
         );
     }
@@ -165,7 +132,13 @@ fn other_parameters(rt: HostRuntime) -> Result<(), Fail> {
     for (precision, maxval, sample, piece) in rows {
         let params = Params::new(precision, maxval, 0, 0, 0, 0)?;
         assert!(rt;
-            reads_as(rt.alloc(), &params, 1, 1, 1, piece, &[&[sample]]),
+            reads_as(
+                rt.alloc(),
+                &params,
+                &Size::new(1, 1, 1),
+                piece,
+                &[&[sample]]
+            ),
             "{sample}"
         );
     }
@@ -186,11 +159,11 @@ fn runs(rt: HostRuntime) -> Result<(), Fail> {
     for (width, piece, line) in rows {
         let width = width.max(1);
         assert!(rt;
-            reads_as(alloc, &params, width, 1, 1, piece, &[line]),
+            reads_as(alloc, &params, &Size::new(width, 1, 1), piece, &[line]),
             "{line:?}"
         );
     }
-    assert!(rt; reads_as(alloc, &params, 1, 1, 2, &[0xC0], &[&[0], &[0]]));
+    assert!(rt; reads_as(alloc, &params, &Size::new(1, 1, 2), &[0xC0], &[&[0], &[0]]));
     Ok(())
 }
 
@@ -208,14 +181,12 @@ fn several_lines(rt: HostRuntime) -> Result<(), Fail> {
         &[64, 145, 145, 145],
         &[100, 145, 145, 145],
     ];
-    assert!(rt; reads_as(alloc, &params, 4, 1, 4, &piece, &lines));
+    assert!(rt; reads_as(alloc, &params, &Size::new(4, 1, 4), &piece, &lines));
     assert!(rt;
         reads_as(
             alloc,
             &params,
-            3,
-            1,
-            2,
+            &Size::new(3, 1, 2),
             &[0xC5, 0xD0],
             &[&[0, 0, 5], &[0, 0, 5]]
         )
@@ -224,9 +195,7 @@ fn several_lines(rt: HostRuntime) -> Result<(), Fail> {
         reads_as(
             alloc,
             &params,
-            3,
-            1,
-            2,
+            &Size::new(3, 1, 2),
             &[0xC5, 0xE0],
             &[&[0, 0, 5], &[0, 0, 0]]
         )
@@ -238,7 +207,15 @@ fn several_lines(rt: HostRuntime) -> Result<(), Fail> {
 fn an_escape(rt: HostRuntime) -> Result<(), Fail> {
     let alloc = rt.alloc();
     let params = Params::new(8, 0, 0, 0, 0, 0)?;
-    assert!(rt; reads_as(alloc, &params, 1, 1, 2, &[0x50, 0x00, 0x0C], &[&[1], &[34]]));
+    assert!(rt;
+        reads_as(
+            alloc,
+            &params,
+            &Size::new(1, 1, 2),
+            &[0x50, 0x00, 0x0C],
+            &[&[1], &[34]]
+        )
+    );
     // Cut in front of the escape and inside it; escapes of a number with a short code, and with too many zeros.
     let pieces: [&[u8]; 5] = [
         &[0x50],
@@ -258,15 +235,21 @@ fn an_escape(rt: HostRuntime) -> Result<(), Fail> {
 fn several_components(rt: HostRuntime) -> Result<(), Fail> {
     let alloc = rt.alloc();
     let params = Params::new(8, 0, 0, 0, 0, 0)?;
-    assert!(rt; reads_as(alloc, &params, 1, 2, 1, &[0x07, 0x16], &[&[10], &[10]]));
+    assert!(rt;
+        reads_as(
+            alloc,
+            &params,
+            &Size::new(1, 2, 1),
+            &[0x07, 0x16],
+            &[&[10], &[10]]
+        )
+    );
     let zeros: &[u16] = &[0; 4];
     assert!(rt;
         reads_as(
             alloc,
             &params,
-            4,
-            3,
-            1,
+            &Size::new(4, 3, 1),
             &[0xFF, 0x78],
             &[zeros, zeros, zeros]
         )
@@ -302,7 +285,7 @@ fn broken_pieces(rt: HostRuntime) -> Result<(), Fail> {
 fn long_pieces(rt: HostRuntime) -> Result<(), Fail> {
     let alloc = rt.alloc();
     let params = Params::new(8, 0, 0, 0, 0, 0)?;
-    assert!(rt; reads_as(alloc, &params, 1, 1, 1, &[0xC0], &[&[0]]));
+    assert!(rt; reads_as(alloc, &params, &Size::new(1, 1, 1), &[0xC0], &[&[0]]));
     let pieces: [&[u8]; 4] = [
         &[0x80, 0x00],
         // Eight bits, behind a code of eight.

@@ -6,25 +6,51 @@ use jls_values::Params;
 use std::alloc::{AllocError, Global};
 use std::test::Fail;
 
+/// The lines of an interval: the samples in each, how many components take turns, and the lines.
+#[derive(Clone, Copy)]
+struct Lines<'a> {
+    width: u16,
+    components: u8,
+    lines: &'a [&'a [u16]],
+}
+
 /// Whether the lines fit an interval and are written as these bytes.
 fn written_as(
     alloc: Global,
     params: &Params,
+    given: Lines<'_>,
+    wanted: &[u8],
+) -> Result<bool, AllocError> {
+    let mut lines = Vec::new(alloc);
+    for line in given.lines {
+        lines.push(line.to_vec(alloc)?)?;
+    }
+    if !fits(params, given.width, given.components, &lines) {
+        return Ok(false);
+    }
+    let bytes = encode_interval(alloc, params, given.width, given.components, &lines)?;
+    Ok(bytes.as_slice() == wanted)
+}
+
+/// Whether the lines of this width, of one component, are written as these bytes.
+fn alone_as(
+    alloc: Global,
+    params: &Params,
     width: u16,
-    components: u8,
     lines: &[&[u16]],
     wanted: &[u8],
 ) -> Result<bool, AllocError> {
-    let mut owned = Vec::new(alloc);
-    for line in lines {
-        owned.push(line.to_vec(alloc)?)?;
-    }
-    let given = owned.as_slice();
-    if !fits(params, width, components, given) {
-        return Ok(false);
-    }
-    let bytes = encode_interval(alloc, params, width, components, given)?;
-    Ok(bytes.as_slice() == wanted)
+    let components = 1;
+    written_as(
+        alloc,
+        params,
+        Lines {
+            width,
+            components,
+            lines,
+        },
+        wanted,
+    )
 }
 
 #[test]
@@ -33,7 +59,7 @@ fn single_samples(rt: HostRuntime) -> Result<(), Fail> {
     let params = Params::new(8, 0, 0, 0, 0, 0)?;
     for (sample, byte) in SINGLE_SAMPLES {
         assert!(rt;
-            written_as(alloc, &params, 1, 1, &[&[sample]], &[byte])?,
+            alone_as(alloc, &params, 1, &[&[sample]], &[byte])?,
             "{sample}"
         );
     }
@@ -53,21 +79,16 @@ fn other_parameters(rt: HostRuntime) -> Result<(), Fail> {
     for (precision, maxval, sample, bytes) in rows {
         let params = Params::new(precision, maxval, 0, 0, 0, 0)?;
         assert!(rt;
-            written_as(rt.alloc(), &params, 1, 1, &[&[sample]], bytes)?,
+            alone_as(rt.alloc(), &params, 1, &[&[sample]], bytes)?,
             "{sample}"
         );
     }
     Ok(())
 }
 
-/// Whether the lines of this width, of one component and 8 bits, are written as these bytes.
-fn alone(alloc: Global, width: u16, lines: &[&[u16]], wanted: &[u8]) -> Result<bool, Fail> {
-    let params = Params::new(8, 0, 0, 0, 0, 0)?;
-    Ok(written_as(alloc, &params, width, 1, lines, wanted)?)
-}
-
 #[test]
 fn runs(rt: HostRuntime) -> Result<(), Fail> {
+    let params = Params::new(8, 0, 0, 0, 0, 0)?;
     let rows: [(u16, &[&[u16]], &[u8]); 6] = [
         (12, &[&[0; 12]], &[0xFF, 0x00]),
         (13, &[&[0; 13]], &[0xFF, 0x40]),
@@ -77,13 +98,17 @@ fn runs(rt: HostRuntime) -> Result<(), Fail> {
         (1, &[&[0], &[0]], &[0xC0]),
     ];
     for (width, lines, bytes) in rows {
-        assert!(rt; alone(rt.alloc(), width, lines, bytes)?, "{lines:?}");
+        assert!(rt;
+            alone_as(rt.alloc(), &params, width, lines, bytes)?,
+            "{lines:?}"
+        );
     }
     Ok(())
 }
 
 #[test]
 fn several_lines(rt: HostRuntime) -> Result<(), Fail> {
+    let params = Params::new(8, 0, 0, 0, 0, 0)?;
     let rows: [(u16, &[&[u16]], &[u8]); 4] = [
         (
             4,
@@ -104,7 +129,10 @@ fn several_lines(rt: HostRuntime) -> Result<(), Fail> {
         (1, &[&[1], &[34]], &[0x50, 0x00, 0x0C]),
     ];
     for (width, lines, bytes) in rows {
-        assert!(rt; alone(rt.alloc(), width, lines, bytes)?, "{lines:?}");
+        assert!(rt;
+            alone_as(rt.alloc(), &params, width, lines, bytes)?,
+            "{lines:?}"
+        );
     }
     Ok(())
 }
@@ -119,18 +147,17 @@ fn runs_of_several_lines(rt: HostRuntime) -> Result<(), Fail> {
         &[11, 11, 11, 11, 11, 9],
     ];
     let bytes = [0x02, 0xA2, 0xC8, 0xA2, 0x4D, 0xBC, 0xA0];
-    assert!(rt; written_as(rt.alloc(), &params, 6, 1, &lines, &bytes)?);
+    assert!(rt; alone_as(rt.alloc(), &params, 6, &lines, &bytes)?);
     Ok(())
 }
 
 #[test]
 fn several_components(rt: HostRuntime) -> Result<(), Fail> {
-    let zeros: &[u16] = &[0; 4];
     // MAXVAL, width, count, lines and bytes. Two rows; and both components in the contexts of one MAXVAL, which isn't that of
     // the precision.
     let rows: [(u16, u16, u8, &[&[u16]], &[u8]); 4] = [
         (0, 1, 2, &[&[10], &[10]], &[0x07, 0x16]),
-        (0, 4, 3, &[zeros, zeros, zeros], &[0xFF, 0x78]),
+        (0, 4, 3, &[&[0; 4], &[0; 4], &[0; 4]], &[0xFF, 0x78]),
         (
             0,
             1,
@@ -140,12 +167,14 @@ fn several_components(rt: HostRuntime) -> Result<(), Fail> {
         ),
         (159, 2, 2, &[&[10, 12], &[10, 12]], &[0x07, 0xE2, 0xE8]),
     ];
-    for (maxval, width, count, lines, bytes) in rows {
+    for (maxval, width, components, lines, bytes) in rows {
         let params = Params::new(8, maxval, 0, 0, 0, 0)?;
-        assert!(rt;
-            written_as(rt.alloc(), &params, width, count, lines, bytes)?,
-            "{lines:?}"
-        );
+        let given = Lines {
+            width,
+            components,
+            lines,
+        };
+        assert!(rt; written_as(rt.alloc(), &params, given, bytes)?, "{lines:?}");
     }
     Ok(())
 }

@@ -1,7 +1,6 @@
 //! Intervals that are wide, and that have many samples: their lines come back where there is memory.
 
-ghost use Rattle.std.specs.Prelude.{◌*◌, ◌^◌, ◌≤◌};
-
+use super::size::Size;
 use jls_interval::*;
 use jls_values::Params;
 use std::alloc::Global;
@@ -22,20 +21,13 @@ fn lines_of(alloc: Global, width: u16, count: u32, mask: u16) -> Result<Vec<Vec<
 }
 
 /// Whether the lines are written, and read back from slices of 4,096 bytes as they are.
-fn come_back(alloc: Global, shape: (u16, u8, u32), lines: &[Vec<u16>]) -> Result<bool, Fail>
-    requires width { 1 ≤ shape.0 }
-    requires components_at_least { 1 ≤ shape.1 }
-    requires components_at_most { shape.1 ≤ 4 }
-    requires rows { 1 ≤ shape.2 }
-    requires samples { shape.0 * shape.1 * shape.2 ≤ 2 ^ 28 }
-{
-    let (width, components, rows) = shape;
+fn come_back(alloc: Global, size: &Size, lines: &[Vec<u16>]) -> Result<bool, Fail> {
     let params = Params::new(8, 0, 0, 0, 0, 0)?;
-    if !fits(&params, width, components, lines) {
+    if !fits(&params, size.width, size.components, lines) {
         return Ok(false);
     }
-    let piece = encode_interval(alloc, &params, width, components, lines)?;
-    let mut decoder = IntervalDecoder::new(alloc, &params, width, components, rows);
+    let piece = encode_interval(alloc, &params, size.width, size.components, lines)?;
+    let mut decoder = size.decoder(alloc, &params);
     for slice in piece.chunks(4096) {
         decoder.push_all(slice)?;
     }
@@ -46,13 +38,13 @@ fn come_back(alloc: Global, shape: (u16, u8, u32), lines: &[Vec<u16>]) -> Result
 #[test]
 fn four_wide_components(rt: HostRuntime) -> Result<(), Fail> {
     let lines = lines_of(rt.alloc(), 100, 200, 255)?;
-    assert!(rt; come_back(rt.alloc(), (100, 4, 50), &lines)?);
+    assert!(rt; come_back(rt.alloc(), &Size::new(100, 4, 50), &lines)?);
     Ok(())
 }
 
 #[test]
 fn more_than_a_million_samples(rt: HostRuntime) -> Result<(), Fail> {
     let lines = lines_of(rt.alloc(), 1100, 1000, 1)?;
-    assert!(rt; come_back(rt.alloc(), (1100, 1, 1000), &lines)?);
+    assert!(rt; come_back(rt.alloc(), &Size::new(1100, 1, 1000), &lines)?);
     Ok(())
 }

@@ -1,7 +1,5 @@
 //! `merge_all` through its bound, at a set of numbers: any two can be joined, and none is refused.
 
-ghost use Rattle.std.specs.Prelude.{◌≡◌};
-
 use jls_values::*;
 use std::test::Fail;
 

@@ -109,6 +109,39 @@ fn check_copy(rt: &impl Abort, alloc: Global, bytes: &[u8], wanted: &str) -> Res
     Ok(())
 }
 
+/// What a reader says of a copy that has 100,000 fill bytes between these parts.
+fn read_with_fill(alloc: Global, front: &[u8], back: &[u8]) -> Result<CopyRead, CopyFault> {
+    let fill = [0xFF; 1000];
+    let mut reader = CopyReader::new(alloc);
+    feed_piece(&mut reader, front)?;
+    for _ in 0..100 {
+        feed_piece(&mut reader, &fill)?;
+    }
+    feed_piece(&mut reader, back)?;
+    reader.finish()
+}
+
+#[test]
+fn many_fill_bytes(rt: HostRuntime) -> Result<(), Fail> {
+    let alloc = rt.alloc();
+    // Before the frame header, before EOI, and before a segment whose length is 1: how many bytes stand before the fill, and what the
+    // copy gives.
+    let lines =
+        "0.0=[0, 0, 90, 74] 0.1=[68, 50, 43, 205] 0.2=[64, 145, 145, 145] 0.3=[100, 145, 145, 145] | 0 Eoi(100055)";
+    let short = "FF D8 FF F7 00 0B 08 00 01 00 01 01 01 11 00 FF E0 00 01";
+    for (text, count, wanted) in [
+        (FOUR_LINES, 2usize, lines),
+        (FOUR_LINES, 55, lines),
+        (short, 15, "| 0 Header(Length, 100015)"),
+    ] {
+        let bytes = bytes_of(alloc, text)?;
+        let (front, back) = bytes.split_at(count.min(bytes.len()));
+        let read = read_with_fill(alloc, front, back);
+        assert_eq!(rt; told(alloc, read)?.as_str(), wanted, "behind {count} bytes");
+    }
+    Ok(())
+}
+
 #[test]
 fn copies_in_pieces_of_every_size(rt: HostRuntime) -> Result<(), Fail> {
     let alloc = rt.alloc();

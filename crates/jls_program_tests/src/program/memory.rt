@@ -43,6 +43,7 @@ pub(super) struct MemoryFiles<'a> {
 }
 
 impl<'a> MemoryFiles<'a> {
+    /// These files, none of which is open yet.
     pub(super) fn new(alloc: Global, files: &'a [File<'a>], manners: Manners) -> MemoryFiles<'a> {
         MemoryFiles {
             files,

@@ -1,4 +1,4 @@
-use Rattle.std.proofs.Common.{◌≡◌, ℕ, ◌+◌, ◌-◌, ◌*◌, ◌%◌, ◌^◌, ltb, ap, sym, subst}
+use Rattle.std.proofs.Common.{◌≡◌, ℕ, ◌+◌, ◌-◌, ◌*◌, ◌%◌, ◌^◌, ltb, sym, subst}
 use mir.Val.{bool_byte}
 use Rattle.jls_context.specs.Regular.{IsGolombK}
 use Rattle.jls_context.proofs.GolombLaws.{order_within, raised_fits, order_is_k, golomb_k_is, k_at_most}

@@ -1,12 +1,12 @@
 use Rattle.std.proofs.Common.{◌≡◌, ◌-◌, length}
 use Rattle.jls_interval.specs.Place.{above_of}
-use Rattle.jls_interval.specs.Encoding.{written_by, IsBegun}
+use Rattle.jls_interval.specs.Encoding.{written_by, WritesColumns}
 use Rattle.jls_interval.proofs.encode_line.write_line.Given as goal
 
 abbrev pub invariant-loop-x : goal.invariant-loop-x
 invariant-loop-x l = record {
   parameters : l.encoder.coder.cells.parameters ≡ l.initial.encoder.coder.cells.parameters;
-  begun : IsBegun l.initial.encoder.coder.cells.parameters l.place.component (above_of l.place) l.line l.x (written_by l.initial.encoder) (written_by l.encoder);
+  written : WritesColumns l.initial.encoder.coder.cells.parameters l.place.component (above_of l.place) l.line 0 l.x (written_by l.initial.encoder) (written_by l.encoder);
 }
 
 abbrev pub decreases-loop-x : goal.decreases-loop-x

@@ -1,26 +1,27 @@
-use Rattle.std.proofs.Common.{◌≡◌, ℕ, ◌+◌, ◌-◌, ◌*◌, ◌<◌, ◌≤◌, true, false, List, ◌++◌, take, drop, length, refl, sym, ap, subst, ◌∙◌, arith, append_assoc}
+use Rattle.std.proofs.Common.{◌≡◌, ℕ, ◌+◌, ◌-◌, true, false, List, ◌++◌, take, drop, length, sym, ap, subst, ◌∙◌, arith, append_assoc}
 use Rattle.std.proofs.lemmas.List.{append-nil}
 use Rattle.std.proofs.Math.Seq.{take-add}
 use Rattle.jls_values.specs.Params.{CodingParameters}
 use Rattle.jls_bits.specs.Bits.{is_whole}
-use Rattle.jls_interval.specs.IntervalBytes.{IsReadingOf, IsReadingBefore, HasLengths}
+use Rattle.jls_interval.specs.IntervalBytes.{ReadsBefore, IsReadingBefore, HasLengths}
 use Rattle.jls_bits.proofs.Appending.{whole_front}
 use Rattle.jls_interval.proofs.IntervalReading.{shape_none, shape_then}
-use Rattle.jls_interval.proofs.Finishing.{lengths_more, before_lengths, before_start, before_appended, before_taken, before_end}
+use Rattle.jls_interval.proofs.Finishing.{lengths_more, before_lengths, before_appended, before_taken, before_end}
 use Rattle.jls_interval.proofs.interval_decoder.push_bytes.Goals as goal
+use Rattle.jls_interval.proofs.interval_decoder.push_bytes.Goals.{then-at-bytes, else-at-bytes}
 
 pub loop-at-init : goal.loop-at-init
 loop-at-init c =
-    let none = ap length c.new-chunk.ensures in
     record {
       within = omega arith;
-      room = omega arith;
+      room = c.requires.room;
       pushed = sym (append-nil c.args.unstuffer.now);
       are_bytes = λ h. h;
       whole = λ h. absurd (omega arith);
       shape = shape_none c.args.reader.now;
       lengths = c.requires.lengths;
-      reading = λ p h w. before_start p c.args.unstuffer.now c.args.reader.now c.new-chunk.result c.new-chunk.ensures (h w);
+      few = λ any all. absurd (omega arith);
+      reading = λ p h w. h w;
     }
 
 pub push_chunk-requires : goal.push_chunk-requires
@@ -36,7 +37,7 @@ loop-at-preserved-in-Continue-1 c =
     let u : List ℕ = c.args.unstuffer.now in let xs : List ℕ = c.args.bytes.now in let at : ℕ = c.loop-at.at in let n : ℕ = c.min.result in let end : ℕ = at + n in let same : n ≡ end - at = omega arith in
     let s : List ℕ = take (end - at) (drop at xs) in let o = c.in_ok-push_chunk.ensures in
     let w : is_whole bytes ≡ true = sym e.whole ∙ c.if-whole.true in
-    let reading : (p : CodingParameters) → IsReadingOf p u c.args.reader.now → is_whole bytes ≡ true → IsReadingBefore p bytes c.push_chunk.new.chunk c.push_chunk.new.self = λ p f w. before_taken p bytes c.loop-at.reader c.push_chunk.new.self c.append_bytes-whole.new.chunk c.push_chunk.new.chunk o.bits (before_appended p now c.loop-at.reader bytes c.loop-at.chunk c.append_bytes-whole.new.chunk e.bits w (v.reading p f (whole_front 0 now s (subst (λ z. is_whole z ≡ true) e.pushed w)).0)) in
+    let reading : (p : CodingParameters) → ReadsBefore p u c.args.given_back c.args.reader.now → is_whole bytes ≡ true → IsReadingBefore p bytes c.push_chunk.new.chunk c.push_chunk.new.self = λ p f w. before_taken p bytes c.loop-at.reader c.push_chunk.new.self c.append_bytes-whole.new.chunk c.push_chunk.new.chunk o.bits (before_appended p now c.loop-at.reader bytes c.loop-at.chunk c.append_bytes-whole.new.chunk e.bits w (v.reading p f (whole_front 0 now s (subst (λ z. is_whole z ≡ true) e.pushed w)).0)) in
     record {
       within = (let t = c.loop-at-test.true in let m = c.min.ensures in omega arith);
       room = (let f = o.few in omega arith);
@@ -44,6 +45,7 @@ loop-at-preserved-in-Continue-1 c =
       are_bytes = λ a. e.are_bytes (v.are_bytes a);
       whole = λ a. e.whole;
       shape = shape_then c.args.reader.now c.loop-at.reader c.push_chunk.new.self v.shape c.push_chunk.ensures.shape;
+      few = λ any all whole. (let f = o.few in elim c.if-at-bytes.branch [ then-at-bytes b ↦ (let l = b.if-at-bytes.true in omega arith) | else-at-bytes b ↦ (let z = b.waiting-is in omega arith) ]);
       lengths = before_lengths h.0 bytes c.push_chunk.new.self c.push_chunk.new.chunk (reading h.0 h.1 w);
       reading = reading;
     }
@@ -52,7 +54,7 @@ pub loop-at-preserved : goal.loop-at-preserved
 loop-at-preserved c =
     let v = c.loop-at.invariant in let e = c.append_bytes-whole.ensures in let now : List ℕ = c.loop-at.unstuffer in
     let u : List ℕ = c.args.unstuffer.now in let xs : List ℕ = c.args.bytes.now in let at : ℕ = c.loop-at.at in let n : ℕ = c.min.result in let end : ℕ = at + n in let same : n ≡ end - at = omega arith in
-    let s : List ℕ = take (end - at) (drop at xs) in let none = ap length c.new-chunk-else-whole.ensures in
+    let s : List ℕ = take (end - at) (drop at xs) in let none = ap length c.new-chunk.ensures in
     record {
       within = (let t = c.loop-at-test.true in let m = c.min.ensures in omega arith);
       room = omega arith;
@@ -60,23 +62,12 @@ loop-at-preserved c =
       are_bytes = λ a. e.are_bytes (v.are_bytes a);
       whole = λ a. e.whole;
       shape = v.shape;
+      few = λ any all w. (let a : true ≡ false = sym w ∙ sym e.whole ∙ c.if-whole.false in cc);
       lengths = subst (λ z. HasLengths z c.loop-at.reader) (sym e.pushed) (lengths_more now s c.loop-at.reader v.lengths);
       reading = λ p f w. (let a : true ≡ false = sym w ∙ sym e.whole ∙ c.if-whole.false in cc);
     }
 
-pub push_chunk-requires-then-whole-2 : goal.push_chunk-requires-then-whole-2
-push_chunk-requires-then-whole-2 c =
-    let h = c.requires.reading in let v = c.loop-at.invariant in
-    let w : is_whole c.loop-at.unstuffer ≡ true = sym (v.whole (let t = c.loop-at-test.false in let s = c.requires.some in omega arith)) ∙ c.if-whole-2.true in
-    let r = v.reading h.0 h.1 w in (h.0, r.given, r.reading)
-
-pub returns-in_ok-push_chunk-2-clause-reading : goal.returns-in_ok-push_chunk-2-clause-reading
-returns-in_ok-push_chunk-2-clause-reading c = λ p f w.
-    let o = c.in_ok-push_chunk-2.ensures in let new = c.push_chunk-then-whole-2.new in
-    before_end p c.loop-at.unstuffer new.self new.chunk (let a = o.few in omega arith) (before_taken p c.loop-at.unstuffer c.loop-at.reader new.self c.loop-at.chunk new.chunk o.bits (c.loop-at.invariant.reading p f w))
-
-pub returns-in_ok-push_chunk-2-clause-lengths : goal.returns-in_ok-push_chunk-2-clause-lengths
-returns-in_ok-push_chunk-2-clause-lengths c =
-    let h = c.requires.reading in let v = c.loop-at.invariant in let new = c.push_chunk-then-whole-2.new in
-    let w : is_whole c.loop-at.unstuffer ≡ true = sym (v.whole (let t = c.loop-at-test.false in let s = c.requires.some in omega arith)) ∙ c.if-whole-2.true in
-    before_lengths h.0 c.loop-at.unstuffer new.self new.chunk (before_taken h.0 c.loop-at.unstuffer c.loop-at.reader new.self c.loop-at.chunk new.chunk c.in_ok-push_chunk-2.ensures.bits (v.reading h.0 h.1 w))
+pub returns-clause-reading : goal.returns-clause-reading
+returns-clause-reading c = λ p f w.
+    let v = c.loop-at.invariant in let t = c.loop-at-test.false in let l = v.within in let some = c.requires.some in
+    before_end p c.loop-at.unstuffer c.loop-at.reader c.loop-at.chunk (v.few (omega arith) (omega arith) w) (v.reading p f w)

@@ -3,7 +3,7 @@ use Rattle.std.specs.List.{AllByRecursion}
 use Rattle.jls_values.specs.Params.{CodingParameters}
 use Rattle.jls_bits.specs.Bits.{is_whole}
 use Rattle.jls_interval.specs.Decoding.{HasShape}
-use Rattle.jls_interval.specs.IntervalBytes.{IsReadingOf, IsReadingBefore, HasLengths}
+use Rattle.jls_interval.specs.IntervalBytes.{ReadsBefore, IsReadingBefore, HasLengths}
 use Rattle.jls_interval.proofs.interval_decoder.push_bytes.Given as goal
 
 abbrev pub invariant-loop-at : goal.invariant-loop-at
@@ -14,8 +14,9 @@ invariant-loop-at l = record {
   are_bytes : AllByRecursion (λ x. x < 256) l.initial.unstuffer → AllByRecursion (λ x. x < 256) l.unstuffer;
   whole : 0 < l.at → l.whole ≡ is_whole l.unstuffer;
   shape : HasShape l.initial.reader l.reader;
+  few : 0 < l.at → l.at ≡ length l.bytes → is_whole l.unstuffer ≡ true → length l.chunk ≤ 0;
   lengths : HasLengths l.unstuffer l.reader;
-  reading : (p : CodingParameters) → IsReadingOf p l.initial.unstuffer l.initial.reader → is_whole l.unstuffer ≡ true
+  reading : (p : CodingParameters) → ReadsBefore p l.initial.unstuffer l.initial.chunk l.initial.reader → is_whole l.unstuffer ≡ true
       → IsReadingBefore p l.unstuffer l.chunk l.reader;
 }
 

@@ -5,19 +5,24 @@ use Rattle.jls_values.specs.Params.{CodingParameters}
 use Rattle.jls_context.specs.Mode.{IsStep, quantized_gradient}
 use Rattle.jls_interval.specs.Events.{Above, neighbours}
 use Rattle.jls_interval.specs.Place.{above_of}
-use Rattle.jls_interval.proofs.LineSamples.{taken_more, taken_same}
+use Rattle.jls_interval.proofs.LineSamples.{taken_more, taken_same, begun_same}
 use Rattle.jls_interval.proofs.line_samples.take_samples.Goals as goal
 
-pub returns-in-None-clause-taken : goal.returns-in-None-clause-taken
-returns-in-None-clause-taken c =
-    let none = c.in-None.ensures.none in
+pub returns-in-Begun-clause-taken : goal.returns-in-Begun-clause-taken
+returns-in-Begun-clause-taken c =
+    let i = c.columns.invariant in let s = c.in-Begun.ensures.front in
+    begun_same c.args.place.now.component (above_of c.args.place.now) c.args.reader.now c.columns.reader c.args.chunk.now c.columns.chunk c.take_sample.new.chunk c.columns.near c.in-Begun.code c.take_sample.new.coder s.0 s.1 i.hand i.parameters i.near i.taking
+
+pub returns-in-Other-clause-taken : goal.returns-in-Other-clause-taken
+returns-in-Other-clause-taken c =
+    let none = c.in-Other.ensures.front in
     taken_same c.args.place.now.component (above_of c.args.place.now) c.args.reader.now c.columns.reader c.args.chunk.now c.columns.chunk c.take_sample.new.chunk c.take_sample.new.coder none.0 none.1 c.columns.invariant.taking
 
 pub columns-preserved : goal.columns-preserved
 columns-preserved c =
     let i = c.columns.invariant in let now = c.columns.reader in let w : ℕ = now.width in let line : List ℕ = now.line.items in let line' : List ℕ = c.push.new.self.items in
-    let up : Above = above_of c.args.place.now in let x : ℕ = c.columns.column in let v : ℕ = c.in-Some.value in
-    let grown : line' ≡ line ++ v ∷ [] = c.in_ok-push-in-Some.ensures.items in let a = length-append line (v ∷ []) in let b = ap length grown in
+    let up : Above = above_of c.args.place.now in let x : ℕ = c.columns.column in let v : ℕ = c.in-Taken.value in
+    let grown : line' ≡ line ++ v ∷ [] = c.in_ok-push-in-Taken.ensures.items in let a = length-append line (v ∷ []) in let b = ap length grown in
     let room : x + 2 < w = c.columns-test.true in let at : x ≡ length line = i.column in
     let at' : x + 1 ≡ length line' = omega arith in
     let next = c.neighbours_behind-near.ensures.behind w line at (i.near ∙ ap (neighbours w up line) (sym at)) room in
@@ -32,5 +37,5 @@ columns-preserved c =
       near = next ∙ ap (λ z. neighbours w up z (x + 1)) (sym grown) ∙ ap (neighbours w up line') at';
       second = same ∙ c.gradient-first.ensures.value ∙ ap (λ (q : CodingParameters). quantized_gradient q (pos near.rd -ℤ pos near.rb)) (sym c.take_sample.ensures.parameters) ∙ ap (λ z. quantized_gradient c.take_sample.new.coder.cells.parameters (pos z -ℤ pos near.rb)) (sym rolled.0) ∙ ap (λ z. quantized_gradient c.take_sample.new.coder.cells.parameters (pos near'.rb -ℤ pos z)) (sym rolled.1);
       step = subst IsStep (sym same) c.gradient-first.ensures.step;
-      taking = taken_more c.args.place.now.component up c.args.reader.now now (record now { coder = c.take_sample.new.coder; line = c.push.new.self }) c.args.chunk.now c.columns.chunk c.take_sample.new.chunk c.columns.near v c.in-Some.ensures.some i.hand i.hand refl grown i.parameters i.near (omega arith) i.taking;
+      taking = taken_more c.args.place.now.component up c.args.reader.now now (record now { coder = c.take_sample.new.coder; line = c.push.new.self }) c.args.chunk.now c.columns.chunk c.take_sample.new.chunk c.columns.near v c.in-Taken.ensures.front i.hand i.hand refl grown i.parameters i.near (omega arith) i.taking;
     }

@@ -1,6 +1,5 @@
-use Rattle.std.proofs.Common.{◌≡◌, ◌∙◌, ◌<◌, ◌++◌, ◌∷◌, [], List, ℕ, length, take, ap, sym, arith}
+use Rattle.std.proofs.Common.{◌∙◌, ◌<◌, ◌++◌, ◌∷◌, [], List, ℕ, length, sym, arith}
 use Rattle.jls_values.specs.OrderedSet.{items}
-use Rattle.jls_partial.specs.LineSet.{kept_lines}
 use Rattle.jls_partial.specs.PartialLaws.{same_list}
 use Rattle.jls_partial.specs.Packed.{Kept}
 use Rattle.jls_partial.proofs.Growth.{kept_more}

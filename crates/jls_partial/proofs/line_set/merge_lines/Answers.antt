@@ -1,4 +1,4 @@
-use Rattle.std.proofs.Common.{◌≡◌, ℕ, ◌+◌, ◌<◌, List, [], length, take, drop, ap, sym, subst, ◌∙◌, arith}
+use Rattle.std.proofs.Common.{◌≡◌, ℕ, ◌<◌, List, [], length, take, drop, ap, sym, subst, ◌∙◌, arith}
 use Rattle.std.specs.Prelude.{OnErr, Ok, Err}
 use Rattle.std.proofs.lemmas.List.{append-nil, take_at, take-append-drop, length-map}
 use Rattle.jls_values.specs.Join.{IsBetween}

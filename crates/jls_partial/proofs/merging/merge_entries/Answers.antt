@@ -1,7 +1,6 @@
-use Rattle.std.proofs.Common.{◌≡◌, ◌∙◌, ◌∷◌, ◌++◌, List, ℕ, map, ap, sym, subst}
+use Rattle.std.proofs.Common.{◌≡◌, ◌∙◌, ◌∷◌, ◌++◌, List, ℕ, map, ap, subst}
 use Rattle.std.specs.List.{AllByRecursion}
 use Rattle.std.proofs.lemmas.Result.{err_from_is_err_and}
-use Rattle.jls_values.specs.Shape.{PictureShape}
 use Rattle.jls_partial.specs.Entries.{kept_at_place, kept_readings}
 use Rattle.jls_partial.specs.Held.{LineEntry, IsLineEntry, kept_entry}
 use Rattle.jls_partial.specs.LineSet.{kept_lines}
@@ -19,7 +18,7 @@ next old now all e it es is h = subst (IsSoFar old now all) (ap (λ ls. kept_rea
 
 pub loop-at-preserved : goal.loop-at-preserved
 loop-at-preserved c =
-    let e : LineEntry = (c.in-Some.at.now, c.in-Some.lines.now) in
+    let e : LineEntry = (c.in-Some.at, c.in-Some.lines) in
     let all = kept_readings (entries c.args.other.now) in
     let es = c.next.new.self in
     let so_far = next c.args.into.now c.loop-at.into all e c.loop-at.at-iterator es c.in-Some.ensures.steps c.loop-at.invariant.so_far in
@@ -31,7 +30,7 @@ loop-at-preserved c =
 pub returns-in_err-merge_line-clause-err : goal.returns-in_err-merge_line-clause-err
 returns-in_err-merge_line-clause-err c =
     let p = err_from_is_err_and c.from_residual.result c.from_residual.ensures.1 in
-    let e : LineEntry = (c.in-Some.at.now, c.in-Some.lines.now) in
+    let e : LineEntry = (c.in-Some.at, c.in-Some.lines) in
     let all = kept_readings (entries c.args.other.now) in
     let es = c.next.new.self in
     let so_far = next c.args.into.now c.loop-at.into all e c.loop-at.at-iterator es c.in-Some.ensures.steps c.loop-at.invariant.so_far in

@@ -1,9 +1,18 @@
-use Rattle.std.proofs.Common.{length, refl, sym}
-use Rattle.std.proofs.lemmas.Bool.{eqb-true}
-use Rattle.jls_partial.proofs.TextLoops.{whole_read}
+use Rattle.std.proofs.Common.{Result, sym, subst}
+use Rattle.std.proofs.lemmas.Result.{err_from_is_err_and}
+use Rattle.jls_partial.specs.declared.text_fault.TextFault.{TextFault}
+use Rattle.jls_partial.specs.Partial.{PartialPicture}
+use Rattle.jls_partial.specs.TextReading.{GivesText}
+use Rattle.jls_partial.proofs.TextMerges.{head_fault, text_behind}
 use Rattle.jls_partial.proofs.text_reading.read_partial.Goals as goal
+
+pub returns-in_err-read_head : goal.returns-in_err-read_head
+returns-in_err-read_head c =
+    let p = err_from_is_err_and c.from_residual.result c.from_residual.ensures.1 in
+    rw (p.1, p.2) (head_fault c.in_err-read_head.field-0.0 c.args.bytes.now c.in_err-read_head.ensures)
 
 pub returns : goal.returns
 returns c =
-    whole_read (length c.args.bytes.now) c.args.bytes.now c.in_ok-version_bytes.version_bytes.now c.in_ok-version.version c.in_ok-version.shape_bytes.now c.in_ok-shape.shape c.in_ok-shape.count_bytes.now c.in_ok-count.count c.in_ok-count.entry_bytes.now c.empty-partial.result c.read_entries.new.partial c.in_ok-rest.rest.now
-    refl c.in_ok-version_bytes.ensures c.in_ok-version.ensures c.in_ok-shape.ensures c.in_ok-count.ensures c.empty-partial.ensures c.in_ok-rest.ensures (eqb-true _ _ (sym c.if-not-is_empty.ensures))
+    let head = c.in_ok-read_head.field-0 in
+    subst (λ (f : Result PartialPicture TextFault). GivesText (λ q. q) c.read_behind.result f)
+    (sym (text_behind c.args.bytes.now (head.form.size, head.form.version, head.shape, head.count, head.rest.now) c.in_ok-read_head.ensures)) c.read_behind.ensures

@@ -10,7 +10,7 @@ use Rattle.jls_partial.proofs.writing.put_entries.Goals as goal
 pub loop-at-preserved : goal.loop-at-preserved
 loop-at-preserved c =
     let g = entry_text Two in
-    let e : LineEntry = (c.in-Some.at.now, c.in-Some.lines.now) in
+    let e : LineEntry = (c.in-Some.at, c.in-Some.lines) in
     let left = map kept_entry c.next.new.self in
     ap (λ (t : List ℕ). t ++ flat_map g left) c.in_ok-put_entry.ensures
     ∙ append_assoc c.loop-at.out.items (g (kept_entry e)) (flat_map g left)

@@ -1,72 +1,32 @@
-use Rattle.std.proofs.Common.{rules, ◌≡◌, ◌<◌, ℕ, List, [], ap, refl, sym, subst, arith, length, take}
-use Rattle.std.proofs.lemmas.List.{length-take}
-use Rattle.jls_marker.specs.declared.fault.MarkerFault.TheVariants as marker
+use Rattle.std.proofs.Common.{List, ℕ, subst, sym}
+use Rattle.jls_partial.specs.TextReading.{Fails, read_text}
 use Rattle.jls_device.specs.Event.{GrewBy}
-use Rattle.jls_station.specs.Inputs.{IsEnough, IsCopyDone, no_picture, copy_not_read}
-use Rattle.jls_station.specs.Reading.{AreBytes, ReadSoFar}
-use Rattle.jls_station.specs.declared.input.ReadStop.TheVariants.{Whole, Failed}
-use Rattle.jls_station.specs.declared.input.InputFault.TheVariants as fault
-use Rattle.jls_station.proofs.OneInput.{nothing_read, one_read_more, read_to_end, read_to_failure, refused_for, empty_gives_none, empty_goes_on}
+use Rattle.jls_station.specs.Forms.{IsForm}
+use Rattle.jls_station.specs.Given.{Given}
+use Rattle.jls_station.specs.Inputs.{ReadsGive, ReadsRefuse}
+use Rattle.jls_station.specs.Texts.{IsTextOf}
+use Rattle.jls_station.specs.declared.input.InputFault.{InputFault}
+use Rattle.jls_station.specs.declared.input.InputForm.{InputForm}
+use Rattle.jls_station.proofs.NextInputs.{all_read, text_gives}
+use Rattle.jls_station.proofs.OneInput.{refused_by}
 use Rattle.jls_station.proofs.input.read_input_into.Goals as goal
 
-pub returns-in-Err-clause-refused : goal.returns-in-Err-clause-refused
-returns-in-Err-clause-refused g c =
+pub returns-in-Ok-clause-given : goal.returns-in-Ok-clause-given
+returns-in-Ok-clause-given g c =
     let old = g.S.Device.history c.args.device.now in
-    let new = g.S.Device.history c.read_some.new.self in
-    refused_for old new [] Failed
-    (read_to_failure IsEnough 0 old old new [] (nothing_read IsEnough 0 old old old []) c.in-Err.ensures.failed (λ e. empty_goes_on c.copies_have_one_course.ensures e.1) (omega arith))
-    (fault.Read Failed 0) (copy_not_read [] Failed marker.Ended 0 refl (λ t. absurd cc) empty_gives_none)
+    let new = g.S.Device.history c.read_form.new.device in
+    let bytes = c.read_form.new.text.items in
+    let p = c.in-Ok.partial in
+    let form = subst (λ (f : InputForm). GrewBy (IsForm c.args.source bytes f) old new) c.in-Ok-Text.field-0-is c.in-Ok-Text.ensures.form in
+    subst (λ (x : Given). GrewBy (ReadsGive c.args.source x) old new) (sym c.of_text.ensures)
+    (text_gives c.args.source old new bytes form p (subst (λ (t : List ℕ). IsTextOf t p) c.deref.ensures.value c.in-Ok.ensures.found))
 
-pub returns-then-count-eq0-clause-refused : goal.returns-then-count-eq0-clause-refused
-returns-then-count-eq0-clause-refused g c =
+pub returns-in-Err-from_bytes-clause-refused : goal.returns-in-Err-from_bytes-clause-refused
+returns-in-Err-from_bytes-clause-refused g c =
     let old = g.S.Device.history c.args.device.now in
-    let new = g.S.Device.history c.read_some.new.self in
-    let room : length c.read_some.new.into ≡ 4096 = search rules in
-    refused_for old new [] Whole
-    (read_to_end IsEnough 0 old old new [] 4096 (take c.in-Ok.count c.read_some.new.into) (nothing_read IsEnough 0 old old old []) (rw room at c.in-Ok.ensures.read)
-    (ap (λ (k : ℕ). take k c.read_some.new.into) c.if-count-eq0.true) (λ e. empty_goes_on c.copies_have_one_course.ensures e.1) (omega arith) (omega arith) (omega arith))
-    (fault.NoPicture marker.Ended 0) (no_picture [] marker.Ended 0 refl empty_gives_none)
-
-pub returns-then-first-eq-FIRST_OF_TEXT-clause-given : goal.returns-then-first-eq-FIRST_OF_TEXT-clause-given
-returns-then-first-eq-FIRST_OF_TEXT-clause-given g c =
-    let old = g.S.Device.history c.args.device.now in
-    let mid = g.S.Device.history c.read_some.new.self in
-    let given = take c.in-Ok.count c.read_some.new.into in
-    let room : length c.read_some.new.into ≡ 4096 = search rules in
-    let some : 0 < length given = omega (arith, length-take c.in-Ok.count c.read_some.new.into, c.in-Ok.ensures.within, c.if-count-eq0.false) in
-    c.read_text.ensures.given c.args.source old (subst (λ (t : List ℕ). GrewBy (ReadSoFar IsEnough 1 t) old mid) (sym c.front-first.ensures.front)
-    (one_read_more IsEnough 0 old old mid [] 4096 given (nothing_read IsEnough 0 old old old []) (rw room at c.in-Ok.ensures.read)
-    (λ e. empty_goes_on c.copies_have_one_course.ensures e.1) (omega arith) some (subst AreBytes c.front-first.ensures.front c.front-first.ensures.bytes)))
-
-pub returns-then-first-eq-FIRST_OF_TEXT-clause-refused : goal.returns-then-first-eq-FIRST_OF_TEXT-clause-refused
-returns-then-first-eq-FIRST_OF_TEXT-clause-refused g c =
-    let old = g.S.Device.history c.args.device.now in
-    let mid = g.S.Device.history c.read_some.new.self in
-    let given = take c.in-Ok.count c.read_some.new.into in
-    let room : length c.read_some.new.into ≡ 4096 = search rules in
-    let some : 0 < length given = omega (arith, length-take c.in-Ok.count c.read_some.new.into, c.in-Ok.ensures.within, c.if-count-eq0.false) in
-    c.read_text.ensures.refused old (subst (λ (t : List ℕ). GrewBy (ReadSoFar IsEnough 1 t) old mid) (sym c.front-first.ensures.front)
-    (one_read_more IsEnough 0 old old mid [] 4096 given (nothing_read IsEnough 0 old old old []) (rw room at c.in-Ok.ensures.read)
-    (λ e. empty_goes_on c.copies_have_one_course.ensures e.1) (omega arith) some (subst AreBytes c.front-first.ensures.front c.front-first.ensures.bytes)))
-
-pub returns-else-first-eq-FIRST_OF_TEXT-clause-given : goal.returns-else-first-eq-FIRST_OF_TEXT-clause-given
-returns-else-first-eq-FIRST_OF_TEXT-clause-given g c =
-    let old = g.S.Device.history c.args.device.now in
-    let mid = g.S.Device.history c.read_some.new.self in
-    let given = take c.in-Ok.count c.read_some.new.into in
-    let room : length c.read_some.new.into ≡ 4096 = search rules in
-    let some : 0 < length given = omega (arith, length-take c.in-Ok.count c.read_some.new.into, c.in-Ok.ensures.within, c.if-count-eq0.false) in
-    c.read_copy.ensures.given old (subst (λ (t : List ℕ). GrewBy (ReadSoFar IsCopyDone 1 t) old mid) (sym c.front-first.ensures.front)
-    (one_read_more IsCopyDone 0 old old mid [] 4096 given (nothing_read IsCopyDone 0 old old old []) (rw room at c.in-Ok.ensures.read)
-    (empty_goes_on c.copies_have_one_course.ensures) (omega arith) some (subst AreBytes c.front-first.ensures.front c.front-first.ensures.bytes)))
-
-pub returns-else-first-eq-FIRST_OF_TEXT-clause-refused : goal.returns-else-first-eq-FIRST_OF_TEXT-clause-refused
-returns-else-first-eq-FIRST_OF_TEXT-clause-refused g c =
-    let old = g.S.Device.history c.args.device.now in
-    let mid = g.S.Device.history c.read_some.new.self in
-    let given = take c.in-Ok.count c.read_some.new.into in
-    let room : length c.read_some.new.into ≡ 4096 = search rules in
-    let some : 0 < length given = omega (arith, length-take c.in-Ok.count c.read_some.new.into, c.in-Ok.ensures.within, c.if-count-eq0.false) in
-    c.read_copy.ensures.refused old (subst (λ (t : List ℕ). GrewBy (ReadSoFar IsCopyDone 1 t) old mid) (sym c.front-first.ensures.front)
-    (one_read_more IsCopyDone 0 old old mid [] 4096 given (nothing_read IsCopyDone 0 old old old []) (rw room at c.in-Ok.ensures.read)
-    (empty_goes_on c.copies_have_one_course.ensures) (omega arith) some (subst AreBytes c.front-first.ensures.front c.front-first.ensures.bytes)))
+    let new = g.S.Device.history c.read_form.new.device in
+    let bytes = c.read_form.new.text.items in
+    let form = subst (λ (f : InputForm). GrewBy (IsForm c.args.source bytes f) old new) c.in-Ok-Text.field-0-is c.in-Ok-Text.ensures.form in
+    subst (λ (f : InputFault). GrewBy (ReadsRefuse f) old new) (sym c.input_fault.ensures)
+    (refused_by old new bytes form.they_are.1 (all_read c.args.source old new bytes form) c.in-Err-from_bytes.fault
+    (subst (λ (t : List ℕ). Fails c.in-Err-from_bytes.fault (read_text t)) c.deref.ensures.value c.in-Err-from_bytes.ensures.exact))

@@ -1,15 +1,11 @@
 use Rattle.std.proofs.Common.{rules, ◌≡◌, ◌∙◌, ◌++◌, ℕ, List, ap, sym, subst, arith, length}
-use Rattle.jls_partial.specs.TextReading.{Fails, read_text}
+use Rattle.std.specs.Io.KnownBytes.{Consumes}
 use Rattle.jls_device.specs.Event.{History, GrewBy}
-use Rattle.jls_station.specs.Given.{Given, by_text, given_by_text}
-use Rattle.jls_station.specs.Inputs.{IsEnough, text_not_read, ReadsGive, ReadsRefuse}
+use Rattle.jls_station.specs.Inputs.{IsEnough, text_not_read, ReadsRefuse}
 use Rattle.jls_station.specs.Reading.{IsRead, ReadSoFar}
-use Rattle.jls_station.specs.Texts.{IsTextOf}
 use Rattle.jls_station.specs.declared.input.ReadStop.{ReadStop}
-use Rattle.jls_station.specs.declared.input.ReadStop.TheVariants.{Whole}
-use Rattle.jls_station.specs.declared.input.InputFault.{InputFault}
 use Rattle.jls_station.specs.declared.input.InputFault.TheVariants as fault
-use Rattle.jls_station.proofs.OneInput.{out_of_memory_in_part, read_in_part, refused_for, refused_by, given_so}
+use Rattle.jls_station.proofs.OneInput.{out_of_memory_in_part, read_in_part, refused_for, known_all}
 use Rattle.jls_station.proofs.input.read_text.Goals as goal
 
 -- the copy of what the first read gave
@@ -39,24 +35,16 @@ returns-in_default-clause-refused g c before h =
     (c.in-Ok-read_text_on.ensures.read before (as_first before (history c.args.device.now) c.args.first.now c.extend_from_slice.new.self.items (c.in-Ok.ensures.items ∙ ap (λ (t : List ℕ). t ++ c.args.first.now) c.clear.ensures.items) h))
     (fault.Read stop (length bytes)) (text_not_read bytes stop c.in-Ok-read_text_on.ensures.text c.in_default.not-Whole))
 
-pub returns-in-Ok-from_bytes-clause-given : goal.returns-in-Ok-from_bytes-clause-given
-returns-in-Ok-from_bytes-clause-given g c source before h =
+pub returns-in-Whole-clause-read : goal.returns-in-Whole-clause-read
+returns-in-Whole-clause-read g c before h =
     let history = g.S.Device.history in
     let bytes = c.read_text_on.new.bytes.items in
-    let p = c.in-Ok-from_bytes.partial in
-    let is_text_of = by_text source bytes p (subst (λ (t : List ℕ). IsTextOf t p) c.deref.ensures.value c.in-Ok-from_bytes.ensures.found) in
-    subst (λ (x : Given). GrewBy (ReadsGive source x) before (history c.read_text_on.new.device)) (sym c.of_text.ensures)
-    (given_so before (history c.read_text_on.new.device) bytes c.in-Ok-read_text_on.stop
-    (c.in-Ok-read_text_on.ensures.read before (as_first before (history c.args.device.now) c.args.first.now c.extend_from_slice.new.self.items (c.in-Ok.ensures.items ∙ ap (λ (t : List ℕ). t ++ c.args.first.now) c.clear.ensures.items) h))
-    source (given_by_text p) (sym c.in-Whole.is) is_text_of)
-
-pub returns-in-Err-from_bytes-clause-refused : goal.returns-in-Err-from_bytes-clause-refused
-returns-in-Err-from_bytes-clause-refused g c before h =
-    let history = g.S.Device.history in
-    let bytes = c.read_text_on.new.bytes.items in
-    let read : GrewBy (λ reads. IsRead IsEnough reads bytes Whole) before (history c.read_text_on.new.device) =
     subst (λ (stop : ReadStop). GrewBy (λ reads. IsRead IsEnough reads bytes stop) before (history c.read_text_on.new.device)) c.in-Whole.is
-    (c.in-Ok-read_text_on.ensures.read before (as_first before (history c.args.device.now) c.args.first.now c.extend_from_slice.new.self.items (c.in-Ok.ensures.items ∙ ap (λ (t : List ℕ). t ++ c.args.first.now) c.clear.ensures.items) h)) in
-    subst (λ (f : InputFault). GrewBy (ReadsRefuse f) before (history c.read_text_on.new.device)) (sym c.input_fault.ensures)
-    (refused_by before (history c.read_text_on.new.device) bytes c.in-Ok-read_text_on.ensures.text read c.in-Err-from_bytes.fault
-    (subst (λ (t : List ℕ). Fails c.in-Err-from_bytes.fault (read_text t)) c.deref.ensures.value c.in-Err-from_bytes.ensures.exact))
+    (c.in-Ok-read_text_on.ensures.read before (as_first before (history c.args.device.now) c.args.first.now c.extend_from_slice.new.self.items (c.in-Ok.ensures.items ∙ ap (λ (t : List ℕ). t ++ c.args.first.now) c.clear.ensures.items) h))
+
+pub returns-in-Whole-clause-known : goal.returns-in-Whole-clause-known
+returns-in-Whole-clause-known g c before h =
+    let remaining = g.S.Source.remaining in
+    let items : c.extend_from_slice.new.self.items ≡ c.args.first.now = c.in-Ok.ensures.items ∙ ap (λ (t : List ℕ). t ++ c.args.first.now) c.clear.ensures.items in
+    known_all before (remaining c.read_text_on.new.device) c.read_text_on.new.bytes.items
+    (c.in-Ok-read_text_on.ensures.known before (subst (λ (t : List ℕ). Consumes before (remaining c.args.device.now) t) (sym items) h)) (c.in-Ok-read_text_on.ensures.end c.in-Whole.is)

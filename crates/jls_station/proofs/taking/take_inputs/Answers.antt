@@ -1,14 +1,10 @@
-use Rattle.std.proofs.Common.{◌∷◌, [], ◌<◌, length, map, take, drop, get_or, List, ℕ, true, false, ap, sym, subst, refl, ◌∙◌, Result, Err, ◌≡◌, ◌+◌, arith}
+use Rattle.std.proofs.Common.{◌∷◌, [], ◌<◌, length, map, take, drop, get_or, List, ℕ, ap, sym, subst, refl, ◌∙◌, ◌+◌, arith}
 use Rattle.std.specs.Prelude.{◌&&◌}
 use Rattle.std.specs.Borrow.{Bor}
 use Rattle.jls_device.specs.Event.{GrewBy}
-use Rattle.jls_partial.specs.Partial.{PartialPicture, has_same_shape, union}
-use Rattle.jls_values.specs.declared.merge.MergeFault.{MergeFault}
-use Rattle.jls_values.specs.declared.merge.MergeFault.TheVariants.{ShapeDiffers, OutOfMemory}
-use Rattle.jls_station.specs.Inputs.{TakesUnion}
-use Rattle.jls_station.specs.declared.outcome.Cause.TheVariants as cause
+use Rattle.jls_station.specs.Inputs.{IsTaken, TakesUnion}
 use Rattle.jls_station.specs.declared.outcome.Refusal.{Refusal}
-use Rattle.jls_station.proofs.InTurn.{union_of_first, union_of_next, stops_first, stops_next, differs_next, ran_out_next, names_split, names_one_more}
+use Rattle.jls_station.proofs.InTurn.{union_of_first, union_of_next, stops_first, stops_next, names_split, names_one_more}
 use Rattle.jls_station.proofs.taking.take_inputs.Goals as goal
 
 abbrev name_of : Bor (List ℕ) → List ℕ
@@ -17,9 +13,6 @@ name_of f = f.now
 -- what stands in for a name where there is none
 abbrev none : Bor (List ℕ)
 none = record { ref_ptr = (0, 0); now = [] }
-
-not_both : (r : Result (Unit {0}) MergeFault) (e : MergeFault) → r ≡ Err e → e ≡ OutOfMemory → r ≡ Err ShapeDiffers → ⊥
-not_both r e is memory other = cc
 
 pub returns-in-Err-clause-stopped : goal.returns-in-Err-clause-stopped
 returns-in-Err-clause-stopped g c =
@@ -34,49 +27,31 @@ loop-name-init g c =
           c.is_whole-whole.ensures (c.holding-station.ensures ∙ c.into_partial.ensures) c.in-Ok.ensures.taken;
     }
 
-pub returns-in-Err-open_and_read_into-clause-stopped : goal.returns-in-Err-open_and_read_into-clause-stopped
-returns-in-Err-open_and_read_into-clause-stopped g c =
+pub returns-in-Err-take_next-clause-stopped : goal.returns-in-Err-take_next-clause-stopped
+returns-in-Err-take_next-clause-stopped g c =
     let history = g.D.Device.history in
     let i = c.loop-name.name-index in
     let lt : i < length c.args.inputs.others.now = omega arith in
-    let r : Refusal = record { name = get_or c.args.inputs.others.now i none; cause = c.in-Err-open_and_read_into.cause } in
-    stops_next c.args.inputs.source (history c.args.desk.now) (history c.loop-name.desk) (history c.open_and_read_into-in-loop-name.new.desk) (c.args.inputs.first.now ∷ map name_of (take i c.args.inputs.others.now)) c.loop-name.station c.loop-name.whole
+    let r : Refusal = record { name = get_or c.args.inputs.others.now i none; cause = c.in-Err-take_next.cause } in
+    stops_next c.args.inputs.source (history c.args.desk.now) (history c.loop-name.desk) (history c.take_next.new.desk) (c.args.inputs.first.now ∷ map name_of (take i c.args.inputs.others.now)) c.loop-name.station c.loop-name.whole
     c.loop-name.invariant.so_far (c.args.inputs.first.now ∷ map name_of c.args.inputs.others.now) (map name_of (drop (i + 1) c.args.inputs.others.now)) r
-    (ap (λ (xs : List (List ℕ)). c.args.inputs.first.now ∷ xs) (names_split name_of c.args.inputs.others.now i none lt)) c.in-Err-open_and_read_into.ensures.stopped
-
-pub returns-in-Err-ShapeDiffers-clause-stopped : goal.returns-in-Err-ShapeDiffers-clause-stopped
-returns-in-Err-ShapeDiffers-clause-stopped g c =
-    let history = g.D.Device.history in
-    let i = c.loop-name.name-index in
-    let lt : i < length c.args.inputs.others.now = omega arith in
-    let r : Refusal = record { name = get_or c.args.inputs.others.now i none; cause = cause.ShapeDiffers } in
-    differs_next c.args.inputs.source (history c.args.desk.now) (history c.loop-name.desk) (history c.open_and_read_into-in-loop-name.new.desk) (c.args.inputs.first.now ∷ map name_of (take i c.args.inputs.others.now)) c.loop-name.station c.loop-name.whole
-    c.loop-name.invariant.so_far (c.args.inputs.first.now ∷ map name_of c.args.inputs.others.now) (map name_of (drop (i + 1) c.args.inputs.others.now)) r
-    (ap (λ (xs : List (List ℕ)). c.args.inputs.first.now ∷ xs) (names_split name_of c.args.inputs.others.now i none lt)) c.in-Ok-open_and_read_into.read refl c.in-Ok-open_and_read_into.ensures.taken
-    (subst (λ (p : PartialPicture). has_same_shape c.loop-name.station p ≡ false) c.partial.ensures (c.in-Err-ShapeDiffers.ensures.shape_differs.0 (ap (λ e. Err e) c.in-Err-ShapeDiffers.field-0-is)))
-
-pub returns-in-Err-OutOfMemory-clause-stopped : goal.returns-in-Err-OutOfMemory-clause-stopped
-returns-in-Err-OutOfMemory-clause-stopped g c =
-    let history = g.D.Device.history in
-    let i = c.loop-name.name-index in
-    let lt : i < length c.args.inputs.others.now = omega arith in
-    let r : Refusal = record { name = get_or c.args.inputs.others.now i none; cause = cause.OutOfMemory } in
-    ran_out_next c.args.inputs.source (history c.args.desk.now) (history c.loop-name.desk) (history c.open_and_read_into-in-loop-name.new.desk) (c.args.inputs.first.now ∷ map name_of (take i c.args.inputs.others.now)) c.loop-name.station c.loop-name.whole
-    c.loop-name.invariant.so_far (c.args.inputs.first.now ∷ map name_of c.args.inputs.others.now) (map name_of (drop (i + 1) c.args.inputs.others.now)) r
-    (ap (λ (xs : List (List ℕ)). c.args.inputs.first.now ∷ xs) (names_split name_of c.args.inputs.others.now i none lt)) c.in-Ok-open_and_read_into.read refl c.in-Ok-open_and_read_into.ensures.taken
-    (λ e. not_both (Err c.in-Err-OutOfMemory.field-0) c.in-Err-OutOfMemory.field-0 refl c.in-Err-OutOfMemory.field-0-is (c.in-Err-OutOfMemory.ensures.shape_differs.1 (subst (λ (p : PartialPicture). has_same_shape c.loop-name.station p ≡ false) (sym c.partial.ensures) e)))
+    (ap (λ (xs : List (List ℕ)). c.args.inputs.first.now ∷ xs) (names_split name_of c.args.inputs.others.now i none lt)) c.in-Err-take_next.ensures.stopped
 
 pub loop-name-preserved : goal.loop-name-preserved
 loop-name-preserved g c =
     let history = g.D.Device.history in
+    let source = c.args.inputs.source in
+    let names = c.args.inputs.others.now in
     let i = c.loop-name.name-index in
-    let lt : i < length c.args.inputs.others.now = omega arith in
+    let lt : i < length names = omega arith in
+    let also = c.in-Ok-take_next.also in
+    let joined = c.in-Ok-take_next.ensures.joined in
+    let j = joined.they_are in
+    let given : GrewBy (IsTaken source (get_or names i none).now j.given) (history c.loop-name.desk) (history c.take_next.new.desk) =
+    record { events = joined.events; grew = joined.grew; they_are = j.taken } in
     record {
-      so_far = subst (λ (names : List (List ℕ)). GrewBy (TakesUnion c.args.inputs.source (c.args.inputs.first.now ∷ names) c.take.new.self (c.loop-name.whole && c.is_whole-whole-in-loop-name.result)) (history c.args.desk.now) (history c.open_and_read_into-in-loop-name.new.desk))
-          (sym (names_one_more name_of c.args.inputs.others.now i none lt))
-          (union_of_next c.args.inputs.source (history c.args.desk.now) (history c.loop-name.desk) (history c.open_and_read_into-in-loop-name.new.desk) (c.args.inputs.first.now ∷ map name_of (take i c.args.inputs.others.now)) c.loop-name.station c.loop-name.whole
-          c.loop-name.invariant.so_far (get_or c.args.inputs.others.now i none).now c.in-Ok-open_and_read_into.read c.is_whole-whole-in-loop-name.result
-          (c.loop-name.whole && c.is_whole-whole-in-loop-name.result) c.take.new.self c.is_whole-whole-in-loop-name.ensures refl c.in-Ok-open_and_read_into.ensures.taken
-          (subst (λ (p : PartialPicture). has_same_shape c.loop-name.station p ≡ true) c.partial.ensures c.in-Ok-take.ensures.ok_same_shape)
-          (c.in-Ok-take.ensures.ok ∙ ap (λ (p : PartialPicture). union c.loop-name.station p) c.partial.ensures));
+      so_far = subst (λ (names : List (List ℕ)). GrewBy (TakesUnion source (c.args.inputs.first.now ∷ names) c.take_next.new.station (c.loop-name.whole && also)) (history c.args.desk.now) (history c.take_next.new.desk))
+          (sym (names_one_more name_of names i none lt))
+          (union_of_next source (history c.args.desk.now) (history c.loop-name.desk) (history c.take_next.new.desk) (c.args.inputs.first.now ∷ map name_of (take i names)) c.loop-name.station c.loop-name.whole
+          c.loop-name.invariant.so_far (get_or names i none).now j.given also (c.loop-name.whole && also) c.take_next.new.station j.whole_is refl given j.one_shape j.union_is);
     }

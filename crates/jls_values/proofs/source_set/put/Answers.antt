@@ -1,4 +1,4 @@
-use Rattle.std.proofs.Common.{◌≡◌, ℕ, ◌<◌, ◌^◌, List, ap, sym, subst, ◌∙◌, refl, arith}
+use Rattle.std.proofs.Common.{◌<◌, ◌^◌, ap, sym, subst, ◌∙◌, refl, arith}
 use Rattle.jls_values.specs.OrderedSet as set
 use Rattle.jls_values.specs.SourceList.{IsSourceList}
 use Rattle.jls_values.proofs.SourceLists.{found, gap, from_list-insert, sources-insert, insert-there}

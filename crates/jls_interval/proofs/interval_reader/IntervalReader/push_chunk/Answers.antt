@@ -15,12 +15,12 @@ push_event-requires-clause-reading c =
     let h = c.requires in let a = c.events.invariant.taking h.0 h.1 h.2 in
     let b = c.in_ok-push_samples.ensures.bits h.0 (h.1 ++ a.taken) a.reading in (h.0, (h.1 ++ a.taken) ++ b.taken, b.reading)
 
-pub returns-then-len-waiting-clause-shape : goal.returns-then-len-waiting-clause-shape
-returns-then-len-waiting-clause-shape c =
+pub returns-then-len-fewest-clause-shape : goal.returns-then-len-fewest-clause-shape
+returns-then-len-fewest-clause-shape c =
     shape_then c.args.self.now c.events.self c.push_samples.new.self c.events.invariant.shape c.push_samples.ensures.shape
 
-pub returns-then-len-waiting-clause-bits : goal.returns-then-len-waiting-clause-bits
-returns-then-len-waiting-clause-bits c =
+pub returns-then-len-fewest-clause-bits : goal.returns-then-len-fewest-clause-bits
+returns-then-len-fewest-clause-bits c =
     taking_then c.args.self.now c.events.self c.push_samples.new.self c.args.chunk.now c.events.chunk c.events.invariant.taking c.push_samples.new.chunk c.in_ok-push_samples.ensures.bits
 
 pub returns-then-not-goes_on-clause-bits : goal.returns-then-not-goes_on-clause-bits

@@ -1,4 +1,4 @@
-use Rattle.std.proofs.Common.{◌≡◌, ℕ, ◌%◌, ◌<◌, List, Bool, Vec, Global, length, refl, sym, ap, ◌∙◌}
+use Rattle.std.proofs.Common.{◌≡◌, ℕ, ◌%◌, Vec, Global, length, refl, sym, ap, ◌∙◌}
 use Rattle.std.proofs.lemmas.List.{length-map}
 use Rattle.jls_interval.specs.Events.{Above, above}
 use Rattle.jls_interval.specs.Place.{above_of}
@@ -18,3 +18,6 @@ returns-in_ok-take_samples-clause-bits c = λ p given h.
 pub returns-in_default : goal.returns-in_default
 returns-in_default c =
     record { shape = shape_none c.args.self.now; state = refl; bits = taking_none c.args.self.now c.args.chunk.now }
+
+pub returns-then-len-looked_for-clause-bits : goal.returns-then-len-looked_for-clause-bits
+returns-then-len-looked_for-clause-bits c = taking_none c.args.self.now c.args.chunk.now

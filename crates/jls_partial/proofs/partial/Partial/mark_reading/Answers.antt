@@ -44,37 +44,41 @@ fits : (shape : PictureShape) (es : List LineEntry) (at : Place) (i : ℕ) (x : 
     → slice_get (set.items (lines_or (no_lines 0 0) es at).lines) i ≡ Some x → reading_fault shape at.component at.line x ≡ None
 fits shape es at i x kept lt got = (is_read shape i es at kept lt).fitting x (got_there (lines_or (no_lines 0 0) es at).lines i x got)
 
-pub mark_kept-requires : goal.mark_kept-requires
-mark_kept-requires c =
-    subst (λ (xs : List (List ℕ)). c.args.i < length xs) (readings_at_there 0 0 c.self.inside.shape c.self.inside.store.entries c.self.invariant c.args.self.now c.self.view_is c.args.at.component c.args.at.line) c.requires.i_in
+pub mark-requires : goal.mark-requires
+mark-requires c =
+    subst (λ (xs : List (List ℕ)). c.args.i < length xs) (readings_at_there 0 0 c.self.inside.shape c.self.inside.store.entries c.self.invariant.kept c.args.self.now c.self.view_is c.args.at.component c.args.at.line) c.requires.i_in
 
 pub invariant_of-self-2 : goal.invariant_of-self-2
 invariant_of-self-2 c =
     let shape = c.self.inside.shape in
     let es = c.self.inside.store.entries in
-    let fs = c.mark_kept.new.store.entries in
+    let fs = c.mark.new.self.entries in
     let at = c.args.at in
     let none = no_lines 0 0 in
-    let below : c.args.i < length (set.items (lines_or none es at).lines) = subst (λ (xs : List (List ℕ)). c.args.i < length xs) (readings_at_there 0 0 shape es c.self.invariant c.args.self.now c.self.view_is at.component at.line) c.requires.i_in in
+    let below : c.args.i < length (set.items (lines_or none es at).lines) = subst (λ (xs : List (List ℕ)). c.args.i < length xs) (readings_at_there 0 0 shape es c.self.invariant.kept c.args.self.now c.self.view_is at.component at.line) c.requires.i_in in
     let x = item (set.items (lines_or none es at).lines) c.args.i below in
     let source_fits : c.args.source < 2 ^ 32 = omega (arith, c.ranges.source.fits) in
-    kept_put shape at (lines_or none es at) (lines_or none fs at) x.0 (c.args.source ∷ []) (is_read shape c.args.i es at c.self.invariant below) (c.in_ok-mark_kept.ensures.lines.puts x.0 x.1)
-    (fits shape es at c.args.i x.0 c.self.invariant below x.1) (source_fits, tt) 0 0 es fs c.self.invariant c.mark_kept.ensures.ordered c.in_ok-mark_kept.ensures.ok
+    record {
+      precision = c.mark.ensures.precision ∙ c.self.invariant.precision;
+      width = c.mark.ensures.width ∙ c.self.invariant.width;
+      kept = kept_put shape at (lines_or none es at) (lines_or none fs at) x.0 (c.args.source ∷ []) (is_read shape c.args.i es at c.self.invariant.kept below) (c.in_ok-mark.ensures.lines.puts x.0 x.1)
+          (fits shape es at c.args.i x.0 c.self.invariant.kept below x.1) (source_fits, tt) 0 0 es fs c.self.invariant.kept c.in_ok-mark.ensures.ordered c.in_ok-mark.ensures.ok;
+    }
 
 pub returns-clause-ok : goal.returns-clause-ok
 returns-clause-ok c =
     let p = c.args.self.now in
     let shape = c.self.inside.shape in
     let es = c.self.inside.store.entries in
-    let fs = c.mark_kept.new.store.entries in
+    let fs = c.mark.new.self.entries in
     let at = c.args.at in
     let none = no_lines 0 0 in
-    let there = readings_at_there 0 0 shape es c.self.invariant p c.self.view_is at.component at.line in
+    let there = readings_at_there 0 0 shape es c.self.invariant.kept p c.self.view_is at.component at.line in
     let below : c.args.i < length (set.items (lines_or none es at).lines) = subst (λ (xs : List (List ℕ)). c.args.i < length xs) there c.requires.i_in in
     let x = item (set.items (lines_or none es at).lines) c.args.i below in
     let read : slice_get (readings_at p at.component at.line) c.args.i ≡ Some x.0 = ap (λ (xs : List (List ℕ)). slice_get xs c.args.i) there ∙ x.1 in
     let source_fits : c.args.source < 2 ^ 32 = omega (arith, c.ranges.source.fits) in
-    let seen = seen_put shape at (lines_or none es at) (lines_or none fs at) x.0 (c.args.source ∷ []) (is_read shape c.args.i es at c.self.invariant below) (c.in_ok-mark_kept.ensures.lines.puts x.0 x.1)
-    (fits shape es at c.args.i x.0 c.self.invariant below x.1) (source_fits, tt) 0 0 es fs c.self.invariant c.mark_kept.ensures.ordered c.in_ok-mark_kept.ensures.ok refl in
+    let seen = seen_put shape at (lines_or none es at) (lines_or none fs at) x.0 (c.args.source ∷ []) (is_read shape c.args.i es at c.self.invariant.kept below) (c.in_ok-mark.ensures.lines.puts x.0 x.1)
+    (fits shape es at c.args.i x.0 c.self.invariant.kept below x.1) (source_fits, tt) 0 0 es fs c.self.invariant.kept c.in_ok-mark.ensures.ordered c.in_ok-mark.ensures.ok refl in
     subst (λ (o : Option (List ℕ)). IfSome o (λ samples. partial_of shape (map kept_entry fs) ≡ with_marks p c.args.source (at_place at samples ∷ []))) (sym read)
     (seen ∙ ap (λ (q : PartialPicture). with_all q ((at_place at x.0, c.args.source ∷ []) ∷ [])) c.self.view_is ∙ taken_is_marked p (at_place at x.0) c.args.source (got_held p at.component at.line c.args.i x.0 read))

@@ -1,4 +1,4 @@
-use Rattle.std.proofs.Common.{◌≡◌, ℕ, List, [], ap, sym, subst, ◌∙◌, refl}
+use Rattle.std.proofs.Common.{[], sym, subst, refl}
 use Rattle.std.specs.Ordering.{nat_cmp}
 use Rattle.jls_values.specs.Join.{IsBetween}
 use Rattle.jls_values.specs.OrderedSet as set

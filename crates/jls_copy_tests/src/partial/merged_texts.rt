@@ -1,0 +1,102 @@
+//! Texts whose readings go straight into a partial picture.
+
+use super::{
+    FIVE, IN_BOTH, IN_FIRST, IN_SECOND, MANY_READINGS, NO_READING, ONE_SOURCE, OTHER_SHAPE,
+    SOURCE_2, SOURCE_7, THREE, TWO_READINGS, TWO_SOURCES, ZERO,
+};
+use jls_partial::{MergeTextFault, Partial, TextFault};
+use jls_values::Shape;
+use std::alloc::Global;
+use std::test::Fail;
+
+/// The text of what is held when a text was merged, and merged again.
+fn merged(alloc: Global, held: &[u8], text: &[u8]) -> Result<Vec<u8>, Fail> {
+    let mut held = Partial::from_bytes(alloc, held)?;
+    held.merge_text(alloc, text)?;
+    held.merge_text(alloc, text)?;
+    Ok(held.to_bytes(alloc)?)
+}
+
+#[test]
+fn gives_the_union(rt: HostRuntime) -> Result<(), Fail> {
+    for (one, other, joined) in [
+        (NO_READING, ZERO, ZERO),
+        (THREE, FIVE, TWO_READINGS),
+        (TWO_READINGS, FIVE, TWO_READINGS),
+        (TWO_READINGS, TWO_READINGS, TWO_READINGS),
+        (THREE, SOURCE_7, SOURCE_7),
+        (SOURCE_2, SOURCE_7, TWO_SOURCES),
+        (TWO_READINGS, SOURCE_7, ONE_SOURCE),
+        (IN_SECOND, IN_FIRST, IN_BOTH),
+    ] {
+        assert_eq!(rt; merged(rt.alloc(), one, other)?.as_slice(), joined);
+        assert_eq!(rt; merged(rt.alloc(), other, one)?.as_slice(), joined);
+    }
+    Ok(())
+}
+
+/// A text of 1,024 readings of one line, every other number from the first on.
+fn every_other(alloc: Global, first: u16) -> Result<Vec<u8>, Fail> {
+    let mut text = Vec::from_slice(alloc, MANY_READINGS)?;
+    for i in 0..1024u16 {
+        text.extend_from_slice(&(2 * i + first % 2).to_be_bytes())?;
+        text.extend_from_slice(&0u64.to_be_bytes())?;
+    }
+    Ok(text)
+}
+
+#[test]
+fn gives_the_union_of_many_readings(rt: HostRuntime) -> Result<(), Fail> {
+    let mut wanted = Partial::empty(rt.alloc(), Shape::new(16, 1, 1, &[1])?);
+    for sample in 0..2048u16 {
+        wanted.insert(0, 0, &[sample])?;
+    }
+    let mut held = Partial::empty(rt.alloc(), Shape::new(16, 1, 1, &[1])?);
+    held.merge_text(rt.alloc(), &every_other(rt.alloc(), 1)?)?;
+    held.merge_text(rt.alloc(), &every_other(rt.alloc(), 0)?)?;
+    assert!(rt; held == wanted);
+    Ok(())
+}
+
+/// The fault of a text comes before another shape. What stands before the fault is held.
+#[test]
+fn refuses_what_is_no_text_and_other_shapes(rt: HostRuntime) -> Result<(), Fail> {
+    for (held, text, fault, left) in [
+        (THREE, OTHER_SHAPE, MergeTextFault::ShapeDiffers, THREE),
+        (
+            THREE,
+            &OTHER_SHAPE[..36],
+            MergeTextFault::Text(TextFault::Truncated(36)),
+            THREE,
+        ),
+        (
+            THREE,
+            b"",
+            MergeTextFault::Text(TextFault::Truncated(0)),
+            THREE,
+        ),
+        (
+            THREE,
+            &FIVE[..36],
+            MergeTextFault::Text(TextFault::Truncated(36)),
+            THREE,
+        ),
+        (
+            FIVE,
+            &TWO_READINGS[..46],
+            MergeTextFault::Text(TextFault::Truncated(46)),
+            TWO_READINGS,
+        ),
+        (
+            NO_READING,
+            &TWO_READINGS[..46],
+            MergeTextFault::Text(TextFault::Truncated(46)),
+            THREE,
+        ),
+    ] {
+        let mut partial = Partial::from_bytes(rt.alloc(), held)?;
+        assert_eq!(rt; partial.merge_text(rt.alloc(), text), Err(fault));
+        assert_eq!(rt; partial.to_bytes(rt.alloc())?.as_slice(), left);
+    }
+    Ok(())
+}

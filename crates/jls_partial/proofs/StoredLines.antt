@@ -1,0 +1,235 @@
+-- The store of all lines of a picture: what stays where samples are put behind those that it has, and what one line more leaves.
+use Rattle.std.proofs.Common.{◌≡◌, ℕ, ◌+◌, ◌≤◌, ◌<◌, ◌^◌, Bool, true, false, cond, List, [], ◌∷◌, ◌++◌, length, map, Option, Some, None, refl, ap, sym, subst, ◌∙◌, arith}
+use Rattle.std.specs.Prelude.{IfSome, unwrap_or}
+use Rattle.std.specs.BTreeMap.{is_at}
+use Rattle.std.specs.Cmp.Lexicographic.{slice_cmp}
+use Rattle.std.specs.List.{AllByRecursion}
+use Rattle.std.specs.List.Sorted.{IsStrictlySortedBy}
+use Rattle.std.specs.Map.{lookup, set_value}
+use Rattle.std.specs.Option.{option_map}
+use Rattle.std.specs.Ordering.{nat_cmp, is_eq}
+use Rattle.std.proofs.lemmas.Cmp.{tied_itself}
+use Rattle.std.proofs.lemmas.List.{append-nil, length-append}
+use Rattle.std.proofs.lemmas.Map.Steps.{set_value_same}
+use Rattle.jls_values.specs.OrderedSet as set
+use Rattle.jls_partial.specs.declared.index.Index.{Index}
+use Rattle.jls_partial.specs.declared.index.Slot.{Slot}
+use Rattle.jls_partial.specs.declared.packed_lines.PackedLines.{PackedLines}
+use Rattle.jls_partial.specs.declared.place.Place.{Place}
+use Rattle.jls_partial.specs.Held.{LineEntry, PutsAt, PutsLine, lines_or}
+use Rattle.jls_partial.specs.Index.{slots_of}
+use Rattle.jls_partial.specs.InsertFaults.{samples_fault}
+use Rattle.jls_partial.specs.LineSet.{PictureLines, no_lines, with_lines}
+use Rattle.jls_partial.specs.Marks.{marks_of}
+use Rattle.jls_partial.specs.Packed.{Kept, lines_of, IsGap}
+use Rattle.jls_partial.specs.PackedLines.{seen_lines, IsLineSet}
+use Rattle.jls_partial.specs.Place.{place_cmp}
+use Rattle.jls_partial.specs.ReadingOrder.{place_total}
+use Rattle.jls_partial.specs.Stored.{LineSlots, slots_of_entries, seen_entries, AreIndexed, Extends, lines_in}
+use Rattle.jls_partial.proofs.Entries.{each_from_lookup, lookup_from_each}
+use Rattle.jls_partial.proofs.LineSets.{none_kept, put_kept, put_seen, with_own, fitting_length, length_kept, marks_held}
+use Rattle.jls_partial.proofs.PackedLines.{lines_stay, kept_lines, inside_more}
+use Rattle.jls_partial.proofs.Store.{lookup-map}
+
+-- ---- more samples behind those that are there
+
+module _ (p w : ℕ) (packed more : List ℕ) where
+  lines_same : (slots : List Slot) → AllByRecursion (λ s. s.start + w ≤ length packed) slots
+      → lines_of w (packed ++ more) slots ≡ lines_of w packed slots
+  lines_same slots inside = sym (kept_lines w (packed ++ more) slots) ∙ ap (map (λ (k : Kept). k.0)) (lines_stay w packed more slots inside) ∙ kept_lines w packed slots
+
+  seen_stays : (slots : List Slot) → IsLineSet p w packed slots → seen_lines p w (packed ++ more) slots ≡ seen_lines p w packed slots
+  seen_stays slots kept = λ i. record {
+    precision = p;
+    width = w;
+    lines = set.from_list (lines_same slots kept.packed_lines.inside i);
+    marks = set.from_list (marks_of (lines_stay w packed more slots kept.packed_lines.inside i));
+  }
+
+  kept_stays : (slots : List Slot) → IsLineSet p w packed slots → IsLineSet p w (packed ++ more) slots
+  kept_stays slots kept =
+      let longer = length-append packed more in
+      let few = kept.packed_lines.few in
+      let same = lines_same slots kept.packed_lines.inside in
+      record {
+        precision_at_most = kept.precision_at_most;
+        width_at_least = kept.width_at_least;
+        packed_lines = record {
+          inside = inside_more w (length packed) (length (packed ++ more)) slots (omega (arith, longer)) kept.packed_lines.inside;
+          few = omega (arith, longer, few);
+          sorted = subst (IsStrictlySortedBy (slice_cmp nat_cmp)) (sym same) kept.packed_lines.sorted;
+        };
+        fitting = subst (AllByRecursion (λ samples. samples_fault p w samples ≡ None)) (sym same) kept.fitting;
+      }
+
+  entries_stay : (es : List LineSlots) → AllByRecursion (λ e. IsLineSet p w packed e.1) es
+      → seen_entries p w (packed ++ more) es ≡ seen_entries p w packed es
+  entries_stay [] h = refl
+  entries_stay (e ∷ es) h = λ i. (e.0, seen_stays e.1 h.0 i) ∷ entries_stay es h.1 i
+
+  each_stays : (es : List LineSlots) → AllByRecursion (λ e. IsLineSet p w packed e.1) es → AllByRecursion (λ e. IsLineSet p w (packed ++ more) e.1) es
+  each_stays [] h = tt
+  each_stays (e ∷ es) h = (kept_stays e.1 h.0, each_stays es h.1)
+
+-- ---- the same of a store
+
+abbrev seen_in : PackedLines → List LineSlots → List LineEntry
+seen_in packed es = seen_entries packed.precision packed.width packed.samples.items es
+
+abbrev are_in : PackedLines → List LineSlots → Type 0
+are_in packed es = AreIndexed packed.precision packed.width packed.samples.items es
+
+module _ (old new : PackedLines) (longer : Extends old new) where
+  pub all_stay : (es : List LineSlots) → are_in old es → seen_in new es ≡ seen_in old es
+  all_stay es indexed =
+      (λ i. seen_entries (longer.precision i) (longer.width i) (longer.samples i) es)
+      ∙ entries_stay old.precision old.width old.samples.items longer.more es indexed.each
+
+  pub indexed_still : (es : List LineSlots) → are_in old es → are_in new es
+  indexed_still es indexed = record {
+    precision_at_most = subst (λ (n : ℕ). n ≤ 16) (sym longer.precision) indexed.precision_at_most;
+    width_at_least = subst (λ (n : ℕ). 1 ≤ n) (sym longer.width) indexed.width_at_least;
+    each = subst (λ (n : ℕ). AllByRecursion (λ e. IsLineSet n new.width new.samples.items e.1) es) (sym longer.precision)
+        (subst (λ (n : ℕ). AllByRecursion (λ e. IsLineSet old.precision n new.samples.items e.1) es) (sym longer.width)
+        (subst (λ (xs : List ℕ). AllByRecursion (λ e. IsLineSet old.precision old.width xs e.1) es) (sym longer.samples)
+        (each_stays old.precision old.width old.samples.items longer.more es indexed.each)));
+  }
+
+-- ---- one line more
+
+-- what a place has is changed, and nothing elsewhere
+abbrev pub Updated : {X : Type 0} → List (Place × X) → Place → X → List (Place × X) → Type 0
+Updated es at x fs = (q : Place) → lookup (is_at (place_cmp q)) fs ≡ cond (is_at (place_cmp at) q) (Some x) (lookup (is_at (place_cmp q)) es)
+
+module _ {X Y : Type 0} (f : X → Y) where
+  pub keys-map : (es : List (Place × X)) → map {A = Place × Y} (λ e. e.0) (map (λ e. (e.0, f e.1)) es) ≡ map (λ e. e.0) es
+  keys-map [] = refl
+  keys-map (e ∷ es) = ap (λ t. e.0 ∷ t) (keys-map es)
+
+  pub updated-map : (es fs : List (Place × X)) (at : Place) (x : X) → Updated es at x fs
+      → Updated (map (λ e. (e.0, f e.1)) es) at (f x) (map (λ e. (e.0, f e.1)) fs)
+  updated-map es fs at x u q =
+      lookup-map f (is_at (place_cmp q)) fs ∙ ap (option_map f) (u q)
+      ∙ elim (is_at (place_cmp at) q) as (λ b. option_map f (cond b (Some x) (lookup (is_at (place_cmp q)) es)) ≡ cond b (Some (f x)) (lookup (is_at (place_cmp q)) (map (λ e. (e.0, f e.1)) es))) [
+        | true ↦ refl
+        | false ↦ sym (lookup-map f (is_at (place_cmp q)) es)
+      ]
+
+  pub set_value-map : (t : Place → Bool) (es : List (Place × X)) (x : X)
+      → map (λ e. (e.0, f e.1)) (set_value t es x) ≡ set_value t (map (λ e. (e.0, f e.1)) es) (f x)
+  set_value-map t [] x = refl
+  set_value-map t (e ∷ es) x =
+      elim (t e.0) as (λ b. map (λ (e : Place × X). (e.0, f e.1)) (cond b ((e.0, x) ∷ es) (e ∷ set_value t es x)) ≡ cond b ((e.0, f x) ∷ map (λ (e : Place × X). (e.0, f e.1)) es) ((e.0, f e.1) ∷ set_value t (map (λ (e : Place × X). (e.0, f e.1)) es) (f x))) [
+        | true ↦ refl
+        | false ↦ ap (λ t. (e.0, f e.1) ∷ t) (set_value-map t es x)
+      ]
+
+-- what a place has afterwards
+pub updated_there : {X : Type 0} (es fs : List (Place × X)) (at : Place) (x : X) → Updated es at x fs → lookup (is_at (place_cmp at)) fs ≡ Some x
+updated_there es fs at x u = u at ∙ ap (λ b. cond b (Some x) (lookup (is_at (place_cmp at)) es)) (ap is_eq (tied_itself place_total at))
+
+module _ (old new : PackedLines) (longer : Extends old new) (es fs : List LineSlots) (at : Place) (slots : List Slot) (indexed : are_in old es) (u : Updated es at slots fs) where
+  pub there : (none : PictureLines) → lines_or none (seen_in new fs) at ≡ seen_lines new.precision new.width new.samples.items slots
+  there none =
+      ap (λ (o : Option PictureLines). unwrap_or o none)
+      (updated_there (seen_in new es) (seen_in new fs) at (seen_lines new.precision new.width new.samples.items slots)
+      (updated-map (seen_lines new.precision new.width new.samples.items) es fs at slots u))
+
+  pub puts_at : (none : PictureLines) → PutsAt (seen_in old es) at (lines_or none (seen_in new fs) at) (seen_in new fs)
+  puts_at none = λ q.
+      updated-map (seen_lines new.precision new.width new.samples.items) es fs at slots u q
+      ∙ (λ i. cond (is_at (place_cmp at) q) (Some (sym (there none) i)) (lookup (is_at (place_cmp q)) (all_stay old new longer es indexed i)))
+
+  pub indexed_more : IsLineSet new.precision new.width new.samples.items slots → IsStrictlySortedBy place_cmp (map (λ e. e.0) fs) → are_in new fs
+  indexed_more kept order =
+      let P : LineSlots → Type 0 = λ e. IsLineSet new.precision new.width new.samples.items e.1 in
+      let still = indexed_still old new longer es indexed in
+      record {
+        precision_at_most = still.precision_at_most;
+        width_at_least = still.width_at_least;
+        each = each_from_lookup P fs order (λ q. subst (λ (o : Option (List Slot)). IfSome o (λ ss. P (q, ss))) (sym (u q))
+            (elim (is_at (place_cmp at) q) as (λ b. IfSome (cond b (Some slots) (lookup (is_at (place_cmp q)) es)) (λ ss. P (q, ss))) [
+              | true ↦ kept
+              | false ↦ lookup_from_each P es q still.each
+            ]));
+      }
+
+-- what is seen has the places of the indices
+pub ordered_slots : (es : List (Place × Index)) → IsStrictlySortedBy place_cmp (map (λ e. e.0) es)
+    → IsStrictlySortedBy place_cmp (map (λ e. e.0) (slots_of_entries es))
+ordered_slots es order = subst (IsStrictlySortedBy place_cmp) (sym (keys-map slots_of es)) order
+
+pub ordered_seen : (packed : PackedLines) (es : List (Place × Index)) → IsStrictlySortedBy place_cmp (map (λ e. e.0) es)
+    → IsStrictlySortedBy place_cmp (map (λ e. e.0) (seen_in packed (slots_of_entries es)))
+ordered_seen packed es order =
+    subst (IsStrictlySortedBy place_cmp) (sym (keys-map (seen_lines packed.precision packed.width packed.samples.items) (slots_of_entries es)))
+    (ordered_slots es order)
+
+-- the lines of a place
+pub lookup_seen : (packed : PackedLines) (es : List (Place × Index)) (at : Place) (o : Option Index) → lookup (is_at (place_cmp at)) es ≡ o
+    → lookup (is_at (place_cmp at)) (seen_in packed (slots_of_entries es)) ≡ option_map (λ index. lines_in packed index) o
+lookup_seen packed es at o found =
+    lookup-map (seen_lines packed.precision packed.width packed.samples.items) (is_at (place_cmp at)) (slots_of_entries es)
+    ∙ ap (option_map (seen_lines packed.precision packed.width packed.samples.items)) (lookup-map slots_of (is_at (place_cmp at)) es ∙ ap (option_map slots_of) found)
+    ∙ elim o as (λ o. option_map (seen_lines packed.precision packed.width packed.samples.items) (option_map slots_of o) ≡ option_map (λ index. lines_in packed index) o) [
+      | None ↦ refl
+      | Some index ↦ refl
+    ]
+
+pub lines_found : (packed : PackedLines) (es : List (Place × Index)) (at : Place) (index : Index) (none : PictureLines)
+    → lookup (is_at (place_cmp at)) es ≡ Some index → lines_or none (seen_in packed (slots_of_entries es)) at ≡ lines_in packed index
+lines_found packed es at index none found = ap (λ (o : Option PictureLines). unwrap_or o none) (lookup_seen packed es at (Some index) found)
+
+pub lines_missing : (packed : PackedLines) (es : List (Place × Index)) (at : Place) (none : PictureLines)
+    → lookup (is_at (place_cmp at)) es ≡ None → lines_or none (seen_in packed (slots_of_entries es)) at ≡ none
+lines_missing packed es at none missing = ap (λ (o : Option PictureLines). unwrap_or o none) (lookup_seen packed es at None missing)
+
+-- the index of such a place
+pub index_found : (packed : PackedLines) (es : List (Place × Index)) (at : Place) (index : Index) → are_in packed (slots_of_entries es)
+    → lookup (is_at (place_cmp at)) es ≡ Some index → IsLineSet packed.precision packed.width packed.samples.items (slots_of index)
+index_found packed es at index indexed found =
+    let P : LineSlots → Type 0 = λ e. IsLineSet packed.precision packed.width packed.samples.items e.1 in
+    subst (λ (o : Option (List Slot)). IfSome o (λ ss. P (at, ss))) (lookup-map slots_of (is_at (place_cmp at)) es ∙ ap (option_map slots_of) found)
+    (lookup_from_each P (slots_of_entries es) at indexed.each)
+
+-- an index that is seen as the one before changes nothing
+pub entries_same : (es gs : List (Place × Index)) (at : Place) (x y : Index) → lookup (is_at (place_cmp at)) es ≡ Some x
+    → gs ≡ set_value (is_at (place_cmp at)) es y → slots_of y ≡ slots_of x → slots_of_entries gs ≡ slots_of_entries es
+entries_same es gs at x y found is same =
+    let t = is_at (place_cmp at) in
+    ap slots_of_entries is ∙ set_value-map slots_of t es y ∙ ap (set_value t (slots_of_entries es)) same
+    ∙ set_value_same t (slots_of_entries es) (slots_of x) (lookup-map slots_of t es ∙ ap (option_map slots_of) found)
+
+-- ---- what is known of the lines of a place
+
+pub puts_line : (L L0 : PictureLines) (x ss : List ℕ) (packed : PackedLines) (slots : List Slot)
+    → L ≡ seen_lines packed.precision packed.width packed.samples.items slots
+    → IsLineSet packed.precision packed.width packed.samples.items slots → length slots < 2 ^ 64
+    → seen_lines packed.precision packed.width packed.samples.items slots ≡ with_lines L0 ((x, ss) ∷ []) → PutsLine L0 x ss L
+puts_line L L0 x ss packed slots is kept small puts =
+    let now = seen_lines packed.precision packed.width packed.samples.items slots in
+    let many = length_kept packed.precision packed.width packed.samples.items slots now kept (λ _. now) in
+    let fewer : length (set.items now.lines) < 2 ^ 64 = omega (arith, many, small) in
+    subst (PutsLine L0 x ss) (sym is) (record {
+      new_is = puts;
+      countable = fewer;
+      marks_held = λ y t h. marks_held packed.precision packed.width packed.samples.items slots now (λ _. now) y t h;
+    })
+
+-- the first line of a place
+module _ (p w : ℕ) (packed x ss : List ℕ) (slots : List Slot) (narrow : p ≤ 16) (wide : 1 ≤ w) (fits : samples_fault p w x ≡ None) (is : slots ≡ record { start = length packed; sources = set.insert_all set.empty ss } ∷ []) where
+  gap : IsGap (slice_cmp nat_cmp) [] 0 x
+  gap = record { within = omega arith; below = λ k lt. absurd (omega arith); above = λ k le lt. absurd (omega arith) }
+
+  pub first_kept : IsLineSet p w (packed ++ x) slots
+  first_kept = subst (IsLineSet p w (packed ++ x)) (sym is) (put_kept p w packed x [] 0 (none_kept p w packed narrow wide) gap fits (fitting_length p w x fits) (set.insert_all set.empty ss))
+
+  pub first_seen : seen_lines p w (packed ++ x) slots ≡ with_lines (no_lines p w) ((x, ss) ∷ [])
+  first_seen =
+      ap (seen_lines p w (packed ++ x)) is
+      ∙ put_seen p w packed x [] 0 (none_kept p w packed narrow wide) gap fits (fitting_length p w x fits) (set.insert_all set.empty ss)
+      ∙ with_own (no_lines p w) x ss
+
+-- what is packed has its own samples
+pub itself : (packed : PackedLines) → Extends packed packed
+itself packed = record { precision = refl; width = refl; more = []; samples = sym (append-nil packed.samples.items) }

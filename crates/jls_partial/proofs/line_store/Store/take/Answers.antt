@@ -1,0 +1,10 @@
+use Rattle.std.proofs.Common.{ap, ◌∙◌}
+use Rattle.jls_values.specs.OrderedSet as set
+use Rattle.jls_partial.specs.Held.{lines_or}
+use Rattle.jls_partial.specs.LineSet.{no_lines}
+use Rattle.jls_partial.specs.Stored.{StoredLines}
+use Rattle.jls_partial.proofs.line_store.Store.take.Goals as goal
+
+pub returns-clause-no_memory : goal.returns-clause-no_memory
+returns-clause-no_memory c = λ h e.
+    c.take_at.ensures.no_memory (ap (λ (s : StoredLines). set.contains (lines_or (no_lines s.precision s.width) s.entries c.args.at).lines c.args.samples.now) c.self.view_is ∙ h) e

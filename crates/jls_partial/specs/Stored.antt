@@ -1,0 +1,75 @@
+-- What the program's stores are seen as.
+use Rattle.std.specs.Coded.{Coded, code_by, coded×, coded_ℕ, coded_list}
+use Rattle.std.specs.List.{AllByRecursion}
+use Rattle.std.specs.Prelude.{◌≡◌, ℕ, ◌≤◌, List, ◌++◌, map, refl}
+use Rattle.jls_partial.specs.declared.index.Index.{Index}
+use Rattle.jls_partial.specs.declared.index.Slot.{Slot}
+use Rattle.jls_partial.specs.declared.packed_lines.PackedLines.{PackedLines}
+use Rattle.jls_partial.specs.declared.place.Place.{Place}
+use Rattle.jls_values.specs.Shape.{PictureShape}
+use Rattle.jls_partial.specs.Held.{LineEntry, IsStore}
+use Rattle.jls_partial.specs.Index.{slots_of}
+use Rattle.jls_partial.specs.LineSet.{PictureLines, coded_lines}
+use Rattle.jls_partial.specs.PackedLines.{seen_lines, IsLineSet}
+
+-- the lines that an index has of what is packed
+abbrev pub lines_in : PackedLines → Index → PictureLines
+lines_in packed index = seen_lines packed.precision packed.width packed.samples.items (slots_of index)
+
+-- and whether the index is one of them
+abbrev pub IsIndexOf : PackedLines → Index → Type 0
+IsIndexOf packed index = IsLineSet packed.precision packed.width packed.samples.items (slots_of index)
+
+-- the same samples with more of them behind
+pub record Extends (old new : PackedLines) : Type 0 where
+  pub precision : new.precision ≡ old.precision
+  pub width : new.width ≡ old.width
+  pub more : List ℕ
+  pub samples : new.samples.items ≡ old.samples.items ++ more
+
+-- bits per sample, samples per line, and what is kept of each line, in the order of the places
+pub record StoredLines : Type 0 where
+  pub precision : ℕ
+  pub width : ℕ
+  pub entries : List LineEntry
+
+-- the checker's logic stores these as their parts
+abbrev pub coded_line_entry : Coded LineEntry
+coded_line_entry = coded× (code_by (ℕ × ℕ) (coded× coded_ℕ coded_ℕ) (λ at. (at.component, at.line)) (λ p. record { component = p.0; line = p.1 }) (λ _. refl)) coded_lines
+
+abbrev pub coded_stored : Coded StoredLines
+coded_stored = code_by (ℕ × (ℕ × List LineEntry)) (coded× coded_ℕ (coded× coded_ℕ (coded_list coded_line_entry)))
+    (λ s. (s.precision, (s.width, s.entries))) (λ p. record { precision = p.0; width = p.1.0; entries = p.1.1 }) (λ _. refl)
+
+-- the slots of each line, in the order of the places
+abbrev pub LineSlots : Type 0
+LineSlots = Place × List Slot
+
+abbrev pub slots_of_entries : List (Place × Index) → List LineSlots
+slots_of_entries es = map (λ e. (e.0, slots_of e.1)) es
+
+-- what is kept of each line
+abbrev pub seen_entries : ℕ → ℕ → List ℕ → List LineSlots → List LineEntry
+seen_entries precision width packed es = map (λ e. (e.0, seen_lines precision width packed e.1)) es
+
+abbrev pub entries_in : PackedLines → List (Place × Index) → List LineEntry
+entries_in packed es = seen_entries packed.precision packed.width packed.samples.items (slots_of_entries es)
+
+-- each line's slots are of what is packed
+pub record AreIndexed (precision width : ℕ) (packed : List ℕ) (es : List LineSlots) : Type 0 where
+  pub precision_at_most : precision ≤ 16
+  pub width_at_least : 1 ≤ width
+  pub each : AllByRecursion (λ e. IsLineSet precision width packed e.1) es
+
+abbrev pub AreIndicesOf : PackedLines → List (Place × Index) → Type 0
+AreIndicesOf packed es = AreIndexed packed.precision packed.width packed.samples.items (slots_of_entries es)
+
+-- a store for a picture of this shape
+pub record IsStoreOf (shape : PictureShape) (store : StoredLines) : Type 0 where
+  pub precision : store.precision ≡ shape.precision
+  pub width : store.width ≡ shape.width
+  pub kept : IsStore shape store.entries
+
+-- a store of what is packed, with these entries
+abbrev pub stored : PackedLines → List LineEntry → StoredLines
+stored packed entries = record { precision = packed.precision; width = packed.width; entries = entries }

@@ -1,0 +1,250 @@
+//! What is kept of all lines of a picture, in one packed store.
+
+ghost use Rattle.jls_partial.specs.Held.{MarksLine, PutsAt, PutsLine, lines_or};
+ghost use Rattle.jls_partial.specs.InsertFaults.{samples_fault};
+ghost use Rattle.jls_partial.specs.LineSet.{no_lines};
+ghost use Rattle.jls_partial.specs.Place.{place_cmp};
+ghost use Rattle.jls_partial.specs.Stored.{AreIndicesOf, entries_in, Extends};
+ghost use Rattle.jls_values.specs.OrderedSet as set;
+ghost use Rattle.std.specs.BTreeMap.{is_at};
+ghost use Rattle.std.specs.List.Sorted.{IsStrictlySortedBy};
+ghost use Rattle.std.specs.Map.{lookup};
+ghost use Rattle.std.specs.Prelude.{◌≡◌, ◌<◌, ◌≤◌, [], length, map, true, not, IfOk, OnOk, OnErr, IsOk, None};
+
+use crate::index::Index;
+use crate::lines::Lines;
+use crate::packed_lines::PackedLines;
+use crate::place::Place;
+use std::alloc::{AllocError, Global};
+use std::collections::BTreeMap;
+use std::collections::btree_map::Iter;
+use std::iter::Iterator;
+use std::marker::Model;
+
+/// The readings of all lines of a picture. All samples stand in one list, and each line that has a reading has an index of its own.
+#[derive(Drop)]
+pub(crate) struct Store {
+    packed: PackedLines,
+    index: BTreeMap<Place, Index>,
+}
+
+impl Model for Store {
+    ghost use Rattle.jls_partial.specs.Stored.{StoredLines, coded_stored, AreIndicesOf, stored, entries_in};
+
+    ghost Value = { StoredLines };
+
+    ghost coded = { coded_stored };
+
+    ghost view = { λ a. stored a.packed (entries_in a.packed a.index.entries) };
+
+    ghost invariant = { λ a. AreIndicesOf a.packed a.index.entries };
+}
+
+/// The lines of a store that have a reading, in the order of their places.
+#[derive(Drop)]
+pub(crate) struct Entries<'a> {
+    packed: &'a PackedLines,
+    rest: Iter<'a, Place, Index>,
+}
+
+impl<'a> Model for Entries<'a> {
+    ghost use Rattle.jls_partial.specs.Held.{LineEntry};
+    ghost use Rattle.jls_partial.specs.Stored.{coded_line_entry, AreIndicesOf, entries_in};
+    ghost use Rattle.std.specs.Coded.{coded_list};
+    ghost use Rattle.std.specs.Prelude.{List};
+
+    ghost Value = { List LineEntry };
+
+    ghost coded = { coded_list coded_line_entry };
+
+    ghost view = { λ a. entries_in a.packed.now a.rest };
+
+    ghost invariant = { λ a. AreIndicesOf a.packed.now a.rest };
+}
+
+impl<'a> Iterator for Entries<'a> {
+    ghost use Rattle.std.specs.Iterator.{at_most};
+    ghost use Rattle.std.specs.Map.Iter.{TakesFirst};
+    ghost use Rattle.std.specs.Prelude.{length};
+
+    type Item = (Place, Lines<'a>);
+
+    ghost next_gives = { TakesFirst (λ e. e) };
+
+    ghost remaining = { λ s. at_most (length s) };
+
+    fn next(&mut self) -> Option<(Place, Lines<'a>)> {
+        let (at, index) = self.rest.next()?;
+        Some((*at, Lines::of(self.packed, index)))
+    }
+}
+
+/// Takes the first line of a place, with these sources. All growth is made before anything changes.
+fn start_at(
+    packed: &mut PackedLines,
+    index: &mut BTreeMap<Place, Index>,
+    at: Place,
+    samples: &[u16],
+    sources: &[u32],
+) -> Result<bool, AllocError>
+    requires indexed { AreIndicesOf packed.old index.old.entries }
+    requires fits { samples_fault packed.old.precision packed.old.width samples.now ≡ None }
+    requires none { lookup (is_at (place_cmp at)) index.old.entries ≡ None }
+    ensures extends { Extends packed.old packed.new }
+    ensures indexed { AreIndicesOf packed.new index.new.entries }
+    ensures ordered { OnOk result (IsStrictlySortedBy place_cmp (map (λ e. e.0) (entries_in packed.new index.new.entries))) }
+    ensures ok { OnOk result (PutsAt (entries_in packed.old index.old.entries) at
+        (lines_or (no_lines packed.old.precision packed.old.width) (entries_in packed.new index.new.entries) at)
+        (entries_in packed.new index.new.entries)) }
+    ensures lines { OnOk result (PutsLine (no_lines packed.old.precision packed.old.width) samples.now sources.now
+        (lines_or (no_lines packed.old.precision packed.old.width) (entries_in packed.new index.new.entries) at)) }
+    ensures err { OnErr result (entries_in packed.new index.new.entries ≡ entries_in packed.old index.old.entries) }
+    ensures added { IfOk result (λ added. added ≡ true) }
+{
+    let new = packed.room_for(sources)?;
+    index.insert(at, new)?;
+    packed.append(samples);
+    Ok(true)
+}
+
+/// Takes one line of a place that fits, with these sources. True where it is new there.
+fn take_at(
+    packed: &mut PackedLines,
+    index: &mut BTreeMap<Place, Index>,
+    at: Place,
+    samples: &[u16],
+    sources: &[u32],
+) -> Result<bool, AllocError>
+    requires indexed { AreIndicesOf packed.old index.old.entries }
+    requires fits { samples_fault packed.old.precision packed.old.width samples.now ≡ None }
+    ensures extends { Extends packed.old packed.new }
+    ensures indexed { AreIndicesOf packed.new index.new.entries }
+    ensures ordered { OnOk result (IsStrictlySortedBy place_cmp (map (λ e. e.0) (entries_in packed.new index.new.entries))) }
+    ensures ok { OnOk result (PutsAt (entries_in packed.old index.old.entries) at
+        (lines_or (no_lines packed.old.precision packed.old.width) (entries_in packed.new index.new.entries) at)
+        (entries_in packed.new index.new.entries)) }
+    ensures lines { OnOk result (PutsLine
+        (lines_or (no_lines packed.old.precision packed.old.width) (entries_in packed.old index.old.entries) at) samples.now sources.now
+        (lines_or (no_lines packed.old.precision packed.old.width) (entries_in packed.new index.new.entries) at)) }
+    ensures err { OnErr result (entries_in packed.new index.new.entries ≡ entries_in packed.old index.old.entries) }
+    ensures added { IfOk result (λ added. added ≡ not (set.contains
+        (lines_or (no_lines packed.old.precision packed.old.width) (entries_in packed.old index.old.entries) at).lines samples.now)) }
+    ensures no_memory { set.contains
+        (lines_or (no_lines packed.old.precision packed.old.width) (entries_in packed.old index.old.entries) at).lines samples.now ≡ true
+        → sources.now ≡ [] → IsOk result }
+{
+    match index.get_mut(&at) {
+        Some(own) => {
+            let added = packed.take(own, samples, sources)?;
+            // The length of an index is a `usize`, and so its lines are countable.
+            prove!(own.len() <= usize::MAX);
+            Ok(added)
+        }
+        None => start_at(packed, index, at, samples, sources),
+    }
+}
+
+/// Adds a source to the line of a place that has `i` others below it.
+fn mark_at(
+    packed: &PackedLines,
+    index: &mut BTreeMap<Place, Index>,
+    at: Place,
+    i: usize,
+    source: u32,
+) -> Result<(), AllocError>
+    requires indexed { AreIndicesOf packed.now index.old.entries }
+    requires within { i < length (set.items (lines_or (no_lines 0 0) (entries_in packed.now index.old.entries) at).lines) }
+    ensures indexed { AreIndicesOf packed.now index.new.entries }
+    ensures ordered { OnOk result (IsStrictlySortedBy place_cmp (map (λ e. e.0) (entries_in packed.now index.new.entries))) }
+    ensures ok { OnOk result (PutsAt (entries_in packed.now index.old.entries) at
+        (lines_or (no_lines 0 0) (entries_in packed.now index.new.entries) at) (entries_in packed.now index.new.entries)) }
+    ensures lines { OnOk result (MarksLine (lines_or (no_lines 0 0) (entries_in packed.now index.old.entries) at) i source
+        (lines_or (no_lines 0 0) (entries_in packed.now index.new.entries) at)) }
+    ensures err { OnErr result (entries_in packed.now index.new.entries ≡ entries_in packed.now index.old.entries) }
+{
+    match index.get_mut(&at) {
+        Some(own) => packed.mark(own, i, source)?,
+        None => unreachable!(),
+    }
+    Ok(())
+}
+
+impl Store {
+    /// A store without lines, of samples of `precision` bits, with `width` samples a line. It takes no memory.
+    pub(crate) fn empty(alloc: Global, precision: u8, width: u16) -> Store
+        requires precision_at_most { precision ≤ 16 }
+        requires width_at_least { 1 ≤ width }
+        ensures { result ≡ record { precision = precision; width = width; entries = [] } }
+    {
+        Store {
+            packed: PackedLines::empty(alloc, precision, width),
+            index: BTreeMap::new(alloc),
+        }
+    }
+
+    /// What is kept at a place, lent.
+    pub(crate) fn lines_at(&self, at: Place) -> Option<Lines<'_>>
+        ensures { result ≡ lookup (is_at (place_cmp at)) self.now.entries }
+    {
+        match self.index.get(&at) {
+            Some(index) => Some(Lines::of(&self.packed, index)),
+            None => None,
+        }
+    }
+
+    /// The lines that have a reading, in the order of their places, each with what is kept of it.
+    pub(crate) fn entries(&self) -> Entries<'_>
+        ensures { result ≡ self.now.entries }
+    {
+        Entries {
+            packed: &self.packed,
+            rest: self.index.iter(),
+        }
+    }
+
+    /// How many lines have a reading.
+    pub(crate) fn len(&self) -> usize
+        ensures { result ≡ length self.now.entries }
+    {
+        self.index.len()
+    }
+
+    /// Takes one line of a place that fits, with these sources. True where it is new there.
+    pub(crate) fn take(
+        &mut self,
+        at: Place,
+        samples: &[u16],
+        sources: &[u32],
+    ) -> Result<bool, AllocError>
+        requires { samples_fault self.old.precision self.old.width samples.now ≡ None }
+        ensures precision { self.new.precision ≡ self.old.precision }
+        ensures width { self.new.width ≡ self.old.width }
+        ensures ordered { OnOk result (IsStrictlySortedBy place_cmp (map (λ e. e.0) self.new.entries)) }
+        ensures ok { OnOk result (PutsAt self.old.entries at
+            (lines_or (no_lines self.old.precision self.old.width) self.new.entries at) self.new.entries) }
+        ensures lines { OnOk result (PutsLine (lines_or (no_lines self.old.precision self.old.width) self.old.entries at)
+            samples.now sources.now (lines_or (no_lines self.old.precision self.old.width) self.new.entries at)) }
+        ensures err { OnErr result (self.new ≡ self.old) }
+        ensures added { IfOk result (λ added. added ≡ not (set.contains
+            (lines_or (no_lines self.old.precision self.old.width) self.old.entries at).lines samples.now)) }
+        ensures no_memory { set.contains
+            (lines_or (no_lines self.old.precision self.old.width) self.old.entries at).lines samples.now ≡ true
+            → sources.now ≡ [] → IsOk result }
+    {
+        take_at(&mut self.packed, &mut self.index, at, samples, sources)
+    }
+
+    /// Adds a source to the line of a place that has `i` others below it.
+    pub(crate) fn mark(&mut self, at: Place, i: usize, source: u32) -> Result<(), AllocError>
+        requires { i < length (set.items (lines_or (no_lines 0 0) self.old.entries at).lines) }
+        ensures precision { self.new.precision ≡ self.old.precision }
+        ensures width { self.new.width ≡ self.old.width }
+        ensures ordered { OnOk result (IsStrictlySortedBy place_cmp (map (λ e. e.0) self.new.entries)) }
+        ensures ok { OnOk result (PutsAt self.old.entries at (lines_or (no_lines 0 0) self.new.entries at) self.new.entries) }
+        ensures lines { OnOk result (MarksLine (lines_or (no_lines 0 0) self.old.entries at) i source
+            (lines_or (no_lines 0 0) self.new.entries at)) }
+        ensures err { OnErr result (self.new ≡ self.old) }
+    {
+        mark_at(&self.packed, &mut self.index, at, i, source)
+    }
+}

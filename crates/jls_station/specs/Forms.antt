@@ -1,0 +1,30 @@
+-- What is read of an input, and how it is joined to what a station holds.
+use Rattle.std.specs.Prelude.{◌≡◌, ◌↔◌, ℕ, Bool, IsTrue, true, List, Option, None, IfSome}
+use Rattle.jls_partial.specs.Partial.{PartialPicture, has_same_shape, union}
+use Rattle.jls_device.specs.Event.{Event}
+use Rattle.jls_station.specs.Given.{Given}
+use Rattle.jls_station.specs.Inputs.{IsEnough, ReadsGive, IsTaken}
+use Rattle.jls_station.specs.Reading.{IsRead}
+use Rattle.jls_station.specs.Texts.{is_text}
+use Rattle.jls_station.specs.declared.input.InputForm.{InputForm}
+use Rattle.jls_station.specs.declared.input.InputForm.TheVariants.{Text, Copy}
+use Rattle.jls_station.specs.declared.input.ReadStop.TheVariants.{Whole}
+
+-- these are all reads of an input: a text, and it was read to its end and its bytes are these; or a copy that gives this
+abbrev pub IsForm : Option ℕ → List ℕ → InputForm → List Event → Type 0
+IsForm source bytes Text reads = IsRead IsEnough reads bytes Whole × (is_text bytes ≡ true)
+IsForm source bytes (Copy given) reads = ReadsGive source given reads
+
+-- where the source tells its bytes, they are those of the text; and what a copy gives is no text's
+abbrev pub IsAllOf : Option (List ℕ) → List ℕ → InputForm → Type 0
+IsAllOf known bytes Text = IfSome known (λ xs. xs ≡ bytes)
+IsAllOf known bytes (Copy given) = given.copy ≡ None → ⊥
+
+-- an input of this name was opened and read, and what it gave, which has the shape of what was held, was joined to that; it says whether
+-- the input was read whole
+pub record JoinsInput (source : Option ℕ) (name : List ℕ) (old new : PartialPicture) (whole : Bool) (events : List Event) : Type 0 where
+  pub given : Given
+  pub taken : IsTaken source name given events
+  pub one_shape : has_same_shape old given.partial ≡ true
+  pub union_is : new ≡ union old given.partial
+  pub whole_is : IsTrue whole ↔ (given.stop ≡ Whole)
