@@ -45,6 +45,7 @@ impl IntervalReader {
 
     /// Takes the bits of the event in hand, where lines are still to come, and says whether it is whole. Else
     /// nothing more is to be taken.
+    #[inline(never)]
     fn push_event(&mut self, chunk: &mut Chunk) -> Result<bool, AllocError>
         requires state { self.old.state ≡ State.Working }
         requires reading { (p : CodingParameters) × (given : List Bool) × IsReading p given self.old }
