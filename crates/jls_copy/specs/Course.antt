@@ -29,13 +29,16 @@ abbrev pub segment_unit_bytes : ℕ → ℕ → List ℕ → List ℕ
 segment_unit_bytes fill code payload =
     let size : ℕ = length payload + 2 in fill_bytes fill ++ (0xFF ∷ code ∷ size / 256 ∷ size % 256 ∷ payload)
 
+-- the bytes 0xFF at the input's end, which belong to no piece
 abbrev pub dropped_bytes : LastClosed → List ℕ
 dropped_bytes (by_input count) = fill_bytes count
 dropped_bytes by_marker = []
 
+-- the bytes of scan data that is cut so; a marker that closes its last piece is not among them
 abbrev pub scan_data_bytes : List ClosedPiece → List ℕ → LastClosed → List ℕ
 scan_data_bytes closed last closing = flat_map closed_bytes closed ++ (last ++ dropped_bytes closing)
 
+-- the bytes that a unit is in the copy
 abbrev pub unit_bytes : CopyUnit → List ℕ
 unit_bytes (segment fill code payload) = segment_unit_bytes fill code payload
 unit_bytes (scan fill code payload plan closed last closing) = segment_unit_bytes fill code payload ++ scan_data_bytes closed last closing

@@ -35,10 +35,12 @@ unit_pieces index at (segment fill code payload) = []
 unit_pieces index at (scan fill code payload plan closed last closing) =
     pieces_from index plan 0 (Interval 0) (at + length (segment_unit_bytes fill code payload)) closed last
 
+-- how many scans a unit has: none or one
 abbrev pub scans_in : CopyUnit → ℕ
 scans_in (segment fill code payload) = 0
 scans_in (scan fill code payload plan closed last closing) = 1
 
+-- the pieces of these units, of which the first stands at this offset, where so many scans stand before them
 abbrev pub pieces_in : ℕ → ℕ → List CopyUnit → List FoundPiece
 pieces_in index at [] = []
 pieces_in index at (u ∷ us) = unit_pieces index at u ++ pieces_in (index + scans_in u) (at + length (unit_bytes u)) us
@@ -68,6 +70,7 @@ IsOutcomeAt s (BeyondLast k) bytes (Fault kind.Long) = ⊥
 IsOutcomeAt s (BeyondLast k) bytes (Fault kind.Broken) = ⊥
 IsOutcomeAt s (BeyondLast k) bytes (Fault kind.Beyond) = Unit {0}
 
+-- a piece has this outcome
 abbrev pub IsOutcome : FoundPiece → PieceOutcome → Type 0
 IsOutcome p o = IsOutcomeAt p.plan p.number p.bytes o
 
@@ -88,6 +91,7 @@ outcome_readings s (BeyondLast k) o = []
 abbrev pub readings_of : FoundPiece → PieceOutcome → List Reading
 readings_of p o = outcome_readings p.plan p.number o
 
+-- the number itself, beyond the last interval or not
 abbrev pub value_of : PieceNumber → ℕ
 value_of (Interval k) = k
 value_of (BeyondLast k) = k

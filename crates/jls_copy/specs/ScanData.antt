@@ -47,9 +47,11 @@ pub record ScanCut : Type 0 where
   pub last : List ℕ
   pub end : ScanEnd
 
+-- the bytes of a piece with the mark that closes it
 abbrev pub closed_bytes : ClosedPiece → List ℕ
 closed_bytes c = c.piece ++ (fill_bytes c.fill ++ (0xFF ∷ (0xD0 + c.mark) ∷ []))
 
+-- the bytes behind the last piece, to the end of the input
 abbrev pub end_bytes : ScanEnd → List ℕ
 end_bytes (at_input count) = fill_bytes count
 end_bytes (at_marker fill code behind) = fill_bytes fill ++ (0xFF ∷ code ∷ behind)
@@ -58,9 +60,11 @@ end_bytes (at_marker fill code behind) = fill_bytes fill ++ (0xFF ∷ code ∷ b
 abbrev pub cut_bytes : ScanCut → List ℕ
 cut_bytes c = flat_map closed_bytes c.closed ++ (c.last ++ end_bytes c.end)
 
+-- the piece is one, and the mark is that of one of RST0 to RST7
 abbrev pub IsClosedPiece : ClosedPiece → Type 0
 IsClosedPiece c = IsPiece c.piece × (c.mark < 8)
 
+-- a marker that scan data ends at is one that ends scan data
 abbrev pub IsScanEnd : ScanEnd → Type 0
 IsScanEnd (at_input count) = Unit {0}
 IsScanEnd (at_marker fill code behind) = ends_scan_data code ≡ true

@@ -50,7 +50,7 @@ abbrev pub with_all : PartialPicture → List (Reading × List ℕ) → PartialP
 with_all p ks =
     record { shape = p.shape; readings = set.insert_all p.readings (map (λ k. k.0) ks); marks = set.insert_all p.marks (marks_of ks) }
 
--- with one source number more at each of these readings, and nothing else
+-- with one source number more at each of these readings, held or not, and nothing else
 abbrev pub with_marks : PartialPicture → ℕ → List Reading → PartialPicture
 with_marks p source rs = record { shape = p.shape; readings = p.readings; marks = set.insert_all p.marks (map (λ r. (r, source)) rs) }
 

@@ -8,7 +8,7 @@ use Rattle.jls_partial.specs.Marks.{mark_cmp}
 use Rattle.jls_partial.specs.Reading.{reading_cmp}
 use Rattle.jls_partial.specs.Status.{IsSettled}
 
--- it has the picture's shape, and says of a line nothing that the picture does not say
+-- it has the picture's shape, and each of its readings is one of the picture; the sources of the readings may be any
 pub record IsPartOf (picture part : PartialPicture) : Type 0 where
   pub shape : part.shape ≡ picture.shape
   pub readings : (component line : ℕ) (samples : List ℕ)
