@@ -1,7 +1,7 @@
 -- Entries without sources and partial pictures: entries in order are the entries of a partial with their readings, and the
 -- entries of a partial hold its readings.
 use Rattle.std.proofs.Common.{◌≡◌, ℕ, ◌+◌, ◌*◌, ◌<◌, ◌≤◌, ◌^◌, Bool, true, false, cond, ◌&&◌, ◌||◌, T, List, [], ◌∷◌, length, map, Option, Some, None, refl, ap, sym, subst, ◌∙◌, arith}
-use Rattle.std.specs.Prelude.{IfSome, unwrap_or, filter, nat_le, ◌==◌}
+use Rattle.std.specs.Prelude.{unwrap_or, filter, nat_le, ◌==◌}
 use Rattle.std.specs.declared.cmp.Ordering.{Ordering}
 use Rattle.std.specs.declared.cmp.Ordering.TheVariants.{Less, Equal, Greater}
 use Rattle.std.specs.Ordering.{nat_cmp, is_eq, is_lt, eq_by_cmp, ordering_then, ordering_reverse}
@@ -29,7 +29,7 @@ use Rattle.jls_partial.specs.Place.{place, place_cmp, place_of}
 use Rattle.jls_partial.specs.Reading.{Reading, reading_cmp}
 use Rattle.jls_partial.specs.ReadingOrder.{place_total, place_exact, reading_total, reading_exact, eq_reading, same_place}
 use Rattle.jls_partial.specs.Text.{places_held, bare_entries, IsPartial}
-use Rattle.jls_partial.proofs.Entries.{S, samples_at, any-entries, lookup_from_each}
+use Rattle.jls_partial.proofs.Entries.{S, samples_at, any-entries}
 use Rattle.jls_partial.proofs.ReadBack.{sorted-entries, eq_there, readings_kept, is_there}
 
 -- ---- sets

@@ -1,23 +1,22 @@
 -- What is kept at each place, and the set of readings that it makes.
-use Rattle.std.proofs.Common.{◌≡◌, ℕ, ◌<◌, ◌≤◌, ◌^◌, Bool, true, false, cond, ◌&&◌, ◌||◌, List, [], ◌∷◌, length, map, Option, Some, None, refl, ap, sym, subst, ◌∙◌, arith}
+use Rattle.std.proofs.Common.{◌≡◌, ℕ, ◌<◌, ◌^◌, Bool, true, false, cond, ◌&&◌, ◌||◌, List, [], ◌∷◌, length, map, Option, Some, None, refl, ap, sym, subst, ◌∙◌, arith}
 use Rattle.std.specs.Prelude.{IfSome, unwrap_or}
 use Rattle.std.specs.declared.cmp.Ordering.{Ordering}
-use Rattle.std.specs.declared.cmp.Ordering.TheVariants.{Less, Equal, Greater}
-use Rattle.std.specs.Ordering.{nat_cmp, is_eq, eq_by_cmp, match_ordering}
+use Rattle.std.specs.declared.cmp.Ordering.TheVariants.{Less}
+use Rattle.std.specs.Ordering.{nat_cmp, is_eq, eq_by_cmp}
 use Rattle.std.specs.Cmp.Lexicographic.{slice_cmp}
 use Rattle.jls_values.specs.OrderedSet.{OrderedSet, from_list, contains, insert}
 use Rattle.jls_values.specs.OrderedSetLaws.{same_set, contains-from_list, contains-insert}
 use Rattle.std.specs.List.{list_any, AllByRecursion}
 use Rattle.std.specs.List.Sorted.{IsStrictlySortedBy}
 use Rattle.std.specs.BTreeMap.{is_at}
-use Rattle.std.specs.BTreeSet.{insert_key}
 use Rattle.std.specs.Map.{lookup}
-use Rattle.std.proofs.lemmas.Cmp.{tied_itself, eq_by_cmp_equiv}
+use Rattle.std.proofs.lemmas.Cmp.{tied_itself}
 use Rattle.std.proofs.lemmas.List.Concat.{flat_map-cons}
 use Rattle.std.proofs.lemmas.List.Folds.{list_any-append}
 use Rattle.jls_values.specs.Shape.{PictureShape}
 use Rattle.jls_partial.specs.declared.place.Place.{Place}
-use Rattle.jls_partial.specs.Entries.{BareEntry, Entry, at_place, kept_at_place, kept_readings, readings_of_entries}
+use Rattle.jls_partial.specs.Entries.{BareEntry, at_place, readings_of_entries}
 use Rattle.jls_partial.specs.Held.{IsEntry, AreEntries}
 use Rattle.jls_partial.specs.InsertFaults.{reading_fault}
 use Rattle.jls_partial.specs.Partial.{PartialPicture, holds}

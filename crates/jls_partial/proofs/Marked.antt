@@ -12,7 +12,7 @@ use Rattle.jls_values.specs.OrderedSet as set
 use Rattle.jls_values.specs.OrderedSetLaws.{same_set, contains-items, contains-insert_all, insert_all-append}
 use Rattle.jls_partial.specs.Marks.{mark_cmp}
 use Rattle.jls_partial.specs.MarkLaws.{eq_mark}
-use Rattle.jls_partial.specs.Marking.{MarksSome, line_readings, readings_of_lines, readings_of_components}
+use Rattle.jls_partial.specs.Marking.{MarksSome, readings_of_lines, readings_of_components}
 use Rattle.jls_partial.specs.Partial.{PartialPicture, readings_at, with_all, with_marks, with_source}
 use Rattle.jls_partial.specs.Reading.{Reading, reading_of, reading_cmp}
 use Rattle.jls_partial.specs.ReadingOrder.{reading_total, marks_total, marks_exact, same_reading}

@@ -21,7 +21,7 @@ use Rattle.jls_partial.specs.Held.{IsEntry}
 use Rattle.jls_partial.specs.Packed.{Kept}
 use Rattle.jls_partial.specs.Place.{place, place_cmp}
 use Rattle.jls_partial.specs.ReadingOrder.{place_total}
-use Rattle.jls_partial.specs.Text.{reading_text, entry_text, entries}
+use Rattle.jls_partial.specs.Text.{reading_text, entry_text}
 use Rattle.jls_partial.specs.TextReading.{◌>>=◌, offset, byte_field, number_field, readings_fields, may_follow, place_fields, count_field, entry_fields, entries_fields}
 use Rattle.jls_partial.proofs.BareEntries.{first_none, line_of_entry}
 use Rattle.jls_partial.proofs.TextFields.{IsBytes, bind_ok, guard_ok, passed_ok, ok_is, Takes, Takes-then, wide16, wide64, number_takes, number_again, byte_takes, byte_again}

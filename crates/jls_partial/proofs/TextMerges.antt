@@ -1,6 +1,5 @@
 -- Texts as their heads and what stands behind these, and what reading one into a partial picture gives.
 use Rattle.std.proofs.Common.{◌≡◌, ℕ, Bool, true, false, cond, eqb, List, None, Result, Ok, Err, refl, ap, sym, subst, ◌∙◌, length}
-use Rattle.std.proofs.lemmas.Bool.{ne_eqb}
 use Rattle.std.specs.Int.{w32}
 use Rattle.jls_values.specs.Join.{IsBetween}
 use Rattle.jls_values.specs.SameShape.{same_shape}
@@ -84,14 +83,6 @@ pub head_fault : (e : TextFault) (bytes : List ℕ) → Fails e (head_fields byt
 head_fault e bytes h = subst (Fails e) (sym (text_is bytes)) (fails_then e (head_fields bytes) behind h)
 
 -- ---- all entries
-
-pub rest_trails : (size : ℕ) (p q : PartialPicture) (read : Result (List Entry × List ℕ) TextFault) (rest : List ℕ)
-    → with_entries p read ≡ Ok (q, rest) → (length rest ≡ 0 → ⊥) → with_rest size p read ≡ Err (fault.Trailing (offset size rest))
-rest_trails size p q read rest e some = ap (λ r. r >>= λ x. cond (eqb (length x.1) 0) (Ok x.0) (Err (fault.Trailing (offset size x.1)))) e ∙ rw (ne_eqb (length rest) 0 some) refl
-
-pub rest_ends : (size : ℕ) (p q : PartialPicture) (read : Result (List Entry × List ℕ) TextFault) (rest : List ℕ)
-    → with_entries p read ≡ Ok (q, rest) → length rest ≡ 0 → with_rest size p read ≡ Ok q
-rest_ends size p q read rest e none = ap (λ r. r >>= λ x. cond (eqb (length x.1) 0) (Ok x.0) (Err (fault.Trailing (offset size x.1)))) e ∙ rw none refl
 
 -- all readings were taken where bytes stand behind the last entry
 pub rest_taken : (size : ℕ) (version : Version) (shape : PictureShape) (count : ℕ) (bytes : List ℕ) (p q : PartialPicture) (rest : List ℕ)

@@ -5,11 +5,9 @@ use Rattle.std.specs.Ordering.{eq_by_cmp, is_eq}
 use Rattle.std.specs.List.{list_any}
 use Rattle.std.specs.BTreeMap.{is_at}
 use Rattle.std.proofs.lemmas.Bool.{leb-false, cases_lt, and_parts, or_left, or_right}
-use Rattle.std.specs.Cmp.{both_ways}
 use Rattle.std.proofs.lemmas.Cmp.{tied_itself}
 use Rattle.std.proofs.lemmas.List.Folds.{list_any-append}
 use Rattle.jls_values.specs.Shape.{PictureShape}
-use Rattle.jls_values.specs.Join.{IsBelow}
 use Rattle.jls_partial.specs.declared.insert_fault.InsertFault.{InsertFault}
 use Rattle.jls_partial.specs.declared.insert_fault.InsertFault.TheVariants.{Component, Line}
 use Rattle.jls_partial.specs.Entries.{at_place}
@@ -18,10 +16,10 @@ use Rattle.jls_partial.specs.Marking.{line_readings, readings_of_lines, readings
 use Rattle.jls_partial.specs.Partial.{PartialPicture}
 use Rattle.jls_partial.specs.Place.{place_cmp, place_of, place}
 use Rattle.jls_partial.specs.Reading.{Reading, reading_cmp, reading_of}
-use Rattle.jls_partial.specs.ReadingOrder.{place_total, reading_total, reading_exact, same_place, same_reading}
+use Rattle.jls_partial.specs.ReadingOrder.{place_total, same_place, same_reading}
 use Rattle.jls_partial.proofs.ReadBack.{is_there, eq_there}
 use Rattle.jls_values.specs.OrderedSet.{contains, items}
-use Rattle.jls_values.specs.OrderedSetLaws.{same_set, contains-items, contains-insert_all, contains-union}
+use Rattle.jls_values.specs.OrderedSetLaws.{contains-items}
 
 -- tests of which one implies the other, or excludes it
 absorb : (a b d : Bool) → (a ≡ true → b ≡ true) → (a || (b && d)) ≡ (b && (a || d))

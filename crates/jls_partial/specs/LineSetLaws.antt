@@ -1,6 +1,6 @@
 -- The union of line sets is a join.
 use Rattle.std.specs.Prelude.{◌≡◌, true, ◌==◌}
-use Rattle.std.proofs.Common.{refl, ap}
+use Rattle.std.proofs.Common.{refl}
 use Rattle.std.specs.Cmp.{IsTotalOrder, both_ways}
 use Rattle.std.specs.Cmp.Lexicographic.{slice_cmp}
 use Rattle.std.specs.Ordering.{nat_cmp}

@@ -1,6 +1,6 @@
 -- The union of partials is a join.
 use Rattle.std.specs.Prelude.{◌≡◌, ℕ, true, ◌==◌, nat_eq, List, [], ◌∷◌}
-use Rattle.std.proofs.Common.{refl, ap, subst}
+use Rattle.std.proofs.Common.{refl, subst}
 use Rattle.std.specs.Cmp.{nat_eq_equiv, both_ways}
 use Rattle.std.specs.Cmp.Lexicographic.{pointwise}
 use Rattle.std.proofs.lemmas.Bool.{eqb-true, and_parts}

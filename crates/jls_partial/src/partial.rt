@@ -9,7 +9,7 @@ ghost use Rattle.jls_partial.specs.Partial.{IsCountable, AreMarksHeld, AreSource
 ghost use Rattle.jls_partial.specs.Text.{entries};
 ghost use Rattle.jls_values.specs.OrderedSet as set;
 ghost use Rattle.std.specs.List.{AllByRecursion};
-ghost use Rattle.std.specs.Prelude.{◌≡◌, ◌<◌, ◌^◌, ◌∷◌, [], length, map, true, not, IfOk, IfSome, OnOk, OnErr, IsOk, Some, None};
+ghost use Rattle.std.specs.Prelude.{◌≡◌, ◌<◌, ◌∷◌, [], length, map, true, not, IfOk, IfSome, OnOk, OnErr, IsOk, Some, None};
 ghost use Rattle.std.specs.Prelude.{slice_get};
 
 use crate::insert_fault::{InsertFault, find_reading_fault};

@@ -193,6 +193,7 @@ pub(crate) struct Head<'a> {
     pub rest: &'a [u8],
 }
 
+/// Reads the fields before the entries, from the start of a text.
 #[tactic(auto, unfolding(crate::specs::TextInto::head_fields))]
 pub(crate) fn read_head(alloc: Global, bytes: &[u8]) -> Result<Head<'_>, TextFault>
     ensures { GivesText (λ h. (h.form.size, h.form.version, h.shape, h.count, h.rest.now)) result (head_fields bytes.now) }

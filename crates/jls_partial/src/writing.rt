@@ -5,7 +5,7 @@ ghost use Rattle.jls_partial.specs.Text.{head_text, samples_text, sources_text, 
 ghost use Rattle.jls_partial.specs.declared.version.Version.TheVariants.{Two};
 ghost use Rattle.std.specs.Int.{w16, w32, w64, to_be_bytes};
 ghost use Rattle.std.specs.List.{flat_map};
-ghost use Rattle.std.specs.Prelude.{◌≡◌, ◌∷◌, ◌++◌, length, IfOk, OnOk};
+ghost use Rattle.std.specs.Prelude.{◌≡◌, ◌∷◌, ◌++◌, IfOk, OnOk};
 
 use crate::lines::Lines;
 use crate::partial::Partial;

@@ -129,6 +129,7 @@ impl InputRead {
 /// The first byte of each text, and of no copy.
 const FIRST_OF_TEXT: u8 = 0x4A;
 
+/// Why an input is refused whose text has a fault.
 #[tactic(auto, using(crate::proofs::OneInput::other_input_fault))]
 pub(crate) fn input_fault(fault: TextFault) -> InputFault
     ensures { result ≡ input_fault_of fault }

@@ -1,3 +1,4 @@
 mod Numbers
+mod SimpleCommand
 pub mod WordsRead
-pub mod WordsTaken
+mod WordsTakenExamples

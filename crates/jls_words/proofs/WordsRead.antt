@@ -13,7 +13,7 @@ use Rattle.clap.specs.declared.error.Error.{Error}
 use Rattle.clap.specs.declared.error.kind.ErrorKind.TheVariants as kind
 use Rattle.jls_words.specs.Asking.{Asked, asked_by, asked_check, asked_join, asked_show, asked_write, options_of}
 use Rattle.jls_words.specs.Words.{AreRefused, AreTaken, salvage_app}
-use Rattle.jls_words.proofs.WordsTaken.{is_simple_command, is_simple_program}
+use Rattle.jls_words.proofs.SimpleCommand.{is_simple_command, is_simple_program}
 
 -- the name and the rows, from both
 both_parts : {X : Type 0} (name_of : X → Text) (rows_in : X → List Row) (o : Option X) (name : Text) (rows : List Row)

@@ -106,6 +106,15 @@ pub const SINGLE_SAMPLES: [(u16, u8); 13] = [
     (255, 0x40),
 ];
 
+/// Precision, MAXVAL, a sample, and the piece of an interval that has nothing else.
+pub const OTHER_PARAMETERS: [(u8, u16, u16, &[u8]); 5] = [
+    (2, 0, 3, &[0x40]),
+    (2, 0, 1, &[0x60]),
+    (2, 0, 2, &[0x20]),
+    (16, 0, 65535, &[0x40, 0x00]),
+    (8, 15, 15, &[0x40]),
+];
+
 #[test]
 fn single_samples(rt: HostRuntime) -> Result<(), Fail> {
     let alloc = rt.alloc();
@@ -121,15 +130,7 @@ fn single_samples(rt: HostRuntime) -> Result<(), Fail> {
 
 #[test]
 fn other_parameters(rt: HostRuntime) -> Result<(), Fail> {
-    // Precision, MAXVAL, a sample, and the piece of an interval that has nothing else.
-    let rows: [(u8, u16, u16, &[u8]); 5] = [
-        (2, 0, 3, &[0x40]),
-        (2, 0, 1, &[0x60]),
-        (2, 0, 2, &[0x20]),
-        (16, 0, 65535, &[0x40, 0x00]),
-        (8, 15, 15, &[0x40]),
-    ];
-    for (precision, maxval, sample, piece) in rows {
+    for (precision, maxval, sample, piece) in OTHER_PARAMETERS {
         let params = Params::new(precision, maxval, 0, 0, 0, 0)?;
         assert!(rt;
             reads_as(

@@ -1,6 +1,6 @@
 //! Lines, and the bytes that they are written as.
 
-use super::decoding::SINGLE_SAMPLES;
+use super::decoding::{OTHER_PARAMETERS, SINGLE_SAMPLES};
 use jls_interval::*;
 use jls_values::Params;
 use std::alloc::{AllocError, Global};
@@ -68,15 +68,7 @@ fn single_samples(rt: HostRuntime) -> Result<(), Fail> {
 
 #[test]
 fn other_parameters(rt: HostRuntime) -> Result<(), Fail> {
-    // Precision, MAXVAL, a sample, and the bytes of an interval that has nothing else.
-    let rows: [(u8, u16, u16, &[u8]); 5] = [
-        (2, 0, 3, &[0x40]),
-        (2, 0, 1, &[0x60]),
-        (2, 0, 2, &[0x20]),
-        (16, 0, 65535, &[0x40, 0x00]),
-        (8, 15, 15, &[0x40]),
-    ];
-    for (precision, maxval, sample, bytes) in rows {
+    for (precision, maxval, sample, bytes) in OTHER_PARAMETERS {
         let params = Params::new(precision, maxval, 0, 0, 0, 0)?;
         assert!(rt;
             alone_as(rt.alloc(), &params, 1, &[&[sample]], bytes)?,

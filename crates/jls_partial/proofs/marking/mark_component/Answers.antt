@@ -1,6 +1,6 @@
 use Rattle.std.proofs.Common.{◌<◌, ◌∙◌, ℕ, length, ap, sym, subst, arith, add-one}
 use Rattle.std.proofs.lemmas.Result.{err_from_is_err_and}
-use Rattle.jls_partial.specs.Marking.{line_readings, readings_of_lines, readings_of_components}
+use Rattle.jls_partial.specs.Marking.{line_readings, readings_of_lines}
 use Rattle.jls_partial.specs.Partial.{PartialPicture, with_marks}
 use Rattle.jls_partial.proofs.Marked.{with_marks-append, marks_then, lines_held}
 use Rattle.jls_partial.proofs.marking.mark_component.Goals as goal

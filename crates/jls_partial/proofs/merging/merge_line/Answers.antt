@@ -1,4 +1,4 @@
-use Rattle.std.proofs.Common.{◌≡◌, ◌<◌, ◌++◌, ◌∷◌, [], ◌∙◌, List, ℕ, None, length, map, take, drop, ap, sym, subst, arith}
+use Rattle.std.proofs.Common.{◌≡◌, ◌<◌, ◌∷◌, [], ◌∙◌, List, ℕ, None, length, map, take, drop, ap, sym, subst, arith}
 use Rattle.std.proofs.lemmas.List.{map-append, append-nil, length-map, take_at, take-append-drop}
 use Rattle.std.proofs.lemmas.Result.{err_from_is_err_and}
 use Rattle.jls_values.specs.OrderedSet.{items}
@@ -6,7 +6,6 @@ use Rattle.jls_values.specs.Shape.{PictureShape}
 use Rattle.jls_partial.specs.Entries.{kept_at_place}
 use Rattle.jls_partial.specs.InsertFaults.{reading_fault}
 use Rattle.jls_partial.specs.LineSet.{kept_lines, line_sources}
-use Rattle.jls_partial.specs.Merging.{TakesFront}
 use Rattle.jls_partial.specs.Packed.{Kept}
 use Rattle.jls_partial.specs.Partial.{PartialPicture, with_all}
 use Rattle.jls_partial.proofs.Growth.{kept_more, with_all-append}

@@ -1,9 +1,8 @@
--- Words that clap does read as commands: the premises of the theorems on `run` hold of them.
-use Rattle.std.proofs.Common.{◌≡◌, true, false, List, [], ◌∷◌, Some, None, refl, inl}
+-- Words that clap reads as commands: the premises of the theorems on `run` hold of them.
+use Rattle.std.proofs.Common.{true, false, List, [], ◌∷◌, Some, None, refl, inl}
 use Rattle.std.specs.Prelude.{codes}
-use Rattle.clap.specs.Words.{Text, is_simple, is_simple_and_free}
+use Rattle.clap.specs.Words.{Text}
 use Rattle.clap.proofs.OnLiterals.{clap_on_literals}
-use Rattle.jls_words.specs.Words.{salvage_app}
 use Rattle.jls_words.specs.Asking.{AskFor, AskForNothing, check, join, show, write_pnm, write_jls}
 
 -- `jls-salvage join OUT A B`
@@ -21,15 +20,6 @@ one_file command = codes "jls-salvage" ∷ command ∷ codes "A" ∷ []
 -- `jls-salvage write --as FORMAT OUT A`
 abbrev pub as_format : Text → List Text
 as_format format = codes "jls-salvage" ∷ codes "write" ∷ codes "--as" ∷ format ∷ codes "OUT" ∷ codes "A" ∷ []
-
--- clap's definition fits the program: it is a simple command, with no rule between its arguments
-pub is_simple_command : is_simple_and_free salvage_app ≡ true
-unfolding clap_on_literals
-is_simple_command = refl
-
-pub is_simple_program : is_simple salvage_app ≡ true
-unfolding clap_on_literals
-is_simple_program = refl
 
 pub two_files-join : AskFor two_files (join None (codes "OUT") (codes "A" ∷ codes "B" ∷ []))
 unfolding clap_on_literals
