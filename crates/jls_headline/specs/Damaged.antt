@@ -1,4 +1,5 @@
--- Damaged copies of a picture: whole restart intervals can be lost, and a piece that is damaged gives no lines but the picture's.
+-- Damaged copies of a picture: whole restart intervals can be lost, and each piece, under the headers that the copy has, gives no lines
+-- but the picture's.
 use Rattle.std.specs.Prelude.{◌≡◌, ℕ, List, [], ◌∷◌, length, take, Some}
 use Rattle.std.specs.List.{AllByRecursion}
 use Rattle.jls_marker.specs.Scan.{Scan, intervals}

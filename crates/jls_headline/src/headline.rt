@@ -11,13 +11,13 @@ use jls_picture::{Picture, pictures_are_whole};
 /// A law, the one that this product is trusted for. Stations of one shape that took the same copies, in any order and with any repeats,
 /// hold for every component and line the same readings, exactly the ones that those copies give; their reports, their pictures, and the
 /// PNM files and JPEG-LS files of these are the same. Taken under the same sources, the stations and their texts are the same, and each
-/// reading has exactly the sources of the copies that give it. A copy is the bytes that its source gave, in whatever lengths. Where the
+/// reading has exactly the sources of the copies that give it. A copy is the bytes that were read of it, in whatever lengths. Where the
 /// copies are damaged copies of one picture and every line survives in some copy, each line of the station is settled, and they are that
 /// picture; and the JPEG-LS file that is written of it, under any options that fit, reads as that picture and no other.
 ///
 /// A damaged copy may have lost whole restart intervals, fewer than eight restart markers in a row before one that is seen. The markers
-/// that are seen must be true ones, and a piece that is damaged must read as no lines but the picture's: for pieces that were only cut
-/// off, or run on, this is proved (`trimmed_copies_are_damaged`).
+/// that are seen must be true ones, and no piece must read as other lines than the picture's, be it damaged itself or stand behind a header
+/// that was changed: for pieces behind true headers that were only cut off, or run on, this is proved (`trimmed_copies_are_damaged`).
 pub fn same_copies_give_the_picture()
     ensures same { SameCopiesSameReadings }
     ensures same_sources { SameSourcesSameText }

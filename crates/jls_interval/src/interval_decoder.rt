@@ -262,8 +262,9 @@ impl IntervalDecoder {
         self.outcome()
     }
 
-    /// What the bytes give where the input ends behind them: the lines that they read as, or why there are none, with the lines of
-    /// their head, as `finish` would answer. The only refusal is out of memory, where a push was refused. No memory is taken.
+    /// What the bytes give where the input ends behind them: the lines that they read as; or, where they read as none, the fault that
+    /// `finish` would answer, with the lines of their head. The only refusal is out of memory, where a push was refused. No memory is
+    /// taken.
     pub fn finish_cut(self) -> Result<CutEnd, AllocError>
         ensures refused { IfNone self.bytes (IsErr result) }
         ensures cut_end { IfSome self.bytes (λ bytes. MatchResult result

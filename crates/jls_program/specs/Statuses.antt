@@ -85,7 +85,7 @@ inputs_of (show name) = name ∷ []
 inputs_of (write_pnm out name) = name ∷ []
 inputs_of (write_jls line rows out name) = name ∷ []
 
--- an input of this name, behind those that gave the list, was opened and read to its end, and its bytes are refused: they begin as a
+-- an input of this name, behind those that gave the list, was opened and read whole, and its bytes are refused: they begin as a
 -- text and are none, or no frame is taken in them; or what it gave has another shape than the first
 pub data IsUnfit : Option ℕ → List Given → Text → List Event → Type 0 where
   no_picture : (source : Option ℕ) (before : List Given) (name : Text) (bytes : List ℕ) (f : InputFault) (reads : List Event)

@@ -41,8 +41,9 @@ pub fn words_are_behind_status_2()
     ensures { WordsAreBehindStatus2 }
 {}
 
-/// If a run ends with status 3, the inputs before one that the words name were taken; that one was opened and read to its end, and it
-/// is no text of a partial picture or a copy in which no frame was taken, or has another shape than the first; and nothing else was done.
+/// If a run ends with status 3, the inputs before one that the words name were taken; that one was opened, and either it was read whole and
+/// is neither the text of a partial picture nor a copy in which a frame was taken, or what was read of it has another shape than the first;
+/// and nothing else was done.
 pub fn inputs_are_behind_status_3()
     ensures { InputsAreBehindStatus3 }
 {}

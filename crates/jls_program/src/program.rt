@@ -18,8 +18,8 @@ use std::alloc::Global;
 ///   its output is not created;
 /// - 2: the words were not understood, or an interval of a JPEG-LS file would be too large;
 /// - 3: an input is no copy with a picture and not the text of a partial picture, or shapes differ;
-/// - 4: an input can't be opened or read, the output can't be created, or a write failed; or the command is done, but a read of
-///   a copy failed behind its frame;
+/// - 4: an input can't be opened or read, the output can't be created, or a write failed; or the command is done, but a copy was not read
+///   whole: behind its frame a read failed, or the reads were used up;
 /// - 5: out of memory.
 ///
 /// The texts of help, usage and version are clap's. That there is one, and what it says, is tested and not proved.

@@ -108,7 +108,7 @@ impl InputRead {
         self.copy.as_ref()
     }
 
-    /// Whether the input was read to its end, as every text is.
+    /// Whether the input was read whole (`ReadStop::Whole`), as every text is.
     pub fn is_whole(&self) -> bool
         ensures { IsTrue result ↔ (self.now.stop ≡ Whole) }
     {

@@ -37,7 +37,7 @@ pub struct Refusal<'a> {
 #[derive(Clone, Copy, Debug, PartialEq, Eq)]
 pub enum Outcome<'a> {
     /// It is done. `settled` is true if and only if every line of what it made is settled, and `whole` if and only if
-    /// every input was read to its end.
+    /// every input was read whole (`ReadStop::Whole`).
     Done { settled: bool, whole: bool },
     /// It stopped before it was done.
     Refused(Refusal<'a>),
@@ -66,7 +66,7 @@ impl Cause {
 impl Outcome<'_> {
     ghost use Rattle.jls_station.specs.Outcomes.{exit_status};
 
-    /// The exit status: for a command that is done 4 if an input was not read to its end, else 0 if every line is settled
+    /// The exit status: for a command that is done 4 if an input was not read whole, else 0 if every line is settled
     /// and 1 if not; for a refusal that of its cause.
     pub fn status(self) -> u8
         ensures { result ≡ exit_status self.entry }
