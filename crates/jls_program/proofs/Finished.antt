@@ -169,7 +169,7 @@ write_finished : (format : Format) (out name : Text) (outcome : Outcome) (events
     → (g : Given) × WriteRan format out name g desk desk' × (fault_line outcome ≡ [])
 write_finished format out name _ _ desk desk' (writing.done _ _ _ g whole reading written taken settled says fit handed) e is =
     let s = done_status true whole g.partial says.settled_is (omega (arith, is)) in
-    (g, record { reading = reading; writing = written; grew = e; taken = taken; whole = says.whole_is.0 s.1; settled = settled; handed = handed }, refl)
+    (g, record { reading = reading; writing = written; grew = e; taken = taken; whole = says.whole_is.0 s.1; settled = settled; fits = fit; handed = handed }, refl)
 write_finished format out name _ events desk desk' (writing.at_input _ _ _ r _ named h) e is =
     let k = status_at_input None [] name r.cause events h in absurd (omega (arith, k, is))
 write_finished format out name _ events desk desk' (writing.unsettled _ _ _ r g f _ named taken first because) e is =

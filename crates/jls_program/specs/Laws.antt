@@ -12,7 +12,7 @@ use Rattle.jls_station.specs.Joining.{JoinIsDone}
 use Rattle.jls_station.specs.Outputs.{HandsOut}
 use Rattle.jls_station.specs.declared.input.ReadStop.TheVariants.{Whole}
 use Rattle.jls_commands.specs.Telling.{lines}
-use Rattle.jls_commands.specs.WritingFiles.{file}
+use Rattle.jls_commands.specs.WritingFiles.{file, FitsFormat}
 use Rattle.jls_commands.specs.declared.writing.Format.{Format}
 use Rattle.jls_commands.specs.declared.writing.Format.TheVariants.{Pnm, Jls}
 use Rattle.jls_words.specs.Asking.{Asked, AskFor, check, join, show, write_pnm, write_jls}
@@ -27,9 +27,8 @@ pub record JoinRan (source : Option ℕ) (out : Text) (names : List Text) (joine
   pub is_done : JoinIsDone source out names joined settled true events
   pub status_is : (status ≡ 0) ↔ IsSettled joined
 
--- Where the words ask for a join and the status is 0 or 1, the join is done under the source that they name, with status 0
--- exactly where each line is
--- settled; and nothing is reported or printed
+-- Where the words ask for a join and the status is 0 or 1, the join is done under the source that they name, with status 0 exactly where
+-- each line is settled; and nothing is reported or printed
 abbrev pub DoneJoinsRan : Type 0
 DoneJoinsRan =
     (words : List Text) (status : ℕ) (desk desk' report report' faults faults' : History)
@@ -68,8 +67,8 @@ abbrev pub written_as : Format → Text → Text → Asked
 written_as Pnm out name = write_pnm out name
 written_as (Jls line ri) out name = write_jls line ri out name
 
--- a run of `write` that is done: the input was read whole, and each of its lines is settled; then the output was created, and
--- handed exactly the file of the picture
+-- a run of `write` that is done: the input was read whole, each of its lines is settled, and the options fit the picture; then the output
+-- was created, and handed exactly the file of the picture
 pub record WriteRan (f : Format) (out name : Text) (g : Given) (desk desk' : History) : Type 0 where
   pub reading : List Event
   pub writing : List Event
@@ -77,6 +76,7 @@ pub record WriteRan (f : Format) (out name : Text) (g : Given) (desk desk' : His
   pub taken : IsTaken None name g reading
   pub whole : g.stop ≡ Whole
   pub settled : IsSettled g.partial
+  pub fits : FitsFormat f (picture_of g.partial)
   pub handed : HandsOut out (file f (picture_of g.partial)) writing
 
 -- Where the words ask for a file and the status is 1, the input was taken, and nothing else was done with the desk: so no output was

@@ -23,8 +23,8 @@ pub fn done_shows_ran()
     ensures { DoneShowsRan }
 {}
 
-/// If the words of a run ask for a file and the run ends with status 0, the input was read whole, each of its lines is
-/// settled, the output was created after that and handed exactly the file, and nothing was reported or printed as a fault.
+/// If the words of a run ask for a file and the run ends with status 0, the input was read whole, each of its lines is settled and the
+/// options fit its picture, the output was created after that and handed exactly the file, and nothing was reported or printed as a fault.
 pub fn done_writes_ran()
     ensures { DoneWritesRan }
 {}
