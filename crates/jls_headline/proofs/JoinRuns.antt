@@ -23,7 +23,7 @@ use Rattle.jls_headline.specs.Damaged.{Damaged}
 use Rattle.jls_headline.specs.Stations.{HasShape, HoldsExactly, began, IsSameCopy, AreAmong, TookInTheEnd}
 use Rattle.jls_headline.specs.Sources.{SourcedCopy, HoldsExactlyUnder, AreAmongUnder}
 use Rattle.jls_headline.specs.SourceLaws.{sourced_copy}
-use Rattle.jls_headline.specs.RunLaws.{AreNoTexts, InputStandsFor, InputsStand, InputsStandFor, InputStandsUnder, InputsStandUnder, RunsHoldExactly, RunsWithTextsHoldExactly, RunsSayTheSame, RunsGiveThePicture, RunsWithTextsGiveThePicture, RunsHoldExactlyUnder, RunsUnderSourcesHandOutTheSame}
+use Rattle.jls_headline.specs.RunLaws.{AreNoTexts, InputStandsFor, InputsStand, InputsStandFor, InputStandsUnder, InputsStandUnder, RunsHoldExactly, RunsWithTextsHoldExactly, RunsSayTheSame, RunsWithTextsSayTheSame, RunsGiveThePicture, RunsWithTextsGiveThePicture, RunsHoldExactlyUnder, RunsUnderSourcesHandOutTheSame}
 use Rattle.jls_partial.specs.Reading.{Reading}
 use Rattle.jls_headline.proofs.Members.{is_first, none_in, all_at, all_map, in_map, of_map}
 use Rattle.jls_headline.proofs.ScansInRange.{same_frame}
@@ -207,6 +207,12 @@ among_under source source' copies others e among copy c =
       ap (λ (x : SourcedCopy). x.source) (sym from.2) ∙ e,
       subst (λ (x : SourcedCopy). IsSameCopy x.bytes there.0) from.2 there.2,
     )
+
+pub runs_with_texts_say_the_same : RunsWithTextsSayTheSame
+runs_with_texts_say_the_same source out names joined settled whole events h source' out' names' joined' settled' whole' events' h' copies others stand stand' shape same =
+    let one = runs_with_texts_hold_exactly source out names joined settled whole events h copies stand in
+    let other = runs_with_texts_hold_exactly source' out' names' joined' settled' whole' events' h' others stand' in
+    say_the_same joined joined' shape (same_readings joined joined' copies others one other same.0 same.1)
 
 pub runs_say_the_same : RunsSayTheSame
 runs_say_the_same source out names joined settled whole events h none source' out' names' joined' settled' whole' events' h' none' same =

@@ -61,6 +61,18 @@ RunsSayTheSame =
     → SameCopies (input_bytes events) (input_bytes events')
     → SayTheSame joined joined' × (source ≡ source' → text joined ≡ text joined')
 
+-- So too where texts are among the inputs: two runs of one shape whose inputs stand for the same copies, from whatever sources, join what
+-- holds and says the same
+abbrev pub RunsWithTextsSayTheSame : Type 0
+RunsWithTextsSayTheSame =
+    (source : Option ℕ) (out : List ℕ) (names : List (List ℕ)) (joined : PartialPicture) (settled whole : Bool) (events : List Event)
+    → JoinIsDone source out names joined settled whole events
+    → (source' : Option ℕ) (out' : List ℕ) (names' : List (List ℕ)) (joined' : PartialPicture) (settled' whole' : Bool)
+    (events' : List Event)
+    → JoinIsDone source' out' names' joined' settled' whole' events'
+    → (copies others : List (List ℕ)) → InputsStandFor (input_bytes events) copies → InputsStandFor (input_bytes events') others
+    → joined.shape ≡ joined'.shape → SameCopies copies others → SayTheSame joined joined'
+
 -- Where the inputs of a run that is done are damaged copies of one picture and every line survives in some input, each line of what it
 -- joins is settled, and they are that picture; and the JPEG-LS file that is written of it reads as that picture and no other
 abbrev pub RunsGiveThePicture : Type 0

@@ -1,7 +1,7 @@
 //! The headline for whole runs of `join`, and of `write` after it. Each law is a function that does nothing and whose contract is the law.
 
 ghost use Rattle.jls_headline.specs.RunLaws.{RunsHoldExactly, RunsSayTheSame, RunsGiveThePicture};
-ghost use Rattle.jls_headline.specs.RunLaws.{RunsWithTextsHoldExactly, RunsWithTextsGiveThePicture};
+ghost use Rattle.jls_headline.specs.RunLaws.{RunsWithTextsHoldExactly, RunsWithTextsSayTheSame, RunsWithTextsGiveThePicture};
 ghost use Rattle.jls_headline.specs.RunLaws.{RunsHoldExactlyUnder, RunsUnderSourcesHandOutTheSame};
 ghost use Rattle.jls_headline.specs.JoinThenWrite.{WrittenJoinsAreThePicture, WrittenJoinsReadAsThePicture, WrittenJoinsAreSettled};
 
@@ -17,13 +17,15 @@ pub fn joined_copies_give_the_picture()
 {}
 
 /// A law: the same where texts are among the inputs, each of which stands for the copies of which its partial picture holds exactly the
-/// readings. So stations that hand on what they hold as texts come to what all their copies give.
+/// readings. So stations that hand on what they hold as texts come to what all their copies give; and two such runs of one shape, over the
+/// same copies from whatever sources, join what holds and says the same.
 /// Each reading has exactly the sources of the copies that give it, where texts stand for copies under sources; and two such runs of one
 /// shape, over the same copies under the same sources, hand the same bytes to their outputs.
 pub fn joined_texts_give_the_picture()
     ensures exactly { RunsWithTextsHoldExactly }
     ensures sources { RunsHoldExactlyUnder }
     ensures same { RunsUnderSourcesHandOutTheSame }
+    ensures say_the_same { RunsWithTextsSayTheSame }
     ensures damaged { RunsWithTextsGiveThePicture }
 {}
 

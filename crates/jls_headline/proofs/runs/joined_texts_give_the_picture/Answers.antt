@@ -1,4 +1,4 @@
-use Rattle.jls_headline.proofs.JoinRuns.{runs_with_texts_hold_exactly, runs_hold_exactly_under, runs_under_sources_hand_out_the_same, runs_with_texts_give_the_picture}
+use Rattle.jls_headline.proofs.JoinRuns.{runs_with_texts_hold_exactly, runs_hold_exactly_under, runs_under_sources_hand_out_the_same, runs_with_texts_say_the_same, runs_with_texts_give_the_picture}
 use Rattle.jls_headline.proofs.runs.joined_texts_give_the_picture.Goals as goal
 
 pub returns-clause-exactly : goal.returns-clause-exactly
@@ -9,6 +9,9 @@ returns-clause-sources c = runs_hold_exactly_under
 
 pub returns-clause-same : goal.returns-clause-same
 returns-clause-same c = runs_under_sources_hand_out_the_same
+
+pub returns-clause-say_the_same : goal.returns-clause-say_the_same
+returns-clause-say_the_same c = runs_with_texts_say_the_same
 
 pub returns-clause-damaged : goal.returns-clause-damaged
 returns-clause-damaged c = runs_with_texts_give_the_picture
