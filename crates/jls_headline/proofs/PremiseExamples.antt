@@ -6,7 +6,7 @@ use Rattle.std.proofs.lemmas.List.FromFn.{length-map-range_with_len}
 use Rattle.jls_values.specs.OrderedSet as set
 use Rattle.jls_values.specs.OrderedSetLaws.{contains-empty}
 use Rattle.jls_values.specs.Join.{IsBetween}
-use Rattle.jls_values.specs.Params.{least_from}
+use Rattle.jls_values.specs.Params.{CodingParameters, least_from}
 use Rattle.jls_values.specs.SameShape.{same_shape}
 use Rattle.jls_bits.specs.Bits.{bits, width_after, bits_read, bits_read_after, ends_data, is_whole, is_whole_after}
 use Rattle.jls_bits.specs.Golomb.{golomb}
@@ -21,6 +21,7 @@ use Rattle.jls_interval.specs.Runs.{block_columns, full_blocks, blocks, run_inde
 use Rattle.jls_interval.specs.Code.{event_bits, bits_of_events, code}
 use Rattle.jls_interval.specs.Heads.{BeginsWithFirst, AreWholeLines}
 use Rattle.jls_interval.specs.Laws.{IsCutCode}
+use Rattle.jls_interval.specs.Reads.{Reads}
 use Rattle.jls_interval.proofs.HeadLines.{read_has_none}
 use Rattle.jls_values.specs.Shape.{PictureShape}
 use Rattle.jls_partial.specs.Partial.{PartialPicture, nothing_known, has_same_shape, union}
@@ -178,3 +179,31 @@ no_head_of_the_picture h =
 reads_as_none : ReadsAsPictureOrNone pic both_lines 0 (0x50 ∷ [])
 reads_as_none lines reads =
     absurd (let e = ap length (read_has_none bits_8 1 1 2 are_parameters (lit< tt) (0x50 ∷ []) lines ((1 ∷ []) ∷ []) reads another_head) in omega (arith, e))
+
+-- A whole piece behind a changed header --------------------------------------------------------------------------
+
+-- MAXVAL is 15, where the picture was written with 255
+abbrev small_samples : CodingParameters
+small_samples = record { precision = 8; maxval = 15; t1 = 2; t2 = 3; t3 = 4; reset = 64 }
+
+abbrev changed : Scan
+changed = record { components = 0 ∷ []; params = small_samples; width = 1; height = 2; restart_interval = 1 }
+
+-- so 0x40, which nothing has damaged, reads as the sample 15
+record ReadBehind : Type 0 where
+  fifteen_read : Reads small_samples 1 1 1 (0x40 ∷ []) ((15 ∷ []) ∷ [])
+
+read_behind : ReadBehind
+unfolding least_from bits width_after golomb quantized_gradient is_negative context modulo_reduced corrected_prediction golomb_k updated run_updated events_from events_after cell_before run_cell_before block_columns full_blocks blocks run_index_before event_bits bits_of_events code bits_read_after is_whole_after ends_data
+read_behind = record {
+  fifteen_read = record {
+    unread = replicate 5 false;
+    begins = record { are_bytes = (lit< tt, tt); are_lines = record { count_is = refl; each = ((refl, (lit≤ tt, tt)), tt) }; data_bits = record { whole = refl; read = refl } };
+    at_most_seven = lit≤ tt;
+  };
+}
+
+-- which is no line of the picture
+another_line_read : ReadsAsPictureOrNone pic changed 1 (0x40 ∷ []) → ⊥
+another_line_read h =
+    (let e = ap (λ (lines : List (List ℕ)). get_or (get_or lines 0 []) 0 0) (h ((15 ∷ []) ∷ []) read_behind.fifteen_read) in omega (arith, e))
