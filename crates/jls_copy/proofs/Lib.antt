@@ -25,3 +25,4 @@ pub mod HeadersKept
 pub mod ScansOfCourse
 pub mod BytesDecide
 pub mod FinalEnds
+mod TellingLaws

@@ -1,9 +1,9 @@
 -- The computed number is the least one, and marks with short gaps give the true numbers back.
-use Rattle.std.proofs.Common.{◌≡◌, ℕ, ◌+◌, ◌-◌, ◌<◌, ◌≤◌, ◌%◌, true, [], ◌∷◌, refl, ap, arith}
+use Rattle.std.proofs.Common.{◌≡◌, ℕ, ◌+◌, ◌-◌, ◌<◌, ◌≤◌, ◌%◌, true, false, [], ◌∷◌, refl, ap, arith}
 use Rattle.std.specs.Prelude.{nat_lt}
 use Rattle.std.proofs.lemmas.Bool.Decides.{nat_tests}
 use Rattle.jls_copy.specs.Numbers.{next_number, Interval, mark_before}
-use Rattle.jls_copy.specs.CutLaws.{NumbersAreLeast, LostMarksAreBridged}
+use Rattle.jls_copy.specs.CutLaws.{NumbersAreLeast, LostMarksAreBridged, MarksBeyondChangeNothing}
 
 number_above : (last m : ℕ) → last < next_number last m
 number_above last m = omega arith
@@ -31,3 +31,7 @@ lost_marks_are_bridged intervals last (number ∷ more) rise =
     let given : next_number last (mark_before number) ≡ number = number_given_back last number rise.0 rise.1 in
     let below : nat_lt number intervals ≡ true = grind (arith, nat_tests) in
     rw (given, below) (ap (λ numbers. Interval number ∷ numbers) (lost_marks_are_bridged intervals number more rise.3))
+
+pub marks_beyond_change_nothing : MarksBeyondChangeNothing
+marks_beyond_change_nothing intervals last m marks beyond =
+    let above : nat_lt (next_number last m) intervals ≡ false = grind (arith, nat_tests, beyond) in rw above refl

@@ -85,7 +85,7 @@ found : (n c : ℕ) (more : List ℕ) → c ≢ 255 → marker_at (fill_bytes n 
 found zero c more ne = code_fills 0 0 c more ne
 found (suc n) c more ne = ap (code_after 0) (fills_more n (c ∷ more)) ∙ code_fills 0 (suc n) c more ne ∙ ap (λ m. marker m c more) (omega arith)
 
-segment_not_fill : (c : ℕ) → has_segment c ≡ true → c ≢ 255
+pub segment_not_fill : (c : ℕ) → has_segment c ≡ true → c ≢ 255
 unfolding has_segment
 segment_not_fill c s e = let f : has_segment 255 ≡ true = subst (λ x. has_segment x ≡ true) e s in cc
 

@@ -18,4 +18,5 @@ pub mod Tells
 pub mod ReaderLaws
 pub mod Conclusion
 pub mod CopyReads
+pub mod TellingLaws
 pub mod CopyLaws

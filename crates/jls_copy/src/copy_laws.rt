@@ -1,6 +1,7 @@
 //! The laws of what a copy gives. Each is a function that does nothing and whose contract is the law.
 
 ghost use Rattle.jls_copy.specs.CopyLaws.{BytesDecide, FinalEndsStay};
+ghost use Rattle.jls_copy.specs.TellingLaws.{RecordsAreOfFaultyPieces};
 
 /// A law: what a copy gives, or that it gives no picture and why, is determined by its bytes.
 pub fn bytes_decide()
@@ -11,4 +12,10 @@ pub fn bytes_decide()
 /// leave its course as it is.
 pub fn final_ends_stay()
     ensures { FinalEndsStay }
+{}
+
+/// A law: each piece of a copy's course reads as the lines of its interval, or it has a record, with its scan, its number, its offset and
+/// why it doesn't; and no other record is counted. The first 4,096 of these records are those that are told.
+pub fn records_are_of_faulty_pieces()
+    ensures { RecordsAreOfFaultyPieces }
 {}

@@ -1,6 +1,6 @@
 //! The laws of scan data. Each is a function that does nothing and whose contract is the law.
 
-ghost use Rattle.jls_copy.specs.CutLaws.{OneCut, UnitsAreCut, NumbersAreLeast, LostMarksAreBridged};
+ghost use Rattle.jls_copy.specs.CutLaws.{OneCut, UnitsAreCut, NumbersAreLeast, LostMarksAreBridged, MarksBeyondChangeNothing};
 
 /// A law: every list of bytes that begins where scan data does is cut into pieces and marks in exactly one way (T.81 B.1.1.2
 /// and B.2.1).
@@ -25,4 +25,10 @@ pub fn numbers_are_least()
 /// of a copy get these numbers is a law of the crate `jls_headline`.
 pub fn lost_marks_are_bridged()
     ensures { LostMarksAreBridged }
+{}
+
+/// A law of lists of marks: a mark whose number is beyond the last interval gives that number to the piece behind it, and leaves the
+/// numbers of all later pieces as they were without it.
+pub fn marks_beyond_change_nothing()
+    ensures { MarksBeyondChangeNothing }
 {}

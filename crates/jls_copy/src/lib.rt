@@ -15,10 +15,14 @@ mod place;
 mod reader;
 mod scan;
 
-pub use copy_laws::{bytes_decide, final_ends_stay};
-pub use course_laws::{copies_have_one_course, every_copy_has_a_course};
+pub use copy_laws::{bytes_decide, final_ends_stay, records_are_of_faulty_pieces};
+pub use course_laws::{
+    copies_have_one_course, ends_stand_at_their_offsets, every_copy_has_a_course,
+    pieces_stand_at_their_offsets,
+};
 pub use cut_laws::{
-    lost_marks_are_bridged, numbers_are_least, scan_data_has_one_cut, units_are_cut,
+    lost_marks_are_bridged, marks_beyond_change_nothing, numbers_are_least, scan_data_has_one_cut,
+    units_are_cut,
 };
 pub use cut_search::next_cut;
 pub use end::End;

@@ -1,0 +1,174 @@
+-- What stands at the offsets that are told of a copy, and which pieces have records.
+use Rattle.std.proofs.Common.{◌≡◌, ℕ, ◌+◌, ◌/◌, ◌%◌, ◌≢◌, List, [], ◌∷◌, ◌++◌, length, refl, sym, ap, ◌∙◌, subst, append_assoc, arith, length-append}
+use Rattle.std.proofs.lemmas.List.{length-replicate}
+use Rattle.std.specs.List.{flat_map, AllByRecursion}
+use Rattle.jls_marker.specs.HeaderState.{HeaderState, no_headers}
+use Rattle.jls_marker.specs.Scan.{Scan, intervals}
+use Rattle.jls_marker.specs.declared.fault.MarkerFault.TheVariants as fault
+use Rattle.jls_copy.specs.ScanData.{fill_bytes, ClosedPiece, closed_bytes}
+use Rattle.jls_copy.specs.Numbers.{PieceNumber, Interval, number_behind, given_last}
+use Rattle.jls_copy.specs.Pieces.{FoundPiece, pieces_from, pieces_in, pieces, PieceOutcome, Lines, Fault, AreOutcomes, value_of, records}
+use Rattle.jls_copy.specs.Course.{CopyUnit, segment, scan, segment_unit_bytes, scan_data_bytes, unit_bytes, dropped_bytes, EndsHere, at_eoi, at_eoi_before_a_frame, at_no_marker, at_unknown_code, at_short_length, at_refused_segment, Ends, for_good, with_the_input, in_a_unit, AreUnits, with_soi, with_another_marker, with_no_marker, with_fill_alone}
+use Rattle.jls_copy.specs.TellingLaws.{StandsAt, PiecesStandAtTheirOffsets, EndStands, eoi, input, marker, no_marker, too_early, EndsStandAtTheirOffsets, AreRecordsOf, of_none, reads, faulty, RecordsAreOfFaultyPieces}
+use Rattle.jls_copy.specs.declared.end.End.{End}
+use Rattle.jls_copy.proofs.OneCourse.{segment_not_fill}
+
+-- the piece stands at its offset
+abbrev Stands : List ℕ → FoundPiece → Type 0
+Stands copy p = StandsAt copy p.offset p.bytes
+
+both_stand : (copy : List ℕ) (ps qs : List FoundPiece) → AllByRecursion (Stands copy) ps → AllByRecursion (Stands copy) qs
+    → AllByRecursion (Stands copy) (ps ++ qs)
+both_stand copy [] qs h k = k
+both_stand copy (p ∷ ps) qs h k = (h.0, both_stand copy ps qs h.1 k)
+
+-- a copy in which these bytes stand behind a front of this length
+record Behind (copy front bytes : List ℕ) (at : ℕ) : Type 0 where
+  copy_is : copy ≡ front ++ bytes
+  at_is : at ≡ length front
+
+behind : (copy front xs ys : List ℕ) (at : ℕ) → Behind copy front (xs ++ ys) at → Behind copy (front ++ xs) ys (at + length xs)
+behind copy front xs ys at b = record {
+  copy_is = b.copy_is ∙ sym (append_assoc front xs ys);
+  at_is = let e = length-append front xs in let l = b.at_is in omega (arith, e, l);
+}
+
+others : (copy front xs ys : List ℕ) (at : ℕ) → xs ≡ ys → Behind copy front xs at → Behind copy front ys at
+others copy front xs ys at e b = record { copy_is = b.copy_is ∙ ap (λ z. front ++ z) e; at_is = b.at_is }
+
+stands : (copy front bytes back : List ℕ) (at : ℕ) → Behind copy front (bytes ++ back) at → StandsAt copy at bytes
+stands copy front bytes back at b = record { front = front; back = back; copy_is = b.copy_is; offset_is = b.at_is }
+
+-- Pieces -----------------------------------------------------------------------------------------------------------
+
+pieces_stand : (copy front : List ℕ) (index : ℕ) (s : Scan) (last : ℕ) (number : PieceNumber) (at : ℕ) (closed : List ClosedPiece)
+    → (bytes rest : List ℕ)
+    → Behind copy front (flat_map closed_bytes closed ++ (bytes ++ rest)) at
+    → AllByRecursion (Stands copy) (pieces_from index s last number at closed bytes)
+pieces_stand copy front index s last number at [] bytes rest b = (stands copy front bytes rest at b, tt)
+pieces_stand copy front index s last number at (c ∷ closed) bytes rest b =
+    let next = number_behind (intervals s) last c.mark in
+    let more : List ℕ = flat_map closed_bytes closed ++ (bytes ++ rest) in
+    let whole = others copy front _ (closed_bytes c ++ more) at (append_assoc (closed_bytes c) (flat_map closed_bytes closed) (bytes ++ rest)) b in
+    let first = others copy front _ (c.piece ++ ((fill_bytes c.fill ++ (0xFF ∷ (0xD0 + c.mark) ∷ [])) ++ more)) at
+    (append_assoc c.piece (fill_bytes c.fill ++ (0xFF ∷ (0xD0 + c.mark) ∷ [])) more) whole in (
+      stands copy front c.piece _ at first,
+      pieces_stand copy (front ++ closed_bytes c) index s (given_last last next) next (at + length (closed_bytes c)) closed bytes rest
+          (behind copy front (closed_bytes c) more at whole),
+    )
+
+regrouped : (head closed last dropped rest : List ℕ) → (head ++ (closed ++ (last ++ dropped))) ++ rest ≡ head ++ (closed ++ (last ++ (dropped ++ rest)))
+regrouped head closed last dropped rest = simp append_assoc refl
+
+units_stand : (copy front : List ℕ) (h : HeaderState) (at : ℕ) (bytes : List ℕ) (us : List CopyUnit) (final : HeaderState) (e : End) (index : ℕ)
+    → Behind copy front bytes at
+    → AreUnits h at bytes us final e → AllByRecursion (Stands copy) (pieces_in index at us)
+units_stand copy front h at bytes [] final e index b u = tt
+units_stand copy front h at bytes (segment fill code payload ∷ us) final e index b (after, rest, whole, unit, more) =
+    let parted = others copy front bytes (segment_unit_bytes fill code payload ++ rest) at whole b in
+    units_stand copy (front ++ segment_unit_bytes fill code payload) after (at + length (segment_unit_bytes fill code payload)) rest us final e (index + 0)
+    (behind copy front (segment_unit_bytes fill code payload) rest at parted) more
+units_stand copy front h at bytes (scan fill code payload plan closed last closing ∷ us) final e index b (after, rest, whole, unit, more) =
+    let head = segment_unit_bytes fill code payload in
+    let unit_is : List ℕ = head ++ scan_data_bytes closed last closing in
+    let parted = others copy front bytes (unit_is ++ rest) at whole b in
+    let in_data = others copy front _ (head ++ (flat_map closed_bytes closed ++ (last ++ (dropped_bytes closing ++ rest)))) at
+    (regrouped head (flat_map closed_bytes closed) last (dropped_bytes closing) rest) parted in
+    both_stand copy (pieces_from index plan 0 (Interval 0) (at + length head) closed last) _
+    (pieces_stand copy (front ++ head) index plan 0 (Interval 0) (at + length head) closed last (dropped_bytes closing ++ rest)
+    (behind copy front head _ at in_data))
+    (units_stand copy (front ++ unit_is) after (at + length unit_is) rest us final e (index + 1) (behind copy front unit_is rest at parted) more)
+
+-- SOI stands before the units
+soi : (n : ℕ) (bytes : List ℕ) → Behind (fill_bytes n ++ (0xFF ∷ 0xD8 ∷ bytes)) (fill_bytes n ++ (0xFF ∷ 0xD8 ∷ [])) bytes (n + 2)
+soi n bytes = record {
+  copy_is = sym (append_assoc (fill_bytes n) (0xFF ∷ 0xD8 ∷ []) bytes);
+  at_is = let e = length-append (fill_bytes n) (0xFF ∷ 0xD8 ∷ []) in let l = length-replicate {A = ℕ} n 0xFF in omega (arith, e, l);
+}
+
+pub pieces_stand_at_their_offsets : PiecesStandAtTheirOffsets
+pieces_stand_at_their_offsets _ _ (with_soi n bytes units final e h) =
+    units_stand _ (fill_bytes n ++ (0xFF ∷ 0xD8 ∷ [])) no_headers (n + 2) bytes units final e 0 (soi n bytes) h
+pieces_stand_at_their_offsets _ _ (with_another_marker n code bytes p q) = tt
+pieces_stand_at_their_offsets _ _ (with_no_marker b bytes p) = tt
+pieces_stand_at_their_offsets _ _ (with_fill_alone n) = tt
+
+-- Ends -------------------------------------------------------------------------------------------------------------
+
+-- behind fill bytes
+filled : (copy front : List ℕ) (n : ℕ) (bytes : List ℕ) (at : ℕ) → Behind copy front (fill_bytes n ++ bytes) at
+    → Behind copy (front ++ fill_bytes n) bytes (at + n)
+filled copy front n bytes at b = record {
+  copy_is = b.copy_is ∙ sym (append_assoc front (fill_bytes n) bytes);
+  at_is = let e = length-append front (fill_bytes n) in let l = length-replicate {A = ℕ} n 0xFF in let k = b.at_is in omega (arith, e, l, k);
+}
+
+whole_behind : (copy front bytes : List ℕ) (at : ℕ) → Behind copy front bytes at → at + length bytes ≡ length copy
+whole_behind copy front bytes at b =
+    let e = ap length b.copy_is in let l = length-append front bytes in let k = b.at_is in omega (arith, e, l, k)
+
+marker_stands : (copy front : List ℕ) (n code : ℕ) (more : List ℕ) (at : ℕ) → Behind copy front (fill_bytes n ++ (0xFF ∷ code ∷ more)) at
+    → StandsAt copy (at + n) (0xFF ∷ code ∷ [])
+marker_stands copy front n code more at b = stands copy (front ++ fill_bytes n) (0xFF ∷ code ∷ []) more (at + n) (filled copy front n (0xFF ∷ code ∷ more) at b)
+
+not_fill : (code : ℕ) → code ≡ 0xD9 → code ≢ 0xFF
+not_fill code e f = omega (arith, e, f)
+
+stop_stands : (copy front : List ℕ) (h : HeaderState) (at : ℕ) (bytes : List ℕ) (e : End) → Behind copy front bytes at → EndsHere h at bytes e
+    → EndStands copy e
+stop_stands copy front _ _ _ _ b (at_eoi h at n more p) = eoi (at + n) (marker_stands copy front n 0xD9 more at b)
+stop_stands copy front _ _ _ _ b (at_eoi_before_a_frame h at n more p) =
+    marker fault.NoFrame (at + n) 0xD9 (not_fill 0xD9 refl) (marker_stands copy front n 0xD9 more at b)
+stop_stands copy front _ _ _ _ b (at_no_marker h at x more p) = no_marker fault.NoMarker at x p (stands copy front (x ∷ []) more at b)
+stop_stands copy front _ _ _ _ b (at_unknown_code h at n code more p q r) =
+    marker fault.UnknownMarker (at + n) code p (marker_stands copy front n code more at b)
+stop_stands copy front _ _ _ _ b (at_short_length h at n code high low more p q) =
+    marker fault.Length (at + n) code (segment_not_fill code p) (marker_stands copy front n code (high ∷ low ∷ more) at b)
+stop_stands copy front _ _ _ _ b (at_refused_segment h at n code payload more f p r) =
+    let size : ℕ = length payload + 2 in
+    let whole = others copy front _ (fill_bytes n ++ (0xFF ∷ code ∷ (size / 256 ∷ size % 256 ∷ payload) ++ more)) at
+    (append_assoc (fill_bytes n) (0xFF ∷ code ∷ size / 256 ∷ size % 256 ∷ payload) more) b in
+    marker f (at + n) code (segment_not_fill code p.0) (marker_stands copy front n code ((size / 256 ∷ size % 256 ∷ payload) ++ more) at whole)
+
+ends_stand : (copy front : List ℕ) (h : HeaderState) (at : ℕ) (bytes : List ℕ) (e : End) → Behind copy front bytes at → Ends h at bytes e
+    → EndStands copy e
+ends_stand copy front _ _ _ _ b (for_good h at bytes e s) = stop_stands copy front h at bytes e b s
+ends_stand copy front _ _ _ _ b (with_the_input h at) = input at (let e = whole_behind copy front [] at b in omega (arith, e))
+ends_stand copy front _ _ _ _ b (in_a_unit h at bytes p) = too_early (at + length bytes) (whole_behind copy front bytes at b)
+
+last_stands : (copy front : List ℕ) (h : HeaderState) (at : ℕ) (bytes : List ℕ) (us : List CopyUnit) (final : HeaderState) (e : End)
+    → Behind copy front bytes at
+    → AreUnits h at bytes us final e → EndStands copy e
+last_stands copy front h at bytes [] final e b u = ends_stand copy front h at bytes e b u.1
+last_stands copy front h at bytes (u ∷ us) final e b (after, rest, whole, unit, more) =
+    last_stands copy (front ++ unit_bytes u) after (at + length (unit_bytes u)) rest us final e
+    (behind copy front (unit_bytes u) rest at (others copy front bytes (unit_bytes u ++ rest) at whole b)) more
+
+-- a copy behind nothing
+all_of : (copy : List ℕ) → Behind copy [] copy 0
+all_of copy = record { copy_is = refl; at_is = refl }
+
+pub ends_stand_at_their_offsets : EndsStandAtTheirOffsets
+ends_stand_at_their_offsets _ _ (with_soi n bytes units final e h) =
+    last_stands _ (fill_bytes n ++ (0xFF ∷ 0xD8 ∷ [])) no_headers (n + 2) bytes units final e (soi n bytes) h
+ends_stand_at_their_offsets _ _ (with_another_marker n code bytes p q) =
+    let e : 0 + n ≡ n = omega arith in
+    marker fault.NoSoi n code p (subst (λ at. StandsAt (fill_bytes n ++ (0xFF ∷ code ∷ bytes)) at (0xFF ∷ code ∷ [])) e
+    (marker_stands _ [] n code bytes 0 (all_of _)))
+ends_stand_at_their_offsets _ _ (with_no_marker b bytes p) = no_marker fault.NoSoi 0 b p (stands _ [] (b ∷ []) bytes 0 (all_of _))
+ends_stand_at_their_offsets _ _ (with_fill_alone n) = too_early n (let l = length-replicate {A = ℕ} n 0xFF in omega (arith, l))
+
+-- Records ----------------------------------------------------------------------------------------------------------
+
+records_so : (ps : List FoundPiece) (os : List PieceOutcome) → AreOutcomes ps os → AreRecordsOf ps (records ps os)
+records_so [] [] h = of_none
+records_so [] (o ∷ os) h = absurd h
+records_so (p ∷ ps) [] h = absurd h
+records_so (p ∷ ps) (Lines lines ∷ os) h = reads p ps (records ps os) lines h.0 (records_so ps os h.1)
+records_so (p ∷ ps) (Fault k ∷ os) h =
+    faulty p ps (record { scan = p.scan; interval = value_of p.number; offset = p.offset; kind = k }) (records ps os)
+    (record { scan = refl; interval = refl; offset = refl; kind = h.0 }) (records_so ps os h.1)
+
+pub records_are_of_faulty_pieces : RecordsAreOfFaultyPieces
+records_are_of_faulty_pieces copy read h =
+    (records (pieces h.course) h.outcomes, records_so (pieces h.course) h.outcomes h.each, h.pieces_are, h.count_is)

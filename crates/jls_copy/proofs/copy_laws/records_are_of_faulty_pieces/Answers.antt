@@ -1,0 +1,5 @@
+use Rattle.jls_copy.proofs.TellingLaws.{records_are_of_faulty_pieces}
+use Rattle.jls_copy.proofs.copy_laws.records_are_of_faulty_pieces.Goals as goal
+
+pub returns : goal.returns
+returns c = records_are_of_faulty_pieces

@@ -1,0 +1,57 @@
+-- The laws of what is told of a copy beside its readings: offsets, and records of faulty pieces. Each is the contract of a function with
+-- an empty body.
+use Rattle.std.specs.Prelude.{◌≡◌, ℕ, ◌≢◌, List, [], ◌∷◌, ◌++◌, length, take}
+use Rattle.std.specs.List.{AllByRecursion}
+use Rattle.jls_copy.specs.Course.{Course, IsCourse}
+use Rattle.jls_copy.specs.Pieces.{FoundPiece, Lines, Fault, IsOutcome, value_of, pieces}
+use Rattle.jls_copy.specs.ReadCopy.{ReadCopy}
+use Rattle.jls_copy.specs.CopyReads.{CopyReads}
+use Rattle.jls_copy.specs.declared.end.End.{End}
+use Rattle.jls_copy.specs.declared.end.End.TheVariants.{Eoi, Input, Header}
+use Rattle.jls_copy.specs.declared.piece.PieceRecord.{PieceRecord}
+use Rattle.jls_marker.specs.declared.fault.MarkerFault.{MarkerFault}
+use Rattle.jls_marker.specs.declared.fault.MarkerFault.TheVariants as fault
+
+-- behind so many bytes of the copy these stand
+pub record StandsAt (copy : List ℕ) (offset : ℕ) (bytes : List ℕ) : Type 0 where
+  pub front : List ℕ
+  pub back : List ℕ
+  pub copy_is : copy ≡ front ++ (bytes ++ back)
+  pub offset_is : offset ≡ length front
+
+-- each piece of a course stands at its offset
+abbrev pub PiecesStandAtTheirOffsets : Type 0
+PiecesStandAtTheirOffsets = (copy : List ℕ) (c : Course) → IsCourse copy c
+    → AllByRecursion (λ piece. StandsAt copy piece.offset piece.bytes) (pieces c)
+
+-- What stands where a copy ends: EOI; nothing; at a fault of a marker the last byte 0xFF before its code, and the code; at another fault
+-- a byte that begins no marker; or nothing, where the input ends too early
+pub data EndStands (copy : List ℕ) : End → Type 0 where
+  eoi : (offset : ℕ) → StandsAt copy offset (0xFF ∷ 0xD9 ∷ []) → EndStands copy (Eoi offset)
+  input : (offset : ℕ) → offset ≡ length copy → EndStands copy (Input offset)
+  marker : (f : MarkerFault) (offset code : ℕ) → code ≢ 0xFF → StandsAt copy offset (0xFF ∷ code ∷ []) → EndStands copy (Header f offset)
+  no_marker : (f : MarkerFault) (offset byte : ℕ) → byte ≢ 0xFF → StandsAt copy offset (byte ∷ []) → EndStands copy (Header f offset)
+  too_early : (offset : ℕ) → offset ≡ length copy → EndStands copy (Header fault.Ended offset)
+
+abbrev pub EndsStandAtTheirOffsets : Type 0
+EndsStandAtTheirOffsets = (copy : List ℕ) (c : Course) → IsCourse copy c → EndStands copy c.end
+
+-- the record of a piece that doesn't read as the lines of its interval: its scan, its number, the offset of its first byte, and why
+pub record IsRecordOf (p : FoundPiece) (r : PieceRecord) : Type 0 where
+  pub scan : r.scan ≡ p.scan
+  pub interval : r.interval ≡ value_of p.number
+  pub offset : r.offset ≡ p.offset
+  pub kind : IsOutcome p (Fault r.kind)
+
+-- each of these pieces reads as lines, or its record stands here, in order; and no other record does
+pub data AreRecordsOf : List FoundPiece → List PieceRecord → Type 0 where
+  of_none : AreRecordsOf [] []
+  reads : (p : FoundPiece) (ps : List FoundPiece) (rs : List PieceRecord) (lines : List (List ℕ)) → IsOutcome p (Lines lines)
+      → AreRecordsOf ps rs → AreRecordsOf (p ∷ ps) rs
+  faulty : (p : FoundPiece) (ps : List FoundPiece) (r : PieceRecord) (rs : List PieceRecord) → IsRecordOf p r
+      → AreRecordsOf ps rs → AreRecordsOf (p ∷ ps) (r ∷ rs)
+
+-- what is told of a copy's faulty pieces are the first 4,096 of their records, and how many there are
+abbrev pub RecordsAreOfFaultyPieces : Type 0
+RecordsAreOfFaultyPieces = (copy : List ℕ) (read : ReadCopy) → (h : CopyReads copy read)
+    → (rs : List PieceRecord) × AreRecordsOf (pieces h.course) rs × (read.pieces ≡ take 4096 rs) × (read.piece_count ≡ length rs)
