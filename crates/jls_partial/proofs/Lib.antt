@@ -8,6 +8,8 @@ pub mod LineSets
 pub mod MarkSets
 pub mod Marked
 pub mod PackedLines
+pub mod PageRows
+pub mod Pages
 pub mod PartialRows
 pub mod Parts
 pub mod ReadBack

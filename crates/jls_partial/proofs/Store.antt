@@ -82,6 +82,11 @@ pub store_entries : (shape : PictureShape) (es : List LineEntry) → IsStore sha
     → entries (partial_of shape (map kept_entry es)) ≡ map kept_entry es
 store_entries shape es kept = entries_again shape (map kept_entry es) (are_entries shape es kept) (sources_rise es)
 
+-- no entries are those of each shape
+pub none_stored : (shape : PictureShape) → IsStore shape []
+unfolding IsStrictlySortedBy
+none_stored shape = record { sorted = tt; each = tt }
+
 -- ---- what is kept at a place
 
 -- no lines have no items

@@ -11,6 +11,7 @@ pub mod MarkLaws
 pub mod Merging
 pub mod Packed
 pub mod PackedLines
+pub mod Pages
 pub mod Partial
 pub mod Parts
 pub mod PartialLaws

@@ -5,6 +5,7 @@ mod equality;
 mod index;
 mod insert_fault;
 mod laws;
+mod line_pages;
 mod line_set;
 mod line_store;
 mod lines;

@@ -4,14 +4,14 @@ ghost use Rattle.jls_partial.specs.Held.{MarksLine, PutsAt, PutsLine, lines_or};
 ghost use Rattle.jls_partial.specs.InsertFaults.{samples_fault};
 ghost use Rattle.jls_partial.specs.LineSet.{no_lines};
 ghost use Rattle.jls_partial.specs.Place.{place_cmp};
-ghost use Rattle.jls_partial.specs.Stored.{AreIndicesOf, entries_in, Extends};
 ghost use Rattle.jls_values.specs.OrderedSet as set;
 ghost use Rattle.std.specs.BTreeMap.{is_at};
 ghost use Rattle.std.specs.List.Sorted.{IsStrictlySortedBy};
 ghost use Rattle.std.specs.Map.{lookup};
-ghost use Rattle.std.specs.Prelude.{◌≡◌, ◌<◌, ◌≤◌, [], length, map, true, not, IfOk, OnOk, OnErr, IsOk, None};
+ghost use Rattle.std.specs.Prelude.{◌≡◌, ◌<◌, ◌≤◌, ◌^◌, [], length, map, true, not, IfOk, OnOk, OnErr, IsOk, None};
 
 use crate::index::Index;
+use crate::line_pages::{mark_at, row_at, take_at};
 use crate::lines::Lines;
 use crate::packed_lines::PackedLines;
 use crate::place::Place;
@@ -25,41 +25,44 @@ use std::marker::Model;
 #[derive(Drop)]
 pub(crate) struct Store {
     packed: PackedLines,
-    index: BTreeMap<Place, Index>,
+    index: BTreeMap<Place, Vec<(Place, Index)>>,
 }
 
 impl Model for Store {
-    ghost use Rattle.jls_partial.specs.Stored.{StoredLines, coded_stored, AreIndicesOf, stored, entries_in};
+    ghost use Rattle.jls_partial.specs.Pages.{IsPagedIndex, rows_of};
+    ghost use Rattle.jls_partial.specs.Stored.{StoredLines, coded_stored, stored, entries_in};
 
     ghost Value = { StoredLines };
 
     ghost coded = { coded_stored };
 
-    ghost view = { λ a. stored a.packed (entries_in a.packed a.index.entries) };
+    ghost view = { λ a. stored a.packed (entries_in a.packed (rows_of a.index.entries)) };
 
-    ghost invariant = { λ a. AreIndicesOf a.packed a.index.entries };
+    ghost invariant = { λ a. IsPagedIndex a.packed a.index.entries };
 }
 
 /// The lines of a store that have a reading, in the order of their places.
 #[derive(Drop)]
 pub(crate) struct Entries<'a> {
     packed: &'a PackedLines,
-    rest: Iter<'a, Place, Index>,
+    rows: &'a [(Place, Index)],
+    pages: Iter<'a, Place, Vec<(Place, Index)>>,
 }
 
 impl<'a> Model for Entries<'a> {
     ghost use Rattle.jls_partial.specs.Held.{LineEntry};
-    ghost use Rattle.jls_partial.specs.Stored.{coded_line_entry, AreIndicesOf, entries_in};
+    ghost use Rattle.jls_partial.specs.Pages.{AreRowsLeft, rows_of};
+    ghost use Rattle.jls_partial.specs.Stored.{coded_line_entry, entries_in};
     ghost use Rattle.std.specs.Coded.{coded_list};
-    ghost use Rattle.std.specs.Prelude.{List};
+    ghost use Rattle.std.specs.Prelude.{◌++◌, List};
 
     ghost Value = { List LineEntry };
 
     ghost coded = { coded_list coded_line_entry };
 
-    ghost view = { λ a. entries_in a.packed.now a.rest };
+    ghost view = { λ a. entries_in a.packed.now (a.rows.now ++ rows_of a.pages) };
 
-    ghost invariant = { λ a. AreIndicesOf a.packed.now a.rest };
+    ghost invariant = { λ a. AreRowsLeft a.packed.now a.rows.now a.pages };
 }
 
 impl<'a> Iterator for Entries<'a> {
@@ -74,99 +77,30 @@ impl<'a> Iterator for Entries<'a> {
     ghost remaining = { λ s. at_most (length s) };
 
     fn next(&mut self) -> Option<(Place, Lines<'a>)> {
-        let (at, index) = self.rest.next()?;
-        Some((*at, Lines::of(self.packed, index)))
-    }
-}
-
-/// Takes the first line of a place, with these sources. All growth is made before anything changes.
-fn start_at(
-    packed: &mut PackedLines,
-    index: &mut BTreeMap<Place, Index>,
-    at: Place,
-    samples: &[u16],
-    sources: &[u32],
-) -> Result<bool, AllocError>
-    requires indexed { AreIndicesOf packed.old index.old.entries }
-    requires fits { samples_fault packed.old.precision packed.old.width samples.now ≡ None }
-    requires none { lookup (is_at (place_cmp at)) index.old.entries ≡ None }
-    ensures extends { Extends packed.old packed.new }
-    ensures indexed { AreIndicesOf packed.new index.new.entries }
-    ensures ordered { OnOk result (IsStrictlySortedBy place_cmp (map (λ e. e.0) (entries_in packed.new index.new.entries))) }
-    ensures ok { OnOk result (PutsAt (entries_in packed.old index.old.entries) at
-        (lines_or (no_lines packed.old.precision packed.old.width) (entries_in packed.new index.new.entries) at)
-        (entries_in packed.new index.new.entries)) }
-    ensures lines { OnOk result (PutsLine (no_lines packed.old.precision packed.old.width) samples.now sources.now
-        (lines_or (no_lines packed.old.precision packed.old.width) (entries_in packed.new index.new.entries) at)) }
-    ensures err { OnErr result (entries_in packed.new index.new.entries ≡ entries_in packed.old index.old.entries) }
-    ensures added { IfOk result (λ added. added ≡ true) }
-{
-    let new = packed.room_for(sources)?;
-    index.insert(at, new)?;
-    packed.append(samples);
-    Ok(true)
-}
-
-/// Takes one line of a place that fits, with these sources. True where it is new there.
-fn take_at(
-    packed: &mut PackedLines,
-    index: &mut BTreeMap<Place, Index>,
-    at: Place,
-    samples: &[u16],
-    sources: &[u32],
-) -> Result<bool, AllocError>
-    requires indexed { AreIndicesOf packed.old index.old.entries }
-    requires fits { samples_fault packed.old.precision packed.old.width samples.now ≡ None }
-    ensures extends { Extends packed.old packed.new }
-    ensures indexed { AreIndicesOf packed.new index.new.entries }
-    ensures ordered { OnOk result (IsStrictlySortedBy place_cmp (map (λ e. e.0) (entries_in packed.new index.new.entries))) }
-    ensures ok { OnOk result (PutsAt (entries_in packed.old index.old.entries) at
-        (lines_or (no_lines packed.old.precision packed.old.width) (entries_in packed.new index.new.entries) at)
-        (entries_in packed.new index.new.entries)) }
-    ensures lines { OnOk result (PutsLine
-        (lines_or (no_lines packed.old.precision packed.old.width) (entries_in packed.old index.old.entries) at) samples.now sources.now
-        (lines_or (no_lines packed.old.precision packed.old.width) (entries_in packed.new index.new.entries) at)) }
-    ensures err { OnErr result (entries_in packed.new index.new.entries ≡ entries_in packed.old index.old.entries) }
-    ensures added { IfOk result (λ added. added ≡ not (set.contains
-        (lines_or (no_lines packed.old.precision packed.old.width) (entries_in packed.old index.old.entries) at).lines samples.now)) }
-    ensures no_memory { set.contains
-        (lines_or (no_lines packed.old.precision packed.old.width) (entries_in packed.old index.old.entries) at).lines samples.now ≡ true
-        → sources.now ≡ [] → IsOk result }
-{
-    match index.get_mut(&at) {
-        Some(own) => {
-            let added = packed.take(own, samples, sources)?;
-            // The length of an index is a `usize`, and so its lines are countable.
-            prove!(own.len() <= usize::MAX);
-            Ok(added)
+        if self.rows.is_empty() {
+            let (_, page) = self.pages.next()?;
+            self.rows = page.as_slice();
         }
-        None => start_at(packed, index, at, samples, sources),
+        match self.rows.split_first() {
+            Some((row, rest)) => {
+                self.rows = rest;
+                Some((row.0, Lines::of(self.packed, &row.1)))
+            }
+            None => unreachable!(),
+        }
     }
 }
 
-/// Adds a source to the line of a place that has `i` others below it.
-fn mark_at(
-    packed: &PackedLines,
-    index: &mut BTreeMap<Place, Index>,
-    at: Place,
-    i: usize,
-    source: u32,
-) -> Result<(), AllocError>
-    requires indexed { AreIndicesOf packed.now index.old.entries }
-    requires within { i < length (set.items (lines_or (no_lines 0 0) (entries_in packed.now index.old.entries) at).lines) }
-    ensures indexed { AreIndicesOf packed.now index.new.entries }
-    ensures ordered { OnOk result (IsStrictlySortedBy place_cmp (map (λ e. e.0) (entries_in packed.now index.new.entries))) }
-    ensures ok { OnOk result (PutsAt (entries_in packed.now index.old.entries) at
-        (lines_or (no_lines 0 0) (entries_in packed.now index.new.entries) at) (entries_in packed.now index.new.entries)) }
-    ensures lines { OnOk result (MarksLine (lines_or (no_lines 0 0) (entries_in packed.now index.old.entries) at) i source
-        (lines_or (no_lines 0 0) (entries_in packed.now index.new.entries) at)) }
-    ensures err { OnErr result (entries_in packed.now index.new.entries ≡ entries_in packed.now index.old.entries) }
+/// How many lines these are.
+pub(crate) fn count(entries: Entries<'_>) -> u32
+    requires { length entries < 2 ^ 32 }
+    ensures { result ≡ length entries.entry }
 {
-    match index.get_mut(&at) {
-        Some(own) => packed.mark(own, i, source)?,
-        None => unreachable!(),
+    let mut count = 0;
+    for _ in entries {
+        count += 1;
     }
-    Ok(())
+    count
 }
 
 impl Store {
@@ -186,7 +120,7 @@ impl Store {
     pub(crate) fn lines_at(&self, at: Place) -> Option<Lines<'_>>
         ensures { result ≡ lookup (is_at (place_cmp at)) self.now.entries }
     {
-        match self.index.get(&at) {
+        match row_at(&self.index, at) {
             Some(index) => Some(Lines::of(&self.packed, index)),
             None => None,
         }
@@ -198,15 +132,9 @@ impl Store {
     {
         Entries {
             packed: &self.packed,
-            rest: self.index.iter(),
+            rows: &[],
+            pages: self.index.iter(),
         }
-    }
-
-    /// How many lines have a reading.
-    pub(crate) fn len(&self) -> usize
-        ensures { result ≡ length self.now.entries }
-    {
-        self.index.len()
     }
 
     /// Takes one line of a place that fits, with these sources. True where it is new there.

@@ -13,7 +13,7 @@ ghost use Rattle.std.specs.Prelude.{◌≡◌, ◌<◌, ◌∷◌, [], length, m
 ghost use Rattle.std.specs.Prelude.{slice_get};
 
 use crate::insert_fault::{InsertFault, find_reading_fault};
-use crate::line_store::{Entries, Store};
+use crate::line_store::{Entries, Store, count};
 use crate::lines::Lines;
 use crate::place::Place;
 use jls_values::Shape;
@@ -193,8 +193,8 @@ impl Partial {
     pub(crate) fn entry_count(&self) -> u32
         ensures { result ≡ length (entries self.now) }
     {
-        // The shape has at most four components of fewer than 2^16 lines: the cast rests on it.
+        // The shape has at most four components of fewer than 2^16 lines: the count rests on it.
         prove!(self.shape.ids().len() <= 4);
-        self.store.len() as u32
+        count(self.store.entries())
     }
 }
