@@ -281,15 +281,15 @@ shape_takes size bytes shape rest fits e =
     let t1 = number_takes size w16 (2 ^ 16) wide16 p.0.1 x.0.0 x.0.1 t0.0.rest_fits x.1 in
     let t2 = number_takes size w16 (2 ^ 16) wide16 x.0.1 y.0.0 y.0.1 t1.0.rest_fits y.1 in
     let t3 = byte_takes size y.0.1 n.0.0 n.0.1 t2.0.rest_fits n.1 in
-    let t4 = bytes_take size n.0.0 j.0 i.0.0 i.0.1 (subst IsBytes g.1 t3.0.rest_fits) i.1 in
+    let t4 = bytes_take size n.0.0 j.0 i.0.0 i.0.1 (subst IsBytes {x = n.0.1} {y = j.0} g.1 t3.0.rest_fits) i.1 in
     let made = shape_made p.0.0 x.0.0 y.0.0 i.0.0 s.0 (made_ok (shape_of p.0.0 x.0.0 y.0.0 i.0.0) s.0 s.1) in
     let sizes = size_none p.0.0 x.0.0 y.0.0 n.0.0 g.0 in
     let count : length i.0.0 ≡ n.0.0 = t4.1 in
-    let e34 = Takes-then y.0.1 (n.0.0 ∷ []) n.0.1 i.0.0 i.0.1 t3.0 (subst (λ (b : List ℕ). Takes b i.0.0 i.0.1) (sym g.1) t4.0) in
+    let e34 = Takes-then y.0.1 (n.0.0 ∷ []) n.0.1 i.0.0 i.0.1 t3.0 (subst (λ (b : List ℕ). Takes b i.0.0 i.0.1) {x = j.0} {y = n.0.1} (sym g.1) t4.0) in
     let e24 = Takes-then x.0.1 (to_be_bytes w16 y.0.0) y.0.1 (n.0.0 ∷ i.0.0) i.0.1 t2.0 e34 in
     let e14 = Takes-then p.0.1 (to_be_bytes w16 x.0.0) x.0.1 (to_be_bytes w16 y.0.0 ++ n.0.0 ∷ i.0.0) i.0.1 t1.0 e24 in
     let e04 = Takes-then bytes (p.0.0 ∷ []) p.0.1 (to_be_bytes w16 x.0.0 ++ to_be_bytes w16 y.0.0 ++ n.0.0 ∷ i.0.0) i.0.1 t0.0 e14 in
-    let whole : Takes bytes (shape_text (four p.0.0 x.0.0 y.0.0 i.0.0)) i.0.1 = subst (λ (k : ℕ). Takes bytes (p.0.0 ∷ to_be_bytes w16 x.0.0 ++ to_be_bytes w16 y.0.0 ++ k ∷ i.0.0) i.0.1) (sym count) e04 in
+    let whole : Takes bytes (shape_text (four p.0.0 x.0.0 y.0.0 i.0.0)) i.0.1 = subst (λ (k : ℕ). Takes bytes (p.0.0 ∷ to_be_bytes w16 x.0.0 ++ to_be_bytes w16 y.0.0 ++ k ∷ i.0.0) i.0.1) {x = n.0.0} {y = length i.0.0} (sym count) e04 in
     let is : IsShape (four p.0.0 x.0.0 y.0.0 i.0.0) = record {
       precision_at_least = sizes.0.0;
       precision_at_most = sizes.0.1;
@@ -302,8 +302,8 @@ shape_takes size bytes shape rest fits e =
       ids_are_bytes = t4.2;
       ids_differ = made.0;
     } in
-    subst (λ (y : PictureShape × List ℕ). Takes bytes (shape_text y.0) y.1 × IsShape y.0) (ok_is (s.0, i.0.1) (shape, rest) s.2)
-    (subst (λ (z : PictureShape). Takes bytes (shape_text z) i.0.1 × IsShape z) made.1 (whole, is))
+    subst (λ (y : PictureShape × List ℕ). Takes bytes (shape_text y.0) y.1 × IsShape y.0) {x = (s.0, i.0.1)} (ok_is (s.0, i.0.1) (shape, rest) s.2)
+    (subst (λ (z : PictureShape). Takes bytes (shape_text z) i.0.1 × IsShape z) {x = four p.0.0 x.0.0 y.0.0 i.0.0} {y = s.0} made.1 (whole, is))
 
 pub shape_again : (size : ℕ) (shape : PictureShape) (rest : List ℕ) → IsShape shape
     → shape_fields size (shape_text shape ++ rest) ≡ Ok (shape, rest)

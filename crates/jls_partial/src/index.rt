@@ -348,24 +348,12 @@ fn with_left_raised(mut top: Box<Fork>) -> Tree
     requires { length (fork_slots top.value) < 2 ^ 64 }
     ensures { result ≡ fork_slots top.value }
 {
-    let Some(mut low) = top.left.take_all().into_root() else {
-        return Tree::from_root(top);
-    };
-    let (outer, inner) = (low.left.len(), low.right.len());
-    if inner.saturating_sub(outer) <= outer {
-        top.left = low.right.take_all();
-        low.right = Tree::from_root(top);
-        return Tree::from_root(low);
+    if let Some(low) = top.left.take_all().into_root() {
+        let (outer, inner) = (low.left.len(), low.right.len());
+        let is_outside = inner.saturating_sub(outer) <= outer;
+        top.left = Tree::from_root(if is_outside { low } else { rotated_left(low) });
     }
-    let Some(mut middle) = low.right.take_all().into_root() else {
-        top.left = Tree::from_root(low);
-        return Tree::from_root(top);
-    };
-    low.right = middle.left.take_all();
-    top.left = middle.right.take_all();
-    middle.left = Tree::from_root(low);
-    middle.right = Tree::from_root(top);
-    Tree::from_root(middle)
+    Tree::from_root(rotated_right(top))
 }
 
 /// The slots of a fork whose right side is too long: a slot of that side comes to the top.
@@ -373,22 +361,36 @@ fn with_right_raised(mut top: Box<Fork>) -> Tree
     requires { length (fork_slots top.value) < 2 ^ 64 }
     ensures { result ≡ fork_slots top.value }
 {
-    let Some(mut low) = top.right.take_all().into_root() else {
-        return Tree::from_root(top);
-    };
-    let (inner, outer) = (low.left.len(), low.right.len());
-    if inner.saturating_sub(outer) <= outer {
-        top.right = low.left.take_all();
-        low.left = Tree::from_root(top);
-        return Tree::from_root(low);
+    if let Some(low) = top.right.take_all().into_root() {
+        let (inner, outer) = (low.left.len(), low.right.len());
+        let is_outside = inner.saturating_sub(outer) <= outer;
+        top.right = Tree::from_root(if is_outside { low } else { rotated_right(low) });
     }
-    let Some(mut middle) = low.left.take_all().into_root() else {
-        top.right = Tree::from_root(low);
-        return Tree::from_root(top);
+    Tree::from_root(rotated_left(top))
+}
+
+/// The same slots, with the top of the left side at the top, unless that side is empty.
+fn rotated_right(mut top: Box<Fork>) -> Box<Fork>
+    requires { length (fork_slots top.value) < 2 ^ 64 }
+    ensures { fork_slots result.value ≡ fork_slots top.value }
+{
+    let Some(mut low) = top.left.take_all().into_root() else {
+        return top;
     };
-    low.left = middle.right.take_all();
-    top.right = middle.left.take_all();
-    middle.left = Tree::from_root(top);
-    middle.right = Tree::from_root(low);
-    Tree::from_root(middle)
+    top.left = low.right.take_all();
+    low.right = Tree::from_root(top);
+    low
+}
+
+/// The same slots, with the top of the right side at the top, unless that side is empty.
+fn rotated_left(mut top: Box<Fork>) -> Box<Fork>
+    requires { length (fork_slots top.value) < 2 ^ 64 }
+    ensures { fork_slots result.value ≡ fork_slots top.value }
+{
+    let Some(mut low) = top.right.take_all().into_root() else {
+        return top;
+    };
+    top.right = low.left.take_all();
+    low.left = Tree::from_root(top);
+    low
 }
