@@ -1,3 +1,4 @@
 pub mod Defaults
 pub mod Told
+mod TooLarge
 pub mod Written

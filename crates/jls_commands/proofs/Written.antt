@@ -4,13 +4,14 @@ use Rattle.std.specs.Prelude.{IfErr}
 use Rattle.jls_partial.specs.Status.{IsSettled}
 use Rattle.jls_picture.specs.Picture.{WholePicture, picture_of}
 use Rattle.jls_picture.specs.Options.{WriteOptions, OptionsFit}
+use Rattle.jls_picture.specs.WholePictures.{IsPicture}
 use Rattle.jls_picture.specs.Pnm.{pnm}
 use Rattle.jls_picture.specs.Outcomes.{HandedFront, StoppedBy}
 use Rattle.jls_picture.specs.declared.output.OutputFault.{OutputFault}
 use Rattle.jls_picture.specs.declared.output.OutputFault.TheVariants.{Write, OutOfMemory}
 use Rattle.jls_picture.specs.Unsettled.{NamesFirstUnsettled}
 use Rattle.jls_picture.specs.declared.picture.PictureFault.{PictureFault}
-use Rattle.jls_device.specs.Event.{History, GrewBy, created}
+use Rattle.jls_device.specs.Event.{Event, History, GrewBy, created}
 use Rattle.jls_device.specs.Writing.{Wrote}
 use Rattle.jls_device.proofs.Growing.{grew_on, grew_as, grew_not}
 use Rattle.jls_file.specs.Stops.{StopsIn}
@@ -25,9 +26,10 @@ use Rattle.jls_station.specs.declared.outcome.Outcome.TheVariants.{Done, Refused
 use Rattle.jls_station.proofs.InTurn.{grew_behind}
 use Rattle.jls_station.proofs.JoinSteps.{created_and_cut}
 use Rattle.jls_commands.specs.Telling.{Says}
-use Rattle.jls_commands.specs.WritingFiles.{cut_cause, file, FitsFormat, options_for, takes_memory, StopsAtFile, too_large, at_output, no_memory, unsettled_cause, WritesFile, done, at_input, unsettled, at_file}
+use Rattle.jls_commands.specs.WritingFiles.{cut_cause, file, FitsFormat, IsTooLarge, options_for, takes_memory, StopsAtFile, too_large, at_output, no_memory, unsettled_cause, WritesFile, done, at_input, unsettled, at_file}
 use Rattle.jls_commands.specs.declared.writing.Format.{Format}
 use Rattle.jls_commands.specs.declared.writing.Format.TheVariants.{Pnm, Jls}
+use Rattle.jls_commands.proofs.TooLarge.{only_too_large}
 
 module _ (f : Format) (out name : List ℕ) (old mid new : History) where
   pub stops_at_input : (r : Refusal) → r.name.now ≡ name → GrewBy (StopsAt None [] name r.cause) old mid
@@ -50,10 +52,10 @@ module _ (f : Format) (out name : List ℕ) (old mid new : History) where
           (λ a b t h. done f out name g whole a b t settled says fit h) taken
 
       pub stops_at_file : (r : Refusal) → r.name.now ≡ out
-          → GrewBy (StopsAtFile (FitsFormat f (picture_of g.partial)) (takes_memory f) out (file f (picture_of g.partial)) r.cause) mid new
+          → GrewBy (StopsAtFile (FitsFormat f (picture_of g.partial)) (IsTooLarge f (picture_of g.partial)) (takes_memory f) out (file f (picture_of g.partial)) r.cause) mid new
           → GrewBy (WritesFile f out name (Refused r)) old new
       stops_at_file r named =
-          grew_on (IsTaken None name g) (StopsAtFile (FitsFormat f (picture_of g.partial)) (takes_memory f) out (file f (picture_of g.partial)) r.cause) (WritesFile f out name (Refused r)) old mid new
+          grew_on (IsTaken None name g) (StopsAtFile (FitsFormat f (picture_of g.partial)) (IsTooLarge f (picture_of g.partial)) (takes_memory f) out (file f (picture_of g.partial)) r.cause) (WritesFile f out name (Refused r)) old mid new
           (λ a b t h. at_file f out name r g a b named t settled h) taken
 
 -- a file that went out in part
@@ -67,46 +69,68 @@ cut_after (Write count) old mid new name bytes held holds made h =
 cut_after (OutOfMemory count) old mid new name bytes held holds made h = absurd h
 
 -- the same of a file whose writer takes memory
-pub cut_in_file : (F : Type 0) → F → (f : OutputFault) (old mid new : History) (name bytes : List ℕ) (held holds : Option (List ℕ))
+pub cut_in_file : (F L : Type 0) → F → (f : OutputFault) (old mid new : History) (name bytes : List ℕ) (held holds : Option (List ℕ))
     → mid ≡ old ++ created name ∷ []
-    → StopsIn f 0 mid new held holds bytes → GrewBy (StopsAtFile F true name bytes (cut_cause f)) old new
-cut_in_file F fit (Write count) old mid new name bytes held holds made h =
-    grew_as (StopsAtOutput name bytes (cut_cause (Write count))) (StopsAtFile F true name bytes (cut_cause (Write count))) old new
+    → StopsIn f 0 mid new held holds bytes → GrewBy (StopsAtFile F L true name bytes (cut_cause f)) old new
+cut_in_file F L fit (Write count) old mid new name bytes held holds made h =
+    grew_as (StopsAtOutput name bytes (cut_cause (Write count))) (StopsAtFile F L true name bytes (cut_cause (Write count))) old new
     (λ events k. at_output name bytes (cut_cause (Write count)) events fit k) (cut_after (Write count) old mid new name bytes held holds made h)
-cut_in_file F fit (OutOfMemory count) old mid new name bytes held holds made h =
+cut_in_file F L fit (OutOfMemory count) old mid new name bytes held holds made h =
     let part = h.2 in
-    grew_behind (Wrote (take h.0 bytes)) (StopsAtFile F true name bytes cause.OutOfMemory) old mid new (created name)
+    grew_behind (Wrote (take h.0 bytes)) (StopsAtFile F L true name bytes cause.OutOfMemory) old mid new (created name)
     (λ writes w. no_memory name bytes h.0 writes fit refl part.not_all w) made part.out.wrote
 
 -- nothing was created
-pub stops_before : (F : Type 0) (takes : Bool) → (F → ⊥) → (h : History) (name bytes : List ℕ)
-    → GrewBy (StopsAtFile F takes name bytes cause.TooLarge) h h
-stops_before F takes never h name bytes = grew_not (StopsAtFile F takes name bytes cause.TooLarge) h (too_large name bytes never)
+pub stops_before : (F L : Type 0) (takes : Bool) → L → (h : History) (name bytes : List ℕ)
+    → GrewBy (StopsAtFile F L takes name bytes cause.TooLarge) h h
+stops_before F L takes large h name bytes = grew_not (StopsAtFile F L takes name bytes cause.TooLarge) h (too_large name bytes large)
+
+-- what it is too large for is another way to say it
+too_large_so : (F L M : Type 0) (takes : Bool) → (L → M) → (name bytes : List ℕ) (c : Cause) (events : List Event)
+    → StopsAtFile F L takes name bytes c events
+    → StopsAtFile F M takes name bytes c events
+too_large_so F L M takes so _ _ _ _ (too_large name bytes large) = too_large name bytes (so large)
+too_large_so F L M takes so _ _ _ _ (at_output name bytes c events fit h) = at_output name bytes c events fit h
+too_large_so F L M takes so _ _ _ _ (no_memory name bytes count writes fit is lt h) = no_memory name bytes count writes fit is lt h
 
 -- the output stopped it
-pub stopped_by_output : (F : Type 0) (takes : Bool) → F → (c : Cause) (old new : History) (name bytes : List ℕ)
+pub stopped_by_output : (F L : Type 0) (takes : Bool) → F → (c : Cause) (old new : History) (name bytes : List ℕ)
     → GrewBy (StopsAtOutput name bytes c) old new
-    → GrewBy (StopsAtFile F takes name bytes c) old new
-stopped_by_output F takes fit c old new name bytes =
-    grew_as (StopsAtOutput name bytes c) (StopsAtFile F takes name bytes c) old new (λ events k. at_output name bytes c events fit k)
+    → GrewBy (StopsAtFile F L takes name bytes c) old new
+stopped_by_output F L takes fit c old new name bytes =
+    grew_as (StopsAtOutput name bytes c) (StopsAtFile F L takes name bytes c) old new (λ events k. at_output name bytes c events fit k)
 
 -- what stops a PNM file
 pnm_stopped : {T : Type 0} (r : Result T Cause) (old new : History) (name : List ℕ) (picture : WholePicture)
     → IfErr r (λ c. GrewBy (StopsAtOutput name (pnm picture) c) old new)
-    → IfErr r (λ c. GrewBy (StopsAtFile (FitsFormat Pnm picture) (takes_memory Pnm) name (file Pnm picture) c) old new)
+    → IfErr r (λ c. GrewBy (StopsAtFile (FitsFormat Pnm picture) (IsTooLarge Pnm picture) (takes_memory Pnm) name (file Pnm picture) c) old new)
 pnm_stopped (Ok x) old new name picture h = tt
-pnm_stopped (Err c) old new name picture h = stopped_by_output (Unit {0}) false tt c old new name (pnm picture) h
+pnm_stopped (Err c) old new name picture h = stopped_by_output (Unit {0}) ⊥ false tt c old new name (pnm picture) h
 
 pub stopped_as_pnm : {T : Type 0} (f : Format) → f ≡ Pnm → (r : Result T Cause) (old new : History) (name : List ℕ) (picture : WholePicture)
-    → IfErr r (λ c. GrewBy (StopsAtOutput name (pnm picture) c) old new) → IfErr r (λ c. GrewBy (StopsAtFile (FitsFormat f picture) (takes_memory f) name (file f picture) c) old new)
+    → IfErr r (λ c. GrewBy (StopsAtOutput name (pnm picture) c) old new) → IfErr r (λ c. GrewBy (StopsAtFile (FitsFormat f picture) (IsTooLarge f picture) (takes_memory f) name (file f picture) c) old new)
 stopped_as_pnm {T} f e r old new name picture h =
-    subst (λ (x : Format). IfErr r (λ c. GrewBy (StopsAtFile (FitsFormat x picture) (takes_memory x) name (file x picture) c) old new)) (sym e) (pnm_stopped r old new name picture h)
+    subst (λ (x : Format). IfErr r (λ c. GrewBy (StopsAtFile (FitsFormat x picture) (IsTooLarge x picture) (takes_memory x) name (file x picture) c) old new)) (sym e) (pnm_stopped r old new name picture h)
 
 -- and a JPEG-LS file
+jls_stopped : {T : Type 0} (line : Bool) (ri : ℕ) (r : Result T Cause) (old new : History) (name : List ℕ) (picture : WholePicture) → IsPicture picture
+    → (o : WriteOptions) → o ≡ options_for line ri picture
+    → IfErr r (λ c. GrewBy (StopsAtFile (OptionsFit picture o) (OptionsFit picture o → ⊥) true name (written_file picture o) c) old new)
+    → IfErr r (λ c. GrewBy (StopsAtFile (FitsFormat (Jls line ri) picture) (IsTooLarge (Jls line ri) picture) (takes_memory (Jls line ri)) name (file (Jls line ri) picture) c) old new)
+jls_stopped line ri (Ok x) old new name picture is o are h = tt
+jls_stopped line ri (Err c) old new name picture is o are h =
+    let F = FitsFormat (Jls line ri) picture in
+    let large = IsTooLarge (Jls line ri) picture in
+    let bytes = file (Jls line ri) picture in
+    grew_as (StopsAtFile F (F → ⊥) true name bytes c) (StopsAtFile F large true name bytes c) old new
+    (λ events k. too_large_so F (F → ⊥) large true (only_too_large picture is line ri) name bytes c events k)
+    (subst (λ (x : WriteOptions). GrewBy (StopsAtFile (OptionsFit picture x) (OptionsFit picture x → ⊥) true name (written_file picture x) c) old new) are h)
+
 pub stopped_as_jls : {T : Type 0} (f : Format) (line : Bool) (ri : ℕ) → f ≡ Jls line ri
-    → (r : Result T Cause) (old new : History) (name : List ℕ) (picture : WholePicture)
-    (o : WriteOptions) → o ≡ options_for line ri picture → IfErr r (λ c. GrewBy (StopsAtFile (OptionsFit picture o) true name (written_file picture o) c) old new)
-    → IfErr r (λ c. GrewBy (StopsAtFile (FitsFormat f picture) (takes_memory f) name (file f picture) c) old new)
-stopped_as_jls {T} f line ri e r old new name picture o is h =
-    subst (λ (x : Format). IfErr r (λ c. GrewBy (StopsAtFile (FitsFormat x picture) (takes_memory x) name (file x picture) c) old new)) (sym e)
-    (subst (λ (x : WriteOptions). IfErr r (λ c. GrewBy (StopsAtFile (OptionsFit picture x) true name (written_file picture x) c) old new)) is h)
+    → (r : Result T Cause) (old new : History) (name : List ℕ) (picture : WholePicture) → IsPicture picture
+    → (o : WriteOptions) → o ≡ options_for line ri picture
+    → IfErr r (λ c. GrewBy (StopsAtFile (OptionsFit picture o) (OptionsFit picture o → ⊥) true name (written_file picture o) c) old new)
+    → IfErr r (λ c. GrewBy (StopsAtFile (FitsFormat f picture) (IsTooLarge f picture) (takes_memory f) name (file f picture) c) old new)
+stopped_as_jls {T} f line ri e r old new name picture is o are h =
+    subst (λ (x : Format). IfErr r (λ c. GrewBy (StopsAtFile (FitsFormat x picture) (IsTooLarge x picture) (takes_memory x) name (file x picture) c) old new)) (sym e)
+    (jls_stopped line ri r old new name picture is o are h)

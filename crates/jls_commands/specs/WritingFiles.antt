@@ -1,10 +1,10 @@
 -- What comes of the command `write`.
-use Rattle.std.specs.Prelude.{◌≡◌, ℕ, ◌<◌, Bool, true, false, List, [], ◌∷◌, ◌++◌, length, take, None, get_or}
+use Rattle.std.specs.Prelude.{◌≡◌, ℕ, ◌*◌, ◌^◌, ◌<◌, Bool, true, false, List, [], ◌∷◌, ◌++◌, length, take, None, get_or}
 use Rattle.jls_partial.specs.Partial.{PartialPicture}
 use Rattle.jls_partial.specs.Status.{IsSettled}
 use Rattle.jls_report.specs.Lines.{is_disputed}
 use Rattle.jls_picture.specs.Picture.{WholePicture, picture_of}
-use Rattle.jls_picture.specs.Options.{WriteOptions, OptionsFit}
+use Rattle.jls_picture.specs.Options.{WriteOptions, OptionsFit, components_of_scan, rows_of_interval}
 use Rattle.jls_picture.specs.Pnm.{pnm}
 use Rattle.jls_file.specs.WrittenFile.{written_file}
 use Rattle.jls_values.specs.ParamsOf.{in_force}
@@ -47,19 +47,27 @@ abbrev pub FitsFormat : Format → WholePicture → Type 0
 FitsFormat Pnm picture = Unit {0}
 FitsFormat (Jls line ri) picture = OptionsFit picture (options_for line ri picture)
 
+-- what alone can stand against it: as JPEG-LS, that an interval would have more than 2^28 samples
+abbrev pub HasTooLarge : WholePicture → WriteOptions → Type 0
+HasTooLarge picture o = 2 ^ 28 < picture.shape.width * components_of_scan picture.shape o * rows_of_interval picture.shape o
+
+abbrev pub IsTooLarge : Format → WholePicture → Type 0
+IsTooLarge Pnm picture = ⊥
+IsTooLarge (Jls line ri) picture = HasTooLarge picture (options_for line ri picture)
+
 -- whether memory is taken while the file goes out
 abbrev pub takes_memory : Format → Bool
 takes_memory Pnm = false
 takes_memory (Jls line ri) = true
 
--- the file of these bytes stops the command at an output of this name, for this cause: it can't be written, and nothing is created;
+-- the file of these bytes stops the command at an output of this name, for this cause: it is too large, and nothing is created;
 -- the output stops it; or memory runs out when so many of the bytes went out, from the front on and not all
-pub data StopsAtFile (Fits : Type 0) (takes : Bool) : List ℕ → List ℕ → Cause → List Event → Type 0 where
-  too_large : (name bytes : List ℕ) → (Fits → ⊥) → StopsAtFile Fits takes name bytes cause.TooLarge []
+pub data StopsAtFile (Fits TooLarge : Type 0) (takes : Bool) : List ℕ → List ℕ → Cause → List Event → Type 0 where
+  too_large : (name bytes : List ℕ) → TooLarge → StopsAtFile Fits TooLarge takes name bytes cause.TooLarge []
   at_output : (name bytes : List ℕ) (c : Cause) (events : List Event) → Fits → StopsAtOutput name bytes c events
-      → StopsAtFile Fits takes name bytes c events
+      → StopsAtFile Fits TooLarge takes name bytes c events
   no_memory : (name bytes : List ℕ) (count : ℕ) (writes : List Event) → Fits → takes ≡ true → count < length bytes
-      → Wrote (take count bytes) writes → StopsAtFile Fits takes name bytes cause.OutOfMemory (created name ∷ writes)
+      → Wrote (take count bytes) writes → StopsAtFile Fits TooLarge takes name bytes cause.OutOfMemory (created name ∷ writes)
 
 -- ---- the command
 
@@ -86,5 +94,6 @@ pub data WritesFile : Format → List ℕ → List ℕ → Outcome → List Even
       → r.cause ≡ unsettled_cause g.partial fault → WritesFile f out name (Refused r) reading
   at_file : (f : Format) (out name : List ℕ) (r : Refusal) (g : Given) (reading writing : List Event)
       → r.name.now ≡ out → IsTaken None name g reading → IsSettled g.partial
-      → StopsAtFile (FitsFormat f (picture_of g.partial)) (takes_memory f) out (file f (picture_of g.partial)) r.cause writing
+      → StopsAtFile (FitsFormat f (picture_of g.partial)) (IsTooLarge f (picture_of g.partial)) (takes_memory f) out
+      (file f (picture_of g.partial)) r.cause writing
       → WritesFile f out name (Refused r) (reading ++ writing)

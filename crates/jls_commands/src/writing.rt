@@ -1,18 +1,18 @@
 //! The command `write`.
 
-ghost use Rattle.std.specs.Prelude.{◌≡◌, true, OnOk, IfErr};
+ghost use Rattle.std.specs.Prelude.{◌≡◌, true, OnOk, IfErr, ⊥};
 ghost use Rattle.jls_device.specs.Event.{GrewBy};
 ghost use Rattle.jls_station.specs.Outputs.{HandsOut, StopsAtOutput};
 ghost use Rattle.jls_picture.specs.Unsettled.{NamesFirstUnsettled};
 ghost use Rattle.jls_file.specs.WrittenFile.{written_file};
 ghost use Rattle.jls_picture.specs.Options.{OptionsFit};
 ghost use Rattle.jls_picture.specs.Pnm.{pnm};
-ghost use Rattle.jls_commands.specs.WritingFiles.{cut_cause, file, FitsFormat, options_for, StopsAtFile, takes_memory, unsettled_cause, WritesFile};
+ghost use Rattle.jls_commands.specs.WritingFiles.{cut_cause, file, FitsFormat, IsTooLarge, options_for, StopsAtFile, takes_memory, unsettled_cause, WritesFile};
 
 use jls_device::Desk;
 use jls_file::write_jls;
 use jls_partial::Partial;
-use jls_picture::{Options, OutputFault, Picture, PictureFault, write_pnm};
+use jls_picture::{Options, OutputFault, Picture, PictureFault, pictures_are_whole, write_pnm};
 use jls_station::{Cause, Outcome, Refusal, open_and_read};
 use jls_values::Params;
 use std::alloc::Global;
@@ -89,8 +89,9 @@ fn hand_out_jls<D: Desk>(
     ensures fit { OnOk result (OptionsFit picture.now options.now) }
     ensures written { OnOk result (GrewBy (HandsOut name.now (written_file picture.now options.now)) (D.history desk.old)
         (D.history desk.new)) }
-    ensures stopped { IfErr result (λ cause. GrewBy (StopsAtFile (OptionsFit picture.now options.now) true name.now
-        (written_file picture.now options.now) cause) (D.history desk.old) (D.history desk.new)) }
+    ensures stopped { IfErr result (λ cause. GrewBy (StopsAtFile (OptionsFit picture.now options.now)
+        (OptionsFit picture.now options.now → ⊥) true name.now (written_file picture.now options.now) cause)
+        (D.history desk.old) (D.history desk.new)) }
 {
     if !options.fits(picture) {
         return Err(Cause::TooLarge);
@@ -115,12 +116,14 @@ fn hand_out<D: Desk>(
 ) -> Result<(), Cause>
     ensures fit { OnOk result (FitsFormat format picture.now) }
     ensures written { OnOk result (GrewBy (HandsOut name.now (file format picture.now)) (D.history desk.old) (D.history desk.new)) }
-    ensures stopped { IfErr result (λ cause. GrewBy (StopsAtFile (FitsFormat format picture.now) (takes_memory format) name.now
-        (file format picture.now) cause) (D.history desk.old) (D.history desk.new)) }
+    ensures stopped { IfErr result (λ cause. GrewBy (StopsAtFile (FitsFormat format picture.now) (IsTooLarge format picture.now)
+        (takes_memory format) name.now (file format picture.now) cause) (D.history desk.old) (D.history desk.new)) }
 {
     match format {
         Format::Pnm => hand_out_pnm(desk, name, picture),
         Format::Jls { line, ri } => {
+            // All else about default parameters fits.
+            pictures_are_whole(picture);
             let options = jls_options(picture, line, ri);
             hand_out_jls(alloc, desk, &options, name, picture)
         }

@@ -190,12 +190,12 @@ unfolding IsUnsettledCause
 not_at_output _ _ _ _ (output.not_there name bytes) (id, line, disputed, e) = cc
 not_at_output _ _ _ _ (output.cut name bytes count writes wrote) (id, line, disputed, e) = cc
 
-not_at_file : (F : Type 0) (takes : Bool) (name bytes : List ℕ) (c : Cause) (events : List Event) → StopsAtFile F takes name bytes c events
+not_at_file : (F L : Type 0) (takes : Bool) (name bytes : List ℕ) (c : Cause) (events : List Event) → StopsAtFile F L takes name bytes c events
     → IsUnsettledCause c → ⊥
 unfolding IsUnsettledCause
-not_at_file F takes _ _ _ _ (writing.too_large name bytes unfit) (id, line, disputed, e) = cc
-not_at_file F takes _ _ _ _ (writing.at_output name bytes c events fits stops) u = not_at_output name bytes c events stops u
-not_at_file F takes _ _ _ _ (writing.no_memory name bytes count writes fits is below wrote) (id, line, disputed, e) = cc
+not_at_file F L takes _ _ _ _ (writing.too_large name bytes unfit) (id, line, disputed, e) = cc
+not_at_file F L takes _ _ _ _ (writing.at_output name bytes c events fits stops) u = not_at_output name bytes c events stops u
+not_at_file F L takes _ _ _ _ (writing.no_memory name bytes count writes fits is below wrote) (id, line, disputed, e) = cc
 
 none_named : (p : PartialPicture) (fault : PictureFault) → IsSettled p → NamesFirstUnsettled p fault → ⊥
 none_named p (picture_fault.Unsettled component line) settled names =
@@ -219,7 +219,7 @@ refused_as_unsettled pic joining j _ _ _ _ _ (writing.unsettled f out name r g f
     let p = read_again pic joining j name g reading reading taken bytes same in
     none_named g.partial fault (subst IsSettled (sym p) (gives pic joining j).0.0) names
 refused_as_unsettled pic joining j _ _ _ _ _ (writing.at_file f out name r g reading handing e taken settled stops) same u =
-    not_at_file (FitsFormat f (picture_of g.partial)) (writing.takes_memory f) out (file f (picture_of g.partial)) r.cause handing stops u
+    not_at_file (FitsFormat f (picture_of g.partial)) (writing.IsTooLarge f (picture_of g.partial)) (writing.takes_memory f) out (file f (picture_of g.partial)) r.cause handing stops u
 
 pub written_joins_are_settled : WrittenJoinsAreSettled
 unfolding IsUnsettledCause IsRefusedFor

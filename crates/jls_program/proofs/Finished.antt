@@ -56,11 +56,11 @@ status_at_output name bytes _ _ (outputs.not_there _ _) = omega arith
 status_at_output name bytes _ _ (outputs.cut _ _ count writes h) = omega arith
 
 -- a file that does not go out has at least status 2
-status_at_file : (F : Type 0) (takes : Bool) (name bytes : List ℕ) (c : Cause) (events : List Event)
-    → StopsAtFile F takes name bytes c events → 2 ≤ exit_status_of_cause c
-status_at_file F takes name bytes _ _ (writing.too_large _ _ never) = omega arith
-status_at_file F takes name bytes c _ (writing.at_output _ _ _ events fit h) = let k = status_at_output name bytes c events h in omega (arith, k)
-status_at_file F takes name bytes _ _ (writing.no_memory _ _ count writes fit is lt h) = omega arith
+status_at_file : (F L : Type 0) (takes : Bool) (name bytes : List ℕ) (c : Cause) (events : List Event)
+    → StopsAtFile F L takes name bytes c events → 2 ≤ exit_status_of_cause c
+status_at_file F L takes name bytes _ _ (writing.too_large _ _ large) = omega arith
+status_at_file F L takes name bytes c _ (writing.at_output _ _ _ events fit h) = let k = status_at_output name bytes c events h in omega (arith, k)
+status_at_file F L takes name bytes _ _ (writing.no_memory _ _ count writes fit is lt h) = omega arith
 
 status_of_memory : (c : Cause) → c ≡ cause.OutOfMemory → 3 ≤ exit_status_of_cause c
 status_of_memory c is = let e : exit_status_of_cause c ≡ 5 = ap exit_status_of_cause is in omega (arith, e)
@@ -175,7 +175,7 @@ write_finished format out name _ events desk desk' (writing.at_input _ _ _ r _ n
 write_finished format out name _ events desk desk' (writing.unsettled _ _ _ r g f _ named taken first because) e is =
     let k = status_of_unsettled g.partial f r.cause because in absurd (omega (arith, k, is))
 write_finished format out name _ _ desk desk' (writing.at_file _ _ _ r g reading written named taken settled stops) e is =
-    let k = status_at_file _ _ out _ r.cause written stops in absurd (omega (arith, k, is))
+    let k = status_at_file _ _ _ out _ r.cause written stops in absurd (omega (arith, k, is))
 
 not_settled : (p : PartialPicture) (f : PictureFault) → NamesFirstUnsettled p f → IsSettled p → ⊥
 not_settled p (Unsettled component line) first settled =
@@ -193,7 +193,7 @@ write_stopped format out name _ events desk desk' (writing.at_input _ _ _ r _ na
 write_stopped format out name _ events desk desk' (writing.unsettled _ _ _ r g f _ named taken first because) e is =
     (g, record { events = events; grew = e; they_are = taken }, not_settled g.partial f first)
 write_stopped format out name _ _ desk desk' (writing.at_file _ _ _ r g reading written named taken settled stops) e is =
-    let k = status_at_file _ _ out _ r.cause written stops in absurd (omega (arith, k, is))
+    let k = status_at_file _ _ _ out _ r.cause written stops in absurd (omega (arith, k, is))
 
 came_as : (format : Format) (out name : Text) (outcome : Outcome) (desk report : List Event)
     → CameOf (written_as format out name) outcome desk report

@@ -108,12 +108,12 @@ tell_unfit traced name _ events _ (telling.no_memory _ r g _ named is taken) e =
 tell_unfit traced name _ events reported (telling.not_printed _ r g count _ _ named is taken wrote) e =
     let k : exit_status_of_cause r.cause ≡ 4 = ap exit_status_of_cause is in absurd (omega (arith, k, e))
 
-file_not_3 : (F : Type 0) (takes : Bool) (name bytes : List ℕ) (c : Cause) (events : List Event) → StopsAtFile F takes name bytes c events
+file_not_3 : (F L : Type 0) (takes : Bool) (name bytes : List ℕ) (c : Cause) (events : List Event) → StopsAtFile F L takes name bytes c events
     → exit_status_of_cause c ≡ 3 → ⊥
-file_not_3 F takes name bytes _ _ (writing.too_large _ _ never) e = absurd (omega (arith, e))
-file_not_3 F takes name bytes c _ (writing.at_output _ _ _ events fit h) e =
+file_not_3 F L takes name bytes _ _ (writing.too_large _ _ large) e = absurd (omega (arith, e))
+file_not_3 F L takes name bytes c _ (writing.at_output _ _ _ events fit h) e =
     let k = output_is_4 name bytes c events h in absurd (omega (arith, k, e))
-file_not_3 F takes name bytes _ _ (writing.no_memory _ _ count writes fit is lt h) e = absurd (omega (arith, e))
+file_not_3 F L takes name bytes _ _ (writing.no_memory _ _ count writes fit is lt h) e = absurd (omega (arith, e))
 
 write_unfit : (format : Format) (out name : List ℕ) (outcome : Outcome) (events : List Event)
     → WritesFile format out name outcome events → exit_status outcome ≡ 3 → EndsAtUnfit None (name ∷ []) events
@@ -122,7 +122,7 @@ write_unfit format out name _ events (writing.at_input _ _ _ r _ named h) e = en
 write_unfit format out name _ events (writing.unsettled _ _ _ r g f _ named taken first because) e =
     let k = status_of_unsettled g.partial f r.cause because in absurd (omega (arith, k, e))
 write_unfit format out name _ _ (writing.at_file _ _ _ r g reading written named taken settled stops) e =
-    absurd (file_not_3 _ _ out _ r.cause written stops e)
+    absurd (file_not_3 _ _ _ out _ r.cause written stops e)
 
 came_unfit : (asked : Asked) (outcome : Outcome) (desk report : List Event) → CameOf asked outcome desk report → exit_status outcome ≡ 3
     → EndsAtUnfit (source_of asked) (inputs_of asked) desk
@@ -176,13 +176,13 @@ tell_not_2 traced name _ events _ (telling.no_memory _ r g _ named is taken) e =
 tell_not_2 traced name _ events reported (telling.not_printed _ r g count _ _ named is taken wrote) e =
     let k : exit_status_of_cause r.cause ≡ 4 = ap exit_status_of_cause is in absurd (omega (arith, k, e))
 
--- the file is not begun, and does not fit
-file_with_2 : (F : Type 0) (takes : Bool) (name bytes : List ℕ) (c : Cause) (events : List Event) → StopsAtFile F takes name bytes c events
-    → exit_status_of_cause c ≡ 2 → (F → ⊥) × (events ≡ [])
-file_with_2 F takes name bytes _ _ (writing.too_large _ _ never) e = (never, refl)
-file_with_2 F takes name bytes c _ (writing.at_output _ _ _ events fit h) e =
+-- the file is not begun, and is too large
+file_with_2 : (F L : Type 0) (takes : Bool) (name bytes : List ℕ) (c : Cause) (events : List Event) → StopsAtFile F L takes name bytes c events
+    → exit_status_of_cause c ≡ 2 → L × (events ≡ [])
+file_with_2 F L takes name bytes _ _ (writing.too_large _ _ large) e = (large, refl)
+file_with_2 F L takes name bytes c _ (writing.at_output _ _ _ events fit h) e =
     let k = output_is_4 name bytes c events h in absurd (omega (arith, k, e))
-file_with_2 F takes name bytes _ _ (writing.no_memory _ _ count writes fit is lt h) e = absurd (omega (arith, e))
+file_with_2 F L takes name bytes _ _ (writing.no_memory _ _ count writes fit is lt h) e = absurd (omega (arith, e))
 
 module _ (words : List (List ℕ)) (desk desk' : History) where
   write_with_2 : (format : Format) (out name : List ℕ) (outcome : Outcome) (events : List Event)
@@ -194,9 +194,9 @@ module _ (words : List (List ℕ)) (desk desk' : History) where
   write_with_2 format out name _ events (writing.unsettled _ _ _ r g f _ named taken first because) e asks grew =
       let k = status_of_unsettled g.partial f r.cause because in absurd (omega (arith, k, e))
   write_with_2 Pnm out name _ _ (writing.at_file _ _ _ r g reading written named taken settled stops) e asks grew =
-      let h = file_with_2 _ _ out _ r.cause written stops e in absurd (h.0 tt)
+      let h = file_with_2 _ _ _ out _ r.cause written stops e in absurd h.0
   write_with_2 (Jls line rows) out name _ _ (writing.at_file _ _ _ r g reading written named taken settled stops) e asks grew =
-      let h = file_with_2 _ _ out _ r.cause written stops e in
+      let h = file_with_2 _ _ _ out _ r.cause written stops e in
       record {
         line = line;
         rows = rows;

@@ -186,11 +186,11 @@ tell_failed traced name _ events _ (telling.no_memory _ r g _ named is taken) e 
     let k : exit_status_of_cause r.cause ≡ 5 = ap exit_status_of_cause is in absurd (omega (arith, k, e))
 tell_failed traced name _ events reported (telling.not_printed _ r g count _ _ named is taken wrote) e = inr (front_failed (lines traced g) count reported wrote)
 
-file_failed : (F : Type 0) (takes : Bool) (name bytes : List ℕ) (c : Cause) (events : List Event) → StopsAtFile F takes name bytes c events
+file_failed : (F L : Type 0) (takes : Bool) (name bytes : List ℕ) (c : Cause) (events : List Event) → StopsAtFile F L takes name bytes c events
     → exit_status_of_cause c ≡ 4 → HadFailure events
-file_failed F takes name bytes _ _ (writing.too_large _ _ never) e = absurd (omega (arith, e))
-file_failed F takes name bytes c _ (writing.at_output _ _ _ events fit h) e = failed_at_output name bytes c events h
-file_failed F takes name bytes _ _ (writing.no_memory _ _ count writes fit is lt h) e = absurd (omega (arith, e))
+file_failed F L takes name bytes _ _ (writing.too_large _ _ large) e = absurd (omega (arith, e))
+file_failed F L takes name bytes c _ (writing.at_output _ _ _ events fit h) e = failed_at_output name bytes c events h
+file_failed F L takes name bytes _ _ (writing.no_memory _ _ count writes fit is lt h) e = absurd (omega (arith, e))
 
 write_failed_so : (format : Format) (out name : List ℕ) (outcome : Outcome) (events : List Event)
     → WritesFile format out name outcome events
@@ -201,7 +201,7 @@ write_failed_so format out name _ events (writing.at_input _ _ _ r _ named h) e 
 write_failed_so format out name _ events (writing.unsettled _ _ _ r g f _ named taken first because) e =
     let k = status_of_unsettled g.partial f r.cause because in absurd (omega (arith, k, e))
 write_failed_so format out name _ _ (writing.at_file _ _ _ r g reading written named taken settled stops) e =
-    failed_right reading written (file_failed _ _ out _ r.cause written stops e)
+    failed_right reading written (file_failed _ _ _ out _ r.cause written stops e)
 
 came_failed : (asked : Asked) (outcome : Outcome) (desk report : List Event) → CameOf asked outcome desk report → exit_status outcome ≡ 4
     → HadFailure desk ⊎ HadFailure report
@@ -314,12 +314,12 @@ tell_creates_none traced name _ events _ (telling.no_memory _ r g _ named is tak
 tell_creates_none traced name _ events reported (telling.not_printed _ r g count _ _ named is taken wrote) ge le =
     let k : exit_status_of_cause r.cause ≡ 4 = ap exit_status_of_cause is in absurd (omega (arith, k, le))
 
-file_creates_none : (F : Type 0) (takes : Bool) (name bytes : List ℕ) (c : Cause) (events : List Event)
-    → StopsAtFile F takes name bytes c events
+file_creates_none : (F L : Type 0) (takes : Bool) (name bytes : List ℕ) (c : Cause) (events : List Event)
+    → StopsAtFile F L takes name bytes c events
     → exit_status_of_cause c ≤ 3 → list_any is_creation events ≡ false
-file_creates_none F takes name bytes _ _ (writing.too_large _ _ never) le = refl
-file_creates_none F takes name bytes c _ (writing.at_output _ _ _ events fit h) le = absurd (output_else name bytes c events h le)
-file_creates_none F takes name bytes _ _ (writing.no_memory _ _ count writes fit is lt h) le = absurd (omega (arith, le))
+file_creates_none F L takes name bytes _ _ (writing.too_large _ _ large) le = refl
+file_creates_none F L takes name bytes c _ (writing.at_output _ _ _ events fit h) le = absurd (output_else name bytes c events h le)
+file_creates_none F L takes name bytes _ _ (writing.no_memory _ _ count writes fit is lt h) le = absurd (omega (arith, le))
 
 write_creates_none : (format : Format) (out name : List ℕ) (outcome : Outcome) (events : List Event)
     → WritesFile format out name outcome events
@@ -328,7 +328,7 @@ write_creates_none format out name _ _ (writing.done _ _ _ g whole reading writt
 write_creates_none format out name _ events (writing.at_input _ _ _ r _ named h) ge le = none_at_input None [] name r.cause events h
 write_creates_none format out name _ events (writing.unsettled _ _ _ r g f _ named taken first because) ge le = none_taken None name g events taken
 write_creates_none format out name _ _ (writing.at_file _ _ _ r g reading written named taken settled stops) ge le =
-    none_both reading written (none_taken None name g reading taken) (file_creates_none _ _ out _ r.cause written stops le)
+    none_both reading written (none_taken None name g reading taken) (file_creates_none _ _ _ out _ r.cause written stops le)
 
 came_creates_none : (asked : Asked) (outcome : Outcome) (desk report : List Event) → CameOf asked outcome desk report
     → 2 ≤ exit_status outcome → exit_status outcome ≤ 3

@@ -4,7 +4,6 @@ use Rattle.std.specs.List.{list_any}
 use Rattle.clap.specs.Words.{Text}
 use Rattle.clap.specs.declared.error.kind.ErrorKind.{ErrorKind}
 use Rattle.jls_partial.specs.Status.{IsSettled}
-use Rattle.jls_picture.specs.Options.{OptionsFit}
 use Rattle.jls_picture.specs.Picture.{picture_of}
 use Rattle.jls_device.specs.Event.{Event, History, GrewBy, opened, is_creation, is_read, is_failed_opening, is_failed_read, is_failed_write}
 use Rattle.jls_device.specs.Writing.{Printed}
@@ -13,7 +12,8 @@ use Rattle.jls_station.specs.Inputs.{IsEnough, IsOfOtherShape, IsRefused, IsTake
 use Rattle.jls_station.specs.Reading.{IsRead}
 use Rattle.jls_station.specs.declared.input.InputFault.{InputFault}
 use Rattle.jls_station.specs.declared.input.ReadStop.TheVariants.{Whole}
-use Rattle.jls_commands.specs.WritingFiles.{options_for}
+use Rattle.jls_commands.specs.WritingFiles.{IsTooLarge}
+use Rattle.jls_commands.specs.declared.writing.Format.TheVariants.{Jls}
 use Rattle.jls_words.specs.Words.{AreRefused, is_help}
 use Rattle.jls_words.specs.Asking.{Asked, check, join, show, write_pnm, write_jls, AskFor, AskForNothing}
 use Rattle.jls_program.specs.FaultLines.{out_of_memory_line}
@@ -52,8 +52,8 @@ WantOfMemoryIsTold =
 abbrev pub AreMisused : List Text → Type 0
 AreMisused words = (k : ErrorKind) × AreRefused words k × (is_help k ≡ false)
 
--- the words ask for the JPEG-LS file of what one input gives; it was taken, and nothing else was done; each line of it is settled, and the
--- options do not fit the picture
+-- the words ask for the JPEG-LS file of what one input gives; it was taken, and nothing else was done; each line of it is settled, and an
+-- interval of the file would have more than 2^28 samples
 pub record AskForTooMuch (words : List Text) (desk desk' : History) : Type 0 where
   pub line : Bool
   pub rows : ℕ
@@ -63,7 +63,7 @@ pub record AskForTooMuch (words : List Text) (desk desk' : History) : Type 0 whe
   pub g : Given
   pub taken : GrewBy (IsTaken None name g) desk desk'
   pub settled : IsSettled g.partial
-  pub too_large : OptionsFit (picture_of g.partial) (options_for line rows (picture_of g.partial)) → ⊥
+  pub too_large : IsTooLarge (Jls line rows) (picture_of g.partial)
 
 -- Where a run ends with status 2, it is for its words: clap refuses them, they ask for nothing that there is, or for a file whose
 -- intervals would be too large

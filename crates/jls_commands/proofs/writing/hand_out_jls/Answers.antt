@@ -13,14 +13,14 @@ pub returns-then-not-fits-clause-stopped : goal.returns-then-not-fits-clause-sto
 returns-then-not-fits-clause-stopped g c =
     let F = OptionsFit c.args.picture.now c.args.options.now in
     let no : F → ⊥ = λ fit. let e : true ≡ false = sym (c.fits.ensures.1 fit) ∙ c.if-not-fits.true in absurd cc in
-    stops_before F true no (g.D.Device.history c.args.desk.now) c.args.name.now (written_file c.args.picture.now c.args.options.now)
+    stops_before F (F → ⊥) true no (g.D.Device.history c.args.desk.now) c.args.name.now (written_file c.args.picture.now c.args.options.now)
 
 pub returns-in-Err-clause-stopped : goal.returns-in-Err-clause-stopped
 returns-in-Err-clause-stopped g c =
     let desk = g.D.Device.history in
     let F = OptionsFit c.args.picture.now c.args.options.now in
     let bytes = written_file c.args.picture.now c.args.options.now in
-    stopped_by_output F true (c.fits.ensures.0 c.if-not-fits.false) cause.NotCreated (desk c.args.desk.now) (desk c.create_output.new.self) c.args.name.now bytes
+    stopped_by_output F (F → ⊥) true (c.fits.ensures.0 c.if-not-fits.false) cause.NotCreated (desk c.args.desk.now) (desk c.create_output.new.self) c.args.name.now bytes
     (not_created_at_all (desk c.args.desk.now) (desk c.args.desk.now) (desk c.create_output.new.self) c.args.name.now bytes c.in-Err.ensures.failed)
 
 pub returns-in-Err-write_jls-clause-stopped : goal.returns-in-Err-write_jls-clause-stopped
@@ -29,6 +29,6 @@ returns-in-Err-write_jls-clause-stopped g c =
     let name = c.args.name.now in
     let F = OptionsFit c.args.picture.now c.args.options.now in
     let bytes = written_file c.args.picture.now c.args.options.now in
-    subst (λ (cause : Cause). GrewBy (StopsAtFile F true name bytes cause) (desk c.args.desk.now) (desk c.write_jls.new.sink)) (sym c.cut.ensures)
-    (cut_in_file F (c.fits.ensures.0 c.if-not-fits.false) c.in-Err-write_jls.fault (desk c.args.desk.now) (desk c.create_output.new.self) (desk c.write_jls.new.sink) name bytes _ _
+    subst (λ (cause : Cause). GrewBy (StopsAtFile F (F → ⊥) true name bytes cause) (desk c.args.desk.now) (desk c.write_jls.new.sink)) (sym c.cut.ensures)
+    (cut_in_file F (F → ⊥) (c.fits.ensures.0 c.if-not-fits.false) c.in-Err-write_jls.fault (desk c.args.desk.now) (desk c.create_output.new.self) (desk c.write_jls.new.sink) name bytes _ _
     c.in-Ok.ensures.created c.in-Err-write_jls.ensures.stops)

@@ -5,7 +5,7 @@ use Rattle.jls_partial.specs.Partial.{PartialPicture}
 use Rattle.jls_partial.specs.Status.{IsSettled}
 use Rattle.jls_picture.specs.Picture.{WholePicture, picture_of}
 use Rattle.jls_picture.specs.Unsettled.{NamesFirstUnsettled}
-use Rattle.jls_commands.specs.WritingFiles.{file, FitsFormat, takes_memory, StopsAtFile, unsettled_cause}
+use Rattle.jls_commands.specs.WritingFiles.{file, FitsFormat, IsTooLarge, takes_memory, StopsAtFile, unsettled_cause}
 use Rattle.jls_commands.proofs.Written.{stops_at_input, stops_unsettled, is_written, stops_at_file}
 use Rattle.jls_commands.proofs.writing.write.Goals as goal
 
@@ -38,7 +38,7 @@ pub returns : goal.returns
 returns g c =
     let desk = g.D.Device.history in
     let is = c.partial-partial.ensures in
-    let stopped = subst (λ (p : WholePicture). GrewBy (StopsAtFile (FitsFormat c.args.format p) (takes_memory c.args.format) c.args.out.now (file c.args.format p) c.in-Err-hand_out.cause) (desk c.open_and_read.new.desk) (desk c.hand_out.new.desk))
+    let stopped = subst (λ (p : WholePicture). GrewBy (StopsAtFile (FitsFormat c.args.format p) (IsTooLarge c.args.format p) (takes_memory c.args.format) c.args.out.now (file c.args.format p) c.in-Err-hand_out.cause) (desk c.open_and_read.new.desk) (desk c.hand_out.new.desk))
     (c.in-Ok-of.ensures.picture ∙ ap picture_of is) c.in-Err-hand_out.ensures.stopped in
     stops_at_file c.args.format c.args.out.now c.args.file.now (desk c.args.desk.now) (desk c.open_and_read.new.desk) (desk c.hand_out.new.desk) c.in-Ok.input c.in-Ok.ensures.taken
     (subst IsSettled is c.in-Ok-of.ensures.settled) _ refl stopped
