@@ -2,10 +2,10 @@
 use Rattle.std.proofs.Common.{◌≡◌, ◌↔◌, ◌⊎◌, ℕ, zero, suc, ◌+◌, ◌-◌, ◌*◌, ◌/◌, ◌%◌, ◌^◌, ◌<◌, ◌≤◌, Bool, true, false, eqb, ltb, List, [], ◌∷◌, ◌++◌, length, replicate, refl, sym, ap, ◌∙◌, subst, arith, inl, inr, append_assoc, length-append}
 use Rattle.std.specs.Prelude.{ℤ, pos, negsuc, ◌+ℤ◌, ◌≤ℤ◌, neg_ℤ}
 use Rattle.std.specs.List.{AllByRecursion}
-use Rattle.std.proofs.lemmas.List.{append-nil, length-replicate, replicate-append-replicate}
+use Rattle.std.proofs.lemmas.List.{append-nil, replicate-append-replicate}
 use Rattle.std.proofs.lemmas.Int.{ints}
 use Rattle.std.proofs.lemmas.Bool.{cases_Bool, cases_lt, cases_eq, eqb-true, eqb-false}
-use Rattle.std.proofs.lemmas.Nat.{pow_pos, pow-add, shl_below, shl-shr, shr_below}
+use Rattle.std.proofs.lemmas.Nat.{pow_pos, shl_below, shl-shr, shr_below}
 use Rattle.std.proofs.Math.Nat.{div-mul-le_self}
 use Rattle.jls_values.specs.Params.{CodingParameters, AreCodingParameters, range, qbpp, limit}
 use Rattle.jls_bits.specs.Bits.{bits}
@@ -18,15 +18,15 @@ use Rattle.jls_context.specs.Errors.{IsError, prediction_error}
 use Rattle.jls_context.specs.Regular.{regular_k, regular_mapped}
 use Rattle.jls_context.specs.Interruption.{run_k, interruption_mapped}
 use Rattle.jls_context.proofs.Samples.{error_range, sample_same, restored}
-use Rattle.jls_interval.specs.Events.{Event, regular, run_to_end, interrupted_run, Above, neighbours, above}
+use Rattle.jls_interval.specs.Events.{Event, regular, run_to_end, interrupted_run, Above, above}
 use Rattle.jls_interval.specs.Cells.{is_same, cell_before, run_cell_before, regular_prediction, interruption_error}
 use Rattle.jls_interval.specs.Runs.{run_order, run_index_raised, block_columns, full_blocks, Blocks, blocks, run_index_before}
 use Rattle.jls_interval.specs.Code.{event_bits, run_to_end_bits, interrupting_bits}
-use Rattle.jls_interval.specs.Growth.{Position, Fits, here, IsNext, HasSamples}
-use Rattle.jls_interval.specs.CutEvents.{IsProperPrefix, CutsNextEvent, CutsSample, CutsBlocks, CutsCount, behind_run, CutsInterruption, CutsRun, CutsByCases}
+use Rattle.jls_interval.specs.Growth.{Position, here, IsNext, HasSamples}
+use Rattle.jls_interval.specs.CutEvents.{IsProperPrefix, CutsNextEvent, CutsSample, CutsBlocks, CutsCount, behind_run, CutsInterruption, CutsByCases}
 use Rattle.jls_interval.proofs.StepwiseCodes.{one_begins}
 use Rattle.jls_interval.proofs.Runs.{full_fit, full_only}
-use Rattle.jls_interval.proofs.EventsApart.{predicted_small, run_value, b_small, small_back}
+use Rattle.jls_interval.proofs.EventsApart.{predicted_small, b_small, small_back}
 use Rattle.jls_interval.proofs.CodesApart.{a_small}
 
 -- Bits in general -----------------------------------------------------------------------------------

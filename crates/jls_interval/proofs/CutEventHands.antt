@@ -1,14 +1,14 @@
 -- The event in hand, from its run or its sample.
-use Rattle.std.proofs.Common.{◌≡◌, ℕ, ◌+◌, ◌-◌, ◌<◌, ◌≤◌, replicate, Bool, true, false, List, [], ◌∷◌, ◌++◌, length, get_or, refl, sym, ap, ◌∙◌, subst, arith, append_assoc, inl, inr}
+use Rattle.std.proofs.Common.{◌≡◌, ℕ, ◌+◌, ◌-◌, ◌<◌, ◌≤◌, Bool, true, false, List, [], ◌∷◌, ◌++◌, length, get_or, refl, sym, ap, ◌∙◌, arith, inl, inr}
 use Rattle.std.specs.List.{AllByRecursion}
 use Rattle.std.proofs.lemmas.List.{append-nil}
 use Rattle.std.proofs.lemmas.Bool.{cases_eq}
-use Rattle.jls_values.specs.Params.{CodingParameters, AreCodingParameters, qbpp, limit}
+use Rattle.jls_values.specs.Params.{CodingParameters, AreCodingParameters}
 use Rattle.jls_context.specs.declared.mode.Neighbours.{Neighbours}
 use Rattle.jls_context.specs.declared.interruption.RunCell.{RunCell}
 use Rattle.jls_context.specs.Mode.{is_run_mode, context}
 use Rattle.jls_context.specs.Variables.{Variables, cell_at, run_cell_at}
-use Rattle.jls_interval.specs.Events.{Event, regular, interrupted_run, Above, neighbours}
+use Rattle.jls_interval.specs.Events.{Event, regular, interrupted_run, Above}
 use Rattle.jls_interval.specs.Cells.{is_same, run_cell_before}
 use Rattle.jls_interval.specs.Code.{event_bits, interrupting_bits, interrupted_run_bits}
 use Rattle.jls_interval.specs.Runs.{run_order, blocks}
@@ -21,7 +21,6 @@ use Rattle.jls_interval.specs.CutEvents.{IsProperPrefix}
 use Rattle.jls_interval.specs.CutHands.{BeginsSample, BeginsInterruption, BeginsRun, BeginsEvent}
 use Rattle.jls_interval.specs.declared.run_reader.Run.TheVariants.{Interrupted}
 use Rattle.jls_interval.proofs.GrownLines.{some_fits}
-use Rattle.jls_interval.proofs.EventsApart.{run_value, b_small}
 use Rattle.jls_interval.proofs.SamplesRead.{wide}
 use Rattle.jls_interval.proofs.RunEvents.{run_alone, run_broken, run_fits}
 use Rattle.jls_interval.proofs.AfterEvents.{sample_bits}

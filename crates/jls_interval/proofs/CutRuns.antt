@@ -1,16 +1,14 @@
 -- Runs that break off.
 use mir.Val.{bool_byte}
-use Rattle.std.proofs.Common.{◌≡◌, ℕ, zero, suc, ◌+◌, ◌-◌, ◌*◌, ◌/◌, ◌^◌, ◌<◌, ◌≤◌, Bool, true, false, eqb, ◌%◌, List, [], ◌∷◌, ◌++◌, length, refl, sym, ap, ◌∙◌, subst, arith, append_assoc}
+use Rattle.std.proofs.Common.{◌≡◌, ℕ, zero, suc, ◌+◌, ◌-◌, ◌*◌, ◌/◌, ◌^◌, ◌<◌, ◌≤◌, Bool, false, eqb, ◌%◌, List, [], ◌∷◌, ◌++◌, refl, sym, ap, ◌∙◌, subst, arith, append_assoc}
 use Rattle.std.proofs.lemmas.List.{append-nil}
 use Rattle.std.proofs.lemmas.Nat.{shl_below, shl-shr, pow_pos}
 use Rattle.std.proofs.Math.Nat.{mul-le-mul_right, pow-succ'}
 use Rattle.jls_bits.specs.Bits.{bits}
-use Rattle.jls_bits.proofs.NumberBits.{bits_more, bits_split, bits_none}
-use Rattle.jls_interval.specs.Code.{interrupted_run_bits}
+use Rattle.jls_bits.proofs.NumberBits.{bits_more, bits_split}
 use Rattle.jls_interval.specs.Runs.{run_order, blocks}
 use Rattle.jls_interval.specs.Reading.{NoRun, Taken}
 use Rattle.jls_interval.specs.RunState.{IsRunState, RunAt}
-use Rattle.jls_interval.specs.CutEvents.{IsProperPrefix}
 use Rattle.jls_interval.specs.CutHands.{BeginsRun}
 use Rattle.jls_interval.specs.declared.run_reader.RunState.{RunState}
 use Rattle.jls_interval.specs.declared.run_reader.RunState.TheVariants.{Blocks, Count}

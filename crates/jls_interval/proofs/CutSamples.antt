@@ -1,8 +1,8 @@
 -- Codes that break off: which numbers were tried, and what follows where none of them can be.
-use Rattle.std.proofs.Common.{◌≡◌, ℕ, ◌+◌, ◌-◌, ◌^◌, ◌<◌, ◌≤◌, Bool, true, false, ltb, List, [], ◌∷◌, ◌++◌, length, refl, sym, ap, ◌∙◌, subst, arith, inl, inr}
+use Rattle.std.proofs.Common.{◌≡◌, ℕ, ◌+◌, ◌-◌, ◌^◌, ◌<◌, ◌≤◌, Bool, true, ltb, List, [], ◌∷◌, ◌++◌, sym, ◌∙◌, subst, arith, inl, inr}
 use Rattle.std.proofs.lemmas.List.{append-nil}
 use Rattle.std.proofs.lemmas.Bool.{cases_lt}
-use Rattle.jls_values.specs.Params.{CodingParameters, AreCodingParameters, range, qbpp, limit}
+use Rattle.jls_values.specs.Params.{CodingParameters, AreCodingParameters, qbpp, limit}
 use Rattle.jls_bits.specs.Golomb.{golomb, has_golomb, BeginsCodeOf}
 use Rattle.jls_bits.specs.CodeState.{IsOpen, bits_told}
 use Rattle.jls_bits.specs.declared.code_state.CodeState.{CodeState}
@@ -17,7 +17,6 @@ use Rattle.jls_context.specs.Interruption.{run_k, interruption_mapped}
 use Rattle.jls_context.proofs.Samples.{error_range}
 use Rattle.jls_context.proofs.Sizes.{error_mapped_at_most, interruption_mapped_at_most}
 use Rattle.jls_interval.specs.Cells.{is_same, regular_error, regular_prediction, interruption_error}
-use Rattle.jls_interval.specs.Code.{regular_bits, interrupting_bits}
 use Rattle.jls_interval.specs.Reading.{NoSample, NoInterruption}
 use Rattle.jls_interval.specs.CutEvents.{IsProperPrefix}
 use Rattle.jls_interval.proofs.EventsApart.{limit_room}

@@ -1,12 +1,12 @@
 -- What a decoder that is given a few bits at a time keeps, through each of its steps.
-use Rattle.std.proofs.Common.{◌≡◌, ℕ, ◌+◌, ◌%◌, ◌<◌, ◌≤◌, Bool, List, [], ◌∷◌, ◌++◌, length, get_or, min, refl, sym, ap, ◌∙◌, subst, arith, append_assoc, length-append}
+use Rattle.std.proofs.Common.{◌≡◌, ℕ, ◌%◌, ◌<◌, ◌≤◌, Bool, List, [], ◌∷◌, ◌++◌, length, get_or, refl, sym, ap, ◌∙◌, subst, arith, append_assoc}
 use Rattle.std.proofs.lemmas.List.{append-nil}
 use Rattle.jls_values.specs.Params.{CodingParameters, AreCodingParameters}
 use Rattle.jls_context.specs.Variables.{Variables, initial_variables}
 use Rattle.jls_bits.specs.Bits.{bits_read}
 use Rattle.jls_bits.proofs.DataBits.{data_end}
 use Rattle.jls_interval.specs.Events.{Event, above, events}
-use Rattle.jls_interval.specs.Code.{event_bits, code}
+use Rattle.jls_interval.specs.Code.{event_bits}
 use Rattle.jls_interval.specs.Growth.{Position, IsNext, grown, moved, interval_steps, start, finish}
 use Rattle.jls_interval.specs.PieceFaults.{NoLines}
 use Rattle.jls_interval.specs.Hands.{NoEvent, HandAt, EventDone}

@@ -7,7 +7,7 @@ use Rattle.jls_context.specs.Mode.{is_run_mode, context}
 use Rattle.jls_context.specs.Regular.{regular_k}
 use Rattle.jls_context.specs.Interruption.{run_k}
 use Rattle.jls_context.specs.Variables.{Variables, cell_at, run_cell_at}
-use Rattle.jls_bits.specs.CodeState.{IsOpen, bits_told, BeginsCode}
+use Rattle.jls_bits.specs.CodeState.{bits_told, BeginsCode}
 use Rattle.jls_bits.proofs.CodeSteps.{begins, none_whole}
 use Rattle.jls_interval.specs.Events.{Event, regular, run_to_end, interrupted_run, Above, neighbours}
 use Rattle.jls_interval.specs.Cells.{is_same}
@@ -16,7 +16,6 @@ use Rattle.jls_interval.specs.Code.{event_bits, interrupted_run_bits}
 use Rattle.jls_bits.specs.Bits.{bits}
 use Rattle.jls_interval.specs.Growth.{Fits}
 use Rattle.jls_interval.specs.Reading.{NoSample, NoInterruption}
-use Rattle.jls_bits.specs.declared.code_state.CodeState.TheVariants.{Zeros}
 use Rattle.jls_interval.specs.After.{IsAfter}
 use Rattle.jls_interval.specs.Hands.{NoEvent, now_at, behind, HandAt, EventStepIs, EventPushed}
 use Rattle.jls_interval.specs.declared.line_reader.LineReader.{LineReader}

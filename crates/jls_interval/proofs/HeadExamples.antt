@@ -1,5 +1,5 @@
 -- Worked examples of heads, computed from the definitions alone.
-use Rattle.std.proofs.Common.{◌≡◌, ℕ, ◌<◌, Bool, true, false, List, [], ◌∷◌, ◌++◌, length, replicate, refl, sym, ap, ◌∙◌, subst, lit<, lit≤, append_assoc, inl, inr}
+use Rattle.std.proofs.Common.{◌≡◌, ℕ, Bool, true, false, List, [], ◌∷◌, ◌++◌, length, replicate, refl, sym, ap, ◌∙◌, subst, lit<, lit≤, append_assoc, inl, inr}
 use Rattle.std.proofs.lemmas.List.{append-nil}
 use Rattle.jls_values.specs.Params.{CodingParameters, AreCodingParameters, least_from}
 use Rattle.jls_bits.specs.Bits.{bits, value_of_bits, width_after, bits_read_after, ends_data, is_whole_after, bits_read}
@@ -17,7 +17,7 @@ use Rattle.jls_interval.specs.Cells.{cell_before, run_cell_before}
 use Rattle.jls_interval.specs.Runs.{block_columns, full_blocks, blocks, run_index_before}
 use Rattle.jls_interval.specs.Code.{event_bits, bits_of_events, code}
 use Rattle.jls_interval.specs.Reads.{Reads}
-use Rattle.jls_interval.specs.Stepwise.{StepwiseCode, bits_of_steps}
+use Rattle.jls_interval.specs.Stepwise.{bits_of_steps}
 use Rattle.jls_interval.specs.Growth.{Position, IsNext, interval_steps, start, finish}
 use Rattle.jls_interval.specs.Laws.{IsCutCode, IsCutEvent}
 use Rattle.jls_interval.specs.Heads.{IsHeadOfPiece}

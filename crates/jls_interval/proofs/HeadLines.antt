@@ -1,5 +1,5 @@
 -- The head of bits that cut an event: the lines that were finished before it.
-use Rattle.std.proofs.Common.{◌≡◌, ℕ, zero, suc, ◌+◌, ◌-◌, ◌*◌, ◌%◌, ◌<◌, ◌≤◌, ◌⊎◌, Bool, List, [], ◌∷◌, ◌++◌, length, take, drop, refl, sym, ap, ◌∙◌, subst, arith, inl, inr, append_assoc, length-append}
+use Rattle.std.proofs.Common.{◌≡◌, ℕ, zero, suc, ◌+◌, ◌*◌, ◌%◌, ◌<◌, ◌≤◌, ◌⊎◌, Bool, List, [], ◌∷◌, ◌++◌, length, refl, sym, ap, ◌∙◌, subst, arith, inl, inr, append_assoc, length-append}
 use Rattle.std.specs.List.{AllByRecursion}
 use Rattle.std.proofs.lemmas.List.{append-nil, append_cancel_left}
 use Rattle.std.proofs.lemmas.Bool.{cases_lt}
@@ -14,7 +14,7 @@ use Rattle.jls_interval.specs.Growth.{added, Position, here, IsNext, moved, inte
 use Rattle.jls_bits.specs.Bits.{bits_read}
 use Rattle.jls_interval.specs.Reads.{Reads}
 use Rattle.jls_interval.specs.Laws.{IsCutCode, IsCutEvent}
-use Rattle.jls_interval.specs.Heads.{BeginsWithFirst, AreWholeLines, IsHead, IsHeadOfPiece}
+use Rattle.jls_interval.specs.Heads.{BeginsWithFirst, IsHead, IsHeadOfPiece}
 use Rattle.jls_interval.proofs.StepwiseCodes.{one_begins}
 use Rattle.jls_interval.proofs.GrownLines.{some_fits, added_fits, grown_full, grown_part}
 use Rattle.jls_interval.proofs.LinesGrow.{lines_grow}

@@ -1,10 +1,8 @@
 -- The bits of a run, block by block, as they are written.
-use Rattle.std.proofs.Common.{◌≡◌, ℕ, ◌-◌, ◌^◌, ◌<◌, ◌≤◌, Bool, true, false, List, [], ◌∷◌, ◌++◌, replicate, refl, sym, ap, ◌∙◌, arith, append_assoc}
+use Rattle.std.proofs.Common.{◌≡◌, ℕ, ◌-◌, ◌^◌, ◌<◌, ◌≤◌, Bool, true, List, [], ◌∷◌, ◌++◌, replicate, sym, ap, ◌∙◌, append_assoc}
 use Rattle.std.proofs.lemmas.List.{append-nil}
-use Rattle.std.proofs.lemmas.Bool.{ne_eqb, eq-eqb}
-use Rattle.jls_bits.specs.Bits.{bits}
 use Rattle.jls_interval.specs.Runs.{run_order, Blocks, blocks}
-use Rattle.jls_interval.specs.Code.{run_to_end_bits, interrupted_run_bits}
+use Rattle.jls_interval.specs.Code.{interrupted_run_bits}
 use Rattle.jls_interval.proofs.Runs.{risen, blocks_step, blocks_none}
 
 -- one full block more

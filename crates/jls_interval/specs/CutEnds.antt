@@ -1,6 +1,5 @@
 -- What a decoder answers of a piece whose end is cut off.
-use Rattle.std.specs.Prelude.{ℕ, List, map, Result, Ok, Err}
-use Rattle.std.specs.declared.alloc.AllocError.{AllocError}
+use Rattle.std.specs.Prelude.{ℕ, List, map}
 use Rattle.jls_values.specs.Params.{CodingParameters}
 use Rattle.jls_interval.specs.Reads.{Reads, IsLong, IsBroken}
 use Rattle.jls_interval.specs.Heads.{IsHeadOfPiece}

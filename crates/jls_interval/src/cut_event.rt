@@ -1,6 +1,6 @@
 //! Whether the bits of an event that breaks off can go on to an event that can come next (ITU-T T.87, A.5.3 and A.7).
 
-ghost use Rattle.std.specs.Prelude.{◌≡◌, ◌+◌, ◌-◌, ◌*◌, ◌^◌, ◌<◌, ◌≤◌, ◌++◌, ℕ, true, false, Bool, List, [], length, get_or};
+ghost use Rattle.std.specs.Prelude.{◌≡◌, ◌+◌, ◌-◌, ◌*◌, ◌^◌, ◌<◌, ◌≤◌, ◌++◌, ℕ, true, false, Bool, List, [], length};
 ghost use Rattle.std.specs.List.{AllByRecursion};
 ghost use Rattle.jls_values.specs.Params.{limit, qbpp};
 ghost use Rattle.jls_context.specs.Mode.{is_run_mode, context};

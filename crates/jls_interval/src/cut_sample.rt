@@ -1,6 +1,6 @@
 //! Whether the first bits of a sample's code can go on to a sample that can come (ITU-T T.87, A.5.3 and A.7.2).
 
-ghost use Rattle.std.specs.Prelude.{◌≡◌, ◌+◌, ◌-◌, ◌^◌, ◌<◌, ◌≤◌, ◌++◌, true, false, Bool, List};
+ghost use Rattle.std.specs.Prelude.{◌≡◌, ◌+◌, ◌-◌, ◌^◌, ◌≤◌, ◌++◌, true, false, Bool, List};
 ghost use Rattle.jls_values.specs.Params.{limit, qbpp};
 ghost use Rattle.jls_context.specs.Mode.{IsRegularMode};
 ghost use Rattle.jls_context.specs.Regular.{regular_k};

@@ -1,7 +1,7 @@
 //! Reading a run, a few bits at a time (ITU-T T.87, A.7.1).
 
-ghost use Rattle.std.specs.Prelude.{◌≡◌, ℕ, ◌^◌, ◌<◌, ◌≤◌, Bool, true, List, [], ◌∷◌, ◌++◌};
-ghost use Rattle.jls_interval.specs.RunState.{IsRun, IsRunState, IsRunStep, RunIs, RunAt, RunStepIs};
+ghost use Rattle.std.specs.Prelude.{ℕ, ◌<◌, Bool, true, List, [], ◌∷◌, ◌++◌};
+ghost use Rattle.jls_interval.specs.RunState.{IsRunState, IsRunStep, RunAt, RunStepIs};
 ghost use Rattle.jls_interval.specs.RunChunks.{RunPushed};
 ghost use Rattle.jls_interval.specs.declared.run_reader.RunState.TheVariants.{Blocks, Count};
 

@@ -18,7 +18,7 @@ use Rattle.jls_station.specs.declared.outcome.Outcome.TheVariants.{Done}
 use Rattle.jls_commands.specs.Telling as telling
 use Rattle.jls_commands.specs.Telling.{Tells, lines}
 use Rattle.jls_commands.specs.WritingFiles as writing
-use Rattle.jls_commands.specs.WritingFiles.{WritesFile, StopsAtFile, FitsFormat, file, takes_memory}
+use Rattle.jls_commands.specs.WritingFiles.{WritesFile, StopsAtFile}
 use Rattle.jls_commands.specs.declared.writing.Format.{Format}
 use Rattle.jls_commands.specs.declared.writing.Format.TheVariants.{Pnm, Jls}
 use Rattle.jls_words.specs.Asking.{Asked, AskFor, AskForNothing, check, join, show, write_pnm, write_jls}

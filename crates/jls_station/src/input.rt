@@ -1,7 +1,7 @@
 //! Inputs of the program: partial pictures as texts, and damaged copies.
 
 ghost use Rattle.std.specs.Prelude.{◌≡◌, ◌↔◌, ◌<◌, ◌≤◌, ℕ, IsTrue, List, Option, None, Some, true, false, length, IfOk, IfErr, IfSome, OnOk, MatchOption};
-ghost use Rattle.std.specs.Io.KnownBytes.{Consumes, IsAtEnd};
+ghost use Rattle.std.specs.Io.KnownBytes.{Consumes};
 ghost use Rattle.jls_device.specs.Event.{History, GrewBy};
 ghost use Rattle.jls_station.specs.Forms.{IsForm, IsAllOf};
 ghost use Rattle.jls_station.specs.Given.{given_by_text, given_of};

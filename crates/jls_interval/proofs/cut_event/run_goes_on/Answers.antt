@@ -1,4 +1,4 @@
-use Rattle.std.proofs.Common.{◌≡◌, ℕ, ◌-◌, ◌*◌, ◌^◌, ◌∙◌, sym, ap, subst, arith}
+use Rattle.std.proofs.Common.{◌-◌, ◌*◌, ◌^◌, ◌∙◌, sym, ap, subst, arith}
 use Rattle.std.proofs.lemmas.Bool.{ltb-true, ltb-false}
 use Rattle.jls_interval.proofs.CutRuns.{Continues, Passes, run_continues, run_passes}
 use Rattle.jls_interval.proofs.cut_event.run_goes_on.Goals as goal

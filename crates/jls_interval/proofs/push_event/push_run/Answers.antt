@@ -1,4 +1,4 @@
-use Rattle.std.proofs.Common.{arith, ◌∙◌}
+use Rattle.std.proofs.Common.{arith}
 use Rattle.jls_interval.proofs.HandBits.{run_pushed}
 use Rattle.jls_interval.proofs.push_event.push_run.Goals as goal
 

@@ -1,8 +1,7 @@
-use Rattle.std.proofs.Common.{◌≡◌, ℕ, ◌*◌, ◌<◌, Bool, true, false, List, map, Vec, Global, sym, subst, inl, arith}
+use Rattle.std.proofs.Common.{◌≡◌, ℕ, ◌*◌, ◌<◌, Bool, false, List, sym, subst, inl, arith}
 use Rattle.std.specs.Prelude.{IfSome}
 use Rattle.jls_values.specs.Params.{CodingParameters}
 use Rattle.jls_bits.specs.Bits.{bits_read}
-use Rattle.jls_interval.specs.Heads.{IsHeadOfPiece}
 use Rattle.jls_interval.specs.CutEnds.{CutEndIs}
 use Rattle.jls_interval.specs.Decoding.{IsWorking, IsOver, IsDead, StateIs}
 use Rattle.jls_interval.specs.IntervalBytes.{IntervalBytes, bytes_of}

@@ -1,4 +1,4 @@
-use Rattle.std.proofs.Common.{◌≡◌, ℕ, List, Vec, Global, map, sym, subst}
+use Rattle.std.proofs.Common.{ℕ, Vec, Global, map, sym, subst}
 use Rattle.jls_interval.specs.Heads.{IsHead}
 use Rattle.jls_interval.proofs.interval_reader.IntervalReader.into_head.Goals as goal
 
