@@ -1,10 +1,9 @@
 -- With default parameters a picture can be written as JPEG-LS unless an interval is too large.
-use Rattle.std.proofs.Common.{◌≡◌, inl, inr, ℕ, zero, suc, ◌-◌, ◌*◌, ◌^◌, ◌<◌, ◌≤◌, Bool, List, [], ◌∷◌, length, get_or, refl, sym, ap, subst, ◌∙◌, arith}
+use Rattle.std.proofs.Common.{inl, inr, ℕ, zero, suc, ◌-◌, ◌*◌, ◌^◌, ◌<◌, ◌≤◌, Bool, List, [], ◌∷◌, length, get_or, refl, sym, subst, arith}
 use Rattle.std.specs.Prelude.{All}
 use Rattle.std.specs.List.{AllByRecursion}
 use Rattle.std.proofs.lemmas.Bool.Decides.{leb_tells}
 use Rattle.std.proofs.lemmas.List.Elements.{All-nil, All-cons}
-use Rattle.jls_values.specs.Shape.{PictureShape}
 use Rattle.jls_picture.specs.Picture.{WholePicture, line_of}
 use Rattle.jls_picture.specs.Options.{OptionsFit, components_of_scan, rows_of_interval}
 use Rattle.jls_picture.specs.WholePictures.{IsLineIn, IsComponentIn, IsPicture}

@@ -1,6 +1,6 @@
 //! The command `write`.
 
-ghost use Rattle.std.specs.Prelude.{◌≡◌, true, OnOk, IfErr, ⊥};
+ghost use Rattle.std.specs.Prelude.{◌≡◌, true, OnOk, IfErr};
 ghost use Rattle.jls_device.specs.Event.{GrewBy};
 ghost use Rattle.jls_station.specs.Outputs.{HandsOut, StopsAtOutput};
 ghost use Rattle.jls_picture.specs.Unsettled.{NamesFirstUnsettled};
