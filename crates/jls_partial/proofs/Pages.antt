@@ -122,9 +122,6 @@ page_found ps q are = found_in_page ps q are.sorted are.each
 
 -- ---- all rows rise
 
-keys : List Row → List Place
-keys rows = map (λ r. r.0) rows
-
 rows_above : (x : Place) (page : Place) (rows : List Row) → place_cmp (page_of x) page ≡ Less → AllByRecursion (λ r. page_of r.0 ≡ page) rows
     → AllByRecursion (λ y. place_cmp x y ≡ Less) (map (λ r. r.0) rows)
 rows_above x page [] h own = tt
