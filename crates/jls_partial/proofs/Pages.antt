@@ -1,35 +1,29 @@
 -- An index in pages: what is found in its rows, that they rise, and what a page that is changed leaves.
-use Rattle.std.proofs.Common.{◌≡◌, ℕ, ◌<◌, ◌≤◌, ◌+◌, ◌*◌, ◌/◌, ◌%◌, Bool, true, false, cond, List, [], ◌∷◌, ◌++◌, length, map, Option, Some, None, refl, ap, sym, subst, ◌∙◌, arith}
+use Rattle.std.proofs.Common.{◌≡◌, ℕ, ◌<◌, ◌/◌, Bool, true, false, cond, List, [], ◌∷◌, ◌++◌, map, Option, Some, None, refl, ap, sym, subst, ◌∙◌, arith}
 use Rattle.std.specs.Prelude.{IfSome, unwrap_or}
 use Rattle.std.specs.declared.alloc.Global.{Global}
-use Rattle.std.specs.declared.cmp.Ordering.{Ordering}
 use Rattle.std.specs.declared.cmp.Ordering.TheVariants.{Less, Equal, Greater}
 use Rattle.std.specs.declared.vec.Vec.{Vec}
 use Rattle.std.specs.BTreeMap.{is_at}
 use Rattle.std.specs.List.{AllByRecursion}
 use Rattle.std.specs.List.Sorted.{IsStrictlySortedBy}
 use Rattle.std.specs.Map.{lookup, set_value}
-use Rattle.std.specs.Option.{option_map}
 use Rattle.std.specs.Ordering.{nat_cmp, is_eq, ordering_then}
 use Rattle.std.specs.Cmp.{nat_cmp_is}
 use Rattle.std.proofs.lemmas.Cmp.{tied_itself, ranked}
 use Rattle.std.proofs.lemmas.List.{map-append}
 use Rattle.jls_values.specs.OrderedSetLaws.{sorted-append}
-use Rattle.jls_partial.specs.declared.index.Index.{Index}
-use Rattle.jls_partial.specs.declared.index.Slot.{Slot}
 use Rattle.jls_partial.specs.declared.packed_lines.PackedLines.{PackedLines}
 use Rattle.jls_partial.specs.declared.place.Place.{Place}
-use Rattle.jls_partial.specs.Held.{LineEntry, PutsAt, lines_or}
-use Rattle.jls_partial.specs.Index.{slots_of}
+use Rattle.jls_partial.specs.Held.{PutsAt, lines_or}
 use Rattle.jls_partial.specs.LineSet.{PictureLines}
-use Rattle.jls_partial.specs.PackedLines.{seen_lines, IsLineSet}
+use Rattle.jls_partial.specs.PackedLines.{IsLineSet}
 use Rattle.jls_partial.specs.Pages.{Row, Pages, page_of, rows_of, IsPage, ArePages}
 use Rattle.jls_partial.specs.Place.{place_cmp}
 use Rattle.jls_partial.specs.ReadingOrder.{place_total, same_place}
-use Rattle.jls_partial.specs.Stored.{LineSlots, slots_of_entries, entries_in, AreIndicesOf, AreIndexed, Extends, lines_in}
+use Rattle.jls_partial.specs.Stored.{LineSlots, slots_of_entries, entries_in, AreIndicesOf, Extends, lines_in}
 use Rattle.jls_partial.proofs.Entries.{each_from_lookup, lookup_from_each}
-use Rattle.jls_partial.proofs.Store.{lookup-map}
-use Rattle.jls_partial.proofs.StoredLines.{Updated, all_stay, indexed_still, lookup_seen, ordered_slots}
+use Rattle.jls_partial.proofs.StoredLines.{Updated, all_stay, indexed_still, lookup_seen}
 
 -- ---- lines and their pages
 
@@ -127,9 +121,6 @@ pub page_found : (ps : Pages) (q : Place) → ArePages ps → lookup (is_at (pla
 page_found ps q are = found_in_page ps q are.sorted are.each
 
 -- ---- all rows rise
-
-keys : List Row → List Place
-keys rows = map (λ r. r.0) rows
 
 rows_above : (x : Place) (page : Place) (rows : List Row) → place_cmp (page_of x) page ≡ Less → AllByRecursion (λ r. page_of r.0 ≡ page) rows
     → AllByRecursion (λ y. place_cmp x y ≡ Less) (map (λ r. r.0) rows)

@@ -3,7 +3,7 @@ use Rattle.std.specs.declared.alloc.Global.{Global}
 use Rattle.std.specs.declared.vec.Vec.{Vec}
 use Rattle.std.specs.List.{AllByRecursion}
 use Rattle.std.specs.List.Sorted.{IsStrictlySortedBy}
-use Rattle.std.specs.Prelude.{◌≡◌, ℕ, ◌/◌, ◌<◌, List, [], ◌∷◌, ◌++◌, length, map}
+use Rattle.std.specs.Prelude.{◌≡◌, ◌/◌, ◌<◌, List, [], ◌∷◌, ◌++◌, length, map}
 use Rattle.jls_partial.specs.declared.index.Index.{Index}
 use Rattle.jls_partial.specs.declared.packed_lines.PackedLines.{PackedLines}
 use Rattle.jls_partial.specs.declared.place.Place.{Place}
