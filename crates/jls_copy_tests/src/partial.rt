@@ -1,9 +1,11 @@
 mod merged_texts;
 mod texts;
 
+use crate::partial::merged_texts::merged;
 use jls_partial::{InsertFault, LineSet, Partial, Status};
 use jls_values::{Merge, MergeFault, Shape, merge_all};
 use std::alloc::Global;
+use std::process::Abort;
 use std::test::Fail;
 
 /// One line of one sample, of which nothing is known.
@@ -67,6 +69,18 @@ const MANY_READINGS: &[u8] = b"JLSP\x02\x10\0\x01\0\x01\x01\x01\0\0\0\x01\0\0\0\
 /// What stands before the entries of ten lines of one sample.
 const TEN_LINES: [u8; 16] = [0x4A, 0x4C, 0x53, 0x50, 2, 8, 0, 1, 0, 10, 1, 1, 0, 0, 0, 10];
 
+/// What two texts say, and the text of their union.
+const JOINS: [(&[u8], &[u8], &[u8]); 8] = [
+    (NO_READING, ZERO, ZERO),
+    (THREE, FIVE, TWO_READINGS),
+    (TWO_READINGS, FIVE, TWO_READINGS),
+    (TWO_READINGS, TWO_READINGS, TWO_READINGS),
+    (THREE, SOURCE_7, SOURCE_7),
+    (SOURCE_2, SOURCE_7, TWO_SOURCES),
+    (TWO_READINGS, SOURCE_7, ONE_SOURCE),
+    (IN_SECOND, IN_FIRST, IN_BOTH),
+];
+
 /// The text of the join of what two texts say. The second is merged, and merged again.
 fn join_of(alloc: Global, one: &[u8], other: &[u8]) -> Result<Vec<u8>, Fail> {
     let mut joined = Partial::from_bytes(alloc, one)?;
@@ -76,20 +90,24 @@ fn join_of(alloc: Global, one: &[u8], other: &[u8]) -> Result<Vec<u8>, Fail> {
     Ok(joined.to_bytes(alloc)?)
 }
 
+/// The union is the same where the second is merged as a partial picture, and as its text.
+fn check_union(
+    rt: &impl Abort,
+    alloc: Global,
+    one: &[u8],
+    other: &[u8],
+    joined: &[u8],
+) -> Result<(), Fail> {
+    assert_eq!(rt; join_of(alloc, one, other)?.as_slice(), joined);
+    assert_eq!(rt; merged(alloc, one, other)?.as_slice(), joined);
+    Ok(())
+}
+
 #[test]
 fn joins_of_two(rt: HostRuntime) -> Result<(), Fail> {
-    for (one, other, joined) in [
-        (NO_READING, ZERO, ZERO),
-        (THREE, FIVE, TWO_READINGS),
-        (TWO_READINGS, FIVE, TWO_READINGS),
-        (TWO_READINGS, TWO_READINGS, TWO_READINGS),
-        (THREE, SOURCE_7, SOURCE_7),
-        (SOURCE_2, SOURCE_7, TWO_SOURCES),
-        (TWO_READINGS, SOURCE_7, ONE_SOURCE),
-        (IN_SECOND, IN_FIRST, IN_BOTH),
-    ] {
-        assert_eq!(rt; join_of(rt.alloc(), one, other)?.as_slice(), joined);
-        assert_eq!(rt; join_of(rt.alloc(), other, one)?.as_slice(), joined);
+    for (one, other, joined) in JOINS {
+        check_union(&rt, rt.alloc(), one, other, joined)?;
+        check_union(&rt, rt.alloc(), other, one, joined)?;
     }
     Ok(())
 }

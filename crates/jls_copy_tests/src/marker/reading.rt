@@ -96,26 +96,26 @@ fn restart_intervals_have_two_to_four_bytes(rt: HostRuntime) {
 
 #[test]
 fn faults_have_their_numbers(rt: HostRuntime) {
-    assert_eq!(rt; MarkerFault::Length.number(), 1);
-    assert_eq!(rt; MarkerFault::PointTransform.number(), 9);
-    assert_eq!(rt; MarkerFault::NoMarker.number(), 17);
-    assert_eq!(rt; MarkerFault::Ended.number(), 19);
+    for (fault, number) in [
+        (MarkerFault::Length, 1),
+        (MarkerFault::PointTransform, 9),
+        (MarkerFault::NoMarker, 17),
+        (MarkerFault::Ended, 19),
+    ] {
+        assert_eq!(rt; fault.number(), number);
+    }
 }
 
 #[test]
 fn selections_are_refused_in_order(rt: HostRuntime) {
-    assert_eq!(rt; ScanHead::new(&[], false).err(), Some(MarkerFault::Length));
-    assert_eq!(rt;
-        ScanHead::new(&[1, 1, 1, 1, 1], false).err(),
-        Some(MarkerFault::Length)
-    );
-    assert_eq!(rt;
-        ScanHead::new(&[1, 2, 1], false).err(),
-        Some(MarkerFault::RepeatedComponent)
-    );
-    assert_eq!(rt;
-        ScanHead::new(&[1, 2], false).err(),
-        Some(MarkerFault::Interleave)
-    );
-    assert_eq!(rt; ScanHead::new(&[1, 2, 3, 4], true).err(), None);
+    let rows: [(&[u8], bool, Option<MarkerFault>); 5] = [
+        (&[], false, Some(MarkerFault::Length)),
+        (&[1, 1, 1, 1, 1], false, Some(MarkerFault::Length)),
+        (&[1, 2, 1], false, Some(MarkerFault::RepeatedComponent)),
+        (&[1, 2], false, Some(MarkerFault::Interleave)),
+        (&[1, 2, 3, 4], true, None),
+    ];
+    for (ids, line, fault) in rows {
+        assert_eq!(rt; ScanHead::new(ids, line).err(), fault);
+    }
 }

@@ -1,38 +1,17 @@
 //! Texts whose readings go straight into a partial picture.
 
-use super::{
-    FIVE, IN_BOTH, IN_FIRST, IN_SECOND, MANY_READINGS, NO_READING, ONE_SOURCE, OTHER_SHAPE,
-    SOURCE_2, SOURCE_7, THREE, TWO_READINGS, TWO_SOURCES, ZERO,
-};
+use super::{FIVE, MANY_READINGS, NO_READING, OTHER_SHAPE, THREE, TWO_READINGS};
 use jls_partial::{MergeTextFault, Partial, TextFault};
 use jls_values::Shape;
 use std::alloc::Global;
 use std::test::Fail;
 
 /// The text of what is held when a text was merged, and merged again.
-fn merged(alloc: Global, held: &[u8], text: &[u8]) -> Result<Vec<u8>, Fail> {
+pub(super) fn merged(alloc: Global, held: &[u8], text: &[u8]) -> Result<Vec<u8>, Fail> {
     let mut held = Partial::from_bytes(alloc, held)?;
     held.merge_text(alloc, text)?;
     held.merge_text(alloc, text)?;
     Ok(held.to_bytes(alloc)?)
-}
-
-#[test]
-fn gives_the_union(rt: HostRuntime) -> Result<(), Fail> {
-    for (one, other, joined) in [
-        (NO_READING, ZERO, ZERO),
-        (THREE, FIVE, TWO_READINGS),
-        (TWO_READINGS, FIVE, TWO_READINGS),
-        (TWO_READINGS, TWO_READINGS, TWO_READINGS),
-        (THREE, SOURCE_7, SOURCE_7),
-        (SOURCE_2, SOURCE_7, TWO_SOURCES),
-        (TWO_READINGS, SOURCE_7, ONE_SOURCE),
-        (IN_SECOND, IN_FIRST, IN_BOTH),
-    ] {
-        assert_eq!(rt; merged(rt.alloc(), one, other)?.as_slice(), joined);
-        assert_eq!(rt; merged(rt.alloc(), other, one)?.as_slice(), joined);
-    }
-    Ok(())
 }
 
 /// A text of 1,024 readings of one line, every other number from the first on.

@@ -1,4 +1,4 @@
-use Rattle.std.proofs.Common.{◌<◌, ◌≤◌, ◌^◌, ℕ, true, length, sym, ap, subst, ◌∙◌}
+use Rattle.std.proofs.Common.{◌<◌, ◌≤◌, ◌^◌, ℕ, length, sym, ap, subst, ◌∙◌}
 use Rattle.std.specs.Prelude.{is_ok}
 use Rattle.std.specs.List.{AllByRecursion}
 use Rattle.jls_marker.specs.PresetParameters.{PresetParameters}
