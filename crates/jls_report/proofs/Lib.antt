@@ -1,4 +1,5 @@
 pub mod AllLines
+mod EntryCounts
 pub mod EachLine
 mod FullCount
 pub mod LongestRanges

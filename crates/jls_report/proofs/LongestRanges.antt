@@ -33,7 +33,7 @@ within test a n =
     let size : length (range_with_len a n) ≡ n = length-range_with_len a n in
     let most = prefix_len-le-length test (range_with_len a n) in omega (arith, size, most)
 
-some_pass : (test : ℕ → Bool) (a n : ℕ) → 0 < n → test a ≡ true → 0 < prefix_len test (range_with_len a n)
+pub some_pass : (test : ℕ → Bool) (a n : ℕ) → 0 < n → test a ≡ true → 0 < prefix_len test (range_with_len a n)
 some_pass test a zero more here = absurd (omega arith)
 some_pass test a (suc n) more here =
     let is : prefix_len test (range_with_len a (suc n)) ≡ 1 + prefix_len test (range_with_len (a + 1) n) =

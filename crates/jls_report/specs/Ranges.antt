@@ -1,12 +1,12 @@
 -- What the entries of a report say of each line.
-use Rattle.std.specs.Prelude.{◌≡◌, ℕ, ◌+◌, ◌*◌, ◌<◌, ◌≤◌, ◌↔◌, Bool, true, false, ◌&&◌}
-use Rattle.std.specs.Prelude.{◌==◌, nat_le, length, count_by, Contains, if◌then◌else◌}
+use Rattle.std.specs.Prelude.{◌≡◌, ℕ, ◌+◌, ◌-◌, ◌*◌, ◌<◌, ◌≤◌, ◌↔◌, Bool, true, false, ◌&&◌}
+use Rattle.std.specs.Prelude.{◌==◌, nat_le, length, count_by, sum_by, Contains, if◌then◌else◌}
 use Rattle.jls_partial.specs.Partial.{PartialPicture}
 use Rattle.jls_partial.specs.Status.{IsSettled}
 use Rattle.jls_report.specs.declared.entry.ReportEntry.{ReportEntry}
 use Rattle.jls_report.specs.declared.entry.ReportEntry.TheVariants.{Missing, Disputed}
 use Rattle.jls_report.specs.Lines.{line_count, reading_count, is_missing, is_settled_line, is_disputed}
-use Rattle.jls_report.specs.Report.{report_entries}
+use Rattle.jls_report.specs.Report.{report_entries, report_of}
 
 -- a longest range of missing lines: its lines are all missing, and the line above it and the line below it, where there are
 -- such, are not
@@ -54,3 +54,17 @@ CountsAreAllLines = (p : PartialPicture) →
 -- all lines are counted as settled exactly where each line of the picture is settled
 abbrev pub FullCountIsSettled : Type 0
 FullCountIsSettled = (p : PartialPicture) → (line_count p.shape (is_settled_line p) ≡ length p.shape.ids * p.shape.height) ↔ IsSettled p
+
+-- how many lines an entry says to be missing, and how many to be disputed
+abbrev pub missing_of : ReportEntry → ℕ
+missing_of (Missing component first last) = last + 1 - first
+missing_of (Disputed component line readings) = 0
+
+abbrev pub disputed_of : ReportEntry → ℕ
+disputed_of (Missing component first last) = 0
+disputed_of (Disputed component line readings) = 1
+
+-- the numbers of missing and of disputed lines that a report has are those of its entries
+abbrev pub CountsAreOfEntries : Type 0
+CountsAreOfEntries = (p : PartialPicture) →
+    ((report_of p).missing ≡ sum_by missing_of (report_of p).entries) × ((report_of p).disputed ≡ sum_by disputed_of (report_of p).entries)

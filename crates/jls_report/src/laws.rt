@@ -1,6 +1,6 @@
 //! What the entries of a report say of each line. Each law is a function that does nothing and whose contract is the law.
 
-ghost use Rattle.jls_report.specs.Ranges.{RangesAreLongest, DisputedAreListed, EachLineOnce, CountsAreAllLines, FullCountIsSettled};
+ghost use Rattle.jls_report.specs.Ranges.{RangesAreLongest, DisputedAreListed, EachLineOnce, CountsAreAllLines, CountsAreOfEntries, FullCountIsSettled};
 
 /// The ranges of missing lines in a report are the longest ones, and no others.
 pub fn ranges_are_longest()
@@ -25,4 +25,10 @@ pub fn counts_are_all_lines()
 /// The number of settled lines is that of all lines of all components if and only if each line of the picture is settled.
 pub fn full_count_is_settled()
     ensures { FullCountIsSettled }
+{}
+
+/// The number of missing lines in a report is that of the lines in its ranges, and the number of disputed ones is that of its disputed
+/// lines.
+pub fn counts_are_of_entries()
+    ensures { CountsAreOfEntries }
 {}

@@ -11,8 +11,8 @@ mod text;
 
 pub use entry::ReportEntry;
 pub use laws::{
-    counts_are_all_lines, disputed_are_listed, each_line_once, full_count_is_settled,
-    ranges_are_longest,
+    counts_are_all_lines, counts_are_of_entries, disputed_are_listed, each_line_once,
+    full_count_is_settled, ranges_are_longest,
 };
 pub use report::Report;
 pub use text::put_number;
