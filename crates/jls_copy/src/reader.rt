@@ -184,9 +184,9 @@ impl CopyReader {
     /// Takes the next slice of the copy, which may be empty. All slices together may have 2^63 - 1 bytes at most. Bytes behind the
     /// copy's end are counted, and otherwise ignored. The only refusal is out of memory, and it is for good: every further `feed` is
     /// refused too, and `finish` answers `OutOfMemory`.
-    pub fn feed(&mut self, piece: &[u8]) -> Result<(), AllocError>
-        requires { IfSome self.old (λ bytes. length bytes + length piece.now ≤ 2 ^ 63 - 1) }
-        ensures ok { OnOk result (self.new ≡ after self.old piece.now) }
+    pub fn feed(&mut self, slice: &[u8]) -> Result<(), AllocError>
+        requires { IfSome self.old (λ bytes. length bytes + length slice.now ≤ 2 ^ 63 - 1) }
+        ensures ok { OnOk result (self.new ≡ after self.old slice.now) }
         ensures err { OnErr result (self.new ≡ None) }
         ensures not_refused { IsOk result → IsSome self.old }
     {
@@ -194,10 +194,10 @@ impl CopyReader {
             return Err(AllocError);
         }
         let mut at = 0;
-        while at < piece.len() {
-            at += self.feed_stretch(&piece[at..])?;
-            if at < piece.len() {
-                self.feed_byte(piece[at])?;
+        while at < slice.len() {
+            at += self.feed_stretch(&slice[at..])?;
+            if at < slice.len() {
+                self.feed_byte(slice[at])?;
                 at += 1;
             }
         }
