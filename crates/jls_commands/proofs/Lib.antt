@@ -1,4 +1,5 @@
 pub mod Defaults
 pub mod Told
 mod TooLarge
+mod TraceExamples
 pub mod Written

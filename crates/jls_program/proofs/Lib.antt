@@ -1,3 +1,4 @@
+mod FaultLineExamples
 pub mod Finished
 pub mod PrintedLines
 mod RefusedRuns
