@@ -1,5 +1,5 @@
 -- Traces of worked copies, as they are printed.
-use Rattle.std.proofs.Common.{◌≡◌, List, [], ◌∷◌, refl, lit<}
+use Rattle.std.proofs.Common.{◌≡◌, [], ◌∷◌, refl, lit<}
 use Rattle.std.specs.Prelude.{codes, decimal}
 use Rattle.std.proofs.lemmas.Fmt.{decimal_digit, decimal-digits_of}
 use Rattle.jls_marker.specs.declared.fault.MarkerFault.TheVariants.{Lossy}
