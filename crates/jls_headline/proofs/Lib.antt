@@ -1,4 +1,4 @@
-mod Members
+pub mod Members
 mod Numbered
 mod Placed
 mod CutOff
