@@ -38,7 +38,7 @@ use Rattle.jls_station.proofs.InputBytes.{AreGiven, inputs_of_join, output_of_jo
 pub no_text : {P : Type 0} (bytes : List ℕ) → is_text bytes ≡ false → is_text bytes ≡ true → P
 no_text bytes e f = (let d : false ≡ true = sym e ∙ f in absurd cc)
 
-given_holds : (source : Option ℕ) (bytes : List ℕ) (p : PartialPicture) → AreBytes bytes → is_text bytes ≡ false
+pub given_holds : (source : Option ℕ) (bytes : List ℕ) (p : PartialPicture) → AreBytes bytes → is_text bytes ≡ false
     → GivesPartial source bytes p → HoldsExactly p (bytes ∷ [])
 given_holds source bytes p low none (g, gives, e) = by g gives e
   where
@@ -60,7 +60,7 @@ given_stands source bytes p copies low (g, gives, e) (inr (q, is, h)) = by g giv
 
 -- All inputs -----------------------------------------------------------------------------------------------------
 
-all_of_shape : (p q : PartialPicture) → p.shape ≡ q.shape → (xs : List PartialPicture) → AllOfShape has_same_shape p xs
+pub all_of_shape : (p q : PartialPicture) → p.shape ≡ q.shape → (xs : List PartialPicture) → AllOfShape has_same_shape p xs
     → AllOfShape has_same_shape q xs
 all_of_shape p q e [] h = tt
 all_of_shape p q e (x ∷ xs) h = (subst (λ (s : PictureShape). same_shape s x.shape ≡ true) e h.0, all_of_shape p q e xs h.1)
@@ -175,7 +175,7 @@ some_input source [] joined inputs given u = absurd u
 some_input source (p ∷ ps) joined [] given u = absurd given
 some_input source (p ∷ ps) joined (bytes ∷ inputs) given u = (bytes, is_first bytes inputs)
 
-one_shape_of : (bytes : List ℕ) (s t : PictureShape) → HasShape s bytes → HasShape t bytes → s ≡ t
+pub one_shape_of : (bytes : List ℕ) (s t : PictureShape) → HasShape s bytes → HasShape t bytes → s ≡ t
 one_shape_of bytes s t (c, is, e) (d, is', f) =
     same_frame s t (sym e ∙ ap (λ (k : Course). k.headers.frame) (one_course bytes c d is is') ∙ f)
 

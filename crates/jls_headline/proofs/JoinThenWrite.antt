@@ -16,10 +16,10 @@ use Rattle.jls_picture.specs.Options.{OptionsFit}
 use Rattle.jls_picture.specs.Unsettled.{NamesFirstUnsettled}
 use Rattle.jls_picture.specs.declared.picture.PictureFault.{PictureFault}
 use Rattle.jls_picture.specs.declared.picture.PictureFault.TheVariants as picture_fault
-use Rattle.jls_file.specs.WrittenFile.{written_file}
 use Rattle.jls_station.specs.Texts.{is_text}
 use Rattle.jls_station.specs.Given.{Given}
-use Rattle.jls_station.specs.Inputs.{IsTaken, StopsAt, not_there, refused, other_shape, no_memory}
+use Rattle.jls_picture.specs.WholePictures.{IsPicture}
+use Rattle.jls_station.specs.Inputs.{partials, IsTaken, StopsAt, not_there, refused, other_shape, no_memory}
 use Rattle.jls_station.specs.Outputs as output
 use Rattle.jls_station.specs.Laws.{input_bytes, output_bytes}
 use Rattle.jls_station.specs.declared.outcome.Cause.{Cause}
@@ -32,13 +32,15 @@ use Rattle.jls_commands.specs.declared.writing.Format.{Format}
 use Rattle.jls_commands.specs.declared.writing.Format.TheVariants.{Jls}
 use Rattle.jls_commands.proofs.Defaults.{defaults_are}
 use Rattle.jls_headline.specs.Damaged.{Damaged}
-use Rattle.jls_headline.specs.ReadsAs.{GivesPicture, FilesReadAs, ReadsAsOnly}
+use Rattle.jls_headline.specs.ReadsAs.{GivesPicture, ReadsAsOnly}
 use Rattle.jls_headline.specs.RunLaws.{AreNoTexts}
-use Rattle.jls_headline.specs.JoinThenWrite.{JoinsDamagedCopies, WrittenJoinsAreThePicture, WrittenJoinsReadAsThePicture, WrittenJoinsAreSettled}
+use Rattle.jls_headline.specs.JoinThenWrite.{JoinsDamagedCopies, JoinsForDamagedCopies, WritesWhatWasJoined, WrittenJoinsAreThePicture, WrittenJoinsReadAsThePicture, WrittenJoinsAreSettled, WrittenTextJoinsAreThePicture, WrittenTextJoinsReadAsThePicture, WrittenTextJoinsAreSettled}
 use Rattle.jls_headline.proofs.Members.{all_map}
-use Rattle.jls_station.proofs.InputBytes.{ReadsNone, one_input, handed_out, output_of_join}
-use Rattle.jls_headline.proofs.JoinRuns.{framed_is_no_text, marks_of_run, runs_hold_exactly, runs_give_the_picture}
+use Rattle.jls_station.proofs.InputBytes.{ReadsNone, one_input, handed_out, inputs_of_join, output_of_join}
+use Rattle.jls_headline.proofs.JoinRuns.{framed_is_no_text, marks_of_run, runs_hold_exactly, runs_with_texts_hold_exactly, runs_give_the_picture, runs_with_texts_give_the_picture}
 use Rattle.jls_headline.proofs.JoinedTexts.{held_are_lines, its_text, text_given}
+use Rattle.jls_headline.proofs.InputMarks.{marks_of_inputs}
+use Rattle.jls_headline.proofs.WrittenFiles.{files_read_back}
 
 -- The default parameters of a precision --------------------------------------------------------------------------
 
@@ -86,22 +88,22 @@ defaults_in_range p low high =
 -- What a write that is done did ----------------------------------------------------------------------------------
 
 -- an input was taken that is settled, and its file was handed out
-record DidWrite (f : Format) (events : List Event) : Type 0 where
-  name : List ℕ
-  g : Given
-  reading : List Event
-  is_taken : IsTaken None name g reading
-  bytes_are : input_bytes events ≡ is_taken.give.bytes ∷ []
-  fits : FitsFormat f (picture_of g.partial)
-  handed : output_bytes events ≡ file f (picture_of g.partial) ∷ []
+pub record DidWrite (f : Format) (events : List Event) : Type 0 where
+  pub name : List ℕ
+  pub g : Given
+  pub reading : List Event
+  pub is_taken : IsTaken None name g reading
+  pub bytes_are : input_bytes events ≡ is_taken.give.bytes ∷ []
+  pub is_settled : IsSettled g.partial
+  pub fits : FitsFormat f (picture_of g.partial)
+  pub handed : output_bytes events ≡ file f (picture_of g.partial) ∷ []
 
-IsDone : Outcome → Type 0
+abbrev pub IsDone : Outcome → Type 0
 IsDone (Done settled whole) = Unit {0}
 IsDone (Refused r) = ⊥
 
-did_write : (f : Format) (out name : List ℕ) (o : Outcome) (events : List Event) → IsDone o → WritesFile f out name o events
+pub did_write : (f : Format) (out name : List ℕ) (o : Outcome) (events : List Event) → IsDone o → WritesFile f out name o events
     → DidWrite f events
-unfolding IsDone
 did_write _ _ _ _ _ ends (writing.done f out name g whole reading handing taken settled says fits hands) =
     let w = handed_out out (file f (picture_of g.partial)) handing hands in
     let one = one_input None name g reading handing taken w.0 in
@@ -111,6 +113,7 @@ did_write _ _ _ _ _ ends (writing.done f out name g whole reading handing taken 
       reading = reading;
       is_taken = taken;
       bytes_are = one.0 ∙ ap (λ x. taken.give.bytes ∷ x) w.1;
+      is_settled = settled;
       fits = fits;
       handed = one.2 ∙ w.2;
     }
@@ -118,60 +121,118 @@ did_write _ _ _ _ _ ends (writing.at_input f out name r reading e stops) = absur
 did_write _ _ _ _ _ ends (writing.unsettled f out name r g fault reading e taken names is) = absurd ends
 did_write _ _ _ _ _ ends (writing.at_file f out name r g reading handing e taken settled stops) = absurd ends
 
+-- a file that is written as JPEG-LS of what is this picture reads as it
+pub read_as_the_picture : (pic : WholePicture) → IsPicture pic → (line : Bool) (ri : ℕ) → ri < 2 ^ 32 → (events : List Event)
+    → (did : DidWrite (Jls line ri) events) → picture_of did.g.partial ≡ pic
+    → (bytes : List ℕ) × (output_bytes events ≡ bytes ∷ []) × ReadsAsOnly bytes pic
+read_as_the_picture pic is_picture line ri low events did is =
+    let fit : OptionsFit pic (options_for line ri pic) = subst (λ x. OptionsFit x (options_for line ri x)) is did.fits in
+    let shape = is_picture.shape in
+    let params = defaults_in_range pic.shape.precision shape.precision_at_least shape.precision_at_most in (
+      file (Jls line ri) pic,
+      did.handed ∙ ap (λ x. file (Jls line ri) x ∷ []) is,
+      files_read_back pic is_picture (options_for line ri pic) params low fit,
+    )
+
 -- What was joined is the picture, and is read again --------------------------------------------------------------
 
 only_of : (x y : List ℕ) → x ∷ [] ≡ y ∷ [] → x ≡ y
 only_of x y e = cc
 
-module _ (pic : WholePicture) (joining : List Event) (j : JoinsDamagedCopies pic joining) where
-  none : AreNoTexts (input_bytes joining)
-  none =
-      all_map (Damaged pic) (λ bytes. is_text bytes ≡ false) (input_bytes joining)
-      (λ bytes d. framed_is_no_text bytes d.0 pic.shape d.1 d.2.framed) j.damaged
+-- a run of `join` handed the text of this picture to its one output
+record GaveThePicture (pic : WholePicture) (joining : List Event) : Type 0 where
+  is_picture : IsPicture pic
+  joined : PartialPicture
+  gives : GivesPicture joined pic
+  text_is : IsTextOf (text joined) joined
+  output_is : output_bytes joining ≡ text joined ∷ []
 
-  gives : GivesPicture j.joined pic × FilesReadAs j.joined pic
-  gives = runs_give_the_picture j.source j.out j.names j.joined j.settled j.whole joining j.is_done pic j.is_picture j.damaged j.each_line
-
-  text_is : IsTextOf (text j.joined) j.joined
-  text_is =
-      its_text pic j.is_picture j.joined gives.0
-      (held_are_lines pic j.joined (input_bytes joining)
-      (runs_hold_exactly j.source j.out j.names j.joined j.settled j.whole joining j.is_done none) j.damaged)
+-- what was joined of damaged copies, and its text
+pub text_of_copies : (pic : WholePicture) (joining : List Event) (j : JoinsDamagedCopies pic joining)
+    → GivesPicture j.joined pic × IsTextOf (text j.joined) j.joined
+text_of_copies pic joining j = (
+  gives,
+  its_text pic j.is_picture j.joined gives
+      (held_are_lines pic j.joined (input_bytes joining) (runs_hold_exactly j.source j.out j.names j.joined j.settled j.whole joining j.is_done none) j.damaged)
       (λ r source held. let m = marks_of_run j.source j.out j.names j.joined j.settled j.whole joining j.is_done none r source held in
-      (m.0, j.small source m.1))
+      (m.0, j.small source m.1)),
+)
+  where
+    none : AreNoTexts (input_bytes joining)
+    none =
+        all_map (Damaged pic) (λ bytes. is_text bytes ≡ false) (input_bytes joining)
+        (λ bytes d. framed_is_no_text bytes d.0 pic.shape d.1 d.2.framed) j.damaged
 
+    gives : GivesPicture j.joined pic
+    gives = (runs_give_the_picture j.source j.out j.names j.joined j.settled j.whole joining j.is_done pic j.is_picture j.damaged j.each_line).0
+
+gave_of_copies : (pic : WholePicture) (joining : List Event) → JoinsDamagedCopies pic joining → GaveThePicture pic joining
+gave_of_copies pic joining j = record {
+  is_picture = j.is_picture;
+  joined = j.joined;
+  gives = (text_of_copies pic joining j).0;
+  text_is = (text_of_copies pic joining j).1;
+  output_is = output_of_join j.source j.out j.names j.joined j.settled j.whole joining j.is_done;
+}
+
+gave_of_texts : (pic : WholePicture) (joining : List Event) → JoinsForDamagedCopies pic joining → GaveThePicture pic joining
+gave_of_texts pic joining j = record {
+  is_picture = j.is_picture;
+  joined = j.joined;
+  gives = gives;
+  text_is = its_text pic j.is_picture j.joined gives
+      (held_are_lines pic j.joined j.copies
+      (runs_with_texts_hold_exactly j.source j.out j.names j.joined j.settled j.whole joining j.is_done j.copies j.stand) j.damaged)
+      (marks_of_inputs j.source j.small (partials j.is_done.taken.givens) j.joined (input_bytes joining)
+      (inputs_of_join j.source j.out j.names j.joined j.settled j.whole joining j.is_done) j.is_done.taken.union_is);
+  output_is = output_of_join j.source j.out j.names j.joined j.settled j.whole joining j.is_done;
+}
+  where
+    gives : GivesPicture j.joined pic
+    gives =
+        (runs_with_texts_give_the_picture j.source j.out j.names j.joined j.settled j.whole joining j.is_done j.copies j.stand pic j.is_picture j.damaged j.each_line).0
+
+module _ (pic : WholePicture) (joining : List Event) (j : GaveThePicture pic joining) where
   -- an input that gave the bytes of the output gave what was joined
   read_again : (name : List ℕ) (g : Given) (reading events : List Event) (taken : IsTaken None name g reading)
       → input_bytes events ≡ taken.give.bytes ∷ [] → input_bytes events ≡ output_bytes joining → g.partial ≡ j.joined
   read_again name g reading events taken e same =
-      let is : taken.give.bytes ≡ text j.joined =
-      only_of taken.give.bytes (text j.joined)
-      (sym e ∙ same ∙ output_of_join j.source j.out j.names j.joined j.settled j.whole joining j.is_done) in
-      text_given taken.give.bytes j.joined g (subst (λ bytes. IsTextOf bytes j.joined) (sym is) text_is) taken.give.gives
+      let is : taken.give.bytes ≡ text j.joined = only_of taken.give.bytes (text j.joined) (sym e ∙ same ∙ j.output_is) in
+      text_given taken.give.bytes j.joined g (subst (λ bytes. IsTextOf bytes j.joined) (sym is) j.text_is) taken.give.gives
+
+  file_written : (f : Format) (settled whole : Bool) (events : List Event) → WritesWhatWasJoined joining f (Done settled whole) events
+      → output_bytes events ≡ file f pic ∷ []
+  file_written f settled whole events w =
+      let did = did_write f w.out w.name (Done settled whole) events tt w.writes in
+      let same = read_again did.name did.g did.reading events did.is_taken did.bytes_are w.same_bytes in
+      did.handed ∙ ap (λ x. file f x ∷ []) (ap picture_of same ∙ j.gives.1)
+
+  file_read : (line : Bool) (ri : ℕ) → ri < 2 ^ 32 → (settled whole : Bool) (events : List Event)
+      → WritesWhatWasJoined joining (Jls line ri) (Done settled whole) events
+      → (bytes : List ℕ) × (output_bytes events ≡ bytes ∷ []) × ReadsAsOnly bytes pic
+  file_read line ri low settled whole events w =
+      let did = did_write (Jls line ri) w.out w.name (Done settled whole) events tt w.writes in
+      let same = read_again did.name did.g did.reading events did.is_taken did.bytes_are w.same_bytes in
+      let is : picture_of did.g.partial ≡ pic = ap picture_of same ∙ j.gives.1 in
+      read_as_the_picture pic j.is_picture line ri low events did is
 
 -- The laws -------------------------------------------------------------------------------------------------------
 
 pub written_joins_are_the_picture : WrittenJoinsAreThePicture
-unfolding IsDone
 written_joins_are_the_picture pic joining j f settled whole events w =
-    let did = did_write f w.out w.name (Done settled whole) events tt w.writes in
-    let same = read_again pic joining j did.name did.g did.reading events did.is_taken did.bytes_are w.same_bytes in
-    did.handed ∙ ap (λ x. file f x ∷ []) (ap picture_of same ∙ (gives pic joining j).0.1)
+    file_written pic joining (gave_of_copies pic joining j) f settled whole events w
+
+pub written_text_joins_are_the_picture : WrittenTextJoinsAreThePicture
+written_text_joins_are_the_picture pic joining j f settled whole events w =
+    file_written pic joining (gave_of_texts pic joining j) f settled whole events w
 
 pub written_joins_read_as_the_picture : WrittenJoinsReadAsThePicture
-unfolding IsDone
 written_joins_read_as_the_picture pic joining j line ri low settled whole events w =
-    let did = did_write (Jls line ri) w.out w.name (Done settled whole) events tt w.writes in
-    let same = read_again pic joining j did.name did.g did.reading events did.is_taken did.bytes_are w.same_bytes in
-    let is : picture_of did.g.partial ≡ pic = ap picture_of same ∙ (gives pic joining j).0.1 in
-    let fit : OptionsFit pic (options_for line ri pic) = subst (λ x. OptionsFit x (options_for line ri x)) is did.fits in
-    let shape = j.is_picture.shape in
-    let params = defaults_in_range pic.shape.precision shape.precision_at_least shape.precision_at_most in
-    let reads = (gives pic joining j).1 (options_for line ri pic) params low fit in (
-      file (Jls line ri) pic,
-      did.handed ∙ ap (λ x. file (Jls line ri) x ∷ []) is,
-      subst (λ x. ReadsAsOnly (written_file x (options_for line ri pic)) pic) (gives pic joining j).0.1 reads,
-    )
+    file_read pic joining (gave_of_copies pic joining j) line ri low settled whole events w
+
+pub written_text_joins_read_as_the_picture : WrittenTextJoinsReadAsThePicture
+written_text_joins_read_as_the_picture pic joining j line ri low settled whole events w =
+    file_read pic joining (gave_of_texts pic joining j) line ri low settled whole events w
 
 -- Refusals -------------------------------------------------------------------------------------------------------
 
@@ -205,7 +266,7 @@ IsRefusedFor : Outcome → Type 0
 IsRefusedFor (Done settled whole) = ⊥
 IsRefusedFor (Refused r) = IsUnsettledCause r.cause
 
-refused_as_unsettled : (pic : WholePicture) (joining : List Event) → JoinsDamagedCopies pic joining
+refused_as_unsettled : (pic : WholePicture) (joining : List Event) → GaveThePicture pic joining
     → (f : Format) (out name : List ℕ) (o : Outcome) (events : List Event) → WritesFile f out name o events
     → input_bytes events ≡ output_bytes joining → IsRefusedFor o → ⊥
 unfolding IsRefusedFor
@@ -217,11 +278,16 @@ refused_as_unsettled pic joining j _ _ _ _ _ (writing.unsettled f out name r g f
     let one = one_input None name g reading [] taken quiet in
     let bytes = ap input_bytes (sym (append-nil reading)) ∙ one.0 in
     let p = read_again pic joining j name g reading reading taken bytes same in
-    none_named g.partial fault (subst IsSettled (sym p) (gives pic joining j).0.0) names
+    none_named g.partial fault (subst IsSettled (sym p) j.gives.0) names
 refused_as_unsettled pic joining j _ _ _ _ _ (writing.at_file f out name r g reading handing e taken settled stops) same u =
     not_at_file (FitsFormat f (picture_of g.partial)) (writing.IsTooLarge f (picture_of g.partial)) (writing.takes_memory f) out (file f (picture_of g.partial)) r.cause handing stops u
 
 pub written_joins_are_settled : WrittenJoinsAreSettled
 unfolding IsUnsettledCause IsRefusedFor
 written_joins_are_settled pic joining j f r events w id line disputed e =
-    refused_as_unsettled pic joining j f w.out w.name (Refused r) events w.writes w.same_bytes (id, line, disputed, e)
+    refused_as_unsettled pic joining (gave_of_copies pic joining j) f w.out w.name (Refused r) events w.writes w.same_bytes (id, line, disputed, e)
+
+pub written_text_joins_are_settled : WrittenTextJoinsAreSettled
+unfolding IsUnsettledCause IsRefusedFor
+written_text_joins_are_settled pic joining j f r events w id line disputed e =
+    refused_as_unsettled pic joining (gave_of_texts pic joining j) f w.out w.name (Refused r) events w.writes w.same_bytes (id, line, disputed, e)

@@ -16,8 +16,15 @@ mod WrittenFiles
 mod StationPictures
 mod JoinRuns
 mod JoinedTexts
+mod InputMarks
 mod JoinThenWrite
+mod SettledInputs
+mod WrittenInputs
 mod StationCalls
 mod TwoLineExamples
 mod FileExamples
 mod PremiseExamples
+mod SameCopyExamples
+mod TenLineExamples
+mod HeadExamples
+mod JoinExamples

@@ -124,7 +124,7 @@ holds_more p held h = (let from = (h.readings (picture_reading pic 0 0)).0 held 
 -- A piece that the input's end cuts off, with another line at its front -------------------------------------------
 
 -- both lines in one interval
-abbrev both_lines : Scan
+abbrev pub both_lines : Scan
 both_lines = record { components = 0 ∷ []; params = bits_8; width = 1; height = 2; restart_interval = 0 }
 
 -- 0x50 is the sample 1, and then what the code of a 9 below it begins with
@@ -166,7 +166,7 @@ longest (x ∷ y ∷ []) b =
 longest (x ∷ y ∷ z ∷ zs) b = absurd (let n = ap length b.lines_are in omega (arith, n))
 
 -- so its head is another line than the picture's
-another_head : IsHeadAt both_lines (Interval 0) (0x50 ∷ []) ((1 ∷ []) ∷ [])
+pub another_head : IsHeadAt both_lines (Interval 0) (0x50 ∷ []) ((1 ∷ []) ∷ [])
 another_head =
     let own : AreWholeLines bits_8 1 1 (bits_read (0x50 ∷ [])) one_and_nine ((1 ∷ []) ∷ []) = record { begins = cut_off.begins; longest = longest } in
     inl (cut_off.whole, inl (cut_off.cut, subst (λ lines. AreWholeLines bits_8 1 1 (bits_read (0x50 ∷ [])) lines ((1 ∷ []) ∷ [])) (sym cut_off.lines_are) own))

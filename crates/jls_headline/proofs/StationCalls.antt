@@ -1,5 +1,5 @@
 -- The calls on a station are the steps that `Took` is built from.
-use Rattle.std.proofs.Common.{◌≡◌, ℕ, true, false, List, [], ◌∷◌, ◌++◌, Option, refl, sym, ◌∙◌, subst, inl, inr}
+use Rattle.std.proofs.Common.{◌≡◌, ℕ, true, false, List, [], ◌∷◌, ◌++◌, Option, None, refl, sym, ◌∙◌, subst, inl, inr}
 use Rattle.jls_values.specs.OrderedSet as set
 use Rattle.jls_values.specs.OrderedSetLaws.{contains-empty}
 use Rattle.jls_partial.specs.Marks.{mark_cmp}
@@ -7,12 +7,13 @@ use Rattle.jls_partial.specs.Reading.{reading_cmp}
 use Rattle.jls_partial.specs.Partial.{PartialPicture, nothing_known}
 use Rattle.jls_partial.specs.PartialLaws.{one_shape}
 use Rattle.jls_device.specs.Event.{Event, bytes_given}
-use Rattle.jls_station.specs.Given.{CopyReport, marked}
-use Rattle.jls_station.specs.Inputs.{IsCopyDone}
+use Rattle.jls_station.specs.Given.{CopyReport, Given, Gives, by_text, by_copy, marked}
+use Rattle.jls_station.specs.Inputs.{IsCopyDone, IsEnough}
+use Rattle.jls_station.specs.Reading.{AreBytes}
 use Rattle.jls_station.specs.TakingCopies.{CopyGives, gives_none, other_shape, no_memory}
 use Rattle.jls_headline.specs.Stations.{HoldsExactly, Took, began, took_partial, ran_out}
 use Rattle.jls_headline.specs.Sources.{HoldsExactlyUnder, TookUnder, began_under, took_partial_under, ran_out_under}
-use Rattle.jls_headline.specs.SourceLaws.{sourced_copy, NewStationTookNothingUnder, CopyIsTakenUnder, CopyIsRefusedUnder, PartialIsTakenUnder, PartialIsRefusedUnder}
+use Rattle.jls_headline.specs.SourceLaws.{sourced_copy, NewStationTookNothingUnder, CopyIsTakenUnder, CopyIsRefusedUnder, PartialIsTakenUnder, PartialIsRefusedUnder, FinishedCopiesHold, ReadCopiesHold}
 use Rattle.jls_headline.specs.CallLaws.{NewStationTookNothing, CopyIsTaken, CopyIsRefused, PartialIsTaken, PartialIsRefused}
 use Rattle.jls_headline.proofs.Members.{none_in}
 use Rattle.jls_station.proofs.InputBytes.{all_reads}
@@ -102,3 +103,18 @@ copy_is_refused_under _ _ _ _ _ copies over took (other_shape source old p repor
 copy_is_refused_under _ _ _ _ _ copies over took (no_memory source old new p report reads gives same between) =
     let held = given_by_reads_under source p report reads gives in
     inr (refl, partial_is_refused_under old p new (sourced_copy source (bytes_given reads) ∷ []) copies over took held same between)
+
+-- What is read of a copy ------------------------------------------------------------------------------------------
+
+pub finished_copies_hold : FinishedCopiesHold
+finished_copies_hold copy read low reads = copy_holds read.partial copy read low reads (refl, refl)
+
+pub read_copies_hold : ReadCopiesHold
+read_copies_hold source given reads h copied =
+    let all = all_reads IsEnough h.bytes reads given.stop h.is_read in
+    subst (λ bytes. HoldsExactlyUnder given.partial (sourced_copy source bytes ∷ [])) (sym all.1) (by given h.bytes h.is_read.are_bytes h.gives copied)
+  where
+    by : (g : Given) (bytes : List ℕ) → AreBytes bytes → Gives source bytes g → (g.copy ≡ None → ⊥)
+        → HoldsExactlyUnder g.partial (sourced_copy source bytes ∷ [])
+    by _ bytes low (by_text _ _ p is) copied = absurd (copied refl)
+    by _ bytes low (by_copy _ _ read stop none reads) copied = copy_holds_under (sourced_copy source bytes) read low reads

@@ -86,7 +86,7 @@ damaged_copies_give_the_picture pic is station copies took damaged each =
         λ i. reading_of (e i) (f i) (samples i)
 
 -- the one reading of a settled line
-only_one : (xs : List (List ℕ)) (x : List ℕ) → status_of xs ≡ Settled → Contains xs x → xs ≡ x ∷ []
+pub only_one : (xs : List (List ℕ)) (x : List ℕ) → status_of xs ≡ Settled → Contains xs x → xs ≡ x ∷ []
 only_one [] x s c = absurd cc
 only_one (y ∷ []) x s (zero, l, e) = ap (λ z. z ∷ []) e
 only_one (y ∷ []) x s (suc k, l, e) = absurd (omega (arith, l))

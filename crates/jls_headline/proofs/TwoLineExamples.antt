@@ -62,7 +62,7 @@ pic_and more = record { shape = shape; lines = ((0 ∷ []) ∷ (255 ∷ []) ∷ 
 abbrev pub pic : WholePicture
 pic = pic_and []
 
-is_picture : IsPicture pic
+pub is_picture : IsPicture pic
 is_picture = record {
   shape = record {
     precision_at_least = lit≤ tt;
@@ -90,10 +90,10 @@ abbrev plan : Scan
 plan = record { components = 0 ∷ []; params = bits_8; width = 1; height = 2; restart_interval = 1 }
 
 -- SOF55, DRI and SOS
-abbrev frame_payload : List ℕ
+abbrev pub frame_payload : List ℕ
 frame_payload = 8 ∷ 0 ∷ 2 ∷ 0 ∷ 1 ∷ 1 ∷ 1 ∷ 0x11 ∷ 0 ∷ []
 
-abbrev scan_payload : List ℕ
+abbrev pub scan_payload : List ℕ
 scan_payload = 1 ∷ 1 ∷ 0 ∷ 0 ∷ 0 ∷ 0 ∷ []
 
 -- SOI and these segments, then scan data, and EOI
@@ -130,7 +130,7 @@ units_with closed last =
 abbrev pub course_with : List ClosedPiece → List ℕ → ℕ → Course
 course_with closed last end = record { begin = 2; units = units_with closed last; headers = final; end = Eoi end }
 
-abbrev lost_first : ClosedPiece
+abbrev pub lost_first : ClosedPiece
 lost_first = record { piece = []; fill = 0; mark = 0 }
 
 -- these copies have these courses
@@ -157,7 +157,7 @@ first_course =
       ),
     )
 
-second_course : IsCourse second (course_with (lost_first ∷ []) (0x40 ∷ []) 34)
+pub second_course : IsCourse second (course_with (lost_first ∷ []) (0x40 ∷ []) 34)
 unfolding headers_after index_of has_segment
 second_course =
     with_soi 0 _ (units_with (lost_first ∷ []) (0x40 ∷ [])) final (Eoi 34) (
@@ -205,13 +205,13 @@ third_course =
 
 -- What the pieces read as ----------------------------------------------------------------------------------------
 
-record PiecesRead : Type 0 where
+pub record PiecesRead : Type 0 where
   -- 0x80 reads as the sample 0, 0x40 as 255, and 0x50 as 1
-  zero_read : Reads bits_8 1 1 1 (0x80 ∷ []) ((0 ∷ []) ∷ [])
-  largest_read : Reads bits_8 1 1 1 (0x40 ∷ []) ((255 ∷ []) ∷ [])
-  one_read : Reads bits_8 1 1 1 (0x50 ∷ []) ((1 ∷ []) ∷ [])
+  pub zero_read : Reads bits_8 1 1 1 (0x80 ∷ []) ((0 ∷ []) ∷ [])
+  pub largest_read : Reads bits_8 1 1 1 (0x40 ∷ []) ((255 ∷ []) ∷ [])
+  pub one_read : Reads bits_8 1 1 1 (0x50 ∷ []) ((1 ∷ []) ∷ [])
 
-pieces_read : PiecesRead
+pub pieces_read : PiecesRead
 unfolding least_from bits width_after golomb quantized_gradient is_negative context modulo_reduced corrected_prediction golomb_k updated run_updated events_from events_after cell_before run_cell_before block_columns full_blocks blocks run_index_before event_bits bits_of_events code bits_read_after is_whole_after ends_data
 pieces_read = record {
   zero_read = record {

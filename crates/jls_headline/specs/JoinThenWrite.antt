@@ -17,6 +17,7 @@ use Rattle.jls_headline.specs.Damaged.{Damaged}
 use Rattle.jls_headline.specs.Survives.{EachLineSurvives}
 use Rattle.jls_picture.specs.WholePictures.{IsPicture}
 use Rattle.jls_headline.specs.ReadsAs.{ReadsAsOnly}
+use Rattle.jls_headline.specs.RunLaws.{InputsStandFor}
 
 -- a run of `join` that is done, under a source or none: its inputs gave damaged copies of this picture, and every line survives in some
 -- input. A source of the program has 32 bits
@@ -32,6 +33,23 @@ pub record JoinsDamagedCopies (pic : WholePicture) (joining : List Event) : Type
   pub is_done : JoinIsDone source out names joined settled whole joining
   pub damaged : AllByRecursion (Damaged pic) (input_bytes joining)
   pub each_line : EachLineSurvives pic (input_bytes joining)
+
+-- a run of `join` that is done, under a source or none: its inputs, copies and texts, stand for damaged copies of this picture, and every
+-- line survives in some of these
+pub record JoinsForDamagedCopies (pic : WholePicture) (joining : List Event) : Type 0 where
+  pub is_picture : IsPicture pic
+  pub source : Option ℕ
+  pub small : (number : ℕ) → source ≡ Some number → number < 2 ^ 32
+  pub out : List ℕ
+  pub names : List (List ℕ)
+  pub joined : PartialPicture
+  pub settled : Bool
+  pub whole : Bool
+  pub is_done : JoinIsDone source out names joined settled whole joining
+  pub copies : List (List ℕ)
+  pub stand : InputsStandFor (input_bytes joining) copies
+  pub damaged : AllByRecursion (Damaged pic) copies
+  pub each_line : EachLineSurvives pic copies
 
 -- a run of `write` in this format, and what came of it: its one input gave the bytes that the run of `join` handed to its one output
 pub record WritesWhatWasJoined (joining : List Event) (format : Format) (outcome : Outcome) (writing : List Event) : Type 0 where
@@ -59,5 +77,26 @@ WrittenJoinsReadAsThePicture =
 abbrev pub WrittenJoinsAreSettled : Type 0
 WrittenJoinsAreSettled =
     (pic : WholePicture) (joining : List Event) → JoinsDamagedCopies pic joining
+    → (format : Format) (r : Refusal) (writing : List Event) → WritesWhatWasJoined joining format (Refused r) writing
+    → (id line : ℕ) (disputed : Bool) → r.cause ≡ Unsettled id line disputed → ⊥
+
+-- The same behind a `join` with texts among its inputs -------------------------------------------------------------
+
+abbrev pub WrittenTextJoinsAreThePicture : Type 0
+WrittenTextJoinsAreThePicture =
+    (pic : WholePicture) (joining : List Event) → JoinsForDamagedCopies pic joining
+    → (format : Format) (settled whole : Bool) (writing : List Event) → WritesWhatWasJoined joining format (Done settled whole) writing
+    → output_bytes writing ≡ file format pic ∷ []
+
+abbrev pub WrittenTextJoinsReadAsThePicture : Type 0
+WrittenTextJoinsReadAsThePicture =
+    (pic : WholePicture) (joining : List Event) → JoinsForDamagedCopies pic joining
+    → (line : Bool) (ri : ℕ) → ri < 2 ^ 32 → (settled whole : Bool) (writing : List Event)
+    → WritesWhatWasJoined joining (Jls line ri) (Done settled whole) writing
+    → (bytes : List ℕ) × (output_bytes writing ≡ bytes ∷ []) × ReadsAsOnly bytes pic
+
+abbrev pub WrittenTextJoinsAreSettled : Type 0
+WrittenTextJoinsAreSettled =
+    (pic : WholePicture) (joining : List Event) → JoinsForDamagedCopies pic joining
     → (format : Format) (r : Refusal) (writing : List Event) → WritesWhatWasJoined joining format (Refused r) writing
     → (id line : ℕ) (disputed : Bool) → r.cause ≡ Unsettled id line disputed → ⊥

@@ -11,5 +11,6 @@ pub mod ReadsAs
 pub mod HeadlineLaws
 pub mod RunLaws
 pub mod JoinThenWrite
+pub mod NoOtherLaws
 pub mod CallLaws
 pub mod SourceLaws

@@ -1,15 +1,19 @@
 -- The laws of stations that took copies under sources.
-use Rattle.std.specs.Prelude.{◌≡◌, ℕ, true, List, [], ◌∷◌, ◌++◌, Option, ◌⊎◌}
+use Rattle.std.specs.Prelude.{◌≡◌, ℕ, ◌<◌, true, List, [], ◌∷◌, ◌++◌, Option, None, ◌⊎◌}
+use Rattle.std.specs.List.{AllByRecursion}
 use Rattle.jls_values.specs.Join.{IsBetween}
 use Rattle.jls_values.specs.Shape.{PictureShape}
 use Rattle.jls_partial.specs.Partial.{PartialPicture, nothing_known, has_same_shape, union}
 use Rattle.jls_partial.specs.Text.{text}
 use Rattle.jls_device.specs.Event.{Event, bytes_given}
-use Rattle.jls_station.specs.Given.{CopyReport}
+use Rattle.jls_copy.specs.CopyReads.{CopyReads}
+use Rattle.jls_copy.specs.ReadCopy.{ReadCopy}
+use Rattle.jls_station.specs.Given.{CopyReport, Given}
+use Rattle.jls_station.specs.Inputs.{ReadsGive}
 use Rattle.jls_station.specs.TakingCopies.{TakesCopy, RefusesCopy}
 use Rattle.jls_station.specs.declared.take_copy.TakeFault.{TakeFault}
 use Rattle.jls_station.specs.declared.take_copy.TakeFault.TheVariants as fault
-use Rattle.jls_headline.specs.Stations.{TookInTheEnd, SameCopies}
+use Rattle.jls_headline.specs.Stations.{HoldsExactly, TookInTheEnd, SameCopies}
 use Rattle.jls_headline.specs.Sources.{SourcedCopy, copies_of, HoldsExactlyUnder, TookUnder, TookInTheEndUnder, SameCopiesUnder}
 
 -- the copy of these bytes, under this source
@@ -61,3 +65,16 @@ abbrev pub PartialIsRefusedUnder : Type 0
 PartialIsRefusedUnder =
     (old taken new : PartialPicture) (more copies over : List SourcedCopy) → TookUnder old copies over → HoldsExactlyUnder taken more
     → has_same_shape old taken ≡ true → IsBetween union old new (union old taken) → TookUnder new copies (more ++ over)
+
+-- What is read of a copy ------------------------------------------------------------------------------------------
+
+-- where `CopyReader::finish` answers Ok, its partial picture holds exactly the readings of the copy that was fed
+abbrev pub FinishedCopiesHold : Type 0
+FinishedCopiesHold = (copy : List ℕ) (read : ReadCopy) → AllByRecursion (λ b. b < 256) copy → CopyReads copy read
+    → HoldsExactly read.partial (copy ∷ [])
+
+-- where `read_input` answers Ok for a copy, its partial picture holds exactly the readings of the bytes that these reads gave, each under
+-- the source of the call
+abbrev pub ReadCopiesHold : Type 0
+ReadCopiesHold = (source : Option ℕ) (given : Given) (reads : List Event) → ReadsGive source given reads → (given.copy ≡ None → ⊥)
+    → HoldsExactlyUnder given.partial (sourced_copy source (bytes_given reads) ∷ [])

@@ -4,6 +4,7 @@ ghost use Rattle.jls_headline.specs.CallLaws.{NewStationTookNothing, CopyIsTaken
 ghost use Rattle.jls_headline.specs.CallLaws.{PartialIsTaken, PartialIsRefused};
 ghost use Rattle.jls_headline.specs.SourceLaws.{NewStationTookNothingUnder, CopyIsTakenUnder, CopyIsRefusedUnder};
 ghost use Rattle.jls_headline.specs.SourceLaws.{PartialIsTakenUnder, PartialIsRefusedUnder, SourcesAside};
+ghost use Rattle.jls_headline.specs.SourceLaws.{FinishedCopiesHold, ReadCopiesHold};
 
 /// A law: a new station took nothing. A station that answers a copy with Ok took the bytes that the reads of this call gave; one that
 /// refuses a copy took nothing, or ran out of memory over it. The same holds of partial pictures that hold exactly the readings of
@@ -25,4 +26,12 @@ pub fn calls_tell_the_sources()
     ensures joined { PartialIsTakenUnder }
     ensures not_joined { PartialIsRefusedUnder }
     ensures aside { SourcesAside }
+{}
+
+/// A law: what `CopyReader::finish` gives holds exactly the readings of the copy that was fed. What `read_input` gives of a copy holds
+/// exactly the readings of the bytes that its reads gave, each under the source of the call. So `take` of either is a step that the laws of
+/// stations speak of.
+pub fn copies_that_are_read_hold_their_readings()
+    ensures finished { FinishedCopiesHold }
+    ensures read { ReadCopiesHold }
 {}

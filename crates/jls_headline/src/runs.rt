@@ -4,6 +4,8 @@ ghost use Rattle.jls_headline.specs.RunLaws.{RunsHoldExactly, RunsSayTheSame, Ru
 ghost use Rattle.jls_headline.specs.RunLaws.{RunsWithTextsHoldExactly, RunsWithTextsSayTheSame, RunsWithTextsGiveThePicture};
 ghost use Rattle.jls_headline.specs.RunLaws.{RunsHoldExactlyUnder, RunsUnderSourcesHandOutTheSame};
 ghost use Rattle.jls_headline.specs.JoinThenWrite.{WrittenJoinsAreThePicture, WrittenJoinsReadAsThePicture, WrittenJoinsAreSettled};
+ghost use Rattle.jls_headline.specs.JoinThenWrite.{WrittenTextJoinsAreThePicture, WrittenTextJoinsReadAsThePicture};
+ghost use Rattle.jls_headline.specs.JoinThenWrite.{WrittenTextJoinsAreSettled};
 
 /// A law: what a run of `join` joins that is done, and whose inputs are copies and no texts, holds exactly the readings that these copies
 /// give. Two such runs whose inputs were the same copies, in any order and with any repeats, join what holds and says the same, and
@@ -37,4 +39,12 @@ pub fn written_joins_read_as_the_picture()
     ensures written { WrittenJoinsAreThePicture }
     ensures reads { WrittenJoinsReadAsThePicture }
     ensures settled { WrittenJoinsAreSettled }
+{}
+
+/// A law: the same where texts are among the inputs of the `join`, each of which stands for the copies of which its partial picture holds
+/// exactly the readings.
+pub fn written_text_joins_read_as_the_picture()
+    ensures written { WrittenTextJoinsAreThePicture }
+    ensures reads { WrittenTextJoinsReadAsThePicture }
+    ensures settled { WrittenTextJoinsAreSettled }
 {}

@@ -5,4 +5,5 @@ pub mod InputBytes
 pub mod JoinSteps
 pub mod NextInputs
 pub mod OneInput
+mod StatusExamples
 pub mod WholeRuns

@@ -1,0 +1,140 @@
+-- A picture of ten lines, and a copy of it that has lost seven of them with their marks: the numbers of its pieces are 0, 8 and 9.
+use Rattle.std.proofs.Common.{◌≡◌, ℕ, ◌<◌, List, [], ◌∷◌, Some, refl, lit<, lit≤, arith, inl, inr}
+use Rattle.jls_values.specs.Shape.{PictureShape}
+use Rattle.jls_marker.specs.ComponentIndex.{index_of}
+use Rattle.jls_marker.specs.MarkerCodes.{has_segment}
+use Rattle.jls_marker.specs.HeaderState.{HeaderState, no_headers}
+use Rattle.jls_marker.specs.Headers.{headers_after}
+use Rattle.jls_marker.specs.Scan.{Scan}
+use Rattle.jls_copy.specs.ScanData.{ClosedPiece}
+use Rattle.jls_copy.specs.Course.{by_marker, CopyUnit, segment, scan, Course, IsCourse, with_soi, at_eoi, for_good}
+use Rattle.jls_copy.specs.declared.end.End.TheVariants.{Eoi}
+use Rattle.jls_picture.specs.Picture.{WholePicture}
+use Rattle.jls_headline.specs.Damaged.{Damaged}
+use Rattle.jls_headline.specs.Survives.{Survives}
+use Rattle.jls_headline.specs.Trimmed.{whole, TrimmedCopy}
+use Rattle.jls_headline.proofs.Trims.{trimmed_copies_are_damaged}
+use Rattle.jls_headline.proofs.TwoLineExamples.{bits_8, scan_payload, pieces_read, bytes_of_test}
+
+abbrev shape : PictureShape
+shape = record { precision = 8; width = 1; height = 10; ids = 1 ∷ [] }
+
+-- a column of ten samples: line 8 is 255, and the others are 0
+abbrev dark : List ℕ
+dark = 0 ∷ []
+
+abbrev pic : WholePicture
+pic = record { shape = shape; lines = (dark ∷ dark ∷ dark ∷ dark ∷ dark ∷ dark ∷ dark ∷ dark ∷ (255 ∷ []) ∷ dark ∷ []) ∷ [] }
+
+-- a restart interval for each line
+abbrev plan : Scan
+plan = record { components = 0 ∷ []; params = bits_8; width = 1; height = 10; restart_interval = 1 }
+
+abbrev frame_payload : List ℕ
+frame_payload = 8 ∷ 0 ∷ 10 ∷ 0 ∷ 1 ∷ 1 ∷ 1 ∷ 0x11 ∷ 0 ∷ []
+
+-- SOI, SOF55, DRI and SOS; line 0, RST7, line 8, RST0, line 9; EOI. RST0 to RST6 before line 8 are lost
+abbrev copy : List ℕ
+copy =
+    0xFF ∷ 0xD8 ∷ 0xFF ∷ 0xF7 ∷ 0 ∷ 0x0B ∷ 8 ∷ 0 ∷ 10 ∷ 0 ∷ 1 ∷ 1 ∷ 1 ∷ 0x11 ∷ 0 ∷ 0xFF ∷ 0xDD ∷ 0 ∷ 4 ∷ 0 ∷ 1
+    ∷ 0xFF ∷ 0xDA ∷ 0 ∷ 8 ∷ 1 ∷ 1 ∷ 0 ∷ 0 ∷ 0 ∷ 0 ∷ 0x80 ∷ 0xFF ∷ 0xD7 ∷ 0x40 ∷ 0xFF ∷ 0xD0 ∷ 0x80 ∷ 0xFF ∷ 0xD9 ∷ []
+
+abbrev framed : HeaderState
+framed = record no_headers { frame = Some shape }
+
+abbrev restarting : HeaderState
+restarting = record framed { restart_interval = 1 }
+
+abbrev final : HeaderState
+final = record restarting { scans = 1 }
+
+abbrev closed : List ClosedPiece
+closed = record { piece = 0x80 ∷ []; fill = 0; mark = 7 } ∷ record { piece = 0x40 ∷ []; fill = 0; mark = 0 } ∷ []
+
+abbrev units : List CopyUnit
+units =
+    segment 0 0xF7 frame_payload ∷ segment 0 0xDD (0 ∷ 1 ∷ []) ∷ scan 0 0xDA scan_payload plan closed (0x80 ∷ []) by_marker ∷ []
+
+abbrev course : Course
+course = record { begin = 2; units = units; headers = final; end = Eoi 38 }
+
+is_course : IsCourse copy course
+unfolding headers_after index_of has_segment
+is_course =
+    with_soi 0 _ units final (Eoi 38) (
+      framed,
+      _,
+      refl,
+      ((refl, lit< tt), refl),
+      (
+        restarting,
+        _,
+        refl,
+        ((refl, lit< tt), refl),
+        (
+          final,
+          0xFF ∷ 0xD9 ∷ [],
+          refl,
+          (
+            (refl, lit< tt),
+            refl,
+            (((λ (h : 0x80 ≡ 0xFF). omega (arith, h)), lit< tt), (((λ (h : 0x40 ≡ 0xFF). omega (arith, h)), lit< tt), tt)),
+            (λ (h : 0x80 ≡ 0xFF). omega (arith, h)),
+            record { fill = 0; code = 0xD9; behind = []; bytes_are = refl; ends = refl },
+          ),
+          (refl, for_good final 38 (0xFF ∷ 0xD9 ∷ []) (Eoi 38) (at_eoi final 38 0 [] refl)),
+        ),
+      ),
+    )
+
+-- nothing but whole intervals is lost
+is_trimmed : TrimmedCopy pic copy
+is_trimmed = (
+  course,
+  is_course,
+  record {
+    framed = refl;
+    units = (
+      tt,
+      (
+        tt,
+        (
+          record {
+            numbers = 8 ∷ 9 ∷ [];
+            rise = (lit< tt, lit≤ tt, lit< tt, (lit< tt, lit≤ tt, lit< tt, tt));
+            pieces_are = (
+              record { bytes = 0x80 ∷ []; reads = pieces_read.zero_read; trimmed = whole (0x80 ∷ []) },
+              refl,
+              (
+                record { bytes = 0x40 ∷ []; reads = pieces_read.largest_read; trimmed = whole (0x40 ∷ []) },
+                refl,
+                record { bytes = 0x80 ∷ []; reads = pieces_read.zero_read; trimmed = whole (0x80 ∷ []) },
+              ),
+            );
+          },
+          tt,
+        ),
+      ),
+    );
+  },
+)
+
+-- so it is a damaged copy
+is_damaged : Damaged pic copy
+is_damaged = trimmed_copies_are_damaged pic copy (bytes_of_test copy refl) is_trimmed
+
+-- and line 8 survives in it
+line_8 : Survives pic copy 0 8
+line_8 = record {
+  course = course;
+  is_course = is_course;
+  framed = refl;
+  unit = scan 0 0xDA scan_payload plan closed (0x80 ∷ []) by_marker;
+  among = (2, lit< tt, refl);
+  there = record {
+    numbers = 8 ∷ 9 ∷ [];
+    rise = (lit< tt, lit≤ tt, lit< tt, (lit< tt, lit≤ tt, lit< tt, tt));
+    marks = (tt, refl, (tt, refl, tt));
+    there = inl (inr (inl (((0, lit< tt, refl), (lit≤ tt, lit< tt)), pieces_read.largest_read)));
+  };
+}
