@@ -1,7 +1,8 @@
 //! Sets of source numbers.
 
 ghost use Rattle.std.specs.Ordering.{nat_cmp};
-ghost use Rattle.std.specs.Prelude.{◌≡◌, ◌<◌, ◌≤◌, ◌+◌, true, not, length, vec_len, vec_capacity, IfOk, IsOk, OnOk, OnErr};
+ghost use Rattle.std.specs.List.{AllByRecursion};
+ghost use Rattle.std.specs.Prelude.{◌≡◌, ◌<◌, ◌≤◌, ◌+◌, ◌++◌, ℕ, List, true, not, length, vec_len, vec_capacity, IfOk, IsOk, OnOk, OnErr};
 ghost use Rattle.jls_values.specs.OrderedSet as set;
 ghost use Rattle.jls_values.specs.SourceList.{IsSourceList};
 
@@ -56,13 +57,23 @@ impl SourceSet {
         }
     }
 
-    /// Takes several numbers, in whatever order they stand. Want of memory changes nothing.
+    /// Takes several numbers, in whatever order they stand. Want of memory changes nothing. Where they ascend, each number
+    /// that is held and each that is taken is moved a fixed number of times.
     pub fn add_all(&mut self, sources: &[u32]) -> Result<(), AllocError>
         ensures held { OnOk result (self.new ≡ set.insert_all self.old sources.now) }
         ensures unchanged { OnErr result (self.new ≡ self.old) }
     {
+        let Some(first) = sources.first() else {
+            return Ok(());
+        };
+        let below = match self.numbers.binary_search(first) {
+            Ok(at) => at,
+            Err(at) => at,
+        };
+        let above = Vec::from_slice(*self.numbers.allocator(), &self.numbers[below..])?;
         self.numbers.reserve(sources.len())?;
-        put_all(&mut self.numbers, sources);
+        self.numbers.truncate(below);
+        put_all(&mut self.numbers, &above, sources);
         Ok(())
     }
 
@@ -75,11 +86,12 @@ impl SourceSet {
     }
 }
 
-/// Puts one number in, where there is room for one more.
+/// Puts one number in, where there is room for one more. Numbers that stand above all of these stay above them.
 fn put(numbers: &mut Vec<u32>, number: u32)
     requires sources { IsSourceList numbers.old.items }
     requires room { vec_len numbers.old < vec_capacity numbers.old }
-    ensures sources { IsSourceList numbers.new.items }
+    ensures sources { (above : List ℕ) → IsSourceList (numbers.old.items ++ above) → AllByRecursion (λ n. number < n) above
+        → IsSourceList (numbers.new.items ++ above) }
     ensures held { set.from_list {R = nat_cmp} numbers.new.items ≡ set.insert (set.from_list numbers.old.items) number }
     ensures len { vec_len numbers.new ≤ vec_len numbers.old + 1 }
     ensures capacity { vec_capacity numbers.old ≤ vec_capacity numbers.new }
@@ -93,15 +105,41 @@ fn put(numbers: &mut Vec<u32>, number: u32)
     }
 }
 
-/// Puts all of the others in, where there is room for as many.
-fn put_all(numbers: &mut Vec<u32>, others: &[u32])
-    requires sources { IsSourceList numbers.old.items }
-    requires room { vec_len numbers.old + length others.now ≤ vec_capacity numbers.old }
-    ensures sources { IsSourceList numbers.new.items }
-    ensures held { set.from_list {R = nat_cmp} numbers.new.items ≡ set.insert_all (set.from_list numbers.old.items) others.now }
+/// Moves the numbers of `above` up to `last` behind the others, where there is room for them. Those that are left are lent.
+fn move_up_to<'a>(numbers: &mut Vec<u32>, above: &'a [u32], last: u32) -> &'a [u32]
+    requires sources { IsSourceList (numbers.old.items ++ above.now) }
+    requires room { vec_len numbers.old + length above.now ≤ vec_capacity numbers.old }
+    ensures moved { numbers.new.items ++ result.now ≡ numbers.old.items ++ above.now }
+    ensures len { vec_len numbers.new + length result.now ≡ vec_len numbers.old + length above.now }
+    ensures above { AllByRecursion (λ n. last < n) result.now }
+    ensures capacity { vec_capacity numbers.old ≤ vec_capacity numbers.new }
 {
+    for (i, number) in above.iter().enumerate() {
+        if last < *number {
+            return &above[i..];
+        }
+        numbers.push_reserved(*number);
+    }
+    &[]
+}
+
+/// Puts all of the others into the numbers and those of `above`, where there is room for all: one pass over each list where
+/// the others ascend.
+fn put_all(numbers: &mut Vec<u32>, above: &[u32], others: &[u32])
+    requires sources { IsSourceList (numbers.old.items ++ above.now) }
+    requires room { vec_len numbers.old + length above.now + length others.now ≤ vec_capacity numbers.old }
+    ensures sources { IsSourceList numbers.new.items }
+    ensures held { set.from_list {R = nat_cmp} numbers.new.items
+        ≡ set.insert_all (set.from_list (numbers.old.items ++ above.now)) others.now }
+{
+    let mut left = above;
     for number in others {
+        left = move_up_to(numbers, left, *number);
         put(numbers, *number);
+    }
+    match numbers.extend_from_slice(left) {
+        Ok(()) => {}
+        Err(_) => unreachable!(),
     }
 }
 

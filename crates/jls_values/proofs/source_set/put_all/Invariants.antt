@@ -1,4 +1,4 @@
-use Rattle.std.proofs.Common.{◌≡◌, ◌+◌, ◌≤◌, length, take, vec_len, vec_capacity}
+use Rattle.std.proofs.Common.{◌≡◌, ◌+◌, ◌++◌, ◌≤◌, length, take, vec_len, vec_capacity}
 use Rattle.std.specs.Ordering.{nat_cmp}
 use Rattle.jls_values.specs.OrderedSet as set
 use Rattle.jls_values.specs.SourceList.{IsSourceList}
@@ -6,7 +6,8 @@ use Rattle.jls_values.proofs.source_set.put_all.Given as goal
 
 abbrev pub invariant-loop-number : goal.invariant-loop-number
 invariant-loop-number l = record {
-  sources : IsSourceList l.numbers.items;
-  held : set.from_list {R = nat_cmp} l.numbers.items ≡ set.insert_all (set.from_list l.fn.numbers.items) (take l.number-index l.others);
-  room : vec_len l.numbers + length l.others ≤ vec_capacity l.numbers + l.number-index;
+  sources : IsSourceList (l.numbers.items ++ l.left);
+  held : set.from_list {R = nat_cmp} (l.numbers.items ++ l.left)
+      ≡ set.insert_all (set.from_list (l.fn.numbers.items ++ l.fn.above)) (take l.number-index l.others);
+  room : vec_len l.numbers + length l.left + length l.others ≤ vec_capacity l.numbers + l.number-index;
 }
