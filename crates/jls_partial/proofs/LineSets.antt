@@ -1,6 +1,6 @@
 -- Sets of lines: what is kept, what one line more leaves, and lines taken one after the other.
 use Rattle.std.proofs.Common.{◌≡◌, ℕ, zero, suc, ◌+◌, ◌<◌, ◌≤◌, Bool, true, false, not, cond, eqb, ◌&&◌, ◌||◌, List, [], ◌∷◌, ◌++◌, length, get_or, set, take, drop, map, Option, Some, None, refl, ap, sym, subst, ◌∙◌, append_assoc, arith}
-use Rattle.std.specs.Prelude.{IfSome, slice_get}
+use Rattle.std.specs.Prelude.{IfSome, IsTrue, ◌↔◌, slice_get}
 use Rattle.std.specs.declared.cmp.Ordering.{Ordering}
 use Rattle.std.specs.declared.cmp.Ordering.TheVariants.{Less}
 use Rattle.std.specs.Cmp.{IsTotalOrder}
@@ -9,7 +9,7 @@ use Rattle.std.specs.List.{list_any, insert, AllByRecursion}
 use Rattle.std.specs.List.Sorted.{IsStrictlySortedBy}
 use Rattle.std.specs.Ordering.{nat_cmp, eq_by_cmp, is_eq}
 use Rattle.std.proofs.Math.Seq.{map-set_same}
-use Rattle.std.proofs.lemmas.Bool.{and_parts, eqb-true}
+use Rattle.std.proofs.lemmas.Bool.{and_parts, eqb-true, ne_eqb}
 use Rattle.std.proofs.lemmas.Cmp.{tied_itself, eq_by_cmp_equiv, nat_cmp_total, nat_list_cmp_total}
 use Rattle.std.proofs.lemmas.List.{map-set, map-append, length-map, length-set, get_or-map, take_more}
 use Rattle.std.proofs.lemmas.Map.Lookups.{CmpEqualImpliesEq, exact_unsigned}
@@ -84,6 +84,18 @@ insert-held s x h = same_set lines_total lines_exact _ _ (λ q. contains-insert 
 pub no_items : sets.items (sets.empty {R = nat_cmp}) ≡ []
 unfolding IsStrictlySortedBy
 no_items = items-from_list nat_cmp_total [] tt
+
+-- and a set without items is that set
+pub none_where_no_items : (s : sets.OrderedSet nat_cmp) (xs : List ℕ) (b : Bool) → xs ≡ sets.items s → b ≡ eqb (length xs) 0
+    → IsTrue b ↔ (s ≡ sets.empty)
+none_where_no_items s [] b e test = (
+  λ _. same_set nat_cmp_total exact_unsigned _ _ (λ q. contains-items s q ∙ ap (list_any (eq_by_cmp nat_cmp q)) (sym e) ∙ sym (contains-empty nat_cmp q)),
+  λ _. test,
+)
+none_where_no_items s (x ∷ xs) b e test = (
+  λ t. let long : eqb (length (x ∷ xs)) 0 ≡ false = ne_eqb (length (x ∷ xs)) 0 (λ z. omega arith) in let bad : true ≡ false = sym t ∙ test ∙ long in absurd cc,
+  λ z. let same : x ∷ xs ≡ [] = e ∙ ap sets.items z ∙ no_items in absurd cc,
+)
 
 module _ (precision width : ℕ) (packed samples : List ℕ) (slots : List Slot) (i : ℕ) (kept : IsLineSet precision width packed slots) (gap : IsGap S (lines_of width packed slots) i samples) (fits : samples_fault precision width samples ≡ None) (len : length samples ≡ width) (sources : sets.OrderedSet nat_cmp) where
   in_slots : i ≤ length slots

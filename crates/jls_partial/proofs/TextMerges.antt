@@ -1,9 +1,9 @@
 -- Texts as their heads and what stands behind these, and what reading one into a partial picture gives.
-use Rattle.std.proofs.Common.{◌≡◌, ℕ, Bool, true, false, cond, eqb, List, None, Result, Ok, Err, refl, ap, sym, subst, ◌∙◌, length}
+use Rattle.std.proofs.Common.{◌≡◌, ℕ, Bool, true, false, cond, eqb, List, ◌∷◌, ◌++◌, None, Result, Ok, Err, refl, ap, sym, subst, ◌∙◌, length, append_assoc}
 use Rattle.std.specs.Int.{w32}
 use Rattle.jls_values.specs.Join.{IsBetween}
 use Rattle.jls_values.specs.SameShape.{same_shape}
-use Rattle.jls_values.specs.Shape.{PictureShape}
+use Rattle.jls_values.specs.Shape.{PictureShape, IsShape}
 use Rattle.jls_partial.specs.declared.text_fault.TextFault.{TextFault}
 use Rattle.jls_partial.specs.declared.text_fault.TextFault.TheVariants as fault
 use Rattle.jls_partial.specs.declared.version.Version.{Version}
@@ -11,13 +11,13 @@ use Rattle.jls_partial.specs.Entries.{Entry, kept_readings, partial_of}
 use Rattle.jls_partial.specs.Merging.{TakesFront}
 use Rattle.jls_partial.specs.Partial.{PartialPicture, nothing_known, union, with_all}
 use Rattle.jls_partial.specs.PartialLaws.{shape_itself}
-use Rattle.jls_partial.specs.Text.{magic, IsTextOf}
+use Rattle.jls_partial.specs.Text.{magic, version_byte, shape_text, head_text, IsTextOf}
 use Rattle.jls_partial.specs.TextFront.{unless_fault, entries_front, text_front}
 use Rattle.jls_partial.specs.TextInto.{head_fields, with_entries, with_rest}
-use Rattle.jls_partial.specs.TextMerging.{MergesText, HasOtherShape}
+use Rattle.jls_partial.specs.TextMerging.{MergesText, HasOtherShape, HasOtherHead}
 use Rattle.jls_partial.specs.TextReading.{◌>>=◌, Fails, offset, number_field, magic_field, version_field, shape_fields, entries_fields, text_fields, read_text}
 use Rattle.jls_partial.proofs.Growth.{entries_union, between_of}
-use Rattle.jls_partial.proofs.TextFields.{IsBytes, bind_ok, passed_ok, ok_is}
+use Rattle.jls_partial.proofs.TextFields.{IsBytes, bind_ok, passed_ok, ok_is, magic_again, version_again, shape_again}
 use Rattle.jls_partial.proofs.TextFronts.{all_taken, whole_entries}
 use Rattle.jls_partial.proofs.TextLaws.{read_takes, read_again}
 use Rattle.jls_partial.proofs.TextLoops.{entries_given, fails_then, fault_given}
@@ -166,3 +166,31 @@ front_union old p bytes e =
 pub text_between : (old new : PartialPicture) (bytes : List ℕ) → TakesFront old new (text_front bytes)
     → (p : PartialPicture) → IsTextOf bytes p → IsBetween union old new (union old p)
 text_between old new bytes f p is = between_of old new (union old p) (text_front bytes) (front_union old p bytes (read_again bytes p is)) f
+
+-- ---- a text of another shape
+
+-- the shape of a head is the one with whose text the bytes begin
+head_shape : (bytes : List ℕ) (version : Version) (shape : PictureShape) (rest : List ℕ) (h : ℕ × Version × PictureShape × ℕ × List ℕ)
+    → IsShape shape → bytes ≡ head_text version shape ++ rest → head_fields bytes ≡ Ok h → shape ≡ h.2
+unfolding head_fields
+head_shape bytes version shape rest h is bytes_are e =
+    let size = length bytes in
+    let parted : bytes ≡ magic ++ (version_byte version ∷ (shape_text shape ++ rest)) = bytes_are ∙ append_assoc magic (version_byte version ∷ shape_text shape) rest in
+    let read : head_fields bytes ≡ (number_field size w32 rest >>= head_then size version shape) =
+    ap (λ (bs : List ℕ). magic_field size magic bs >>= λ version_bytes. version_field size version_bytes >>= λ v. shape_fields size v.1 >>= λ s. number_field size w32 s.1 >>= head_then size v.0 s.0) parted
+    ∙ rw (
+      magic_again size magic (version_byte version ∷ (shape_text shape ++ rest)),
+      version_again size version (shape_text shape ++ rest),
+      shape_again size shape rest is,
+    ) refl
+    in
+    let count = bind_ok (number_field size w32 rest) (head_then size version shape) h (sym read ∙ e) in
+    let made : Head = (size, version, shape, count.0.0, count.0.1) in
+    ap (λ (x : Head). x.2) (ok_is made h count.2)
+
+pub no_other_head : (old : PartialPicture) (bytes : List ℕ) (h : ℕ × Version × PictureShape × ℕ × List ℕ) → head_fields bytes ≡ Ok h → h.2 ≡ old.shape
+    → HasOtherHead old bytes → ⊥
+no_other_head old bytes h head one_shape o =
+    let same : o.shape ≡ old.shape = head_shape bytes o.version o.shape o.rest h o.is_shape o.bytes_are head ∙ one_shape in
+    let bad : true ≡ false = sym (shape_itself old.shape) ∙ ap (same_shape old.shape) (sym same) ∙ o.other_shape in
+    absurd cc

@@ -1,9 +1,12 @@
 -- What comes of a text whose readings are merged into a partial picture.
-use Rattle.std.specs.Prelude.{◌≡◌, ℕ, true, false, List}
+use Rattle.std.specs.Prelude.{◌≡◌, ℕ, true, false, List, ◌++◌}
+use Rattle.jls_values.specs.SameShape.{same_shape}
+use Rattle.jls_values.specs.Shape.{PictureShape, IsShape}
 use Rattle.jls_partial.specs.declared.text_merging.MergeTextFault.{MergeTextFault}
 use Rattle.jls_partial.specs.declared.text_merging.MergeTextFault.TheVariants.{Text, ShapeDiffers}
+use Rattle.jls_partial.specs.declared.version.Version.{Version}
 use Rattle.jls_partial.specs.Partial.{PartialPicture, has_same_shape, union}
-use Rattle.jls_partial.specs.Text.{IsTextOf}
+use Rattle.jls_partial.specs.Text.{IsTextOf, head_text}
 use Rattle.jls_partial.specs.TextReading.{Fails, read_text}
 
 -- the bytes are a text of a partial picture of the same shape, and this is the union with it
@@ -18,6 +21,15 @@ pub record HasOtherShape (old : PartialPicture) (bytes : List ℕ) : Type 0 wher
   pub said : PartialPicture
   pub is_text : IsTextOf bytes said
   pub other_shape : has_same_shape old said ≡ false
+
+-- the bytes begin as the texts of pictures of another shape do, whatever stands behind that
+pub record HasOtherHead (old : PartialPicture) (bytes : List ℕ) : Type 0 where
+  pub version : Version
+  pub shape : PictureShape
+  pub is_shape : IsShape shape
+  pub rest : List ℕ
+  pub bytes_are : bytes ≡ head_text version shape ++ rest
+  pub other_shape : same_shape old.shape shape ≡ false
 
 -- why the bytes were not merged: this is the first fault of theirs, unless memory ran out; or they are of another shape
 abbrev pub RefusesText : PartialPicture → List ℕ → MergeTextFault → Type 0

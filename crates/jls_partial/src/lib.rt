@@ -32,3 +32,4 @@ pub use partial::Partial;
 pub use status::Status;
 pub use text_fault::TextFault;
 pub use text_merging::MergeTextFault;
+pub use version::Version;

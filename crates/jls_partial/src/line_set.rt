@@ -2,9 +2,12 @@
 
 ghost use Rattle.jls_partial.specs.InsertFaults.{samples_fault, Refuses};
 ghost use Rattle.jls_partial.specs.LineSet.{no_lines, line_sources, AreLineMarksHeld, with_line, with_lines, union_of_lines};
-ghost use Rattle.jls_partial.specs.LineSet.{has_same_line_shape};
+ghost use Rattle.jls_partial.specs.LineSet.{has_same_line_shape, kept_lines};
+ghost use Rattle.jls_partial.specs.Merging.{TakesFrontOfLines};
 ghost use Rattle.jls_values.specs.Join.{IsBetween};
 ghost use Rattle.jls_values.specs.OrderedSet as set;
+ghost use Rattle.jls_values.specs.declared.merge.MergeFault.TheVariants.{ShapeDiffers, OutOfMemory};
+ghost use Rattle.std.specs.Prelude.{◌↔◌, false, IsErrOf};
 ghost use Rattle.std.specs.Prelude.{◌≡◌, ◌<◌, ◌≤◌, ◌∷◌, [], length, true, not, IfOk, IfSome, OnOk, OnErr, IsOk, None, Some, slice_get};
 
 use crate::index::Index;
@@ -123,6 +126,7 @@ fn merge_lines(into: &mut LineSet, other: &LineSet) -> Result<(), AllocError>
     requires { has_same_line_shape into.old other.now ≡ true }
     ensures ok { OnOk result (into.new ≡ union_of_lines into.old other.now) }
     ensures err { OnErr result (IsBetween union_of_lines into.old into.new (union_of_lines into.old other.now)) }
+    ensures front { OnErr result (TakesFrontOfLines into.old into.new (kept_lines other.now)) }
 {
     for i in 0..other.len() {
         into.take(other.get(i), other.sources(i))?;
@@ -143,7 +147,17 @@ impl Merge for LineSet {
     /// Takes in the lines of `other`, and their sources. `ShapeDiffers`, where the precisions or the widths differ,
     /// changes nothing; after want of memory all that was held is still held, with some of the other's
     /// lines and their sources, and the same call can be made again.
-    fn merge(&mut self, other: &LineSet) -> Result<(), MergeFault> {
+    fn merge(&mut self, other: &LineSet) -> Result<(), MergeFault>
+        ensures ok { OnOk result (self.new ≡ union_of_lines self.old other.now) }
+        ensures ok_same_shape { OnOk result (has_same_line_shape self.old other.now ≡ true) }
+        ensures shape_differs { IsErrOf result ShapeDiffers ↔ (has_same_line_shape self.old other.now ≡ false) }
+        ensures unchanged { IsErrOf result ShapeDiffers → self.new ≡ self.old }
+        ensures out_of_memory { IsErrOf result OutOfMemory
+            → IsBetween union_of_lines self.old self.new (union_of_lines self.old other.now) }
+        ensures keeps_shape { has_same_line_shape self.old self.new ≡ true }
+        // Each line that was taken has all of its sources.
+        ensures front { IsErrOf result OutOfMemory → TakesFrontOfLines self.old self.new (kept_lines other.now) }
+    {
         if !self.has_same_shape(other) {
             return Err(MergeFault::ShapeDiffers);
         }

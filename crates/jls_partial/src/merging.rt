@@ -4,9 +4,11 @@ ghost use Rattle.jls_partial.specs.Entries.{kept_at_place, kept_readings};
 ghost use Rattle.jls_partial.specs.Held.{IsLineEntry};
 ghost use Rattle.jls_partial.specs.LineSet.{kept_lines};
 ghost use Rattle.jls_partial.specs.Merging.{TakesFront};
-ghost use Rattle.jls_partial.specs.Partial.{with_all};
+ghost use Rattle.jls_partial.specs.Partial.{with_all, has_same_shape, union};
 ghost use Rattle.jls_partial.specs.Text.{entries};
-ghost use Rattle.std.specs.Prelude.{◌≡◌, map, OnOk, OnErr};
+ghost use Rattle.jls_values.specs.Join.{IsBetween};
+ghost use Rattle.jls_values.specs.declared.merge.MergeFault.TheVariants.{ShapeDiffers, OutOfMemory};
+ghost use Rattle.std.specs.Prelude.{◌≡◌, ◌↔◌, map, true, false, OnOk, OnErr, IsErrOf};
 
 use crate::lines::Lines;
 use crate::partial::Partial;
@@ -51,7 +53,16 @@ impl Merge for Partial {
     /// Takes in the readings of `other`, and their sources. At `ShapeDiffers` nothing has changed; after want of memory
     /// all that was held is still held, with some of the other's readings and their sources, and the same call can be
     /// made again.
-    fn merge(&mut self, other: &Partial) -> Result<(), MergeFault> {
+    fn merge(&mut self, other: &Partial) -> Result<(), MergeFault>
+        ensures ok { OnOk result (self.new ≡ union self.old other.now) }
+        ensures ok_same_shape { OnOk result (has_same_shape self.old other.now ≡ true) }
+        ensures shape_differs { IsErrOf result ShapeDiffers ↔ (has_same_shape self.old other.now ≡ false) }
+        ensures unchanged { IsErrOf result ShapeDiffers → self.new ≡ self.old }
+        ensures out_of_memory { IsErrOf result OutOfMemory → IsBetween union self.old self.new (union self.old other.now) }
+        ensures keeps_shape { has_same_shape self.old self.new ≡ true }
+        // Each reading that was taken has all of its sources.
+        ensures front { IsErrOf result OutOfMemory → TakesFront self.old self.new (kept_readings (entries other.now)) }
+    {
         if *self.shape() != *other.shape() {
             return Err(MergeFault::ShapeDiffers);
         }

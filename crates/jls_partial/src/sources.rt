@@ -1,6 +1,6 @@
 //! The sources of a line.
 
-ghost use Rattle.std.specs.Prelude.{◌≡◌, [], true, IsOk, OnOk, OnErr};
+ghost use Rattle.std.specs.Prelude.{◌≡◌, ◌↔◌, [], IsOk, IsTrue, OnOk, OnErr};
 ghost use Rattle.jls_partial.specs.Slots.{own_sources};
 ghost use Rattle.jls_values.specs.OrderedSet as set;
 
@@ -38,9 +38,9 @@ impl Sources {
 
     /// Whether there is none.
     pub(crate) fn is_empty(&self) -> bool
-        ensures { result ≡ true → self.now ≡ set.empty }
+        ensures { IsTrue result ↔ (self.now ≡ set.empty) }
     {
-        self.own.is_none()
+        self.as_slice().is_empty()
     }
 
     /// Takes several source numbers, in whatever order they stand. Want of memory changes nothing.

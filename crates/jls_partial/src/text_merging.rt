@@ -4,7 +4,7 @@ ghost use Rattle.jls_partial.specs.Merging.{TakesFront};
 ghost use Rattle.jls_partial.specs.Partial.{PartialPicture, union};
 ghost use Rattle.jls_partial.specs.Text.{IsTextOf};
 ghost use Rattle.jls_partial.specs.TextFront.{text_front};
-ghost use Rattle.jls_partial.specs.TextMerging.{MergesText, RefusesText};
+ghost use Rattle.jls_partial.specs.TextMerging.{MergesText, RefusesText, HasOtherHead};
 ghost use Rattle.jls_partial.specs.declared.text_merging.MergeTextFault.TheVariants.{Text, ShapeDiffers};
 ghost use Rattle.jls_values.specs.Join.{IsBetween};
 ghost use Rattle.std.specs.Prelude.{◌≡◌, OnOk, OnErr, IfErr, IsErrOf};
@@ -37,12 +37,14 @@ impl From<TextFault> for MergeTextFault {
 impl Partial {
     /// Takes in the readings of the partial picture whose text the bytes are, and their sources, without a second partial picture
     /// in memory: what `from_bytes` and `merge` do. The fault of a text is the one that `from_bytes` gives, and it comes before
-    /// `ShapeDiffers`, at which nothing has changed. After a fault or want of memory all that was held is still held, with some of
+    /// `ShapeDiffers`. A text that begins as those of another shape do changes nothing. After a fault or want of memory all that was held is still held, with some of
     /// the readings that stand in the text before the fault; after want of memory the same call can be made again.
     pub fn merge_text(&mut self, alloc: Global, bytes: &[u8]) -> Result<(), MergeTextFault>
         ensures ok { OnOk result (MergesText self.old bytes.now self.new) }
         ensures refused { IfErr result (λ fault. RefusesText self.old bytes.now fault) }
         ensures unchanged { IsErrOf result ShapeDiffers → self.new ≡ self.old }
+        // Whatever the answer.
+        ensures other_head { HasOtherHead self.old bytes.now → self.new ≡ self.old }
         // What is held after a fault.
         ensures front { OnErr result (TakesFront self.old self.new (text_front bytes.now)) }
         // Where memory ran out for what is a text.

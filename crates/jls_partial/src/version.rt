@@ -2,7 +2,7 @@
 
 /// The version of a text.
 #[derive(Clone, Copy, Debug, PartialEq, Eq)]
-pub(crate) enum Version {
+pub enum Version {
     /// It has no sources.
     One,
     /// It has the sources of each reading behind its samples.

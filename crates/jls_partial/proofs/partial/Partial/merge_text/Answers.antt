@@ -8,7 +8,7 @@ use Rattle.jls_partial.specs.Partial.{union}
 use Rattle.jls_partial.specs.TextFront.{text_front}
 use Rattle.jls_partial.proofs.SameEntries.{shapes_differ, shapes_from_test}
 use Rattle.jls_partial.proofs.TextFronts.{on_error, nothing_taken}
-use Rattle.jls_partial.proofs.TextMerges.{head_fault, fault_behind, fault_merged, differs, merged, front_merged, text_between}
+use Rattle.jls_partial.proofs.TextMerges.{head_fault, fault_behind, fault_merged, differs, merged, front_merged, text_between, no_other_head}
 use Rattle.jls_partial.proofs.partial.Partial.merge_text.Goals as goal
 
 pub returns-in_err-head-clause-refused : goal.returns-in_err-head-clause-refused
@@ -68,3 +68,15 @@ returns-clause-ok c =
     let head = c.in_ok-head.head in
     let one : head.shape ≡ c.args.self.now.shape = sym (shapes_from_test c.shape.result.now head.shape c.ne.result c.ne.ensures c.if-ne.false) ∙ c.shape.ensures.value in
     merged c.args.bytes.now (head.form.size, head.form.version, head.shape, head.count, head.rest.now) c.in_ok-head.ensures c.args.self.now one c.read_rest.new.partial (λ i. omega (arith, c.type_inv.bytes i)) c.in_ok-read_rest.ensures.read
+
+pub returns-in_err-read_rest-clause-other_head : goal.returns-in_err-read_rest-clause-other_head
+returns-in_err-read_rest-clause-other_head c = λ other.
+    let head = c.in_ok-head.head in
+    let one : head.shape ≡ c.args.self.now.shape = sym (shapes_from_test c.shape.result.now head.shape c.ne.result c.ne.ensures c.if-ne.false) ∙ c.shape.ensures.value in
+    absurd (no_other_head c.args.self.now c.args.bytes.now (head.form.size, head.form.version, head.shape, head.count, head.rest.now) c.in_ok-head.ensures one other)
+
+pub returns-clause-other_head : goal.returns-clause-other_head
+returns-clause-other_head c = λ other.
+    let head = c.in_ok-head.head in
+    let one : head.shape ≡ c.args.self.now.shape = sym (shapes_from_test c.shape.result.now head.shape c.ne.result c.ne.ensures c.if-ne.false) ∙ c.shape.ensures.value in
+    absurd (no_other_head c.args.self.now c.args.bytes.now (head.form.size, head.form.version, head.shape, head.count, head.rest.now) c.in_ok-head.ensures one other)
