@@ -26,3 +26,4 @@ pub mod ScansOfCourse
 pub mod BytesDecide
 pub mod FinalEnds
 mod TellingLaws
+mod Fronts

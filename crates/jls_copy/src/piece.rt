@@ -1,6 +1,7 @@
 //! Pieces of scan data.
 
-ghost use Rattle.std.specs.Prelude.{◌≡◌, ◌∷◌, [], ◌<◌, ◌^◌, OnOk, IfOk};
+ghost use Rattle.std.specs.Prelude.{◌≡◌, ◌∷◌, [], ◌<◌, ◌^◌, OnOk, IfOk, true};
+ghost use Rattle.jls_copy.specs.Fronts.{OpenReadsNoMore};
 ghost use Rattle.jls_marker.specs.Scan.{intervals};
 ghost use Rattle.jls_copy.specs.Numbers.{numbered};
 ghost use Rattle.jls_copy.specs.ReaderState.{piece_opened, piece_with};
@@ -90,6 +91,16 @@ impl OpenPiece {
         match self {
             OpenPiece::Within(_, decoder) => decoder.push(byte),
             OpenPiece::Beyond(_) => Ok(()),
+        }
+    }
+
+    /// Whether it is known to read as no lines, whatever follows. `false` says nothing.
+    pub(crate) fn reads_no_more(&self) -> bool
+        ensures { result ≡ true → OpenReadsNoMore self.now }
+    {
+        match self {
+            OpenPiece::Within(_, decoder) => decoder.reads_no_more(),
+            OpenPiece::Beyond(_) => true,
         }
     }
 
