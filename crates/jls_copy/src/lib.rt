@@ -11,6 +11,7 @@ mod findings;
 mod lanes;
 mod machine;
 mod piece;
+mod piece_decoder;
 mod place;
 mod reader;
 mod scan;

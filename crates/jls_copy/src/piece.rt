@@ -7,6 +7,7 @@ ghost use Rattle.jls_copy.specs.Numbers.{numbered};
 ghost use Rattle.jls_copy.specs.ReaderState.{piece_opened, piece_with};
 ghost use Rattle.jls_copy.specs.Sound.{IsOpenPiece};
 
+use crate::piece_decoder::PieceDecoder;
 use jls_interval::IntervalDecoder;
 use jls_marker::ScanPlan;
 use std::alloc::{AllocError, Global};
@@ -40,7 +41,7 @@ pub struct PieceRecord {
 /// A piece that is told byte after byte, under its number.
 #[derive(Drop)]
 pub(crate) enum OpenPiece {
-    Within(u32, IntervalDecoder),
+    Within(u32, PieceDecoder),
     Beyond(u32),
 }
 
@@ -81,7 +82,7 @@ impl OpenPiece {
             components,
             u32::from(rows),
         );
-        Ok(OpenPiece::Within(number, decoder))
+        Ok(OpenPiece::Within(number, PieceDecoder::new(alloc, decoder)?))
     }
 
     /// Tells one byte more.
