@@ -1,0 +1,3 @@
+pub mod Members
+mod Splices
+mod PartsExamples

@@ -1,0 +1,3 @@
+pub mod Parts
+pub mod PartsOf
+pub mod SpliceLaws

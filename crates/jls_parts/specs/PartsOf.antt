@@ -1,0 +1,13 @@
+-- The parts that the code holds, as parts of lists of bytes.
+use Rattle.std.specs.Prelude.{List, map}
+use Rattle.jls_parts.specs.Parts as spec
+use Rattle.jls_parts.specs.declared.part.Part.{Part}
+use Rattle.jls_parts.specs.declared.part.Part.TheVariants.{Same, Differ}
+
+-- a part whose slices are the bytes that they show
+abbrev pub part_of : Part → spec.Part
+part_of (Same bytes) = spec.Same bytes.now
+part_of (Differ ways) = spec.Differ (map (λ bytes. bytes.now) ways.items)
+
+abbrev pub parts_of : List Part → List spec.Part
+parts_of parts = map part_of parts

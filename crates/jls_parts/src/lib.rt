@@ -1,0 +1,8 @@
+//! How copies of one file part into stretches that all have alike and stretches in which they differ.
+#![tactic(auto)]
+
+mod laws;
+mod part;
+
+pub use laws::{choices_make_splices, copies_are_splices, splices_are_listed};
+pub use part::Part;
