@@ -1,0 +1,13 @@
+//! Tests of calls that can want memory: what each promises where one growth is refused. Each test says which refusals it met;
+//! `interop/growth` runs it as often as it has growths, and refuses another one each time. They stand apart, so that the crates below
+//! are proved once, without them.
+#![tactic(auto)]
+
+#[cfg(test)]
+mod met;
+#[cfg(test)]
+mod partial;
+#[cfg(test)]
+mod readings;
+#[cfg(test)]
+mod sets;
