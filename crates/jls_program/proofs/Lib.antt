@@ -1,3 +1,4 @@
+mod BrokenReads
 mod FaultLineExamples
 pub mod Finished
 pub mod PrintedLines

@@ -1,5 +1,6 @@
 -- What the contracts of this crate cite.
 pub mod Answers
+pub mod BrokenReads
 pub mod FaultLines
 pub mod Laws
 pub mod Lines

@@ -1,5 +1,6 @@
 //! The laws of whole runs. Each is a function that does nothing and whose contract is the law.
 
+ghost use Rattle.jls_program.specs.BrokenReads.{BrokenReadsAreBehindStatus4, StatusesAreAtMost5};
 ghost use Rattle.jls_program.specs.Laws.{DoneChecksRan, DoneJoinsRan, DoneShowsRan, DoneWritesRan, UnsettledWritesStop};
 ghost use Rattle.jls_program.specs.Statuses.{FailuresAreBehindStatus4, InputsAreBehindStatus3, RefusedRunsCreateNothing, WantOfMemoryIsTold, WordsAreBehindStatus2};
 
@@ -62,4 +63,17 @@ pub fn refused_runs_create_nothing()
 /// If a run ends with status 5, it is told on the fault output that memory ran out.
 pub fn want_of_memory_is_told()
     ensures { WantOfMemoryIsTold }
+{}
+
+/// If a run ends with status 4, and all was opened and created and no write failed, then one of two things happened. What the words ask for
+/// was done with all that was read, though some input was not read whole: `join` handed the text of all that was read to its output,
+/// `check` and `show` printed exactly the lines of it, `write` handed out its file. Or the run stopped at an input that was not read
+/// whole: a text, or a copy in what was read of which no frame was taken.
+pub fn broken_reads_are_behind_status_4()
+    ensures { BrokenReadsAreBehindStatus4 }
+{}
+
+/// The status of a run is at most 5.
+pub fn statuses_are_at_most_5()
+    ensures { StatusesAreAtMost5 }
 {}

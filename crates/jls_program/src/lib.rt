@@ -8,8 +8,9 @@ mod printing;
 mod program;
 
 pub use laws::{
-    done_checks_ran, done_joins_ran, done_shows_ran, done_writes_ran, failures_are_behind_status_4,
-    inputs_are_behind_status_3, refused_runs_create_nothing, unsettled_writes_stop,
+    broken_reads_are_behind_status_4, done_checks_ran, done_joins_ran, done_shows_ran,
+    done_writes_ran, failures_are_behind_status_4, inputs_are_behind_status_3,
+    refused_runs_create_nothing, statuses_are_at_most_5, unsettled_writes_stop,
     want_of_memory_is_told, words_are_behind_status_2,
 };
 pub use program::run;

@@ -1,0 +1,231 @@
+-- What stands behind status 4 where nothing failed but reads; and the greatest status.
+use Rattle.std.proofs.Common.{◌≡◌, ◌≤◌, ◌⊎◌, inl, inr, ℕ, Bool, true, false, List, [], ◌∷◌, ◌++◌, length, Option, None, sym, subst, ap, ◌∙◌, refl, lit≤, arith}
+use Rattle.std.specs.Prelude.{◌||◌}
+use Rattle.std.specs.List.{list_any}
+use Rattle.std.proofs.lemmas.List.Folds.{list_any-append}
+use Rattle.jls_picture.specs.Picture.{picture_of}
+use Rattle.jls_device.specs.Event.{Event, opened, write_failed}
+use Rattle.jls_device.specs.Writing.{WroteFront}
+use Rattle.jls_station.specs.Given.{Given}
+use Rattle.jls_station.specs.Inputs.{IsRefused, no_text, no_picture, text_not_read, copy_not_read, IsEnough, ReadsRefuse, for_fault, for_memory, StopsAt, not_there, refused, other_shape, no_memory}
+use Rattle.jls_station.specs.Joining as joining
+use Rattle.jls_station.specs.Joining.{JoinIsDone, Joins}
+use Rattle.jls_station.specs.Outputs as outputs
+use Rattle.jls_station.specs.Outputs.{StopsAtOutput}
+use Rattle.jls_station.specs.Outcomes.{exit_status, exit_status_of_cause}
+use Rattle.jls_station.specs.Reading.{IsRead}
+use Rattle.jls_station.specs.declared.input.ReadStop.{ReadStop}
+use Rattle.jls_station.specs.declared.input.InputFault.{InputFault}
+use Rattle.jls_station.specs.declared.input.InputFault.TheVariants as fault
+use Rattle.jls_station.specs.declared.outcome.Cause.{Cause}
+use Rattle.jls_station.specs.declared.outcome.Cause.TheVariants as cause
+use Rattle.jls_station.specs.declared.outcome.Outcome.{Outcome}
+use Rattle.jls_station.specs.declared.outcome.Outcome.TheVariants.{Done, Refused}
+use Rattle.jls_commands.specs.Telling as telling
+use Rattle.jls_commands.specs.Telling.{Tells, lines}
+use Rattle.jls_commands.specs.WritingFiles as writing
+use Rattle.jls_commands.specs.WritingFiles.{WritesFile, StopsAtFile, FitsFormat}
+use Rattle.jls_commands.specs.declared.writing.Format.{Format}
+use Rattle.jls_commands.specs.declared.writing.Format.TheVariants.{Pnm, Jls}
+use Rattle.jls_words.specs.Asking.{Asked, check, join, show, write_pnm, write_jls, AskFor}
+use Rattle.jls_program.specs.BrokenReads.{StatusesAreAtMost5, is_other_failure, NothingElseFailed, TellsInPart, JoinsInPart, WritesInPart, DoneInPart, IsUnread, EndsAtUnread, BrokenReadsAreBehindStatus4}
+use Rattle.jls_program.specs.Runs.{CameOf, Run, came_of, misused, helped, help_cut, nothing_begun, nothing_asked}
+use Rattle.jls_program.specs.Statuses.{source_of, inputs_of}
+use Rattle.jls_program.proofs.Finished.{status_of_unsettled}
+
+-- ---- the greatest status
+
+cause_at_most : (c : Cause) → exit_status_of_cause c ≤ 5
+cause_at_most cause.NotOpened = lit≤ tt
+cause_at_most (cause.Input (fault.Text f)) = lit≤ tt
+cause_at_most (cause.Input (fault.NoPicture f offset)) = lit≤ tt
+cause_at_most (cause.Input (fault.Read stop offset)) = lit≤ tt
+cause_at_most (cause.Input fault.OutOfMemory) = lit≤ tt
+cause_at_most cause.ShapeDiffers = lit≤ tt
+cause_at_most (cause.Unsettled id line disputed) = lit≤ tt
+cause_at_most cause.TooLarge = lit≤ tt
+cause_at_most cause.NotCreated = lit≤ tt
+cause_at_most (cause.NotWritten count) = lit≤ tt
+cause_at_most cause.OutOfMemory = lit≤ tt
+
+outcome_at_most : (o : Outcome) → exit_status o ≤ 5
+outcome_at_most (Done settled false) = lit≤ tt
+outcome_at_most (Done true true) = lit≤ tt
+outcome_at_most (Done false true) = lit≤ tt
+outcome_at_most (Refused r) = cause_at_most r.cause
+
+run_at_most : (words : List (List ℕ)) (status : ℕ) (desk report faults : List Event) → Run words status desk report faults → status ≤ 5
+run_at_most words _ _ _ _ (came_of _ asked outcome desk report faults reads came line) = outcome_at_most outcome
+run_at_most words _ _ _ faults (misused _ kind usage _ r n line) = lit≤ tt
+run_at_most words _ _ report _ (helped _ kind help _ r n wrote) = lit≤ tt
+run_at_most words _ _ report faults (help_cut _ kind help count _ _ r n wrote line) = lit≤ tt
+run_at_most words _ _ _ faults (nothing_begun _ _ line) = lit≤ tt
+run_at_most words _ _ _ faults (nothing_asked _ _ asks line) = lit≤ tt
+
+pub statuses_at_most : StatusesAreAtMost5
+statuses_at_most words status desk desk' report report' faults faults' ran =
+    run_at_most words status ran.desk_events ran.report_events ran.fault_events ran.run
+
+-- ---- events among which nothing else failed
+
+neither : (a b : Bool) → (a || b) ≡ false → (a ≡ false) × (b ≡ false)
+neither true b e = absurd cc
+neither false b e = (refl, e)
+
+parts_fine : (a b : List Event) → NothingElseFailed (a ++ b) → NothingElseFailed a × NothingElseFailed b
+parts_fine a b h =
+    neither (list_any is_other_failure a) (list_any is_other_failure b) (sym (list_any-append is_other_failure a b) ∙ h)
+
+not_cut : (bytes : List ℕ) (count : ℕ) (events : List Event) → WroteFront bytes count events → NothingElseFailed events → ⊥
+not_cut bytes count events h fine =
+    let last : true ≡ false = (parts_fine h.writes (write_failed ∷ []) (subst NothingElseFailed h.events_are fine)).1 in cc
+
+not_at_output : (name bytes : List ℕ) (c : Cause) (events : List Event) → StopsAtOutput name bytes c events → NothingElseFailed events → ⊥
+not_at_output name bytes _ _ (outputs.not_there _ _) fine = cc
+not_at_output name bytes _ _ (outputs.cut _ _ count writes h) fine = not_cut bytes count writes h fine
+
+-- ---- one input
+
+refused_unread : (name bytes : List ℕ) (stop : ReadStop) (f : InputFault) (reads : List Event) → IsRead IsEnough reads bytes stop
+    → IsRefused bytes stop f → exit_status_of_cause (cause.Input f) ≡ 4 → IsUnread name (opened name ∷ reads)
+refused_unread name bytes _ _ reads is (no_text _ f t wrong) e = absurd (omega (arith, e))
+refused_unread name bytes stop _ reads is (text_not_read _ _ t not) e =
+    record { bytes = bytes; stop = stop; f = fault.Read stop (length bytes); reads = reads; events_are = refl; is_read = is; in_part = not; refused = text_not_read bytes stop t not }
+refused_unread name bytes _ _ reads is (no_picture _ f offset t none) e = absurd (omega (arith, e))
+refused_unread name bytes stop _ reads is (copy_not_read _ _ f offset t not none) e =
+    record { bytes = bytes; stop = stop; f = fault.Read stop (length bytes); reads = reads; events_are = refl; is_read = is; in_part = not; refused = copy_not_read bytes stop f offset t not none }
+
+reads_unread : (name : List ℕ) (f : InputFault) (reads : List Event) → ReadsRefuse f reads → exit_status_of_cause (cause.Input f) ≡ 4
+    → IsUnread name (opened name ∷ reads)
+reads_unread name f reads (for_fault _ bytes stop _ is h) e = refused_unread name bytes stop f reads is h e
+reads_unread name _ reads (for_memory _ h) e = absurd (omega (arith, e))
+
+unread_at_input : (source : Option ℕ) (before : List Given) (name : List ℕ) (c : Cause) (events : List Event)
+    → StopsAt source before name c events → exit_status_of_cause c ≡ 4 → NothingElseFailed events → IsUnread name events
+unread_at_input source before name _ _ (not_there _ _ _) e fine = absurd cc
+unread_at_input source before name _ _ (refused _ _ _ f reads h) e fine = reads_unread name f reads h e
+unread_at_input source before name _ _ (other_shape _ _ _ g events h other) e fine = absurd (omega (arith, e))
+unread_at_input source before name _ _ (no_memory _ _ _ g events h other) e fine = absurd (omega (arith, e))
+
+-- the first input is the only one
+ends_at_first : (name : List ℕ) (events : List Event) → IsUnread name events → EndsAtUnread None (name ∷ []) events
+ends_at_first name events h = record {
+  before = [];
+  name = name;
+  after = [];
+  among = refl;
+  givens = [];
+  reading = [];
+  taken = record { in_turn = refl; one_shape = tt };
+  last = events;
+  unread = h;
+  events_are = refl;
+}
+
+-- ---- commands that end with 4
+
+all_not_read : (settled whole : Bool) → exit_status (Done settled whole) ≡ 4 → whole ≡ false
+all_not_read settled false e = refl
+all_not_read true true e = absurd (omega (arith, e))
+all_not_read false true e = absurd (omega (arith, e))
+
+not_whole : (whole : Bool) → whole ≡ false → whole ≡ true → ⊥
+not_whole whole e f = cc
+
+of_memory : {P : Type 0} (c : Cause) → c ≡ cause.OutOfMemory → exit_status_of_cause c ≡ 4 → P
+of_memory c is e = let k : exit_status_of_cause c ≡ 5 = ap exit_status_of_cause is in absurd (omega (arith, k, e))
+
+join_in_part : (source : Option ℕ) (out : List ℕ) (names : List (List ℕ)) (outcome : Outcome) (events : List Event)
+    → Joins source out names outcome events → exit_status outcome ≡ 4 → NothingElseFailed events
+    → JoinsInPart source out names events ⊎ EndsAtUnread source names events
+join_in_part source out names _ events (joining.done _ _ _ p settled whole _ h) e fine =
+    inl (record { joined = p; settled = settled; is_done = subst (λ (w : Bool). JoinIsDone source out names p settled w events) (all_not_read settled whole e) h })
+join_in_part source out names _ events (joining.at_input _ _ _ r _ h) e fine =
+    let last = (parts_fine h.reading h.last (subst NothingElseFailed h.events_are fine)).1 in
+    inr (record {
+      before = h.before;
+      name = r.name.now;
+      after = h.after;
+      among = h.among;
+      givens = h.givens;
+      reading = h.reading;
+      taken = h.taken;
+      last = h.last;
+      unread = unread_at_input source h.givens r.name.now r.cause h.last h.stops e last;
+      events_are = h.events_are;
+    })
+join_in_part source out names _ events (joining.no_memory _ _ _ r p whole _ named is h) e fine = of_memory r.cause is e
+join_in_part source out names _ _ (joining.at_output _ _ _ r p whole reading written named h stops) e fine =
+    absurd (not_at_output out _ r.cause written stops (parts_fine reading written fine).1)
+
+tell_in_part : (traced : Bool) (name : List ℕ) (outcome : Outcome) (events reported : List Event)
+    → Tells (lines traced) name outcome events reported → exit_status outcome ≡ 4 → NothingElseFailed events → NothingElseFailed reported
+    → TellsInPart traced name events reported ⊎ (EndsAtUnread None (name ∷ []) events × (reported ≡ []))
+tell_in_part traced name _ events reported (telling.done _ g settled whole _ _ taken says wrote) e fine quiet =
+    inl (record { g = g; taken = taken; in_part = λ is. not_whole whole (all_not_read settled whole e) (says.whole_is.1 is); printed = wrote })
+tell_in_part traced name _ events _ (telling.at_input _ r _ named h) e fine quiet =
+    inr (ends_at_first name events (unread_at_input None [] name r.cause events h e fine), refl)
+tell_in_part traced name _ events _ (telling.no_memory _ r g _ named is taken) e fine quiet = of_memory r.cause is e
+tell_in_part traced name _ events reported (telling.not_printed _ r g count _ _ named is taken wrote) e fine quiet =
+    absurd (not_cut (lines traced g) count reported wrote quiet)
+
+file_in_part : {P : Type 0} (F L : Type 0) (takes : Bool) (name bytes : List ℕ) (c : Cause) (events : List Event)
+    → StopsAtFile F L takes name bytes c events → exit_status_of_cause c ≡ 4 → NothingElseFailed events → P
+file_in_part F L takes name bytes _ _ (writing.too_large _ _ large) e fine = absurd (omega (arith, e))
+file_in_part F L takes name bytes c _ (writing.at_output _ _ _ events fit h) e fine = absurd (not_at_output name bytes c events h fine)
+file_in_part F L takes name bytes _ _ (writing.no_memory _ _ count writes fit is lt h) e fine = absurd (omega (arith, e))
+
+write_in_part : (format : Format) (out name : List ℕ) (outcome : Outcome) (events : List Event)
+    → WritesFile format out name outcome events → exit_status outcome ≡ 4 → NothingElseFailed events
+    → WritesInPart format out name events ⊎ EndsAtUnread None (name ∷ []) events
+write_in_part format out name _ _ (writing.done _ _ _ g whole reading written taken settled says fit handed) e fine =
+    inl (record {
+      g = g;
+      reading = reading;
+      writing = written;
+      events_are = refl;
+      taken = taken;
+      in_part = λ is. not_whole whole (all_not_read true whole e) (says.whole_is.1 is);
+      settled = settled;
+      fits = fit;
+      handed = handed;
+    })
+write_in_part format out name _ events (writing.at_input _ _ _ r _ named h) e fine =
+    inr (ends_at_first name events (unread_at_input None [] name r.cause events h e fine))
+write_in_part format out name _ events (writing.unsettled _ _ _ r g f _ named taken first because) e fine =
+    let k = status_of_unsettled g.partial f r.cause because in absurd (omega (arith, k, e))
+write_in_part format out name _ _ (writing.at_file _ _ _ r g reading written named taken settled stops) e fine =
+    file_in_part (FitsFormat format (picture_of g.partial)) (writing.IsTooLarge format (picture_of g.partial)) (writing.takes_memory format) out (writing.file format (picture_of g.partial)) r.cause written stops e (parts_fine reading written fine).1
+
+-- ---- the law
+
+beside : {A B C : Type 0} → A ⊎ B → C → (A × C) ⊎ (B × C)
+beside (inl a) c = inl (a, c)
+beside (inr b) c = inr (b, c)
+
+came_in_part : (asked : Asked) (outcome : Outcome) (desk report : List Event) → CameOf asked outcome desk report → exit_status outcome ≡ 4
+    → NothingElseFailed desk → NothingElseFailed report
+    → DoneInPart asked desk report ⊎ (EndsAtUnread (source_of asked) (inputs_of asked) desk × (report ≡ []))
+came_in_part (check name) outcome desk report h e fine quiet = tell_in_part true name outcome desk report h e fine quiet
+came_in_part (join source out names) outcome desk report h e fine quiet = beside (join_in_part source out names outcome desk h.0 e fine) h.1
+came_in_part (show name) outcome desk report h e fine quiet = tell_in_part false name outcome desk report h e fine quiet
+came_in_part (write_pnm out name) outcome desk report h e fine quiet = beside (write_in_part Pnm out name outcome desk h.0 e fine) h.1
+came_in_part (write_jls line ri out name) outcome desk report h e fine quiet =
+    beside (write_in_part (Jls line ri) out name outcome desk h.0 e fine) h.1
+
+run_in_part : (words : List (List ℕ)) (status : ℕ) (desk report faults : List Event) → Run words status desk report faults → status ≡ 4
+    → NothingElseFailed desk → NothingElseFailed report
+    → (asked : Asked) × AskFor words asked
+    × (DoneInPart asked desk report ⊎ (EndsAtUnread (source_of asked) (inputs_of asked) desk × (report ≡ [])))
+run_in_part words _ desk report faults (came_of _ asked outcome _ _ _ reads came line) e fine quiet =
+    (asked, reads, came_in_part asked outcome desk report came e fine quiet)
+run_in_part words _ _ _ faults (misused _ kind usage _ r n line) e fine quiet = absurd (omega (arith, e))
+run_in_part words _ _ report _ (helped _ kind help _ r n wrote) e fine quiet = absurd (omega (arith, e))
+run_in_part words _ _ report faults (help_cut _ kind help count _ _ r n wrote line) e fine quiet =
+    absurd (not_cut help count report wrote quiet)
+run_in_part words _ _ _ faults (nothing_begun _ _ line) e fine quiet = absurd (omega (arith, e))
+run_in_part words _ _ _ faults (nothing_asked _ _ asks line) e fine quiet = absurd (omega (arith, e))
+
+pub broken_reads_behind : BrokenReadsAreBehindStatus4
+broken_reads_behind words status desk desk' report report' faults faults' ran e fine quiet =
+    run_in_part words status ran.desk_events ran.report_events ran.fault_events ran.run e fine quiet
