@@ -4,10 +4,24 @@
 #![tactic(auto)]
 
 #[cfg(test)]
+mod bits;
+#[cfg(test)]
+mod copies;
+#[cfg(test)]
+mod interval;
+#[cfg(test)]
 mod met;
 #[cfg(test)]
 mod partial;
 #[cfg(test)]
 mod readings;
 #[cfg(test)]
+mod room;
+#[cfg(test)]
+mod running;
+#[cfg(test)]
 mod sets;
+#[cfg(test)]
+mod ten;
+#[cfg(test)]
+mod writing;
