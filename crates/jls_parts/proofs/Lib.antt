@@ -1,3 +1,4 @@
 pub mod Members
+pub mod Slices
 mod Splices
 mod PartsExamples

@@ -1,8 +1,13 @@
 //! How copies of one file part into stretches that all have alike and stretches in which they differ.
 #![tactic(auto)]
 
+mod checking;
+mod find;
 mod laws;
 mod part;
+mod propose;
+mod seeds;
 
+pub use find::find_parts;
 pub use laws::{choices_make_splices, copies_are_splices, splices_are_listed};
 pub use part::Part;
