@@ -39,6 +39,14 @@ const SOURCE_7: &[u8] =
 pub(crate) const TWO_SOURCES: &[u8] =
     b"JLSP\x02\x08\0\x01\0\x01\x01\x01\0\0\0\x01\0\0\0\0\0\0\0\0\0\0\x01\0\x03\0\0\0\0\0\0\0\x02\0\0\0\x02\0\0\0\x07";
 
+/// As 3 under the sources 3, 7 and 9.
+const THREE_SOURCES: &[u8] =
+    b"JLSP\x02\x08\0\x01\0\x01\x01\x01\0\0\0\x01\0\0\0\0\0\0\0\0\0\0\x01\0\x03\0\0\0\0\0\0\0\x03\0\0\0\x03\0\0\0\x07\0\0\0\x09";
+
+/// As 3 under the sources 2, 3, 7 and 9.
+const FOUR_SOURCES: &[u8] =
+    b"JLSP\x02\x08\0\x01\0\x01\x01\x01\0\0\0\x01\0\0\0\0\0\0\0\0\0\0\x01\0\x03\0\0\0\0\0\0\0\x04\0\0\0\x02\0\0\0\x03\0\0\0\x07\0\0\0\x09";
+
 /// As 3 under the source 7 and as 5 under none.
 const ONE_SOURCE: &[u8] =
     b"JLSP\x02\x08\0\x01\0\x01\x01\x01\0\0\0\x01\0\0\0\0\0\0\0\0\0\0\x02\0\x03\0\0\0\0\0\0\0\x01\0\0\0\x07\0\x05\0\0\0\0\0\0\0\0";
@@ -46,6 +54,10 @@ const ONE_SOURCE: &[u8] =
 /// A line of a component with another identifier, which was read as 5.
 const OTHER_SHAPE: &[u8] =
     b"JLSP\x02\x08\0\x01\0\x01\x01\x02\0\0\0\x01\0\0\0\0\0\0\0\0\0\0\x01\0\x05\0\0\0\0\0\0\0\0";
+
+/// The same line, which was read as 3 and as 5.
+const OTHER_TWO_READINGS: &[u8] =
+    b"JLSP\x02\x08\0\x01\0\x01\x01\x02\0\0\0\x01\0\0\0\0\0\0\0\0\0\0\x02\0\x03\0\0\0\0\0\0\0\0\0\x05\0\0\0\0\0\0\0\0";
 
 /// Two lines of one sample, the second of which was read as 255.
 const SECOND_LINE: &[u8] =
@@ -70,13 +82,14 @@ const MANY_READINGS: &[u8] = b"JLSP\x02\x10\0\x01\0\x01\x01\x01\0\0\0\x01\0\0\0\
 const TEN_LINES: [u8; 16] = [0x4A, 0x4C, 0x53, 0x50, 2, 8, 0, 1, 0, 10, 1, 1, 0, 0, 0, 10];
 
 /// What two texts say, and the text of their union.
-const JOINS: [(&[u8], &[u8], &[u8]); 8] = [
+const JOINS: [(&[u8], &[u8], &[u8]); 9] = [
     (NO_READING, ZERO, ZERO),
     (THREE, FIVE, TWO_READINGS),
     (TWO_READINGS, FIVE, TWO_READINGS),
     (TWO_READINGS, TWO_READINGS, TWO_READINGS),
     (THREE, SOURCE_7, SOURCE_7),
     (SOURCE_2, SOURCE_7, TWO_SOURCES),
+    (TWO_SOURCES, THREE_SOURCES, FOUR_SOURCES),
     (TWO_READINGS, SOURCE_7, ONE_SOURCE),
     (IN_SECOND, IN_FIRST, IN_BOTH),
 ];

@@ -1,6 +1,8 @@
 //! Texts whose readings go straight into a partial picture.
 
-use super::{FIVE, MANY_READINGS, NO_READING, OTHER_SHAPE, THREE, TWO_READINGS};
+use super::{
+    FIVE, MANY_READINGS, NO_READING, OTHER_SHAPE, OTHER_TWO_READINGS, THREE, TWO_READINGS,
+};
 use jls_partial::{MergeTextFault, Partial, TextFault};
 use jls_values::Shape;
 use std::alloc::Global;
@@ -37,7 +39,7 @@ fn gives_the_union_of_many_readings(rt: HostRuntime) -> Result<(), Fail> {
     Ok(())
 }
 
-/// The fault of a text comes before another shape. What stands before the fault is held.
+/// The fault of a text comes before another shape. What stands before the fault is held where the shape is the same.
 #[test]
 fn refuses_what_is_no_text_and_other_shapes(rt: HostRuntime) -> Result<(), Fail> {
     for (held, text, fault, left) in [
@@ -47,6 +49,12 @@ fn refuses_what_is_no_text_and_other_shapes(rt: HostRuntime) -> Result<(), Fail>
             &OTHER_SHAPE[..36],
             MergeTextFault::Text(TextFault::Truncated(36)),
             THREE,
+        ),
+        (
+            FIVE,
+            &OTHER_TWO_READINGS[..46],
+            MergeTextFault::Text(TextFault::Truncated(46)),
+            FIVE,
         ),
         (
             THREE,

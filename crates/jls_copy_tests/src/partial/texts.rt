@@ -143,6 +143,25 @@ fn finds_the_fault_of_one_byte(rt: HostRuntime) -> Result<(), Fail> {
     Ok(())
 }
 
+/// Numbers of entries, readings and sources beyond what is there, up to 255 * 2^56: each by one byte of the number.
+#[test]
+fn a_number_that_claims_more_is_truncated_at_the_end(rt: HostRuntime) -> Result<(), Fail> {
+    for (text, first, end) in [
+        (TWO_READINGS, 12usize, 15),
+        (TWO_READINGS, 19, 26),
+        (TWO_SOURCES, 12, 15),
+        (TWO_SOURCES, 19, 26),
+        (TWO_SOURCES, 29, 36),
+    ] {
+        for at in first..end {
+            let fault = Some(TextFault::Truncated(text.len() as u64));
+            assert_eq!(rt; fault_of_change(rt.alloc(), text, at, 1)?, fault);
+            assert_eq!(rt; fault_of_change(rt.alloc(), text, at, 255)?, fault);
+        }
+    }
+    Ok(())
+}
+
 #[test]
 fn finds_the_fault_of_several_bytes(rt: HostRuntime) -> Result<(), Fail> {
     for (readings, fault) in [
