@@ -1,7 +1,7 @@
 -- Parts of a file, handed out one after the other.
-use Rattle.std.proofs.Common.{◌≡◌, Result, Ok, Err, ℕ, ◌+◌, List, ◌++◌, length, take, Option, sym, subst, arith}
+use Rattle.std.proofs.Common.{◌≡◌, Result, Ok, Err, ℕ, ◌+◌, ◌≤◌, List, ◌++◌, length, take, Option, [], ap, sym, ◌∙◌, subst, arith}
 use Rattle.std.proofs.Math.Seq.{take-append-add}
-use Rattle.std.proofs.lemmas.List.{take-append-le}
+use Rattle.std.proofs.lemmas.List.{append-nil, append_assoc, length-append, take-append-le}
 use Rattle.std.specs.Io.KnownBytes.{Appends}
 use Rattle.std.specs.Result.{IfErr}
 use Rattle.jls_device.specs.Event.{History}
@@ -12,6 +12,7 @@ use Rattle.jls_device.proofs.Writes.{written_on, cut_behind, front_before}
 use Rattle.jls_picture.specs.declared.output.OutputFault.{OutputFault}
 use Rattle.jls_picture.specs.declared.output.OutputFault.TheVariants.{Write, OutOfMemory}
 use Rattle.jls_picture.specs.Outcomes.{HandedOut, HandedFront, StoppedBy}
+use Rattle.jls_picture.specs.Waiting.{PutBehind}
 
 front_of : (old new : History) (held holds : Option (List ℕ)) (a b : List ℕ) (count : ℕ) → HandedFront old new held holds a count
     → HandedFront old new held holds (a ++ b) count
@@ -43,6 +44,45 @@ module _ (old mid new : History) (held keeps holds : Option (List ℕ)) where
     subst (λ (t : List ℕ). HandedFront old new held holds t (length a + n)) (sym all_is) (front_of old new held holds (a ++ b) rest (length a + n) (front_on a b n h front)),
   )
   stopped_on (OutOfMemory count) before now a b rest all now_is all_is h stopped = stopped
+
+  -- bytes behind bytes
+  pub put_on : (w : List ℕ) (m : ℕ) (v : List ℕ) (n : ℕ) (u : List ℕ) (o : ℕ) (x y : List ℕ)
+      → PutBehind old mid held keeps w m v n x → PutBehind mid new keeps holds v n u o y → PutBehind old new held holds w m u o (x ++ y)
+  put_on w m v n u o x y p q =
+      let sizes = length-append p.out q.out in
+      let first = p.counted in
+      let second = q.counted in
+      record {
+        out = p.out ++ q.out;
+        all = sym (append_assoc w x y) ∙ ap (λ (t : List ℕ). t ++ y) p.all ∙ append_assoc p.out v y
+            ∙ ap (λ (t : List ℕ). p.out ++ t) q.all ∙ sym (append_assoc p.out q.out u);
+        counted = omega (arith, sizes, first, second);
+        handed = handed_on p.out q.out p.handed q.handed;
+      }
+
+  -- a write failed in what waited and the part behind it, behind which the rest was to come
+  pub stopped_behind : (fault : OutputFault) (w : List ℕ) (m : ℕ) (v : List ℕ) (n : ℕ) (x part rest whole : List ℕ) → whole ≡ x ++ part ++ rest
+      → PutBehind old mid held keeps w m v n x
+      → StoppedBy fault n (HandedFront mid new keeps holds (v ++ part)) → StoppedBy fault m (HandedFront old new held holds (w ++ whole))
+  stopped_behind fault w m v n x part rest whole whole_is p stopped =
+      stopped_on fault m n p.out (v ++ part) rest (w ++ whole) p.counted
+      (ap (λ (t : List ℕ). w ++ t) whole_is ∙ sym (append_assoc w (x ++ part) rest) ∙ ap (λ (t : List ℕ). t ++ rest)
+      (sym (append_assoc w x part) ∙ ap (λ (t : List ℕ). t ++ part) p.all ∙ append_assoc p.out v part))
+      p.handed stopped
+
+-- no more went out than waited and was put behind
+pub gone_at_most : (old new : History) (held holds : Option (List ℕ)) (w : List ℕ) (m : ℕ) (u : List ℕ) (n : ℕ) (x : List ℕ) → PutBehind old new held holds w m u n x
+    → n ≤ m + length w + length x
+gone_at_most old new held holds w m u n x p =
+    let count = p.counted in
+    let sizes = sym (length-append w x) ∙ ap (λ (t : List ℕ). length t) p.all ∙ length-append p.out u in
+    omega (arith, count, sizes)
+
+-- bytes that are put first, and then handed out as far as there is no room for them
+pub put_first : (old new : History) (held holds : Option (List ℕ)) (w v : List ℕ) (m : ℕ) (u : List ℕ) (n : ℕ) (part : List ℕ) → v ≡ w ++ part
+    → PutBehind old new held holds v m u n [] → PutBehind old new held holds w m u n part
+put_first old new held holds w v m u n part v_is p =
+    record { out = p.out; all = sym v_is ∙ sym (append-nil v) ∙ p.all; counted = p.counted; handed = p.handed }
 
 -- a write failed in the first part
 pub stopped_first : (old new : History) (held holds : Option (List ℕ)) (fault : OutputFault) (before : ℕ) (a rest : List ℕ)

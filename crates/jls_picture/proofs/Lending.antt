@@ -44,7 +44,7 @@ or_false : (a b : Bool) → (a || b) ≡ false → (a ≡ false) × (b ≡ false
 or_false true b e = absurd cc
 or_false false b e = (refl, e)
 
-above : (a b : ℕ) → nat_le a b ≡ false → b < a
+pub above : (a b : ℕ) → nat_le a b ≡ false → b < a
 above a b e = elim (leb_tells a b) [ inl w ↦ absurd (let both : true ≡ false = sym w.0 ∙ e in cc) | inr w ↦ w.1 ]
 
 all_below : (n : ℕ) (xs : List ℕ) → list_any (λ x. nat_le n x) xs ≡ false → AllByRecursion (λ x. x < n) xs

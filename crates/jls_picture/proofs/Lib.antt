@@ -1,3 +1,4 @@
+pub mod Columns
 pub mod Handing
 pub mod Lending
 pub mod OneMore

@@ -4,7 +4,7 @@ use Rattle.std.specs.List.{range_with_len, flat_map}
 use Rattle.std.proofs.lemmas.Grind.{flat_map-append}
 use Rattle.std.proofs.lemmas.List.{append-nil, append_assoc, length-append}
 
-range-append : (a m n : ℕ) → range_with_len a (m + n) ≡ range_with_len a m ++ range_with_len (a + m) n
+pub range-append : (a m n : ℕ) → range_with_len a (m + n) ≡ range_with_len a m ++ range_with_len (a + m) n
 range-append a zero n = ap (range_with_len a) (zero-add n) ∙ ap (λ k. range_with_len k n) (sym (add-zero a))
 range-append a (suc m) n =
     let more : suc m + n ≡ suc (m + n) = omega arith in
@@ -62,3 +62,9 @@ length-flat_map-le f most each a (suc n) =
 -- two pieces appended, one after the other
 pub appended : (out a b x y : List ℕ) → x ≡ out ++ a → y ≡ x ++ b → y ≡ out ++ (a ++ b)
 appended out a b x y first second = second ∙ ap (λ t. t ++ b) first ∙ append_assoc out a b
+
+-- the part of one number more, put behind
+pub put_from_more : (f : ℕ → List ℕ) (a k : ℕ) (out now new : List ℕ) → a ≤ k
+    → now ≡ out ++ flat_map f (range_with_len a (k - a)) → new ≡ now ++ f k → new ≡ out ++ flat_map f (range_with_len a (k + 1 - a))
+put_from_more f a k out now new low so_far more =
+    appended out (flat_map f (range_with_len a (k - a))) (f k) now new so_far more ∙ ap (λ t. out ++ t) (sym (flat_map_from_more f a k low))

@@ -7,6 +7,7 @@ mod picture;
 mod pixels;
 mod pnm;
 mod pnm_header;
+mod waiting;
 
 pub use options::Options;
 pub use output::{OutputFault, write_part};

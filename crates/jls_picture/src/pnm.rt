@@ -2,59 +2,63 @@
 
 ghost use Rattle.jls_picture.specs.Outcomes.{HandedOut, HandedFront, StoppedBy};
 ghost use Rattle.jls_picture.specs.Pnm.{is_wide, row_bytes, raster, pnm};
-ghost use Rattle.std.specs.Prelude.{◌≡◌, ◌+◌, ◌<◌, ◌≤◌, ◌^◌, length, IfOk, IfErr, OnOk};
+ghost use Rattle.jls_picture.specs.Waiting.{PutBehind};
+ghost use Rattle.std.specs.Prelude.{◌≡◌, ◌+◌, ◌<◌, ◌≤◌, ◌^◌, ◌++◌, length, IfErr, OnOk};
 
-use crate::output::{OutputFault, write_part};
+use crate::output::OutputFault;
 use crate::picture::Picture;
-use crate::pixels::{PIXELS, pixels};
+use crate::pixels::{PIXELS, lines_of_row, put_columns};
 use crate::pnm_header::{largest_sample, pnm_header};
+use crate::waiting::Waiting;
 use jls_device::Sink;
 
-/// Hands a line of the raster to a sink, after `before` bytes, and answers how many have gone out then.
+/// Puts a line of the raster behind what waits, and hands out what there is no room for. Its lines are lent once.
 fn write_row<W: Sink>(
     sink: &mut W,
-    before: u64,
+    waiting: &mut Waiting,
     picture: &Picture<'_>,
-    line: u16,
+    row: u16,
     wide: bool,
-) -> Result<u64, OutputFault>
-    requires line_in { line < picture.now.shape.height }
+) -> Result<(), OutputFault>
+    requires row_in { row < picture.now.shape.height }
     requires is_wide { wide ≡ is_wide picture.now.shape }
-    requires early { before < 2 ^ 60 }
-    ensures count { IfOk result (λ count. count ≡ before + length (row_bytes picture.now line)) }
-    ensures all { OnOk result (HandedOut (W.history sink.old) (W.history sink.new)
-        (W.contents sink.old) (W.contents sink.new) (row_bytes picture.now line)) }
-    ensures front { IfErr result (λ fault. StoppedBy fault before (HandedFront (W.history sink.old) (W.history sink.new)
-        (W.contents sink.old) (W.contents sink.new) (row_bytes picture.now line))) }
+    requires early { waiting.old.gone < 2 ^ 60 }
+    requires few { length waiting.old.bytes.items < 4096 }
+    ensures few { OnOk result (length waiting.new.bytes.items < 4096) }
+    ensures all { OnOk result (PutBehind (W.history sink.old) (W.history sink.new) (W.contents sink.old) (W.contents sink.new)
+        waiting.old.bytes.items waiting.old.gone waiting.new.bytes.items waiting.new.gone (row_bytes picture.now row)) }
+    ensures front { IfErr result (λ fault. StoppedBy fault waiting.old.gone (HandedFront (W.history sink.old) (W.history sink.new)
+        (W.contents sink.old) (W.contents sink.new) (waiting.old.bytes.items ++ row_bytes picture.now row))) }
 {
+    let lines = lines_of_row(picture, row);
     let width = picture.shape().width();
     let mut start = 0;
-    let mut count = before;
     while start < width {
         let end = start + (width - start).min(PIXELS);
-        let bytes = pixels(picture, line, start, end, wide);
-        count = write_part(sink, count, &bytes)?;
+        put_columns(&mut waiting.bytes, &lines, start, end, wide);
+        waiting.make_room(sink)?;
         start = end;
     }
-    Ok(count)
+    Ok(())
 }
 
-/// Hands the raster to a sink, after `before` bytes.
+/// Puts the raster behind what waits, and hands out what there is no room for.
 fn write_raster<W: Sink>(
     sink: &mut W,
-    before: u64,
+    waiting: &mut Waiting,
     picture: &Picture<'_>,
 ) -> Result<(), OutputFault>
-    requires { before ≤ 80 }
-    ensures all { OnOk result (HandedOut (W.history sink.old) (W.history sink.new)
-        (W.contents sink.old) (W.contents sink.new) (raster picture.now)) }
-    ensures front { IfErr result (λ fault. StoppedBy fault before (HandedFront (W.history sink.old) (W.history sink.new)
-        (W.contents sink.old) (W.contents sink.new) (raster picture.now))) }
+    requires begun { waiting.old.gone ≡ 0 }
+    requires few { length waiting.old.bytes.items < 4096 }
+    ensures all { OnOk result (PutBehind (W.history sink.old) (W.history sink.new) (W.contents sink.old) (W.contents sink.new)
+        waiting.old.bytes.items waiting.old.gone waiting.new.bytes.items waiting.new.gone (raster picture.now)) }
+    ensures early { OnOk result (waiting.new.gone < 2 ^ 60) }
+    ensures front { IfErr result (λ fault. StoppedBy fault waiting.old.gone (HandedFront (W.history sink.old) (W.history sink.new)
+        (W.contents sink.old) (W.contents sink.new) (waiting.old.bytes.items ++ raster picture.now))) }
 {
     let wide = largest_sample(picture.shape()) >= 256;
-    let mut count = before;
-    for line in 0..picture.shape().height() {
-        count = write_row(sink, count, picture, line, wide)?;
+    for row in 0..picture.shape().height() {
+        write_row(sink, waiting, picture, row, wide)?;
     }
     Ok(())
 }
@@ -68,7 +72,7 @@ pub fn write_pnm<W: Sink>(picture: &Picture<'_>, sink: &mut W) -> Result<(), Out
     ensures front { IfErr result (λ fault. StoppedBy fault 0 (HandedFront (W.history sink.old) (W.history sink.new)
         (W.contents sink.old) (W.contents sink.new) (pnm picture.now))) }
 {
-    let header = pnm_header(picture.shape());
-    let count = write_part(sink, 0, &header)?;
-    write_raster(sink, count, picture)
+    let mut waiting = Waiting::of(&pnm_header(picture.shape()));
+    write_raster(sink, &mut waiting, picture)?;
+    waiting.hand_out(sink)
 }

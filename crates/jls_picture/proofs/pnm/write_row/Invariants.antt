@@ -1,7 +1,7 @@
-use Rattle.std.proofs.Common.{◌≡◌, ◌≤◌, ◌+◌, ◌-◌, length}
+use Rattle.std.proofs.Common.{◌≡◌, ◌≤◌, ◌<◌, ◌-◌, length}
 use Rattle.std.specs.List.{flat_map, range_with_len}
-use Rattle.jls_picture.specs.Outcomes.{HandedOut}
 use Rattle.jls_picture.specs.Pnm.{pixel_bytes}
+use Rattle.jls_picture.specs.Waiting.{PutBehind}
 use Rattle.jls_picture.proofs.pnm.write_row.Given as goal
 
 abbrev pub invariant-loop-start : goal.invariant-loop-start
@@ -10,8 +10,9 @@ invariant-loop-start g l =
     let contents = g.W.Sink.contents in
     record {
       within : l.start ≤ l.picture.shape.width;
-      counted : l.count ≡ l.fn.before + length (flat_map (pixel_bytes l.picture l.line) (range_with_len 0 l.start));
-      out : HandedOut (history l.fn.sink) (history l.sink) (contents l.fn.sink) (contents l.sink) (flat_map (pixel_bytes l.picture l.line) (range_with_len 0 l.start));
+      few : length l.waiting.bytes.items < 4096;
+      put : PutBehind (history l.fn.sink) (history l.sink) (contents l.fn.sink) (contents l.sink)
+          l.fn.waiting.bytes.items l.fn.waiting.gone l.waiting.bytes.items l.waiting.gone (flat_map (pixel_bytes l.picture l.row) (range_with_len 0 l.start));
     }
 
 abbrev pub decreases-loop-start : goal.decreases-loop-start
