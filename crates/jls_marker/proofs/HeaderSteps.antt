@@ -22,11 +22,11 @@ use Rattle.jls_marker.proofs.Intervals.{scan_is}
 use Rattle.jls_marker.proofs.ParamRanges.{params_ok}
 use Rattle.jls_marker.proofs.SegmentsRead.{is_payload}
 
-abbrev After : Type 0
+abbrev pub After : Type 0
 After = HeaderState × Option Scan
 
 -- what is left is told by its parts
-parts : (x y : After) → fine x ≡ fine y → (x.0 ≡ y.0) × (x.1 ≡ y.1)
+pub parts : (x y : After) → fine x ≡ fine y → (x.0 ≡ y.0) × (x.1 ≡ y.1)
 parts x y e = let p = fine_is x y e in (ap (λ (z : After). z.0) p, ap (λ (z : After). z.1) p)
 
 abbrev none : Option Scan
@@ -36,7 +36,7 @@ not_some : (s : Scan) → none ≡ Some s → ⊥
 not_some s e = absurd cc
 
 -- a scan that began
-began : (h after : HeaderState) (scan : Option Scan) (r : Result Scan MarkerFault) → begun h r ≡ Ok (after, scan)
+pub began : (h after : HeaderState) (scan : Option Scan) (r : Result Scan MarkerFault) → begun h r ≡ Ok (after, scan)
     → (s : Scan) × (r ≡ Ok s) × (after ≡ record h { scans = h.scans + 1 }) × (scan ≡ Some s)
 began h after scan (Ok s) e = let p = parts (record h { scans = h.scans + 1 }, Some s) (after, scan) e in (s, refl, sym p.0, sym p.1)
 began h after scan (Err f) e = absurd cc
@@ -74,7 +74,7 @@ frame_stays h after code payload scan f e framed = taking_stays h after scan f (
 -- ---- a scan begins under a frame
 
 -- what is known of a scan that a selection began
-record From (h after : HeaderState) (scan : Scan) (s : ScanSelection) : Type 0 where
+pub record From (h after : HeaderState) (scan : Scan) (s : ScanSelection) : Type 0 where
   pub frame : PictureShape
   pub framed : h.frame ≡ Some frame
   pub counted : after ≡ record h { scans = h.scans + 1 }
@@ -100,7 +100,7 @@ from_segment h after scan (segment.Preset a b c d r) e = absurd (not_some scan (
 from_segment h after scan (segment.Restart n) e = absurd (not_some scan (parts (record h { restart_interval = n }, None) (after, Some scan) e).1)
 from_segment h after scan (segment.Skipped c) e = absurd (not_some scan (parts (h, None) (after, Some scan) e).1)
 
-from_taken : (h after : HeaderState) (scan : Scan) (r : Result Segment MarkerFault) → taking h r ≡ Ok (after, Some scan)
+pub from_taken : (h after : HeaderState) (scan : Scan) (r : Result Segment MarkerFault) → taking h r ≡ Ok (after, Some scan)
     → (x : ScanSelection) × (r ≡ Ok (segment.Scan x)) × From h after scan x
 from_taken h after scan (Ok s) e = let f = from_segment h after scan s e in (f.0, ap fine f.1, f.2)
 from_taken h after scan (Err g) e = absurd cc

@@ -2,6 +2,7 @@ pub mod Beginning
 pub mod FaultsOf
 pub mod FirstFailing
 pub mod HeaderSteps
+pub mod InForce
 pub mod Intervals
 pub mod Layouts
 pub mod ParamRanges
@@ -9,4 +10,5 @@ pub mod ReadsBack
 pub mod SegmentLaws
 pub mod SegmentsRead
 pub mod Shapes
+pub mod WorkedHeaders
 pub mod WorkedRows

@@ -1,11 +1,17 @@
 -- The laws of the state of the headers, for the layer that reads a whole copy.
-use Rattle.std.specs.Prelude.{◌≡◌, ℕ, ◌+◌, ◌≤◌, List, Option, Some, None, Ok, Err}
+use Rattle.std.specs.Prelude.{◌≡◌, ℕ, ◌+◌, ◌≤◌, List, map, Option, Some, None, Ok, Err}
 use Rattle.jls_values.specs.Shape.{PictureShape}
+use Rattle.jls_marker.specs.ComponentIndex.{index_of}
 use Rattle.jls_marker.specs.Scan.{Scan, IsScan, IsScanOf, PartTheLines}
 use Rattle.jls_marker.specs.HeaderState.{HeaderState, IsHeaderState}
-use Rattle.jls_marker.specs.Headers.{headers_after}
+use Rattle.jls_marker.specs.Headers.{headers_after, params_judged}
+use Rattle.jls_marker.specs.PresetParameters.{PresetParameters}
+use Rattle.jls_marker.specs.ScanSelection.{ScanSelection}
 use Rattle.jls_marker.specs.SegmentLaws.{AreBytes}
+use Rattle.jls_marker.specs.Segments.{segment_of}
 use Rattle.jls_marker.specs.declared.fault.MarkerFault.TheVariants.{Ended}
+use Rattle.jls_marker.specs.declared.segment.Segment.{Segment}
+use Rattle.jls_marker.specs.declared.segment.Segment.TheVariants as segment
 
 -- a frame that was taken stays
 abbrev pub FrameStays : Type 0
@@ -41,3 +47,48 @@ NeverEnded = (h : HeaderState) (code : ℕ) (payload : List ℕ) → headers_aft
 -- the intervals of a scan part its lines
 abbrev pub IntervalsPartTheLines : Type 0
 IntervalsPartTheLines = (s : Scan) → 1 ≤ s.height → PartTheLines s
+
+-- ---- what is in force behind a segment
+
+-- the restart interval that a segment sets: that of DRI (T.81, B.2.4.4; T.87, C.2.5)
+abbrev pub interval_in : Segment → Option ℕ
+interval_in (segment.Restart n) = Some n
+interval_in _ = None
+
+-- the preset values that a segment sets: those of LSE of ID 1 (T.87, C.2.4.1.1)
+abbrev pub presets_in : Segment → Option PresetParameters
+presets_in (segment.Preset maxval t1 t2 t3 reset) = Some (record { maxval = maxval; t1 = t1; t2 = t2; t3 = t3; reset = reset })
+presets_in _ = None
+
+-- the frame that a segment sets
+abbrev pub frame_in : Segment → Option PictureShape
+frame_in (segment.Frame f) = Some f
+frame_in _ = None
+
+-- what is set, or what was
+abbrev pub newest : {A : Type 0} → Option A → A → A
+newest (Some x) was = x
+newest None was = was
+
+-- A segment sets its own value, and each other value stays what it was.
+pub record SetsItsOwn (h after : HeaderState) (s : Segment) : Type 0 where
+  pub restart_interval : after.restart_interval ≡ newest (interval_in s) h.restart_interval
+  pub preset : after.preset ≡ newest (presets_in s) h.preset
+  pub frame : (f : PictureShape) → frame_in s ≡ Some f → after.frame ≡ Some f
+  pub no_frame : frame_in s ≡ None → after.frame ≡ h.frame
+
+abbrev pub SegmentsSetTheirOwn : Type 0
+SegmentsSetTheirOwn = (h after : HeaderState) (code : ℕ) (payload : List ℕ) (scan : Option Scan) (s : Segment)
+    → segment_of code payload ≡ Ok s → headers_after h code payload ≡ Ok (after, scan) → SetsItsOwn h after s
+
+-- A scan has the components that its header names, by their places in the frame, the parameters judged from the frame and the preset
+-- values in force, and the restart interval in force.
+pub record HasWhatIsInForce (h : HeaderState) (frame : PictureShape) (s : ScanSelection) (scan : Scan) : Type 0 where
+  pub components : scan.components ≡ map (index_of frame.ids) s.ids
+  pub params : params_judged frame h.preset ≡ Ok scan.params
+  pub restart_interval : scan.restart_interval ≡ h.restart_interval
+
+abbrev pub ScansHaveWhatIsInForce : Type 0
+ScansHaveWhatIsInForce = (h after : HeaderState) (code : ℕ) (payload : List ℕ) (scan : Scan) → headers_after h code payload ≡ Ok (after, Some scan)
+    → (s : ScanSelection) × (segment_of code payload ≡ Ok (segment.Scan s))
+    × ((frame : PictureShape) → h.frame ≡ Some frame → HasWhatIsInForce h frame s scan)

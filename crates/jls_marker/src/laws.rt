@@ -1,6 +1,6 @@
 //! The laws of marker segments and of the state of the headers. Each is a function that does nothing and whose contract is the law.
 
-ghost use Rattle.jls_marker.specs.HeaderLaws.{FrameStays, ScansBegin, ScansAreInRange, OthersCountNone, NeverEnded, IntervalsPartTheLines};
+ghost use Rattle.jls_marker.specs.HeaderLaws.{FrameStays, ScansBegin, ScansAreInRange, OthersCountNone, NeverEnded, IntervalsPartTheLines, SegmentsSetTheirOwn, ScansHaveWhatIsInForce};
 ghost use Rattle.jls_marker.specs.SegmentLaws.{LayoutsAreRead, PayloadsAreRead, WrittenReadsBack, UnknownCodes};
 
 /// A payload has one layout of its segment at most, and that is the one that is read.
@@ -51,4 +51,16 @@ pub fn never_ended()
 /// The restart intervals of a scan part its lines: each line is a row of exactly one, and each row of one is a line.
 pub fn intervals_part_the_lines()
     ensures { IntervalsPartTheLines }
+{}
+
+/// Behind a segment that is taken, the restart interval is that of DRI where it is one, the preset values are those of LSE of ID 1
+/// where it is one, and the frame is that of SOF where it is one. All else is what it was.
+pub fn segments_set_their_own()
+    ensures { SegmentsSetTheirOwn }
+{}
+
+/// A scan that begins has the components that its header names by their places in the frame, and the parameters and the restart
+/// interval that are in force before it.
+pub fn scans_have_what_is_in_force()
+    ensures { ScansHaveWhatIsInForce }
 {}
