@@ -48,6 +48,11 @@ record WrittenFileExamples : Type 0 where
       (record { line = false; restart_interval = 0; params = record { precision = 8; maxval = 15; t1 = 2; t2 = 3; t3 = 4; reset = 64 } })
       ≡ front 1 (0xFF ∷ 0xF8 ∷ 0x00 ∷ 0x0D ∷ 0x01 ∷ 0x00 ∷ 0x0F ∷ 0x00 ∷ 0x02 ∷ 0x00 ∷ 0x03 ∷ 0x00 ∷ 0x04 ∷ 0x00 ∷ 0x40
       ∷ scan_front 1 (0x40 ∷ 0xFF ∷ 0xD9 ∷ []))
+  -- the same in restart intervals of a row: DRI stands before LSE
+  with_both : written_file (column 2 (1 ∷ []) (((15 ∷ []) ∷ (15 ∷ []) ∷ []) ∷ []))
+      (record { line = false; restart_interval = 1; params = record { precision = 8; maxval = 15; t1 = 2; t2 = 3; t3 = 4; reset = 64 } })
+      ≡ front 2 (0xFF ∷ 0xDD ∷ 0x00 ∷ 0x04 ∷ 0x00 ∷ 0x01 ∷ 0xFF ∷ 0xF8 ∷ 0x00 ∷ 0x0D ∷ 0x01 ∷ 0x00 ∷ 0x0F ∷ 0x00 ∷ 0x02 ∷ 0x00 ∷ 0x03 ∷ 0x00 ∷ 0x04 ∷ 0x00 ∷ 0x40
+      ∷ scan_front 1 (0x40 ∷ 0xFF ∷ 0xD0 ∷ 0x40 ∷ 0xFF ∷ 0xD9 ∷ []))
   -- two components in one scan, whose second has another k, and in two
   by_line : written_file (column 1 (1 ∷ 2 ∷ []) (((10 ∷ []) ∷ []) ∷ ((10 ∷ []) ∷ []) ∷ [])) (options true 0)
       ≡ two_front (0xFF ∷ 0xDA ∷ 0x00 ∷ 0x0A ∷ 0x02 ∷ 0x01 ∷ 0x00 ∷ 0x02 ∷ 0x00 ∷ 0x00 ∷ 0x01 ∷ 0x00 ∷ 0x07 ∷ 0x16 ∷ 0xFF ∷ 0xD9 ∷ [])
@@ -63,4 +68,4 @@ record WrittenFileExamples : Type 0 where
 
 written_file_examples : WrittenFileExamples
 unfolding least_from bits value_of_bits width_after golomb pad_after quantized_gradient is_negative context modulo_reduced corrected_prediction golomb_k updated run_updated events_from events_after cell_before run_cell_before block_columns full_blocks blocks run_index_before event_bits bits_of_events code
-written_file_examples = record { one_sample = refl; one_by_line = refl; with_lse = refl; by_line = refl; apart = refl; ten_intervals = refl }
+written_file_examples = record { one_sample = refl; one_by_line = refl; with_lse = refl; with_both = refl; by_line = refl; apart = refl; ten_intervals = refl }

@@ -14,6 +14,7 @@ pub mod CutEvents
 pub mod SamplesRead
 pub mod FoldedEvents
 pub mod RunEvents
+pub mod RunExamples
 pub mod GrowthEnds
 pub mod CutCodes
 pub mod PiecesReadOnce

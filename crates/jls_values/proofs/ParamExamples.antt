@@ -20,6 +20,10 @@ defaults_12 = refl
 defaults_2 : params_of 2 0 0 0 0 0 ≡ values 2 3 2 3 3 64
 defaults_2 = refl
 
+-- the default of T3, 4, is above MAXVAL, so it is the lower end of its range, which is T2 as it was given, and not MAXVAL
+given_t2 : params_of 2 0 0 2 0 0 ≡ values 2 3 2 2 2 64
+given_t2 = refl
+
 -- thresholds follow from the MAXVAL in force
 maxval_127 : params_of 8 127 0 0 0 0 ≡ values 8 127 2 3 10 64
 maxval_127 = refl
