@@ -4,7 +4,6 @@ use Rattle.std.specs.Prelude.{ℤ, pos, negsuc}
 use Rattle.std.specs.List.{range_with_len}
 use Rattle.jls_values.specs.Params.{CodingParameters}
 use Rattle.jls_context.specs.Errors.{modulo_reduced}
-use Rattle.jls_context.specs.declared.mode.Neighbours.{Neighbours}
 use Rattle.jls_interval.specs.Cells.{interruption_error}
 use Rattle.jls_interval.specs.Runs.{run_order}
 

@@ -1,18 +1,16 @@
 -- What is in force behind a segment, and what a scan has of it.
-use Rattle.std.proofs.Common.{◌≡◌, ℕ, ◌+◌, true, false, List, [], ◌∷◌, map, Option, Some, None, Result, Ok, Err, refl, sym, ap, ◌∙◌}
+use Rattle.std.proofs.Common.{◌≡◌, ℕ, true, List, [], ◌∷◌, Option, Some, None, Result, Ok, refl, sym, ap, ◌∙◌}
 use Rattle.std.specs.Prelude.{is_none, is_ok}
 use Rattle.jls_values.specs.Params.{CodingParameters}
 use Rattle.jls_values.specs.ParamsOf.{params_in_range, param_fault}
 use Rattle.jls_values.specs.Shape.{PictureShape}
 use Rattle.jls_values.specs.declared.params.ParamFault.{ParamFault}
-use Rattle.jls_marker.specs.ComponentIndex.{index_of}
 use Rattle.jls_marker.specs.HeaderLaws.{SetsItsOwn, HasWhatIsInForce}
 use Rattle.jls_marker.specs.HeaderState.{HeaderState}
-use Rattle.jls_marker.specs.Headers.{begin_tests, scan_in, scan_under, scan_judged, accepted, taking, headers_after, params_judged, params_under}
+use Rattle.jls_marker.specs.Headers.{begin_tests, scan_in, scan_under, scan_judged, accepted, taking, headers_after, params_under}
 use Rattle.jls_marker.specs.Scan.{Scan}
 use Rattle.jls_marker.specs.ScanSelection.{ScanSelection}
 use Rattle.jls_marker.specs.Segments.{segment_of}
-use Rattle.jls_marker.specs.declared.fault.MarkerFault.{MarkerFault}
 use Rattle.jls_marker.specs.declared.fault.MarkerFault.TheVariants as fault
 use Rattle.jls_marker.specs.declared.segment.Segment.{Segment}
 use Rattle.jls_marker.specs.declared.segment.Segment.TheVariants as segment

@@ -1,8 +1,6 @@
 -- The headers behind several segments, and which codes have a segment, worked out by hand.
-use Rattle.std.proofs.Common.{◌≡◌, ℕ, true, false, List, [], ◌∷◌, Option, Some, None, Result, Ok, Err, refl}
+use Rattle.std.proofs.Common.{◌≡◌, ℕ, List, [], ◌∷◌, Option, Some, None, Result, Ok, Err, refl}
 use Rattle.std.specs.List.{filter, range_with_len}
-use Rattle.jls_values.specs.Shape.{PictureShape}
-use Rattle.jls_values.specs.Params.{CodingParameters}
 use Rattle.jls_marker.specs.ComponentIndex.{index_of}
 use Rattle.jls_marker.specs.HeaderState.{HeaderState, no_headers}
 use Rattle.jls_marker.specs.Headers.{taking}
@@ -12,7 +10,6 @@ use Rattle.jls_marker.specs.Scan.{Scan}
 use Rattle.jls_marker.specs.Segments.{segment_of}
 use Rattle.jls_marker.specs.Written.{payload_of}
 use Rattle.jls_marker.specs.declared.fault.MarkerFault.{MarkerFault}
-use Rattle.jls_marker.specs.declared.fault.MarkerFault.TheVariants as fault
 use Rattle.jls_marker.specs.declared.segment.Segment.TheVariants as segment
 
 -- these segments one after another, each a code and a payload; what the last one gives

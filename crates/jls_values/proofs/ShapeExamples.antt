@@ -1,7 +1,7 @@
 -- Shapes, computed: which range is blamed where several are broken. The precision comes first, then the width, the height, how many
 -- identifiers there are, and two that are equal.
-use Rattle.std.proofs.Common.{◌≡◌, ℕ, List, [], ◌∷◌, refl}
-use Rattle.std.specs.Prelude.{Result, Ok, Err}
+use Rattle.std.proofs.Common.{◌≡◌, [], ◌∷◌, refl}
+use Rattle.std.specs.Prelude.{Ok, Err}
 use Rattle.jls_values.specs.declared.shape.ShapeFault.TheVariants.{Precision, Width, Height, Count, RepeatedId}
 use Rattle.jls_values.specs.ShapeOf.{shape_of}
 

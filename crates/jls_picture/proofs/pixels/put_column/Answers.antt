@@ -1,4 +1,4 @@
-use Rattle.std.proofs.Common.{◌+◌, length, arith}
+use Rattle.std.proofs.Common.{◌+◌, arith}
 use Rattle.jls_picture.proofs.Columns.{reaches, few_lent, fits, put_more}
 use Rattle.jls_picture.proofs.pixels.put_column.Goals as goal
 

@@ -1,4 +1,4 @@
-use Rattle.std.proofs.Common.{◌+◌, length, map, arith}
+use Rattle.std.proofs.Common.{◌+◌, arith}
 use Rattle.jls_picture.specs.Waiting.{column_bytes}
 use Rattle.jls_picture.proofs.OneMore.{put_from_more}
 use Rattle.jls_picture.proofs.Columns.{lines_to_fewer, lent}

@@ -1,4 +1,4 @@
-use Rattle.std.proofs.Common.{ℕ, List, length, get_or, arith}
+use Rattle.std.proofs.Common.{ℕ, List, get_or, arith}
 use Rattle.jls_picture.specs.Pnm.{sample_bytes}
 use Rattle.jls_picture.proofs.OneMore.{put_from_more}
 use Rattle.jls_picture.proofs.pixels.put_samples.Goals as goal

@@ -1,4 +1,4 @@
-use Rattle.std.proofs.Common.{◌≡◌, ◌≤◌, ◌<◌, ◌-◌, length}
+use Rattle.std.proofs.Common.{◌≤◌, ◌<◌, ◌-◌, length}
 use Rattle.std.specs.List.{flat_map, range_with_len}
 use Rattle.jls_picture.specs.Pnm.{pixel_bytes}
 use Rattle.jls_picture.specs.Waiting.{PutBehind}
