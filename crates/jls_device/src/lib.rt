@@ -4,13 +4,11 @@
 mod counted;
 mod device;
 mod history;
-mod host;
 mod laws;
 mod ledger;
 mod writing;
 
 pub use counted::{Counted, Open};
 pub use device::{Desk, DeskFault, Device, Sink, SinkFault, Source, SourceFault};
-pub use host::HostFiles;
 pub use laws::{reads_give_the_content, sink_over_list, source_over_bytes, writes_are_held};
 pub use writing::write_all;
