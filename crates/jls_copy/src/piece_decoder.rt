@@ -26,6 +26,7 @@ impl Model for PieceDecoder {
 }
 
 impl PieceDecoder {
+    /// The decoder, moved to the heap once.
     pub(crate) fn new(alloc: Global, decoder: IntervalDecoder) -> Result<PieceDecoder, AllocError>
         ensures { IfOk result (λ boxed. boxed ≡ decoder) }
     {
@@ -33,18 +34,21 @@ impl PieceDecoder {
         Ok(PieceDecoder { decoder })
     }
 
+    /// Takes one byte of the piece. After want of memory the decoder stays refused.
     pub(crate) fn push(&mut self, byte: u8) -> Result<(), AllocError>
         ensures { OnOk result (self.new ≡ with_bytes self.old (byte ∷ [])) }
     {
         self.decoder.push(byte)
     }
 
+    /// Takes bytes of the piece in turn, as `push` does.
     pub(crate) fn push_all(&mut self, bytes: &[u8]) -> Result<(), AllocError>
         ensures { OnOk result (self.new ≡ with_bytes self.old bytes.now) }
     {
         self.decoder.push_all(bytes)
     }
 
+    /// Whether the piece is faulty whatever bytes follow. `false` says nothing.
     pub(crate) fn reads_no_more(&self) -> bool
         ensures { result ≡ true → IfSome self.now.bytes
             (λ bytes. ReadsNoMore self.now.parameters self.now.width self.now.components (self.now.rows * self.now.components) bytes) }
@@ -52,6 +56,7 @@ impl PieceDecoder {
         self.decoder.reads_no_more()
     }
 
+    /// The lines of the piece, or why it has none.
     pub(crate) fn finish(self) -> Result<Vec<Vec<u16>>, PieceFault>
         ensures outcome { MatchOption self.bytes (result ≡ Err PieceFault.OutOfMemory)
             (λ bytes. OutcomeIs self.parameters self.width self.components (self.rows * self.components) bytes result) }
@@ -59,6 +64,7 @@ impl PieceDecoder {
         Box::into_inner(self.decoder).finish()
     }
 
+    /// The lines of a piece that the input's end cuts off, or those that stand whole before the cut.
     pub(crate) fn finish_cut(self) -> Result<CutEnd, AllocError>
         ensures refused { IfNone self.bytes (IsErr result) }
         ensures cut_end { IfSome self.bytes (λ bytes. MatchResult result

@@ -27,6 +27,7 @@ impl<'a> Readings<'a> {
         Readings { sources, ..self }
     }
 
+    /// The shape of the picture: 8 bits, one component.
     pub fn shape(&self) -> Result<Shape, Stopped> {
         Ok(Shape::new(8, self.width, self.height, &[1])?)
     }
@@ -149,14 +150,17 @@ impl<'a> Case<'a> {
         }
     }
 
+    /// What is held before the call.
     pub fn held(&self) -> Readings<'a> {
         self.readings(self.held)
     }
 
+    /// What the call takes.
     pub fn taken(&self) -> Readings<'a> {
         self.readings(self.taken)
     }
 
+    /// What is held after the call.
     pub fn both(&self) -> Readings<'a> {
         self.readings(self.both)
     }

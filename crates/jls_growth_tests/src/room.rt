@@ -56,6 +56,7 @@ pub struct Files<'a> {
 }
 
 impl<'a> Files<'a> {
+    /// These files, of which none is open, and an output with room for 100,000 bytes.
     pub fn new(alloc: Global, files: &'a [File<'a>]) -> Result<Files<'a>, AllocError> {
         Ok(Files {
             files,
