@@ -220,8 +220,7 @@ impl IntervalDecoder {
         }
     }
 
-    /// Whether the bytes so far are known to read as no lines, whatever follows. `false` says nothing; after a refused push it is
-    /// `false`. No memory is taken.
+    /// Whether the bytes so far are known to read as no lines, whatever follows. `false` says nothing. No memory is taken.
     pub fn reads_no_more(&self) -> bool
         ensures { result ≡ true → IfSome self.now.bytes
             (λ bytes. ReadsNoMore self.now.parameters self.now.width self.now.components (self.now.rows * self.now.components) bytes) }

@@ -54,7 +54,7 @@ pub fn intervals_part_the_lines()
 {}
 
 /// Behind a segment that is taken, the restart interval is that of DRI where it is one, the preset values are those of LSE of ID 1
-/// where it is one, and the frame is that of SOF where it is one. All else is what it was.
+/// where it is one, and the frame is that of SOF where it is one. Each of these is otherwise what it was.
 pub fn segments_set_their_own()
     ensures { SegmentsSetTheirOwn }
 {}

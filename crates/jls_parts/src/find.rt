@@ -20,7 +20,7 @@ fn one_part<'a>(alloc: Global, copies: &[&'a [u8]]) -> Result<Vec<Part<'a>>, All
     Ok(parts)
 }
 
-/// The parts of some copies of one file; no copies have no parts. `Err` comes where memory is refused.
+/// The parts of some copies of one file. `Err` comes where memory is refused.
 ///
 /// A search proposes them and they are checked, so the contract holds however they are found. It goes along all copies while they
 /// agree. Behind a difference it looks for the next 24 bytes that agree again, where bytes were lost or added with a shift.

@@ -7,12 +7,12 @@ pub fn copies_are_splices()
     ensures { CopiesAreSplices }
 {}
 
-/// A law: what has at each part what some copy has there is a splice that is listed, and no other is listed.
+/// A law: the splices of one copy or more are exactly those that are listed. A splice has at each part what some copy has there.
 pub fn splices_are_listed()
     ensures { SplicesAreListed }
 {}
 
-/// A law: choices make splices, one for each part, and each splice is that of some choices.
+/// A law: choices of one copy or more make splices, one choice for each part. Each splice is that of some choices.
 pub fn choices_make_splices()
     ensures { ChoicesMakeSplices }
 {}
