@@ -21,7 +21,7 @@ mod JoinThenWrite
 mod SettledInputs
 mod WrittenInputs
 mod StationCalls
-mod TwoLineExamples
+pub mod TwoLineExamples
 mod FileExamples
 mod PremiseExamples
 mod SameCopyExamples

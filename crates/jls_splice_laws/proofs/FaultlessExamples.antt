@@ -1,0 +1,135 @@
+-- A file of two lines, two copies of it that are damaged at one place each, and their parts: the file is a splice of them without a fault.
+-- What doesn't begin with SOI has one, and can be given up.
+use Rattle.std.proofs.Common.{◌≡◌, ℕ, zero, suc, ◌<◌, List, [], ◌∷◌, Some, refl, subst, lit<, arith}
+use Rattle.std.specs.Prelude.{get_or}
+use Rattle.jls_marker.specs.ComponentIndex.{index_of}
+use Rattle.jls_marker.specs.MarkerCodes.{has_segment}
+use Rattle.jls_marker.specs.HeaderState.{HeaderState, no_headers}
+use Rattle.jls_marker.specs.Headers.{headers_after}
+use Rattle.jls_marker.specs.Scan.{Scan}
+use Rattle.jls_marker.specs.declared.fault.MarkerFault.TheVariants as fault
+use Rattle.jls_copy.specs.ScanData.{ClosedPiece}
+use Rattle.jls_copy.specs.Course.{by_marker, CopyUnit, segment, scan, Course, IsCourse, with_soi, with_no_marker, without_units, at_eoi, for_good}
+use Rattle.jls_copy.specs.declared.end.End.TheVariants.{Eoi, Header}
+use Rattle.jls_copy.proofs.OneCourse.{one_course}
+use Rattle.jls_headline.proofs.TwoLineExamples.{shape, bits_8, frame_payload, scan_payload, pieces_read}
+use Rattle.jls_parts.specs.Parts.{Part, Same, Differ, made, AreParts, IsSplice}
+use Rattle.jls_splice_laws.specs.Faultless.{EndsWell, IsFaultless}
+use Rattle.jls_splice_laws.specs.Searches.{done, Searched, along, given_up}
+
+-- one scan, with a restart interval for each line
+abbrev plan : Scan
+plan = record { components = 0 ∷ []; params = bits_8; width = 1; height = 2; restart_interval = 1 }
+
+-- SOI, SOF55, DRI and SOS; the first of these bytes; RST0; the second; EOI
+abbrev file_with : ℕ → ℕ → List ℕ
+file_with first second =
+    0xFF ∷ 0xD8 ∷ 0xFF ∷ 0xF7 ∷ 0 ∷ 0x0B ∷ 8 ∷ 0 ∷ 2 ∷ 0 ∷ 1 ∷ 1 ∷ 1 ∷ 0x11 ∷ 0 ∷ 0xFF ∷ 0xDD ∷ 0 ∷ 4 ∷ 0 ∷ 1
+    ∷ 0xFF ∷ 0xDA ∷ 0 ∷ 8 ∷ 1 ∷ 1 ∷ 0 ∷ 0 ∷ 0 ∷ 0 ∷ first ∷ 0xFF ∷ 0xD0 ∷ second ∷ 0xFF ∷ 0xD9 ∷ []
+
+-- the file has the samples 0 and 255; in each copy another byte of scan data is zeroed
+abbrev file : List ℕ
+file = file_with 0x80 0x40
+
+abbrev one : List ℕ
+one = file_with 0 0x40
+
+abbrev other : List ℕ
+other = file_with 0x80 0
+
+abbrev headers : List ℕ
+headers =
+    0xFF ∷ 0xD8 ∷ 0xFF ∷ 0xF7 ∷ 0 ∷ 0x0B ∷ 8 ∷ 0 ∷ 2 ∷ 0 ∷ 1 ∷ 1 ∷ 1 ∷ 0x11 ∷ 0 ∷ 0xFF ∷ 0xDD ∷ 0 ∷ 4 ∷ 0 ∷ 1
+    ∷ 0xFF ∷ 0xDA ∷ 0 ∷ 8 ∷ 1 ∷ 1 ∷ 0 ∷ 0 ∷ 0 ∷ 0 ∷ []
+
+abbrev parts : List Part
+parts =
+    Same headers ∷ Differ ((0 ∷ []) ∷ (0x80 ∷ []) ∷ []) ∷ Same (0xFF ∷ 0xD0 ∷ []) ∷ Differ ((0x40 ∷ []) ∷ (0 ∷ []) ∷ [])
+    ∷ Same (0xFF ∷ 0xD9 ∷ []) ∷ []
+
+are_parts : AreParts (one ∷ other ∷ []) parts
+are_parts = record { ways = (tt, (refl, (tt, (refl, (tt, tt))))); make = by }
+  where
+    by : (j : ℕ) → j < 2 → made j parts ≡ get_or (one ∷ other ∷ []) j []
+    by zero l = refl
+    by (suc zero) l = refl
+    by (suc (suc j)) l = absurd (omega (arith, l))
+
+-- the file is a splice: the second copy's way, then the first one's
+file_is_splice : IsSplice 2 parts file
+file_is_splice = (0, lit< tt, _, refl, (1, lit< tt, _, refl, (0, lit< tt, _, refl, (0, lit< tt, _, refl, (0, lit< tt, _, refl, refl)))))
+
+abbrev framed : HeaderState
+framed = record no_headers { frame = Some shape }
+
+abbrev restarting : HeaderState
+restarting = record framed { restart_interval = 1 }
+
+abbrev final : HeaderState
+final = record restarting { scans = 1 }
+
+abbrev closed : List ClosedPiece
+closed = record { piece = 0x80 ∷ []; fill = 0; mark = 0 } ∷ []
+
+abbrev units : List CopyUnit
+units =
+    segment 0 0xF7 frame_payload ∷ segment 0 0xDD (0 ∷ 1 ∷ []) ∷ scan 0 0xDA scan_payload plan closed (0x40 ∷ []) by_marker ∷ []
+
+abbrev course : Course
+course = record { begin = 2; units = units; headers = final; end = Eoi 35 }
+
+is_course : IsCourse file course
+unfolding headers_after index_of has_segment
+is_course =
+    with_soi 0 _ units final (Eoi 35) (
+      framed,
+      _,
+      refl,
+      ((refl, lit< tt), refl),
+      (
+        restarting,
+        _,
+        refl,
+        ((refl, lit< tt), refl),
+        (
+          final,
+          0xFF ∷ 0xD9 ∷ [],
+          refl,
+          (
+            (refl, lit< tt),
+            refl,
+            (((λ (h : 0x80 ≡ 0xFF). omega (arith, h)), lit< tt), tt),
+            (λ (h : 0x40 ≡ 0xFF). omega (arith, h)),
+            record { fill = 0; code = 0xD9; behind = []; bytes_are = refl; ends = refl },
+          ),
+          (refl, for_good final 35 (0xFF ∷ 0xD9 ∷ []) (Eoi 35) (at_eoi final 35 0 [] refl)),
+        ),
+      ),
+    )
+
+-- it has no fault: its pieces read as the samples 0 and 255
+file_is_faultless : IsFaultless file
+file_is_faultless = record {
+  course = course;
+  is_course = is_course;
+  shape = shape;
+  framed = refl;
+  ends = tt;
+  each = (((0 ∷ []) ∷ [], pieces_read.zero_read), (((255 ∷ []) ∷ [], pieces_read.largest_read), tt));
+}
+
+-- What doesn't begin with SOI ----------------------------------------------------------------------------------------
+
+no_soi : (more : List ℕ) → IsCourse (1 ∷ more) (without_units 0 (Header fault.NoSoi 0))
+no_soi more = with_no_marker 1 more (λ (h : 1 ≡ 0xFF). omega (arith, h))
+
+has_fault_there : (more : List ℕ) → IsFaultless (1 ∷ more) → ⊥
+has_fault_there more f =
+    let e = one_course (1 ∷ more) f.course (without_units 0 (Header fault.NoSoi 0)) f.is_course (no_soi more) in
+    subst (λ (c : Course). EndsWell c.end) e f.ends
+
+-- so a search gives up behind the first byte, and finds nothing
+nothing_found : Searched [] (Same (1 ∷ []) ∷ Differ ((2 ∷ []) ∷ (3 ∷ []) ∷ []) ∷ []) []
+nothing_found =
+    let ended = done (1 ∷ []) (without_units 0 (Header fault.NoSoi 0), no_soi [], refl) (has_fault_there []) in
+    along [] (1 ∷ []) (Differ ((2 ∷ []) ∷ (3 ∷ []) ∷ []) ∷ []) [] (given_up (1 ∷ []) (Differ ((2 ∷ []) ∷ (3 ∷ []) ∷ []) ∷ []) ended)

@@ -1,0 +1,6 @@
+mod Lists
+mod Rows
+mod WholeFiles
+mod Searching
+mod TakenFiles
+mod FaultlessExamples

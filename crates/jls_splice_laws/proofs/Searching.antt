@@ -1,0 +1,149 @@
+-- A search finds splices without a fault, and loses none of them.
+use Rattle.std.proofs.Common.{◌≡◌, ℕ, ◌<◌, List, [], ◌∷◌, ◌++◌, map, length, Some, sym, ap, ◌∙◌, subst, append_assoc, inl, inr}
+use Rattle.std.specs.List.{AllByRecursion, Contains, flat_map}
+use Rattle.std.proofs.lemmas.List.{append-nil}
+use Rattle.std.proofs.lemmas.List.Elements.{Contains-append_left, Contains-append_right, Contains-append_cases}
+use Rattle.jls_copy.specs.Course.{Course, IsCourse}
+use Rattle.jls_copy.specs.CopyLaws.{FinalEndsStay}
+use Rattle.jls_copy.specs.Fronts.{FrontsStayBroken}
+use Rattle.jls_copy.specs.Pieces.{pieces}
+use Rattle.jls_copy.proofs.OneCourse.{one_course}
+use Rattle.jls_headline.proofs.Members.{is_first, none_in, first_or_rest, all_at, all_append, all_map}
+use Rattle.jls_parts.proofs.Members.{in_map, of_map, in_flat_map, of_flat_map}
+use Rattle.jls_parts.specs.Parts.{Part, Same, Differ, IsSplice, splices}
+use Rattle.jls_parts.specs.SpliceLaws.{SplicesAreListed}
+use Rattle.jls_splice_laws.specs.Faultless.{HasLines, EndsWell, IsFaultless}
+use Rattle.jls_splice_laws.specs.Searches.{CanBeGivenUp, broken, done, Searched, found, has_fault, along, no_way, last_way, way_again, given_up}
+use Rattle.jls_splice_laws.specs.Searches.{SearchesFindSplices, SearchesLoseNothing}
+
+-- the bytes of a way, and behind them those of a splice of the parts behind it
+abbrev going_on : List Part → List ℕ → List (List ℕ)
+going_on parts here = map (λ rest. here ++ rest) (splices parts)
+
+-- what goes on by one of these ways goes on by one of more
+by_more_ways : (parts : List Part) (ways : List (List ℕ)) (here bytes : List ℕ) → Contains (flat_map (going_on parts) ways) bytes
+    → Contains (flat_map (going_on parts) (ways ++ here ∷ [])) bytes
+by_more_ways parts ways here bytes c =
+    let w = of_flat_map (going_on parts) ways bytes c in
+    in_flat_map (going_on parts) (ways ++ here ∷ []) w.0 bytes (Contains-append_left ways (here ∷ []) w.0 w.1) w.2
+
+-- What is found ----------------------------------------------------------------------------------------------------
+
+-- a file without a fault that goes on from the front by a splice of the parts
+abbrev GoesOn : List ℕ → List Part → List ℕ → Type 0
+GoesOn front parts file = (rest : List ℕ) × (file ≡ front ++ rest) × Contains (splices parts) rest × IsFaultless file
+
+by_more : (front here : List ℕ) (ways : List (List ℕ)) (parts : List Part) (files : List (List ℕ))
+    → AllByRecursion (GoesOn front (Differ ways ∷ parts)) files
+    → AllByRecursion (GoesOn front (Differ (ways ++ here ∷ []) ∷ parts)) files
+by_more front here ways parts files h =
+    all_map (GoesOn front (Differ ways ∷ parts)) (GoesOn front (Differ (ways ++ here ∷ []) ∷ parts)) files
+    (λ file g. (g.0, g.1, by_more_ways parts ways here g.0 g.2, g.3)) h
+
+all_go_on : (front : List ℕ) (parts : List Part) (files : List (List ℕ)) → Searched front parts files
+    → AllByRecursion (GoesOn front parts) files
+all_go_on _ _ _ (found file is) = (([], sym (append-nil file), is_first [] [], is), tt)
+all_go_on _ _ _ (has_fault file not) = tt
+all_go_on _ _ _ (along front bytes parts files s) =
+    all_map (GoesOn (front ++ bytes) parts) (GoesOn front (Same bytes ∷ parts)) files
+    (λ file g. (bytes ++ g.0, g.1 ∙ append_assoc front bytes g.0, in_map (λ rest. bytes ++ rest) (splices parts) g.0 g.2, g.3))
+    (all_go_on (front ++ bytes) parts files s)
+all_go_on _ _ _ (no_way front parts) = tt
+all_go_on _ _ _ (last_way front here ways parts files more s t) =
+    all_append (GoesOn front (Differ (ways ++ here ∷ []) ∷ parts)) files more
+    (by_more front here ways parts files (all_go_on front (Differ ways ∷ parts) files s))
+    (all_map (GoesOn (front ++ here) parts) (GoesOn front (Differ (ways ++ here ∷ []) ∷ parts)) more
+    (λ file g. (
+      here ++ g.0,
+      g.1 ∙ append_assoc front here g.0,
+      in_flat_map (going_on parts) (ways ++ here ∷ []) here (here ++ g.0) (Contains-append_right ways (here ∷ []) here (is_first here []))
+          (in_map (λ rest. here ++ rest) (splices parts) g.0 g.2),
+      g.3,
+    )) (all_go_on (front ++ here) parts more t))
+all_go_on _ _ _ (way_again front here ways parts files again s) =
+    by_more front here ways parts files (all_go_on front (Differ ways ∷ parts) files s)
+all_go_on _ _ _ (given_up front parts dead) = tt
+
+pub searches_find_splices : SplicesAreListed → SearchesFindSplices
+searches_find_splices listed copies parts are some files s =
+    all_map (GoesOn [] parts) (λ file. IsSplice (length copies) parts file × IsFaultless file) files
+    (λ file g. ((listed copies parts are some file).1 (subst (Contains (splices parts)) (sym g.1) g.2), g.3)) (all_go_on [] parts files s)
+
+-- What is lost -----------------------------------------------------------------------------------------------------
+
+-- a list of bytes without a fault
+abbrev IsSound : List ℕ → Type 0
+IsSound file = AllByRecursion (λ b. b < 256) file × IsFaultless file
+
+-- what is found behind a way is found behind the front
+behind : (front here : List ℕ) (parts : List Part) (files : List (List ℕ))
+    → ((rest : List ℕ) → Contains (splices parts) rest → IsSound ((front ++ here) ++ rest) → Contains files ((front ++ here) ++ rest))
+    → (bytes : List ℕ) → Contains (going_on parts here) bytes → IsSound (front ++ bytes) → Contains files (front ++ bytes)
+behind front here parts files finds bytes c h =
+    let r = of_map (λ rest. here ++ rest) (splices parts) bytes c in
+    let e : front ++ bytes ≡ (front ++ here) ++ r.0 = ap (λ b. front ++ b) (sym r.2) ∙ sym (append_assoc front here r.0) in
+    subst (Contains files) (sym e) (finds r.0 r.1 (subst IsSound e h))
+
+module _ (stay : FrontsStayBroken) (ends_stay : FinalEndsStay) where
+  never_sound : (front more : List ℕ) → CanBeGivenUp front → IsSound (front ++ more) → ⊥
+  never_sound _ more (broken front is) sound =
+      let f = sound.1 in
+      let p = stay front more sound.0 is f.course f.is_course in
+      let reads = all_at HasLines (pieces f.course) p.0 f.each p.1 in
+      p.5 reads.0 reads.1
+  never_sound _ more (done front is not) sound =
+      let f = sound.1 in
+      let longer : IsCourse (front ++ more) is.0 = ends_stay front more is.0 is.1 (sym is.2) in
+      let e : f.course ≡ is.0 = one_course (front ++ more) f.course is.0 f.is_course longer in
+      not
+      (record {
+        course = is.0;
+        is_course = is.1;
+        shape = f.shape;
+        framed = subst (λ (c : Course). c.headers.frame ≡ Some f.shape) e f.framed;
+        ends = subst (λ (c : Course). EndsWell c.end) e f.ends;
+        each = subst (λ (c : Course). AllByRecursion HasLines (pieces c)) e f.each;
+      })
+
+  is_found : (front : List ℕ) (parts : List Part) (files : List (List ℕ)) → Searched front parts files → (bytes : List ℕ)
+      → Contains (splices parts) bytes → IsSound (front ++ bytes) → Contains files (front ++ bytes)
+  is_found _ _ _ (found file is) bytes c h =
+      elim (first_or_rest bytes [] [] c) [
+        | inl e ↦ subst (λ b. Contains (file ∷ []) (file ++ b)) e (subst (Contains (file ∷ [])) (sym (append-nil file)) (is_first file []))
+        | inr later ↦ absurd (none_in bytes later)
+      ]
+  is_found _ _ _ (has_fault file not) bytes c h =
+      elim (first_or_rest bytes [] [] c) [
+        | inl e ↦ absurd (not (subst IsFaultless (append-nil file) (subst (λ b. IsFaultless (file ++ b)) (sym e) h.1)))
+        | inr later ↦ absurd (none_in bytes later)
+      ]
+  is_found _ _ _ (along front here parts files s) bytes c h =
+      behind front here parts files (λ rest m sound. is_found (front ++ here) parts files s rest m sound) bytes c h
+  is_found _ _ _ (no_way front parts) bytes c h = absurd (none_in bytes c)
+  is_found _ _ _ (last_way front here ways parts files more s t) bytes c h =
+      let w = of_flat_map (going_on parts) (ways ++ here ∷ []) bytes c in
+      elim (Contains-append_cases ways (here ∷ []) w.0 w.1) [
+        | inl before ↦
+            Contains-append_left files more (front ++ bytes)
+            (is_found front (Differ ways ∷ parts) files s bytes (in_flat_map (going_on parts) ways w.0 bytes before w.2) h)
+        | inr last ↦ elim (first_or_rest w.0 here [] last) [
+          | inl e ↦
+              Contains-append_right files more (front ++ bytes)
+              (behind front here parts more (λ rest m sound. is_found (front ++ here) parts more t rest m sound) bytes
+              (subst (λ way. Contains (going_on parts way) bytes) (sym e) w.2) h)
+          | inr later ↦ absurd (none_in w.0 later)
+        ]
+      ]
+  is_found _ _ _ (way_again front here ways parts files again s) bytes c h =
+      let w = of_flat_map (going_on parts) (ways ++ here ∷ []) bytes c in
+      let before : Contains ways w.0 =
+      elim (Contains-append_cases ways (here ∷ []) w.0 w.1) [
+        | inl before ↦ before
+        | inr last ↦ elim (first_or_rest w.0 here [] last) [ inl e ↦ subst (Contains ways) e again | inr later ↦ absurd (none_in w.0 later) ]
+      ] in
+      is_found front (Differ ways ∷ parts) files s bytes (in_flat_map (going_on parts) ways w.0 bytes before w.2) h
+  is_found _ _ _ (given_up front parts dead) bytes c h = absurd (never_sound front bytes dead h)
+
+pub searches_lose_nothing : SplicesAreListed → FrontsStayBroken → FinalEndsStay → SearchesLoseNothing
+searches_lose_nothing listed stay ends_stay copies parts are some files s bytes low is faultless =
+    is_found stay ends_stay [] parts files s bytes ((listed copies parts are some bytes).0 is) (low, faultless)

@@ -1,0 +1,5 @@
+pub mod Faultless
+pub mod WholeFiles
+pub mod Searches
+pub mod Taken
+pub mod SpliceLaws

@@ -1,0 +1,49 @@
+-- Searches through the splices of some copies for files without a fault.
+use Rattle.std.specs.Prelude.{ℕ, ◌<◌, true, List, [], ◌∷◌, ◌++◌, length}
+use Rattle.std.specs.List.{AllByRecursion, Contains}
+use Rattle.jls_copy.specs.CopyReads.{IsDone}
+use Rattle.jls_copy.specs.Fronts.{IsPieceBroken}
+use Rattle.jls_parts.specs.Parts.{Part, Same, Differ, AreParts, IsSplice}
+use Rattle.jls_splice_laws.specs.Faultless.{IsFaultless}
+
+-- A front that can be given up: its piece in hand is broken, whatever follows; or bytes behind it leave its course as it is, and it has a
+-- fault
+pub data CanBeGivenUp : List ℕ → Type 0 where
+  broken : (front : List ℕ) → IsPieceBroken front → CanBeGivenUp front
+  done : (front : List ℕ) → IsDone front true → (IsFaultless front → ⊥) → CanBeGivenUp front
+
+-- The files that a search finds from a front on, through these parts, depth first: at a part each of its ways in turn, in their order. Ways
+-- that stand there before can be passed over, and fronts that can be given up can be
+pub data Searched : List ℕ → List Part → List (List ℕ) → Type 0 where
+  found : (file : List ℕ) → IsFaultless file → Searched file [] (file ∷ [])
+  has_fault : (file : List ℕ) → (IsFaultless file → ⊥) → Searched file [] []
+  along : (front bytes : List ℕ) (parts : List Part) (files : List (List ℕ)) → Searched (front ++ bytes) parts files
+      → Searched front (Same bytes ∷ parts) files
+  no_way : (front : List ℕ) (parts : List Part) → Searched front (Differ [] ∷ parts) []
+  last_way : (front here : List ℕ) (ways : List (List ℕ)) (parts : List Part) (files more : List (List ℕ))
+      → Searched front (Differ ways ∷ parts) files → Searched (front ++ here) parts more
+      → Searched front (Differ (ways ++ here ∷ []) ∷ parts) (files ++ more)
+  way_again : (front here : List ℕ) (ways : List (List ℕ)) (parts : List Part) (files : List (List ℕ)) → Contains ways here
+      → Searched front (Differ ways ∷ parts) files → Searched front (Differ (ways ++ here ∷ []) ∷ parts) files
+  given_up : (front : List ℕ) (parts : List Part) → CanBeGivenUp front → Searched front parts []
+
+-- these files are splices of so many copies, and none of them has a fault
+abbrev pub AreFaultlessSplices : ℕ → List Part → List (List ℕ) → Type 0
+AreFaultlessSplices count parts files = AllByRecursion (λ file. IsSplice count parts file × IsFaultless file) files
+
+-- each splice of so many copies that is a list of bytes without a fault is among these files
+abbrev pub HasEachSplice : ℕ → List Part → List (List ℕ) → Type 0
+HasEachSplice count parts files =
+    (bytes : List ℕ) → AllByRecursion (λ b. b < 256) bytes → IsSplice count parts bytes → IsFaultless bytes → Contains files bytes
+
+-- What a search finds are splices without a fault
+abbrev pub SearchesFindSplices : Type 0
+SearchesFindSplices =
+    (copies : List (List ℕ)) (parts : List Part) → AreParts copies parts → 0 < length copies → (files : List (List ℕ))
+    → Searched [] parts files → AreFaultlessSplices (length copies) parts files
+
+-- and no splice without a fault is lost, whatever was given up and passed over
+abbrev pub SearchesLoseNothing : Type 0
+SearchesLoseNothing =
+    (copies : List (List ℕ)) (parts : List Part) → AreParts copies parts → 0 < length copies → (files : List (List ℕ))
+    → Searched [] parts files → HasEachSplice (length copies) parts files

@@ -1,0 +1,38 @@
+-- The laws of splices that speak of readings and pictures. That the copies are splices of the parts that are found is a law of jls_parts.
+use Rattle.std.specs.Prelude.{◌≡◌, ℕ, ◌<◌, List, length}
+use Rattle.std.specs.List.{AllByRecursion, Contains}
+use Rattle.jls_values.specs.Shape.{PictureShape}
+use Rattle.jls_partial.specs.Partial.{PartialPicture}
+use Rattle.jls_partial.specs.Status.{IsSettled}
+use Rattle.jls_picture.specs.Picture.{WholePicture, picture_of}
+use Rattle.jls_picture.specs.WholePictures.{IsPicture}
+use Rattle.jls_headline.specs.Stations.{HoldsExactly, TookInTheEnd}
+use Rattle.jls_headline.specs.Survives.{EachLineSurvives}
+use Rattle.jls_parts.specs.Parts.{Part, IsSplice}
+use Rattle.jls_splice_laws.specs.Faultless.{IsFaultless}
+use Rattle.jls_splice_laws.specs.Taken.{FilesTaken, AllTaken}
+use Rattle.jls_splice_laws.specs.WholeFiles.{IsWholeFile}
+
+-- Where the search found each splice without a fault, each of them is among the files taken: none has another shape
+abbrev pub FaultlessSplicesAreTaken : Type 0
+FaultlessSplicesAreTaken =
+    (copies : List (List ℕ)) (parts : List Part) (shape : PictureShape) (files : List (List ℕ)) → AllTaken copies parts shape files
+    → (bytes : List ℕ) → AllByRecursion (λ b. b < 256) bytes → IsSplice (length copies) parts bytes → IsFaultless bytes
+    → Contains files bytes
+
+-- A station that took the files taken holds exactly their readings. Where every line of a picture survives in some of them, whatever the
+-- search found and whatever else they read as, not each line of the station is settled, or they are that picture
+abbrev pub SplicesGiveNoOther : Type 0
+SplicesGiveNoOther =
+    (copies : List (List ℕ)) (parts : List Part) (shape : PictureShape) (files : List (List ℕ)) → FilesTaken copies parts shape files
+    → (station : PartialPicture) → TookInTheEnd station files
+    → HoldsExactly station files
+    × ((pic : WholePicture) → IsPicture pic → EachLineSurvives pic files → IsSettled station → picture_of station ≡ pic)
+
+-- Where, at each part in which the copies are found to differ, some copy has what an undamaged file has there, and the search found each
+-- splice without a fault: not each line of a station that took the files taken is settled, or they are that file's picture
+abbrev pub WholeSplicesGiveNoOther : Type 0
+WholeSplicesGiveNoOther =
+    (copies : List (List ℕ)) (parts : List Part) (shape : PictureShape) (files : List (List ℕ)) → AllTaken copies parts shape files
+    → (pic : WholePicture) → IsPicture pic → (file : List ℕ) → IsWholeFile pic file → IsSplice (length copies) parts file
+    → (station : PartialPicture) → TookInTheEnd station files → IsSettled station → picture_of station ≡ pic

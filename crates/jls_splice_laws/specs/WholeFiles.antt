@@ -1,0 +1,19 @@
+-- Undamaged files of a picture.
+use Rattle.std.specs.Prelude.{ℕ, ◌<◌, List, length}
+use Rattle.std.specs.List.{AllByRecursion}
+use Rattle.jls_picture.specs.Picture.{WholePicture}
+use Rattle.jls_headline.specs.ReadsAs.{ReadsAs}
+use Rattle.jls_headline.specs.Survives.{Survives}
+use Rattle.jls_splice_laws.specs.Faultless.{NoPieceIsFaulty, IsFaultless}
+
+-- the bytes are a file without a fault that reads as the picture
+pub record IsWholeFile (pic : WholePicture) (file : List ℕ) : Type 0 where
+  pub bytes : AllByRecursion (λ b. b < 256) file
+  pub reads : ReadsAs file pic
+  pub faultless : IsFaultless file
+
+-- Each line of a picture survives in a file that reads as it and has no faulty piece, whatever ended the file
+abbrev pub WholeFilesSurvive : Type 0
+WholeFilesSurvive =
+    (pic : WholePicture) (file : List ℕ) → AllByRecursion (λ b. b < 256) file → ReadsAs file pic → NoPieceIsFaulty file
+    → (component line : ℕ) → component < length pic.shape.ids → line < pic.shape.height → Survives pic file component line
