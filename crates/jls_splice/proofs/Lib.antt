@@ -1,0 +1,4 @@
+mod Paths
+mod Fronts
+mod FaultlessFiles
+mod Searching

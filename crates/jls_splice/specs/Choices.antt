@@ -1,0 +1,33 @@
+-- Choices of ways, part by part, and the bytes that they make.
+use Rattle.std.specs.Prelude.{◌≡◌, ℕ, ◌<◌, List, [], ◌∷◌, ◌++◌, length, get_or}
+use Rattle.jls_parts.specs.Parts.{Part, Same, Differ, way}
+
+-- the bytes that these choices make of the first parts, as many as there are choices
+abbrev pub front_of : List Part → List ℕ → List ℕ
+front_of parts [] = []
+front_of [] (choice ∷ choices) = []
+front_of (part ∷ parts) (choice ∷ choices) = way choice part ++ front_of parts choices
+
+-- no way before this one has the same bytes
+abbrev pub IsNew : List (List ℕ) → ℕ → Type 0
+IsNew ways choice = (other : ℕ) → other < choice → get_or ways other [] ≡ get_or ways choice [] → ⊥
+
+-- the choice is a way of the part, and the first with its bytes
+abbrev pub IsFirstWay : Part → ℕ → Type 0
+IsFirstWay (Same bytes) choice = choice ≡ 0
+IsFirstWay (Differ ways) choice = (choice < length ways) × IsNew ways choice
+
+-- such a choice for each of the first parts
+abbrev pub IsPath : List Part → List ℕ → Type 0
+IsPath parts [] = Unit {0}
+IsPath [] (choice ∷ choices) = ⊥
+IsPath (part ∷ parts) (choice ∷ choices) = IsFirstWay part choice × IsPath parts choices
+
+-- and for each part
+abbrev pub IsWhole : List Part → List ℕ → Type 0
+IsWhole parts choices = IsPath parts choices × (length choices ≡ length parts)
+
+-- some copy has something there, were it nothing
+abbrev pub HasSomeWay : Part → Type 0
+HasSomeWay (Same bytes) = Unit {0}
+HasSomeWay (Differ ways) = 0 < length ways

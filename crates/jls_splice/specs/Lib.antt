@@ -1,0 +1,4 @@
+pub mod Choices
+pub mod Order
+pub mod Faultless
+pub mod Search

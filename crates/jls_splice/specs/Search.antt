@@ -1,0 +1,63 @@
+-- What a search has found, and what it has still to come to.
+use Rattle.std.specs.Prelude.{◌≡◌, ℕ, ◌-◌, ◌^◌, ◌<◌, ◌≤◌, Bool, true, false, List, length, map, ◌⊎◌}
+use Rattle.std.specs.List.{AllByRecursion, Contains}
+use Rattle.std.specs.declared.vec.Vec.{Vec}
+use Rattle.std.specs.declared.alloc.Global.{Global}
+use Rattle.jls_parts.specs.Parts.{Part, HasWays, IsSplice}
+use Rattle.jls_splice.specs.Choices.{IsPath, IsWhole, front_of}
+use Rattle.jls_splice.specs.Faultless.{IsFaultless}
+use Rattle.jls_splice.specs.Order.{IsToCome, IsBehind}
+use Rattle.jls_splice.specs.declared.looking.Sight.{Sight}
+use Rattle.jls_splice.specs.declared.looking.Sight.TheVariants.{Dead, Open, Found}
+
+-- each splice of so many copies that is a file without a fault is among these files
+abbrev pub HasEachSplice : List Part → List (List ℕ) → Type 0
+HasEachSplice parts files =
+    (count : ℕ) → 0 < count → AllByRecursion (HasWays count) parts → (bytes : List ℕ) → AllByRecursion (λ b. b < 256) bytes
+    → IsSplice count parts bytes → IsFaultless bytes → Contains files bytes
+
+-- each of these choices is one for each part, and makes a file without a fault
+abbrev pub MakeFiles : List Part → List (List ℕ) → Type 0
+MakeFiles parts found = AllByRecursion (λ choices. IsWhole parts choices × IsFaultless (front_of parts choices)) found
+
+-- the files that they make
+abbrev pub files_of : List Part → List (List ℕ) → List (List ℕ)
+files_of parts found = map (front_of parts) found
+
+-- the bytes that choices make are never more than a reader takes
+abbrev pub IsShort : List Part → Type 0
+IsShort parts = (choices : List ℕ) → IsPath parts choices → length (front_of parts choices) ≤ 2 ^ 63 - 1
+
+-- the lists that the code holds
+abbrev pub lists_of : List (Vec ℕ Global) → List (List ℕ)
+lists_of vs = map (λ v. v.items) vs
+
+-- Inside the crate -------------------------------------------------------------------------------------------------
+
+-- one choice for each part, and together a file without a fault
+pub record MakesFile (parts : List Part) (choices : List ℕ) : Type 0 where
+  pub whole : IsWhole parts choices
+  pub low : AllByRecursion (λ b. b < 256) (front_of parts choices)
+  pub faultless : IsFaultless (front_of parts choices)
+
+-- a search that stands at a path has found each such choices, or they are to come
+pub record StandsAt (parts : List Part) (path : List ℕ) (found : List (List ℕ)) : Type 0 where
+  pub is_path : IsPath parts path
+  pub files : MakeFiles parts found
+  pub all : (choices : List ℕ) → MakesFile parts choices → Contains found choices ⊎ IsToCome path choices
+
+-- a search that is over has found them all
+pub record IsOver (parts : List Part) (found : List (List ℕ)) : Type 0 where
+  pub files : MakeFiles parts found
+  pub all : (choices : List ℕ) → MakesFile parts choices → Contains found choices
+
+-- whether it goes on
+abbrev pub GoesOn : List Part → List ℕ → List (List ℕ) → Bool → Type 0
+GoesOn parts path found true = StandsAt parts path found
+GoesOn parts path found false = IsOver parts found
+
+-- what is seen of a path
+abbrev pub IsSeen : List Part → List ℕ → Sight → Type 0
+IsSeen parts path Dead = (choices : List ℕ) → MakesFile parts choices → IsToCome path choices → IsBehind path choices
+IsSeen parts path Open = length path < length parts
+IsSeen parts path Found = (length path ≡ length parts) × IsFaultless (front_of parts path)

@@ -1,0 +1,86 @@
+//! Files without a fault, and fronts that no such file begins with.
+
+ghost use Rattle.std.specs.Prelude.{◌≡◌, ◌<◌, ◌↔◌, true, false, IsTrue, IfOk, IfSome};
+ghost use Rattle.std.specs.List.{AllByRecursion};
+ghost use Rattle.jls_splice.specs.Faultless.{EndsWell, IsFaultless, IsDead, IsAnswerWithoutFrame};
+
+use jls_copy::{
+    CopyFault, CopyRead, CopyReader, End, final_ends_stay, fronts_stay_broken,
+    records_are_of_faulty_pieces,
+};
+use std::alloc::AllocError;
+
+/// Whether no fault of the headers ended the file.
+fn ends_well(end: End) -> bool
+    ensures { IsTrue result ↔ EndsWell end }
+{
+    match end {
+        End::Eoi(_) => true,
+        End::Input(_) => true,
+        End::Header(_, _) => false,
+    }
+}
+
+/// Whether nothing is wrong with a copy that was read.
+fn is_clean(read: &CopyRead) -> bool
+    ensures clean { result ≡ true → (read.now.piece_count ≡ 0) × EndsWell read.now.ended }
+    ensures not_clean { result ≡ false → (read.now.piece_count ≡ 0) → EndsWell read.now.ended → ⊥ }
+{
+    if read.piece_count() != 0 {
+        return false;
+    }
+    ends_well(read.ended())
+}
+
+/// The answer where no frame was taken. The only refusal is out of memory.
+fn without_frame(fault: CopyFault) -> Result<bool, AllocError>
+    ensures { IfOk result (λ answer. IsAnswerWithoutFrame fault answer) }
+{
+    match fault {
+        CopyFault::NoPicture(_, _) => Ok(false),
+        CopyFault::OutOfMemory => Err(AllocError),
+    }
+}
+
+/// Whether what was fed is a file without a fault, if it ends here. The only refusal is out of memory.
+pub fn is_faultless(reader: CopyReader) -> Result<bool, AllocError>
+    ensures faultless { IfOk result (λ answer. answer ≡ true → IfSome reader (λ bytes. IsFaultless bytes)) }
+    ensures faulty { IfOk result
+        (λ answer. answer ≡ false → IfSome reader (λ bytes. AllByRecursion (λ b. b < 256) bytes → IsFaultless bytes → ⊥)) }
+{
+    records_are_of_faulty_pieces();
+    match reader.finish() {
+        Ok(read) => Ok(is_clean(&read)),
+        Err(fault) => without_frame(fault),
+    }
+}
+
+/// Whether it is a file with a fault.
+fn has_fault(reader: CopyReader) -> Result<bool, AllocError>
+    ensures { IfOk result
+        (λ answer. answer ≡ true → IfSome reader (λ bytes. AllByRecursion (λ b. b < 256) bytes → IsFaultless bytes → ⊥)) }
+{
+    let faultless = is_faultless(reader)?;
+    if faultless {
+        return Ok(false);
+    }
+    Ok(true)
+}
+
+/// Whether no file without a fault begins with what was fed: the piece in hand is broken, or the copy has ended and has a fault. `false`
+/// says nothing. The only refusal is out of memory.
+pub fn is_dead(reader: CopyReader) -> Result<bool, AllocError>
+    ensures { IfOk result (λ dead. dead ≡ true → IfSome reader (λ front. IsDead front)) }
+{
+    fronts_stay_broken();
+    final_ends_stay();
+    let broken = reader.is_piece_broken();
+    if broken {
+        return Ok(true);
+    }
+    let done = reader.is_done();
+    if done {
+        return has_fault(reader);
+    }
+    Ok(false)
+}

@@ -1,0 +1,49 @@
+//! Splices and their fronts, fed to a reader of copies.
+
+ghost use Rattle.std.specs.Prelude.{◌≡◌, ℕ, ◌+◌, ◌-◌, ◌^◌, ◌<◌, ◌≤◌, [], length, get_or, OnOk, IfSome};
+ghost use Rattle.jls_copy.specs.ReadCopy.{after};
+ghost use Rattle.jls_parts.specs.PartsOf.{part_of, parts_of};
+ghost use Rattle.jls_parts.specs.Parts.{Same, way};
+ghost use Rattle.jls_splice.specs.Choices.{IsFirstWay, IsPath, front_of};
+
+use jls_copy::CopyReader;
+use jls_parts::Part;
+use std::alloc::AllocError;
+
+/// What a choice takes of a part.
+fn way_of<'a>(part: &Part<'a>, choice: usize) -> &'a [u8]
+    requires { IsFirstWay (part_of part.now) choice }
+    ensures { result.now ≡ way choice (part_of part.now) }
+{
+    match part {
+        Part::Same(bytes) => bytes,
+        Part::Differ(ways) => ways[choice],
+    }
+}
+
+/// The same, of the part at this place.
+fn way_at<'a>(parts: &[Part<'a>], place: usize, choice: usize) -> &'a [u8]
+    requires place { place < length parts.now }
+    requires choice { IsFirstWay (get_or (parts_of parts.now) place (Same [])) choice }
+    ensures { result.now ≡ way choice (get_or (parts_of parts.now) place (Same [])) }
+{
+    way_of(&parts[place], choice)
+}
+
+/// Feeds what the choices make of the first parts, part by part, as slices of the copies: a whole splice, where there is a choice for
+/// each part. No memory is taken for it. Where the reader refuses memory, it refuses all further bytes.
+pub fn feed_front(
+    reader: &mut CopyReader,
+    parts: &[Part<'_>],
+    choices: &[usize],
+) -> Result<(), AllocError>
+    requires path { IsPath (parts_of parts.now) choices.now }
+    requires few { IfSome reader.old
+        (λ bytes. length bytes + length (front_of (parts_of parts.now) choices.now) ≤ 2 ^ 63 - 1) }
+    ensures { OnOk result (reader.new ≡ after reader.old (front_of (parts_of parts.now) choices.now)) }
+{
+    for place in 0..choices.len() {
+        reader.feed(way_at(parts, place, choices[place]))?;
+    }
+    Ok(())
+}

@@ -1,0 +1,12 @@
+//! Splices of copies: files each of whose stretches is what one of the copies has there, and the search for those without a fault.
+#![tactic(auto)]
+
+mod faultless;
+mod feeding;
+mod looking;
+mod path;
+mod whole_search;
+
+pub use faultless::{is_dead, is_faultless};
+pub use feeding::feed_front;
+pub use whole_search::{MOST_FOUND, Searched, search};
