@@ -53,14 +53,16 @@ pub struct HostFiles<'a> {
     guarded: Option<Name>,
 }
 
-/// The first bytes of a file.
+/// The first two bytes of a regular file, each of one read; zeros where there is none. A read that fails isn't made again.
 fn front(rt: &HostRuntime, name: &str) -> io::Result<[u8; 2]> {
-    let mut front = [0; 2];
+    let mut first = [0; 1];
+    let mut second = [0; 1];
     if fs::metadata(rt, name)?.is_file() {
         let mut file = File::open(rt, name)?;
-        file.read_exact(&mut front)?;
+        file.read(&mut first)?;
+        file.read(&mut second)?;
     }
-    Ok(front)
+    Ok([first[0], second[0]])
 }
 
 /// The folder that a name stands in.
