@@ -12,4 +12,5 @@ pub use laws::{
     inputs_are_behind_status_3, refused_runs_create_nothing, unsettled_writes_stop,
     want_of_memory_is_told, words_are_behind_status_2,
 };
+pub use printing::{print_not_created, print_not_replaced};
 pub use program::run;

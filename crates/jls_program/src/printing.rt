@@ -1,21 +1,25 @@
 //! The lines on the fault output. A write that fails there is ignored: there is nowhere left to say so.
 
-ghost use Rattle.std.specs.Prelude.{◌≡◌, ◌++◌, codes, decimal};
-ghost use Rattle.jls_device.specs.Event.{GrewBy};
+ghost use Rattle.std.specs.Prelude.{◌≡◌, ◌++◌, ℕ, List, codes, decimal};
+ghost use Rattle.jls_device.specs.Event.{GrewBy, History};
 ghost use Rattle.jls_marker.specs.Faults.{fault_number};
 ghost use Rattle.jls_device.specs.Writing.{Printed};
+ghost use Rattle.jls_station.specs.declared.outcome.Cause.TheVariants as cause;
 ghost use Rattle.jls_station.specs.declared.outcome.Outcome.TheVariants.{Refused};
-ghost use Rattle.jls_program.specs.FaultLines.{cause_line, input_fault_line, text_fault_line, fault_line, no_picture_line, out_of_memory_line, unknown_value_line, unsettled_line};
-ghost use Rattle.jls_program.specs.Lines.{bytes_of, digits_of, PrintsOn};
+ghost use Rattle.jls_program.specs.FaultLines.{cause_line, input_fault_line, text_fault_line, fault_line, no_picture_line, not_replaced_line, out_of_memory_line, unknown_value_line, unsettled_line};
+ghost use Rattle.jls_printing.specs.Handing.{HandedBut};
+ghost use Rattle.jls_printing.specs.Names.{shown_name};
+ghost use Rattle.jls_program.specs.Lines.{bytes_of, digits_of};
 
 use itoa::Buffer;
-use jls_device::{Sink, write_all};
+use jls_device::Sink;
 use jls_marker::MarkerFault;
 use jls_partial::TextFault;
+use jls_printing::{Pending, flush, put, put_name};
 use jls_station::{Cause, InputFault, Outcome, Refusal};
 
 /// A line by its parts: the name of an input or output, a text, a number, more text, a second number, and the end. The
-/// program's name stands before them.
+/// program's name stands before them. The name is shown without control characters.
 #[derive(Clone, Copy)]
 struct Line<'a> {
     name: &'a str,
@@ -28,7 +32,7 @@ struct Line<'a> {
 
 /// A line without a number.
 fn plain<'a>(name: &'a str, text: &'static str) -> Line<'a>
-    ensures { bytes_of result ≡ codes "jls-salvage: " ++ (name.now ++ (text.now ++ codes "\n")) }
+    ensures { bytes_of result ≡ codes "jls-salvage: " ++ (shown_name name.now ++ (text.now ++ codes "\n")) }
 {
     Line {
         name,
@@ -42,7 +46,7 @@ fn plain<'a>(name: &'a str, text: &'static str) -> Line<'a>
 
 /// A line with a number at its end.
 fn numbered<'a>(name: &'a str, text: &'static str, number: u64) -> Line<'a>
-    ensures { bytes_of result ≡ codes "jls-salvage: " ++ (name.now ++ (text.now ++ (decimal number ++ codes "\n"))) }
+    ensures { bytes_of result ≡ codes "jls-salvage: " ++ (shown_name name.now ++ (text.now ++ (decimal number ++ codes "\n"))) }
 {
     Line {
         name,
@@ -141,65 +145,67 @@ fn line_of_cause<'a>(name: &'a str, cause: Cause) -> Line<'a>
     }
 }
 
-/// Prints some bytes, unless a write has failed before. The answer is whether all writes went well.
-fn print_more<E: Sink>(faults: &mut E, goes_on: bool, bytes: &[u8]) -> bool
-    ensures { PrintsOn goes_on bytes.now result (E.history faults.old) (E.history faults.new) }
+/// Puts a number in decimal, if there is one.
+fn put_number<E: Sink>(faults: &mut E, pending: &mut Pending, number: Option<u64>)
+    ensures { (line : List ℕ) (before : History) → HandedBut line pending.old.went pending.old.bytes.items before (E.history faults.old)
+        → HandedBut (line ++ digits_of number) pending.new.went pending.new.bytes.items before (E.history faults.new) }
 {
-    if !goes_on {
-        return false;
-    }
-    match write_all(faults, bytes) {
-        Ok(()) => true,
-        Err(_) => false,
-    }
-}
-
-/// Prints a number in decimal, if there is one.
-fn print_number<E: Sink>(faults: &mut E, goes_on: bool, number: Option<u64>) -> bool
-    ensures { PrintsOn goes_on (digits_of number) result (E.history faults.old) (E.history faults.new) }
-{
-    match number {
-        Some(number) => {
-            let mut buffer = Buffer::new();
-            let digits = buffer.format(number).as_bytes();
-            print_more(faults, goes_on, digits)
-        }
-        None => goes_on,
+    if let Some(number) = number {
+        let mut buffer = Buffer::new();
+        put(faults, pending, buffer.format(number).as_bytes());
     }
 }
 
 fn print_line<E: Sink>(faults: &mut E, line: &Line<'_>)
     ensures { GrewBy (Printed (bytes_of line.now)) (E.history faults.old) (E.history faults.new) }
 {
-    let name = line.name.as_bytes();
-    let text = line.text.as_bytes();
-    let between = line.between.as_bytes();
-    let end = line.end.as_bytes();
-    let program_went = print_more(faults, true, b"jls-salvage: ");
-    let name_went = print_more(faults, program_went, name);
-    let text_went = print_more(faults, name_went, text);
-    let number_went = print_number(faults, text_went, line.number);
-    let between_went = print_more(faults, number_went, between);
-    let second_went = print_number(faults, between_went, line.second);
-    let _end_went = print_more(faults, second_went, end);
+    let mut pending = Pending::new();
+    put(faults, &mut pending, b"jls-salvage: ");
+    put_name(faults, &mut pending, line.name);
+    put(faults, &mut pending, line.text.as_bytes());
+    put_number(faults, &mut pending, line.number);
+    put(faults, &mut pending, line.between.as_bytes());
+    put_number(faults, &mut pending, line.second);
+    put(faults, &mut pending, line.end.as_bytes());
+    flush(faults, &mut pending);
 }
 
 /// Prints a text to the fault output.
 pub(crate) fn print_text<E: Sink>(faults: &mut E, text: &str)
     ensures { GrewBy (Printed text.now) (E.history faults.old) (E.history faults.new) }
 {
-    let bytes = text.as_bytes();
-    let _went = print_more(faults, true, bytes);
+    let mut pending = Pending::new();
+    put(faults, &mut pending, text.as_bytes());
+    flush(faults, &mut pending);
 }
 
-/// Prints that an option has a value which it doesn't take.
-pub(crate) fn print_unknown_value<E: Sink>(faults: &mut E)
-    ensures { GrewBy (Printed unknown_value_line) (E.history faults.old) (E.history faults.new) }
+/// Prints that an option has a value which it doesn't take: the interleave mode where the format is known, else the format.
+pub(crate) fn print_unknown_value<E: Sink>(faults: &mut E, format_is_known: bool)
+    ensures { GrewBy (Printed (unknown_value_line format_is_known)) (E.history faults.old) (E.history faults.new) }
+{
+    let text = if format_is_known {
+        "--ilv takes none or line"
+    } else {
+        "--as takes jls or pnm"
+    };
+    print_line(faults, &plain("", text));
+}
+
+/// Prints that the output of this name could not be created.
+pub fn print_not_created<E: Sink>(faults: &mut E, name: &str)
+    ensures { GrewBy (Printed (cause_line name.now cause.NotCreated)) (E.history faults.old) (E.history faults.new) }
+{
+    print_line(faults, &plain(name, ": cannot be created"));
+}
+
+/// Prints why a join did not create the output of this name: it would replace a JPEG file.
+pub fn print_not_replaced<E: Sink>(faults: &mut E, name: &str)
+    ensures { GrewBy (Printed (not_replaced_line name.now)) (E.history faults.old) (E.history faults.new) }
 {
     print_line(
         faults,
-        &plain("", "unknown value, see jls-salvage write --help"),
-    )
+        &plain(name, " is a JPEG file, and join does not replace one"),
+    );
 }
 
 /// Prints that memory ran out.

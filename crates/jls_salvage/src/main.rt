@@ -1,7 +1,9 @@
 //! Salvages JPEG-LS pictures: the program `jls-salvage`.
 #![tactic(auto)]
 
-use jls_device::{Counted, HostFiles};
+use jls_device::{Counted, Sink};
+use jls_host::{Guard, HostFiles, ending_of_run, hold_streams};
+use jls_program::{print_not_created, print_not_replaced, run};
 use std::io;
 use std::process::ExitCode;
 
@@ -22,15 +24,37 @@ fn refuse_words(rt: &HostRuntime, error: &io::Error) -> u8 {
     status
 }
 
+/// A join replaces no JPEG file.
+fn guard(words: &[String]) -> Guard {
+    match words {
+        [_, command, ..] if command.as_str() == "join" => Guard::Jpeg,
+        _ => Guard::Nothing,
+    }
+}
+
 /// Hands the program its words, a desk over files and standard streams, standard output as its report and standard
-/// error for its faults, and ends with its answer.
+/// error for its faults; ends the output; and ends with the answer, or with 4 where the output could not be kept.
 fn main(rt: HostRuntime) -> ExitCode {
+    let _streams = hold_streams(&rt);
     let words = match words(&rt) {
         Ok(words) => words,
         Err(error) => return ExitCode::from(refuse_words(&rt, &error)),
     };
-    let mut desk = Counted::closed(HostFiles::new(&rt));
+    let mut files = HostFiles::new(&rt, guard(&words));
     let mut report = Counted::new(rt.stdout());
     let mut faults = Counted::new(rt.stderr());
-    ExitCode::from(jls_program::run(rt.alloc(), &words, &mut desk, &mut report, &mut faults))
+    let mut desk = Counted::closed(&mut files);
+    let status = run(rt.alloc(), &words, &mut desk, &mut report, &mut faults);
+    let ending = ending_of_run(status, desk.write_failures());
+    drop(desk);
+    if let Some(name) = files.guarded() {
+        print_not_replaced(&mut faults, name);
+    }
+    match files.end(ending) {
+        Ok(()) => ExitCode::from(status),
+        Err(name) => {
+            print_not_created(&mut faults, name.as_str());
+            ExitCode::from(4)
+        }
+    }
 }

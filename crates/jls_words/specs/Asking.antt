@@ -1,5 +1,5 @@
 -- What the words of a command line ask for.
-use Rattle.std.specs.Prelude.{◌≡◌, ℕ, Bool, true, false, List, ◌∷◌, Option, Some, None, map, codes, if◌then◌else◌, option_map, option_and_then}
+use Rattle.std.specs.Prelude.{◌≡◌, ℕ, Bool, true, false, List, ◌∷◌, Option, Some, None, map, codes, if◌then◌else◌, option_map, option_and_then, unwrap_or}
 use Rattle.std.specs.Str.{bytes_eq}
 use Rattle.std.specs.Str.Parse.{digits_value, without_leading_plus}
 use Rattle.clap.specs.ValueTests.{is_unsigned_in}
@@ -58,6 +58,11 @@ asked_write (Some format) (Some options) (Some out) (Some file) =
     else None
 asked_write _ _ _ _ = None
 
+-- whether the value of `--as` is a format that there is
+abbrev pub is_format : Option Text → Bool
+is_format None = false
+is_format (Some format) = if bytes_eq format (codes "pnm") then true else bytes_eq format (codes "jls")
+
 -- ---- by what clap reads
 
 -- the command of this name, whose arguments have these values, asks for this
@@ -75,6 +80,10 @@ asked_by name rows =
 -- what the words ask for, by the command that clap reads in them
 abbrev pub asked_in : List Text → Option Asked
 asked_in words = option_and_then (λ p. asked_by p.0 p.1) (subcommand_of salvage_app words)
+
+-- whether the words name a format that there is
+abbrev pub format_is_known : List Text → Bool
+format_is_known words = unwrap_or (option_map (λ p. is_format (first_of (codes "as") p.1)) (subcommand_of salvage_app words)) false
 
 -- clap takes the words, and they ask for this
 pub record AskFor (words : List Text) (a : Asked) : Type 0 where
