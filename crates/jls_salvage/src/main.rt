@@ -1,7 +1,8 @@
 //! Salvages JPEG-LS pictures: the program `jls-salvage`.
 #![tactic(auto)]
 
-use jls_device::{Counted, HostFiles};
+use jls_device::{Counted, Sink};
+use jls_host::{Guard, HostFiles, ending_of_run, hold_streams};
 use std::io;
 use std::process::ExitCode;
 
@@ -22,15 +23,43 @@ fn refuse_words(rt: &HostRuntime, error: &io::Error) -> u8 {
     status
 }
 
+/// A join replaces no JPEG file.
+fn guard(words: &[String]) -> Guard {
+    match words.get(1) {
+        Some(command) if command.as_str() == "join" => Guard::Jpeg,
+        _ => Guard::Nothing,
+    }
+}
+
+/// Ends the output after a run with this status, and gives the exit status: 4 where the output could not be kept. Says why a join did
+/// not create its output, if that is a JPEG file.
+fn end_output(rt: &HostRuntime, files: &mut HostFiles<'_>, status: u8, failures: u64) -> u8 {
+    if let Some(name) = files.guarded() {
+        let _ = eprintln!(rt; "jls-salvage: {name} is a JPEG file, and join does not replace one");
+    }
+    match files.end(ending_of_run(status, failures)) {
+        Ok(()) => status,
+        Err(name) => {
+            let _ = eprintln!(rt; "jls-salvage: {}: cannot be created", name.as_str());
+            4
+        }
+    }
+}
+
 /// Hands the program its words, a desk over files and standard streams, standard output as its report and standard
-/// error for its faults, and ends with its answer.
+/// error for its faults; ends the output; and ends with the answer.
 fn main(rt: HostRuntime) -> ExitCode {
+    let _streams = hold_streams(&rt);
     let words = match words(&rt) {
         Ok(words) => words,
         Err(error) => return ExitCode::from(refuse_words(&rt, &error)),
     };
-    let mut desk = Counted::closed(HostFiles::new(&rt));
+    let mut files = HostFiles::new(&rt, guard(&words));
     let mut report = Counted::new(rt.stdout());
     let mut faults = Counted::new(rt.stderr());
-    ExitCode::from(jls_program::run(rt.alloc(), &words, &mut desk, &mut report, &mut faults))
+    let mut desk = Counted::closed(&mut files);
+    let status = jls_program::run(rt.alloc(), &words, &mut desk, &mut report, &mut faults);
+    let failures = desk.write_failures();
+    drop(desk);
+    ExitCode::from(end_output(&rt, &mut files, status, failures))
 }

@@ -1,0 +1,25 @@
+-- How an output is made, and what becomes of it.
+use Rattle.std.specs.Prelude.{◌==◌, ◌&&◌, ◌||◌, ℕ, Bool, true, false, if◌then◌else◌, not}
+use Rattle.jls_host.specs.declared.choice.Standing.{Standing}
+use Rattle.jls_host.specs.declared.choice.Standing.TheVariants.{Absent, Regular, Other}
+use Rattle.jls_host.specs.declared.choice.Way.{Way}
+use Rattle.jls_host.specs.declared.choice.Way.TheVariants.{Beside, Straight, Refused}
+use Rattle.jls_host.specs.declared.choice.Ending.{Ending}
+use Rattle.jls_host.specs.declared.choice.Ending.TheVariants.{Keep, Drop}
+
+-- a guarded file is left alone; where nothing stands at the name, or a regular file that opens for writing, a file beside it is made; a
+-- regular file that does not open is left alone; and all else is written straight
+abbrev pub way_of : Standing → Bool → Bool → Way
+way_of standing opens true = Refused
+way_of Absent opens false = Beside
+way_of (Regular mode) true false = Beside
+way_of (Regular mode) false false = Refused
+way_of Other opens false = Straight
+
+-- kept where no write failed and memory did not run out
+abbrev pub ending_of : ℕ → ℕ → Ending
+ending_of status write_failures = if (write_failures == 0) && not (status == 5) then Keep else Drop
+
+-- FF D8 or FF FF
+abbrev pub is_jpeg_front : ℕ → ℕ → Bool
+is_jpeg_front first second = (first == 0xFF) && ((second == 0xD8) || (second == 0xFF))
