@@ -16,6 +16,7 @@ mod ReadingTells
 mod CourseTold
 mod DataBytes
 mod Stretches
+mod Idle
 mod StretchEnds
 mod Gathering
 mod CutOutcomes
@@ -26,3 +27,4 @@ pub mod ScansOfCourse
 pub mod BytesDecide
 pub mod FinalEnds
 mod TellingLaws
+mod Fronts

@@ -20,3 +20,4 @@ pub mod Conclusion
 pub mod CopyReads
 pub mod TellingLaws
 pub mod CopyLaws
+pub mod Fronts

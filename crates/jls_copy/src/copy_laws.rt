@@ -1,6 +1,7 @@
 //! The laws of what a copy gives. Each is a function that does nothing and whose contract is the law.
 
 ghost use Rattle.jls_copy.specs.CopyLaws.{BytesDecide, FinalEndsStay};
+ghost use Rattle.jls_copy.specs.Fronts.{FrontsStayBroken};
 ghost use Rattle.jls_copy.specs.TellingLaws.{RecordsAreOfFaultyPieces};
 
 /// A law: what a copy gives, or that it gives no picture and why, is determined by its bytes.
@@ -18,4 +19,9 @@ pub fn final_ends_stay()
 /// why it doesn't; and no other record is counted. The first 4,096 of these records are those that are told.
 pub fn records_are_of_faulty_pieces()
     ensures { RecordsAreOfFaultyPieces }
+{}
+
+/// A law: where the piece in hand is broken whatever follows, each list of bytes that begins so has a faulty piece there.
+pub fn fronts_stay_broken()
+    ensures { FrontsStayBroken }
 {}

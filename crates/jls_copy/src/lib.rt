@@ -7,15 +7,19 @@ mod course_laws;
 mod cut_laws;
 mod cut_search;
 mod end;
+mod fill;
 mod findings;
 mod lanes;
 mod machine;
 mod piece;
+mod piece_decoder;
 mod place;
 mod reader;
 mod scan;
 
-pub use copy_laws::{bytes_decide, final_ends_stay, records_are_of_faulty_pieces};
+pub use copy_laws::{
+    bytes_decide, final_ends_stay, fronts_stay_broken, records_are_of_faulty_pieces,
+};
 pub use course_laws::{
     copies_have_one_course, ends_stand_at_their_offsets, every_copy_has_a_course,
     pieces_stand_at_their_offsets,

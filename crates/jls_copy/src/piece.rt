@@ -1,11 +1,13 @@
 //! Pieces of scan data.
 
-ghost use Rattle.std.specs.Prelude.{◌≡◌, ◌∷◌, [], ◌<◌, ◌^◌, OnOk, IfOk};
+ghost use Rattle.std.specs.Prelude.{◌≡◌, ◌∷◌, [], ◌<◌, ◌^◌, OnOk, IfOk, true};
+ghost use Rattle.jls_copy.specs.Fronts.{OpenReadsNoMore};
 ghost use Rattle.jls_marker.specs.Scan.{intervals};
 ghost use Rattle.jls_copy.specs.Numbers.{numbered};
 ghost use Rattle.jls_copy.specs.ReaderState.{piece_opened, piece_with};
 ghost use Rattle.jls_copy.specs.Sound.{IsOpenPiece};
 
+use crate::piece_decoder::PieceDecoder;
 use jls_interval::IntervalDecoder;
 use jls_marker::ScanPlan;
 use std::alloc::{AllocError, Global};
@@ -39,7 +41,7 @@ pub struct PieceRecord {
 /// A piece that is told byte after byte, under its number.
 #[derive(Drop)]
 pub(crate) enum OpenPiece {
-    Within(u32, IntervalDecoder),
+    Within(u32, PieceDecoder),
     Beyond(u32),
 }
 
@@ -80,7 +82,7 @@ impl OpenPiece {
             components,
             u32::from(rows),
         );
-        Ok(OpenPiece::Within(number, decoder))
+        Ok(OpenPiece::Within(number, PieceDecoder::new(alloc, decoder)?))
     }
 
     /// Tells one byte more.
@@ -90,6 +92,16 @@ impl OpenPiece {
         match self {
             OpenPiece::Within(_, decoder) => decoder.push(byte),
             OpenPiece::Beyond(_) => Ok(()),
+        }
+    }
+
+    /// Whether it is known to read as no lines, whatever follows. `false` says nothing.
+    pub(crate) fn reads_no_more(&self) -> bool
+        ensures { result ≡ true → OpenReadsNoMore self.now }
+    {
+        match self {
+            OpenPiece::Within(_, decoder) => decoder.reads_no_more(),
+            OpenPiece::Beyond(_) => true,
         }
     }
 

@@ -1,7 +1,8 @@
 //! One copy of a picture, fed in slices of any size.
 
 ghost use Rattle.std.specs.Prelude.{◌≡◌, ◌+◌, ◌-◌, ◌≤◌, ◌<◌, ◌^◌, ◌∷◌, [], length, Some, None, IfSome, OnOk, OnErr, IsOk, IsSome};
-ghost use Rattle.std.specs.Prelude.{IsErr, IfOk, IfErr, IfNone, take};
+ghost use Rattle.std.specs.Prelude.{IsErr, IfOk, IfErr, IfNone, take, true};
+ghost use Rattle.jls_copy.specs.Fronts.{IsPieceBroken};
 ghost use Rattle.jls_copy.specs.ReadCopy.{after};
 ghost use Rattle.jls_copy.specs.Conclusion as reader;
 ghost use Rattle.jls_copy.specs.CopyReads as copy;
@@ -210,6 +211,17 @@ impl CopyReader {
         ensures { IfSome self.now (λ bytes. IsDone bytes result) }
     {
         is_final(&self.machine.place)
+    }
+
+    /// Whether the piece in hand is known to be broken, whatever follows: then each list of bytes that begins with those fed so far has a
+    /// faulty piece there (`fronts_stay_broken`). `false` says nothing. No memory is taken.
+    pub fn is_piece_broken(&self) -> bool
+        ensures { result ≡ true → IfSome self.now (λ bytes. IsPieceBroken bytes) }
+    {
+        if self.failed {
+            return false;
+        }
+        self.machine.place.reads_no_more()
     }
 
     /// What the copy gave, if the input ends here. `NoPicture` comes if no frame was taken: with the fault that ended the copy and

@@ -42,3 +42,4 @@ pub mod WrittenRuns
 pub mod EncodedEvents
 pub mod EncodedStretches
 pub mod EncodedLines
+pub mod NoMore

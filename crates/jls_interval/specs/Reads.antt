@@ -33,6 +33,11 @@ pub record IsBroken (p : CodingParameters) (width components count : ℕ) (piece
   pub not_read : (lines : List (List ℕ)) → Reads p width components count piece lines → ⊥
   pub not_long : IsLong p width components count piece → ⊥
 
+-- whatever bytes follow these, they read as no lines
+abbrev pub ReadsNoMore : CodingParameters → ℕ → ℕ → ℕ → List ℕ → Type 0
+ReadsNoMore p width components count bytes =
+    (more : List ℕ) (lines : List (List ℕ)) → Reads p width components count (bytes ++ more) lines → ⊥
+
 -- the bytes that lines are written as
 abbrev pub packed : CodingParameters → ℕ → ℕ → List (List ℕ) → List ℕ
 packed p width components lines = pad (code p width components lines)

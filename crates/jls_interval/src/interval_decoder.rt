@@ -5,7 +5,7 @@ ghost use Rattle.std.specs.Option.{option_map};
 ghost use Rattle.jls_bits.specs.Bits.{bits_read, is_whole};
 ghost use Rattle.std.specs.List.{AllByRecursion};
 ghost use Rattle.jls_values.specs.Params.{AreCodingParameters, CodingParameters};
-ghost use Rattle.jls_interval.specs.Reads.{Reads};
+ghost use Rattle.jls_interval.specs.Reads.{Reads, ReadsNoMore};
 ghost use Rattle.jls_interval.specs.PieceFaults.{OutcomeIs};
 ghost use Rattle.jls_interval.specs.CutEnds.{CutEndIs};
 ghost use Rattle.jls_interval.specs.Decoding.{GivesBack, HasShape, IsReading};
@@ -217,6 +217,25 @@ impl IntervalDecoder {
                 self.refused = true;
                 Err(AllocError)
             }
+        }
+    }
+
+    /// Whether the bytes so far are known to read as no lines, whatever follows. `false` says nothing; after a refused push it is
+    /// `false`. No memory is taken.
+    pub fn reads_no_more(&self) -> bool
+        ensures { result ≡ true → IfSome self.now.bytes
+            (λ bytes. ReadsNoMore self.now.parameters self.now.width self.now.components (self.now.rows * self.now.components) bytes) }
+    {
+        if self.refused {
+            return false;
+        }
+        if self.ended {
+            return true;
+        }
+        match self.reader.state {
+            State::Working => false,
+            State::Dead => true,
+            State::Over(extra) => extra > 7,
         }
     }
 

@@ -1,0 +1,47 @@
+-- Fronts of copies, and the piece in hand where one ends: the piece that the front's end closes, if the input ends there.
+use Rattle.std.specs.Prelude.{◌≡◌, ℕ, ◌*◌, ◌<◌, List, ◌++◌, IfSome}
+use Rattle.std.specs.List.{AllByRecursion, Contains}
+use Rattle.jls_interval.specs.Reads.{ReadsNoMore}
+use Rattle.jls_marker.specs.Scan.{Scan}
+use Rattle.jls_copy.specs.Numbers.{PieceNumber}
+use Rattle.jls_copy.specs.Course.{Course, IsCourse}
+use Rattle.jls_copy.specs.Pieces.{FoundPiece, Lines, IsOutcomeAt, IsOutcome, pieces}
+use Rattle.jls_copy.specs.CutPieces.{cut_pieces}
+use Rattle.jls_copy.specs.declared.piece.OpenPiece.{OpenPiece}
+use Rattle.jls_copy.specs.declared.piece.OpenPiece.TheVariants.{Within, Beyond}
+use Rattle.jls_copy.specs.declared.place.Place.{Place}
+use Rattle.jls_copy.specs.declared.place.Place.TheVariants.{Start, AtMarker, AtLength, InLength, InPayload, InScan, Done}
+
+-- whatever bytes follow these, they read as no lines of this number of a scan
+abbrev pub NeverReads : Scan → PieceNumber → List ℕ → Type 0
+NeverReads s n bytes = (more : List ℕ) (lines : List (List ℕ)) → IsOutcomeAt s n (bytes ++ more) (Lines lines) → ⊥
+
+-- the piece in hand is broken, whatever follows
+pub record IsPieceBroken (front : List ℕ) : Type 0 where
+  pub course : Course
+  pub is_course : IsCourse front course
+  pub piece : FoundPiece
+  pub in_hand : Contains (cut_pieces course) piece
+  pub broken : NeverReads piece.plan piece.number piece.bytes
+
+-- Then each list of bytes that begins with the front has a faulty piece, where that one stood
+abbrev pub FrontsStayBroken : Type 0
+FrontsStayBroken =
+    (front more : List ℕ) → AllByRecursion (λ b. b < 256) (front ++ more)
+    → (broken : IsPieceBroken front) → (c : Course) → IsCourse (front ++ more) c
+    → (p : FoundPiece) × Contains (pieces c) p × (p.plan ≡ broken.piece.plan) × (p.number ≡ broken.piece.number)
+    × (p.offset ≡ broken.piece.offset) × ((lines : List (List ℕ)) → IsOutcome p (Lines lines) → ⊥)
+
+-- Inside the crate. An open piece reads as no lines, whatever follows
+abbrev pub OpenReadsNoMore : OpenPiece → Type 0
+OpenReadsNoMore (Within k d) = IfSome d.bytes (λ bytes. ReadsNoMore d.parameters d.width d.components (d.rows * d.components) bytes)
+OpenReadsNoMore (Beyond k) = Unit {0}
+
+abbrev pub PlaceReadsNoMore : Place → Type 0
+PlaceReadsNoMore (Start fill) = ⊥
+PlaceReadsNoMore (AtMarker fill) = ⊥
+PlaceReadsNoMore (AtLength marker code) = ⊥
+PlaceReadsNoMore (InLength marker code high) = ⊥
+PlaceReadsNoMore (InPayload marker code size) = ⊥
+PlaceReadsNoMore (InScan scan) = OpenReadsNoMore scan.piece
+PlaceReadsNoMore (Done e) = ⊥
