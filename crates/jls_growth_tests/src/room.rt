@@ -1,0 +1,117 @@
+//! Devices in memory that reserve beforehand, and grow nothing.
+
+use jls_device::Open;
+use std::alloc::{AllocError, Global};
+use std::io;
+use std::io::{Read, Write};
+
+/// A writer into memory that was reserved.
+#[derive(Drop)]
+pub struct Room {
+    held: Vec<u8>,
+}
+
+impl Room {
+    /// Room for so many bytes.
+    pub fn of(alloc: Global, count: usize) -> Result<Room, AllocError> {
+        Ok(Room {
+            held: Vec::with_capacity(alloc, count)?,
+        })
+    }
+
+    /// What was written so far.
+    pub fn held(&self) -> &[u8] {
+        self.held.as_slice()
+    }
+}
+
+fn failed() -> io::Error {
+    io::Error::from(io::ErrorKind::Other)
+}
+
+impl Write for Room {
+    fn write(&mut self, bytes: &[u8]) -> io::Result<usize> {
+        if self.held.len().saturating_add(bytes.len()) > self.held.capacity() {
+            return Err(failed());
+        }
+        self.held.extend_from_slice(bytes)?;
+        Ok(bytes.len())
+    }
+
+    fn flush(&mut self) -> io::Result<()> {
+        Ok(())
+    }
+}
+
+/// An input by its name.
+pub type File<'a> = (&'a str, &'a [u8]);
+
+/// Files in memory: inputs, and room for one output.
+#[derive(Drop)]
+pub struct Files<'a> {
+    files: &'a [File<'a>],
+    rest: &'a [u8],
+    created: u8,
+    output: Room,
+}
+
+impl<'a> Files<'a> {
+    pub fn new(alloc: Global, files: &'a [File<'a>]) -> Result<Files<'a>, AllocError> {
+        Ok(Files {
+            files,
+            rest: &[],
+            created: 0,
+            output: Room::of(alloc, 100_000)?,
+        })
+    }
+
+    /// How many outputs were created.
+    pub fn created(&self) -> u8 {
+        self.created
+    }
+
+    /// What the output took.
+    pub fn output(&self) -> &[u8] {
+        self.output.held()
+    }
+}
+
+impl Read for Files<'_> {
+    fn read(&mut self, into: &mut [u8]) -> io::Result<usize> {
+        let rest = self.rest;
+        let n = rest.len().min(into.len());
+        into[..n].copy_from_slice(&rest[..n]);
+        self.rest = &rest[n..];
+        Ok(n)
+    }
+}
+
+impl Write for Files<'_> {
+    fn write(&mut self, bytes: &[u8]) -> io::Result<usize> {
+        if self.created == 0 {
+            return Err(failed());
+        }
+        self.output.write(bytes)
+    }
+
+    fn flush(&mut self) -> io::Result<()> {
+        Ok(())
+    }
+}
+
+impl Open for &mut Files<'_> {
+    fn open_input(&mut self, name: &str) -> io::Result<()> {
+        for file in self.files {
+            if file.0 == name {
+                self.rest = file.1;
+                return Ok(());
+            }
+        }
+        Err(failed())
+    }
+
+    fn create_output(&mut self, _name: &str) -> io::Result<()> {
+        self.created = self.created.saturating_add(1);
+        Ok(())
+    }
+}
