@@ -26,7 +26,7 @@ use Rattle.jls_copy.specs.Gathers.{Gathers}
 use Rattle.jls_copy.specs.Pieces.{AreOutcomes, readings, records}
 use Rattle.jls_copy.specs.ReaderState.{Step, Reading, reading, reading_with, reading_from, after_byte, step_from, closed_at, segment_taken}
 use Rattle.jls_copy.specs.Machine.{state_of, IsBehind}
-use Rattle.jls_copy.specs.Stretch.{LeadsTo}
+use Rattle.jls_copy.specs.Stretch.{LeadsWith}
 use Rattle.jls_copy.specs.Reader.{IsReading}
 use Rattle.jls_copy.specs.ReadCopy.{after}
 use Rattle.jls_copy.specs.Sound.{IsPlace}
@@ -255,31 +255,33 @@ low_all : (xs ys : List ℕ) → AllByRecursion (λ x. x < 256) xs → AllByRecu
 low_all [] ys h l = l
 low_all (x ∷ xs) ys h l = (h.0, low_all xs ys h.1 l)
 
-behind_on : (p q : Place) (n : ℕ) (more : List ℕ) → IsBehind p n → LeadsTo p more q → IsBehind q (n + length more)
-behind_on p q n [] h leads = rw add-zero (subst (λ place. IsBehind place n) (ap (λ r. r.state.place) (leads 0 no_headers [] [])) h)
-behind_on p q n (b ∷ more) h leads = behind_some q (n + length (b ∷ more)) (omega arith)
+behind_on : (p q : Place) (before after : List ℕ) (n : ℕ) (more : List ℕ) → IsBehind p n → LeadsWith p before more q after
+    → IsBehind q (n + length more)
+behind_on p q before after n [] h leads = rw add-zero (subst (λ place. IsBehind place n) (ap (λ r. r.state.place) (leads 0 no_headers [])) h)
+behind_on p q before after n (b ∷ more) h leads = behind_some q (n + length (b ∷ more)) (omega arith)
 
-pub reading_on : (m n : Machine) (bytes more : List ℕ) → IsReading m bytes → LeadsTo m.place more n.place → n.count ≡ m.count + length more
-    → (n.headers ≡ m.headers) × (n.payload ≡ m.payload) × (n.findings ≡ m.findings)
-    → ((frame : Option PictureShape) (payload : List ℕ) → IsPlace frame m.place payload → IsPlace frame n.place payload)
+pub reading_on : (m n : Machine) (bytes more : List ℕ) → IsReading m bytes
+    → LeadsWith m.place m.payload.items more n.place n.payload.items → n.count ≡ m.count + length more
+    → (n.headers ≡ m.headers) × (n.findings ≡ m.findings)
+    → IsPlace n.headers.frame n.place n.payload.items → length n.payload.items ≤ 65535
     → length bytes + length more ≤ 2 ^ 63 - 1 → AllByRecursion (λ x. x < 256) more → IsReading n (bytes ++ more)
-reading_on m n bytes more h leads count kept sound small low =
+reading_on m n bytes more h leads count kept sound header_bytes small low =
     let all : reading (bytes ++ more) ≡ reading_from (reading bytes) more = from_append _ bytes more in
     let before : reading bytes ≡ record { state = state_of m; pieces = (reading bytes).pieces } = ap (λ s. record { state = s; pieces = (reading bytes).pieces }) (sym h.state_is) in
-    let there = leads m.count m.headers m.payload.items (reading bytes).pieces in
+    let there = leads m.count m.headers (reading bytes).pieces in
     let told : reading (bytes ++ more) ≡ record { state = state_of n; pieces = (reading bytes).pieces } =
-    all ∙ ap (λ r. reading_from r more) before ∙ there ∙ rw (kept.0, kept.1, count) refl in
+    all ∙ ap (λ r. reading_from r more) before ∙ there ∙ rw (kept.0, count) refl in
     record {
       state_is = sym (ap (λ r. r.state) told);
-      gathers = rw (kept.0, kept.2) (subst (λ ps. Gathers m.headers.frame ps m.findings) (sym (ap (λ r. r.pieces) told)) h.gathers);
+      gathers = rw (kept.0, kept.1) (subst (λ ps. Gathers m.headers.frame ps m.findings) (sym (ap (λ r. r.pieces) told)) h.gathers);
       count_is = count ∙ ap (λ k. k + length more) h.count_is ∙ sym (length-append bytes more);
       few = omega (arith, length-append bytes more);
       are_bytes = low_all bytes more h.are_bytes low;
-      place_is = rw (kept.0, kept.1) (sound m.headers.frame m.payload.items h.place_is);
-      behind = rw count (behind_on m.place n.place m.count more h.behind leads);
-      records_counted = rw kept.2 (omega (arith, count, h.records_counted));
-      records_kept = rw kept.2 h.records_kept;
-      header_bytes = rw kept.1 h.header_bytes;
+      place_is = sound;
+      behind = rw count (behind_on m.place n.place m.payload.items n.payload.items m.count more h.behind leads);
+      records_counted = rw kept.1 (omega (arith, count, h.records_counted));
+      records_kept = rw kept.1 h.records_kept;
+      header_bytes = header_bytes;
     }
 
 -- bytes fed in two slices

@@ -16,6 +16,8 @@ mod ReadingTells
 mod CourseTold
 mod DataBytes
 mod Stretches
+mod Idle
+mod PayloadStretch
 mod StretchEnds
 mod Gathering
 mod CutOutcomes

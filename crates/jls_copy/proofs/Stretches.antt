@@ -105,7 +105,7 @@ module _ (scan : OpenScan) (h : HeaderState) (payload : List ℕ) where
 -- a scan that holds nothing back takes a stretch at once
 pub stretch_leads : (scan next : OpenScan) (xs : List ℕ) → scan.held ≡ Nothing → IsStretch xs → next ≡ record scan { piece = piece_with scan.piece xs }
     → LeadsTo (InScan scan) xs (InScan next)
-stretch_leads scan next xs free ok told count h payload ps =
+stretch_leads scan next xs free ok told payload count h ps =
     let before : scan ≡ holding scan Nothing scan.piece = ap (λ held. record scan { held = held }) free in
     let after : next ≡ holding scan Nothing (piece_with scan.piece xs) = told ∙ ap (λ held. record scan { held = held; piece = piece_with scan.piece xs }) free in
     rw after (subst (λ s. reading_from (record { state = record { count = count; place = InScan s; headers = h; payload = payload }; pieces = ps }) xs

@@ -8,11 +8,12 @@ ghost use Rattle.jls_copy.specs.Findings.{Adds, AddsBy, AddsCut, HoldsShape};
 ghost use Rattle.jls_marker.specs.Scan.{intervals};
 ghost use Rattle.jls_copy.specs.Numbers.{number_behind};
 ghost use Rattle.jls_values.specs.Shape.{PictureShape};
-ghost use Rattle.jls_copy.specs.Stretch.{LeadsTo};
+ghost use Rattle.jls_copy.specs.Stretch.{LeadsWith};
 ghost use Rattle.jls_copy.specs.Sound.{IsPlace, IsOpenScan, IsOpenPiece, IsOfFrame};
 
 use crate::end::End;
 use crate::findings::Findings;
+use crate::payload::take_payload;
 use crate::piece::{ClosedBy, OpenPiece, ToldPiece};
 use crate::place::Place;
 use crate::scan::{ByteClass, Held, OpenScan, class_of, next_number};
@@ -330,18 +331,39 @@ impl Machine {
         Ok(())
     }
 
-    /// As many of these bytes as one piece can be told at once. How many is the answer.
-    pub(crate) fn take_stretch(&mut self, bytes: &[u8]) -> Result<usize, AllocError>
-        requires { self.old.count + length bytes.now < 2 ^ 63 }
+    /// Takes as many of these bytes as can be taken at once, and says how many. All is done but the count of bytes.
+    fn pass_stretch(&mut self, bytes: &[u8]) -> Result<usize, AllocError>
+        requires sound { IsPlace self.old.headers.frame self.old.place self.old.payload.items }
+        requires header_bytes { length self.old.payload.items ≤ 65535 }
         ensures within { IfOk result (λ taken. taken ≤ length bytes.now) }
-        ensures leads { IfOk result (λ taken. LeadsTo self.old.place (take taken bytes.now) self.new.place) }
-        ensures count { IfOk result (λ taken. self.new.count ≡ self.old.count + taken) }
-        ensures kept { OnOk result ((self.new.headers ≡ self.old.headers) × (self.new.payload ≡ self.old.payload)
-            × (self.new.findings ≡ self.old.findings)) }
-        ensures sound { OnOk result ((frame : Option PictureShape) (payload : List ℕ) → IsPlace frame self.old.place payload
-            → IsPlace frame self.new.place payload) }
+        ensures leads { IfOk result
+            (λ taken. LeadsWith self.old.place self.old.payload.items (take taken bytes.now) self.new.place self.new.payload.items) }
+        ensures count { self.new.count ≡ self.old.count }
+        ensures headers { self.new.headers ≡ self.old.headers }
+        ensures findings { self.new.findings ≡ self.old.findings }
+        ensures sound { OnOk result (IsPlace self.new.headers.frame self.new.place self.new.payload.items) }
+        ensures header_bytes { OnOk result (length self.new.payload.items ≤ 65535) }
     {
-        let taken = self.place.take_stretch(bytes)?;
+        match &self.place {
+            Place::InPayload(_, _, size) => take_payload(&mut self.payload, *size, bytes),
+            _ => self.place.take_stretch(bytes),
+        }
+    }
+
+    /// As many of these bytes as can be taken at once. How many is the answer.
+    pub(crate) fn take_stretch(&mut self, bytes: &[u8]) -> Result<usize, AllocError>
+        requires count { self.old.count + length bytes.now < 2 ^ 63 }
+        requires sound { IsPlace self.old.headers.frame self.old.place self.old.payload.items }
+        requires header_bytes { length self.old.payload.items ≤ 65535 }
+        ensures within { IfOk result (λ taken. taken ≤ length bytes.now) }
+        ensures leads { IfOk result
+            (λ taken. LeadsWith self.old.place self.old.payload.items (take taken bytes.now) self.new.place self.new.payload.items) }
+        ensures count { IfOk result (λ taken. self.new.count ≡ self.old.count + taken) }
+        ensures kept { OnOk result ((self.new.headers ≡ self.old.headers) × (self.new.findings ≡ self.old.findings)) }
+        ensures sound { OnOk result (IsPlace self.new.headers.frame self.new.place self.new.payload.items) }
+        ensures header_bytes { OnOk result (length self.new.payload.items ≤ 65535) }
+    {
+        let taken = self.pass_stretch(bytes)?;
         self.count += taken as u64;
         Ok(taken)
     }

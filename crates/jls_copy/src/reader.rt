@@ -163,7 +163,7 @@ impl CopyReader {
         }
     }
 
-    /// Takes as many of these bytes as one piece can be told at once, and says how many.
+    /// Takes as many of these bytes as can be taken at once, and says how many.
     fn feed_stretch(&mut self, bytes: &[u8]) -> Result<usize, AllocError>
         requires { IfSome self.old (λ before. length before + length bytes.now ≤ 2 ^ 63 - 1) }
         ensures within { IfOk result (λ count. count ≤ length bytes.now) }
