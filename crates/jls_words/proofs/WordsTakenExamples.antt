@@ -99,6 +99,19 @@ pub no_input : AreRefused (codes "jls-salvage" ∷ codes "join" ∷ codes "OUT" 
 unfolding clap_on_literals
 no_input = refused (codes "jls-salvage" ∷ codes "join" ∷ codes "OUT" ∷ []) kind.MissingRequiredArgument refl refl
 
+-- the version, of the program, and of a command with and without its words
+pub version : AreRefused (codes "jls-salvage" ∷ codes "--version" ∷ []) kind.DisplayVersion
+unfolding clap_on_literals
+version = refused (codes "jls-salvage" ∷ codes "--version" ∷ []) kind.DisplayVersion refl refl
+
+pub version_of_check : AreRefused (codes "jls-salvage" ∷ codes "check" ∷ codes "--version" ∷ []) kind.DisplayVersion
+unfolding clap_on_literals
+version_of_check = refused (codes "jls-salvage" ∷ codes "check" ∷ codes "--version" ∷ []) kind.DisplayVersion refl refl
+
+pub version_behind_file : AreRefused (codes "jls-salvage" ∷ codes "check" ∷ codes "A" ∷ codes "--version" ∷ []) kind.DisplayVersion
+unfolding clap_on_literals
+version_behind_file = refused (codes "jls-salvage" ∷ codes "check" ∷ codes "A" ∷ codes "--version" ∷ []) kind.DisplayVersion refl refl
+
 -- a format that there is not
 pub as_gif-nothing : AskForNothing (as_format (codes "gif"))
 unfolding clap_on_literals
