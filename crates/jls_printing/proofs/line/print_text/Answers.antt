@@ -1,5 +1,4 @@
-use Rattle.std.proofs.Common.{List, ℕ, [], subst, sym}
-use Rattle.jls_printing.specs.Handing.{HandedBut}
+use Rattle.std.proofs.Common.{[]}
 use Rattle.jls_printing.proofs.Handed.{fresh, printed}
 use Rattle.jls_printing.proofs.line.print_text.Goals as goal
 

@@ -1,5 +1,4 @@
-use Rattle.std.proofs.Common.{rules, List, ℕ}
-use Rattle.jls_device.specs.Event.{History}
+use Rattle.std.proofs.Common.{rules}
 use Rattle.jls_printing.proofs.Handed.{flushed_not, flushed_whole, flushed_front}
 use Rattle.jls_printing.proofs.pending.hand_out.Goals as goal
 

@@ -25,6 +25,7 @@ abbrev top_of : App → Shape
 top_of a = a.top
 
 pub returns : goal.returns
+unfolding passed_on
 returns c =
     let named : app_of c.version.result ≡ versioned (new_app (codes "jls-salvage")) = ap app_of_fields c.version.ensures ∙ ap versioned c.bare-bare.ensures.app in
     let telling : app_of c.propagate_version-versioned.result ≡ passed_on (versioned (new_app (codes "jls-salvage"))) = ap app_of_fields c.propagate_version-versioned.ensures ∙ ap passed_on named in
