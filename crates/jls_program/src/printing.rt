@@ -142,12 +142,11 @@ fn line_of_cause<'a>(name: &'a str, cause: Cause) -> Line<'a>
 pub(crate) fn print_unknown_value<E: Sink>(faults: &mut E, format_is_known: bool)
     ensures { GrewBy (Printed (unknown_value_line format_is_known)) (E.history faults.old) (E.history faults.new) }
 {
-    let text = if format_is_known {
-        "--ilv takes none or line"
+    if format_is_known {
+        print_line(faults, &plain(None, "--ilv takes none or line"));
     } else {
-        "--as takes jls or pnm"
-    };
-    print_line(faults, &plain(None, text));
+        print_line(faults, &plain(None, "--as takes jls or pnm"));
+    }
 }
 
 /// Prints that the output of this name was not created.
