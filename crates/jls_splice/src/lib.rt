@@ -7,6 +7,6 @@ mod looking;
 mod path;
 mod whole_search;
 
-pub use faultless::{is_dead, is_faultless};
+pub use faultless::{is_dead, is_faultless, is_read_faultless};
 pub use feeding::feed_front;
 pub use whole_search::{MOST_FOUND, Searched, search};
