@@ -1,3 +1,5 @@
 pub mod Files
 pub mod Stations
+pub mod Shapes
 pub mod Taking
+pub mod Seen

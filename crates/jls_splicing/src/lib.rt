@@ -3,7 +3,12 @@
 
 mod file;
 mod files;
+mod seen;
+mod shape_found;
+mod shape_rule;
 mod taking;
 
 pub use files::Files;
+pub use shape_found::ShapeFound;
+pub use shape_rule::find_shape;
 pub use taking::take_files;
