@@ -2,3 +2,4 @@ mod Paths
 mod Fronts
 mod FaultlessFiles
 mod Searching
+mod Lengths

@@ -3,10 +3,12 @@
 
 mod faultless;
 mod feeding;
+mod laws;
 mod looking;
 mod path;
 mod whole_search;
 
 pub use faultless::{is_dead, is_faultless};
 pub use feeding::feed_front;
+pub use laws::parts_can_be_searched;
 pub use whole_search::{MOST_FOUND, Searched, search};
