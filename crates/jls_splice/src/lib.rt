@@ -6,9 +6,11 @@ mod feeding;
 mod laws;
 mod looking;
 mod path;
+mod short;
 mod whole_search;
 
 pub use faultless::{is_dead, is_faultless};
 pub use feeding::feed_front;
 pub use laws::parts_can_be_searched;
+pub use short::are_short;
 pub use whole_search::{MOST_FOUND, Searched, search};
