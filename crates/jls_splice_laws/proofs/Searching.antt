@@ -1,5 +1,5 @@
 -- A search finds splices without a fault, and loses none of them.
-use Rattle.std.proofs.Common.{◌≡◌, ℕ, ◌<◌, List, [], ◌∷◌, ◌++◌, map, length, Some, sym, ap, ◌∙◌, subst, append_assoc, inl, inr}
+use Rattle.std.proofs.Common.{◌≡◌, ℕ, ◌<◌, List, [], ◌∷◌, ◌++◌, map, length, Some, refl, sym, ap, ◌∙◌, subst, append_assoc, arith, inl, inr}
 use Rattle.std.specs.List.{AllByRecursion, Contains, flat_map}
 use Rattle.std.proofs.lemmas.List.{append-nil}
 use Rattle.std.proofs.lemmas.List.Elements.{Contains-append_left, Contains-append_right, Contains-append_cases}
@@ -10,11 +10,13 @@ use Rattle.jls_copy.specs.Pieces.{pieces}
 use Rattle.jls_copy.proofs.OneCourse.{one_course}
 use Rattle.jls_headline.proofs.Members.{is_first, none_in, first_or_rest, all_at, all_append, all_map}
 use Rattle.jls_parts.proofs.Members.{in_map, of_map, in_flat_map, of_flat_map}
-use Rattle.jls_parts.specs.Parts.{Part, Same, Differ, IsSplice, splices}
+use Rattle.jls_parts.specs.Parts.{Part, Same, Differ, HasWays, IsSplice, splices}
 use Rattle.jls_parts.specs.SpliceLaws.{SplicesAreListed}
-use Rattle.jls_splice_laws.specs.Faultless.{HasLines, EndsWell, IsFaultless}
+use Rattle.jls_splice.specs.Choices.{IsPath, front_of}
+use Rattle.jls_splice.specs.Faultless.{HasLines, EndsWell, IsFaultless}
+use Rattle.jls_splice.specs.Search.{MakeFiles, files_of}
 use Rattle.jls_splice_laws.specs.Searches.{CanBeGivenUp, broken, done, Searched, found, has_fault, along, no_way, last_way, way_again, given_up}
-use Rattle.jls_splice_laws.specs.Searches.{SearchesFindSplices, SearchesLoseNothing}
+use Rattle.jls_splice_laws.specs.Searches.{AreFaultlessSplices, FoundFilesAreSplices, SearchesFindSplices, SearchesLoseNothing}
 
 -- the bytes of a way, and behind them those of a splice of the parts behind it
 abbrev going_on : List Part → List ℕ → List (List ℕ)
@@ -144,6 +146,37 @@ module _ (stay : FrontsStayBroken) (ends_stay : FinalEndsStay) where
       is_found front (Differ ways ∷ parts) files s bytes (in_flat_map (going_on parts) ways w.0 bytes before w.2) h
   is_found _ _ _ (given_up front parts dead) bytes c h = absurd (never_sound front bytes dead h)
 
+-- parts tell of how many copies they are, but where all have them alike
+of_other_count : (n m : ℕ) (parts : List Part) (bytes : List ℕ) → 0 < m → AllByRecursion (HasWays n) parts → AllByRecursion (HasWays m) parts
+    → IsSplice n parts bytes → IsSplice m parts bytes
+of_other_count n m [] bytes some h k is = is
+of_other_count n m (Same b ∷ parts) bytes some h k (j, l, rest, e, more) = (0, some, rest, e, of_other_count n m parts rest some h.1 k.1 more)
+of_other_count n m (Differ ws ∷ parts) bytes some h k (j, l, rest, e, more) =
+    (j, subst (λ c. j < c) (sym h.0 ∙ k.0) l, rest, e, of_other_count n m parts rest some h.1 k.1 more)
+
 pub searches_lose_nothing : SplicesAreListed → FrontsStayBroken → FinalEndsStay → SearchesLoseNothing
-searches_lose_nothing listed stay ends_stay copies parts are some files s bytes low is faultless =
-    is_found stay ends_stay [] parts files s bytes ((listed copies parts are some bytes).0 is) (low, faultless)
+searches_lose_nothing listed stay ends_stay copies parts are some files s count any ways bytes low is faultless =
+    let here = of_other_count count (length copies) parts bytes some ways are.ways is in
+    is_found stay ends_stay [] parts files s bytes ((listed copies parts are some bytes).0 here) (low, faultless)
+
+-- What jls_splice finds --------------------------------------------------------------------------------------------
+
+-- a way of each part makes a splice
+made_of_path : (count : ℕ) (parts : List Part) (choices : List ℕ) → 0 < count → AllByRecursion (HasWays count) parts → IsPath parts choices
+    → length choices ≡ length parts → IsSplice count parts (front_of parts choices)
+made_of_path count [] [] some ways path e = refl
+made_of_path count [] (c ∷ cs) some ways path e = absurd path
+made_of_path count (p ∷ parts) [] some ways path e = absurd (omega (arith, e))
+made_of_path count (Same b ∷ parts) (c ∷ cs) some ways path e =
+    (0, some, front_of parts cs, refl, made_of_path count parts cs some ways.1 path.1 (omega (arith, e)))
+made_of_path count (Differ ws ∷ parts) (c ∷ cs) some ways path e =
+    (c, subst (λ n. c < n) ways.0 path.0.0, front_of parts cs, refl, made_of_path count parts cs some ways.1 path.1 (omega (arith, e)))
+
+found_are : (count : ℕ) (parts : List Part) (found : List (List ℕ)) → 0 < count → AllByRecursion (HasWays count) parts → MakeFiles parts found
+    → AreFaultlessSplices count parts (files_of parts found)
+found_are count parts [] some ways made = tt
+found_are count parts (c ∷ found) some ways made =
+    ((made_of_path count parts c some ways made.0.0.0 made.0.0.1, made.0.1), found_are count parts found some ways made.1)
+
+pub found_files_are_splices : FoundFilesAreSplices
+found_files_are_splices copies parts are some found made = found_are (length copies) parts found some are.ways made

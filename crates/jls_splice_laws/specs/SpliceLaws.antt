@@ -9,8 +9,9 @@ use Rattle.jls_picture.specs.WholePictures.{IsPicture}
 use Rattle.jls_headline.specs.Stations.{HoldsExactly, TookInTheEnd}
 use Rattle.jls_headline.specs.Survives.{EachLineSurvives}
 use Rattle.jls_parts.specs.Parts.{Part, IsSplice}
-use Rattle.jls_splice_laws.specs.Faultless.{IsFaultless}
-use Rattle.jls_splice_laws.specs.Taken.{FilesTaken, AllTaken}
+use Rattle.jls_splice.specs.Faultless.{IsFaultless}
+use Rattle.jls_splice.specs.Search.{HasEachSplice, files_of}
+use Rattle.jls_splice_laws.specs.Taken.{FilesTaken, AllTaken, SearchTaken}
 use Rattle.jls_splice_laws.specs.WholeFiles.{IsWholeFile}
 
 -- Where the search found each splice without a fault, each of them is among the files taken: none has another shape
@@ -34,5 +35,22 @@ SplicesGiveNoOther =
 abbrev pub WholeSplicesGiveNoOther : Type 0
 WholeSplicesGiveNoOther =
     (copies : List (List ℕ)) (parts : List Part) (shape : PictureShape) (files : List (List ℕ)) → AllTaken copies parts shape files
+    → (pic : WholePicture) → IsPicture pic → (file : List ℕ) → IsWholeFile pic file → IsSplice (length copies) parts file
+    → (station : PartialPicture) → TookInTheEnd station files → IsSettled station → picture_of station ≡ pic
+
+-- What is taken of the files that a search found are files taken; and where the search came to each splice without a fault, as jls_splice's
+-- `search` promises unless its tries were used up, each is taken
+abbrev pub SearchedFilesAreTaken : Type 0
+SearchedFilesAreTaken =
+    (copies : List (List ℕ)) (parts : List Part) (found : List (List ℕ)) (shape : PictureShape) (files : List (List ℕ))
+    → SearchTaken copies parts found shape files
+    → FilesTaken copies parts shape files × (HasEachSplice parts (files_of parts found) → AllTaken copies parts shape files)
+
+-- So, where such a search came to each: if some copy has, at each part in which the copies are found to differ, what an undamaged file has
+-- there, not each line of a station that took the files taken is settled, or they are that file's picture
+abbrev pub SearchedSplicesGiveNoOther : Type 0
+SearchedSplicesGiveNoOther =
+    (copies : List (List ℕ)) (parts : List Part) (found : List (List ℕ)) (shape : PictureShape) (files : List (List ℕ))
+    → SearchTaken copies parts found shape files → HasEachSplice parts (files_of parts found)
     → (pic : WholePicture) → IsPicture pic → (file : List ℕ) → IsWholeFile pic file → IsSplice (length copies) parts file
     → (station : PartialPicture) → TookInTheEnd station files → IsSettled station → picture_of station ≡ pic

@@ -1,15 +1,17 @@
 //! The law of searches. It is a function that does nothing and whose contract is the law.
 
-ghost use Rattle.jls_splice_laws.specs.Searches.{SearchesFindSplices, SearchesLoseNothing};
+ghost use Rattle.jls_splice_laws.specs.Searches.{FoundFilesAreSplices, SearchesFindSplices, SearchesLoseNothing};
 
 use jls_copy::{final_ends_stay, fronts_stay_broken};
 use jls_parts::splices_are_listed;
 
 /// A law: what a search through the parts finds are splices without a fault, and it finds all of them. It may give up a front whose
-/// piece in hand is broken, or which has ended with a fault. It may pass over a way that stands there before.
+/// piece in hand is broken, or which has ended with a fault. It may pass over a way that stands there before. What jls_splice's `search`
+/// found are such splices; that they are all it promises itself.
 pub fn searches_lose_nothing()
     ensures splices { SearchesFindSplices }
     ensures all { SearchesLoseNothing }
+    ensures found { FoundFilesAreSplices }
 {
     splices_are_listed();
     fronts_stay_broken();

@@ -1,4 +1,4 @@
-use Rattle.jls_splice_laws.proofs.Searching.{searches_find_splices, searches_lose_nothing}
+use Rattle.jls_splice_laws.proofs.Searching.{found_files_are_splices, searches_find_splices, searches_lose_nothing}
 use Rattle.jls_splice_laws.proofs.searches.searches_lose_nothing.Goals as goal
 
 pub returns-clause-splices : goal.returns-clause-splices
@@ -6,3 +6,6 @@ returns-clause-splices c = searches_find_splices c.splices_are_listed.ensures
 
 pub returns-clause-all : goal.returns-clause-all
 returns-clause-all c = searches_lose_nothing c.splices_are_listed.ensures c.fronts_stay_broken.ensures c.final_ends_stay.ensures
+
+pub returns-clause-found : goal.returns-clause-found
+returns-clause-found c = found_files_are_splices
