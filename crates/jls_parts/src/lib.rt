@@ -4,9 +4,14 @@
 mod checking;
 mod find;
 mod laws;
+mod lengths;
+mod merging;
 mod part;
 mod propose;
 mod seeds;
+mod steps;
+mod stretches;
+mod zeros;
 
 pub use find::find_parts;
 pub use laws::{choices_make_splices, copies_are_splices, splices_are_listed};
