@@ -1,0 +1,4 @@
+mod Numbers
+mod SimpleCommand
+mod WordsRead
+mod WordsTakenExamples
