@@ -25,5 +25,7 @@ pub mod HeadersKept
 pub mod ScansOfCourse
 pub mod BytesDecide
 pub mod FinalEnds
+mod SegmentFaults
 mod TellingLaws
+mod EndExamples
 mod Fronts

@@ -1,5 +1,5 @@
 -- What stands at the offsets that are told of a copy, and which pieces have records.
-use Rattle.std.proofs.Common.{◌≡◌, ℕ, ◌+◌, ◌/◌, ◌%◌, ◌≢◌, List, [], ◌∷◌, ◌++◌, length, refl, sym, ap, ◌∙◌, subst, append_assoc, arith, length-append}
+use Rattle.std.proofs.Common.{◌≡◌, ℕ, ◌+◌, ◌/◌, ◌%◌, List, [], ◌∷◌, ◌++◌, length, refl, sym, ap, ◌∙◌, subst, append_assoc, arith, length-append}
 use Rattle.std.proofs.lemmas.List.{length-replicate}
 use Rattle.std.specs.List.{flat_map, AllByRecursion}
 use Rattle.jls_marker.specs.HeaderState.{HeaderState, no_headers}
@@ -9,9 +9,9 @@ use Rattle.jls_copy.specs.ScanData.{fill_bytes, ClosedPiece, closed_bytes}
 use Rattle.jls_copy.specs.Numbers.{PieceNumber, Interval, number_behind, given_last}
 use Rattle.jls_copy.specs.Pieces.{FoundPiece, pieces_from, pieces_in, pieces, PieceOutcome, Lines, Fault, AreOutcomes, value_of, records}
 use Rattle.jls_copy.specs.Course.{CopyUnit, segment, scan, segment_unit_bytes, scan_data_bytes, unit_bytes, dropped_bytes, EndsHere, at_eoi, at_eoi_before_a_frame, at_no_marker, at_unknown_code, at_short_length, at_refused_segment, Ends, for_good, with_the_input, in_a_unit, AreUnits, with_soi, with_another_marker, with_no_marker, with_fill_alone}
-use Rattle.jls_copy.specs.TellingLaws.{StandsAt, PiecesStandAtTheirOffsets, EndStands, eoi, input, marker, no_marker, too_early, EndsStandAtTheirOffsets, AreRecordsOf, of_none, reads, faulty, RecordsAreOfFaultyPieces}
+use Rattle.jls_copy.specs.TellingLaws.{StandsAt, PiecesStandAtTheirOffsets, EndStands, eoi, input, eoi_before_a_frame, refused_segment, unknown_marker, no_marker, another_marker, no_marker_first, too_early, EndsStandAtTheirOffsets, AreRecordsOf, of_none, reads, faulty, RecordsAreOfFaultyPieces}
 use Rattle.jls_copy.specs.declared.end.End.{End}
-use Rattle.jls_copy.proofs.OneCourse.{segment_not_fill}
+use Rattle.jls_copy.proofs.SegmentFaults.{segment_fault}
 
 -- the piece stands at its offset
 abbrev Stands : List ℕ → FoundPiece → Type 0
@@ -111,24 +111,22 @@ marker_stands : (copy front : List ℕ) (n code : ℕ) (more : List ℕ) (at : �
     → StandsAt copy (at + n) (0xFF ∷ code ∷ [])
 marker_stands copy front n code more at b = stands copy (front ++ fill_bytes n) (0xFF ∷ code ∷ []) more (at + n) (filled copy front n (0xFF ∷ code ∷ more) at b)
 
-not_fill : (code : ℕ) → code ≡ 0xD9 → code ≢ 0xFF
-not_fill code e f = omega (arith, e, f)
-
 stop_stands : (copy front : List ℕ) (h : HeaderState) (at : ℕ) (bytes : List ℕ) (e : End) → Behind copy front bytes at → EndsHere h at bytes e
     → EndStands copy e
 stop_stands copy front _ _ _ _ b (at_eoi h at n more p) = eoi (at + n) (marker_stands copy front n 0xD9 more at b)
 stop_stands copy front _ _ _ _ b (at_eoi_before_a_frame h at n more p) =
-    marker fault.NoFrame (at + n) 0xD9 (not_fill 0xD9 refl) (marker_stands copy front n 0xD9 more at b)
-stop_stands copy front _ _ _ _ b (at_no_marker h at x more p) = no_marker fault.NoMarker at x p (stands copy front (x ∷ []) more at b)
+    eoi_before_a_frame (at + n) (marker_stands copy front n 0xD9 more at b)
+stop_stands copy front _ _ _ _ b (at_no_marker h at x more p) = no_marker at x p (stands copy front (x ∷ []) more at b)
 stop_stands copy front _ _ _ _ b (at_unknown_code h at n code more p q r) =
-    marker fault.UnknownMarker (at + n) code p (marker_stands copy front n code more at b)
+    unknown_marker (at + n) code p q r (marker_stands copy front n code more at b)
 stop_stands copy front _ _ _ _ b (at_short_length h at n code high low more p q) =
-    marker fault.Length (at + n) code (segment_not_fill code p) (marker_stands copy front n code (high ∷ low ∷ more) at b)
+    refused_segment fault.Length (at + n) code refl p (marker_stands copy front n code (high ∷ low ∷ more) at b)
 stop_stands copy front _ _ _ _ b (at_refused_segment h at n code payload more f p r) =
     let size : ℕ = length payload + 2 in
     let whole = others copy front _ (fill_bytes n ++ (0xFF ∷ code ∷ (size / 256 ∷ size % 256 ∷ payload) ++ more)) at
     (append_assoc (fill_bytes n) (0xFF ∷ code ∷ size / 256 ∷ size % 256 ∷ payload) more) b in
-    marker f (at + n) code (segment_not_fill code p.0) (marker_stands copy front n code ((size / 256 ∷ size % 256 ∷ payload) ++ more) at whole)
+    refused_segment f (at + n) code (segment_fault h code payload f p.0 r) p.0
+    (marker_stands copy front n code ((size / 256 ∷ size % 256 ∷ payload) ++ more) at whole)
 
 ends_stand : (copy front : List ℕ) (h : HeaderState) (at : ℕ) (bytes : List ℕ) (e : End) → Behind copy front bytes at → Ends h at bytes e
     → EndStands copy e
@@ -153,9 +151,9 @@ ends_stand_at_their_offsets _ _ (with_soi n bytes units final e h) =
     last_stands _ (fill_bytes n ++ (0xFF ∷ 0xD8 ∷ [])) no_headers (n + 2) bytes units final e (soi n bytes) h
 ends_stand_at_their_offsets _ _ (with_another_marker n code bytes p q) =
     let e : 0 + n ≡ n = omega arith in
-    marker fault.NoSoi n code p (subst (λ at. StandsAt (fill_bytes n ++ (0xFF ∷ code ∷ bytes)) at (0xFF ∷ code ∷ [])) e
+    another_marker n code p q (subst (λ at. StandsAt (fill_bytes n ++ (0xFF ∷ code ∷ bytes)) at (0xFF ∷ code ∷ [])) e
     (marker_stands _ [] n code bytes 0 (all_of _)))
-ends_stand_at_their_offsets _ _ (with_no_marker b bytes p) = no_marker fault.NoSoi 0 b p (stands _ [] (b ∷ []) bytes 0 (all_of _))
+ends_stand_at_their_offsets _ _ (with_no_marker b bytes p) = no_marker_first b p (stands _ [] (b ∷ []) bytes 0 (all_of _))
 ends_stand_at_their_offsets _ _ (with_fill_alone n) = too_early n (let l = length-replicate {A = ℕ} n 0xFF in omega (arith, l))
 
 -- Records ----------------------------------------------------------------------------------------------------------

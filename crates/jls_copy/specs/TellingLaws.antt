@@ -1,6 +1,6 @@
 -- The laws of what is told of a copy beside its readings: offsets, and records of faulty pieces. Each is the contract of a function with
 -- an empty body.
-use Rattle.std.specs.Prelude.{◌≡◌, ℕ, ◌≢◌, List, [], ◌∷◌, ◌++◌, length, take}
+use Rattle.std.specs.Prelude.{◌≡◌, ℕ, ◌≢◌, Bool, true, false, List, [], ◌∷◌, ◌++◌, length, take}
 use Rattle.std.specs.List.{AllByRecursion}
 use Rattle.jls_copy.specs.Course.{Course, IsCourse}
 use Rattle.jls_copy.specs.Pieces.{FoundPiece, Lines, Fault, IsOutcome, value_of, pieces}
@@ -9,6 +9,7 @@ use Rattle.jls_copy.specs.CopyReads.{CopyReads}
 use Rattle.jls_copy.specs.declared.end.End.{End}
 use Rattle.jls_copy.specs.declared.end.End.TheVariants.{Eoi, Input, Header}
 use Rattle.jls_copy.specs.declared.piece.PieceRecord.{PieceRecord}
+use Rattle.jls_marker.specs.MarkerCodes.{has_segment}
 use Rattle.jls_marker.specs.declared.fault.MarkerFault.{MarkerFault}
 use Rattle.jls_marker.specs.declared.fault.MarkerFault.TheVariants as fault
 
@@ -24,13 +25,28 @@ abbrev pub PiecesStandAtTheirOffsets : Type 0
 PiecesStandAtTheirOffsets = (copy : List ℕ) (c : Course) → IsCourse copy c
     → AllByRecursion (λ piece. StandsAt copy piece.offset piece.bytes) (pieces c)
 
--- What stands where a copy ends: EOI; nothing; at a fault of a marker the last byte 0xFF before its code, and the code; at another fault
--- a byte that begins no marker; or nothing, where the input ends too early
+-- whether a fault is one that a whole segment, or its length, can have: not that of a code without a segment, of a byte that begins no
+-- marker, of a copy that doesn't begin with SOI, or of an input that ends too early
+abbrev pub is_of_segment : MarkerFault → Bool
+is_of_segment fault.UnknownMarker = false
+is_of_segment fault.NoMarker = false
+is_of_segment fault.NoSoi = false
+is_of_segment fault.Ended = false
+is_of_segment f = true
+
+-- What stands where a copy ends, by its end. The offset of a marker is that of the last byte 0xFF before its code
 pub data EndStands (copy : List ℕ) : End → Type 0 where
   eoi : (offset : ℕ) → StandsAt copy offset (0xFF ∷ 0xD9 ∷ []) → EndStands copy (Eoi offset)
   input : (offset : ℕ) → offset ≡ length copy → EndStands copy (Input offset)
-  marker : (f : MarkerFault) (offset code : ℕ) → code ≢ 0xFF → StandsAt copy offset (0xFF ∷ code ∷ []) → EndStands copy (Header f offset)
-  no_marker : (f : MarkerFault) (offset byte : ℕ) → byte ≢ 0xFF → StandsAt copy offset (byte ∷ []) → EndStands copy (Header f offset)
+  eoi_before_a_frame : (offset : ℕ) → StandsAt copy offset (0xFF ∷ 0xD9 ∷ []) → EndStands copy (Header fault.NoFrame offset)
+  refused_segment : (f : MarkerFault) (offset code : ℕ) → is_of_segment f ≡ true → has_segment code ≡ true
+      → StandsAt copy offset (0xFF ∷ code ∷ []) → EndStands copy (Header f offset)
+  unknown_marker : (offset code : ℕ) → code ≢ 0xFF → code ≢ 0xD9 → has_segment code ≡ false → StandsAt copy offset (0xFF ∷ code ∷ [])
+      → EndStands copy (Header fault.UnknownMarker offset)
+  no_marker : (offset byte : ℕ) → byte ≢ 0xFF → StandsAt copy offset (byte ∷ []) → EndStands copy (Header fault.NoMarker offset)
+  another_marker : (offset code : ℕ) → code ≢ 0xFF → code ≢ 0xD8 → StandsAt copy offset (0xFF ∷ code ∷ [])
+      → EndStands copy (Header fault.NoSoi offset)
+  no_marker_first : (byte : ℕ) → byte ≢ 0xFF → StandsAt copy 0 (byte ∷ []) → EndStands copy (Header fault.NoSoi 0)
   too_early : (offset : ℕ) → offset ≡ length copy → EndStands copy (Header fault.Ended offset)
 
 abbrev pub EndsStandAtTheirOffsets : Type 0
