@@ -27,5 +27,6 @@ pub mod BytesDecide
 pub mod FinalEnds
 mod SegmentFaults
 mod TellingLaws
+mod OtherEnds
 mod EndExamples
 mod Fronts

@@ -1,5 +1,5 @@
 -- The laws of what a copy gives, of which each is the contract of a function with an empty body.
-use Rattle.std.specs.Prelude.{◌≡◌, ℕ, ◌<◌, true, List, ◌++◌}
+use Rattle.std.specs.Prelude.{◌≡◌, ℕ, ◌<◌, ◌≢◌, true, false, List, ◌++◌, length}
 use Rattle.std.specs.List.{AllByRecursion}
 use Rattle.jls_copy.specs.Course.{Course, IsCourse}
 use Rattle.jls_copy.specs.ReadCopy.{ReadCopy}
@@ -20,3 +20,8 @@ BytesDecide = (bytes : List ℕ) → AllByRecursion (λ b. b < 256) bytes → Co
 -- a course whose end is final is that of every longer list of bytes too: the same units, headers and end
 abbrev pub FinalEndsStay : Type 0
 FinalEndsStay = (front more : List ℕ) (c : Course) → IsCourse front c → is_final_end c.end ≡ true → IsCourse (front ++ more) c
+
+-- and where the end isn't final, any bytes behind the copy change it
+abbrev pub OtherEndsChange : Type 0
+OtherEndsChange = (front more : List ℕ) (c d : Course) → IsCourse front c → is_final_end c.end ≡ false → 0 < length more
+    → IsCourse (front ++ more) d → d.end ≢ c.end

@@ -1,6 +1,6 @@
 //! The laws of what a copy gives. Each is a function that does nothing and whose contract is the law.
 
-ghost use Rattle.jls_copy.specs.CopyLaws.{BytesDecide, FinalEndsStay};
+ghost use Rattle.jls_copy.specs.CopyLaws.{BytesDecide, FinalEndsStay, OtherEndsChange};
 ghost use Rattle.jls_copy.specs.Fronts.{FrontsStayBroken};
 ghost use Rattle.jls_copy.specs.TellingLaws.{RecordsAreOfFaultyPieces};
 
@@ -13,6 +13,11 @@ pub fn bytes_decide()
 /// leave its course as it is.
 pub fn final_ends_stay()
     ensures { FinalEndsStay }
+{}
+
+/// A law: each other end is the input's, and any bytes behind the copy change it.
+pub fn other_ends_change()
+    ensures { OtherEndsChange }
 {}
 
 /// A law: each piece of a copy's course reads as the lines of its interval, or it has a record, with its scan, its number, its offset and
