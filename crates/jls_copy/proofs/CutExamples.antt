@@ -1,15 +1,17 @@
 -- Worked cuts and numbers, computed.
-use Rattle.std.proofs.Common.{◌≡◌, true, false, [], ◌∷◌, refl, lit<, map, arith}
+use Rattle.std.proofs.Common.{◌≡◌, [], ◌∷◌, refl, lit<, arith}
+use Rattle.std.specs.List.{filter, range_with_len}
 use Rattle.jls_copy.specs.ScanData.{ScanCut, at_input, at_marker, IsCut, is_restart_code, ends_scan_data}
 use Rattle.jls_copy.specs.Numbers.{Interval, BeyondLast, numbers_behind}
 
--- the codes that cut scan data, and some that don't: SOI, the frame's code and 0x7F stay in the piece
-codes_told : map is_restart_code (0xCF ∷ 0xD0 ∷ 0xD7 ∷ 0xD8 ∷ []) ≡ false ∷ true ∷ true ∷ false ∷ []
-codes_told = refl
+-- all codes of marks, and all that end scan data: EOI, SOS, DRI, APP0 to APP15, LSE and COM (T.81, table B.1; T.87, C.1.1). SOI, the
+-- frame's code and all others stay in the piece
+codes_of_marks : filter is_restart_code (range_with_len 0 256) ≡ 0xD0 ∷ 0xD1 ∷ 0xD2 ∷ 0xD3 ∷ 0xD4 ∷ 0xD5 ∷ 0xD6 ∷ 0xD7 ∷ []
+codes_of_marks = refl
 
-ends_told : map ends_scan_data (0x7F ∷ 0xD7 ∷ 0xD8 ∷ 0xD9 ∷ 0xDA ∷ 0xDB ∷ 0xDC ∷ 0xDD ∷ 0xDF ∷ 0xE0 ∷ 0xEF ∷ 0xF0 ∷ 0xF7 ∷ 0xF8 ∷ 0xF9 ∷ 0xFD ∷ 0xFE ∷ 0xFF ∷ [])
-    ≡ false ∷ false ∷ false ∷ true ∷ true ∷ false ∷ false ∷ true ∷ false ∷ true ∷ true ∷ false ∷ false ∷ true ∷ false ∷ false ∷ true ∷ false ∷ []
-ends_told = refl
+codes_of_ends : filter ends_scan_data (range_with_len 0 256)
+    ≡ 0xD9 ∷ 0xDA ∷ 0xDD ∷ 0xE0 ∷ 0xE1 ∷ 0xE2 ∷ 0xE3 ∷ 0xE4 ∷ 0xE5 ∷ 0xE6 ∷ 0xE7 ∷ 0xE8 ∷ 0xE9 ∷ 0xEA ∷ 0xEB ∷ 0xEC ∷ 0xED ∷ 0xEE ∷ 0xEF ∷ 0xF8 ∷ 0xFE ∷ []
+codes_of_ends = refl
 
 -- 80 FF D0 80 FF D9, of a picture of two lines with a mark between them
 abbrev two_pieces : ScanCut
