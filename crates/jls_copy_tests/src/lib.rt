@@ -9,6 +9,8 @@ mod device;
 #[cfg(test)]
 mod file;
 #[cfg(test)]
+mod host;
+#[cfg(test)]
 mod limited;
 #[cfg(test)]
 mod lines;
