@@ -8,3 +8,4 @@ mod encoding;
 mod large;
 mod lines;
 mod size;
+mod wide_runs;
