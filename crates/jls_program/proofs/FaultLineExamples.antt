@@ -6,7 +6,7 @@ use Rattle.jls_marker.specs.declared.fault.MarkerFault.TheVariants.{NoSoi, Ended
 use Rattle.jls_partial.specs.declared.text_fault.TextFault.TheVariants.{Magic, Order, Trailing}
 use Rattle.jls_station.specs.declared.input.InputFault.TheVariants as fault
 use Rattle.jls_station.specs.declared.input.ReadStop.TheVariants.{Failed}
-use Rattle.jls_station.specs.declared.outcome.Cause.TheVariants as cause
+use Rattle.jls_commands.specs.declared.outcome.Cause.TheVariants as cause
 use Rattle.jls_program.specs.FaultLines.{cause_line}
 
 -- the numbers in them

@@ -4,10 +4,10 @@ use Rattle.clap.specs.Words.{Text}
 use Rattle.clap.specs.declared.error.kind.ErrorKind.{ErrorKind}
 use Rattle.jls_device.specs.Event.{Event, History}
 use Rattle.jls_device.specs.Writing.{Wrote, WroteFront, Printed}
-use Rattle.jls_station.specs.Joining.{Joins}
-use Rattle.jls_station.specs.Outcomes.{exit_status}
-use Rattle.jls_station.specs.declared.outcome.Cause.TheVariants as cause
-use Rattle.jls_station.specs.declared.outcome.Outcome.{Outcome}
+use Rattle.jls_commands.specs.Joining.{Joins}
+use Rattle.jls_commands.specs.Outcomes.{exit_status}
+use Rattle.jls_commands.specs.declared.outcome.Cause.TheVariants as cause
+use Rattle.jls_commands.specs.declared.outcome.Outcome.{Outcome}
 use Rattle.jls_commands.specs.Telling.{Tells, lines}
 use Rattle.jls_commands.specs.WritingFiles.{WritesFile}
 use Rattle.jls_commands.specs.declared.writing.Format.TheVariants.{Pnm, Jls}

@@ -9,7 +9,7 @@ use crate::printing::{print_out_of_memory, print_refusal, print_text};
 use clap::Error;
 use clap::error::ErrorKind;
 use jls_device::{Sink, write_all};
-use jls_station::{Cause, Refusal};
+use jls_commands::{Cause, Refusal};
 use std::alloc::Global;
 
 fn is_memory(kind: ErrorKind) -> bool

@@ -4,7 +4,7 @@ ghost use Rattle.std.specs.Prelude.{◌≡◌, ◌++◌, codes, decimal};
 ghost use Rattle.jls_device.specs.Event.{GrewBy};
 ghost use Rattle.jls_marker.specs.Faults.{fault_number};
 ghost use Rattle.jls_device.specs.Writing.{Printed};
-ghost use Rattle.jls_station.specs.declared.outcome.Outcome.TheVariants.{Refused};
+ghost use Rattle.jls_commands.specs.declared.outcome.Outcome.TheVariants.{Refused};
 ghost use Rattle.jls_program.specs.FaultLines.{cause_line, input_fault_line, text_fault_line, fault_line, no_picture_line, out_of_memory_line, unknown_value_line, unsettled_line};
 ghost use Rattle.jls_program.specs.Lines.{bytes_of, digits_of, PrintsOn};
 
@@ -12,7 +12,8 @@ use itoa::Buffer;
 use jls_device::{Sink, write_all};
 use jls_marker::MarkerFault;
 use jls_partial::TextFault;
-use jls_station::{Cause, InputFault, Outcome, Refusal};
+use jls_commands::{Cause, Outcome, Refusal};
+use jls_station::InputFault;
 
 /// A line by its parts: the name of an input or output, a text, a number, more text, a second number, and the end. The
 /// program's name stands before them.

@@ -5,9 +5,9 @@ use Rattle.clap.specs.Words.{Text}
 use Rattle.jls_partial.specs.Partial.{PartialPicture}
 use Rattle.jls_device.specs.Event.{Event, History}
 use Rattle.jls_picture.specs.Picture.{WholePicture}
-use Rattle.jls_station.specs.Joining.{JoinIsDone}
-use Rattle.jls_station.specs.Laws.{input_bytes}
-use Rattle.jls_station.specs.declared.outcome.Outcome.TheVariants.{Done}
+use Rattle.jls_commands.specs.Joining.{JoinIsDone}
+use Rattle.jls_commands.specs.Laws.{input_bytes}
+use Rattle.jls_commands.specs.declared.outcome.Outcome.TheVariants.{Done}
 use Rattle.jls_commands.specs.WritingFiles as writing
 use Rattle.jls_commands.specs.declared.writing.Format.{Format}
 use Rattle.jls_commands.specs.declared.writing.Format.TheVariants.{Jls}

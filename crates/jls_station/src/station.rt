@@ -66,8 +66,9 @@ impl Station {
         self.held.merge(other)
     }
 
-    /// Takes in the readings of the partial picture whose text the bytes are, as `Partial::merge_text` does.
-    pub(crate) fn take_text(&mut self, bytes: &[u8]) -> Result<(), MergeTextFault>
+    /// Takes in the readings of the partial picture whose text the bytes are, as `Partial::merge_text` does. A refused text may have
+    /// given some of its readings.
+    pub fn take_text(&mut self, bytes: &[u8]) -> Result<(), MergeTextFault>
         ensures ok { OnOk result (MergesText self.old bytes.now self.new) }
         ensures refused { IfErr result (λ fault. RefusesText self.old bytes.now fault) }
     {

@@ -2,9 +2,9 @@ use Rattle.std.proofs.Common.{◌≡◌, ◌∙◌, true, false, sym, subst}
 use Rattle.jls_device.specs.Event.{GrewBy}
 use Rattle.jls_file.specs.WrittenFile.{written_file}
 use Rattle.jls_picture.specs.Options.{OptionsFit}
-use Rattle.jls_station.proofs.JoinSteps.{not_created_at_all}
-use Rattle.jls_station.specs.declared.outcome.Cause.{Cause}
-use Rattle.jls_station.specs.declared.outcome.Cause.TheVariants as cause
+use Rattle.jls_commands.proofs.JoinSteps.{not_created_at_all}
+use Rattle.jls_commands.specs.declared.outcome.Cause.{Cause}
+use Rattle.jls_commands.specs.declared.outcome.Cause.TheVariants as cause
 use Rattle.jls_commands.specs.WritingFiles.{StopsAtFile}
 use Rattle.jls_commands.proofs.Written.{cut_in_file, stops_before, stopped_by_output}
 use Rattle.jls_commands.proofs.writing.hand_out_jls.Goals as goal

@@ -1,9 +1,9 @@
 use Rattle.std.proofs.Common.{sym, subst}
 use Rattle.jls_device.specs.Event.{GrewBy}
 use Rattle.jls_picture.specs.Pnm.{pnm}
-use Rattle.jls_station.proofs.JoinSteps.{not_created_at_all}
-use Rattle.jls_station.specs.Outputs.{StopsAtOutput}
-use Rattle.jls_station.specs.declared.outcome.Cause.{Cause}
+use Rattle.jls_commands.proofs.JoinSteps.{not_created_at_all}
+use Rattle.jls_commands.specs.Outputs.{StopsAtOutput}
+use Rattle.jls_commands.specs.declared.outcome.Cause.{Cause}
 use Rattle.jls_commands.proofs.Written.{cut_after}
 use Rattle.jls_commands.proofs.writing.hand_out_pnm.Goals as goal
 

@@ -1,6 +1,6 @@
 use Rattle.std.proofs.Common.{◌∙◌, ap, refl, subst}
 use Rattle.jls_device.specs.Event.{GrewBy}
-use Rattle.jls_station.specs.Outputs.{HandsOut}
+use Rattle.jls_commands.specs.Outputs.{HandsOut}
 use Rattle.jls_partial.specs.Partial.{PartialPicture}
 use Rattle.jls_partial.specs.Status.{IsSettled}
 use Rattle.jls_picture.specs.Picture.{WholePicture, picture_of}
