@@ -88,6 +88,35 @@ MAXVAL_15 = "FFF8 000D 01 000F 0000 0000 0000 0000"
 DEFAULTS = "FFF8 000D 01 0000 0000 0000 0000 0000"
 THREE = frame(4, 1, 8, (1, 2, 3))
 
+# J by RUNindex (A.7.1)
+ORDERS = [0] * 4 + [1] * 4 + [2] * 4 + [3] * 4 + [4, 4, 5, 5, 6, 6, 7, 7] + list(range(8, 16))
+
+
+def runs_of_each_order():
+    """A line of zeros, behind which RUNindex is 31, and a line with a run for each RUNindex from 31 down, interrupted halfway."""
+    second, at = [0] * 65535, 0
+    for index in range(31, -1, -1):
+        at += 2 ** ORDERS[index] // 2
+        second[at] = 7 * index + 11
+        at += 2  # the sample between is coded in regular mode
+    return [0] * 65535 + second
+
+
+def long_lines(precision, code):
+    """The two lines as a copy with this scan data, and where its EOI stands, its report and its PNM file."""
+    copy = made(SOI, frame(65535, 2, precision), SCAN, code, EOI)
+    size = 1 if precision == 8 else 2
+    raster = b"".join(sample.to_bytes(size, "big") for sample in runs_of_each_order())
+    pnm = b"P5\n65535 2\n%d\n" % (2**precision - 1) + raster
+    return copy, len(copy) - 2, report_of(65535, 2, precision), pnm, [("", copy)]
+
+
+# the scan data that CharLS 2.4.1 wrote of them, in 8 and in 16 bits
+LONG_8 = """FF7FFF7FD000004D4001D000050268001917A00040768002E13A007C7340094FE802C12D00CC57403A18D00846F40281ED01784741D829
+A1F42FA1EAEB473BDD1B2FC465BB117ADC4AF66250AF124D5890A9C7DD18F4FE3B7D8E6EE2FF18B1BC518022554FFF7FFF78"""
+LONG_16 = """FF7FFF7FD0002E3DC840016E6DC2001D5F50800E7798400E3F88401C0EF0806E7B420365D610357D210349CE106779420CB718411F42
+10447F0840FD08FAF613CFC84ECEE1397A84DEE616BF10B4378593B42C2D61BBC786D31A1ADCB0D36484FE7098CA1238C22B05BFFF7FFF60"""
+
 # what it is; the copy; where its EOI stands; the report; its PNM file; and its JPEG-LS files by the options of `write`
 WHOLE = [
     ("four lines", FOUR_LINES, 55, report_of(4, 4), FOUR_PNM, [("", FOUR_LINES), ("--ilv line", FOUR_LINES)]),
@@ -108,6 +137,8 @@ WHOLE = [
      report_of(1, 1, ids=(1, 2)), b"P7\nWIDTH 1\nHEIGHT 1\nDEPTH 2\nMAXVAL 255\nENDHDR\n\x0f\xff", []),
     ("three components by line", made(SOI, THREE, "FFDA 000C 03 0100 0200 0300 00 01 00 FF78", EOI), 37,
      report_of(4, 1, ids=(1, 2, 3)), b"P6\n4 1\n255\n" + bytes(12), []),
+    ("runs of each order, written by CharLS", *long_lines(8, LONG_8)),
+    ("runs of each order in 16 bits, written by CharLS", *long_lines(16, LONG_16)),
 ]
 
 # width, height, scan data, and its samples or its fault
