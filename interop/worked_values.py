@@ -1,7 +1,7 @@
 """The copies, texts and answers of `interop/worked`.
 
-Copies are hex, and blanks part what belongs together. A sample in a picture of one sample is coded as a run of no samples that is
-interrupted at once: a zero, and then the code of the error, which at the start of an interval of 8 bits is zeros, a one, and two bits.
+Copies are hex, and blanks divide what belongs together. The sample in a picture of one sample is coded as an empty run that is
+interrupted at once: a zero, then the code of the error. At the start of an interval of 8 bits that is zeros, a one, and two bits.
 """
 
 SOI, EOI = "FFD8", "FFD9"

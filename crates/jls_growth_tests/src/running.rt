@@ -109,58 +109,56 @@ fn put_report(text: &mut String, height: u16) -> Result<(), AllocError> {
     )
 }
 
-/// Files of so many lines, and what a command gives for them.
-fn run_on(rt: &impl Abort, alloc: Global, height: u16, row: &Row) -> Result<Met, Stopped> {
-    let mut lines = lines_of(alloc, height)?;
-    let copy = copy_of(alloc, height)?;
-    let text = lines.to_bytes(alloc)?;
+/// What stands on the report output: the trace and the report of `check`, or the report of `show`.
+fn report_of(alloc: Global, height: u16, gives: Gives) -> Result<Option<String>, AllocError> {
     let mut report = String::new(alloc);
-    let output = match row.gives {
-        Gives::Nothing => None,
-        Gives::Trace => {
-            write!(
-                report,
-                "end eoi {}\n",
-                height.saturating_mul(3).saturating_add(29)
-            )?;
-            put_report(&mut report, height)?;
-            None
-        }
-        Gives::Report => {
-            put_report(&mut report, height)?;
-            None
-        }
+    if let Gives::Nothing = gives {
+        return Ok(None);
+    }
+    if let Gives::Trace = gives {
+        let end = height.saturating_mul(3).saturating_add(29);
+        write!(report, "end eoi {end}\n")?;
+    }
+    if let Gives::Trace | Gives::Report = gives {
+        put_report(&mut report, height)?;
+    }
+    Ok(Some(report))
+}
+
+/// The PNM file of so many lines.
+fn pnm_of(alloc: Global, height: u16) -> Result<Vec<u8>, Stopped> {
+    let head = format!(in alloc; "P5\n1 {height}\n255\n")?;
+    let mut pnm = Vec::from_slice(alloc, head.as_bytes())?;
+    pnm.extend_from_slice(&samples_of(alloc, height)?)?;
+    Ok(pnm)
+}
+
+/// What stands in OUT.
+fn output_of(alloc: Global, height: u16, gives: Gives) -> Result<Option<Vec<u8>>, Stopped> {
+    let mut lines = lines_of(alloc, height)?;
+    Ok(match gives {
+        Gives::Nothing | Gives::Trace | Gives::Report => None,
         Gives::Text => Some(lines.to_bytes(alloc)?),
         Gives::MarkedText => {
             lines.mark(7)?;
             Some(lines.to_bytes(alloc)?)
         }
         Gives::Jls => Some(copy_of(alloc, height)?),
-        Gives::Pnm => {
-            let mut pnm = Vec::from_slice(
-                alloc,
-                format!(in alloc; "P5\n1 {height}\n255\n")?.as_bytes(),
-            )?;
-            pnm.extend_from_slice(&samples_of(alloc, height)?)?;
-            Some(pnm)
-        }
-    };
+        Gives::Pnm => Some(pnm_of(alloc, height)?),
+    })
+}
+
+/// Files of so many lines, and what a command gives for them.
+fn run_on(rt: &impl Abort, alloc: Global, height: u16, row: &Row) -> Result<Met, Stopped> {
+    let copy = copy_of(alloc, height)?;
+    let text = lines_of(alloc, height)?.to_bytes(alloc)?;
     let wanted = Wanted {
         status: row.status,
-        output,
-        report: if let Gives::Nothing = row.gives {
-            None
-        } else {
-            Some(report)
-        },
+        output: output_of(alloc, height, row.gives)?,
+        report: report_of(alloc, height, row.gives)?,
     };
-    run_one(
-        rt,
-        alloc,
-        row.line,
-        &[("copy", &copy), ("text", &text)],
-        &wanted,
-    )
+    let files: [(&str, &[u8]); 2] = [("copy", &copy), ("text", &text)];
+    run_one(rt, alloc, row.line, &files, &wanted)
 }
 
 /// What a run writes or prints.

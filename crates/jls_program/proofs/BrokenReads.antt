@@ -7,20 +7,21 @@ use Rattle.jls_picture.specs.Picture.{picture_of}
 use Rattle.jls_device.specs.Event.{Event, opened, write_failed}
 use Rattle.jls_device.specs.Writing.{WroteFront}
 use Rattle.jls_station.specs.Given.{Given}
-use Rattle.jls_station.specs.Inputs.{IsRefused, no_text, no_picture, text_not_read, copy_not_read, IsEnough, ReadsRefuse, for_fault, for_memory, StopsAt, not_there, refused, other_shape, no_memory}
-use Rattle.jls_station.specs.Joining as joining
-use Rattle.jls_station.specs.Joining.{JoinIsDone, Joins}
-use Rattle.jls_station.specs.Outputs as outputs
-use Rattle.jls_station.specs.Outputs.{StopsAtOutput}
-use Rattle.jls_station.specs.Outcomes.{exit_status, exit_status_of_cause}
+use Rattle.jls_station.specs.Inputs.{IsRefused, no_text, no_picture, text_not_read, copy_not_read, IsEnough, ReadsRefuse, for_fault, for_memory}
+use Rattle.jls_commands.specs.AllInputs.{StopsAt, not_there, refused, other_shape, no_memory}
+use Rattle.jls_commands.specs.Joining as joining
+use Rattle.jls_commands.specs.Joining.{JoinIsDone, Joins}
+use Rattle.jls_commands.specs.Outputs as outputs
+use Rattle.jls_commands.specs.Outputs.{StopsAtOutput}
+use Rattle.jls_commands.specs.Outcomes.{exit_status, exit_status_of_cause}
 use Rattle.jls_station.specs.Reading.{IsRead}
 use Rattle.jls_station.specs.declared.input.ReadStop.{ReadStop}
 use Rattle.jls_station.specs.declared.input.InputFault.{InputFault}
 use Rattle.jls_station.specs.declared.input.InputFault.TheVariants as fault
-use Rattle.jls_station.specs.declared.outcome.Cause.{Cause}
-use Rattle.jls_station.specs.declared.outcome.Cause.TheVariants as cause
-use Rattle.jls_station.specs.declared.outcome.Outcome.{Outcome}
-use Rattle.jls_station.specs.declared.outcome.Outcome.TheVariants.{Done, Refused}
+use Rattle.jls_commands.specs.declared.outcome.Cause.{Cause}
+use Rattle.jls_commands.specs.declared.outcome.Cause.TheVariants as cause
+use Rattle.jls_commands.specs.declared.outcome.Outcome.{Outcome}
+use Rattle.jls_commands.specs.declared.outcome.Outcome.TheVariants.{Done, Refused}
 use Rattle.jls_commands.specs.Telling as telling
 use Rattle.jls_commands.specs.Telling.{Tells, lines}
 use Rattle.jls_commands.specs.WritingFiles as writing

@@ -1,13 +1,16 @@
--- Fault lines of worked causes, as they are printed.
-use Rattle.std.proofs.Common.{◌≡◌, true, false, refl, lit<}
+-- Fault lines of worked causes, as they are printed. The offsets of bad texts were counted by hand, each in a change of the text of a picture of
+-- 1x2 samples that ends at byte 31.
+use Rattle.std.proofs.Common.{◌≡◌, ◌∷◌, [], true, false, refl, lit<}
 use Rattle.std.specs.Prelude.{codes, decimal}
+use Rattle.std.specs.Char.{encode_utf8}
+use Rattle.std.specs.Str.{chars}
 use Rattle.std.proofs.lemmas.Fmt.{decimal_digit, decimal-digits_of}
 use Rattle.jls_marker.specs.declared.fault.MarkerFault.TheVariants.{NoSoi, Ended}
-use Rattle.jls_partial.specs.declared.text_fault.TextFault.TheVariants.{Magic, Order, Trailing}
+use Rattle.jls_partial.specs.declared.text_fault.TextFault.TheVariants as text_fault
 use Rattle.jls_station.specs.declared.input.InputFault.TheVariants as fault
 use Rattle.jls_station.specs.declared.input.ReadStop.TheVariants.{Failed}
-use Rattle.jls_station.specs.declared.outcome.Cause.TheVariants as cause
-use Rattle.jls_program.specs.FaultLines.{cause_line}
+use Rattle.jls_commands.specs.declared.outcome.Cause.TheVariants as cause
+use Rattle.jls_program.specs.FaultLines.{cause_line, not_replaced_line, unknown_value_line}
 
 -- the numbers in them
 d0 : decimal 0 ≡ codes "0"
@@ -25,6 +28,9 @@ d5 = decimal_digit 5 (lit< tt)
 d6 : decimal 6 ≡ codes "6"
 d6 = decimal_digit 6 (lit< tt)
 
+d16 : decimal 16 ≡ codes "16"
+d16 = decimal-digits_of 16 (lit< tt) (lit< tt)
+
 d18 : decimal 18 ≡ codes "18"
 d18 = decimal-digits_of 18 (lit< tt) (lit< tt)
 
@@ -34,51 +40,138 @@ d19 = decimal-digits_of 19 (lit< tt) (lit< tt)
 d29 : decimal 29 ≡ codes "29"
 d29 = decimal-digits_of 29 (lit< tt) (lit< tt)
 
+d30 : decimal 30 ≡ codes "30"
+d30 = decimal-digits_of 30 (lit< tt) (lit< tt)
+
+d31 : decimal 31 ≡ codes "31"
+d31 = decimal-digits_of 31 (lit< tt) (lit< tt)
+
 d33 : decimal 33 ≡ codes "33"
 d33 = decimal-digits_of 33 (lit< tt) (lit< tt)
 
 d60 : decimal 60 ≡ codes "60"
 d60 = decimal-digits_of 60 (lit< tt) (lit< tt)
 
--- one line or more of each kind
+-- inputs that are not read
 not_opened : cause_line (codes "N") cause.NotOpened ≡ codes "jls-salvage: N: cannot be opened\n"
+unfolding chars encode_utf8
 not_opened = refl
 
 not_read : cause_line (codes "N") (cause.Input (fault.Read Failed 45)) ≡ codes "jls-salvage: N: read failed\n"
+unfolding chars encode_utf8
 not_read = refl
 
+-- copies without a picture
 no_soi : cause_line (codes "N") (cause.Input (fault.NoPicture NoSoi 0)) ≡ codes "jls-salvage: N: no picture, fault 18 at 0\n"
+unfolding chars encode_utf8
 no_soi = rw (d18, d0) refl
 
 ended : cause_line (codes "N") (cause.Input (fault.NoPicture Ended 33)) ≡ codes "jls-salvage: N: no picture, fault 19 at 33\n"
+unfolding chars encode_utf8
 ended = rw (d19, d33) refl
 
-magic : cause_line (codes "T") (cause.Input (fault.Text (Magic 4))) ≡ codes "jls-salvage: T: bad text, magic at 4\n"
+-- bad texts: another byte 4, a precision of 1, the last byte cut, line 1 before line 0, no reading, readings that do not ascend, a sample
+-- above the greatest, one byte more
+magic : cause_line (codes "T") (cause.Input (fault.Text (text_fault.Magic 4))) ≡ codes "jls-salvage: T: bad text, magic at 4\n"
+unfolding chars encode_utf8
 magic = rw d4 refl
 
-order : cause_line (codes "T") (cause.Input (fault.Text (Order 33))) ≡ codes "jls-salvage: T: bad text, order at 33\n"
-order = rw d33 refl
+bad_shape : cause_line (codes "T") (cause.Input (fault.Text (text_fault.BadShape 5))) ≡ codes "jls-salvage: T: bad text, shape at 5\n"
+unfolding chars encode_utf8
+bad_shape = rw d5 refl
 
-trailing : cause_line (codes "T") (cause.Input (fault.Text (Trailing 29))) ≡ codes "jls-salvage: T: bad text, trailing at 29\n"
-trailing = rw d29 refl
+truncated : cause_line (codes "T") (cause.Input (fault.Text (text_fault.Truncated 30))) ≡ codes "jls-salvage: T: bad text, truncated at 30\n"
+unfolding chars encode_utf8
+truncated = rw d30 refl
 
-shape : cause_line (codes "U") cause.ShapeDiffers ≡ codes "jls-salvage: U: shape differs\n"
-shape = refl
+place : cause_line (codes "T") (cause.Input (fault.Text (text_fault.Place 16))) ≡ codes "jls-salvage: T: bad text, place at 16\n"
+unfolding chars encode_utf8
+place = rw d16 refl
 
+count : cause_line (codes "T") (cause.Input (fault.Text (text_fault.Count 19))) ≡ codes "jls-salvage: T: bad text, count at 19\n"
+unfolding chars encode_utf8
+count = rw d19 refl
+
+order : cause_line (codes "T") (cause.Input (fault.Text (text_fault.Order 29))) ≡ codes "jls-salvage: T: bad text, order at 29\n"
+unfolding chars encode_utf8
+order = rw d29 refl
+
+sample : cause_line (codes "T") (cause.Input (fault.Text (text_fault.Sample 29))) ≡ codes "jls-salvage: T: bad text, sample at 29\n"
+unfolding chars encode_utf8
+sample = rw d29 refl
+
+trailing : cause_line (codes "T") (cause.Input (fault.Text (text_fault.Trailing 31))) ≡ codes "jls-salvage: T: bad text, trailing at 31\n"
+unfolding chars encode_utf8
+trailing = rw d31 refl
+
+-- a picture of another shape
+shape_differs : cause_line (codes "U") cause.ShapeDiffers ≡ codes "jls-salvage: U: shape differs\n"
+unfolding chars encode_utf8
+shape_differs = refl
+
+-- files that are not written
 disputed : cause_line (codes "OUT") (cause.Unsettled 1 6 true) ≡ codes "jls-salvage: line 6 of component 1 is disputed\n"
+unfolding chars encode_utf8
 disputed = rw (d6, d1) refl
 
 missing : cause_line (codes "OUT") (cause.Unsettled 1 5 false) ≡ codes "jls-salvage: line 5 of component 1 is missing\n"
+unfolding chars encode_utf8
 missing = rw (d5, d1) refl
 
 too_large : cause_line (codes "OUT") cause.TooLarge ≡ codes "jls-salvage: interval too large, give --ri\n"
+unfolding chars encode_utf8
 too_large = refl
 
+-- outputs
 not_created : cause_line (codes "OUT") cause.NotCreated ≡ codes "jls-salvage: OUT: cannot be created\n"
+unfolding chars encode_utf8
 not_created = refl
 
 not_written : cause_line (codes "OUT") (cause.NotWritten 60) ≡ codes "jls-salvage: OUT: write failed after 60 bytes\n"
+unfolding chars encode_utf8
 not_written = rw d60 refl
 
+report_not_written : cause_line (codes "-") (cause.NotWritten 0) ≡ codes "jls-salvage: -: write failed after 0 bytes\n"
+unfolding chars encode_utf8
+report_not_written = rw d0 refl
+
+not_replaced : not_replaced_line (codes "A.jls") ≡ codes "jls-salvage: A.jls is a JPEG file, and join does not replace one\n"
+unfolding chars encode_utf8
+not_replaced = refl
+
+-- want of memory, in whatever was done
 memory : cause_line (codes "OUT") cause.OutOfMemory ≡ codes "jls-salvage: out of memory\n"
+unfolding chars encode_utf8
 memory = refl
+
+memory_for_input : cause_line (codes "N") (cause.Input fault.OutOfMemory) ≡ codes "jls-salvage: out of memory\n"
+unfolding chars encode_utf8
+memory_for_input = refl
+
+memory_for_text : cause_line (codes "T") (cause.Input (fault.Text text_fault.OutOfMemory)) ≡ codes "jls-salvage: out of memory\n"
+unfolding chars encode_utf8
+memory_for_text = refl
+
+-- values that options do not take
+unknown_format : unknown_value_line false ≡ codes "jls-salvage: --as takes jls or pnm\n"
+unknown_format = refl
+
+unknown_mode : unknown_value_line true ≡ codes "jls-salvage: --ilv takes none or line\n"
+unknown_mode = refl
+
+-- names with ESC, with LINE FEED, with RIGHT-TO-LEFT OVERRIDE (U+202E) and with a backslash
+escape : cause_line (0x1B ∷ codes "[2J") cause.NotOpened ≡ codes "jls-salvage: \\u{1b}[2J: cannot be opened\n"
+unfolding chars encode_utf8
+escape = refl
+
+two_lines : cause_line (codes "a\njls-salvage: b") cause.NotOpened ≡ codes "jls-salvage: a\\u{a}jls-salvage: b: cannot be opened\n"
+unfolding chars encode_utf8
+two_lines = refl
+
+override : cause_line (97 ∷ 0xE2 ∷ 0x80 ∷ 0xAE ∷ 98 ∷ []) cause.NotOpened ≡ codes "jls-salvage: a\\u{202e}b: cannot be opened\n"
+unfolding chars encode_utf8
+override = refl
+
+backslash : cause_line (codes "a\\b") cause.NotOpened ≡ codes "jls-salvage: a\\\\b: cannot be opened\n"
+unfolding chars encode_utf8
+backslash = refl

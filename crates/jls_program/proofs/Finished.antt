@@ -8,18 +8,18 @@ use Rattle.jls_partial.specs.Status.{IsSettled}
 use Rattle.jls_device.specs.Event.{Event, History, GrewBy, opened, not_opened, gave, read_failed, created, not_created, took, write_failed, bytes_taken}
 use Rattle.jls_device.specs.Writing.{Printed, AreWrites}
 use Rattle.jls_station.specs.Given.{Given}
-use Rattle.jls_station.specs.Inputs.{IsTaken, StopsAt, not_there, refused, other_shape, no_memory}
-use Rattle.jls_station.specs.Joining as joining
-use Rattle.jls_station.specs.Joining.{JoinIsDone, Joins}
-use Rattle.jls_station.specs.Outputs as outputs
-use Rattle.jls_station.specs.Outputs.{StopsAtOutput}
-use Rattle.jls_station.specs.Outcomes.{exit_status, exit_status_of_cause}
-use Rattle.jls_station.specs.declared.outcome.Cause.{Cause}
-use Rattle.jls_station.specs.declared.outcome.Cause.TheVariants as cause
+use Rattle.jls_commands.specs.AllInputs.{IsTaken, StopsAt, not_there, refused, other_shape, no_memory}
+use Rattle.jls_commands.specs.Joining as joining
+use Rattle.jls_commands.specs.Joining.{JoinIsDone, Joins}
+use Rattle.jls_commands.specs.Outputs as outputs
+use Rattle.jls_commands.specs.Outputs.{StopsAtOutput}
+use Rattle.jls_commands.specs.Outcomes.{exit_status, exit_status_of_cause}
+use Rattle.jls_commands.specs.declared.outcome.Cause.{Cause}
+use Rattle.jls_commands.specs.declared.outcome.Cause.TheVariants as cause
 use Rattle.jls_station.specs.declared.input.InputFault.{InputFault}
 use Rattle.jls_station.specs.declared.input.InputFault.TheVariants as fault
-use Rattle.jls_station.specs.declared.outcome.Outcome.{Outcome}
-use Rattle.jls_station.specs.declared.outcome.Outcome.TheVariants.{Done}
+use Rattle.jls_commands.specs.declared.outcome.Outcome.{Outcome}
+use Rattle.jls_commands.specs.declared.outcome.Outcome.TheVariants.{Done}
 use Rattle.jls_commands.specs.Telling as telling
 use Rattle.jls_commands.specs.Telling.{Tells, lines}
 use Rattle.jls_commands.specs.WritingFiles as writing

@@ -1,7 +1,6 @@
 mod BrokenReads
 mod FaultLineExamples
 pub mod Finished
-pub mod PrintedLines
 mod RefusedRuns
 pub mod RefusedWords
 pub mod Running

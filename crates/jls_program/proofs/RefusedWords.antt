@@ -7,7 +7,7 @@ use Rattle.clap.specs.declared.error.kind.ErrorKind.{ErrorKind}
 use Rattle.clap.specs.declared.error.kind.ErrorKind.TheVariants as kind
 use Rattle.jls_device.specs.Event.{Event, History, GrewBy}
 use Rattle.jls_device.specs.Writing.{Wrote, WroteFront, Printed}
-use Rattle.jls_station.specs.declared.outcome.Cause.TheVariants as cause
+use Rattle.jls_commands.specs.declared.outcome.Cause.TheVariants as cause
 use Rattle.jls_words.specs.Words.{AreRefused, is_help}
 use Rattle.jls_program.specs.FaultLines.{cause_line, out_of_memory_line}
 use Rattle.jls_program.specs.Answers.{is_want_of_memory, Answer, ran_out, usage, help, cut, Answered}

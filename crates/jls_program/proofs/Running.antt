@@ -7,11 +7,11 @@ use Rattle.clap.specs.declared.error.kind.ErrorKind.{ErrorKind}
 use Rattle.clap.specs.declared.error.kind.ErrorKind.TheVariants as kind
 use Rattle.jls_device.specs.Event.{Event, History, GrewBy}
 use Rattle.jls_device.specs.Writing.{Printed}
-use Rattle.jls_station.specs.Outcomes.{exit_status}
-use Rattle.jls_station.specs.declared.outcome.Outcome.{Outcome}
+use Rattle.jls_commands.specs.Outcomes.{exit_status}
+use Rattle.jls_commands.specs.declared.outcome.Outcome.{Outcome}
 use Rattle.jls_commands.specs.Histories.{GrewBoth}
 use Rattle.jls_words.specs.Words.{AreRefused}
-use Rattle.jls_words.specs.Asking.{Asked, AskFor, AskForNothing}
+use Rattle.jls_words.specs.Asking.{Asked, AskFor, AskForNothing, format_is_known}
 use Rattle.jls_program.specs.FaultLines.{fault_line, unknown_value_line}
 use Rattle.jls_program.specs.Answers.{Answered}
 use Rattle.jls_program.specs.Runs.{CameOf, Run, came_of, nothing_asked, Ran}
@@ -57,7 +57,7 @@ module _ (words : List Text) (desk desk' report report' faults faults' : History
         (came_of words asked outcome h.desk_events h.report_events line.events reads h.they_are line.they_are);
   }
 
-  pub ran_nothing : AskForNothing words → GrewBy (Printed unknown_value_line) faults faults'
+  pub ran_nothing : AskForNothing words → GrewBy (Printed (unknown_value_line (format_is_known words))) faults faults'
       → Ran words 2 desk desk report report faults faults'
   ran_nothing asks line = record {
     desk_events = [];

@@ -4,7 +4,7 @@ use Rattle.clap.specs.declared.error.kind.ErrorKind.{ErrorKind}
 use Rattle.clap.specs.declared.error.kind.ErrorKind.TheVariants as kind
 use Rattle.jls_device.specs.Event.{Event, History}
 use Rattle.jls_device.specs.Writing.{Wrote, WroteFront, Printed}
-use Rattle.jls_station.specs.declared.outcome.Cause.TheVariants as cause
+use Rattle.jls_commands.specs.declared.outcome.Cause.TheVariants as cause
 use Rattle.jls_words.specs.Words.{is_help}
 use Rattle.jls_program.specs.FaultLines.{cause_line, out_of_memory_line}
 

@@ -8,9 +8,10 @@ use Rattle.jls_picture.specs.Picture.{picture_of}
 use Rattle.jls_device.specs.Event.{Event, History, opened, is_failed_opening, is_failed_write}
 use Rattle.jls_device.specs.Writing.{Wrote}
 use Rattle.jls_station.specs.Given.{Given}
-use Rattle.jls_station.specs.Inputs.{IsEnough, IsRefused, IsTaken, TakesAll}
-use Rattle.jls_station.specs.Joining.{JoinIsDone}
-use Rattle.jls_station.specs.Outputs.{HandsOut}
+use Rattle.jls_station.specs.Inputs.{IsEnough, IsRefused}
+use Rattle.jls_commands.specs.AllInputs.{IsTaken, TakesAll}
+use Rattle.jls_commands.specs.Joining.{JoinIsDone}
+use Rattle.jls_commands.specs.Outputs.{HandsOut}
 use Rattle.jls_station.specs.Reading.{IsRead}
 use Rattle.jls_station.specs.declared.input.InputFault.{InputFault}
 use Rattle.jls_station.specs.declared.input.ReadStop.{ReadStop}

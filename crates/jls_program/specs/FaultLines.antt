@@ -1,25 +1,27 @@
--- The line on the fault output.
-use Rattle.std.specs.Prelude.{ℕ, Bool, List, [], ◌++◌, codes, decimal, if◌then◌else◌}
+-- The line on the fault output. A name stands in it with each control character by its code, and with each backslash twice.
+use Rattle.std.specs.Prelude.{ℕ, Bool, true, false, List, [], ◌++◌, codes, decimal, if◌then◌else◌}
+use Rattle.jls_printing.specs.Names.{shown_name}
 use Rattle.jls_marker.specs.Faults.{fault_number}
 use Rattle.jls_partial.specs.declared.text_fault.TextFault.{TextFault}
 use Rattle.jls_partial.specs.declared.text_fault.TextFault.TheVariants as text_fault
 use Rattle.jls_station.specs.declared.input.InputFault.{InputFault}
 use Rattle.jls_station.specs.declared.input.InputFault.TheVariants as fault
-use Rattle.jls_station.specs.declared.outcome.Cause.{Cause}
-use Rattle.jls_station.specs.declared.outcome.Cause.TheVariants as cause
-use Rattle.jls_station.specs.declared.outcome.Outcome.{Outcome}
-use Rattle.jls_station.specs.declared.outcome.Outcome.TheVariants.{Done, Refused}
+use Rattle.jls_commands.specs.declared.outcome.Cause.{Cause}
+use Rattle.jls_commands.specs.declared.outcome.Cause.TheVariants as cause
+use Rattle.jls_commands.specs.declared.outcome.Outcome.{Outcome}
+use Rattle.jls_commands.specs.declared.outcome.Outcome.TheVariants.{Done, Refused}
 
 abbrev pub out_of_memory_line : List ℕ
 out_of_memory_line = codes "jls-salvage: out of memory\n"
 
--- an option has a value which it doesn't take
-abbrev pub unknown_value_line : List ℕ
-unknown_value_line = codes "jls-salvage: unknown value, see jls-salvage write --help\n"
+-- an option has a value which it doesn't take: the interleave mode where the format is known, else the format
+abbrev pub unknown_value_line : Bool → List ℕ
+unknown_value_line true = codes "jls-salvage: --ilv takes none or line\n"
+unknown_value_line false = codes "jls-salvage: --as takes jls or pnm\n"
 
 -- the line of a bad text of this name: the kind of its fault, and the offset
 abbrev pub bad_text_line : List ℕ → List ℕ → ℕ → List ℕ
-bad_text_line name said offset = codes "jls-salvage: " ++ (name ++ (said ++ (decimal offset ++ codes "\n")))
+bad_text_line name said offset = codes "jls-salvage: " ++ (shown_name name ++ (said ++ (decimal offset ++ codes "\n")))
 
 abbrev pub text_fault_line : List ℕ → TextFault → List ℕ
 text_fault_line name (text_fault.Magic offset) = bad_text_line name (codes ": bad text, magic at ") offset
@@ -35,7 +37,8 @@ text_fault_line name text_fault.OutOfMemory = out_of_memory_line
 -- the line of a copy of this name in which no frame was taken: the number of its fault, and the offset
 abbrev pub no_picture_line : List ℕ → ℕ → ℕ → List ℕ
 no_picture_line name number offset =
-    codes "jls-salvage: " ++ (name ++ (codes ": no picture, fault " ++ (decimal number ++ (codes " at " ++ (decimal offset ++ codes "\n")))))
+    codes "jls-salvage: "
+    ++ (shown_name name ++ (codes ": no picture, fault " ++ (decimal number ++ (codes " at " ++ (decimal offset ++ codes "\n")))))
 
 -- the line of a picture's line that is disputed, or missing
 abbrev pub unsettled_line : ℕ → ℕ → Bool → List ℕ
@@ -47,20 +50,24 @@ unsettled_line id line disputed =
 abbrev pub input_fault_line : List ℕ → InputFault → List ℕ
 input_fault_line name (fault.Text f) = text_fault_line name f
 input_fault_line name (fault.NoPicture f offset) = no_picture_line name (fault_number f) offset
-input_fault_line name (fault.Read stop offset) = codes "jls-salvage: " ++ (name ++ codes ": read failed\n")
+input_fault_line name (fault.Read stop offset) = codes "jls-salvage: " ++ (shown_name name ++ codes ": read failed\n")
 input_fault_line name fault.OutOfMemory = out_of_memory_line
 
 -- the line of a cause at an input or output of this name
 abbrev pub cause_line : List ℕ → Cause → List ℕ
-cause_line name cause.NotOpened = codes "jls-salvage: " ++ (name ++ codes ": cannot be opened\n")
+cause_line name cause.NotOpened = codes "jls-salvage: " ++ (shown_name name ++ codes ": cannot be opened\n")
 cause_line name (cause.Input f) = input_fault_line name f
-cause_line name cause.ShapeDiffers = codes "jls-salvage: " ++ (name ++ codes ": shape differs\n")
+cause_line name cause.ShapeDiffers = codes "jls-salvage: " ++ (shown_name name ++ codes ": shape differs\n")
 cause_line name (cause.Unsettled id line disputed) = unsettled_line id line disputed
 cause_line name cause.TooLarge = codes "jls-salvage: interval too large, give --ri\n"
-cause_line name cause.NotCreated = codes "jls-salvage: " ++ (name ++ codes ": cannot be created\n")
+cause_line name cause.NotCreated = codes "jls-salvage: " ++ (shown_name name ++ codes ": cannot be created\n")
 cause_line name (cause.NotWritten count) =
-    codes "jls-salvage: " ++ (name ++ (codes ": write failed after " ++ (decimal count ++ codes " bytes\n")))
+    codes "jls-salvage: " ++ (shown_name name ++ (codes ": write failed after " ++ (decimal count ++ codes " bytes\n")))
 cause_line name cause.OutOfMemory = out_of_memory_line
+
+-- the second line of a join that would replace a JPEG file of this name
+abbrev pub not_replaced_line : List ℕ → List ℕ
+not_replaced_line name = codes "jls-salvage: " ++ (shown_name name ++ codes " is a JPEG file, and join does not replace one\n")
 
 -- none where the command is done
 abbrev pub fault_line : Outcome → List ℕ

@@ -7,9 +7,9 @@ use Rattle.jls_picture.specs.Picture.{picture_of}
 use Rattle.jls_device.specs.Event.{Event, History, GrewBy}
 use Rattle.jls_device.specs.Writing.{Wrote}
 use Rattle.jls_station.specs.Given.{Given}
-use Rattle.jls_station.specs.Inputs.{IsTaken}
-use Rattle.jls_station.specs.Joining.{JoinIsDone}
-use Rattle.jls_station.specs.Outputs.{HandsOut}
+use Rattle.jls_commands.specs.AllInputs.{IsTaken}
+use Rattle.jls_commands.specs.Joining.{JoinIsDone}
+use Rattle.jls_commands.specs.Outputs.{HandsOut}
 use Rattle.jls_station.specs.declared.input.ReadStop.TheVariants.{Whole}
 use Rattle.jls_commands.specs.Telling.{lines}
 use Rattle.jls_commands.specs.WritingFiles.{file, FitsFormat}

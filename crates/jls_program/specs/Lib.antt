@@ -3,6 +3,5 @@ pub mod Answers
 pub mod BrokenReads
 pub mod FaultLines
 pub mod Laws
-pub mod Lines
 pub mod Runs
 pub mod Statuses

@@ -4,15 +4,15 @@ use Rattle.clap.specs.Words.{Text}
 use Rattle.clap.specs.declared.error.kind.ErrorKind.{ErrorKind}
 use Rattle.jls_device.specs.Event.{Event, History}
 use Rattle.jls_device.specs.Writing.{Wrote, WroteFront, Printed}
-use Rattle.jls_station.specs.Joining.{Joins}
-use Rattle.jls_station.specs.Outcomes.{exit_status}
-use Rattle.jls_station.specs.declared.outcome.Cause.TheVariants as cause
-use Rattle.jls_station.specs.declared.outcome.Outcome.{Outcome}
+use Rattle.jls_commands.specs.Joining.{Joins}
+use Rattle.jls_commands.specs.Outcomes.{exit_status}
+use Rattle.jls_commands.specs.declared.outcome.Cause.TheVariants as cause
+use Rattle.jls_commands.specs.declared.outcome.Outcome.{Outcome}
 use Rattle.jls_commands.specs.Telling.{Tells, lines}
 use Rattle.jls_commands.specs.WritingFiles.{WritesFile}
 use Rattle.jls_commands.specs.declared.writing.Format.TheVariants.{Pnm, Jls}
 use Rattle.jls_words.specs.Words.{AreRefused, is_help}
-use Rattle.jls_words.specs.Asking.{Asked, check, join, show, write_pnm, write_jls, AskFor, AskForNothing}
+use Rattle.jls_words.specs.Asking.{Asked, check, join, show, write_pnm, write_jls, AskFor, AskForNothing, format_is_known}
 use Rattle.jls_program.specs.FaultLines.{cause_line, fault_line, out_of_memory_line, unknown_value_line}
 
 -- what came of what was asked, by the events of the desk and of the report output
@@ -42,9 +42,9 @@ pub data Run : List Text → ℕ → List Event → List Event → List Event �
       → Run words 4 [] report faults
   -- memory ran out before a command began
   nothing_begun : (words : List Text) (faults : List Event) → Printed out_of_memory_line faults → Run words 5 [] [] faults
-  -- clap takes the words, and they ask for nothing that there is
+  -- clap takes the words, and they ask for nothing that there is: the line names the option whose value is at fault
   nothing_asked : (words : List Text) (faults : List Event)
-      → AskForNothing words → Printed unknown_value_line faults → Run words 2 [] [] faults
+      → AskForNothing words → Printed (unknown_value_line (format_is_known words)) faults → Run words 2 [] [] faults
 
 -- the histories of the three devices grew by the events of such a run
 pub record Ran (words : List Text) (status : ℕ) (desk desk' report report' faults faults' : History) : Type 0 where

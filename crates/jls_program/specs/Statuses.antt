@@ -8,7 +8,8 @@ use Rattle.jls_picture.specs.Picture.{picture_of}
 use Rattle.jls_device.specs.Event.{Event, History, GrewBy, opened, is_creation, is_read, is_failed_opening, is_failed_read, is_failed_write}
 use Rattle.jls_device.specs.Writing.{Printed}
 use Rattle.jls_station.specs.Given.{Given}
-use Rattle.jls_station.specs.Inputs.{IsEnough, IsOfOtherShape, IsRefused, IsTaken, TakesAll, partials}
+use Rattle.jls_station.specs.Inputs.{IsEnough, IsRefused}
+use Rattle.jls_commands.specs.AllInputs.{IsOfOtherShape, IsTaken, TakesAll, partials}
 use Rattle.jls_station.specs.Reading.{IsRead}
 use Rattle.jls_station.specs.declared.input.InputFault.{InputFault}
 use Rattle.jls_station.specs.declared.input.ReadStop.TheVariants.{Whole}

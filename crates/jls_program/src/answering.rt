@@ -5,11 +5,12 @@ ghost use Rattle.clap.specs.Words.{kind_of};
 ghost use Rattle.jls_words.specs.Words as words;
 ghost use Rattle.jls_program.specs.Answers.{is_want_of_memory, Answered};
 
-use crate::printing::{print_out_of_memory, print_refusal, print_text};
+use crate::printing::{print_out_of_memory, print_refusal};
 use clap::Error;
 use clap::error::ErrorKind;
+use jls_commands::{Cause, Refusal};
 use jls_device::{Sink, write_all};
-use jls_station::{Cause, Refusal};
+use jls_printing::print_text;
 use std::alloc::Global;
 
 fn is_memory(kind: ErrorKind) -> bool

@@ -13,4 +13,5 @@ pub use laws::{
     refused_runs_create_nothing, statuses_are_at_most_5, unsettled_writes_stop,
     want_of_memory_is_told, words_are_behind_status_2,
 };
+pub use printing::{print_not_created, print_not_replaced};
 pub use program::run;

@@ -4,9 +4,8 @@ ghost use Rattle.jls_commands.specs.Histories.{GrewBoth};
 ghost use Rattle.jls_words.specs.Asking.{asked_of};
 ghost use Rattle.jls_program.specs.Runs.{CameOf};
 
-use jls_commands::{Format, check, show, write};
+use jls_commands::{Format, JoinInputs, Outcome, check, join, show, write};
 use jls_device::{Desk, Sink};
-use jls_station::{JoinInputs, Outcome, join};
 use jls_words::Asked;
 use std::alloc::Global;
 

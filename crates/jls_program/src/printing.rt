@@ -4,33 +4,27 @@ ghost use Rattle.std.specs.Prelude.{◌≡◌, ◌++◌, codes, decimal};
 ghost use Rattle.jls_device.specs.Event.{GrewBy};
 ghost use Rattle.jls_marker.specs.Faults.{fault_number};
 ghost use Rattle.jls_device.specs.Writing.{Printed};
-ghost use Rattle.jls_station.specs.declared.outcome.Outcome.TheVariants.{Refused};
-ghost use Rattle.jls_program.specs.FaultLines.{cause_line, input_fault_line, text_fault_line, fault_line, no_picture_line, out_of_memory_line, unknown_value_line, unsettled_line};
-ghost use Rattle.jls_program.specs.Lines.{bytes_of, digits_of, PrintsOn};
+ghost use Rattle.jls_printing.specs.Lines.{bytes_of, name_part};
+ghost use Rattle.jls_printing.specs.Names.{shown_name};
+ghost use Rattle.jls_commands.specs.declared.outcome.Outcome.TheVariants.{Refused};
+ghost use Rattle.jls_program.specs.FaultLines.{cause_line, input_fault_line, text_fault_line, fault_line, no_picture_line, not_replaced_line, out_of_memory_line, unknown_value_line, unsettled_line};
 
-use itoa::Buffer;
-use jls_device::{Sink, write_all};
+use jls_commands::{Cause, Outcome, Refusal};
+use jls_device::Sink;
 use jls_marker::MarkerFault;
 use jls_partial::TextFault;
-use jls_station::{Cause, InputFault, Outcome, Refusal};
+use jls_printing::{Line, print_line};
+use jls_station::InputFault;
 
-/// A line by its parts: the name of an input or output, a text, a number, more text, a second number, and the end. The
-/// program's name stands before them.
-#[derive(Clone, Copy)]
-struct Line<'a> {
-    name: &'a str,
-    text: &'static str,
-    number: Option<u64>,
-    between: &'static str,
-    second: Option<u64>,
-    end: &'static str,
-}
+/// The name of the program, as its fault lines begin.
+const PROGRAM: &str = "jls-salvage";
 
 /// A line without a number.
-fn plain<'a>(name: &'a str, text: &'static str) -> Line<'a>
-    ensures { bytes_of result ≡ codes "jls-salvage: " ++ (name.now ++ (text.now ++ codes "\n")) }
+fn plain<'a>(name: Option<&'a str>, text: &'static str) -> Line<'a>
+    ensures { bytes_of result ≡ codes "jls-salvage: " ++ (name_part name.entry ++ (text.now ++ codes "\n")) }
 {
     Line {
+        program: PROGRAM,
         name,
         text,
         number: None,
@@ -42,10 +36,11 @@ fn plain<'a>(name: &'a str, text: &'static str) -> Line<'a>
 
 /// A line with a number at its end.
 fn numbered<'a>(name: &'a str, text: &'static str, number: u64) -> Line<'a>
-    ensures { bytes_of result ≡ codes "jls-salvage: " ++ (name.now ++ (text.now ++ (decimal number ++ codes "\n"))) }
+    ensures { bytes_of result ≡ codes "jls-salvage: " ++ (shown_name name.now ++ (text.now ++ (decimal number ++ codes "\n"))) }
 {
     Line {
-        name,
+        program: PROGRAM,
+        name: Some(name),
         text,
         number: Some(number),
         between: "",
@@ -59,7 +54,8 @@ fn no_picture<'a>(name: &'a str, fault: MarkerFault, offset: u64) -> Line<'a>
     ensures { bytes_of result ≡ no_picture_line name.now (fault_number fault) offset }
 {
     Line {
-        name,
+        program: PROGRAM,
+        name: Some(name),
         text: ": no picture, fault ",
         number: Some(u64::from(fault.number())),
         between: " at ",
@@ -73,7 +69,8 @@ fn unsettled<'a>(id: u8, line: u16, disputed: bool) -> Line<'a>
     ensures { bytes_of result ≡ unsettled_line id line disputed }
 {
     Line {
-        name: "",
+        program: PROGRAM,
+        name: None,
         text: "line ",
         number: Some(u64::from(line)),
         between: " of component ",
@@ -89,7 +86,7 @@ fn unsettled<'a>(id: u8, line: u16, disputed: bool) -> Line<'a>
 fn out_of_memory<'a>() -> Line<'a>
     ensures { bytes_of result ≡ out_of_memory_line }
 {
-    plain("", "out of memory")
+    plain(None, "out of memory")
 }
 
 fn line_of_text_fault<'a>(name: &'a str, fault: TextFault) -> Line<'a>
@@ -114,7 +111,7 @@ fn line_of_input_fault<'a>(name: &'a str, fault: InputFault) -> Line<'a>
     match fault {
         InputFault::Text(fault) => line_of_text_fault(name, fault),
         InputFault::NoPicture(fault, offset) => no_picture(name, fault, offset),
-        InputFault::Read(_, _) => plain(name, ": read failed"),
+        InputFault::Read(_, _) => plain(Some(name), ": read failed"),
         InputFault::OutOfMemory => out_of_memory(),
     }
 }
@@ -123,14 +120,15 @@ fn line_of_cause<'a>(name: &'a str, cause: Cause) -> Line<'a>
     ensures { bytes_of result ≡ cause_line name.now cause }
 {
     match cause {
-        Cause::NotOpened => plain(name, ": cannot be opened"),
+        Cause::NotOpened => plain(Some(name), ": cannot be opened"),
         Cause::Input(fault) => line_of_input_fault(name, fault),
-        Cause::ShapeDiffers => plain(name, ": shape differs"),
+        Cause::ShapeDiffers => plain(Some(name), ": shape differs"),
         Cause::Unsettled { id, line, disputed } => unsettled(id, line, disputed),
-        Cause::TooLarge => plain("", "interval too large, give --ri"),
-        Cause::NotCreated => plain(name, ": cannot be created"),
+        Cause::TooLarge => plain(None, "interval too large, give --ri"),
+        Cause::NotCreated => plain(Some(name), ": cannot be created"),
         Cause::NotWritten(count) => Line {
-            name,
+            program: PROGRAM,
+            name: Some(name),
             text: ": write failed after ",
             number: Some(count),
             between: "",
@@ -141,65 +139,30 @@ fn line_of_cause<'a>(name: &'a str, cause: Cause) -> Line<'a>
     }
 }
 
-/// Prints some bytes, unless a write has failed before. The answer is whether all writes went well.
-fn print_more<E: Sink>(faults: &mut E, goes_on: bool, bytes: &[u8]) -> bool
-    ensures { PrintsOn goes_on bytes.now result (E.history faults.old) (E.history faults.new) }
+/// Prints that an option has a value which it doesn't take: the interleave mode where the format is known, else the format.
+pub(crate) fn print_unknown_value<E: Sink>(faults: &mut E, format_is_known: bool)
+    ensures { GrewBy (Printed (unknown_value_line format_is_known)) (E.history faults.old) (E.history faults.new) }
 {
-    if !goes_on {
-        return false;
-    }
-    match write_all(faults, bytes) {
-        Ok(()) => true,
-        Err(_) => false,
+    if format_is_known {
+        print_line(faults, &plain(None, "--ilv takes none or line"));
+    } else {
+        print_line(faults, &plain(None, "--as takes jls or pnm"));
     }
 }
 
-/// Prints a number in decimal, if there is one.
-fn print_number<E: Sink>(faults: &mut E, goes_on: bool, number: Option<u64>) -> bool
-    ensures { PrintsOn goes_on (digits_of number) result (E.history faults.old) (E.history faults.new) }
+/// Prints that the output of this name was not created.
+pub fn print_not_created<E: Sink>(faults: &mut E, name: &str)
+    ensures { GrewBy (Printed (cause_line name.now Cause.NotCreated)) (E.history faults.old) (E.history faults.new) }
 {
-    match number {
-        Some(number) => {
-            let mut buffer = Buffer::new();
-            let digits = buffer.format(number).as_bytes();
-            print_more(faults, goes_on, digits)
-        }
-        None => goes_on,
-    }
+    print_line(faults, &plain(Some(name), ": cannot be created"));
 }
 
-fn print_line<E: Sink>(faults: &mut E, line: &Line<'_>)
-    ensures { GrewBy (Printed (bytes_of line.now)) (E.history faults.old) (E.history faults.new) }
+/// Prints why a join did not create the output of this name: it would replace a JPEG file.
+pub fn print_not_replaced<E: Sink>(faults: &mut E, name: &str)
+    ensures { GrewBy (Printed (not_replaced_line name.now)) (E.history faults.old) (E.history faults.new) }
 {
-    let name = line.name.as_bytes();
-    let text = line.text.as_bytes();
-    let between = line.between.as_bytes();
-    let end = line.end.as_bytes();
-    let program_went = print_more(faults, true, b"jls-salvage: ");
-    let name_went = print_more(faults, program_went, name);
-    let text_went = print_more(faults, name_went, text);
-    let number_went = print_number(faults, text_went, line.number);
-    let between_went = print_more(faults, number_went, between);
-    let second_went = print_number(faults, between_went, line.second);
-    let _end_went = print_more(faults, second_went, end);
-}
-
-/// Prints a text to the fault output.
-pub(crate) fn print_text<E: Sink>(faults: &mut E, text: &str)
-    ensures { GrewBy (Printed text.now) (E.history faults.old) (E.history faults.new) }
-{
-    let bytes = text.as_bytes();
-    let _went = print_more(faults, true, bytes);
-}
-
-/// Prints that an option has a value which it doesn't take.
-pub(crate) fn print_unknown_value<E: Sink>(faults: &mut E)
-    ensures { GrewBy (Printed unknown_value_line) (E.history faults.old) (E.history faults.new) }
-{
-    print_line(
-        faults,
-        &plain("", "unknown value, see jls-salvage write --help"),
-    )
+    let text = " is a JPEG file, and join does not replace one";
+    print_line(faults, &plain(Some(name), text));
 }
 
 /// Prints that memory ran out.

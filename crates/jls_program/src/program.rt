@@ -8,7 +8,7 @@ use crate::answering::answer;
 use crate::performing::perform;
 use crate::printing::{print_outcome, print_unknown_value};
 use jls_device::{Desk, Sink};
-use jls_words::{asked_command, matches};
+use jls_words::{asked_command, knows_format, matches};
 use std::alloc::Global;
 
 /// The program `jls-salvage`. The words begin with the program's own name, and the answer is the exit status:
@@ -40,7 +40,7 @@ pub fn run<D: Desk, W: Sink, E: Sink>(
     let asked = match asked_command(&matches) {
         Some(asked) => asked,
         None => {
-            print_unknown_value(faults);
+            print_unknown_value(faults, knows_format(&matches));
             return 2;
         }
     };

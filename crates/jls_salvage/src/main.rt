@@ -3,6 +3,7 @@
 
 use jls_device::{Counted, Sink};
 use jls_host::{Guard, HostFiles, ending_of_run, hold_streams};
+use jls_program::{print_not_created, print_not_replaced, run};
 use std::io;
 use std::process::ExitCode;
 
@@ -33,14 +34,14 @@ fn guard(words: &[String]) -> Guard {
 
 /// Ends the output after a run with this status, and gives the exit status: 4 where the output could not be kept. Says why a join did
 /// not create its output, if that is a JPEG file.
-fn end_output(rt: &HostRuntime, files: &mut HostFiles<'_>, status: u8, failures: u64) -> u8 {
+fn end_output<E: Sink>(files: &mut HostFiles<'_>, faults: &mut E, status: u8, failures: u64) -> u8 {
     if let Some(name) = files.guarded() {
-        let _ = eprintln!(rt; "jls-salvage: {name} is a JPEG file, and join does not replace one");
+        print_not_replaced(faults, name);
     }
     match files.end(ending_of_run(status, failures)) {
         Ok(()) => status,
         Err(name) => {
-            let _ = eprintln!(rt; "jls-salvage: {}: cannot be created", name.as_str());
+            print_not_created(faults, name.as_str());
             4
         }
     }
@@ -58,8 +59,8 @@ fn main(rt: HostRuntime) -> ExitCode {
     let mut report = Counted::new(rt.stdout());
     let mut faults = Counted::new(rt.stderr());
     let mut desk = Counted::closed(&mut files);
-    let status = jls_program::run(rt.alloc(), &words, &mut desk, &mut report, &mut faults);
+    let status = run(rt.alloc(), &words, &mut desk, &mut report, &mut faults);
     let failures = desk.write_failures();
     drop(desk);
-    ExitCode::from(end_output(&rt, &mut files, status, failures))
+    ExitCode::from(end_output(&mut files, &mut faults, status, failures))
 }

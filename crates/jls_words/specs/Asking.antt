@@ -58,6 +58,11 @@ asked_write (Some format) (Some options) (Some out) (Some file) =
     else None
 asked_write _ _ _ _ = None
 
+-- whether the value of `--as` is a format that there is
+abbrev pub is_format : Option Text → Bool
+is_format None = false
+is_format (Some format) = if bytes_eq format (codes "pnm") then true else bytes_eq format (codes "jls")
+
 -- ---- by what clap reads
 
 -- the command of this name, whose arguments have these values, asks for this
@@ -75,6 +80,15 @@ asked_by name rows =
 -- what the words ask for, by the command that clap reads in them
 abbrev pub asked_in : List Text → Option Asked
 asked_in words = option_and_then (λ p. asked_by p.0 p.1) (subcommand_of salvage_app words)
+
+-- whether the command that clap reads has `--as` with a format that there is
+abbrev pub format_is_known_by : Option (Text × List Row) → Bool
+format_is_known_by None = false
+format_is_known_by (Some p) = is_format (first_of (codes "as") p.1)
+
+-- whether the words name a format that there is
+abbrev pub format_is_known : List Text → Bool
+format_is_known words = format_is_known_by (subcommand_of salvage_app words)
 
 -- clap takes the words, and they ask for this
 pub record AskFor (words : List Text) (a : Asked) : Type 0 where

@@ -3,7 +3,7 @@
 ghost use Rattle.std.specs.Prelude.{◌≡◌, Some, map, option_map, option_and_then};
 ghost use Rattle.clap.specs.Words.{subcommand_rows_of};
 ghost use Rattle.jls_words.specs.Asking as spec;
-ghost use Rattle.jls_words.specs.Asking.{asked_of, number_up_to};
+ghost use Rattle.jls_words.specs.Asking.{asked_of, format_is_known_by, number_up_to};
 
 use clap::ArgMatches;
 
@@ -179,5 +179,25 @@ pub fn asked_command<'m, 'a>(matches: &'m ArgMatches<'a>) -> Option<Asked<'m, 'a
         asked_write(format, options, given.get_str("OUT"), given.get_str("FILE"))
     } else {
         None
+    }
+}
+
+/// Whether the value of `--as` is a format that there is.
+fn is_format(format: Option<&str>) -> bool
+    ensures { result ≡ spec.is_format (option_map (λ s. s.now) format.entry) }
+{
+    match format {
+        Some(format) => format == "pnm" || format == "jls",
+        None => false,
+    }
+}
+
+/// Whether the words name a format that there is. Where they ask for nothing, the format is at fault, or else the interleave mode.
+pub fn knows_format(matches: &ArgMatches<'_>) -> bool
+    ensures { result ≡ format_is_known_by (subcommand_rows_of matches.now) }
+{
+    match matches.subcommand() {
+        Some((_name, given)) => is_format(given.get_str("as")),
+        None => false,
     }
 }

@@ -125,7 +125,8 @@ fn command<'a>(alloc: Global) -> Result<Command<'a>, AllocError>
     ensures { IfOk result (λ c. app_of c ≡ salvage_app) }
 {
     let bare = bare(alloc, "jls-salvage", texts::ABOUT, texts::EXAMPLES);
-    let salvage = bare.version("0.1.0").subcommand_required(true);
+    let versioned = bare.version("0.1.0").propagate_version(true);
+    let salvage = versioned.subcommand_required(true);
     let checks = salvage.subcommand(check_command(alloc)?)?;
     let shows = checks.subcommand(show_command(alloc)?)?;
     let joins = shows.subcommand(join_command(alloc)?)?;

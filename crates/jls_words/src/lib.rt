@@ -5,5 +5,5 @@ mod asked;
 mod command;
 mod texts;
 
-pub use asked::{Asked, asked_command};
+pub use asked::{Asked, asked_command, knows_format};
 pub use command::matches;

@@ -95,20 +95,23 @@ const COPIES: [(&str, u8, &str); 20] = [
     (
         "FF D8 FF F7 00 0B 08 FF FF FF FF 01 01 11 00 FF DD 00 04 10 00 FF DA 00 08 01 01 00 00 00 00",
         1,
-        "piece 0 0 31 broken / end input 31 / picture 65535x65535, 8 bits, components 1 / settled 0, missing 65535, disputed 0 / missing 1 0-65534",
+        "piece 0 0 31 broken / end input 31 / picture 65535x65535, 8 bits, components 1 / \
+         settled 0, missing 65535, disputed 0 / missing 1 0-65534",
     ),
     // A long run, at the end of the image and at that of the input.
     (
         "FF D8 FF F7 00 0B 08 10 00 FF FF 01 01 11 00 FF DA 00 08 01 01 00 00 00 00 FF 7F FF 7F FF 7F FF 7F FF 7F FF 7F \
          FF 7F FF 7F FF D9",
         1,
-        "piece 0 0 25 broken / end eoi 41 / picture 65535x4096, 8 bits, components 1 / settled 0, missing 4096, disputed 0 / missing 1 0-4095",
+        "piece 0 0 25 broken / end eoi 41 / picture 65535x4096, 8 bits, components 1 / \
+         settled 0, missing 4096, disputed 0 / missing 1 0-4095",
     ),
     (
         "FF D8 FF F7 00 0B 08 10 00 FF FF 01 01 11 00 FF DA 00 08 01 01 00 00 00 00 FF 7F FF 7F FF 7F FF 7F FF 7F FF 7F \
          FF 7F FF 7F",
         1,
-        "piece 0 0 25 broken / end input 41 / picture 65535x4096, 8 bits, components 1 / settled 45, missing 4051, disputed 0 / missing 1 45-4095",
+        "piece 0 0 25 broken / end input 41 / picture 65535x4096, 8 bits, components 1 / \
+         settled 45, missing 4051, disputed 0 / missing 1 45-4095",
     ),
     // Lines that stand before a cut, and lines that don't.
     (

@@ -134,7 +134,7 @@ const REFUSED: [(&str, u8, &str); 13] = [
     (
         "write --as jls --ilv sample OUT S",
         2,
-        "unknown value, see jls-salvage write --help",
+        "--ilv takes none or line",
     ),
     ("check copy", 3, "copy: no picture, fault 4 at 2"),
     ("check A", 4, "A: cannot be opened"),
@@ -166,11 +166,7 @@ const REFUSED: [(&str, u8, &str); 13] = [
         "cut: bad text, truncated at 30",
     ),
     ("write --as pnm OUT A", 4, "A: cannot be opened"),
-    (
-        "write --as gif OUT S",
-        2,
-        "unknown value, see jls-salvage write --help",
-    ),
+    ("write --as gif OUT S", 2, "--as takes jls or pnm"),
 ];
 
 fn check_shown(rt: &impl Abort, alloc: Global, manners: Manners) -> Result<(), Fail> {

@@ -9,7 +9,7 @@ use std::io::Write;
 use std::test::Fail;
 
 /// Words and the status: 2 with a line on the fault output, or 0 with help or the version on the report output.
-const WORDS: [(&str, u8); 22] = [
+const WORDS: [(&str, u8); 24] = [
     ("", 2),
     ("join", 2),
     ("join OUT", 2),
@@ -32,6 +32,8 @@ const WORDS: [(&str, u8); 22] = [
     ("write --help", 0),
     ("help join", 0),
     ("--version", 0),
+    ("check --version", 0),
+    ("check A --version", 0),
 ];
 
 #[test]

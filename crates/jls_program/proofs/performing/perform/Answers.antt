@@ -3,7 +3,7 @@ use Rattle.std.specs.Borrow.{Bor}
 use Rattle.jls_commands.specs.Histories.{GrewBoth}
 use Rattle.jls_commands.specs.WritingFiles.{WritesFile}
 use Rattle.jls_commands.specs.declared.writing.Format.TheVariants.{Pnm, Jls}
-use Rattle.jls_station.specs.Joining.{Joins}
+use Rattle.jls_commands.specs.Joining.{Joins}
 use Rattle.jls_words.specs.Asking.{asked_of}
 use Rattle.jls_words.specs.declared.asked.Asked.{Asked}
 use Rattle.jls_program.specs.Runs.{CameOf}

@@ -9,6 +9,10 @@ use Rattle.jls_words.proofs.command.command.Goals as goal
 abbrev versioned : App → App
 versioned a = record a { top = record a.top { has_version = true } }
 
+-- `propagate_version(true)`
+passed_on : App → App
+passed_on a = record a { top = record a.top { propagate_version = true } }
+
 -- `subcommand_required(true)`
 abbrev must_name : App → App
 must_name a = record a { top = record a.top { subcommand_required = true } }
@@ -21,9 +25,11 @@ abbrev top_of : App → Shape
 top_of a = a.top
 
 pub returns : goal.returns
+unfolding passed_on
 returns c =
     let named : app_of c.version.result ≡ versioned (new_app (codes "jls-salvage")) = ap app_of_fields c.version.ensures ∙ ap versioned c.bare-bare.ensures.app in
-    let bare : app_of c.subcommand_required-salvage.result ≡ bare_app = ap app_of_fields c.subcommand_required-salvage.ensures ∙ ap must_name named in
+    let telling : app_of c.propagate_version-versioned.result ≡ passed_on (versioned (new_app (codes "jls-salvage"))) = ap app_of_fields c.propagate_version-versioned.ensures ∙ ap passed_on named in
+    let bare : app_of c.subcommand_required-salvage.result ≡ bare_app = ap app_of_fields c.subcommand_required-salvage.ensures ∙ ap must_name telling in
     let check : shape_of c.in_ok-check_command.field-0 ≡ check_app.top = ap top_of c.in_ok-check_command.ensures.app in
     let show : shape_of c.in_ok-show_command.field-0 ≡ show_app.top = ap top_of c.in_ok-show_command.ensures.app in
     let join : shape_of c.in_ok-join_command.field-0 ≡ join_app.top = ap top_of c.in_ok-join_command.ensures.app in

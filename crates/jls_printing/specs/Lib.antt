@@ -1,0 +1,4 @@
+-- What the contracts of this crate cite.
+pub mod Names
+pub mod Lines
+pub mod Handing
