@@ -8,6 +8,7 @@ mod Fitting
 mod HeaderFacts
 mod Alike
 mod Kept
+mod EmptyPiece
 mod Outcomes
 mod TellsMore
 mod TellsScan

@@ -8,6 +8,7 @@ pub mod CutPieces
 pub mod ReadCopy
 pub mod Fits
 pub mod Findings
+pub mod PieceDecoder
 pub mod ReaderState
 pub mod Stretch
 pub mod Sound

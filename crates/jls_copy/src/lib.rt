@@ -9,6 +9,7 @@ mod cut_search;
 mod end;
 mod fill;
 mod findings;
+mod interval_shape;
 mod lanes;
 mod machine;
 mod payload;

@@ -77,24 +77,22 @@ pub(crate) struct Machine {
 
 impl Machine {
     /// Takes the segment whose payload is whole, and whose marker stands at this offset.
-    fn take_segment(&mut self, marker: u64, code: u8) -> Result<Place, AllocError>
+    fn take_segment(&mut self, marker: u64, code: u8) -> Place
         requires { self.old.count < 2 ^ 63 }
-        ensures place { IfOk result
-            (λ place. place ≡ (state.with_segment self.old.count self.old.headers self.old.payload.items marker code).place) }
-        ensures headers { OnOk result (self.new.headers
-            ≡ (state.with_segment self.old.count self.old.headers self.old.payload.items marker code).headers) }
+        ensures place { result ≡ (state.with_segment self.old.count self.old.headers self.old.payload.items marker code).place }
+        ensures headers { self.new.headers ≡ (state.with_segment self.old.count self.old.headers self.old.payload.items marker code).headers }
         ensures count { self.new.count ≡ self.old.count }
         ensures payload { self.new.payload.items ≡ self.old.payload.items }
         ensures findings { self.new.findings ≡ self.old.findings }
-        ensures sound { IfOk result (λ place. IsPlace self.new.headers.frame place []) }
+        ensures sound { IsPlace self.new.headers.frame result [] }
     {
         let index = self.headers.scans();
         match self.headers.take(code, &self.payload) {
-            Err(fault) => Ok(Place::Done(End::Header(fault, marker))),
-            Ok(None) => Ok(Place::AtMarker(false)),
+            Err(fault) => Place::Done(End::Header(fault, marker)),
+            Ok(None) => Place::AtMarker(false),
             Ok(Some(plan)) => {
-                let scan = OpenScan::open(self.alloc, index, plan, self.count + 1)?;
-                Ok(Place::InScan(scan))
+                let scan = OpenScan::open(self.alloc, index, plan, self.count + 1);
+                Place::InScan(scan)
             }
         }
     }
@@ -159,7 +157,7 @@ impl Machine {
         let last = scan.last;
         let plan = self.close(scan, ClosedBy::Marker)?;
         let number = next_number(last, mark);
-        let piece = OpenPiece::open(self.alloc, &plan, number)?;
+        let piece = OpenPiece::open(self.alloc, &plan, number);
         let last = if number < plan.intervals() {
             number
         } else {
@@ -213,24 +211,23 @@ impl Machine {
 
     /// The length of a segment is known.
     #[tactic(auto, using(crate::proofs::Kept::length_keeps))]
-    fn length_known(&mut self, marker: u64, code: u8, size: u16) -> Result<Place, AllocError>
+    fn length_known(&mut self, marker: u64, code: u8, size: u16) -> Place
         requires { self.old.count < 2 ^ 63 }
-        ensures place { IfOk result (λ place. place ≡ (state.length_known self.old.count self.old.headers marker code size).place) }
-        ensures headers { OnOk result (self.new.headers ≡ (state.length_known self.old.count self.old.headers marker code size).headers) }
+        ensures place { result ≡ (state.length_known self.old.count self.old.headers marker code size).place }
+        ensures headers { self.new.headers ≡ (state.length_known self.old.count self.old.headers marker code size).headers }
         ensures count { self.new.count ≡ self.old.count }
-        ensures payload { OnOk result (self.new.payload.items
-            ≡ (state.length_known self.old.count self.old.headers marker code size).payload) }
+        ensures payload { self.new.payload.items ≡ (state.length_known self.old.count self.old.headers marker code size).payload }
         ensures header_bytes { length self.new.payload.items ≤ 65535 }
         ensures findings { self.new.findings ≡ self.old.findings }
-        ensures sound { IfOk result (λ place. IsPlace self.new.headers.frame place []) }
+        ensures sound { IsPlace self.new.headers.frame result [] }
     {
         self.payload.clear();
         if size < 2 {
-            Ok(Place::Done(End::Header(MarkerFault::Length, marker)))
+            Place::Done(End::Header(MarkerFault::Length, marker))
         } else if size == 2 {
             self.take_segment(marker, code)
         } else {
-            Ok(Place::InPayload(marker, code, size))
+            Place::InPayload(marker, code, size)
         }
     }
 
@@ -259,7 +256,7 @@ impl Machine {
     {
         self.payload.push(byte)?;
         if self.payload.len() + 2 == usize::from(size) {
-            self.take_segment(marker, code)
+            Ok(self.take_segment(marker, code))
         } else {
             Ok(Place::InPayload(marker, code, size))
         }
@@ -292,7 +289,8 @@ impl Machine {
             }
             Place::AtLength(marker, code) => Ok(Place::InLength(marker, code, byte)),
             Place::InLength(marker, code, high) => {
-                self.length_known(marker, code, u16::from(high) * 256 + u16::from(byte))
+                let size = u16::from(high) * 256 + u16::from(byte);
+                Ok(self.length_known(marker, code, size))
             }
             Place::InPayload(marker, code, size) => self.payload_byte(marker, code, size, byte),
             Place::InScan(scan) => self.scan_byte(scan, byte),

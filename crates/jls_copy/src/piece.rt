@@ -1,14 +1,14 @@
 //! Pieces of scan data.
 
-ghost use Rattle.std.specs.Prelude.{◌≡◌, ◌∷◌, [], ◌<◌, ◌^◌, OnOk, IfOk, true};
+ghost use Rattle.std.specs.Prelude.{◌≡◌, ◌∷◌, [], ◌<◌, ◌^◌, OnOk, true};
 ghost use Rattle.jls_copy.specs.Fronts.{OpenReadsNoMore};
 ghost use Rattle.jls_marker.specs.Scan.{intervals};
 ghost use Rattle.jls_copy.specs.Numbers.{numbered};
 ghost use Rattle.jls_copy.specs.ReaderState.{piece_opened, piece_with};
 ghost use Rattle.jls_copy.specs.Sound.{IsOpenPiece};
 
+use crate::interval_shape::IntervalShape;
 use crate::piece_decoder::PieceDecoder;
-use jls_interval::IntervalDecoder;
 use jls_marker::ScanPlan;
 use std::alloc::{AllocError, Global};
 
@@ -64,25 +64,24 @@ pub(crate) struct ToldPiece {
 
 impl OpenPiece {
     /// The piece of this number, told nothing.
-    pub(crate) fn open(alloc: Global, plan: &ScanPlan, number: u32) -> Result<OpenPiece, AllocError>
+    pub(crate) fn open(alloc: Global, plan: &ScanPlan, number: u32) -> OpenPiece
         requires { number < 2 ^ 17 }
-        ensures opened { IfOk result (λ piece. piece ≡ piece_opened plan.now (numbered (intervals plan.now) number)) }
-        ensures sound { IfOk result (λ piece. IsOpenPiece plan.now piece) }
+        ensures opened { result ≡ piece_opened plan.now (numbered (intervals plan.now) number) }
+        ensures sound { IsOpenPiece plan.now result }
     {
         if number >= plan.intervals() {
-            return Ok(OpenPiece::Beyond(number));
+            return OpenPiece::Beyond(number);
         }
         let (_, rows) = plan.rows(number);
         let params = plan.params();
-        let components = plan.components().len() as u8;
-        let decoder = IntervalDecoder::new(
-            alloc,
-            &params,
-            plan.width(),
-            components,
-            u32::from(rows),
-        );
-        Ok(OpenPiece::Within(number, PieceDecoder::new(alloc, decoder)?))
+        let _maxval = params.maxval();
+        let shape = IntervalShape {
+            params,
+            width: plan.width(),
+            components: plan.components().len() as u8,
+            rows: u32::from(rows),
+        };
+        OpenPiece::Within(number, PieceDecoder::new(alloc, shape))
     }
 
     /// Tells one byte more.

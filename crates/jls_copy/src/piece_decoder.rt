@@ -5,47 +5,98 @@ ghost use Rattle.jls_interval.specs.Reads.{ReadsNoMore};
 ghost use Rattle.jls_interval.specs.PieceFaults.{OutcomeIs};
 ghost use Rattle.jls_interval.specs.CutEnds.{CutEndIs};
 ghost use Rattle.jls_interval.specs.declared.decode_piece.PieceFault.TheVariants as PieceFault;
+ghost use Rattle.jls_copy.specs.PieceDecoder.{untold};
 ghost use Rattle.jls_copy.specs.ReaderState.{with_bytes};
 
+use crate::interval_shape::IntervalShape;
 use jls_interval::{CutEnd, IntervalDecoder, PieceFault};
 use std::alloc::{AllocError, Global};
 use std::marker::Model;
 
-/// A decoder of some 6,000 bytes, on the heap: what has it in hand is moved with many a byte. A contract sees the decoder.
+/// A decoder that was told nothing.
+fn untold_decoder(alloc: Global, shape: IntervalShape) -> IntervalDecoder
+    ensures { result ≡ untold shape }
+{
+    IntervalDecoder::new(
+        alloc,
+        &shape.params,
+        shape.width,
+        shape.components,
+        shape.rows,
+    )
+}
+
+/// A decoder on the heap that was told these bytes.
+#[inline(never)]
+fn decoder_with(
+    alloc: Global,
+    shape: IntervalShape,
+    bytes: &[u8],
+) -> Result<Box<IntervalDecoder>, AllocError>
+    ensures { IfOk result (λ made. made.value ≡ with_bytes (untold shape) bytes.now) }
+{
+    let mut made = Box::new(alloc, untold_decoder(alloc, shape))?;
+    made.push_all(bytes)?;
+    Ok(made)
+}
+
+/// A decoder that is made at the first byte of its piece, since there can be many empty pieces. It has some 6,000 bytes and stands on
+/// the heap: what has it in hand is moved with many a byte. A contract sees the decoder.
 #[derive(Drop)]
 pub(crate) struct PieceDecoder {
-    decoder: Box<IntervalDecoder>,
+    alloc: Global,
+    shape: IntervalShape,
+    /// None before the first byte.
+    made: Option<Box<IntervalDecoder>>,
 }
 
 impl Model for PieceDecoder {
     ghost use Rattle.jls_interval.specs.IntervalBytes.{IntervalBytes};
+    ghost use Rattle.jls_copy.specs.PieceDecoder.{made_or_untold};
 
     ghost Value = { IntervalBytes };
 
-    ghost view = { λ d. d.decoder.value };
+    ghost view = { λ d. made_or_untold d.made d.shape };
 }
 
 impl PieceDecoder {
-    /// The decoder, moved to the heap once.
-    pub(crate) fn new(alloc: Global, decoder: IntervalDecoder) -> Result<PieceDecoder, AllocError>
-        ensures { IfOk result (λ boxed. boxed ≡ decoder) }
+    /// A decoder that was told nothing. It takes no memory yet.
+    pub(crate) fn new(alloc: Global, shape: IntervalShape) -> PieceDecoder
+        ensures { result ≡ untold shape }
     {
-        let decoder = Box::new(alloc, decoder)?;
-        Ok(PieceDecoder { decoder })
+        PieceDecoder {
+            alloc,
+            shape,
+            made: None,
+        }
     }
 
     /// Takes one byte of the piece. After want of memory the decoder stays refused.
     pub(crate) fn push(&mut self, byte: u8) -> Result<(), AllocError>
         ensures { OnOk result (self.new ≡ with_bytes self.old (byte ∷ [])) }
     {
-        self.decoder.push(byte)
+        match &mut self.made {
+            Some(decoder) => decoder.push(byte),
+            None => {
+                self.made = Some(decoder_with(self.alloc, self.shape, &[byte])?);
+                Ok(())
+            }
+        }
     }
 
     /// Takes bytes of the piece in turn, as `push` does.
     pub(crate) fn push_all(&mut self, bytes: &[u8]) -> Result<(), AllocError>
         ensures { OnOk result (self.new ≡ with_bytes self.old bytes.now) }
     {
-        self.decoder.push_all(bytes)
+        match &mut self.made {
+            Some(decoder) => decoder.push_all(bytes),
+            None => {
+                if !bytes.is_empty() {
+                    self.made = Some(decoder_with(self.alloc, self.shape, bytes)?);
+                }
+                Ok(())
+            }
+        }
     }
 
     /// Whether the piece is faulty whatever bytes follow. `false` says nothing.
@@ -53,7 +104,10 @@ impl PieceDecoder {
         ensures { result ≡ true → IfSome self.now.bytes
             (λ bytes. ReadsNoMore self.now.parameters self.now.width self.now.components (self.now.rows * self.now.components) bytes) }
     {
-        self.decoder.reads_no_more()
+        match &self.made {
+            Some(decoder) => decoder.reads_no_more(),
+            None => false,
+        }
     }
 
     /// The lines of the piece, or why it has none.
@@ -61,7 +115,10 @@ impl PieceDecoder {
         ensures outcome { MatchOption self.bytes (result ≡ Err PieceFault.OutOfMemory)
             (λ bytes. OutcomeIs self.parameters self.width self.components (self.rows * self.components) bytes result) }
     {
-        Box::into_inner(self.decoder).finish()
+        match self.made {
+            Some(decoder) => Box::into_inner(decoder).finish(),
+            None => Err(PieceFault::Broken),
+        }
     }
 
     /// The lines of a piece that the input's end cuts off, or those that stand whole before the cut.
@@ -70,6 +127,9 @@ impl PieceDecoder {
         ensures cut_end { IfSome self.bytes (λ bytes. MatchResult result
             (λ end. CutEndIs self.parameters self.width self.components (self.rows * self.components) bytes end) (λ _. ⊥)) }
     {
-        Box::into_inner(self.decoder).finish_cut()
+        match self.made {
+            Some(decoder) => Box::into_inner(decoder).finish_cut(),
+            None => untold_decoder(self.alloc, self.shape).finish_cut(),
+        }
     }
 }

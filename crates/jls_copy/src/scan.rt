@@ -109,24 +109,19 @@ pub(crate) fn next_number(last: u32, mark: u8) -> u32
 
 impl OpenScan {
     /// The scan at its first piece.
-    pub(crate) fn open(
-        alloc: Global,
-        index: u8,
-        plan: ScanPlan,
-        offset: u64,
-    ) -> Result<OpenScan, AllocError>
-        ensures opened { IfOk result (λ scan. scan ≡ state.scan_opened index plan offset) }
-        ensures sound { IfOk result (λ scan. IsOpenScan scan) }
+    pub(crate) fn open(alloc: Global, index: u8, plan: ScanPlan, offset: u64) -> OpenScan
+        ensures opened { result ≡ state.scan_opened index plan offset }
+        ensures sound { IsOpenScan result }
     {
-        let piece = OpenPiece::open(alloc, &plan, 0)?;
-        Ok(OpenScan {
+        let piece = OpenPiece::open(alloc, &plan, 0);
+        OpenScan {
             index,
             plan,
             last: 0,
             held: Held::Nothing,
             offset,
             piece,
-        })
+        }
     }
 
     /// One FF byte more that may be fill.

@@ -73,7 +73,8 @@ const IN_SECOND: &[u8] =
 
 /// Both: entries stand by component, and then by line.
 const IN_BOTH: &[u8] =
-    b"JLSP\x02\x08\0\x01\0\x02\x02\x01\x02\0\0\0\x02\0\0\x01\0\0\0\0\0\0\0\x01\0\x04\0\0\0\0\0\0\0\0\x01\0\0\0\0\0\0\0\0\0\x01\0\x09\0\0\0\0\0\0\0\0";
+    b"JLSP\x02\x08\0\x01\0\x02\x02\x01\x02\0\0\0\x02\0\0\x01\0\0\0\0\0\0\0\x01\0\x04\0\0\0\0\0\0\0\0\
+      \x01\0\0\0\0\0\0\0\0\0\x01\0\x09\0\0\0\0\0\0\0\0";
 
 /// What stands before 1024 readings of one line of one sample of 16 bits.
 const MANY_READINGS: &[u8] = b"JLSP\x02\x10\0\x01\0\x01\x01\x01\0\0\0\x01\0\0\0\0\0\0\0\0\0\x04\0";

@@ -98,12 +98,3 @@ run_then k up old new told first chunk middle unread earlier step e h = record {
   step_is = subst (λ z. EventStepIs k up old new z earlier step) (append_assoc told first h.taken) h.step_is;
   all = h.all;
 }
-
--- a sample of a run more at the end
-pub run_pushed : (xs line : List ℕ) (i v : ℕ) → line ≡ xs ++ replicate i v → (next : List ℕ) → next ≡ line ++ v ∷ []
-    → next ≡ xs ++ replicate (i + 1) v
-run_pushed xs line i v h next e = e ∙ ap (λ z. z ++ v ∷ []) h ∙ append_assoc xs (replicate i v) (v ∷ []) ∙ ap (λ z. xs ++ z) (more i)
-  where
-    more : (n : ℕ) → replicate n v ++ v ∷ [] ≡ replicate (n + 1) v
-    more zero = refl
-    more (suc n) = let e : suc n + 1 ≡ suc (n + 1) = omega arith in ap (λ z. v ∷ z) (more n) ∙ ap (λ z. replicate z v) (sym e)

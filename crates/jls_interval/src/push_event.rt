@@ -69,11 +69,7 @@ fn push_to_regular(
 fn push_run(line: &mut Vec<u16>, value: u16, count: u32) -> Result<(), AllocError>
     ensures { IfOk result (λ _. line.new.items ≡ line.old.items ++ replicate count value) }
 {
-    line.reserve(count as usize)?;
-    for _column in 0..count {
-        line.push_reserved(value);
-    }
-    Ok(())
+    line.resize(line.len() + count as usize, value)
 }
 
 /// Takes bits of the sample that interrupts a run of this value.

@@ -39,49 +39,29 @@ fn gives_the_union_of_many_readings(rt: HostRuntime) -> Result<(), Fail> {
     Ok(())
 }
 
+/// A text of another shape changes nothing.
+#[test]
+fn refuses_other_shapes(rt: HostRuntime) -> Result<(), Fail> {
+    let mut partial = Partial::from_bytes(rt.alloc(), THREE)?;
+    let answer = partial.merge_text(rt.alloc(), OTHER_SHAPE);
+    assert_eq!(rt; answer, Err(MergeTextFault::ShapeDiffers));
+    assert_eq!(rt; partial.to_bytes(rt.alloc())?.as_slice(), THREE);
+    Ok(())
+}
+
 /// The fault of a text comes before another shape. What stands before the fault is held where the shape is the same.
 #[test]
-fn refuses_what_is_no_text_and_other_shapes(rt: HostRuntime) -> Result<(), Fail> {
-    for (held, text, fault, left) in [
-        (THREE, OTHER_SHAPE, MergeTextFault::ShapeDiffers, THREE),
-        (
-            THREE,
-            &OTHER_SHAPE[..36],
-            MergeTextFault::Text(TextFault::Truncated(36)),
-            THREE,
-        ),
-        (
-            FIVE,
-            &OTHER_TWO_READINGS[..46],
-            MergeTextFault::Text(TextFault::Truncated(46)),
-            FIVE,
-        ),
-        (
-            THREE,
-            b"",
-            MergeTextFault::Text(TextFault::Truncated(0)),
-            THREE,
-        ),
-        (
-            THREE,
-            &FIVE[..36],
-            MergeTextFault::Text(TextFault::Truncated(36)),
-            THREE,
-        ),
-        (
-            FIVE,
-            &TWO_READINGS[..46],
-            MergeTextFault::Text(TextFault::Truncated(46)),
-            TWO_READINGS,
-        ),
-        (
-            NO_READING,
-            &TWO_READINGS[..46],
-            MergeTextFault::Text(TextFault::Truncated(46)),
-            THREE,
-        ),
+fn refuses_what_is_no_text(rt: HostRuntime) -> Result<(), Fail> {
+    for (held, text, offset, left) in [
+        (THREE, &OTHER_SHAPE[..36], 36, THREE),
+        (FIVE, &OTHER_TWO_READINGS[..46], 46, FIVE),
+        (THREE, b"", 0, THREE),
+        (THREE, &FIVE[..36], 36, THREE),
+        (FIVE, &TWO_READINGS[..46], 46, TWO_READINGS),
+        (NO_READING, &TWO_READINGS[..46], 46, THREE),
     ] {
         let mut partial = Partial::from_bytes(rt.alloc(), held)?;
+        let fault = MergeTextFault::Text(TextFault::Truncated(offset));
         assert_eq!(rt; partial.merge_text(rt.alloc(), text), Err(fault));
         assert_eq!(rt; partial.to_bytes(rt.alloc())?.as_slice(), left);
     }
