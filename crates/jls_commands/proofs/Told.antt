@@ -5,10 +5,10 @@ use Rattle.std.specs.Prelude.{codes}
 use Rattle.jls_device.specs.Event.{History, GrewBy}
 use Rattle.jls_device.specs.Writing.{Wrote, WroteFront}
 use Rattle.jls_station.specs.Given.{Given}
-use Rattle.jls_station.specs.Inputs.{IsTaken, StopsAt}
-use Rattle.jls_station.specs.declared.outcome.Cause.TheVariants as cause
-use Rattle.jls_station.specs.declared.outcome.Refusal.{Refusal}
-use Rattle.jls_station.specs.declared.outcome.Outcome.TheVariants.{Done, Refused}
+use Rattle.jls_commands.specs.AllInputs.{IsTaken, StopsAt}
+use Rattle.jls_commands.specs.declared.outcome.Cause.TheVariants as cause
+use Rattle.jls_commands.specs.declared.outcome.Refusal.{Refusal}
+use Rattle.jls_commands.specs.declared.outcome.Outcome.TheVariants.{Done, Refused}
 use Rattle.jls_commands.specs.Histories.{GrewBoth}
 use Rattle.jls_commands.specs.Telling.{Says, Tells, done, at_input, no_memory, not_printed}
 

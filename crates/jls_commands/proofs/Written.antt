@@ -17,14 +17,14 @@ use Rattle.jls_device.proofs.Growing.{grew_on, grew_as, grew_not}
 use Rattle.jls_file.specs.Stops.{StopsIn}
 use Rattle.jls_file.specs.WrittenFile.{written_file}
 use Rattle.jls_station.specs.Given.{Given}
-use Rattle.jls_station.specs.Inputs.{IsTaken, StopsAt}
-use Rattle.jls_station.specs.Outputs.{HandsOut, StopsAtOutput}
-use Rattle.jls_station.specs.declared.outcome.Cause.{Cause}
-use Rattle.jls_station.specs.declared.outcome.Cause.TheVariants as cause
-use Rattle.jls_station.specs.declared.outcome.Refusal.{Refusal}
-use Rattle.jls_station.specs.declared.outcome.Outcome.TheVariants.{Done, Refused}
-use Rattle.jls_station.proofs.InTurn.{grew_behind}
-use Rattle.jls_station.proofs.JoinSteps.{created_and_cut}
+use Rattle.jls_commands.specs.AllInputs.{IsTaken, StopsAt}
+use Rattle.jls_commands.specs.Outputs.{HandsOut, StopsAtOutput}
+use Rattle.jls_commands.specs.declared.outcome.Cause.{Cause}
+use Rattle.jls_commands.specs.declared.outcome.Cause.TheVariants as cause
+use Rattle.jls_commands.specs.declared.outcome.Refusal.{Refusal}
+use Rattle.jls_commands.specs.declared.outcome.Outcome.TheVariants.{Done, Refused}
+use Rattle.jls_commands.proofs.InTurn.{grew_behind}
+use Rattle.jls_commands.proofs.JoinSteps.{created_and_cut}
 use Rattle.jls_commands.specs.Telling.{Says}
 use Rattle.jls_commands.specs.WritingFiles.{cut_cause, file, FitsFormat, IsTooLarge, options_for, takes_memory, StopsAtFile, too_large, at_output, no_memory, unsettled_cause, WritesFile, done, at_input, unsettled, at_file}
 use Rattle.jls_commands.specs.declared.writing.Format.{Format}

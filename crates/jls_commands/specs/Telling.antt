@@ -7,12 +7,12 @@ use Rattle.jls_report.specs.ReportText.{report_text}
 use Rattle.jls_device.specs.Event.{Event}
 use Rattle.jls_device.specs.Writing.{Wrote, WroteFront}
 use Rattle.jls_station.specs.Given.{Given}
-use Rattle.jls_station.specs.Inputs.{IsTaken, StopsAt}
+use Rattle.jls_commands.specs.AllInputs.{IsTaken, StopsAt}
 use Rattle.jls_station.specs.declared.input.ReadStop.TheVariants.{Whole}
-use Rattle.jls_station.specs.declared.outcome.Cause.TheVariants as cause
-use Rattle.jls_station.specs.declared.outcome.Refusal.{Refusal}
-use Rattle.jls_station.specs.declared.outcome.Outcome.{Outcome}
-use Rattle.jls_station.specs.declared.outcome.Outcome.TheVariants.{Done, Refused}
+use Rattle.jls_commands.specs.declared.outcome.Cause.TheVariants as cause
+use Rattle.jls_commands.specs.declared.outcome.Refusal.{Refusal}
+use Rattle.jls_commands.specs.declared.outcome.Outcome.{Outcome}
+use Rattle.jls_commands.specs.declared.outcome.Outcome.TheVariants.{Done, Refused}
 use Rattle.jls_commands.specs.Tracing.{trace_lines}
 
 -- the lines that tell what is known of a partial picture

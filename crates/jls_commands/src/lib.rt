@@ -1,9 +1,18 @@
-//! The commands that take one input: `check` and `show` print what is known of it, and `write` writes its picture.
+//! The four commands: `join`, `check`, `show` and `write`; their inputs, their output, and what comes of them.
 #![tactic(auto)]
 
+mod inputs;
+mod joining;
+mod laws;
+mod outcome;
+mod output;
 mod telling;
 mod tracing;
 mod writing;
 
+pub use inputs::JoinInputs;
+pub use joining::join;
+pub use laws::{same_inputs_same_output, surviving_lines_give_the_picture};
+pub use outcome::{Cause, Outcome, Refusal};
 pub use telling::{check, show};
 pub use writing::{Format, write};

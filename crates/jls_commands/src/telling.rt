@@ -5,11 +5,13 @@ ghost use Rattle.jls_commands.specs.Histories.{GrewBoth};
 ghost use Rattle.jls_commands.specs.Telling.{lines, report_lines, Tells};
 ghost use Rattle.jls_commands.specs.Tracing.{trace_lines};
 
+use crate::inputs::open_and_read;
+use crate::outcome::{Cause, Outcome, Refusal};
 use crate::tracing::put_trace;
 use jls_device::{Desk, Sink, write_all};
 use jls_partial::Partial;
 use jls_report::Report;
-use jls_station::{Cause, InputRead, Outcome, Refusal, open_and_read};
+use jls_station::InputRead;
 use std::alloc::{AllocError, Global};
 
 /// The lines of the report of a partial picture.
@@ -63,7 +65,7 @@ fn tell<'a, D: Desk, W: Sink>(
     ensures { GrewBoth (Tells (lines traced) file.now result) (D.history desk.old) (D.history desk.new)
         (W.history report.old) (W.history report.new) }
 {
-    let input = match open_and_read(alloc, desk, None, file) {
+    let input = match open_and_read(alloc, desk, file) {
         Ok(input) => input,
         Err(cause) => return Outcome::Refused(Refusal { name: file, cause }),
     };

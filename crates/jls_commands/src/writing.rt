@@ -2,18 +2,20 @@
 
 ghost use Rattle.std.specs.Prelude.{◌≡◌, true, OnOk, IfErr};
 ghost use Rattle.jls_device.specs.Event.{GrewBy};
-ghost use Rattle.jls_station.specs.Outputs.{HandsOut, StopsAtOutput};
+ghost use Rattle.jls_commands.specs.Outputs.{HandsOut, StopsAtOutput};
 ghost use Rattle.jls_picture.specs.Unsettled.{NamesFirstUnsettled};
 ghost use Rattle.jls_file.specs.WrittenFile.{written_file};
 ghost use Rattle.jls_picture.specs.Options.{OptionsFit};
 ghost use Rattle.jls_picture.specs.Pnm.{pnm};
 ghost use Rattle.jls_commands.specs.WritingFiles.{cut_cause, file, FitsFormat, IsTooLarge, options_for, StopsAtFile, takes_memory, unsettled_cause, WritesFile};
 
+use crate::inputs::open_and_read;
+use crate::outcome::{Cause, Outcome, Refusal};
+use crate::output::create;
 use jls_device::Desk;
 use jls_file::write_jls;
 use jls_partial::Partial;
 use jls_picture::{Options, OutputFault, Picture, PictureFault, pictures_are_whole, write_pnm};
-use jls_station::{Cause, Outcome, Refusal, open_and_read};
 use jls_values::Params;
 use std::alloc::Global;
 
@@ -68,10 +70,7 @@ fn hand_out_pnm<D: Desk>(desk: &mut D, name: &str, picture: &Picture<'_>) -> Res
     ensures stopped { IfErr result (λ cause.
         GrewBy (StopsAtOutput name.now (pnm picture.now) cause) (D.history desk.old) (D.history desk.new)) }
 {
-    match desk.create_output(name) {
-        Ok(()) => {}
-        Err(_) => return Err(Cause::NotCreated),
-    }
+    create(desk, name)?;
     match write_pnm(picture, desk) {
         Ok(()) => Ok(()),
         Err(fault) => Err(cut(fault)),
@@ -96,10 +95,7 @@ fn hand_out_jls<D: Desk>(
     if !options.fits(picture) {
         return Err(Cause::TooLarge);
     }
-    match desk.create_output(name) {
-        Ok(()) => {}
-        Err(_) => return Err(Cause::NotCreated),
-    }
+    create(desk, name)?;
     match write_jls(alloc, picture, options, desk) {
         Ok(()) => Ok(()),
         Err(fault) => Err(cut(fault)),
@@ -141,7 +137,7 @@ pub fn write<'a, D: Desk>(
 ) -> Outcome<'a>
     ensures { GrewBy (WritesFile format out.now file.now result) (D.history desk.old) (D.history desk.new) }
 {
-    let input = match open_and_read(alloc, desk, None, file) {
+    let input = match open_and_read(alloc, desk, file) {
         Ok(input) => input,
         Err(cause) => return Outcome::Refused(Refusal { name: file, cause }),
     };

@@ -9,8 +9,8 @@ use Rattle.jls_partial.specs.ReadingOrder.{reading_total, marks_total}
 use Rattle.jls_partial.specs.Partial.{PartialPicture, union}
 use Rattle.jls_station.specs.Given.{Given, Gives, by_text, by_copy, GivesPartial}
 use Rattle.jls_station.specs.Reading.{AreBytes}
-use Rattle.jls_station.specs.Inputs.{IsUnionOf}
-use Rattle.jls_station.proofs.InputBytes.{AreGiven}
+use Rattle.jls_commands.specs.AllInputs.{IsUnionOf}
+use Rattle.jls_commands.proofs.InputBytes.{AreGiven}
 use Rattle.jls_headline.specs.Gives.{GivesReading}
 use Rattle.jls_headline.specs.Sources.{SourcedCopy}
 use Rattle.jls_headline.specs.SourceLaws.{sourced_copy}

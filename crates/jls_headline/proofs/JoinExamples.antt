@@ -17,11 +17,12 @@ use Rattle.jls_picture.specs.Picture.{WholePicture, picture_of}
 use Rattle.jls_picture.specs.Pnm.{pnm}
 use Rattle.jls_station.specs.Texts.{is_text}
 use Rattle.jls_station.specs.Given.{Given, given_by_text, given_by_copy, by_text, by_copy}
-use Rattle.jls_station.specs.Inputs.{IsEnough, IsCopyDone, IsTaken}
-use Rattle.jls_station.specs.Joining.{JoinIsDone}
+use Rattle.jls_station.specs.Inputs.{IsEnough, IsCopyDone}
+use Rattle.jls_commands.specs.AllInputs.{IsTaken}
+use Rattle.jls_commands.specs.Joining.{JoinIsDone}
 use Rattle.jls_station.specs.Reading.{IsRead, AreBytes}
 use Rattle.jls_station.specs.declared.input.ReadStop.TheVariants.{Whole}
-use Rattle.jls_station.specs.declared.outcome.Outcome.TheVariants.{Done}
+use Rattle.jls_commands.specs.declared.outcome.Outcome.TheVariants.{Done}
 use Rattle.jls_station.proofs.OneInput.{empty_goes_on}
 use Rattle.jls_commands.specs.WritingFiles.{done}
 use Rattle.jls_commands.specs.declared.writing.Format.TheVariants.{Pnm}

@@ -16,9 +16,9 @@ use Rattle.jls_device.specs.Event.{Event}
 use Rattle.jls_station.specs.Given.{Given, marked, Gives, by_text, by_copy, GivesPartial}
 use Rattle.jls_station.specs.Texts.{is_text}
 use Rattle.jls_station.specs.Reading.{AreBytes}
-use Rattle.jls_station.specs.Inputs.{partials, AreOfOneShape, IsUnionOf}
-use Rattle.jls_station.specs.Joining.{JoinIsDone}
-use Rattle.jls_station.specs.Laws.{input_bytes}
+use Rattle.jls_commands.specs.AllInputs.{partials, AreOfOneShape, IsUnionOf}
+use Rattle.jls_commands.specs.Joining.{JoinIsDone}
+use Rattle.jls_commands.specs.Laws.{input_bytes}
 use Rattle.jls_headline.specs.Damaged.{Damaged}
 use Rattle.jls_headline.specs.Stations.{HasShape, HoldsExactly, began, IsSameCopy, AreAmong, TookInTheEnd}
 use Rattle.jls_headline.specs.Sources.{SourcedCopy, HoldsExactlyUnder, AreAmongUnder}
@@ -31,7 +31,7 @@ use Rattle.jls_headline.proofs.SameCopies.{same_copy_has_shape}
 use Rattle.jls_headline.proofs.Stations.{copy_holds, union_holds, same_readings}
 use Rattle.jls_headline.proofs.SourcedStations.{marked_shape, marked_readings, copy_holds_under, union_holds_under, same_under}
 use Rattle.jls_headline.proofs.StationPictures.{say_the_same, damaged_copies_give_the_picture}
-use Rattle.jls_station.proofs.InputBytes.{AreGiven, inputs_of_join, output_of_join}
+use Rattle.jls_commands.proofs.InputBytes.{AreGiven, inputs_of_join, output_of_join}
 
 -- One input ------------------------------------------------------------------------------------------------------
 

@@ -19,13 +19,13 @@ use Rattle.jls_picture.specs.declared.picture.PictureFault.TheVariants as pictur
 use Rattle.jls_station.specs.Texts.{is_text}
 use Rattle.jls_station.specs.Given.{Given}
 use Rattle.jls_picture.specs.WholePictures.{IsPicture}
-use Rattle.jls_station.specs.Inputs.{partials, IsTaken, StopsAt, not_there, refused, other_shape, no_memory}
-use Rattle.jls_station.specs.Outputs as output
-use Rattle.jls_station.specs.Laws.{input_bytes, output_bytes}
-use Rattle.jls_station.specs.declared.outcome.Cause.{Cause}
-use Rattle.jls_station.specs.declared.outcome.Cause.TheVariants.{Unsettled}
-use Rattle.jls_station.specs.declared.outcome.Outcome.{Outcome}
-use Rattle.jls_station.specs.declared.outcome.Outcome.TheVariants.{Done, Refused}
+use Rattle.jls_commands.specs.AllInputs.{partials, IsTaken, StopsAt, not_there, refused, other_shape, no_memory}
+use Rattle.jls_commands.specs.Outputs as output
+use Rattle.jls_commands.specs.Laws.{input_bytes, output_bytes}
+use Rattle.jls_commands.specs.declared.outcome.Cause.{Cause}
+use Rattle.jls_commands.specs.declared.outcome.Cause.TheVariants.{Unsettled}
+use Rattle.jls_commands.specs.declared.outcome.Outcome.{Outcome}
+use Rattle.jls_commands.specs.declared.outcome.Outcome.TheVariants.{Done, Refused}
 use Rattle.jls_commands.specs.WritingFiles as writing
 use Rattle.jls_commands.specs.WritingFiles.{file, FitsFormat, options_for, WritesFile, StopsAtFile}
 use Rattle.jls_commands.specs.declared.writing.Format.{Format}
@@ -36,7 +36,7 @@ use Rattle.jls_headline.specs.ReadsAs.{GivesPicture, ReadsAsOnly}
 use Rattle.jls_headline.specs.RunLaws.{AreNoTexts}
 use Rattle.jls_headline.specs.JoinThenWrite.{JoinsDamagedCopies, JoinsForDamagedCopies, WritesWhatWasJoined, WrittenJoinsAreThePicture, WrittenJoinsReadAsThePicture, WrittenJoinsAreSettled, WrittenTextJoinsAreThePicture, WrittenTextJoinsReadAsThePicture, WrittenTextJoinsAreSettled}
 use Rattle.jls_headline.proofs.Members.{all_map}
-use Rattle.jls_station.proofs.InputBytes.{ReadsNone, one_input, handed_out, inputs_of_join, output_of_join}
+use Rattle.jls_commands.proofs.InputBytes.{ReadsNone, one_input, handed_out, inputs_of_join, output_of_join}
 use Rattle.jls_headline.proofs.JoinRuns.{framed_is_no_text, marks_of_run, runs_hold_exactly, runs_with_texts_hold_exactly, runs_give_the_picture, runs_with_texts_give_the_picture}
 use Rattle.jls_headline.proofs.JoinedTexts.{held_are_lines, its_text, text_given}
 use Rattle.jls_headline.proofs.InputMarks.{marks_of_inputs}

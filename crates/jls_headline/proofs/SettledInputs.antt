@@ -16,9 +16,9 @@ use Rattle.jls_picture.specs.WholePictures.{IsPicture}
 use Rattle.jls_station.specs.Given.{Given, Gives, by_text, by_copy, GivesPartial}
 use Rattle.jls_station.specs.Texts.{is_text, IsTextOf}
 use Rattle.jls_station.specs.Reading.{AreBytes}
-use Rattle.jls_station.specs.Inputs.{partials, AreOfOneShape, IsUnionOf}
-use Rattle.jls_station.specs.Laws.{input_bytes}
-use Rattle.jls_station.proofs.InputBytes.{AreGiven, inputs_of_join, output_of_join}
+use Rattle.jls_commands.specs.AllInputs.{partials, AreOfOneShape, IsUnionOf}
+use Rattle.jls_commands.specs.Laws.{input_bytes}
+use Rattle.jls_commands.proofs.InputBytes.{AreGiven, inputs_of_join, output_of_join}
 use Rattle.jls_headline.specs.NoOtherLaws.{InputHasLine, SomeInputHasEachLine, SettledJoinsAreThePicture}
 use Rattle.jls_headline.specs.PictureLines.{picture_reading}
 use Rattle.jls_headline.specs.ReadsAs.{GivesPicture}

@@ -16,7 +16,7 @@ use Rattle.jls_headline.specs.Sources.{HoldsExactlyUnder, TookUnder, began_under
 use Rattle.jls_headline.specs.SourceLaws.{sourced_copy, NewStationTookNothingUnder, CopyIsTakenUnder, CopyIsRefusedUnder, PartialIsTakenUnder, PartialIsRefusedUnder, FinishedCopiesHold, ReadCopiesHold}
 use Rattle.jls_headline.specs.CallLaws.{NewStationTookNothing, CopyIsTaken, CopyIsRefused, PartialIsTaken, PartialIsRefused}
 use Rattle.jls_headline.proofs.Members.{none_in}
-use Rattle.jls_station.proofs.InputBytes.{all_reads}
+use Rattle.jls_commands.proofs.InputBytes.{all_reads}
 use Rattle.jls_headline.proofs.Stations.{copy_holds}
 use Rattle.jls_headline.proofs.SourcedStations.{marked_shape, marked_readings, copy_holds_under}
 

@@ -4,8 +4,8 @@ use Rattle.std.specs.List.{Contains}
 use Rattle.jls_device.specs.Event.{Event}
 use Rattle.jls_picture.specs.Picture.{WholePicture, picture_of}
 use Rattle.jls_picture.specs.WholePictures.{IsPicture}
-use Rattle.jls_station.specs.Laws.{input_bytes}
-use Rattle.jls_station.specs.declared.outcome.Outcome.TheVariants.{Done}
+use Rattle.jls_commands.specs.Laws.{input_bytes}
+use Rattle.jls_commands.specs.declared.outcome.Outcome.TheVariants.{Done}
 use Rattle.jls_commands.specs.WritingFiles.{file}
 use Rattle.jls_commands.specs.declared.writing.Format.{Format}
 use Rattle.jls_commands.specs.declared.writing.Format.TheVariants.{Jls}

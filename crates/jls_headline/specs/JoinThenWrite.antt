@@ -4,12 +4,12 @@ use Rattle.std.specs.List.{AllByRecursion}
 use Rattle.jls_partial.specs.Partial.{PartialPicture}
 use Rattle.jls_device.specs.Event.{Event}
 use Rattle.jls_picture.specs.Picture.{WholePicture}
-use Rattle.jls_station.specs.Joining.{JoinIsDone}
-use Rattle.jls_station.specs.Laws.{input_bytes, output_bytes}
-use Rattle.jls_station.specs.declared.outcome.Cause.TheVariants.{Unsettled}
-use Rattle.jls_station.specs.declared.outcome.Refusal.{Refusal}
-use Rattle.jls_station.specs.declared.outcome.Outcome.{Outcome}
-use Rattle.jls_station.specs.declared.outcome.Outcome.TheVariants.{Done, Refused}
+use Rattle.jls_commands.specs.Joining.{JoinIsDone}
+use Rattle.jls_commands.specs.Laws.{input_bytes, output_bytes}
+use Rattle.jls_commands.specs.declared.outcome.Cause.TheVariants.{Unsettled}
+use Rattle.jls_commands.specs.declared.outcome.Refusal.{Refusal}
+use Rattle.jls_commands.specs.declared.outcome.Outcome.{Outcome}
+use Rattle.jls_commands.specs.declared.outcome.Outcome.TheVariants.{Done, Refused}
 use Rattle.jls_commands.specs.WritingFiles.{file, WritesFile}
 use Rattle.jls_commands.specs.declared.writing.Format.{Format}
 use Rattle.jls_commands.specs.declared.writing.Format.TheVariants.{Jls}

@@ -6,8 +6,8 @@ use Rattle.jls_partial.specs.Text.{text}
 use Rattle.jls_device.specs.Event.{Event}
 use Rattle.jls_picture.specs.Picture.{WholePicture}
 use Rattle.jls_station.specs.Texts.{is_text, IsTextOf}
-use Rattle.jls_station.specs.Joining.{JoinIsDone}
-use Rattle.jls_station.specs.Laws.{input_bytes, output_bytes}
+use Rattle.jls_commands.specs.Joining.{JoinIsDone}
+use Rattle.jls_commands.specs.Laws.{input_bytes, output_bytes}
 use Rattle.jls_headline.specs.Damaged.{Damaged}
 use Rattle.jls_headline.specs.Survives.{EachLineSurvives}
 use Rattle.jls_headline.specs.Stations.{HoldsExactly, SameCopies}

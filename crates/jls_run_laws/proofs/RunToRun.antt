@@ -5,9 +5,9 @@ use Rattle.clap.specs.Words.{Text}
 use Rattle.jls_partial.specs.Partial.{PartialPicture}
 use Rattle.jls_device.specs.Event.{Event, History}
 use Rattle.jls_picture.specs.Picture.{WholePicture}
-use Rattle.jls_station.specs.Joining.{JoinIsDone}
-use Rattle.jls_station.specs.Laws.{input_bytes}
-use Rattle.jls_station.specs.declared.outcome.Outcome.TheVariants.{Done}
+use Rattle.jls_commands.specs.Joining.{JoinIsDone}
+use Rattle.jls_commands.specs.Laws.{input_bytes}
+use Rattle.jls_commands.specs.declared.outcome.Outcome.TheVariants.{Done}
 use Rattle.jls_commands.specs.WritingFiles as writing
 use Rattle.jls_commands.specs.declared.writing.Format.{Format}
 use Rattle.jls_commands.specs.declared.writing.Format.TheVariants.{Jls}
@@ -16,7 +16,8 @@ use Rattle.jls_program.specs.Laws.{DoneJoinsRan, DoneWritesRan}
 use Rattle.jls_headline.specs.JoinThenWrite as headline
 use Rattle.jls_headline.specs.NoOtherLaws.{SomeInputHasEachLine, SettledJoinsAreThePicture, WrittenInputsAreThePicture}
 use Rattle.jls_headline.specs.RunLaws.{RunsGiveThePicture}
-use Rattle.jls_run_laws.specs.RunToRun.{RanOver, JoinRun, WriteRun, JoinsAndWritesGiveThePicture, JoinsAndWritesReadAsThePicture, SettledRunsAreThePicture, WrittenRunsAreThePicture}
+use Rattle.jls_run_laws.specs.RunToRun.{RanOver, JoinRun, WriteRun, JoinsAndWritesGiveThePicture, JoinsAndWritesReadAsThePicture}
+use Rattle.jls_run_laws.specs.RunToRun.{SettledRunsAreThePicture, WrittenRunsAreThePicture}
 
 -- the events by which a history grew are one list
 one_list : (old new : History) (a b : List Event) → new ≡ old ++ a → new ≡ old ++ b → a ≡ b

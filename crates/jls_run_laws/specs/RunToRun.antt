@@ -7,7 +7,7 @@ use Rattle.jls_partial.specs.Text.{text}
 use Rattle.jls_device.specs.Event.{Event, History}
 use Rattle.jls_picture.specs.Picture.{WholePicture}
 use Rattle.jls_picture.specs.WholePictures.{IsPicture}
-use Rattle.jls_station.specs.Laws.{input_bytes, output_bytes}
+use Rattle.jls_commands.specs.Laws.{input_bytes, output_bytes}
 use Rattle.jls_commands.specs.WritingFiles.{file}
 use Rattle.jls_commands.specs.declared.writing.Format.{Format}
 use Rattle.jls_commands.specs.declared.writing.Format.TheVariants.{Jls}

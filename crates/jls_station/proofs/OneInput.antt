@@ -17,7 +17,8 @@ use Rattle.jls_copy.specs.declared.reader.CopyFault.{CopyFault}
 use Rattle.jls_copy.specs.declared.reader.CopyFault.TheVariants as copy
 use Rattle.jls_device.specs.Event.{Event, History, GrewBy, opened, not_opened, gave, read_failed, created, not_created, took, write_failed, bytes_given}
 use Rattle.jls_device.proofs.Growing.{grew_as, grew_twice}
-use Rattle.jls_station.specs.Given.{Given, Gives}
+use Rattle.jls_station.specs.Forms.{IsForm}
+use Rattle.jls_station.specs.Given.{Given, Gives, by_text, given_by_text}
 use Rattle.jls_station.specs.Inputs.{IsCopyDone, IsEnough, IsRefused, no_text, no_picture, copy_not_read, between_reads, behind_the_last, ReadsGive, ReadsRefuse, for_fault, for_memory}
 use Rattle.jls_station.specs.Reading.{AreBytes, GoesOn, StopsWith, IsRead, IsReadInPart, ReadSoFar}
 use Rattle.jls_station.specs.Texts.{is_text, IsTextOf, IsNoText}
@@ -25,6 +26,7 @@ use Rattle.jls_station.specs.InputFaults.{input_fault_of, input_fault_of_copy}
 use Rattle.jls_station.specs.declared.input.ReadStop.{ReadStop}
 use Rattle.jls_station.specs.declared.input.ReadStop.TheVariants.{Whole, Failed, Turns}
 use Rattle.jls_station.specs.declared.input.InputFault.{InputFault}
+use Rattle.jls_station.specs.declared.input.InputForm.TheVariants.{Text}
 use Rattle.jls_station.specs.declared.input.InputFault.TheVariants as fault
 
 -- ---- bytes
@@ -309,3 +311,12 @@ other_input_fault (text_fault.Order offset) other = refl
 other_input_fault (text_fault.Sample offset) other = refl
 other_input_fault (text_fault.Trailing offset) other = refl
 other_input_fault text_fault.OutOfMemory other = absurd (other refl)
+
+-- ---- a text that was read
+
+module _ (source : Option ℕ) (old new : History) (bytes : List ℕ) (h : GrewBy (IsForm source bytes Text) old new) where
+  pub all_read : GrewBy (λ reads. IsRead IsEnough reads bytes Whole) old new
+  all_read = grew_as (IsForm source bytes Text) (λ reads. IsRead IsEnough reads bytes Whole) old new (λ reads f. f.0) h
+
+  pub text_gives : (p : PartialPicture) → IsTextOf bytes p → GrewBy (ReadsGive source (given_by_text p)) old new
+  text_gives p is = given_so old new bytes Whole all_read source (given_by_text p) refl (by_text source bytes p is)

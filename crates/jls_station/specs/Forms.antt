@@ -1,9 +1,7 @@
--- What is read of an input, and how it is joined to what a station holds.
-use Rattle.std.specs.Prelude.{◌≡◌, ◌↔◌, ℕ, Bool, IsTrue, true, List, Option, None, IfSome}
-use Rattle.jls_partial.specs.Partial.{PartialPicture, has_same_shape, union}
+-- What is read of an input, where the bytes of a text are not judged yet.
+use Rattle.std.specs.Prelude.{◌≡◌, ℕ, true, List, Option, None, IfSome}
 use Rattle.jls_device.specs.Event.{Event}
-use Rattle.jls_station.specs.Given.{Given}
-use Rattle.jls_station.specs.Inputs.{IsEnough, ReadsGive, IsTaken}
+use Rattle.jls_station.specs.Inputs.{IsEnough, ReadsGive}
 use Rattle.jls_station.specs.Reading.{IsRead}
 use Rattle.jls_station.specs.Texts.{is_text}
 use Rattle.jls_station.specs.declared.input.InputForm.{InputForm}
@@ -19,12 +17,3 @@ IsForm source bytes (Copy given) reads = ReadsGive source given reads
 abbrev pub IsAllOf : Option (List ℕ) → List ℕ → InputForm → Type 0
 IsAllOf known bytes Text = IfSome known (λ xs. xs ≡ bytes)
 IsAllOf known bytes (Copy given) = given.copy ≡ None → ⊥
-
--- an input of this name was opened and read, and what it gave, which has the shape of what was held, was joined to that; it says whether
--- the input was read whole
-pub record JoinsInput (source : Option ℕ) (name : List ℕ) (old new : PartialPicture) (whole : Bool) (events : List Event) : Type 0 where
-  pub given : Given
-  pub taken : IsTaken source name given events
-  pub one_shape : has_same_shape old given.partial ≡ true
-  pub union_is : new ≡ union old given.partial
-  pub whole_is : IsTrue whole ↔ (given.stop ≡ Whole)

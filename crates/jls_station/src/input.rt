@@ -131,7 +131,7 @@ const FIRST_OF_TEXT: u8 = 0x4A;
 
 /// Why an input is refused whose text has a fault.
 #[tactic(auto, using(crate::proofs::OneInput::other_input_fault))]
-pub(crate) fn input_fault(fault: TextFault) -> InputFault
+pub fn input_fault(fault: TextFault) -> InputFault
     ensures { result ≡ input_fault_of fault }
 {
     match fault {
@@ -215,16 +215,18 @@ fn read_copy<S: Source>(
     }
 }
 
-/// What is read of an input: all bytes of a text, which stand in the room of texts and are not judged yet, or what a copy gives.
+/// What is read of an input.
 #[derive(Drop)]
-pub(crate) enum InputForm {
+pub enum InputForm {
+    /// A text: its bytes stand in the room of texts, and are not judged yet.
     Text,
+    /// What a copy gives.
     Copy(InputRead),
 }
 
 /// Reads an input as `read_input` does, but for the text itself: its bytes are read into the room of `text`, which grows as far as
 /// it has to.
-pub(crate) fn read_form<S: Source>(
+pub fn read_form<S: Source>(
     alloc: Global,
     source: Option<u32>,
     device: &mut S,
@@ -257,27 +259,6 @@ pub(crate) fn read_form<S: Source>(
     }
 }
 
-/// The same as `read_input`. A text is read into the room of `text`, which grows as far as it has to.
-pub(crate) fn read_input_into<S: Source>(
-    alloc: Global,
-    source: Option<u32>,
-    device: &mut S,
-    text: &mut Vec<u8>,
-) -> Result<InputRead, InputFault>
-    ensures given { IfOk result (λ given. GrewBy (ReadsGive source given) (S.history device.old) (S.history device.new)) }
-    ensures refused { IfErr result (λ fault. GrewBy (ReadsRefuse fault) (S.history device.old) (S.history device.new)) }
-    ensures known { IfOk result (λ given. given.copy ≡ None → IfSome (S.remaining device.old) (λ bytes. IsTextOf bytes given.partial)) }
-{
-    match read_form(alloc, source, device, text) {
-        Ok(InputForm::Text) => match Partial::from_bytes(alloc, text) {
-            Ok(partial) => Ok(InputRead::of_text(partial)),
-            Err(fault) => Err(input_fault(fault)),
-        },
-        Ok(InputForm::Copy(read)) => Ok(read),
-        Err(fault) => Err(fault),
-    }
-}
-
 /// What a device gives, from its current position on: a copy under the number of a source if there is one. An input whose first
 /// byte is 4A is the text of a partial picture, and is read to its end. Every other input is a damaged copy, the empty one too, and
 /// is read as long as more bytes can change what it gives. Reads have room for at most 4,096 bytes, and there are at most
@@ -295,5 +276,12 @@ pub fn read_input<S: Source>(
     ensures known { IfOk result (λ given. given.copy ≡ None → IfSome (S.remaining device.old) (λ bytes. IsTextOf bytes given.partial)) }
 {
     let mut text = Vec::new(alloc);
-    read_input_into(alloc, source, device, &mut text)
+    match read_form(alloc, source, device, &mut text) {
+        Ok(InputForm::Text) => match Partial::from_bytes(alloc, &text) {
+            Ok(partial) => Ok(InputRead::of_text(partial)),
+            Err(fault) => Err(input_fault(fault)),
+        },
+        Ok(InputForm::Copy(read)) => Ok(read),
+        Err(fault) => Err(fault),
+    }
 }

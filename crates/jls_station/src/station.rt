@@ -1,10 +1,14 @@
 //! Stations.
 
-ghost use Rattle.std.specs.Prelude.{◌≡◌, ◌↔◌, true, false, OnOk, IfErr, IsErrOf};
+ghost use Rattle.std.specs.Prelude.{◌≡◌, ◌↔◌, true, false, OnOk, OnErr, IfErr, IsErrOf};
 ghost use Rattle.jls_values.specs.Join.{IsBetween};
 ghost use Rattle.jls_values.specs.declared.merge.MergeFault.TheVariants.{ShapeDiffers, OutOfMemory};
-ghost use Rattle.jls_partial.specs.Partial.{has_same_shape, nothing_known, union};
-ghost use Rattle.jls_partial.specs.TextMerging.{RefusesText, MergesText};
+ghost use Rattle.jls_partial.specs.Merging.{TakesFront};
+ghost use Rattle.jls_partial.specs.Partial.{PartialPicture, has_same_shape, nothing_known, union};
+ghost use Rattle.jls_partial.specs.Text.{IsTextOf};
+ghost use Rattle.jls_partial.specs.TextFront.{text_front};
+ghost use Rattle.jls_partial.specs.TextMerging.{RefusesText, MergesText, HasOtherHead};
+ghost use Rattle.jls_partial.specs.declared.text_merging.MergeTextFault.TheVariants as MergeTextFault;
 
 use jls_partial::{MergeTextFault, Partial};
 use jls_values::{Merge, MergeFault, Shape};
@@ -66,10 +70,20 @@ impl Station {
         self.held.merge(other)
     }
 
-    /// Takes in the readings of the partial picture whose text the bytes are, as `Partial::merge_text` does.
-    pub(crate) fn take_text(&mut self, bytes: &[u8]) -> Result<(), MergeTextFault>
+    /// Takes in the readings of the partial picture whose text the bytes are, as `Partial::merge_text` does. The fault of a text comes
+    /// before `ShapeDiffers`. A refused text may have given those of its readings that stand before the fault; after want of memory the
+    /// same call can be made again.
+    pub fn take_text(&mut self, bytes: &[u8]) -> Result<(), MergeTextFault>
         ensures ok { OnOk result (MergesText self.old bytes.now self.new) }
         ensures refused { IfErr result (λ fault. RefusesText self.old bytes.now fault) }
+        ensures unchanged { IsErrOf result MergeTextFault.ShapeDiffers → self.new ≡ self.old }
+        // Whatever the answer.
+        ensures other_head { HasOtherHead self.old bytes.now → self.new ≡ self.old }
+        // What is held after a fault.
+        ensures front { OnErr result (TakesFront self.old self.new (text_front bytes.now)) }
+        // Where memory ran out for what is a text.
+        ensures between { (p : PartialPicture) → IsTextOf bytes.now p
+            → OnErr result (IsBetween union self.old self.new (union self.old p)) }
     {
         self.held.merge_text(self.alloc, bytes)
     }

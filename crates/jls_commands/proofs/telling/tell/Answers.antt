@@ -10,7 +10,7 @@ pub returns-in-Err : goal.returns-in-Err
 returns-in-Err g c =
     let desk = g.D.Device.history in
     let report = g.W.Device.history c.args.report.now in
-    told_at_input (lines c.args.traced) c.args.file.now (desk c.args.desk.now) (desk c.open_and_read.new.desk) report report _ refl (c.in-Err.ensures.stopped _)
+    told_at_input (lines c.args.traced) c.args.file.now (desk c.args.desk.now) (desk c.open_and_read.new.desk) report report _ refl c.in-Err.ensures.stopped
 
 pub returns-in-Err-lines_of : goal.returns-in-Err-lines_of
 returns-in-Err-lines_of g c =

@@ -1,10 +1,10 @@
 use Rattle.std.proofs.Common.{◌≡◌, ◌∙◌, true, false, sym, subst}
+use Rattle.std.proofs.lemmas.Result.{err_from_is_err_and}
 use Rattle.jls_device.specs.Event.{GrewBy}
 use Rattle.jls_file.specs.WrittenFile.{written_file}
 use Rattle.jls_picture.specs.Options.{OptionsFit}
-use Rattle.jls_station.proofs.JoinSteps.{not_created_at_all}
-use Rattle.jls_station.specs.declared.outcome.Cause.{Cause}
-use Rattle.jls_station.specs.declared.outcome.Cause.TheVariants as cause
+use Rattle.jls_commands.proofs.JoinSteps.{not_created_at_all}
+use Rattle.jls_commands.specs.declared.outcome.Cause.{Cause}
 use Rattle.jls_commands.specs.WritingFiles.{StopsAtFile}
 use Rattle.jls_commands.proofs.Written.{cut_in_file, stops_before, stopped_by_output}
 use Rattle.jls_commands.proofs.writing.hand_out_jls.Goals as goal
@@ -15,20 +15,21 @@ returns-then-not-fits-clause-stopped g c =
     let no : F → ⊥ = λ fit. let e : true ≡ false = sym (c.fits.ensures.1 fit) ∙ c.if-not-fits.true in absurd cc in
     stops_before F (F → ⊥) true no (g.D.Device.history c.args.desk.now) c.args.name.now (written_file c.args.picture.now c.args.options.now)
 
-pub returns-in-Err-clause-stopped : goal.returns-in-Err-clause-stopped
-returns-in-Err-clause-stopped g c =
+pub returns-in_err-create-clause-stopped : goal.returns-in_err-create-clause-stopped
+returns-in_err-create-clause-stopped g c =
     let desk = g.D.Device.history in
     let F = OptionsFit c.args.picture.now c.args.options.now in
     let bytes = written_file c.args.picture.now c.args.options.now in
-    stopped_by_output F (F → ⊥) true (c.fits.ensures.0 c.if-not-fits.false) cause.NotCreated (desk c.args.desk.now) (desk c.create_output.new.self) c.args.name.now bytes
-    (not_created_at_all (desk c.args.desk.now) (desk c.args.desk.now) (desk c.create_output.new.self) c.args.name.now bytes c.in-Err.ensures.failed)
+    let p = err_from_is_err_and c.from_residual.result c.from_residual.ensures.1 in
+    rw (p.1, p.2) (stopped_by_output F (F → ⊥) true (c.fits.ensures.0 c.if-not-fits.false) c.in_err-create.field-0.0 (desk c.args.desk.now) (desk c.create.new.desk) c.args.name.now bytes
+    (not_created_at_all (desk c.args.desk.now) (desk c.args.desk.now) (desk c.create.new.desk) c.args.name.now bytes c.in_err-create.field-0.0 c.in_err-create.ensures.not_created))
 
-pub returns-in-Err-write_jls-clause-stopped : goal.returns-in-Err-write_jls-clause-stopped
-returns-in-Err-write_jls-clause-stopped g c =
+pub returns-in-Err-clause-stopped : goal.returns-in-Err-clause-stopped
+returns-in-Err-clause-stopped g c =
     let desk = g.D.Device.history in
     let name = c.args.name.now in
     let F = OptionsFit c.args.picture.now c.args.options.now in
     let bytes = written_file c.args.picture.now c.args.options.now in
     subst (λ (cause : Cause). GrewBy (StopsAtFile F (F → ⊥) true name bytes cause) (desk c.args.desk.now) (desk c.write_jls.new.sink)) (sym c.cut.ensures)
-    (cut_in_file F (F → ⊥) (c.fits.ensures.0 c.if-not-fits.false) c.in-Err-write_jls.fault (desk c.args.desk.now) (desk c.create_output.new.self) (desk c.write_jls.new.sink) name bytes _ _
-    c.in-Ok.ensures.created c.in-Err-write_jls.ensures.stops)
+    (cut_in_file F (F → ⊥) (c.fits.ensures.0 c.if-not-fits.false) c.in-Err.fault (desk c.args.desk.now) (desk c.create.new.desk) (desk c.write_jls.new.sink) name bytes _ _
+    c.in_ok-create.ensures.created c.in-Err.ensures.stops)

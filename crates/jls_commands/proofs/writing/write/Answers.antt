@@ -1,6 +1,6 @@
 use Rattle.std.proofs.Common.{◌∙◌, ap, refl, subst}
 use Rattle.jls_device.specs.Event.{GrewBy}
-use Rattle.jls_station.specs.Outputs.{HandsOut}
+use Rattle.jls_commands.specs.Outputs.{HandsOut}
 use Rattle.jls_partial.specs.Partial.{PartialPicture}
 use Rattle.jls_partial.specs.Status.{IsSettled}
 use Rattle.jls_picture.specs.Picture.{WholePicture, picture_of}
@@ -12,7 +12,7 @@ use Rattle.jls_commands.proofs.writing.write.Goals as goal
 pub returns-in-Err : goal.returns-in-Err
 returns-in-Err g c =
     let desk = g.D.Device.history in
-    stops_at_input c.args.format c.args.out.now c.args.file.now (desk c.args.desk.now) (desk c.open_and_read.new.desk) (desk c.open_and_read.new.desk) _ refl (c.in-Err.ensures.stopped _)
+    stops_at_input c.args.format c.args.out.now c.args.file.now (desk c.args.desk.now) (desk c.open_and_read.new.desk) (desk c.open_and_read.new.desk) _ refl c.in-Err.ensures.stopped
 
 pub returns-in-Err-of : goal.returns-in-Err-of
 returns-in-Err-of g c =

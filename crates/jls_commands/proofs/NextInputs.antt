@@ -1,0 +1,64 @@
+-- An input that is joined to what is held, or stops the command there.
+use Rattle.std.proofs.Common.{◌≡◌, ℕ, Bool, true, List, [], ◌∷◌, ◌++◌, Option, Some, None, refl}
+use Rattle.std.specs.Prelude.{◌↔◌, ◌&&◌, IsTrue}
+use Rattle.jls_partial.specs.Partial.{PartialPicture}
+use Rattle.jls_device.specs.Event.{History, GrewBy, opened}
+use Rattle.jls_device.proofs.Growing.{grew_as}
+use Rattle.jls_station.specs.Forms.{IsForm}
+use Rattle.jls_station.specs.Given.{Given, given_by_text}
+use Rattle.jls_station.specs.Inputs.{ReadsGive}
+use Rattle.jls_station.specs.declared.input.InputForm.TheVariants.{Text}
+use Rattle.jls_station.specs.declared.input.ReadStop.TheVariants.{Whole}
+use Rattle.jls_station.proofs.OneInput.{all_read, text_gives, refused_by}
+use Rattle.jls_commands.specs.AllInputs.{CantJoin, differs, runs_out, CantJoinText, refused_text, other_text, IsHeld, IsTaken, JoinsInput, JoinsText, JoinsWith, partials, StopsAt, other_shape, no_memory, TakesUnion}
+use Rattle.jls_commands.specs.declared.outcome.Cause.{Cause}
+use Rattle.jls_commands.proofs.InTurn.{opened_and_given, opened_and_refused, other_shape_than_union, same_shape_as_union, union_of_first, union_of_next}
+
+module _ (source : Option ℕ) (old mid new : History) (name : List ℕ) (is_opened : mid ≡ old ++ opened name ∷ []) where
+  pub given_joined : (held : Option PartialPicture) (joined : PartialPicture) (whole : Bool) (g : Given) → GrewBy (ReadsGive source g) mid new
+      → JoinsWith held g.partial joined → IsTrue whole ↔ (g.stop ≡ Whole) → GrewBy (JoinsInput source name held joined whole) old new
+  given_joined held joined whole g h j w =
+      grew_as (IsTaken source name g) (JoinsInput source name held joined whole) old new
+      (λ events taken. record { given = g; taken = taken; joined = j; whole_is = w })
+      (opened_and_given source old mid new name g is_opened h)
+
+  pub text_joined : (held : Option PartialPicture) (joined : PartialPicture) (bytes : List ℕ) → GrewBy (IsForm source bytes Text) mid new
+      → JoinsText held bytes joined → GrewBy (JoinsInput source name held joined true) old new
+  text_joined held joined bytes h j =
+      given_joined held joined true (given_by_text j.said) (text_gives source mid new bytes h j.said j.is_text) j.joined (λ _. refl, λ _. refl)
+
+  -- ---- stopped
+
+  pub given_stops : (held : Option PartialPicture) (before : List Given) → IsHeld (partials before) held → (g : Given) (c : Cause)
+      → GrewBy (ReadsGive source g) mid new → CantJoin held g.partial c → GrewBy (StopsAt source before name c) old new
+  given_stops _ before u g _ h (differs held _ other) =
+      grew_as (IsTaken source name g) (StopsAt source before name _) old new
+      (λ events taken. other_shape source before name g events taken (other_shape_than_union (partials before) held g.partial u other))
+      (opened_and_given source old mid new name g is_opened h)
+  given_stops _ before u g _ h (runs_out held _ same) =
+      grew_as (IsTaken source name g) (StopsAt source before name _) old new
+      (λ events taken. no_memory source before name g events taken (same_shape_as_union (partials before) held g.partial u same))
+      (opened_and_given source old mid new name g is_opened h)
+
+  pub text_stops : (held : Option PartialPicture) (before : List Given) → IsHeld (partials before) held → (bytes : List ℕ) (c : Cause)
+      → GrewBy (IsForm source bytes Text) mid new → CantJoinText held bytes c → GrewBy (StopsAt source before name c) old new
+  text_stops _ before u bytes _ h (refused_text _ _ f fails) =
+      opened_and_refused source old mid new name _ before is_opened
+      (refused_by mid new bytes h.they_are.1 (all_read source mid new bytes h) f fails)
+  text_stops _ before u bytes _ h (other_text held said _ is other) =
+      given_stops (Some held) before u (given_by_text said) _ (text_gives source mid new bytes h said is) (differs held said other)
+
+-- ---- all of them
+
+pub first_joined : (source : Option ℕ) (old new : History) (name : List ℕ) (joined : PartialPicture) (whole : Bool)
+    → GrewBy (JoinsInput source name None joined whole) old new → GrewBy (TakesUnion source (name ∷ []) joined whole) old new
+first_joined source old new name joined whole h =
+    let j = h.they_are in
+    union_of_first source old new name j.given whole joined j.whole_is j.joined.union_is (record { events = h.events; grew = h.grew; they_are = j.taken })
+
+pub next_joined : (source : Option ℕ) (old mid new : History) (names : List (List ℕ)) (held : PartialPicture) (whole : Bool)
+    → GrewBy (TakesUnion source names held whole) old mid → (name : List ℕ) (joined : PartialPicture) (also both : Bool) → both ≡ (whole && also)
+    → GrewBy (JoinsInput source name (Some held) joined also) mid new → GrewBy (TakesUnion source (names ++ name ∷ []) joined both) old new
+next_joined source old mid new names held whole taken name joined also both is h =
+    let j = h.they_are in
+    union_of_next source old mid new names held whole taken name j.given also both joined j.whole_is is (record { events = h.events; grew = h.grew; they_are = j.taken }) j.joined.one_shape j.joined.union_is

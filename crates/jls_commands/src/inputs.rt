@@ -1,0 +1,167 @@
+//! The inputs of a command, opened and read in turn.
+
+ghost use Rattle.std.specs.Prelude.{◌≡◌, [], List, IfOk, IfErr, None};
+ghost use Rattle.jls_device.specs.Event.{GrewBy};
+ghost use Rattle.jls_station.specs.Given.{Given};
+ghost use Rattle.jls_commands.specs.AllInputs.{names_of, partials, IsHeld, IsTaken, JoinsInput, JoinsText, JoinsWith, CantJoin, CantJoinText, TakesUnion, StopsAt, StopsAtInput};
+
+use crate::outcome::{Cause, Refusal};
+use jls_device::Desk;
+use jls_partial::{MergeTextFault, Partial};
+use jls_station::{InputForm, InputRead, Station, input_fault, read_form, read_input};
+use jls_values::MergeFault;
+use std::alloc::Global;
+
+/// The inputs of `join`: copies and texts by their names, of which there is a first. The readings of the copies are taken under the number
+/// of a source, if there is one; a text keeps the sources that it has.
+#[derive(Clone, Copy)]
+pub struct JoinInputs<'m, 'a> {
+    pub source: Option<u32>,
+    pub first: &'a str,
+    pub others: &'m [&'a str],
+}
+
+/// Inputs of one shape that were taken into one station.
+#[derive(Drop)]
+pub(crate) struct Taken {
+    pub station: Station,
+    /// Whether each input was read whole.
+    pub whole: bool,
+}
+
+/// Opens one input and reads it. A copy has no source.
+pub(crate) fn open_and_read<D: Desk>(
+    alloc: Global,
+    desk: &mut D,
+    name: &str,
+) -> Result<InputRead, Cause>
+    ensures taken { IfOk result (λ given. GrewBy (IsTaken None name.now given) (D.history desk.old) (D.history desk.new)) }
+    ensures stopped { IfErr result (λ cause. GrewBy (StopsAt None [] name.now cause) (D.history desk.old) (D.history desk.new)) }
+{
+    match desk.open_input(name) {
+        Ok(()) => {}
+        Err(_) => return Err(Cause::NotOpened),
+    }
+    match read_input(alloc, None, desk) {
+        Ok(read) => Ok(read),
+        Err(fault) => Err(Cause::Input(fault)),
+    }
+}
+
+/// Joins what a text says to what is held: to nothing at first.
+fn join_text(alloc: Global, held: Option<Station>, text: &[u8]) -> Result<Station, Cause>
+    ensures joined { IfOk result (λ station. JoinsText held text.now station) }
+    ensures refused { IfErr result (λ cause. CantJoinText held text.now cause) }
+{
+    match held {
+        None => match Partial::from_bytes(alloc, text) {
+            Ok(partial) => Ok(Station::holding(alloc, partial)),
+            Err(fault) => Err(Cause::Input(input_fault(fault))),
+        },
+        Some(mut station) => match station.take_text(text) {
+            Ok(()) => Ok(station),
+            Err(MergeTextFault::Text(fault)) => Err(Cause::Input(input_fault(fault))),
+            Err(MergeTextFault::ShapeDiffers) => Err(Cause::ShapeDiffers),
+        },
+    }
+}
+
+/// Joins what a copy gives to what is held: to nothing at first.
+fn join_copy(alloc: Global, held: Option<Station>, read: InputRead) -> Result<Station, Cause>
+    ensures joined { IfOk result (λ station. JoinsWith held read.partial station) }
+    ensures refused { IfErr result (λ cause. CantJoin held read.partial cause) }
+{
+    match held {
+        None => Ok(Station::holding(alloc, read.into_partial())),
+        Some(mut station) => match station.take(read.partial()) {
+            Ok(()) => Ok(station),
+            Err(MergeFault::ShapeDiffers) => Err(Cause::ShapeDiffers),
+            Err(MergeFault::OutOfMemory) => Err(Cause::OutOfMemory),
+        },
+    }
+}
+
+/// What the inputs of one command share: the number of a source, if there is one, and the room that their texts are read into.
+#[derive(Drop)]
+struct Room {
+    alloc: Global,
+    source: Option<u32>,
+    text: Vec<u8>,
+}
+
+/// Opens one input, reads it, and joins what it gives to what is held: to nothing at first.
+fn take_input<D: Desk>(
+    desk: &mut D,
+    room: &mut Room,
+    held: Option<Station>,
+    name: &str,
+) -> Result<Taken, Cause>
+    ensures joined { IfOk result (λ taken. GrewBy (JoinsInput room.old.source name.now held taken.station taken.whole)
+        (D.history desk.old) (D.history desk.new)) }
+    // Whatever the inputs before it gave, of which the union is held.
+    ensures stopped { (before : List Given) → IsHeld (partials before) held → IfErr result (λ cause.
+        GrewBy (StopsAt room.old.source before name.now cause) (D.history desk.old) (D.history desk.new)) }
+    ensures source { room.new.source ≡ room.old.source }
+{
+    match desk.open_input(name) {
+        Ok(()) => {}
+        Err(_) => return Err(Cause::NotOpened),
+    }
+    match read_form(room.alloc, room.source, desk, &mut room.text) {
+        Ok(InputForm::Text) => {
+            let station = join_text(room.alloc, held, &room.text)?;
+            Ok(Taken {
+                station,
+                whole: true,
+            })
+        }
+        Ok(InputForm::Copy(read)) => {
+            let whole = read.is_whole();
+            let station = join_copy(room.alloc, held, read)?;
+            Ok(Taken { station, whole })
+        }
+        Err(fault) => Err(Cause::Input(fault)),
+    }
+}
+
+/// Takes the inputs of these names, in turn, into a station. It stops at the first that is refused. A copy that can't be read to its
+/// end is taken as far as it was read, if a frame was. All texts are read into one room, which comes back.
+pub(crate) fn take_inputs<'a, D: Desk>(
+    alloc: Global,
+    desk: &mut D,
+    inputs: JoinInputs<'_, 'a>,
+) -> Result<(Taken, Vec<u8>), Refusal<'a>>
+    ensures taken { IfOk result (λ taken.
+        GrewBy (TakesUnion inputs.entry.source (names_of inputs.entry) taken.0.station taken.0.whole) (D.history desk.old)
+        (D.history desk.new)) }
+    ensures stopped { IfErr result (λ refusal.
+        GrewBy (StopsAtInput inputs.entry.source (names_of inputs.entry) refusal) (D.history desk.old) (D.history desk.new)) }
+{
+    let JoinInputs {
+        source,
+        first,
+        others,
+    } = inputs;
+    let text = Vec::new(alloc);
+    let mut room = Room {
+        alloc,
+        source,
+        text,
+    };
+    let Taken {
+        mut station,
+        mut whole,
+    } = match take_input(desk, &mut room, None, first) {
+        Ok(taken) => taken,
+        Err(cause) => return Err(Refusal { name: first, cause }),
+    };
+    for name in others {
+        let taken = match take_input(desk, &mut room, Some(station), name) {
+            Ok(taken) => taken,
+            Err(cause) => return Err(Refusal { name, cause }),
+        };
+        station = taken.station;
+        whole &= taken.whole;
+    }
+    Ok((Taken { station, whole }, room.text))
+}
