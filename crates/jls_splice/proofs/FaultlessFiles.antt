@@ -52,7 +52,7 @@ none_faulty _ _ scans all (faulty p ps r rs is rest) = absurd (lines_or_fault p 
 -- What was read ----------------------------------------------------------------------------------------------------
 
 module _ (law : RecordsAreOfFaultyPieces) (bytes : List ℕ) (read : ReadCopy) (h : CopyReads bytes read) where
-  read_faultless : read.piece_count ≡ 0 → EndsWell read.ended → IsFaultless bytes
+  pub read_faultless : read.piece_count ≡ 0 → EndsWell read.ended → IsFaultless bytes
   read_faultless none ends =
       let r = law bytes read h in
       record {
@@ -64,7 +64,7 @@ module _ (law : RecordsAreOfFaultyPieces) (bytes : List ℕ) (read : ReadCopy) (
         each = all_read (pieces h.course) r.0 r.1 (sym r.3 ∙ none);
       }
 
-  faultless_read : AllByRecursion (λ b. b < 256) bytes → IsFaultless bytes → (read.piece_count ≡ 0) × EndsWell read.ended
+  pub faultless_read : AllByRecursion (λ b. b < 256) bytes → IsFaultless bytes → (read.piece_count ≡ 0) × EndsWell read.ended
   faultless_read low f =
       let r = law bytes read h in
       let e : f.course ≡ h.course = one_course bytes f.course h.course f.is_course h.is_course in
@@ -73,16 +73,10 @@ module _ (law : RecordsAreOfFaultyPieces) (bytes : List ℕ) (read : ReadCopy) (
         subst EndsWell (sym h.ended_is) (subst (λ (c : Course). EndsWell c.end) e f.ends),
       )
 
-pub faultless_if : RecordsAreOfFaultyPieces → (fed : Option (List ℕ)) (read : ReadCopy) → IfSome fed (λ bytes. CopyReads bytes read)
-    → read.piece_count ≡ 0 → EndsWell read.ended → IfSome fed (λ bytes. IsFaultless bytes)
-faultless_if law None read h none ends = tt
-faultless_if law (Some bytes) read h none ends = read_faultless law bytes read h none ends
-
-pub faulty_if : RecordsAreOfFaultyPieces → (fed : Option (List ℕ)) (read : ReadCopy) → IfSome fed (λ bytes. CopyReads bytes read)
-    → (read.piece_count ≡ 0 → EndsWell read.ended → ⊥)
-    → IfSome fed (λ bytes. AllByRecursion (λ b. b < 256) bytes → IsFaultless bytes → ⊥)
-faulty_if law None read h not = tt
-faulty_if law (Some bytes) read h not = λ low f. let r = faultless_read law bytes read h low f in not r.0 r.1
+-- what holds of the file that was fed, if there is one
+pub of_file : (fed : Option (List ℕ)) (P Q : List ℕ → Type 0) → ((file : List ℕ) → P file → Q file) → IfSome fed P → IfSome fed Q
+of_file None P Q f h = tt
+of_file (Some file) P Q f h = f file h
 
 pub faulty_without_frame : (fed : Option (List ℕ)) (f : MarkerFault) (n : ℕ) → IfSome fed (λ bytes. CopyGivesNone bytes (NoPicture f n))
     → IfSome fed (λ bytes. AllByRecursion (λ b. b < 256) bytes → IsFaultless bytes → ⊥)

@@ -1,10 +1,26 @@
 -- The front of the first choices, and of one more.
-use Rattle.std.proofs.Common.{◌≡◌, ℕ, zero, suc, ◌+◌, ◌<◌, ◌≤◌, List, [], ◌∷◌, ◌++◌, length, take, Option, Some, None, refl, sym, ap, ◌∙◌, subst, append_assoc, arith, length-append}
-use Rattle.std.specs.Prelude.{get_or, IfSome}
+use Rattle.std.proofs.Common.{◌≡◌, ℕ, zero, suc, ◌+◌, ◌<◌, ◌≤◌, List, [], ◌∷◌, ◌++◌, length, take, Option, Some, None, Result, Ok, Err, refl, sym, ap, ◌∙◌, subst, append_assoc, arith, length-append}
+use Rattle.std.specs.Prelude.{get_or, IfSome, OnOk}
+use Rattle.std.specs.List.{AllByRecursion}
 use Rattle.std.proofs.lemmas.List.{append-nil}
 use Rattle.jls_copy.specs.ReadCopy.{after}
 use Rattle.jls_parts.specs.Parts.{Part, Same, way}
 use Rattle.jls_splice.specs.Choices.{IsPath, front_of}
+
+-- what holds anyway
+pub on_ok : {T E : Type 0} (r : Result T E) (P : Type 0) → P → OnOk r P
+on_ok (Ok x) P h = h
+on_ok (Err e) P h = tt
+
+-- bytes, each of which is one
+pub all_bytes : (xs : List ℕ) → ((k : ℕ) → get_or xs k 0 < 256) → AllByRecursion (λ b. b < 256) xs
+all_bytes [] h = tt
+all_bytes (x ∷ xs) h = (h 0, all_bytes xs (λ k. h (suc k)))
+
+bytes_append : (xs ys : List ℕ) → AllByRecursion (λ b. b < 256) xs → AllByRecursion (λ b. b < 256) ys
+    → AllByRecursion (λ b. b < 256) (xs ++ ys)
+bytes_append [] ys h j = j
+bytes_append (x ∷ xs) ys h j = (h.0, bytes_append xs ys h.1 j)
 
 pub front_more : (ps : List Part) (cs : List ℕ) (i : ℕ) → IsPath ps cs → i < length cs
     → front_of ps (take (suc i) cs) ≡ front_of ps (take i cs) ++ way (get_or cs i 0) (get_or ps i (Same []))
@@ -38,6 +54,11 @@ module _ (start reader : Option (List ℕ)) (ps : List Part) (cs : List ℕ) (at
   -- what is fed then
   pub fed_more : after reader bytes ≡ after start (front_of ps (take (at + 1) cs))
   fed_more = ap (λ r. after r bytes) is ∙ after_then start (front_of ps (take at cs)) bytes ∙ ap (after start) (sym more_is)
+
+  -- and it is all bytes
+  pub bytes_more : AllByRecursion (λ b. b < 256) (front_of ps (take at cs)) → AllByRecursion (λ b. b < 256) bytes
+      → AllByRecursion (λ b. b < 256) (front_of ps (take (at + 1) cs))
+  bytes_more h low = subst (AllByRecursion (λ b. b < 256)) (sym more_is) (bytes_append (front_of ps (take at cs)) bytes h low)
 
   -- and there is room for it
   pub room : (most : ℕ) → IfSome start (λ before. length before + length (front_of ps cs) ≤ most)

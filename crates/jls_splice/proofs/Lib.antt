@@ -1,4 +1,5 @@
 mod Paths
-mod Fronts
+pub mod Fronts
 mod FaultlessFiles
 mod Searching
+mod Lengths

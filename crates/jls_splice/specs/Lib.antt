@@ -2,3 +2,4 @@ pub mod Choices
 pub mod Order
 pub mod Faultless
 pub mod Search
+pub mod SearchLaws

@@ -32,6 +32,12 @@ IsShort parts = (choices : List ℕ) → IsPath parts choices → length (front_
 abbrev pub lists_of : List (Vec ℕ Global) → List (List ℕ)
 lists_of vs = map (λ v. v.items) vs
 
+-- what `search` promises of what it found: the choices make files without a fault; and unless it says that its tries were used up, each
+-- splice without a fault is one of these
+pub record CameTo (parts : List Part) (found : List (List ℕ)) (is_used_up : Bool) : Type 0 where
+  pub files : MakeFiles parts found
+  pub all : is_used_up ≡ false → HasEachSplice parts (files_of parts found)
+
 -- Inside the crate -------------------------------------------------------------------------------------------------
 
 -- one choice for each part, and together a file without a fault

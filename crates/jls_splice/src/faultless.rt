@@ -1,7 +1,8 @@
 //! Files without a fault, and fronts that no such file begins with.
 
-ghost use Rattle.std.specs.Prelude.{◌≡◌, ◌<◌, ◌↔◌, true, false, IsTrue, IfOk, IfSome};
+ghost use Rattle.std.specs.Prelude.{◌≡◌, ℕ, List, ◌<◌, ◌↔◌, true, false, IsTrue, IfOk, IfSome};
 ghost use Rattle.std.specs.List.{AllByRecursion};
+ghost use Rattle.jls_copy.specs.CopyReads.{CopyReads};
 ghost use Rattle.jls_splice.specs.Faultless.{EndsWell, IsFaultless, IsDead, IsAnswerWithoutFrame};
 
 use jls_copy::{
@@ -21,11 +22,13 @@ fn ends_well(end: End) -> bool
     }
 }
 
-/// Whether nothing is wrong with a copy that was read.
-fn is_clean(read: &CopyRead) -> bool
-    ensures clean { result ≡ true → (read.now.piece_count ≡ 0) × EndsWell read.now.ended }
-    ensures not_clean { result ≡ false → (read.now.piece_count ≡ 0) → EndsWell read.now.ended → ⊥ }
+/// Whether what was read is a file without a fault.
+pub fn is_read_faultless(read: &CopyRead) -> bool
+    ensures faultless { result ≡ true → (file : List ℕ) → CopyReads file read.now → IsFaultless file }
+    ensures faulty { result ≡ false
+        → (file : List ℕ) → CopyReads file read.now → AllByRecursion (λ b. b < 256) file → IsFaultless file → ⊥ }
 {
+    records_are_of_faulty_pieces();
     if read.piece_count() != 0 {
         return false;
     }
@@ -48,9 +51,8 @@ pub fn is_faultless(reader: CopyReader) -> Result<bool, AllocError>
     ensures faulty { IfOk result
         (λ answer. answer ≡ false → IfSome reader (λ bytes. AllByRecursion (λ b. b < 256) bytes → IsFaultless bytes → ⊥)) }
 {
-    records_are_of_faulty_pieces();
     match reader.finish() {
-        Ok(read) => Ok(is_clean(&read)),
+        Ok(read) => Ok(is_read_faultless(&read)),
         Err(fault) => without_frame(fault),
     }
 }

@@ -1,6 +1,7 @@
 //! Splices and their fronts, fed to a reader of copies.
 
 ghost use Rattle.std.specs.Prelude.{◌≡◌, ℕ, ◌+◌, ◌-◌, ◌^◌, ◌<◌, ◌≤◌, [], length, get_or, OnOk, IfSome};
+ghost use Rattle.std.specs.List.{AllByRecursion};
 ghost use Rattle.jls_copy.specs.ReadCopy.{after};
 ghost use Rattle.jls_parts.specs.PartsOf.{part_of, parts_of};
 ghost use Rattle.jls_parts.specs.Parts.{Same, way};
@@ -30,6 +31,15 @@ fn way_at<'a>(parts: &[Part<'a>], place: usize, choice: usize) -> &'a [u8]
     way_of(&parts[place], choice)
 }
 
+/// Feeds what a choice takes of a part.
+fn feed_way(reader: &mut CopyReader, way: &[u8]) -> Result<(), AllocError>
+    requires { IfSome reader.old (λ before. length before + length way.now ≤ 2 ^ 63 - 1) }
+    ensures fed { OnOk result (reader.new ≡ after reader.old way.now) }
+    ensures bytes { OnOk result (AllByRecursion (λ b. b < 256) way.now) }
+{
+    reader.feed(way)
+}
+
 /// Feeds what the choices make of the first parts, part by part, as slices of the copies: a whole splice, where there is a choice for
 /// each part. No memory is taken for it. Where the reader refuses memory, it refuses all further bytes.
 pub fn feed_front(
@@ -40,10 +50,11 @@ pub fn feed_front(
     requires path { IsPath (parts_of parts.now) choices.now }
     requires few { IfSome reader.old
         (λ bytes. length bytes + length (front_of (parts_of parts.now) choices.now) ≤ 2 ^ 63 - 1) }
-    ensures { OnOk result (reader.new ≡ after reader.old (front_of (parts_of parts.now) choices.now)) }
+    ensures fed { OnOk result (reader.new ≡ after reader.old (front_of (parts_of parts.now) choices.now)) }
+    ensures bytes { OnOk result (AllByRecursion (λ b. b < 256) (front_of (parts_of parts.now) choices.now)) }
 {
     for place in 0..choices.len() {
-        reader.feed(way_at(parts, place, choices[place]))?;
+        feed_way(reader, way_at(parts, place, choices[place]))?;
     }
     Ok(())
 }

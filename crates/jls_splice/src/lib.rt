@@ -1,12 +1,18 @@
 //! Splices of copies: files each of whose stretches is what one of the copies has there, and the search for those without a fault.
 #![tactic(auto)]
 
+mod copies;
 mod faultless;
 mod feeding;
+mod laws;
 mod looking;
 mod path;
+mod short;
 mod whole_search;
 
-pub use faultless::{is_dead, is_faultless};
+pub use copies::{SearchedCopies, search_copies};
+pub use faultless::{is_dead, is_faultless, is_read_faultless};
 pub use feeding::feed_front;
+pub use laws::parts_can_be_searched;
+pub use short::are_short;
 pub use whole_search::{MOST_FOUND, Searched, search};

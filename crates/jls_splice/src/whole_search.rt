@@ -79,6 +79,8 @@ fn try_next(
 /// Searches the splices of some copies for files without a fault, depth first, part by part: ways in the order of the copies, those with
 /// equal bytes once. Choices whose front no file without a fault begins with are given up. Each front and each file that is tried counts.
 ///
+/// Parts of short copies are as it requires them (`parts_can_be_searched`).
+///
 /// `is_used_up` says that the search ended with its tries, or with its 64th file, while there was more to try.
 pub fn search(alloc: Global, parts: &[Part<'_>], limit: u32) -> Result<Searched, AllocError>
     requires some_way { AllByRecursion HasSomeWay (parts_of parts.now) }

@@ -1,14 +1,17 @@
-use Rattle.jls_splice.proofs.FaultlessFiles.{faultless_if, faulty_if, never_faultless, ever_faulty}
+use Rattle.std.proofs.Common.{◌<◌}
+use Rattle.std.specs.List.{AllByRecursion}
+use Rattle.jls_copy.specs.CopyReads.{CopyReads}
+use Rattle.jls_splice.specs.Faultless.{IsFaultless}
+use Rattle.jls_splice.proofs.FaultlessFiles.{of_file, never_faultless, ever_faulty}
 use Rattle.jls_splice.proofs.faultless.is_faultless.Goals as goal
 
 pub returns-in-Ok-clause-faultless : goal.returns-in-Ok-clause-faultless
-returns-in-Ok-clause-faultless c = λ t.
-    let r = c.is_clean.ensures.clean t in
-    faultless_if c.records_are_of_faulty_pieces.ensures c.args.reader c.in-Ok.read c.in-Ok.ensures.read r.0 r.1
+returns-in-Ok-clause-faultless c = λ t. of_file c.args.reader (λ file. CopyReads file c.in-Ok.read) (λ file. IsFaultless file)
+    (c.is_read_faultless.ensures.faultless t) c.in-Ok.ensures.read
 
 pub returns-in-Ok-clause-faulty : goal.returns-in-Ok-clause-faulty
-returns-in-Ok-clause-faulty c = λ f.
-    faulty_if c.records_are_of_faulty_pieces.ensures c.args.reader c.in-Ok.read c.in-Ok.ensures.read (c.is_clean.ensures.not_clean f)
+returns-in-Ok-clause-faulty c = λ f. of_file c.args.reader (λ file. CopyReads file c.in-Ok.read)
+    (λ file. AllByRecursion (λ b. b < 256) file → IsFaultless file → ⊥) (c.is_read_faultless.ensures.faulty f) c.in-Ok.ensures.read
 
 pub returns-in-Err-clause-faultless : goal.returns-in-Err-clause-faultless
 returns-in-Err-clause-faultless c = never_faultless c.args.reader c.in-Err.fault c.without_frame.result c.without_frame.ensures

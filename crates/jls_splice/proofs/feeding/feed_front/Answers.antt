@@ -2,7 +2,7 @@ use Rattle.std.proofs.Common.{List, sym, ◌∙◌}
 use Rattle.jls_parts.specs.PartsOf.{parts_of}
 use Rattle.jls_parts.specs.Parts.{Part}
 use Rattle.jls_splice.proofs.Paths.{path_at, length-map}
-use Rattle.jls_splice.proofs.Fronts.{fed_more, room}
+use Rattle.jls_splice.proofs.Fronts.{fed_more, bytes_more, room}
 use Rattle.jls_splice.proofs.feeding.feed_front.Goals as goal
 
 pub way_at-requires : goal.way_at-requires
@@ -11,13 +11,19 @@ way_at-requires c =
     let r = path_at ps c.args.choices.now c.loop-place.place c.requires.path c.loop-place-test.true in
     record { place = rw length-map at r.0; choice = r.1 }
 
-pub feed-requires : goal.feed-requires
-feed-requires c =
+pub feed_way-requires : goal.feed_way-requires
+feed_way-requires c =
     room c.args.reader.now c.loop-place.reader (parts_of c.args.parts.now) c.args.choices.now c.loop-place.place c.way_at.result.now
-    c.requires.path c.loop-place-test.true (sym c.way_at.ensures) c.loop-place.invariant 9223372036854775807 c.requires.few
+    c.requires.path c.loop-place-test.true (sym c.way_at.ensures) c.loop-place.invariant.fed 9223372036854775807 c.requires.few
 
 pub loop-place-preserved : goal.loop-place-preserved
-loop-place-preserved c =
-    c.in_ok-feed.ensures.ok
-    ∙ fed_more c.args.reader.now c.loop-place.reader (parts_of c.args.parts.now) c.args.choices.now c.loop-place.place c.way_at.result.now
-    c.requires.path c.loop-place-test.true (sym c.way_at.ensures) c.loop-place.invariant
+loop-place-preserved c = record {
+  fed =
+      c.in_ok-feed_way.ensures.fed
+      ∙ fed_more c.args.reader.now c.loop-place.reader (parts_of c.args.parts.now) c.args.choices.now c.loop-place.place c.way_at.result.now
+      c.requires.path c.loop-place-test.true (sym c.way_at.ensures) c.loop-place.invariant.fed;
+  bytes =
+      bytes_more c.args.reader.now c.loop-place.reader (parts_of c.args.parts.now) c.args.choices.now c.loop-place.place c.way_at.result.now
+      c.requires.path c.loop-place-test.true (sym c.way_at.ensures) c.loop-place.invariant.fed c.loop-place.invariant.bytes
+      c.in_ok-feed_way.ensures.bytes;
+}

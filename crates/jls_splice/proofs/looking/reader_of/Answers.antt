@@ -10,4 +10,4 @@ feed_front-requires c = record {
 }
 
 pub returns : goal.returns
-returns c = fed_first c.feed_front.new.reader c.new-reader.result (front_of (parts_of c.args.parts.now) c.args.path.now) c.new-reader.ensures c.in_ok-feed_front.ensures
+returns c = fed_first c.feed_front.new.reader c.new-reader.result (front_of (parts_of c.args.parts.now) c.args.path.now) c.new-reader.ensures c.in_ok-feed_front.ensures.fed

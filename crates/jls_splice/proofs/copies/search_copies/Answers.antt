@@ -1,0 +1,14 @@
+use Rattle.std.proofs.Common.{ℕ, ◌<◌, List, length, sym, subst}
+use Rattle.jls_parts.proofs.Slices.{count_of_slices}
+use Rattle.jls_parts.specs.Parts.{Part}
+use Rattle.jls_parts.specs.PartsOf.{bytes_of, parts_of}
+use Rattle.jls_splice.specs.Search.{IsShort}
+use Rattle.jls_splice.proofs.copies.search_copies.Goals as goal
+
+pub search-requires-clause-short : goal.search-requires-clause-short
+search-requires-clause-short c =
+    let copies : List (List ℕ) = bytes_of c.args.copies.now in
+    let parts : List Part = parts_of c.in_ok-parts.parts.items in
+    let some : 0 < length copies = subst (λ n. 0 < n) (sym (count_of_slices c.args.copies.now)) c.requires.some_copy in
+    subst (λ ps. IsShort (parts_of ps)) (sym c.deref.ensures.value)
+    (c.parts_can_be_searched.ensures copies parts c.in_ok-parts.ensures some c.requires.short).1
