@@ -1,7 +1,7 @@
 """The coder of intervals as a program that other programs can ask: `Coder` starts it and hands it requests.
 
-The program is proved and built by `rt run`, once for each state of its sources, in a copy of the crates below the temp
-folder: the repository has no Rattle outside its crates. What is built is kept in `interop/out`, which git ignores.
+The program is proved and built by `rt run`, once for each state of its sources. This happens in a copy of the crates below the temp
+folder, since the repository has no Rattle outside its crates. What is built is kept in `interop/out`, which git ignores.
 """
 import array
 import glob

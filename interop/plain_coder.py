@@ -1,9 +1,9 @@
 """A plain coder of one interval of JPEG-LS scan data, to compare with: slow, short, and written from ITU-T T.87, annex A, at NEAR 0.
 
 `code` gives the bits that lines are written as, column by column as the standard's procedures say, and `write` packs them. `read` says
-what a piece of scan data is: a list of lines, LONG or BROKEN. It looks for lines as a decoder that believes its bits, and
-then judges by `code` alone: a piece reads as lines exactly if its data bits are their code and at most seven bits more.
-`head` says which lines stand whole in a piece that breaks off: it tries each event that can come next, and judges by `code` alone.
+what a piece of scan data is: a list of lines, LONG or BROKEN. It looks for lines as a decoder that believes its bits, and then judges by
+`code` alone. A piece reads as lines if and only if its data bits are their code and at most seven bits more. `head` says which lines are
+complete in a piece that breaks off. It tries each event that can come next, and judges by `code` alone.
 """
 import copy
 import sys

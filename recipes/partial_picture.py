@@ -1,7 +1,7 @@
 """Reads the text of a partial picture, as docs/FORMAT.md has it, for the scripts beside this file.
 
-What these scripts show is not proved. They refuse a text that does not end with its last entry; that its lines stand in order, and
-that its samples are in range, is the program's to judge: `jls-salvage show` says what a text holds.
+What these scripts show is not proved. They refuse a text that does not end with its last entry. They do not judge the order of its lines
+or the range of its samples. The program does: `jls-salvage show` says what a text holds.
 """
 import struct
 
