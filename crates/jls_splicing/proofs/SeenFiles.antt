@@ -62,6 +62,12 @@ module _ (file : List ℕ) where
   agreed_seen shape (Faulty own) is e f = absurd (is.1 f)
   agreed_seen shape (NoFrame g n) is e f = absurd (faulty_seen (NoFrame g n) is tt f)
 
+-- what isn't without a fault can have any shape
+pub has_it : (shape : PictureShape) (s : Seen) → ((own : PictureShape) → s ≡ Faultless own → ⊥) → HasItIfFaultless shape s
+has_it shape (Faultless own) not = absurd (not own refl)
+has_it shape (Faulty own) not = tt
+has_it shape (NoFrame f n) not = tt
+
 -- Files ------------------------------------------------------------------------------------------------------------
 
 pub seen_more : (files : List (List ℕ)) (seen : List Seen) (file : List ℕ) (s : Seen) → AreSeen files seen → IsSeen file s
