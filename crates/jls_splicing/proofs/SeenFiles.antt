@@ -1,7 +1,6 @@
 -- The shape of the files taken, from what is seen of them.
-use Rattle.std.proofs.Common.{◌≡◌, ℕ, zero, suc, ◌+◌, ◌<◌, List, [], ◌∷◌, ◌++◌, map, length, take, Option, Some, None, Vec, Global, Bor, refl, sym, ap, ◌∙◌, subst, append_assoc, arith, ◌⊎◌, inl, inr}
+use Rattle.std.proofs.Common.{◌≡◌, ℕ, zero, suc, ◌+◌, ◌<◌, List, [], ◌∷◌, ◌++◌, length, take, Option, Some, None, Vec, Global, Bor, refl, sym, ap, ◌∙◌, subst, append_assoc, arith, inl, inr}
 use Rattle.std.specs.Prelude.{get_or, slice_get, unwrap_or, IfSome, IfNone, IsSomeAnd}
-use Rattle.std.proofs.lemmas.List.{map-append}
 use Rattle.std.specs.List.{AllByRecursion, Contains}
 use Rattle.jls_values.specs.Shape.{PictureShape}
 use Rattle.jls_parts.specs.Parts.{Part}
@@ -10,7 +9,7 @@ use Rattle.jls_parts.proofs.Slices.{count_of_slices}
 use Rattle.jls_splice.specs.Choices.{front_of}
 use Rattle.jls_splice.specs.Faultless.{IsFaultless}
 use Rattle.jls_splice.specs.Search.{files_of, lists_of}
-use Rattle.jls_splicing.specs.Shapes.{HasShape, HasOtherShape, HasNoFrame, IsFirstShape, NoneIsFaultless, IsShapeTaken, ShapesDiffer, IsFirstOther, NoneIsOther, IsCopyNamed, IsShapeFound}
+use Rattle.jls_splicing.specs.Shapes.{HasShape, HasOtherShape, HasNoFrame, IsFirstShape, NoneIsFaultless, IsShapeTaken, IsCopyNamed, IsShapeFound}
 use Rattle.jls_splicing.specs.Seen.{IsSeen, AreSeen, IsNotFaultless, HasItIfFaultless, HasFrame, IsWithoutFrame, HasOtherFrame, IsFirstFrame, IsFirstOtherFrame, SomeFaultlessHasOther, IsNamed, IsOfCopies}
 use Rattle.jls_splicing.specs.declared.seen.Seen.{Seen}
 use Rattle.jls_splicing.specs.declared.seen.Seen.TheVariants.{Faultless, Faulty, NoFrame}

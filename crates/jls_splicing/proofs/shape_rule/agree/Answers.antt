@@ -1,4 +1,4 @@
-use Rattle.std.proofs.Common.{◌≡◌, sym, subst, rules}
+use Rattle.std.proofs.Common.{sym, subst, rules}
 use Rattle.jls_splicing.specs.Seen.{HasItIfFaultless}
 use Rattle.jls_splicing.specs.declared.seen.Seen.{Seen}
 use Rattle.jls_splicing.proofs.Members.{all_one_more}
