@@ -1,10 +1,11 @@
 -- Copies that are read one after the other.
-use Rattle.std.proofs.Common.{◌≡◌, ℕ, ◌+◌, ◌<◌, List, [], ◌∷◌, ◌++◌, length, map, take, drop, get_or, refl, sym, ap, ◌∙◌, append_assoc}
+use Rattle.std.proofs.Common.{◌≡◌, ℕ, ◌+◌, ◌<◌, List, [], ◌∷◌, ◌++◌, length, map, take, drop, get_or, refl, sym, subst, ap, ◌∙◌, append_assoc}
 use Rattle.std.specs.Borrow.{Bor}
 use Rattle.std.proofs.lemmas.List.{append-nil, drop_more, map-append, take_more, take-append-drop}
 use Rattle.jls_device.specs.Event.{Event, History, GrewBy, opened}
 use Rattle.jls_device.proofs.Growing.{grew_twice, grew_on}
-use Rattle.jls_copy_files.specs.CopyFiles.{AreCopiesRead, CopyBytes, IsCopyRead, StopsAmongCopies, StopsAtCopy}
+use Rattle.jls_copy_files.specs.CopyFiles.{AreCopiesRead, CopyBytes, IsCopyRead, StopsAmongCopies, StopsAtCopy, copies_of, copy_of}
+use Rattle.jls_copy_files.specs.declared.copy.CopyFile.{CopyFile}
 use Rattle.jls_copy_files.specs.declared.copy.CopyRefusal.{CopyRefusal}
 
 -- names as the code has them, one more
@@ -63,3 +64,14 @@ module _ (names : List (List ℕ)) (copies : List CopyBytes) (old mid new : Hist
       events_are = refl;
     };
   }
+
+-- one name more of those that the code has, and the copy that was read under it
+pub reads_on : (names : List (Bor (List ℕ))) (i : ℕ) (d : Bor (List ℕ)) → i < length names → (before after : List CopyFile) (copy : CopyFile)
+    → after ≡ before ++ copy ∷ [] → (old mid new : History) → GrewBy (AreCopiesRead (map name_of (take i names)) (copies_of before)) old mid
+    → GrewBy (IsCopyRead (get_or names i d).now (copy_of copy)) mid new
+    → GrewBy (AreCopiesRead (map name_of (take (i + 1) names)) (copies_of after)) old new
+reads_on names i d within before after copy is old mid new so_far h =
+    let copied : copies_of after ≡ copies_of before ++ copy_of copy ∷ [] = ap copies_of is ∙ map-append copy_of before (copy ∷ []) in
+    subst (λ (copies : List CopyBytes). GrewBy (AreCopiesRead (map name_of (take (i + 1) names)) copies) old new) (sym copied)
+    (subst (λ (read : List (List ℕ)). GrewBy (AreCopiesRead read (copies_of before ++ copy_of copy ∷ [])) old new) (sym (names_one_more names i d within))
+    (reads_next (map name_of (take i names)) (copies_of before) old mid new so_far (get_or names i d).now (copy_of copy) h))

@@ -1,12 +1,10 @@
-use Rattle.std.proofs.Common.{◌≡◌, ◌<◌, ◌+◌, ◌∷◌, [], ◌++◌, length, map, take, drop, get_or, List, ℕ, ap, sym, subst, ◌∙◌, arith}
+use Rattle.std.proofs.Common.{◌<◌, ◌+◌, [], length, map, take, drop, get_or, List, ℕ, arith}
 use Rattle.std.specs.Borrow.{Bor}
-use Rattle.std.proofs.lemmas.List.{map-append}
-use Rattle.jls_device.specs.Event.{GrewBy}
 use Rattle.jls_device.proofs.Growing.{grew_as}
-use Rattle.jls_copy_files.specs.CopyFiles.{AreCopiesRead, CopyBytes, IsCopyRead, StopsAtCopy, behind_the_last, copies_of, copy_of}
+use Rattle.jls_copy_files.specs.CopyFiles.{IsCopyRead, StopsAtCopy, behind_the_last, copies_of, copy_of}
 use Rattle.jls_copy_files.specs.declared.copy.CopyCause.TheVariants as cause
 use Rattle.jls_copy_files.specs.declared.copy.CopyRefusal.{CopyRefusal}
-use Rattle.jls_copy_files.proofs.CopiesInTurn.{name_of, names_one_more, names_split, reads_next, stops_next}
+use Rattle.jls_copy_files.proofs.CopiesInTurn.{name_of, names_split, reads_on, stops_next}
 use Rattle.jls_copy_files.proofs.copies.read_copies.Goals as goal
 
 -- what stands in for a name where there is none
@@ -39,15 +37,5 @@ returns-in-Err-push-clause-stopped g c =
 pub loop-name-preserved : goal.loop-name-preserved
 loop-name-preserved g c =
     let history = g.D.Device.history in
-    let old = history c.args.desk.now in
-    let new = history c.open_and_read_copy.new.desk in
-    let names = c.args.names.now in
-    let i = c.loop-name.name-index in
-    let within : i < length names = omega arith in
-    let before = copies_of c.loop-name.copies.items in
-    let copy = copy_of c.in-Ok.copy in
-    let copied : copies_of c.push.new.self.items ≡ before ++ copy ∷ [] =
-    ap copies_of c.in-Ok-push.ensures.items ∙ map-append copy_of c.loop-name.copies.items (c.in-Ok.copy ∷ []) in
-    subst (λ (copies : List CopyBytes). GrewBy (AreCopiesRead (map name_of (take (i + 1) names)) copies) old new) (sym copied)
-    (subst (λ (read : List (List ℕ)). GrewBy (AreCopiesRead read (before ++ copy ∷ [])) old new) (sym (names_one_more names i none within))
-    (reads_next (map name_of (take i names)) before old (history c.loop-name.desk) new c.loop-name.invariant (get_or names i none).now copy c.in-Ok.ensures.read))
+    reads_on c.args.names.now c.loop-name.name-index none (omega arith) c.loop-name.copies.items c.push.new.self.items c.in-Ok.copy c.in-Ok-push.ensures.items
+    (history c.args.desk.now) (history c.loop-name.desk) (history c.open_and_read_copy.new.desk) c.loop-name.invariant c.in-Ok.ensures.read
