@@ -14,7 +14,7 @@ use Rattle.jls_copy.specs.declared.end.End.TheVariants.{Eoi, Header}
 use Rattle.jls_copy.proofs.OneCourse.{one_course}
 use Rattle.jls_headline.proofs.TwoLineExamples.{shape, bits_8, frame_payload, scan_payload, pieces_read}
 use Rattle.jls_parts.specs.Parts.{Part, Same, Differ, made, AreParts, IsSplice}
-use Rattle.jls_splice_laws.specs.Faultless.{EndsWell, IsFaultless}
+use Rattle.jls_splice.specs.Faultless.{EndsWell, IsFaultless}
 use Rattle.jls_splice_laws.specs.Searches.{done, Searched, along, given_up}
 
 -- one scan, with a restart interval for each line

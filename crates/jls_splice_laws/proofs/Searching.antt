@@ -10,9 +10,9 @@ use Rattle.jls_copy.specs.Pieces.{pieces}
 use Rattle.jls_copy.proofs.OneCourse.{one_course}
 use Rattle.jls_headline.proofs.Members.{is_first, none_in, first_or_rest, all_at, all_append, all_map}
 use Rattle.jls_parts.proofs.Members.{in_map, of_map, in_flat_map, of_flat_map}
-use Rattle.jls_parts.specs.Parts.{Part, Same, Differ, IsSplice, splices}
+use Rattle.jls_parts.specs.Parts.{Part, Same, Differ, HasWays, IsSplice, splices}
 use Rattle.jls_parts.specs.SpliceLaws.{SplicesAreListed}
-use Rattle.jls_splice_laws.specs.Faultless.{HasLines, EndsWell, IsFaultless}
+use Rattle.jls_splice.specs.Faultless.{HasLines, EndsWell, IsFaultless}
 use Rattle.jls_splice_laws.specs.Searches.{CanBeGivenUp, broken, done, Searched, found, has_fault, along, no_way, last_way, way_again, given_up}
 use Rattle.jls_splice_laws.specs.Searches.{SearchesFindSplices, SearchesLoseNothing}
 
@@ -144,6 +144,15 @@ module _ (stay : FrontsStayBroken) (ends_stay : FinalEndsStay) where
       is_found front (Differ ways ∷ parts) files s bytes (in_flat_map (going_on parts) ways w.0 bytes before w.2) h
   is_found _ _ _ (given_up front parts dead) bytes c h = absurd (never_sound front bytes dead h)
 
+-- parts tell of how many copies they are, but where all have them alike
+of_other_count : (n m : ℕ) (parts : List Part) (bytes : List ℕ) → 0 < m → AllByRecursion (HasWays n) parts → AllByRecursion (HasWays m) parts
+    → IsSplice n parts bytes → IsSplice m parts bytes
+of_other_count n m [] bytes some h k is = is
+of_other_count n m (Same b ∷ parts) bytes some h k (j, l, rest, e, more) = (0, some, rest, e, of_other_count n m parts rest some h.1 k.1 more)
+of_other_count n m (Differ ws ∷ parts) bytes some h k (j, l, rest, e, more) =
+    (j, subst (λ c. j < c) (sym h.0 ∙ k.0) l, rest, e, of_other_count n m parts rest some h.1 k.1 more)
+
 pub searches_lose_nothing : SplicesAreListed → FrontsStayBroken → FinalEndsStay → SearchesLoseNothing
-searches_lose_nothing listed stay ends_stay copies parts are some files s bytes low is faultless =
-    is_found stay ends_stay [] parts files s bytes ((listed copies parts are some bytes).0 is) (low, faultless)
+searches_lose_nothing listed stay ends_stay copies parts are some files s count any ways bytes low is faultless =
+    let here = of_other_count count (length copies) parts bytes some ways are.ways is in
+    is_found stay ends_stay [] parts files s bytes ((listed copies parts are some bytes).0 here) (low, faultless)

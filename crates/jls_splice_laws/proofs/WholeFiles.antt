@@ -24,7 +24,7 @@ use Rattle.jls_headline.specs.PictureLines.{placed_in_interval, picture_reading}
 use Rattle.jls_headline.specs.Gives.{PieceGives, CourseGives}
 use Rattle.jls_headline.specs.Damaged.{PiecesAre}
 use Rattle.jls_headline.specs.Survives.{SomePieceIs, ReadsWithLine, SurvivesInUnit, Survives}
-use Rattle.jls_splice_laws.specs.Faultless.{HasLines}
+use Rattle.jls_splice.specs.Faultless.{HasLines}
 use Rattle.jls_splice_laws.specs.WholeFiles.{WholeFilesSurvive}
 use Rattle.jls_headline.proofs.Members.{is_first, in_rest, none_in, first_or_rest, all_at, all_front, all_back}
 use Rattle.jls_splice_laws.proofs.Lists.{all_from}

@@ -1,4 +1,3 @@
-pub mod Faultless
 pub mod WholeFiles
 pub mod Searches
 pub mod Taken

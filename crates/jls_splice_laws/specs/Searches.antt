@@ -4,7 +4,8 @@ use Rattle.std.specs.List.{AllByRecursion, Contains}
 use Rattle.jls_copy.specs.CopyReads.{IsDone}
 use Rattle.jls_copy.specs.Fronts.{IsPieceBroken}
 use Rattle.jls_parts.specs.Parts.{Part, Same, Differ, AreParts, IsSplice}
-use Rattle.jls_splice_laws.specs.Faultless.{IsFaultless}
+use Rattle.jls_splice.specs.Faultless.{IsFaultless}
+use Rattle.jls_splice.specs.Search.{HasEachSplice}
 
 -- A front that can be given up: its piece in hand is broken, whatever follows; or bytes behind it leave its course as it is, and it has a
 -- fault
@@ -31,11 +32,6 @@ pub data Searched : List ℕ → List Part → List (List ℕ) → Type 0 where
 abbrev pub AreFaultlessSplices : ℕ → List Part → List (List ℕ) → Type 0
 AreFaultlessSplices count parts files = AllByRecursion (λ file. IsSplice count parts file × IsFaultless file) files
 
--- each splice of so many copies that is a list of bytes without a fault is among these files
-abbrev pub HasEachSplice : ℕ → List Part → List (List ℕ) → Type 0
-HasEachSplice count parts files =
-    (bytes : List ℕ) → AllByRecursion (λ b. b < 256) bytes → IsSplice count parts bytes → IsFaultless bytes → Contains files bytes
-
 -- What a search finds are splices without a fault
 abbrev pub SearchesFindSplices : Type 0
 SearchesFindSplices =
@@ -46,4 +42,4 @@ SearchesFindSplices =
 abbrev pub SearchesLoseNothing : Type 0
 SearchesLoseNothing =
     (copies : List (List ℕ)) (parts : List Part) → AreParts copies parts → 0 < length copies → (files : List (List ℕ))
-    → Searched [] parts files → HasEachSplice (length copies) parts files
+    → Searched [] parts files → HasEachSplice parts files

@@ -1,5 +1,5 @@
 -- The laws of splices that speak of readings and pictures. That the copies are splices of the parts that are found is a law of jls_parts.
-use Rattle.std.specs.Prelude.{◌≡◌, ℕ, ◌<◌, List, length}
+use Rattle.std.specs.Prelude.{◌≡◌, ℕ, ◌<◌, Bool, false, List, length}
 use Rattle.std.specs.List.{AllByRecursion, Contains}
 use Rattle.jls_values.specs.Shape.{PictureShape}
 use Rattle.jls_partial.specs.Partial.{PartialPicture}
@@ -9,8 +9,8 @@ use Rattle.jls_picture.specs.WholePictures.{IsPicture}
 use Rattle.jls_headline.specs.Stations.{HoldsExactly, TookInTheEnd}
 use Rattle.jls_headline.specs.Survives.{EachLineSurvives}
 use Rattle.jls_parts.specs.Parts.{Part, IsSplice}
-use Rattle.jls_splice_laws.specs.Faultless.{IsFaultless}
-use Rattle.jls_splice_laws.specs.Taken.{FilesTaken, AllTaken}
+use Rattle.jls_splice.specs.Faultless.{IsFaultless}
+use Rattle.jls_splice_laws.specs.Taken.{FilesTaken, AllTaken, SearchTaken}
 use Rattle.jls_splice_laws.specs.WholeFiles.{IsWholeFile}
 
 -- Where the search found each splice without a fault, each of them is among the files taken: none has another shape
@@ -36,3 +36,22 @@ WholeSplicesGiveNoOther =
     (copies : List (List ℕ)) (parts : List Part) (shape : PictureShape) (files : List (List ℕ)) → AllTaken copies parts shape files
     → (pic : WholePicture) → IsPicture pic → (file : List ℕ) → IsWholeFile pic file → IsSplice (length copies) parts file
     → (station : PartialPicture) → TookInTheEnd station files → IsSettled station → picture_of station ≡ pic
+
+-- What is taken of the copies and of what `search_copies` came to over them are files taken, each of which is a splice. Where its tries were
+-- not used up, each splice without a fault is among them
+abbrev pub SearchedFilesAreTaken : Type 0
+SearchedFilesAreTaken =
+    (copies : List (List ℕ)) (parts : List Part) (found : List (List ℕ)) (is_used_up : Bool) (shape : PictureShape) (files : List (List ℕ))
+    → SearchTaken copies parts found is_used_up shape files
+    → FilesTaken copies parts shape files × (is_used_up ≡ false → AllTaken copies parts shape files)
+
+-- So, where the tries of `search_copies` were not used up: if some copy has, at each part in which the copies are found to differ, what an
+-- undamaged file has there, that file is taken; and not each line of a station that took the files taken is settled, or they are that file's
+-- picture
+abbrev pub SearchedSplicesGiveNoOther : Type 0
+SearchedSplicesGiveNoOther =
+    (copies : List (List ℕ)) (parts : List Part) (found : List (List ℕ)) (shape : PictureShape) (files : List (List ℕ))
+    → SearchTaken copies parts found false shape files
+    → (pic : WholePicture) → IsPicture pic → (file : List ℕ) → IsWholeFile pic file → IsSplice (length copies) parts file
+    → Contains files file
+    × ((station : PartialPicture) → TookInTheEnd station files → IsSettled station → picture_of station ≡ pic)

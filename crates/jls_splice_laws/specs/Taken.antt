@@ -1,12 +1,12 @@
 -- The files that are taken of some copies and their splices.
-use Rattle.std.specs.Prelude.{◌≡◌, ℕ, List, [], ◌∷◌, ◌++◌, length, None, ◌⊎◌}
+use Rattle.std.specs.Prelude.{◌≡◌, ℕ, ◌<◌, Bool, List, [], ◌∷◌, ◌++◌, length, None, ◌⊎◌}
 use Rattle.std.specs.List.{AllByRecursion, Contains}
 use Rattle.jls_values.specs.Shape.{PictureShape}
 use Rattle.jls_copy.specs.Course.{Course, IsCourse}
 use Rattle.jls_headline.specs.Stations.{HasShape}
 use Rattle.jls_parts.specs.Parts.{Part, AreParts, IsSplice}
-use Rattle.jls_splice_laws.specs.Faultless.{IsFaultless}
-use Rattle.jls_splice_laws.specs.Searches.{HasEachSplice}
+use Rattle.jls_splice.specs.Faultless.{IsFaultless}
+use Rattle.jls_splice.specs.Search.{HasEachSplice, CameTo, files_of}
 
 -- Shapes -----------------------------------------------------------------------------------------------------------
 
@@ -47,4 +47,13 @@ pub record FilesTaken (copies : List (List ℕ)) (parts : List Part) (shape : Pi
 -- the files taken where the search found each splice without a fault: its tries were enough
 pub record AllTaken (copies : List (List ℕ)) (parts : List Part) (shape : PictureShape) (files : List (List ℕ)) : Type 0 where
   pub files_taken : FilesTaken copies parts shape files
-  pub each : HasEachSplice (length copies) parts files_taken.found
+  pub each : HasEachSplice parts files_taken.found
+
+-- the files taken where what was found is what jls_splice's `search_copies` came to over the copies
+pub record SearchTaken (copies : List (List ℕ)) (parts : List Part) (found : List (List ℕ)) (is_used_up : Bool) (shape : PictureShape)
+    (files : List (List ℕ)) : Type 0 where
+  pub some_copy : 0 < length copies
+  pub are_parts : AreParts copies parts
+  pub came_to : CameTo parts found is_used_up
+  pub shape_is : IsShapeTaken copies (files_of parts found) shape
+  pub of_shape : AreOfShape shape (copies ++ files_of parts found) files

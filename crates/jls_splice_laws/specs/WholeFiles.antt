@@ -1,10 +1,16 @@
 -- Undamaged files of a picture.
 use Rattle.std.specs.Prelude.{ℕ, ◌<◌, List, length}
 use Rattle.std.specs.List.{AllByRecursion}
+use Rattle.jls_copy.specs.Course.{Course, IsCourse}
+use Rattle.jls_copy.specs.Pieces.{pieces}
 use Rattle.jls_picture.specs.Picture.{WholePicture}
 use Rattle.jls_headline.specs.ReadsAs.{ReadsAs}
 use Rattle.jls_headline.specs.Survives.{Survives}
-use Rattle.jls_splice_laws.specs.Faultless.{NoPieceIsFaulty, IsFaultless}
+use Rattle.jls_splice.specs.Faultless.{HasLines, IsFaultless}
+
+-- each piece of the file reads as lines
+abbrev pub NoPieceIsFaulty : List ℕ → Type 0
+NoPieceIsFaulty file = (c : Course) × IsCourse file c × AllByRecursion HasLines (pieces c)
 
 -- the bytes are a file without a fault that reads as the picture
 pub record IsWholeFile (pic : WholePicture) (file : List ℕ) : Type 0 where

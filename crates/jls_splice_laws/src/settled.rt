@@ -1,20 +1,25 @@
 //! What survives in an undamaged file, and what the files taken settle. Each law is a function that does nothing and whose contract is the
 //! law.
 
-ghost use Rattle.jls_splice_laws.specs.SpliceLaws.{FaultlessSplicesAreTaken, SplicesGiveNoOther, WholeSplicesGiveNoOther};
+ghost use Rattle.jls_splice_laws.specs.SpliceLaws.{FaultlessSplicesAreTaken, SearchedFilesAreTaken, SearchedSplicesGiveNoOther, SplicesGiveNoOther, WholeSplicesGiveNoOther};
 ghost use Rattle.jls_splice_laws.specs.WholeFiles.{WholeFilesSurvive};
 
 use jls_headline::{never_another_picture, same_copies_give_the_picture};
+use jls_splice::searches_come_to_each_splice;
 
 /// A law: each line of a picture survives in a file that reads as it and has no faulty piece.
 pub fn whole_files_survive()
     ensures { WholeFilesSurvive }
 {}
 
-/// A law: where the tries of the search were enough, each splice without a fault is among the files taken.
+/// A law: where the tries of the search were enough, each splice without a fault is among the files taken. What is taken of what
+/// `search_copies` of jls_splice came to are files taken.
 pub fn faultless_splices_are_taken()
-    ensures { FaultlessSplicesAreTaken }
-{}
+    ensures taken { FaultlessSplicesAreTaken }
+    ensures searched { SearchedFilesAreTaken }
+{
+    searches_come_to_each_splice();
+}
 
 /// A law: a station that took the files taken holds exactly their readings. Where every line of a picture survives in them, it settles
 /// that picture or none. So let some copy have, at each part in which the copies are found to differ, what an undamaged file has there,
@@ -22,7 +27,9 @@ pub fn faultless_splices_are_taken()
 pub fn splices_give_no_other()
     ensures surviving { SplicesGiveNoOther }
     ensures all { WholeSplicesGiveNoOther }
+    ensures searched { SearchedSplicesGiveNoOther }
 {
     never_another_picture();
     same_copies_give_the_picture();
+    searches_come_to_each_splice();
 }
