@@ -6,6 +6,7 @@ use jls_parts::Part;
 /// splices.
 #[derive(Clone, Copy)]
 pub struct Files<'f, 'a> {
+    /// The copies, in their order.
     pub copies: &'f [&'a [u8]],
     /// The parts of the copies.
     pub parts: &'f [Part<'a>],
