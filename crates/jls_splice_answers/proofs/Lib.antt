@@ -1,0 +1,2 @@
+mod FaultLineExamples
+pub mod RefusedWords

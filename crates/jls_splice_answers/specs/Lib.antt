@@ -1,0 +1,4 @@
+-- What the contracts of this crate cite.
+pub mod Answers
+pub mod FaultLines
+pub mod Outcomes
