@@ -1,0 +1,4 @@
+pub mod Members
+pub mod OneFile
+pub mod SeenFiles
+pub mod TakenFiles

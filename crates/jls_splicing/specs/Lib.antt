@@ -1,0 +1,4 @@
+pub mod Files
+pub mod Shapes
+pub mod Stations
+pub mod Seen
