@@ -1,0 +1,143 @@
+//! The lines of what was found.
+
+ghost use Rattle.std.specs.Prelude.{◌≡◌, ◌++◌, codes, decimal, OnOk, take};
+ghost use Rattle.std.specs.List.{flat_map};
+ghost use Rattle.jls_splice_lines.specs.Lines.{differ_line, differ_lines, found_text, groups_end as spec_groups_end, groups_line, more_line, progress_line, single_line, splices_line, used_up_line};
+
+use crate::differences::Difference;
+use crate::found::{Found, GroupSearch};
+use jls_report::put_number;
+use std::alloc::AllocError;
+
+/// How many differences have a line.
+const MOST_LINES: usize = 4096;
+
+/// Appends the line of a difference.
+fn put_difference(out: &mut Vec<u8>, difference: Difference) -> Result<(), AllocError>
+    ensures { OnOk result (out.new.items ≡ out.old.items ++ differ_line difference) }
+{
+    out.extend_from_slice(b"differ ")?;
+    put_number(out, difference.offset)?;
+    out.extend_from_slice(b" ")?;
+    put_number(out, difference.length)?;
+    out.extend_from_slice(b"\n")?;
+    Ok(())
+}
+
+/// Appends a line for each of these differences.
+#[tactic(auto, using(jls_report::proofs::OneMore::flat_map_take_more))]
+fn put_each(out: &mut Vec<u8>, differences: &[Difference]) -> Result<(), AllocError>
+    ensures { OnOk result (out.new.items ≡ out.old.items ++ flat_map differ_line differences.now) }
+{
+    for difference in differences {
+        put_difference(out, *difference)?;
+    }
+    Ok(())
+}
+
+/// Appends how many differences have no line, if there are such.
+fn put_more(out: &mut Vec<u8>, count: usize) -> Result<(), AllocError>
+    ensures { OnOk result (out.new.items ≡ out.old.items ++ more_line count) }
+{
+    if count > MOST_LINES {
+        out.extend_from_slice(b"differ more ")?;
+        put_number(out, (count - MOST_LINES) as u64)?;
+        out.extend_from_slice(b"\n")?;
+    }
+    Ok(())
+}
+
+/// The first of these differences, each of which has a line.
+fn first_ones(differences: &[Difference]) -> &[Difference]
+    ensures { result.now ≡ take 4096 differences.now }
+{
+    if differences.len() > MOST_LINES {
+        &differences[..MOST_LINES]
+    } else {
+        differences
+    }
+}
+
+/// Appends the lines of the first differences, and how many more there are.
+fn put_differences(out: &mut Vec<u8>, differences: &[Difference]) -> Result<(), AllocError>
+    ensures { OnOk result (out.new.items ≡ out.old.items ++ differ_lines differences.now) }
+{
+    put_each(out, first_ones(differences))?;
+    put_more(out, differences.len())
+}
+
+/// Appends how many splices were taken.
+fn put_splices(out: &mut Vec<u8>, splices: usize) -> Result<(), AllocError>
+    ensures { OnOk result (out.new.items ≡ out.old.items ++ splices_line splices) }
+{
+    out.extend_from_slice(b"splices ")?;
+    put_number(out, splices as u64)?;
+    out.extend_from_slice(b"\n")?;
+    Ok(())
+}
+
+/// Appends that the search of all splices was cut off, if it was.
+fn put_used_up(out: &mut Vec<u8>, is_used_up: bool) -> Result<(), AllocError>
+    ensures { OnOk result (out.new.items ≡ out.old.items ++ used_up_line is_used_up) }
+{
+    if is_used_up {
+        out.extend_from_slice(b"tries used up\n")?;
+    }
+    Ok(())
+}
+
+/// How the line of the search by groups ends.
+fn groups_end(is_used_up: bool) -> &'static [u8]
+    ensures { result.now ≡ spec_groups_end is_used_up }
+{
+    if is_used_up {
+        b", tries used up\n"
+    } else {
+        b"\n"
+    }
+}
+
+/// Appends what the search by groups came to, if there was one.
+fn put_groups(out: &mut Vec<u8>, by_groups: Option<GroupSearch>) -> Result<(), AllocError>
+    ensures { OnOk result (out.new.items ≡ out.old.items ++ groups_line by_groups) }
+{
+    let Some(search) = by_groups else {
+        return Ok(());
+    };
+    out.extend_from_slice(b"by groups ")?;
+    put_number(out, search.groups as u64)?;
+    out.extend_from_slice(groups_end(search.is_used_up))?;
+    Ok(())
+}
+
+/// Appends that there is no single file, if one was asked for.
+fn put_single(out: &mut Vec<u8>, lacks_single_file: bool) -> Result<(), AllocError>
+    ensures { OnOk result (out.new.items ≡ out.old.items ++ single_line lacks_single_file) }
+{
+    if lacks_single_file {
+        out.extend_from_slice(b"no single file\n")?;
+    }
+    Ok(())
+}
+
+/// Appends the lines of what was found, in ASCII, each of which ends with a newline. At `Err` a front of them may stand there.
+pub fn put_found(out: &mut Vec<u8>, found: &Found<'_>) -> Result<(), AllocError>
+    ensures { OnOk result (out.new.items ≡ out.old.items ++ found_text found.now) }
+{
+    put_differences(out, found.differences)?;
+    put_splices(out, found.splices)?;
+    put_used_up(out, found.is_used_up)?;
+    put_groups(out, found.by_groups)?;
+    put_single(out, found.lacks_single_file)
+}
+
+/// Appends the line that tells how far a search is: how many fronts and files were tried, and how many files were found.
+pub fn put_progress(out: &mut Vec<u8>, tries: u32, files: usize) -> Result<(), AllocError>
+    ensures { OnOk result (out.new.items ≡ out.old.items ++ progress_line tries files) }
+{
+    put_number(out, u64::from(tries))?;
+    out.extend_from_slice(b" tries, ")?;
+    put_number(out, files as u64)?;
+    out.extend_from_slice(b" files\n")?;
+    Ok(())
+}

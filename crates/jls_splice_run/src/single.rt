@@ -1,0 +1,94 @@
+//! The single file without a fault.
+
+ghost use Rattle.std.specs.Prelude.{◌≡◌, ◌↔◌, ◌-◌, ◌^◌, ◌≤◌, ◌++◌, ◌∷◌, [], length, IfOk, IsTrue};
+ghost use Rattle.std.specs.List.{AllByRecursion};
+ghost use Rattle.jls_parts.specs.PartsOf.{bytes_of, parts_of};
+ghost use Rattle.jls_splice.specs.Choices.{IsWhole};
+ghost use Rattle.jls_splice.specs.Faultless.{IsFaultless};
+ghost use Rattle.jls_splice.specs.Search.{MakeFiles, files_of, lists_of};
+ghost use Rattle.jls_splice.specs.SearchLaws.{AreShort};
+ghost use Rattle.jls_splice_run.specs.Single.{IsSeenSo, IsSingle};
+
+use crate::files::file_of;
+use jls_copy::CopyReader;
+use jls_parts::Part;
+use jls_splice::is_faultless;
+use jls_splicing::Files;
+use std::alloc::{AllocError, Global};
+
+/// The files without a fault among some files.
+#[derive(Drop)]
+pub(crate) enum Faultless {
+    /// There is none.
+    Nothing,
+    /// All of them have these bytes.
+    One(Vec<u8>),
+    /// Two of them differ.
+    Several,
+}
+
+/// One file more, which has no fault.
+fn one_more(faultless: Faultless, file: Vec<u8>) -> Faultless {
+    match faultless {
+        Faultless::Nothing => Faultless::One(file),
+        Faultless::One(other) => {
+            if *other == *file {
+                Faultless::One(other)
+            } else {
+                Faultless::Several
+            }
+        }
+        Faultless::Several => Faultless::Several,
+    }
+}
+
+/// Whether a copy has no fault.
+fn is_copy_faultless(alloc: Global, copy: &[u8]) -> Result<bool, AllocError>
+    ensures { IfOk result (λ faultless. IsTrue faultless ↔ IsFaultless copy.now) }
+{
+    let mut reader = CopyReader::new(alloc);
+    reader.feed(copy)?;
+    is_faultless(reader)
+}
+
+/// The copies without a fault.
+fn among_copies(alloc: Global, copies: &[&[u8]]) -> Result<Faultless, AllocError> {
+    let mut faultless = Faultless::Nothing;
+    for copy in copies {
+        let has_none = is_copy_faultless(alloc, copy)?;
+        if has_none {
+            faultless = one_more(faultless, Vec::from_slice(alloc, copy)?);
+        }
+    }
+    Ok(faultless)
+}
+
+/// They, and the splices, none of which has a fault.
+fn with_splices(
+    alloc: Global,
+    copies: Faultless,
+    parts: &[Part<'_>],
+    splices: &[Vec<usize>],
+) -> Result<Faultless, AllocError>
+    requires { AllByRecursion (IsWhole (parts_of parts.now)) (lists_of splices.now) }
+{
+    let mut faultless = copies;
+    for choices in splices {
+        faultless = one_more(faultless, file_of(alloc, parts, choices)?);
+    }
+    Ok(faultless)
+}
+
+/// The bytes of the file without a fault, where exactly one of the files taken has none. Files of the same bytes are one.
+pub(crate) fn single_file(
+    alloc: Global,
+    files: &Files<'_, '_>,
+) -> Result<Option<Vec<u8>>, AllocError>
+    requires { AllByRecursion (IsWhole (parts_of files.now.parts.now)) (lists_of files.now.splices.now) }
+{
+    let copies = among_copies(alloc, files.copies)?;
+    match with_splices(alloc, copies, files.parts, files.splices)? {
+        Faultless::One(file) => Ok(Some(file)),
+        _ => Ok(None),
+    }
+}
