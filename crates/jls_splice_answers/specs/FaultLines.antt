@@ -10,6 +10,10 @@ use Rattle.jls_splice_answers.specs.declared.outcome.Outcome.TheVariants.{Done, 
 abbrev pub out_of_memory_line : List ℕ
 out_of_memory_line = codes "jls-splice: out of memory\n"
 
+-- the words ask for nothing that there is
+abbrev pub not_understood_line : List ℕ
+not_understood_line = codes "jls-splice: the words were not understood\n"
+
 -- the line of copies that have no picture: the number of the fault of the first one, of this name, and its offset
 abbrev pub no_picture_line : List ℕ → ℕ → ℕ → List ℕ
 no_picture_line name number offset =

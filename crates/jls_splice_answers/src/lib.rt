@@ -7,4 +7,6 @@ mod printing;
 
 pub use answering::answer;
 pub use outcome::{Cause, Outcome, Refusal};
-pub use printing::{print_not_created, print_not_replaced, print_out_of_memory, print_outcome};
+pub use printing::{
+    print_not_created, print_not_replaced, print_not_understood, print_out_of_memory, print_outcome,
+};

@@ -5,7 +5,7 @@ ghost use Rattle.jls_device.specs.Event.{GrewBy};
 ghost use Rattle.jls_device.specs.Writing.{Printed};
 ghost use Rattle.jls_marker.specs.Faults.{fault_number};
 ghost use Rattle.jls_printing.specs.Lines.{bytes_of, name_part};
-ghost use Rattle.jls_splice_answers.specs.FaultLines.{cause_line, fault_line, no_picture_line, not_replaced_line, not_written_line, out_of_memory_line};
+ghost use Rattle.jls_splice_answers.specs.FaultLines.{cause_line, fault_line, no_picture_line, not_replaced_line, not_understood_line, not_written_line, out_of_memory_line};
 
 use crate::outcome::{Cause, Outcome, Refusal};
 use jls_device::Sink;
@@ -94,6 +94,13 @@ pub fn print_not_replaced<E: Sink>(faults: &mut E, name: &str)
 {
     let text = " is a JPEG file, and jls-splice replaces none";
     print_line(faults, &plain(Some(name), text));
+}
+
+/// Prints that the words ask for nothing that there is.
+pub fn print_not_understood<E: Sink>(faults: &mut E)
+    ensures { GrewBy (Printed not_understood_line) (E.history faults.old) (E.history faults.new) }
+{
+    print_line(faults, &plain(None, "the words were not understood"))
 }
 
 /// Prints that memory ran out.

@@ -5,7 +5,8 @@ ghost use Rattle.jls_copy_files.specs.CopyFiles.{AreCopiesRead, copies_of};
 ghost use Rattle.jls_device.specs.Event.{GrewBy};
 ghost use Rattle.jls_parts.specs.PartsOf as parts;
 ghost use Rattle.jls_station.specs.declared.input.ReadStop.TheVariants.{Whole};
-ghost use Rattle.jls_splice_run.specs.Copies.{bytes_read, refusal_is, StopsAtCopies};
+ghost use Rattle.jls_splice_run.specs.Copies.{bytes_read, StopsAtCopies};
+ghost use Rattle.jls_splice_run.specs.Copies as spec;
 ghost use Rattle.jls_splice_run.specs.Tasks.{texts_of};
 
 use jls_copy_files::{CopyCause, CopyFile, CopyRefusal, read_copies};
@@ -16,7 +17,7 @@ use std::alloc::{AllocError, Global};
 
 /// Why a copy stops a run.
 fn cause_of(cause: CopyCause) -> Cause
-    ensures { result ≡ refusal_is cause }
+    ensures { result ≡ spec.cause_of cause }
 {
     match cause {
         CopyCause::NotOpened => Cause::NotOpened,
@@ -28,7 +29,7 @@ fn cause_of(cause: CopyCause) -> Cause
 /// Why copies stop a run.
 fn refusal_of<'a>(refusal: &CopyRefusal<'a>) -> Refusal<'a>
     ensures name { result.name.now ≡ refusal.now.name.now }
-    ensures cause { result.cause ≡ refusal_is refusal.now.cause }
+    ensures cause { result.cause ≡ spec.cause_of refusal.now.cause }
 {
     Refusal {
         name: refusal.name,

@@ -1,7 +1,7 @@
 //! What was made, handed out.
 
-ghost use Rattle.std.specs.Prelude.{◌≡◌, ◌++◌, ◌∷◌, [], IfErr, OnOk};
-ghost use Rattle.jls_device.specs.Event.{GrewBy, created};
+ghost use Rattle.std.specs.Prelude.{IfErr, OnOk, option_map};
+ghost use Rattle.jls_device.specs.Event.{GrewBy};
 ghost use Rattle.jls_device.specs.Writing.{Printed, Wrote};
 ghost use Rattle.jls_commands.specs.Outputs.{HandsOut};
 ghost use Rattle.jls_splice_run.specs.Handing.{HandsFile, StopsAtFile, StopsAtOutput, StopsAtReport};
@@ -63,6 +63,10 @@ pub(crate) fn write_file<'a, D: Desk>(
     name: Option<&'a str>,
     file: Option<&[u8]>,
 ) -> Result<(), Refusal<'a>>
+    ensures written { OnOk result (GrewBy (HandsFile (option_map (λ s. s.now) name.entry) (option_map (λ s. s.now) file.entry))
+        (D.history desk.old) (D.history desk.new)) }
+    ensures stopped { IfErr result (λ refusal. GrewBy (StopsAtFile (option_map (λ s. s.now) name.entry)
+        (option_map (λ s. s.now) file.entry) refusal) (D.history desk.old) (D.history desk.new)) }
 {
     match (name, file) {
         (Some(name), Some(file)) => write_output(desk, name, file),

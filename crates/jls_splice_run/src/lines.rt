@@ -1,6 +1,13 @@
 //! The lines that a run prints.
 
-ghost use Rattle.std.specs.Prelude.{◌≡◌};
+ghost use Rattle.std.specs.Prelude.{◌≡◌, ◌++◌, ◌<◌, ◌^◌, [], length, IfOk, codes, None, if◌then◌else◌};
+ghost use Rattle.std.specs.Str.{bytes_eq};
+ghost use Rattle.jls_parts.specs.Parts.{made};
+ghost use Rattle.jls_parts.specs.PartsOf.{parts_of};
+ghost use Rattle.jls_report.specs.Report.{report_of};
+ghost use Rattle.jls_report.specs.ReportText.{report_text};
+ghost use Rattle.jls_splice_lines.specs.Lines.{progress_line};
+ghost use Rattle.jls_splice_run.specs.Making.{told_lines};
 
 use jls_partial::Partial;
 use jls_parts::Part;
@@ -18,7 +25,10 @@ pub(crate) struct Told {
 }
 
 /// The lines of what was found.
-fn found_lines(alloc: Global, parts: &[Part<'_>], told: Told) -> Result<Vec<u8>, AllocError> {
+fn found_lines(alloc: Global, parts: &[Part<'_>], told: Told) -> Result<Vec<u8>, AllocError>
+    requires { length (made 0 (parts_of parts.now)) < 2 ^ 64 }
+    ensures { IfOk result (λ lines. lines.items ≡ told_lines (parts_of parts.now) told.splices told.is_used_up told.lacks_single_file) }
+{
     let differences = differences_of(alloc, parts)?;
     let found = Found {
         differences: &differences,
@@ -33,7 +43,9 @@ fn found_lines(alloc: Global, parts: &[Part<'_>], told: Told) -> Result<Vec<u8>,
 }
 
 /// The lines of the report of a partial picture.
-fn report_lines(alloc: Global, partial: &Partial) -> Result<Vec<u8>, AllocError> {
+fn report_lines(alloc: Global, partial: &Partial) -> Result<Vec<u8>, AllocError>
+    ensures { IfOk result (λ lines. lines.items ≡ report_text (report_of partial.now)) }
+{
     let report = Report::of(alloc, partial)?;
     report.to_text(alloc)
 }
@@ -45,7 +57,11 @@ pub(crate) fn lines_of(
     parts: &[Part<'_>],
     told: Told,
     partial: &Partial,
-) -> Result<Vec<u8>, AllocError> {
+) -> Result<Vec<u8>, AllocError>
+    requires { length (made 0 (parts_of parts.now)) < 2 ^ 64 }
+    ensures { IfOk result (λ lines. lines.items ≡ (if bytes_eq out.now (codes "-") then []
+        else told_lines (parts_of parts.now) told.splices told.is_used_up told.lacks_single_file ++ report_text (report_of partial.now))) }
+{
     if out == "-" {
         return Ok(Vec::new(alloc));
     }
@@ -61,7 +77,9 @@ pub(crate) fn progress_of(
     is_asked: bool,
     tries: u32,
     files: usize,
-) -> Result<Vec<u8>, AllocError> {
+) -> Result<Vec<u8>, AllocError>
+    ensures { IfOk result (λ line. line.items ≡ (if is_asked then progress_line tries files else [])) }
+{
     let mut line = Vec::new(alloc);
     if is_asked {
         put_progress(&mut line, tries, files)?;

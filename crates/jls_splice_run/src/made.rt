@@ -1,6 +1,14 @@
 //! What is made of the copies, in memory.
 
-ghost use Rattle.std.specs.Prelude.{◌≡◌};
+ghost use Rattle.std.specs.Prelude.{◌≡◌, ◌<◌, ◌^◌, length, IfOk, IfErr, IsTrue, option_map};
+ghost use Rattle.jls_copy_files.specs.CopyFiles.{copies_of};
+ghost use Rattle.jls_parts.specs.Parts.{made};
+ghost use Rattle.jls_parts.specs.PartsOf.{bytes_of, parts_of};
+ghost use Rattle.jls_splice.specs.Search.{IsShort, MakeFiles, lists_of};
+ghost use Rattle.jls_splicing.specs.Files as given;
+ghost use Rattle.jls_splice_run.specs.Making.{AreTextsOf, CantMake, HoldsMade, IsFound, files_taken, found_of, lacks_single, made_of};
+ghost use Rattle.jls_splice_run.specs.Single.{IsSingleAsked};
+ghost use Rattle.jls_splice_run.specs.Tasks.{task_of};
 
 use crate::copies::slices_of;
 use crate::files::count_new;
@@ -10,7 +18,7 @@ use crate::single::single_file;
 use crate::task::{Task, want_of_memory};
 use jls_copy_files::CopyFile;
 use jls_partial::Partial;
-use jls_splice::{SearchedCopies, are_short, search_copies};
+use jls_splice::{SearchedCopies, are_short, parts_can_be_searched, search_copies};
 use jls_splice_answers::Refusal;
 use jls_splicing::Files;
 use std::alloc::{AllocError, Global};
@@ -34,23 +42,41 @@ fn search<'c>(
     alloc: Global,
     copies: &[&'c [u8]],
     tries: u32,
-) -> Result<SearchedCopies<'c>, AllocError> {
+) -> Result<SearchedCopies<'c>, AllocError>
+    requires { 0 < length copies.now }
+    ensures found { IfOk result (λ found. IsFound (bytes_of copies.now) (found_of found)) }
+    ensures short { IfOk result (λ found. IsShort (parts_of found.parts.items)) }
+    ensures small { IfOk result (λ found. length (made 0 (parts_of found.parts.items)) < 2 ^ 64) }
+{
+    parts_can_be_searched();
     if !are_short(copies) {
         return Err(AllocError);
     }
     search_copies(alloc, copies, tries)
 }
 
-/// The single file, if one is asked for.
+/// The single file, if a name is given for it.
 fn file_asked(
     alloc: Global,
-    is_asked: bool,
+    name: Option<&str>,
     files: &Files<'_, '_>,
-) -> Result<Option<Vec<u8>>, AllocError> {
-    if is_asked {
-        single_file(alloc, files)
-    } else {
-        Ok(None)
+) -> Result<Option<Vec<u8>>, AllocError>
+    requires { MakeFiles (parts_of files.now.parts.now) (lists_of files.now.splices.now) }
+    ensures { IfOk result (λ file. IsSingleAsked name.entry (given.files_taken files.now) (option_map (λ f. f.items) file)) }
+{
+    match name {
+        Some(_) => single_file(alloc, files),
+        None => Ok(None),
+    }
+}
+
+/// Whether a single file is asked for, and there is none.
+fn lacks_file(name: Option<&str>, file: &Option<Vec<u8>>) -> bool
+    ensures { result ≡ lacks_single name.entry file.now }
+{
+    match (name, file) {
+        (Some(_), None) => true,
+        _ => false,
     }
 }
 
@@ -61,19 +87,25 @@ fn texts_of(
     copies: &[&[u8]],
     found: &SearchedCopies<'_>,
     partial: &Partial,
-) -> Result<Made, AllocError> {
+) -> Result<Made, AllocError>
+    requires files { MakeFiles (parts_of found.now.parts.items) (lists_of found.now.searched.splices.items) }
+    requires small { length (made 0 (parts_of found.now.parts.items)) < 2 ^ 64 }
+    ensures texts { IfOk result (λ made. AreTextsOf (task_of task.now) (bytes_of copies.now) (made_of found.now partial.now made) made) }
+    ensures single { IfOk result (λ made. IsSingleAsked (task_of task.now).options.file
+        (files_taken (bytes_of copies.now) (found_of found.now)) (option_map (λ f. f.items) made.file)) }
+{
     let searched = &found.searched;
     let files = Files {
         copies,
         parts: &found.parts,
         splices: &searched.splices,
     };
-    let is_asked = task.options.file.is_some();
-    let file = file_asked(alloc, is_asked, &files)?;
+    let file = file_asked(alloc, task.options.file, &files)?;
+    let splices = count_new(alloc, copies, &found.parts, &searched.splices)?;
     let told = Told {
-        splices: count_new(alloc, copies, &found.parts, &searched.splices)?,
+        splices,
         is_used_up: searched.is_used_up,
-        lacks_single_file: is_asked && file.is_none(),
+        lacks_single_file: lacks_file(task.options.file, &file),
     };
     let progress = progress_of(
         alloc,
@@ -98,7 +130,12 @@ pub(crate) fn make<'a>(
     alloc: Global,
     task: &Task<'_, 'a>,
     copies: &[CopyFile],
-) -> Result<Made, Refusal<'a>> {
+) -> Result<Made, Refusal<'a>>
+    requires some_copy { 0 < length copies.now }
+    requires names { length task.now.names.now ≡ length copies.now }
+    ensures made { IfOk result (λ made. HoldsMade (task_of task.now) (copies_of copies.now) made) }
+    ensures stopped { IfErr result (λ refusal. CantMake (task_of task.now) (copies_of copies.now) refusal) }
+{
     let slices = match slices_of(alloc, copies) {
         Ok(slices) => slices,
         Err(_) => return Err(want_of_memory(task)),

@@ -2,11 +2,13 @@
 
 ghost use Rattle.std.specs.Prelude.{map};
 ghost use Rattle.std.specs.String.{string_bytes};
+ghost use Rattle.jls_splice_words.specs.Asking.{asked_of};
+ghost use Rattle.jls_splice_run.specs.Runs.{GrewAll, Performs, Ran};
 
 use crate::splicing::splice;
 use crate::task::{Task, names_of};
 use jls_device::{Desk, Sink};
-use jls_splice_answers::{answer, print_out_of_memory, print_outcome};
+use jls_splice_answers::{answer, print_not_understood, print_out_of_memory, print_outcome};
 use jls_splice_words::{Asked, asked_splice, matches};
 use std::alloc::Global;
 
@@ -17,7 +19,10 @@ fn perform<D: Desk, W: Sink, E: Sink>(
     desk: &mut D,
     report: &mut W,
     faults: &mut E,
-) -> u8 {
+) -> u8
+    ensures { GrewAll (Performs (asked_of asked.now) result) (D.history desk.old) (D.history desk.new)
+        (W.history report.old) (W.history report.new) (E.history faults.old) (E.history faults.new) }
+{
     let names = match names_of(alloc, asked) {
         Ok(names) => names,
         Err(_) => {
@@ -52,13 +57,19 @@ pub fn run<D: Desk, W: Sink, E: Sink>(
     desk: &mut D,
     report: &mut W,
     faults: &mut E,
-) -> u8 {
+) -> u8
+    ensures { Ran (map string_bytes words.now) result (D.history desk.old) (D.history desk.new)
+        (W.history report.old) (W.history report.new) (E.history faults.old) (E.history faults.new) }
+{
     let matches = match matches(alloc, words) {
         Ok(matches) => matches,
         Err(error) => return answer(alloc, &error, report, faults),
     };
     match asked_splice(&matches) {
         Some(asked) => perform(alloc, &asked, desk, report, faults),
-        None => 2,
+        None => {
+            print_not_understood(faults);
+            2
+        }
     }
 }

@@ -2,15 +2,17 @@
 
 ghost use Rattle.std.specs.Prelude.{◌≡◌, ◌<◌, length, IfOk, IfErr};
 ghost use Rattle.std.specs.List.{AllByRecursion};
+ghost use Rattle.jls_partial.specs.Partial.{nothing_known};
 ghost use Rattle.jls_copy_files.specs.CopyFiles.{copies_of};
 ghost use Rattle.jls_parts.specs.PartsOf.{bytes_of, parts_of};
 ghost use Rattle.jls_splice.specs.Choices.{IsWhole};
 ghost use Rattle.jls_splice.specs.Search.{IsShort, lists_of};
-ghost use Rattle.jls_splicing.specs.Files.{splices_found};
+ghost use Rattle.jls_splicing.specs.Files.{files_taken, splices_found};
+ghost use Rattle.jls_splicing.specs.Stations.{TakesFiles};
 ghost use Rattle.jls_splice_run.specs.Copies.{bytes_read};
-ghost use Rattle.jls_splice_run.specs.Making.{CantSettle, IsSettledOn};
+ghost use Rattle.jls_splice_run.specs.Making.{IsPictureOf, IsUnsettled, IsWantOfMemory};
 ghost use Rattle.jls_splice_run.specs.Making as spec;
-ghost use Rattle.jls_splice_run.specs.Tasks.{asked_by, texts_of};
+ghost use Rattle.jls_splice_run.specs.Tasks.{task_of};
 
 use crate::task::{Task, want_of_memory};
 use jls_copy_files::CopyFile;
@@ -37,7 +39,14 @@ fn take<'a>(
     task: &Task<'_, 'a>,
     shape: Shape,
     files: &Files<'_, '_>,
-) -> Result<Station, Refusal<'a>> {
+) -> Result<Station, Refusal<'a>>
+    requires whole { AllByRecursion (IsWhole (parts_of files.now.parts.now)) (lists_of files.now.splices.now) }
+    requires short { IsShort (parts_of files.now.parts.now) }
+    ensures shape { IfOk result (λ station. station.shape ≡ shape) }
+    ensures taken { IfOk result (λ station.
+        TakesFiles (task_of task.now).options.source (files_taken files.now) (nothing_known shape) station) }
+    ensures stopped { IfErr result (λ refusal. IsWantOfMemory (task_of task.now) refusal) }
+{
     match take_files(alloc, shape, task.options.source, files) {
         Ok(station) => Ok(station),
         Err(_) => Err(want_of_memory(task)),
@@ -50,7 +59,17 @@ pub(crate) fn settle<'a>(
     task: &Task<'_, 'a>,
     copies: &[CopyFile],
     files: &Files<'_, '_>,
-) -> Result<Station, Refusal<'a>> {
+) -> Result<Station, Refusal<'a>>
+    requires some_copy { 0 < length copies.now }
+    requires names { length task.now.names.now ≡ length copies.now }
+    requires copies { bytes_of files.now.copies.now ≡ bytes_read (copies_of copies.now) }
+    requires whole { AllByRecursion (IsWhole (parts_of files.now.parts.now)) (lists_of files.now.splices.now) }
+    requires short { IsShort (parts_of files.now.parts.now) }
+    ensures settled { IfOk result (λ station.
+        IsPictureOf (task_of task.now).options.source (bytes_read (copies_of copies.now)) (splices_found files.now) station) }
+    ensures stopped { IfErr result (λ refusal.
+        IsUnsettled (task_of task.now) (copies_of copies.now) (splices_found files.now) refusal) }
+{
     let found = match find_shape(alloc, files) {
         Ok(found) => found,
         Err(_) => return Err(want_of_memory(task)),

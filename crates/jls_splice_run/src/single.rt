@@ -1,13 +1,11 @@
 //! The single file without a fault.
 
-ghost use Rattle.std.specs.Prelude.{◌≡◌, ◌↔◌, ◌-◌, ◌^◌, ◌≤◌, ◌++◌, ◌∷◌, [], length, IfOk, IsTrue};
-ghost use Rattle.std.specs.List.{AllByRecursion};
+ghost use Rattle.std.specs.Prelude.{◌↔◌, ◌++◌, ◌∷◌, [], ℕ, List, IfOk, IsTrue, option_map};
 ghost use Rattle.jls_parts.specs.PartsOf.{bytes_of, parts_of};
-ghost use Rattle.jls_splice.specs.Choices.{IsWhole};
 ghost use Rattle.jls_splice.specs.Faultless.{IsFaultless};
 ghost use Rattle.jls_splice.specs.Search.{MakeFiles, files_of, lists_of};
-ghost use Rattle.jls_splice.specs.SearchLaws.{AreShort};
-ghost use Rattle.jls_splice_run.specs.Single.{IsSeenSo, IsSingle};
+ghost use Rattle.jls_splicing.specs.Files.{files_taken};
+ghost use Rattle.jls_splice_run.specs.Single.{AreSeenSo, IsSingle};
 
 use crate::files::file_of;
 use jls_copy::CopyReader;
@@ -28,7 +26,9 @@ pub(crate) enum Faultless {
 }
 
 /// One file more, which has no fault.
-fn one_more(faultless: Faultless, file: Vec<u8>) -> Faultless {
+fn one_more(faultless: Faultless, file: Vec<u8>) -> Faultless
+    ensures { (files : List (List ℕ)) → AreSeenSo files faultless → IsFaultless file.items → AreSeenSo (files ++ file.items ∷ []) result }
+{
     match faultless {
         Faultless::Nothing => Faultless::One(file),
         Faultless::One(other) => {
@@ -52,7 +52,9 @@ fn is_copy_faultless(alloc: Global, copy: &[u8]) -> Result<bool, AllocError>
 }
 
 /// The copies without a fault.
-fn among_copies(alloc: Global, copies: &[&[u8]]) -> Result<Faultless, AllocError> {
+fn among_copies(alloc: Global, copies: &[&[u8]]) -> Result<Faultless, AllocError>
+    ensures { IfOk result (λ faultless. AreSeenSo (bytes_of copies.now) faultless) }
+{
     let mut faultless = Faultless::Nothing;
     for copy in copies {
         let has_none = is_copy_faultless(alloc, copy)?;
@@ -70,7 +72,9 @@ fn with_splices(
     parts: &[Part<'_>],
     splices: &[Vec<usize>],
 ) -> Result<Faultless, AllocError>
-    requires { AllByRecursion (IsWhole (parts_of parts.now)) (lists_of splices.now) }
+    requires { MakeFiles (parts_of parts.now) (lists_of splices.now) }
+    ensures { IfOk result (λ faultless. (files : List (List ℕ)) → AreSeenSo files copies
+        → AreSeenSo (files ++ files_of (parts_of parts.now) (lists_of splices.now)) faultless) }
 {
     let mut faultless = copies;
     for choices in splices {
@@ -84,7 +88,8 @@ pub(crate) fn single_file(
     alloc: Global,
     files: &Files<'_, '_>,
 ) -> Result<Option<Vec<u8>>, AllocError>
-    requires { AllByRecursion (IsWhole (parts_of files.now.parts.now)) (lists_of files.now.splices.now) }
+    requires { MakeFiles (parts_of files.now.parts.now) (lists_of files.now.splices.now) }
+    ensures { IfOk result (λ single. IsSingle (files_taken files.now) (option_map (λ file. file.items) single)) }
 {
     let copies = among_copies(alloc, files.copies)?;
     match with_splices(alloc, copies, files.parts, files.splices)? {

@@ -18,10 +18,7 @@ pub struct Task<'m, 'a> {
 }
 
 /// The names of the copies, in their order.
-pub(crate) fn names_of<'a>(
-    alloc: Global,
-    asked: &Asked<'_, 'a>,
-) -> Result<Vec<&'a str>, AllocError>
+pub(crate) fn names_of<'a>(alloc: Global, asked: &Asked<'_, 'a>) -> Result<Vec<&'a str>, AllocError>
     ensures { IfOk result (λ names. texts_of names.items ≡ (asked_of asked.now).copies) }
 {
     let mut names = Vec::new(alloc);
