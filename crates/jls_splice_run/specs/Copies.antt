@@ -1,7 +1,9 @@
 -- The copies that a run reads.
 use Rattle.std.specs.Prelude.{◌≡◌, ℕ, List, map}
+use Rattle.std.specs.List.{AllByRecursion}
 use Rattle.jls_device.specs.Event.{Event}
 use Rattle.jls_station.specs.declared.input.ReadStop.{ReadStop}
+use Rattle.jls_station.specs.declared.input.ReadStop.TheVariants.{Whole}
 use Rattle.jls_copy_files.specs.CopyFiles.{CopyBytes, StopsAmongCopies}
 use Rattle.jls_copy_files.specs.declared.copy.CopyCause.{CopyCause}
 use Rattle.jls_copy_files.specs.declared.copy.CopyCause.TheVariants as copy
@@ -17,6 +19,10 @@ bytes_read copies = map (λ copy. copy.bytes) copies
 -- how the reading of each stopped
 abbrev pub stops_read : List CopyBytes → List ReadStop
 stops_read copies = map (λ copy. copy.stop) copies
+
+-- each was read to its end
+abbrev pub AreWhole : List CopyBytes → Type 0
+AreWhole copies = AllByRecursion (λ copy. copy.stop ≡ Whole) copies
 
 -- what is said of a copy that stops a run
 abbrev pub cause_of : CopyCause → Cause

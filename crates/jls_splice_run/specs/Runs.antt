@@ -1,12 +1,11 @@
 -- What a run of the program is.
-use Rattle.std.specs.Prelude.{◌≡◌, ◌↔◌, ℕ, true, false, IsTrue, All, List, [], ◌++◌, codes, option_map}
+use Rattle.std.specs.Prelude.{◌≡◌, ◌↔◌, ℕ, true, false, IsTrue, List, [], ◌++◌, codes, option_map}
 use Rattle.clap.specs.Words.{Text}
 use Rattle.clap.specs.declared.error.kind.ErrorKind.{ErrorKind}
 use Rattle.jls_device.specs.Event.{Event, History}
 use Rattle.jls_device.specs.Writing.{Wrote, WroteFront, Printed}
 use Rattle.jls_partial.specs.Status.{IsSettled}
 use Rattle.jls_partial.specs.Text.{text}
-use Rattle.jls_station.specs.declared.input.ReadStop.TheVariants.{Whole}
 use Rattle.jls_copy_files.specs.CopyFiles.{AreCopiesRead, CopyBytes}
 use Rattle.jls_splice_words.specs.Asking.{Asked, AskFor, AskForNothing}
 use Rattle.jls_splice_words.specs.Words.{AreRefused}
@@ -17,7 +16,7 @@ use Rattle.jls_splice_answers.specs.declared.outcome.Cause.TheVariants as cause
 use Rattle.jls_splice_answers.specs.declared.outcome.Outcome.{Outcome}
 use Rattle.jls_splice_answers.specs.declared.outcome.Outcome.TheVariants.{Done, Refused}
 use Rattle.jls_splice_answers.specs.declared.outcome.Refusal.{Refusal}
-use Rattle.jls_splice_run.specs.Copies.{bytes_read, StopsAtCopies}
+use Rattle.jls_splice_run.specs.Copies.{AreWhole, bytes_read, StopsAtCopies}
 use Rattle.jls_splice_run.specs.Handing.{HandsAll, StopsInHanding, Texts}
 use Rattle.jls_splice_run.specs.Making.{CantMake, IsMade, Made, lines, progress}
 use Rattle.jls_splice_run.specs.declared.made.Made.{Made as MadeValue}
@@ -66,7 +65,7 @@ pub data Splices (a : Asked) : Outcome → List Event → List Event → List Ev
       → Splices a (Refused r) (reading ++ desk) report faults
   done : (copies : List CopyBytes) (m : Made) (settled whole : Bool) (reading desk report faults : List Event)
       → AreCopiesRead a.copies copies reading → IsMade a (bytes_read copies) m → HandsAll (texts a copies m) desk report faults
-      → (IsTrue settled ↔ IsSettled m.picture) → (IsTrue whole ↔ All (λ c. c.stop ≡ Whole) copies)
+      → (IsTrue settled ↔ IsSettled m.picture) → (IsTrue whole ↔ AreWhole copies)
       → Splices a (Done settled whole) (reading ++ desk) report faults
 
 -- what was asked ends with this status: what came of it has the status, and its fault line is printed last; or memory ran out before a copy

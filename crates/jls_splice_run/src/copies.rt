@@ -1,11 +1,11 @@
 //! The copies that a run reads.
 
-ghost use Rattle.std.specs.Prelude.{◌≡◌, ◌↔◌, IfOk, IfErr, IsTrue, All};
+ghost use Rattle.std.specs.Prelude.{◌≡◌, ◌↔◌, IfOk, IfErr, IsTrue};
 ghost use Rattle.jls_copy_files.specs.CopyFiles.{AreCopiesRead, copies_of};
 ghost use Rattle.jls_device.specs.Event.{GrewBy};
 ghost use Rattle.jls_parts.specs.PartsOf as parts;
 ghost use Rattle.jls_station.specs.declared.input.ReadStop.TheVariants.{Whole};
-ghost use Rattle.jls_splice_run.specs.Copies.{bytes_read, StopsAtCopies};
+ghost use Rattle.jls_splice_run.specs.Copies.{AreWhole, bytes_read, StopsAtCopies};
 ghost use Rattle.jls_splice_run.specs.Copies as spec;
 ghost use Rattle.jls_splice_run.specs.Tasks.{texts_of};
 
@@ -77,7 +77,7 @@ fn is_whole(copy: &CopyFile) -> bool
 
 /// Whether each copy was read to its end.
 pub(crate) fn are_whole(copies: &[CopyFile]) -> bool
-    ensures { IsTrue result ↔ All (λ copy. copy.stop ≡ Whole) (copies_of copies.now) }
+    ensures { IsTrue result ↔ AreWhole (copies_of copies.now) }
 {
     for copy in copies {
         if !is_whole(copy) {
