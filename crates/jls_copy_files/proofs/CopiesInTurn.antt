@@ -24,9 +24,9 @@ names_split names i d within =
 -- a copy that was opened, and then read
 pub opened_then : (Are Will : List Event → Type 0) (name : List ℕ) (old mid new : History) → mid ≡ old ++ opened name ∷ []
     → ((reads : List Event) → Are reads → Will (opened name ∷ reads)) → GrewBy Are mid new → GrewBy Will old new
-opened_then Are Will name old mid new open see h = record {
+opened_then Are Will name old mid new first see h = record {
   events = opened name ∷ h.events;
-  grew = grew_twice old mid new (opened name ∷ []) h.events open h.grew;
+  grew = grew_twice old mid new (opened name ∷ []) h.events first h.grew;
   they_are = see h.events h.they_are;
 }
 

@@ -4,7 +4,7 @@ use Rattle.std.proofs.lemmas.List.{length-take}
 use Rattle.std.specs.Io.KnownBytes.{Consumes}
 use Rattle.jls_device.specs.Event.{GrewBy}
 use Rattle.jls_station.specs.Reading.{AreBytes, IsReadInPart, ReadSoFar}
-use Rattle.jls_station.proofs.OneInput.{on_error, nothing_read, one_read_more, read_to_end, read_to_failure, read_to_turns, read_enough, read_in_part, consumes_nothing, consumes_on}
+use Rattle.jls_station.proofs.OneInput.{on_error, nothing_read, one_read_more, read_to_end, read_to_failure, read_enough, read_in_part, consumes_nothing, consumes_on}
 use Rattle.jls_copy_files.specs.CopyFiles.{begins_as_text, IsTextFront}
 use Rattle.jls_copy_files.proofs.reading.read_to_end.Goals as goal
 

@@ -1,4 +1,4 @@
-use Rattle.std.proofs.Common.{rules, ◌≡◌, ◌<◌, ◌+◌, ◌∷◌, [], ◌++◌, List, length, ap, sym, ◌∙◌, arith}
+use Rattle.std.proofs.Common.{rules, ◌≡◌, ◌<◌, ◌+◌, ◌∷◌, [], ◌++◌, length, ap, sym, ◌∙◌, arith}
 use Rattle.std.proofs.lemmas.List.{append-nil}
 use Rattle.jls_parts.specs.PartsOf.{parts_of}
 use Rattle.jls_splice_lines.specs.declared.differences.Difference.{Difference}
@@ -28,13 +28,14 @@ loop-part-preserved c =
     let this : Difference = record { offset = c.loop-part.offset; length = size } in
     record {
       found = elim c.if-is_differ.branch [
-        then-is_differ+in_ok-push w ↦
+        | then-is_differ+in_ok-push w ↦
             let pushed : c.if-is_differ.found.items ≡ c.loop-part.found.items ++ this ∷ [] = search rules in
             found_more parts i c.loop-part.found.items (this ∷ []) c.if-is_differ.found.items c.loop-part.invariant.found
             (differ_found parts i x c.loop-part.offset size within c.part-item.is (sym c.is_differ.ensures ∙ w.if-is_differ.true) c.loop-part.invariant.offset here) pushed
         | else-is_differ w ↦
             let kept : c.if-is_differ.found.items ≡ c.loop-part.found.items = search rules in
             found_more parts i c.loop-part.found.items [] c.if-is_differ.found.items c.loop-part.invariant.found
-            (same_found parts i x within c.part-item.is (sym c.is_differ.ensures ∙ w.if-is_differ.false)) (kept ∙ sym (append-nil c.loop-part.found.items)) ];
+            (same_found parts i x within c.part-item.is (sym c.is_differ.ensures ∙ w.if-is_differ.false)) (kept ∙ sym (append-nil c.loop-part.found.items))
+      ];
       offset = omega (arith, more, here, c.loop-part.invariant.offset);
     }
