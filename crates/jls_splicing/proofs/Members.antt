@@ -1,8 +1,10 @@
 -- Members of lists, and what holds of one more of them.
-use Rattle.std.proofs.Common.{◌≡◌, ℕ, zero, suc, ◌+◌, ◌<◌, List, [], ◌∷◌, ◌++◌, map, length, take, get_or, refl, ap, ◌∙◌, subst, arith, ◌⊎◌, inl, inr}
-use Rattle.std.specs.Prelude.{slice_get, IsSomeAnd}
+use Rattle.std.proofs.Common.{◌≡◌, ℕ, zero, suc, ◌+◌, ◌<◌, List, [], ◌∷◌, ◌++◌, map, length, take, get_or, refl, ap, ◌∙◌, subst, arith, ◌⊎◌, inl, inr, Vec, Global, sym}
 use Rattle.std.specs.List.{AllByRecursion, Contains}
 use Rattle.std.proofs.lemmas.List.{map-append, take_more}
+use Rattle.jls_parts.specs.Parts.{Part}
+use Rattle.jls_splice.specs.Choices.{IsWhole, front_of}
+use Rattle.jls_splice.specs.Search.{files_of, lists_of}
 
 module _ {X : Type 0} where
   pub is_first : (x : X) (xs : List X) → Contains (x ∷ xs) x
@@ -43,3 +45,17 @@ module _ {X : Type 0} where
   pub map_one_more : {Y : Type 0} (f : X → Y) (xs : List X) (i : ℕ) (d : X) → i < length xs
       → map f (take (i + 1) xs) ≡ map f (take i xs) ++ f (get_or xs i d) ∷ []
   map_one_more f xs i d l = ap (map f) (take_more xs i d l) ∙ map-append f (take i xs) (get_or xs i d ∷ [])
+
+-- the choices of a splice, and the file that they make
+pub whole_at : (ps : List Part) (vs : List (Vec ℕ Global)) (i : ℕ) (v d : Vec ℕ Global) → AllByRecursion (IsWhole ps) (lists_of vs)
+    → i < length vs → v ≡ get_or vs i d → IsWhole ps v.items
+whole_at ps [] i v d whole l e = absurd (omega (arith, l))
+whole_at ps (w ∷ vs) zero v d whole l e = subst (λ (x : Vec ℕ Global). IsWhole ps x.items) (sym e) whole.0
+whole_at ps (w ∷ vs) (suc i) v d whole l e = whole_at ps vs i v d whole.1 (omega (arith, l)) e
+
+pub splices_one_more : (ps : List Part) (vs : List (Vec ℕ Global)) (i : ℕ) (v : Vec ℕ Global) → i < length vs → v ≡ get_or vs i v
+    → files_of ps (lists_of (take (i + 1) vs)) ≡ files_of ps (lists_of (take i vs)) ++ front_of ps v.items ∷ []
+splices_one_more ps vs i v l e =
+    ap (files_of ps) (map_one_more (λ (x : Vec ℕ Global). x.items) vs i v l)
+    ∙ map-append (front_of ps) (lists_of (take i vs)) ((get_or vs i v).items ∷ [])
+    ∙ ap (λ (x : Vec ℕ Global). files_of ps (lists_of (take i vs)) ++ front_of ps x.items ∷ []) (sym e)

@@ -1,16 +1,22 @@
 -- The shape of the files taken, from what is seen of them.
-use Rattle.std.proofs.Common.{◌≡◌, ℕ, zero, suc, ◌+◌, ◌<◌, List, [], ◌∷◌, ◌++◌, length, take, Option, Some, None, refl, ap, ◌∙◌, subst, arith, ◌⊎◌, inl, inr}
-use Rattle.std.specs.Prelude.{get_or, slice_get, IfSome, IsSomeAnd}
+use Rattle.std.proofs.Common.{◌≡◌, ℕ, zero, suc, ◌+◌, ◌<◌, List, [], ◌∷◌, ◌++◌, map, length, take, Option, Some, None, Vec, Global, Bor, refl, sym, ap, ◌∙◌, subst, append_assoc, arith, ◌⊎◌, inl, inr}
+use Rattle.std.specs.Prelude.{get_or, slice_get, unwrap_or, IfSome, IfNone, IsSomeAnd}
+use Rattle.std.proofs.lemmas.List.{map-append}
 use Rattle.std.specs.List.{AllByRecursion, Contains}
 use Rattle.jls_values.specs.Shape.{PictureShape}
+use Rattle.jls_parts.specs.Parts.{Part}
+use Rattle.jls_parts.specs.PartsOf.{bytes_of}
+use Rattle.jls_parts.proofs.Slices.{count_of_slices}
+use Rattle.jls_splice.specs.Choices.{front_of}
 use Rattle.jls_splice.specs.Faultless.{IsFaultless}
+use Rattle.jls_splice.specs.Search.{files_of, lists_of}
 use Rattle.jls_splicing.specs.Shapes.{HasShape, HasOtherShape, HasNoFrame, IsFirstShape, NoneIsFaultless, IsShapeTaken, ShapesDiffer, IsFirstOther, NoneIsOther, IsCopyNamed, IsShapeFound}
 use Rattle.jls_splicing.specs.Seen.{IsSeen, AreSeen, IsNotFaultless, HasItIfFaultless, HasFrame, IsWithoutFrame, HasOtherFrame, IsFirstFrame, IsFirstOtherFrame, SomeFaultlessHasOther, IsNamed, IsOfCopies}
 use Rattle.jls_splicing.specs.declared.seen.Seen.{Seen}
 use Rattle.jls_splicing.specs.declared.seen.Seen.TheVariants.{Faultless, Faulty, NoFrame}
 use Rattle.jls_splicing.specs.declared.shape_found.ShapeFound.{ShapeFound}
 use Rattle.jls_splicing.specs.declared.shape_found.ShapeFound.TheVariants as answer
-use Rattle.jls_splicing.proofs.Members.{is_first, in_rest, none_in, first_or_rest, all_at}
+use Rattle.jls_splicing.proofs.Members.{is_first, in_rest, none_in, first_or_rest, all_at, map_one_more, splices_one_more}
 use Rattle.jls_splicing.proofs.OneFile.{one_shape_of, no_shape, faultless_shape}
 
 -- One file ---------------------------------------------------------------------------------------------------------
@@ -76,6 +82,35 @@ front_seen [] more seen are = tt
 front_seen (f ∷ files) more [] are = absurd are
 front_seen (f ∷ files) more (s ∷ seen) are = (are.0, front_seen files more seen are.1)
 
+-- loops over copies and over splices
+pub copies_more : (copies : List (Bor (List ℕ))) (i : ℕ) (d : Bor (List ℕ)) (old new : List Seen) (s : Seen) → i < length copies
+    → AreSeen (bytes_of (take i copies)) old → new ≡ old ++ s ∷ [] → IsSeen (get_or copies i d).now s
+    → AreSeen (bytes_of (take (i + 1) copies)) new
+copies_more copies i d old new s l are e is =
+    let F : List (List ℕ) = bytes_of (take i copies) in
+    subst (λ fs. AreSeen fs new) (sym (map_one_more (λ (slice : Bor (List ℕ)). slice.now) copies i d l))
+    (subst (AreSeen (F ++ (get_or copies i d).now ∷ [])) (sym e) (seen_more F old (get_or copies i d).now s are is))
+
+pub splices_more : (ps : List Part) (vs : List (Vec ℕ Global)) (i : ℕ) (v : Vec ℕ Global) → i < length vs → v ≡ get_or vs i v
+    → (files : List (List ℕ)) (old new : List Seen) (s : Seen) → AreSeen (files ++ files_of ps (lists_of (take i vs))) old
+    → new ≡ old ++ s ∷ [] → IsSeen (front_of ps v.items) s → AreSeen (files ++ files_of ps (lists_of (take (i + 1) vs))) new
+splices_more ps vs i v l at files old new s are e is =
+    let F : List (List ℕ) = files_of ps (lists_of (take i vs)) in
+    subst (λ fs. AreSeen fs new)
+    (append_assoc files F (front_of ps v.items ∷ []) ∙ ap (λ fs. files ++ fs) (sym (splices_one_more ps vs i v l at)))
+    (subst (AreSeen ((files ++ F) ++ front_of ps v.items ∷ [])) (sym e) (seen_more (files ++ F) old (front_of ps v.items) s are is))
+
+-- the copies among the files
+pub front_copies : (copies : List (Bor (List ℕ))) (found : List (List ℕ)) (seen : List Seen) → AreSeen (bytes_of copies ++ found) seen
+    → AreSeen (bytes_of copies) (take (length copies) seen)
+front_copies copies found seen are =
+    subst (λ n. AreSeen (bytes_of copies) (take n seen)) (count_of_slices copies) (front_seen (bytes_of copies) found seen are)
+
+pub front_count : (copies : List (Bor (List ℕ))) (found : List (List ℕ)) (seen : List Seen) → AreSeen (bytes_of copies ++ found) seen
+    → length copies ≡ length (take (length copies) seen)
+front_count copies found seen are =
+    sym (count_seen (bytes_of copies) (take (length copies) seen) (front_copies copies found seen are) ∙ count_of_slices copies)
+
 -- a file, and what is seen of it
 file_of : (files : List (List ℕ)) (seen : List Seen) (s : Seen) → AreSeen files seen → Contains seen s
     → (file : List ℕ) × Contains files file × IsSeen file s
@@ -124,6 +159,29 @@ first_frame_at shape [] i d none l has = absurd (omega (arith, l))
 first_frame_at shape (s ∷ seen) zero d none l has = inl has
 first_frame_at shape (s ∷ seen) (suc i) d none l has = inr (none.0, first_frame_at shape seen i d none.1 (omega (arith, l)) has)
 
+-- there is one at most
+one_frame : (shape other : PictureShape) (s : Seen) → HasFrame shape s → HasFrame other s → shape ≡ other
+one_frame shape other (Faultless own) e f = sym e ∙ f
+one_frame shape other (Faulty own) e f = sym e ∙ f
+one_frame shape other (NoFrame g n) e f = absurd e
+
+frame_or_none : (shape : PictureShape) (s : Seen) → HasFrame shape s → IsWithoutFrame s → ⊥
+frame_or_none shape (Faultless own) e none = none
+frame_or_none shape (Faulty own) e none = none
+frame_or_none shape (NoFrame g n) e none = e
+
+one_first_frame : (shape other : PictureShape) (seen : List Seen) → IsFirstFrame shape seen → IsFirstFrame other seen → shape ≡ other
+one_first_frame shape other [] f g = absurd f
+one_first_frame shape other (s ∷ seen) (inl has) (inl also) = one_frame shape other s has also
+one_first_frame shape other (s ∷ seen) (inl has) (inr (none, rest)) = absurd (frame_or_none shape s has none)
+one_first_frame shape other (s ∷ seen) (inr (none, rest)) (inl has) = absurd (frame_or_none other s has none)
+one_first_frame shape other (s ∷ seen) (inr (none, rest)) (inr (also, more)) = one_first_frame shape other seen rest more
+
+no_first_frame : (shape : PictureShape) (seen : List Seen) → AllByRecursion IsWithoutFrame seen → IsFirstFrame shape seen → ⊥
+no_first_frame shape [] none first = first
+no_first_frame shape (s ∷ seen) none (inl has) = frame_or_none shape s has none.0
+no_first_frame shape (s ∷ seen) none (inr (here, rest)) = no_first_frame shape seen none.1 rest
+
 no_frames : (files : List (List ℕ)) (seen : List Seen) → AreSeen files seen → AllByRecursion IsWithoutFrame seen
     → AllByRecursion HasNoFrame files
 no_frames [] seen are none = tt
@@ -156,15 +214,28 @@ module _ (shape : PictureShape) where
   none_other (f ∷ files) [] are all = absurd are
   none_other (f ∷ files) (s ∷ seen) are all = (λ has. all.0 (other_frame f shape s are.0 has), none_other files seen are.1 all.1)
 
+pub named_other : (shape : PictureShape) (copies : List Seen) (found : Option ℕ) (copy : ℕ) → copy ≡ unwrap_or found 0
+    → IsFirstFrame shape copies → IfSome found (λ copy. IsFirstOtherFrame shape copies copy)
+    → IfNone found (AllByRecursion (λ s. HasOtherFrame shape s → ⊥) copies) → IsNamed copies copy
+named_other shape copies (Some k) copy e first some none = inl (shape, first, subst (IsFirstOtherFrame shape copies) (sym e) some)
+named_other shape copies None copy e first some none = inr (
+  λ other also.
+      subst (λ t. AllByRecursion (λ s. HasOtherFrame t s → ⊥) copies) (one_first_frame shape other copies first also) none,
+  e,
+)
+
+pub named_first : (copies : List Seen) → AllByRecursion IsWithoutFrame copies → IsNamed copies 0
+named_first copies none = inr (λ shape first. absurd (no_first_frame shape copies none first), refl)
+
 copy_named : (copies : List (List ℕ)) (seen : List Seen) (copy : ℕ) → AreSeen copies seen → IsNamed seen copy → IsCopyNamed copies copy
-copy_named copies seen copy are (inl (shape, first, at, before)) =
-    let here = other_at shape copies seen copy are at in
+copy_named copies seen copy are (inl (shape, first, others)) =
+    let here = other_at shape copies seen copy are others.0 in
     inl (record {
       shape = shape;
       is_first_shape = first_shape shape copies seen are first;
       within = here.0;
       has_other_shape = here.1;
-      none_before = λ b l. none_before shape copies seen copy b are before l (omega (arith, l, here.0));
+      none_before = λ b l. none_before shape copies seen copy b are others.1 l (omega (arith, l, here.0));
     })
 copy_named copies seen copy are (inr (none, zero_is)) =
     inr (λ shape first. none_other shape copies seen are (none shape (first_frame shape copies seen are first)), zero_is)

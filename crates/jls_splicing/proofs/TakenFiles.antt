@@ -1,6 +1,6 @@
 -- What a station takes of files, one after the other.
-use Rattle.std.proofs.Common.{◌≡◌, ℕ, true, false, List, [], ◌∷◌, ◌++◌, Option, Some, None, refl, sym, ap, ◌∙◌, subst}
-use Rattle.std.specs.Prelude.{IfSome, fold}
+use Rattle.std.proofs.Common.{◌≡◌, ℕ, true, false, List, [], ◌∷◌, ◌++◌, Option, Some, None, refl, sym, ap, ◌∙◌, subst, ◌+◌, ◌<◌, length, take, Vec, Global, Bor}
+use Rattle.std.specs.Prelude.{get_or, IfSome, fold}
 use Rattle.std.proofs.lemmas.List.Sums.{fold-append}
 use Rattle.jls_values.specs.Shape.{PictureShape}
 use Rattle.jls_values.specs.SameShape.{same_shape}
@@ -14,6 +14,11 @@ use Rattle.jls_station.specs.Given.{marked}
 use Rattle.jls_station.specs.Reading.{AreBytes}
 use Rattle.jls_splicing.specs.Shapes.{HasShape}
 use Rattle.jls_splicing.specs.Stations.{Give, no_file, gives, gives_nothing, TakesFiles}
+use Rattle.jls_parts.specs.Parts.{Part}
+use Rattle.jls_parts.specs.PartsOf.{bytes_of}
+use Rattle.jls_splice.specs.Choices.{front_of}
+use Rattle.jls_splice.specs.Search.{files_of, lists_of}
+use Rattle.jls_splicing.proofs.Members.{map_one_more, splices_one_more}
 use Rattle.jls_splicing.proofs.OneFile.{one_shape_of, no_shape, shape_read}
 
 -- Files in turn ----------------------------------------------------------------------------------------------------
@@ -47,6 +52,22 @@ module _ (source : Option ℕ) where
         (subst (λ s. Give source s more k.given) (shape_kept files old between h) k.give);
     union_is = k.union_is ∙ ap (λ (p : PartialPicture). fold union p k.given) h.union_is ∙ sym (fold-append union old h.given k.given);
   }
+
+-- loops over copies and over splices
+module _ (source : Option ℕ) (old between new : PartialPicture) where
+  pub copies_taken : (copies : List (Bor (List ℕ))) (i : ℕ) (d : Bor (List ℕ)) → i < length copies
+      → TakesFiles source (bytes_of (take i copies)) old between → TakesFiles source ((get_or copies i d).now ∷ []) between new
+      → TakesFiles source (bytes_of (take (i + 1) copies)) old new
+  copies_taken copies i d l h k =
+      subst (λ fs. TakesFiles source fs old new) (sym (map_one_more (λ (slice : Bor (List ℕ)). slice.now) copies i d l))
+      (takes_more source (bytes_of (take i copies)) ((get_or copies i d).now ∷ []) old between new h k)
+
+  pub splices_taken : (ps : List Part) (vs : List (Vec ℕ Global)) (i : ℕ) (v : Vec ℕ Global) → i < length vs → v ≡ get_or vs i v
+      → TakesFiles source (files_of ps (lists_of (take i vs))) old between → TakesFiles source (front_of ps v.items ∷ []) between new
+      → TakesFiles source (files_of ps (lists_of (take (i + 1) vs))) old new
+  splices_taken ps vs i v l at h k =
+      subst (λ fs. TakesFiles source fs old new) (sym (splices_one_more ps vs i v l at))
+      (takes_more source (files_of ps (lists_of (take i vs))) (front_of ps v.items ∷ []) old between new h k)
 
 -- One file ---------------------------------------------------------------------------------------------------------
 

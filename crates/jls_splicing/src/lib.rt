@@ -13,3 +13,6 @@ pub use files::Files;
 pub use shape_found::ShapeFound;
 pub use shape_rule::find_shape;
 pub use taking::take_files;
+
+#[cfg(test)]
+mod tests;
