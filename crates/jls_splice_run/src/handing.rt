@@ -68,8 +68,11 @@ pub(crate) fn write_file<'a, D: Desk>(
     ensures stopped { IfErr result (λ refusal. GrewBy (StopsAtFile (option_map (λ s. s.now) name.entry)
         (option_map (λ s. s.now) file.entry) refusal) (D.history desk.old) (D.history desk.new)) }
 {
-    match (name, file) {
-        (Some(name), Some(file)) => write_output(desk, name, file),
-        _ => Ok(()),
-    }
+    let Some(name) = name else {
+        return Ok(());
+    };
+    let Some(file) = file else {
+        return Ok(());
+    };
+    write_output(desk, name, file)
 }

@@ -46,7 +46,10 @@ fn hand_out<'a, D: Desk, W: Sink, E: Sink>(
         Ok(()) => {}
         Err(refusal) => return Err(refusal),
     }
-    write_file(desk, task.options.file, bytes_in(&made.file))
+    match write_file(desk, task.options.file, bytes_in(&made.file)) {
+        Ok(()) => Ok(()),
+        Err(refusal) => Err(refusal),
+    }
 }
 
 /// Reads the copies, searches their splices, takes all that reads, and hands out what comes of it: first the lines, to the report output;
