@@ -1,7 +1,6 @@
 -- The shape of the files taken, from what is seen of them.
-use Rattle.std.proofs.Common.{◌≡◌, ℕ, zero, suc, ◌+◌, ◌<◌, List, [], ◌∷◌, ◌++◌, map, length, take, Option, Some, None, Vec, Global, Bor, refl, sym, ap, ◌∙◌, subst, append_assoc, arith, ◌⊎◌, inl, inr}
+use Rattle.std.proofs.Common.{◌≡◌, ℕ, zero, suc, ◌+◌, ◌<◌, List, [], ◌∷◌, ◌++◌, length, take, Option, Some, None, Vec, Global, Bor, refl, sym, ap, ◌∙◌, subst, append_assoc, arith, inl, inr}
 use Rattle.std.specs.Prelude.{get_or, slice_get, unwrap_or, IfSome, IfNone, IsSomeAnd}
-use Rattle.std.proofs.lemmas.List.{map-append}
 use Rattle.std.specs.List.{AllByRecursion, Contains}
 use Rattle.jls_values.specs.Shape.{PictureShape}
 use Rattle.jls_parts.specs.Parts.{Part}
@@ -10,7 +9,7 @@ use Rattle.jls_parts.proofs.Slices.{count_of_slices}
 use Rattle.jls_splice.specs.Choices.{front_of}
 use Rattle.jls_splice.specs.Faultless.{IsFaultless}
 use Rattle.jls_splice.specs.Search.{files_of, lists_of}
-use Rattle.jls_splicing.specs.Shapes.{HasShape, HasOtherShape, HasNoFrame, IsFirstShape, NoneIsFaultless, IsShapeTaken, ShapesDiffer, IsFirstOther, NoneIsOther, IsCopyNamed, IsShapeFound}
+use Rattle.jls_splicing.specs.Shapes.{HasShape, HasOtherShape, HasNoFrame, IsFirstShape, NoneIsFaultless, IsShapeTaken, IsCopyNamed, IsShapeFound}
 use Rattle.jls_splicing.specs.Seen.{IsSeen, AreSeen, IsNotFaultless, HasItIfFaultless, HasFrame, IsWithoutFrame, HasOtherFrame, IsFirstFrame, IsFirstOtherFrame, SomeFaultlessHasOther, IsNamed, IsOfCopies}
 use Rattle.jls_splicing.specs.declared.seen.Seen.{Seen}
 use Rattle.jls_splicing.specs.declared.seen.Seen.TheVariants.{Faultless, Faulty, NoFrame}
@@ -61,6 +60,12 @@ module _ (file : List ℕ) where
   agreed_seen shape (Faultless own) is e f = subst (λ t. HasShape t file) e is.0
   agreed_seen shape (Faulty own) is e f = absurd (is.1 f)
   agreed_seen shape (NoFrame g n) is e f = absurd (faulty_seen (NoFrame g n) is tt f)
+
+-- what isn't without a fault can have any shape
+pub has_it : (shape : PictureShape) (s : Seen) → ((own : PictureShape) → s ≡ Faultless own → ⊥) → HasItIfFaultless shape s
+has_it shape (Faultless own) not = absurd (not own refl)
+has_it shape (Faulty own) not = tt
+has_it shape (NoFrame f n) not = tt
 
 -- Files ------------------------------------------------------------------------------------------------------------
 

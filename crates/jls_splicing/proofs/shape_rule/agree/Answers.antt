@@ -1,8 +1,8 @@
-use Rattle.std.proofs.Common.{◌≡◌, sym, subst, rules}
+use Rattle.std.proofs.Common.{sym, subst, rules}
 use Rattle.jls_splicing.specs.Seen.{HasItIfFaultless}
 use Rattle.jls_splicing.specs.declared.seen.Seen.{Seen}
-use Rattle.jls_splicing.specs.declared.seen.Seen.TheVariants.{Faultless, Faulty, NoFrame}
 use Rattle.jls_splicing.proofs.Members.{all_one_more}
+use Rattle.jls_splicing.proofs.SeenFiles.{has_it}
 use Rattle.jls_splicing.proofs.shape_rule.agree.Goals as goal
 use Rattle.jls_splicing.proofs.shape_rule.agree.Goals.{in-Faultless+else-ne, in_default}
 
@@ -12,7 +12,7 @@ loop-file-preserved c =
     let here : P c.file-item.result =
     elim c.match-file.branch [
       | in-Faultless+else-ne w ↦ subst P (sym w.in-Faultless.is) (search rules)
-      | in_default w ↦ ?
+      | in_default w ↦ has_it c.args.shape.now c.file-item.result w.in_default.not-Faultless
     ] in
     all_one_more P c.args.seen.now c.loop-file.file-index c.file-item.result c.loop-file.invariant c.loop-file-test.true
     (subst P c.file-item.is here)
