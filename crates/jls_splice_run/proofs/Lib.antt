@@ -1,3 +1,5 @@
 mod Done
 mod Handed
+mod Made
 mod Running
+mod Seen

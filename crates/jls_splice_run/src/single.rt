@@ -83,6 +83,17 @@ fn with_splices(
     Ok(faultless)
 }
 
+/// Its bytes, where there is one.
+fn single_of(faultless: Faultless) -> Option<Vec<u8>>
+    ensures { (files : List (List ℕ)) → AreSeenSo files faultless → IsSingle files (option_map (λ file. file.items) result) }
+{
+    match faultless {
+        Faultless::Nothing => None,
+        Faultless::One(file) => Some(file),
+        Faultless::Several => None,
+    }
+}
+
 /// The bytes of the file without a fault, where exactly one of the files taken has none. Files of the same bytes are one.
 pub(crate) fn single_file(
     alloc: Global,
@@ -92,8 +103,6 @@ pub(crate) fn single_file(
     ensures { IfOk result (λ single. IsSingle (files_taken files.now) (option_map (λ file. file.items) single)) }
 {
     let copies = among_copies(alloc, files.copies)?;
-    match with_splices(alloc, copies, files.parts, files.splices)? {
-        Faultless::One(file) => Ok(Some(file)),
-        _ => Ok(None),
-    }
+    let faultless = with_splices(alloc, copies, files.parts, files.splices)?;
+    Ok(single_of(faultless))
 }

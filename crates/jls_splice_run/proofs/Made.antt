@@ -1,0 +1,32 @@
+-- What is made, put together.
+use Rattle.std.proofs.Common.{◌≡◌, ℕ, zero, suc, ◌<◌, ◌≤◌, ◌+◌, List, [], ◌∷◌, ◌++◌, length, map, get_or, refl, sym, ap, ◌∙◌, subst, arith}
+use Rattle.std.specs.Prelude.{◌^◌, ◌-◌}
+use Rattle.std.specs.List.{AllByRecursion, sum_by}
+use Rattle.std.proofs.lemmas.List.Sums.{sum_by-cons}
+use Rattle.jls_parts.specs.Parts.{AreParts, Part, Same, made}
+use Rattle.jls_splice.specs.Choices.{IsFirstWay, IsPath}
+use Rattle.jls_splice.specs.SearchLaws.{AreShort}
+
+-- each choice of a path
+pub path_at : (ps : List Part) (cs : List ℕ) (i : ℕ) → IsPath ps cs → i < length cs
+    → (i < length ps) × IsFirstWay (get_or ps i (Same [])) (get_or cs i 0)
+path_at ps [] i h l = absurd (omega (arith, l))
+path_at [] (c ∷ cs) i h l = absurd h
+path_at (p ∷ ps) (c ∷ cs) zero h l = (omega arith, h.0)
+path_at (p ∷ ps) (c ∷ cs) (suc i) h l = let r = path_at ps cs i h.1 (omega (arith, l)) in (omega (arith, r.0), r.1)
+
+-- the first copy of short ones is short
+first_within : (copies : List (List ℕ)) → length (get_or copies 0 []) ≤ sum_by length copies
+first_within [] = omega arith
+first_within (c ∷ cs) = let s = sum_by-cons length c cs in omega (arith, s)
+
+pub first_is_short : (copies : List (List ℕ)) (parts : List Part) → AreParts copies parts → 0 < length copies → AreShort copies
+    → length (made 0 parts) < 2 ^ 64
+first_is_short copies parts are some short =
+    let l = ap length (are.make 0 some) in
+    let w = first_within copies in
+    omega (arith, l, w, short)
+
+pub length-map : {X Y : Type 0} (f : X → Y) (xs : List X) → length (map f xs) ≡ length xs
+length-map f [] = refl
+length-map f (x ∷ xs) = ap suc (length-map f xs)
