@@ -1,5 +1,5 @@
 mod Done
 mod Handed
-mod Made
+mod MakingLemmas
 mod Running
 mod Seen

@@ -52,7 +52,8 @@ fn search<'c>(
     if !are_short(copies) {
         return Err(AllocError);
     }
-    search_copies(alloc, copies, tries)
+    let found = search_copies(alloc, copies, tries)?;
+    Ok(found)
 }
 
 /// The single file, if a name is given for it.

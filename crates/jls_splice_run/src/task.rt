@@ -21,10 +21,13 @@ pub struct Task<'m, 'a> {
 pub(crate) fn names_of<'a>(alloc: Global, asked: &Asked<'_, 'a>) -> Result<Vec<&'a str>, AllocError>
     ensures { IfOk result (λ names. texts_of names.items ≡ (asked_of asked.now).copies) }
 {
+    let others = asked.others;
     let mut names = Vec::new(alloc);
     names.push(asked.first)?;
     names.push(asked.second)?;
-    names.extend_from_slice(asked.others)?;
+    for name in others {
+        names.push(name)?;
+    }
     Ok(names)
 }
 

@@ -1,10 +1,11 @@
--- What is made, put together.
-use Rattle.std.proofs.Common.{◌≡◌, ℕ, zero, suc, ◌<◌, ◌≤◌, ◌+◌, List, [], ◌∷◌, ◌++◌, length, map, get_or, refl, sym, ap, ◌∙◌, subst, arith}
+-- What the making of a picture needs.
+use Rattle.std.proofs.Common.{◌≡◌, ℕ, zero, suc, ◌<◌, ◌≤◌, ◌+◌, List, [], ◌∷◌, ◌++◌, length, map, take, get_or, refl, sym, ap, ◌∙◌, subst, arith}
 use Rattle.std.specs.Prelude.{◌^◌, ◌-◌}
 use Rattle.std.specs.List.{AllByRecursion, sum_by}
 use Rattle.std.proofs.lemmas.List.Sums.{sum_by-cons}
-use Rattle.jls_parts.specs.Parts.{AreParts, Part, Same, made}
-use Rattle.jls_splice.specs.Choices.{IsFirstWay, IsPath}
+use Rattle.jls_parts.specs.Parts.{AreParts, Part, Same, made, way}
+use Rattle.jls_splice.proofs.Fronts.{front_more}
+use Rattle.jls_splice.specs.Choices.{IsFirstWay, IsPath, front_of}
 use Rattle.jls_splice.specs.SearchLaws.{AreShort}
 
 -- each choice of a path
@@ -14,6 +15,13 @@ path_at ps [] i h l = absurd (omega (arith, l))
 path_at [] (c ∷ cs) i h l = absurd h
 path_at (p ∷ ps) (c ∷ cs) zero h l = (omega arith, h.0)
 path_at (p ∷ ps) (c ∷ cs) (suc i) h l = let r = path_at ps cs i h.1 (omega (arith, l)) in (omega (arith, r.0), r.1)
+
+-- one choice more
+pub front_one_more : (ps : List Part) (cs : List ℕ) (i : ℕ) (file bytes : List ℕ) → IsPath ps cs → i < length cs
+    → file ≡ front_of ps (take i cs) → bytes ≡ way (get_or cs i 0) (get_or ps i (Same [])) → file ++ bytes ≡ front_of ps (take (i + 1) cs)
+front_one_more ps cs i file bytes path l is here =
+    let e : i + 1 ≡ suc i = omega arith in
+    rw e (ap (λ z. z ++ bytes) is ∙ ap (λ z. front_of ps (take i cs) ++ z) here ∙ sym (front_more ps cs i path l))
 
 -- the first copy of short ones is short
 first_within : (copies : List (List ℕ)) → length (get_or copies 0 []) ≤ sum_by length copies
