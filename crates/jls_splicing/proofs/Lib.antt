@@ -1,4 +1,6 @@
+pub mod FilesExamples
 pub mod Members
 pub mod OneFile
+pub mod SearchedCopies
 pub mod SeenFiles
 pub mod TakenFiles

@@ -4,7 +4,7 @@ use Rattle.std.specs.List.{AllByRecursion, Contains}
 use Rattle.std.proofs.lemmas.List.{map-append, take_more}
 use Rattle.jls_parts.specs.Parts.{Part}
 use Rattle.jls_splice.specs.Choices.{IsWhole, front_of}
-use Rattle.jls_splice.specs.Search.{MakeFiles, files_of, lists_of}
+use Rattle.jls_splice.specs.Search.{files_of, lists_of}
 
 module _ {X : Type 0} where
   pub is_first : (x : X) (xs : List X) → Contains (x ∷ xs) x
@@ -52,11 +52,6 @@ pub whole_at : (ps : List Part) (vs : List (Vec ℕ Global)) (i : ℕ) (v d : Ve
 whole_at ps [] i v d whole l e = absurd (omega (arith, l))
 whole_at ps (w ∷ vs) zero v d whole l e = subst (λ (x : Vec ℕ Global). IsWhole ps x.items) (sym e) whole.0
 whole_at ps (w ∷ vs) (suc i) v d whole l e = whole_at ps vs i v d whole.1 (omega (arith, l)) e
-
--- what a search found has choices for each part
-pub whole_of_found : (ps : List Part) (found : List (List ℕ)) → MakeFiles ps found → AllByRecursion (IsWhole ps) found
-whole_of_found ps [] files = tt
-whole_of_found ps (choices ∷ found) files = (files.0.0, whole_of_found ps found files.1)
 
 pub splices_one_more : (ps : List Part) (vs : List (Vec ℕ Global)) (i : ℕ) (v : Vec ℕ Global) → i < length vs → v ≡ get_or vs i v
     → files_of ps (lists_of (take (i + 1) vs)) ≡ files_of ps (lists_of (take i vs)) ++ front_of ps v.items ∷ []

@@ -43,7 +43,7 @@ enum Outcome {
 }
 
 /// What comes of these copies.
-fn outcome(alloc: Global, copies: &[&[u8]]) -> Result<Outcome, Fail> {
+fn outcome_of(alloc: Global, copies: &[&[u8]]) -> Result<Outcome, Fail> {
     if copies.is_empty() || !are_short(copies) {
         return Err(Fail::from("no copy, or too many bytes"));
     }
@@ -103,7 +103,7 @@ fn pairs_of_copies(rt: HostRuntime) -> Result<(), Fail> {
         let first = with_byte(rt.alloc(), places[0], bytes[0])?;
         let second = with_byte(rt.alloc(), places[1], bytes[1])?;
         let wanted = lines_held(rt.alloc(), count)?;
-        match outcome(rt.alloc(), &[first.as_slice(), second.as_slice()])? {
+        match outcome_of(rt.alloc(), &[first.as_slice(), second.as_slice()])? {
             Outcome::Held(station) => assert!(rt;
                 *station.partial() == wanted,
                 "damage at {}",
@@ -123,7 +123,7 @@ fn files_without_a_fault_differ_in_shape(rt: HostRuntime) -> Result<(), Fail> {
         (&[&[0x00], &FOUR_LINES, &ONE_SAMPLE], 2),
     ];
     for (copies, named) in cases {
-        match outcome(rt.alloc(), copies)? {
+        match outcome_of(rt.alloc(), copies)? {
             Outcome::Differ(copy) => assert_eq!(rt; copy, named),
             _ => return Err(Fail::from("the shapes are one")),
         }
@@ -139,7 +139,7 @@ fn no_copy_has_a_frame(rt: HostRuntime) -> Result<(), Fail> {
         (&[&[0xFF, 0xD8], &[0x00]], MarkerFault::Ended, 2),
     ];
     for (copies, fault, offset) in cases {
-        match outcome(rt.alloc(), copies)? {
+        match outcome_of(rt.alloc(), copies)? {
             Outcome::NoFrame(told, place) => {
                 assert_eq!(rt; told, fault);
                 assert_eq!(rt; place, offset);
