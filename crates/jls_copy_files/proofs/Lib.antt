@@ -1,1 +1,2 @@
 pub mod CopiesInTurn
+pub mod CopyReads
