@@ -51,16 +51,25 @@ fn is_copy_faultless(alloc: Global, copy: &[u8]) -> Result<bool, AllocError>
     is_faultless(reader)
 }
 
+/// One copy more.
+fn with_copy(alloc: Global, faultless: Faultless, copy: &[u8]) -> Result<Faultless, AllocError>
+    ensures { IfOk result (λ more. (files : List (List ℕ)) → AreSeenSo files faultless → AreSeenSo (files ++ copy.now ∷ []) more) }
+{
+    let has_none = is_copy_faultless(alloc, copy)?;
+    if has_none {
+        let bytes = Vec::from_slice(alloc, copy)?;
+        return Ok(one_more(faultless, bytes));
+    }
+    Ok(faultless)
+}
+
 /// The copies without a fault.
 fn among_copies(alloc: Global, copies: &[&[u8]]) -> Result<Faultless, AllocError>
     ensures { IfOk result (λ faultless. AreSeenSo (bytes_of copies.now) faultless) }
 {
     let mut faultless = Faultless::Nothing;
     for copy in copies {
-        let has_none = is_copy_faultless(alloc, copy)?;
-        if has_none {
-            faultless = one_more(faultless, Vec::from_slice(alloc, copy)?);
-        }
+        faultless = with_copy(alloc, faultless, copy)?;
     }
     Ok(faultless)
 }

@@ -10,9 +10,9 @@ returns-in-Nothing c = λ files seen f. first_one files c.args.file.items (subst
 pub returns-then-eq : goal.returns-then-eq
 returns-then-eq c = λ files seen f.
     same_one files c.args.file.items c.in-One.other.items (subst (AreSeenSo files) c.in-One.is seen)
-    (sym c.deref.ensures.value ∙ same_text _ _ c.if-eq.ensures ∙ c.deref-2.ensures.value)
+    (sym c.deref.ensures.value ∙ same_text _ _ c.if-eq.ensures ∙ c.deref-in-One.ensures.value)
 
 pub returns-in-One : goal.returns-in-One
 returns-in-One c = λ files seen f.
     other_one files c.args.file.items c.in-One.other.items (subst (AreSeenSo files) c.in-One.is seen) f
-    (λ e. other_text _ _ c.if-eq.ensures (c.deref.ensures.value ∙ e ∙ sym c.deref-2.ensures.value))
+    (λ e. other_text _ _ c.if-eq.ensures (c.deref.ensures.value ∙ e ∙ sym c.deref-in-One.ensures.value))
