@@ -1,12 +1,13 @@
 -- What the making of a picture needs.
-use Rattle.std.proofs.Common.{◌≡◌, ℕ, zero, suc, ◌<◌, ◌≤◌, ◌+◌, List, [], ◌∷◌, ◌++◌, length, map, take, get_or, refl, sym, ap, ◌∙◌, subst, arith}
-use Rattle.std.specs.Prelude.{◌^◌, ◌-◌}
+use Rattle.std.proofs.Common.{◌≡◌, ℕ, zero, suc, ◌<◌, ◌≤◌, ◌+◌, List, [], ◌∷◌, ◌++◌, length, map, take, get_or, Option, Some, None, refl, sym, ap, ◌∙◌, subst, arith}
+use Rattle.std.specs.Prelude.{◌^◌, ◌-◌, option_map}
 use Rattle.std.specs.List.{AllByRecursion, sum_by}
 use Rattle.std.proofs.lemmas.List.Sums.{sum_by-cons}
 use Rattle.jls_parts.specs.Parts.{AreParts, Part, Same, made, way}
 use Rattle.jls_splice.proofs.Fronts.{front_more}
 use Rattle.jls_splice.specs.Choices.{IsFirstWay, IsPath, front_of}
 use Rattle.jls_splice.specs.SearchLaws.{AreShort}
+use Rattle.jls_splice_run.specs.Making.{lacks_single}
 
 -- each choice of a path
 pub path_at : (ps : List Part) (cs : List ℕ) (i : ℕ) → IsPath ps cs → i < length cs
@@ -34,6 +35,13 @@ first_is_short copies parts are some short =
     let l = ap length (are.make 0 some) in
     let w = first_within copies in
     omega (arith, l, w, short)
+
+-- a single file that is lacked, as the code has it
+pub lacks_maps : {A B C D : Type 0} (f : A → C) (g : B → D) (x : Option A) (y : Option B)
+    → lacks_single (option_map f x) (option_map g y) ≡ lacks_single x y
+lacks_maps f g None y = refl
+lacks_maps f g (Some x) None = refl
+lacks_maps f g (Some x) (Some y) = refl
 
 pub length-map : {X Y : Type 0} (f : X → Y) (xs : List X) → length (map f xs) ≡ length xs
 length-map f [] = refl
