@@ -5,8 +5,8 @@ use std::alloc::{AllocError, Global};
 /// How many bytes agree where copies are taken to be in step again.
 pub(crate) const SEED: usize = 24;
 
-/// How far behind a difference two copies are compared.
-const REACH: usize = 65536;
+/// How far behind a difference two copies are compared, one reach after the other: what is near costs little.
+const REACHES: [usize; 5] = [256, 1024, 4096, 16384, 65536];
 
 /// How many places the table has.
 const SLOTS: usize = 131072;
@@ -39,6 +39,17 @@ fn key(bytes: &[u8]) -> Option<usize> {
     }
 }
 
+/// How many places of the table serve for such a reach.
+fn slots_of(reach: usize) -> usize {
+    reach.saturating_mul(2).min(SLOTS)
+}
+
+/// The place of the string that the bytes begin with, for such a reach.
+fn slot_of(bytes: &[u8], reach: usize) -> Option<usize> {
+    let key = key(bytes)?;
+    Some(key % slots_of(reach).max(1))
+}
+
 impl Seeds {
     /// A table of nothing.
     pub(crate) fn new(alloc: Global) -> Result<Seeds, AllocError> {
@@ -48,38 +59,38 @@ impl Seeds {
     }
 
     /// Takes in the strings of these bytes, the nearest last, so that it is the one that stays.
-    fn fill(&mut self, bytes: &[u8]) {
-        for slot in self.slots.iter_mut() {
+    fn fill(&mut self, bytes: &[u8], reach: usize) {
+        for slot in self.slots.iter_mut().take(slots_of(reach)) {
             *slot = 0;
         }
-        for back in 0..REACH.min(bytes.len()) {
-            let at = REACH.min(bytes.len()) - 1 - back;
-            if let Some(key) = key(&bytes[at..]) {
-                if key < self.slots.len() {
-                    self.slots[key] = at + 1;
+        for back in 0..reach.min(bytes.len()) {
+            let at = reach.min(bytes.len()) - 1 - back;
+            if let Some(place) = slot_of(&bytes[at..], reach) {
+                if let Some(slot) = self.slots.get_mut(place) {
+                    *slot = at + 1;
                 }
             }
         }
     }
 
-    /// How many bytes of each stand before the nearest place where they agree again.
-    pub(crate) fn resumption(&mut self, first: &[u8], second: &[u8]) -> Option<(usize, usize)> {
-        if second.len() >= SEED && first.get(..SEED) == second.get(..SEED) {
-            return Some((0, 0));
-        }
-        self.fill(first);
+    /// How many bytes of each stand before the nearest place within a reach where they agree again.
+    fn resumption_within(
+        &mut self,
+        first: &[u8],
+        second: &[u8],
+        reach: usize,
+    ) -> Option<(usize, usize)> {
+        self.fill(first, reach);
         let mut nearest = None;
         let mut best = usize::MAX;
-        for there in 0..REACH.min(second.len()) {
+        for there in 0..reach.min(second.len()) {
             if there >= best {
                 break;
             }
-            let Some(key) = key(&second[there..]) else {
+            let Some(place) = slot_of(&second[there..], reach) else {
                 continue;
             };
-            let Some(slot) = self.slots.get(key).copied() else {
-                continue;
-            };
+            let slot = self.slots.get(place).copied().unwrap_or(0);
             if slot == 0 {
                 continue;
             }
@@ -94,5 +105,22 @@ impl Seeds {
             }
         }
         nearest
+    }
+
+    /// How many bytes of each stand before the nearest place where they agree again.
+    pub(crate) fn resumption(&mut self, first: &[u8], second: &[u8]) -> Option<(usize, usize)> {
+        if second.len() >= SEED && first.get(..SEED) == second.get(..SEED) {
+            return Some((0, 0));
+        }
+        let mut found = None;
+        for reach in REACHES {
+            found = self.resumption_within(first, second, reach);
+            if let Some((here, there)) = found {
+                if here.saturating_add(there) <= reach {
+                    return found;
+                }
+            }
+        }
+        found
     }
 }

@@ -3,3 +3,4 @@ pub mod Fronts
 mod FaultlessFiles
 mod Searching
 mod Lengths
+pub mod FoundFiles

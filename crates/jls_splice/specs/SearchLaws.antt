@@ -1,9 +1,10 @@
--- The law of what can be searched.
-use Rattle.std.specs.Prelude.{ℕ, ◌-◌, ◌^◌, ◌<◌, ◌≤◌, List, length}
-use Rattle.std.specs.List.{AllByRecursion, sum_by}
-use Rattle.jls_parts.specs.Parts.{Part, AreParts}
+-- The laws of what can be searched, and of what a search finds.
+use Rattle.std.specs.Prelude.{◌≡◌, ℕ, ◌-◌, ◌^◌, ◌<◌, ◌≤◌, Bool, false, List, length}
+use Rattle.std.specs.List.{AllByRecursion, Contains, sum_by}
+use Rattle.jls_parts.specs.Parts.{Part, AreParts, IsSplice}
 use Rattle.jls_splice.specs.Choices.{HasSomeWay}
-use Rattle.jls_splice.specs.Search.{IsShort}
+use Rattle.jls_splice.specs.Faultless.{IsFaultless}
+use Rattle.jls_splice.specs.Search.{IsShort, CameTo, files_of}
 
 -- the copies have so few bytes together that a reader takes any splice of them
 abbrev pub AreShort : List (List ℕ) → Type 0
@@ -14,3 +15,13 @@ abbrev pub PartsCanBeSearched : Type 0
 PartsCanBeSearched =
     (copies : List (List ℕ)) (parts : List Part) → AreParts copies parts → 0 < length copies → AreShort copies
     → AllByRecursion HasSomeWay parts × IsShort parts
+
+-- What a search over one copy or more found are splices of them without a fault. Where its tries were not used up, it found each file without
+-- a fault that has, at each of the parts, what some copy has there
+abbrev pub SearchesComeToEachSplice : Type 0
+SearchesComeToEachSplice =
+    (copies : List (List ℕ)) (parts : List Part) → AreParts copies parts → 0 < length copies → (found : List (List ℕ)) (is_used_up : Bool)
+    → CameTo parts found is_used_up
+    → AllByRecursion (λ file. IsSplice (length copies) parts file × IsFaultless file) (files_of parts found)
+    × (is_used_up ≡ false → (file : List ℕ) → AllByRecursion (λ b. b < 256) file → IsSplice (length copies) parts file → IsFaultless file
+    → Contains (files_of parts found) file)

@@ -13,6 +13,6 @@ mod whole_search;
 pub use copies::{SearchedCopies, search_copies};
 pub use faultless::{is_dead, is_faultless, is_read_faultless};
 pub use feeding::feed_front;
-pub use laws::parts_can_be_searched;
+pub use laws::{parts_can_be_searched, searches_come_to_each_splice};
 pub use short::are_short;
 pub use whole_search::{MOST_FOUND, Searched, search};

@@ -1,0 +1,16 @@
+-- Why a JPEG-LS file was not handed out whole.
+use Rattle.std.specs.Prelude.{◌≡◌, ℕ, List, Option}
+use Rattle.jls_device.specs.Event.{History}
+use Rattle.jls_examples.specs.declared.writing.WriteFault.{WriteFault}
+use Rattle.jls_examples.specs.declared.writing.WriteFault.TheVariants.{DoesNotFit, Output}
+use Rattle.jls_file.specs.Stops.{StopsIn}
+use Rattle.jls_file.specs.WrittenFile.{written_file}
+use Rattle.jls_picture.specs.Options.{OptionsFit, WriteOptions}
+use Rattle.jls_picture.specs.Picture.{WholePicture}
+
+-- the options don't fit and the sink is as before, or the file stopped within its bytes
+abbrev pub StopsAt : WholePicture → WriteOptions → History → History → Option (List ℕ) → Option (List ℕ) → WriteFault → Type 0
+StopsAt picture options old new held holds DoesNotFit =
+    (OptionsFit picture options → ⊥) × (new ≡ old) × (holds ≡ held)
+StopsAt picture options old new held holds (Output fault) =
+    OptionsFit picture options × StopsIn fault 0 old new held holds (written_file picture options)
