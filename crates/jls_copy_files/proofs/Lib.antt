@@ -1,2 +1,1 @@
 pub mod CopiesInTurn
-pub mod CopyReads
