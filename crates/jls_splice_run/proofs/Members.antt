@@ -40,10 +40,10 @@ made_at ps (w ∷ vs) zero v d files l e = subst (λ (x : Vec ℕ Global). IsWho
 made_at ps (w ∷ vs) (suc i) v d files l e = made_at ps vs i v d files.1 (omega (arith, l)) e
 
 -- the first copy, and the first name
-pub first_stop : (copies : List CopyFile) (v d : CopyFile) → 0 < length copies → v ≡ get_or copies 0 d
-    → v.stop ≡ get_or (stops_read (copies_of copies)) 0 Whole
-first_stop [] v d l e = absurd (omega (arith, l))
-first_stop (c ∷ cs) v d l e = ap (λ (x : CopyFile). x.stop) e
+pub first_stop : (copies : List CopyFile) (d : CopyFile) → 0 < length copies
+    → (get_or copies 0 d).stop ≡ get_or (stops_read (copies_of copies)) 0 Whole
+first_stop [] d l = absurd (omega (arith, l))
+first_stop (c ∷ cs) d l = refl
 
 pub name_at : (names : List (Bor (List ℕ))) (i : ℕ) (d : Bor (List ℕ)) → i < length names → (get_or names i d).now ≡ get_or (texts_of names) i []
 name_at [] i d l = absurd (omega (arith, l))

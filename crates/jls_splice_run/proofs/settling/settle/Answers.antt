@@ -14,7 +14,6 @@ returns-in-NoFrame-clause-stopped c =
     let found = NoFrame c.in-NoFrame.fault c.in-NoFrame.offset in
     let splices = splices_found c.args.files.now in
     let seen = subst (IsShapeFound (bytes_of c.args.files.now.copies.now) splices) c.in-NoFrame.is c.in-Ok.ensures in
-    let v = c.index-copies-0.result in
     let some : 0 < length c.args.task.now.names.now = omega (arith, c.requires.names, c.requires.some_copy) in
     inr (
       found,
@@ -22,6 +21,6 @@ returns-in-NoFrame-clause-stopped c =
       (
         name_at c.args.task.now.names.now 0 _ some,
         c.no_picture_cause.ensures
-            ∙ ap (λ (stop : ReadStop). no_picture_cause stop c.in-NoFrame.fault c.in-NoFrame.offset) (first_stop c.args.copies.now v v c.requires.some_copy c.index-copies-0.is),
+            ∙ ap (λ (stop : ReadStop). no_picture_cause stop c.in-NoFrame.fault c.in-NoFrame.offset) (first_stop c.args.copies.now c.index-copies-0.result c.requires.some_copy),
       ),
     )

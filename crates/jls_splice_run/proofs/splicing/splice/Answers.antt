@@ -74,5 +74,5 @@ returns-in-Ok-hand_out g c =
     is_done a (desk c.args.desk.now) (desk c.read_all.new.desk) (desk c.hand_out.new.desk) (report c.args.report.now) (report c.hand_out.new.report)
     (faults c.args.faults.now) (faults c.hand_out.new.faults) (copies_of c.in-Ok.copies.items) c.in-Ok.ensures.read v
     (subst (λ (xs : List CopyFile). HoldsMade a (copies_of xs) v) c.deref.ensures.value c.in-Ok-make.ensures.made)
-    whole (subst (λ (xs : List CopyFile). IsTrue whole ↔ AreWhole (copies_of xs)) c.deref-2.ensures.value c.are_whole.ensures)
+    whole (subst (λ (xs : List CopyFile). IsTrue whole ↔ AreWhole (copies_of xs)) c.deref-in-Ok-hand_out.ensures.value c.are_whole.ensures)
     c.in-Ok-hand_out.ensures.done
