@@ -42,8 +42,8 @@ struct Calls<'a>(&'a HostRuntime);
 
 /// Files by their names, where `-` is standard input as an input and standard output as an output. Each read and each write is one
 /// call of the system, or none where nothing is open: nothing is buffered, tried again or counted here. Reads go to the input
-/// that was opened last, and writes to the output that was created last; an opening that fails changes neither. How an output is
-/// made, and what becomes of it, `Output` says. No contract says any of this.
+/// that was opened last, and writes to the output that was created last; an opening that fails changes neither. An output is whole when
+/// another is created: it is kept then. How an output is made, and what becomes of it, `Output` says. No contract says any of this.
 #[derive(Drop)]
 pub struct HostFiles<'a> {
     rt: &'a HostRuntime,
@@ -51,6 +51,7 @@ pub struct HostFiles<'a> {
     input: Option<Input>,
     output: Option<Opened>,
     guarded: Option<Name>,
+    unkept: Option<Name>,
 }
 
 /// The first two bytes of a regular file, each of one read; zeros where there is none. A read that fails isn't made again.
@@ -139,6 +140,7 @@ impl<'a> HostFiles<'a> {
             input: None,
             output: None,
             guarded: None,
+            unkept: None,
         }
     }
 
@@ -150,11 +152,28 @@ impl<'a> HostFiles<'a> {
         }
     }
 
-    /// Ends the output that was created last, when the run has ended. `Err` has the name of an output that could not be kept.
-    pub fn end(&mut self, ending: Ending) -> Result<(), Name> {
+    /// Ends the output that was created last.
+    fn end_last(&mut self, ending: Ending) -> Result<(), Name> {
         match self.output.take() {
             Some(Opened::File(output)) => output.end(&mut Calls(self.rt), ending),
             _ => Ok(()),
+        }
+    }
+
+    /// Keeps the output before the one that is created now.
+    fn keep_last(&mut self) {
+        if let Err(name) = self.end_last(Ending::Keep) {
+            self.unkept = Some(name);
+        }
+    }
+
+    /// Ends the output that was created last, when the run has ended. `Err` has the name of an output that could not be kept: of the one
+    /// before it, if there is such a one.
+    pub fn end(&mut self, ending: Ending) -> Result<(), Name> {
+        let ended = self.end_last(ending);
+        match self.unkept.take() {
+            Some(name) => Err(name),
+            None => ended,
         }
     }
 }
@@ -194,6 +213,7 @@ impl Open for &mut HostFiles<'_> {
     }
 
     fn create_output(&mut self, name: &str) -> io::Result<()> {
+        self.keep_last();
         if name == "-" {
             self.output = Some(Opened::Standard(self.rt.stdout()));
             return Ok(());

@@ -1,0 +1,89 @@
+-- What comes of what was asked, put together.
+use Rattle.std.proofs.Common.{◌≡◌, ℕ, Bool, suc, List, [], ◌∷◌, ◌++◌, length, refl, sym, ap, subst}
+use Rattle.std.specs.Prelude.{◌↔◌, IsTrue}
+use Rattle.std.proofs.lemmas.List.{append-nil}
+use Rattle.jls_device.specs.Event.{Event, History, GrewBy}
+use Rattle.jls_device.proofs.Growing.{grew_twice}
+use Rattle.jls_partial.specs.Status.{IsSettled}
+use Rattle.jls_copy_files.specs.CopyFiles.{AreCopiesRead, CopyBytes}
+use Rattle.jls_splice_words.specs.Asking.{Asked}
+use Rattle.jls_splice_answers.specs.declared.outcome.Outcome.TheVariants.{Done, Refused}
+use Rattle.jls_splice_answers.specs.declared.outcome.Refusal.{Refusal}
+use Rattle.jls_splice_run.specs.Copies.{AreWhole, bytes_read, StopsAtCopies}
+use Rattle.jls_splice_run.specs.Handing.{HandsAll, StopsInHanding, Texts}
+use Rattle.jls_splice_run.specs.Making.{AreTextsOf, CantMake, HoldsMade, IsMade, Made}
+use Rattle.jls_splice_run.specs.Runs.{GrewAll, Splices, at_copies, done, not_handed, not_made, texts, texts_held}
+use Rattle.jls_splice_run.specs.declared.made.Made.{Made as MadeValue}
+
+-- as many copies are read as there are names
+pub read_count : (names : List (List ℕ)) (copies : List CopyBytes) (events : List Event) → AreCopiesRead names copies events
+    → length names ≡ length copies
+read_count [] [] events h = refl
+read_count [] (c ∷ cs) events h = absurd h
+read_count (n ∷ ns) [] events h = absurd h
+read_count (n ∷ ns) (c ∷ cs) events h = ap suc (read_count ns cs h.1 h.4)
+
+-- the texts that the code holds
+texts_are : (a : Asked) (copies : List CopyBytes) (m : Made) (v : MadeValue) → AreTextsOf a (bytes_read copies) m v
+    → texts_held a v ≡ texts a copies m
+texts_are a copies m v h = λ i. record {
+  progress = h.progress_is i;
+  lines = h.lines_are i;
+  out = a.out;
+  text = h.text_is i;
+  file_name = a.options.file;
+  file = h.file_is i;
+}
+
+module _ (a : Asked) (desk mid new report report' faults faults' : History) where
+  pub stops_at_copies : (r : Refusal) → GrewBy (StopsAtCopies a.copies r) desk mid
+      → GrewAll (Splices a (Refused r)) desk mid report report faults faults
+  stops_at_copies r h = record {
+    desk_events = h.events;
+    report_events = [];
+    fault_events = [];
+    desk_is = h.grew;
+    report_is = sym (append-nil report);
+    faults_are = sym (append-nil faults);
+    they_are = at_copies r h.events h.they_are;
+  }
+
+  module _ (copies : List CopyBytes) (read : GrewBy (AreCopiesRead a.copies copies) desk mid) where
+    pub stops_unmade : (r : Refusal) → CantMake a copies r → GrewAll (Splices a (Refused r)) desk mid report report faults faults
+    stops_unmade r cant = record {
+      desk_events = read.events;
+      report_events = [];
+      fault_events = [];
+      desk_is = read.grew;
+      report_is = sym (append-nil report);
+      faults_are = sym (append-nil faults);
+      they_are = not_made r copies read.events read.they_are cant;
+    }
+
+    module _ (v : MadeValue) (made : HoldsMade a copies v) where
+      pub stops_in_handing : (r : Refusal) → GrewAll (StopsInHanding (texts_held a v) r) mid new report report' faults faults'
+          → GrewAll (Splices a (Refused r)) desk new report report' faults faults'
+      stops_in_handing r h = record {
+        desk_events = read.events ++ h.desk_events;
+        report_events = h.report_events;
+        fault_events = h.fault_events;
+        desk_is = grew_twice desk mid new read.events h.desk_events read.grew h.desk_is;
+        report_is = h.report_is;
+        faults_are = h.faults_are;
+        they_are = not_handed r copies made.0 read.events h.desk_events h.report_events h.fault_events read.they_are made.1
+            (subst (λ (t : Texts). StopsInHanding t r h.desk_events h.report_events h.fault_events) (texts_are a copies made.0 v made.2) h.they_are);
+      }
+
+      pub is_done : (whole : Bool) → (IsTrue whole ↔ AreWhole copies) → GrewAll (HandsAll (texts_held a v)) mid new report report' faults faults'
+          → GrewAll (Splices a (Done v.settled whole)) desk new report report' faults faults'
+      is_done whole whole_is h = record {
+        desk_events = read.events ++ h.desk_events;
+        report_events = h.report_events;
+        fault_events = h.fault_events;
+        desk_is = grew_twice desk mid new read.events h.desk_events read.grew h.desk_is;
+        report_is = h.report_is;
+        faults_are = h.faults_are;
+        they_are = done copies made.0 v.settled whole read.events h.desk_events h.report_events h.fault_events read.they_are made.1
+            (subst (λ (t : Texts). HandsAll t h.desk_events h.report_events h.fault_events) (texts_are a copies made.0 v made.2) h.they_are)
+            made.2.settled_is whole_is;
+      }

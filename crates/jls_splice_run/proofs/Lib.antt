@@ -1,0 +1,6 @@
+mod Done
+mod Handed
+mod MakingLemmas
+mod Members
+mod Running
+mod Seen

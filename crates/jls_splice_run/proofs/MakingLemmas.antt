@@ -1,0 +1,48 @@
+-- What the making of a picture needs.
+use Rattle.std.proofs.Common.{◌≡◌, ℕ, zero, suc, ◌<◌, ◌≤◌, ◌+◌, List, [], ◌∷◌, ◌++◌, length, map, take, get_or, Option, Some, None, refl, sym, ap, ◌∙◌, subst, arith}
+use Rattle.std.specs.Prelude.{◌^◌, ◌-◌, option_map}
+use Rattle.std.specs.List.{AllByRecursion, sum_by}
+use Rattle.std.proofs.lemmas.List.Sums.{sum_by-cons}
+use Rattle.jls_parts.specs.Parts.{AreParts, Part, Same, made, way}
+use Rattle.jls_splice.proofs.Fronts.{front_more}
+use Rattle.jls_splice.specs.Choices.{IsFirstWay, IsPath, front_of}
+use Rattle.jls_splice.specs.SearchLaws.{AreShort}
+use Rattle.jls_splice_run.specs.Making.{lacks_single}
+
+-- each choice of a path
+pub path_at : (ps : List Part) (cs : List ℕ) (i : ℕ) → IsPath ps cs → i < length cs
+    → (i < length ps) × IsFirstWay (get_or ps i (Same [])) (get_or cs i 0)
+path_at ps [] i h l = absurd (omega (arith, l))
+path_at [] (c ∷ cs) i h l = absurd h
+path_at (p ∷ ps) (c ∷ cs) zero h l = (omega arith, h.0)
+path_at (p ∷ ps) (c ∷ cs) (suc i) h l = let r = path_at ps cs i h.1 (omega (arith, l)) in (omega (arith, r.0), r.1)
+
+-- one choice more
+pub front_one_more : (ps : List Part) (cs : List ℕ) (i : ℕ) (file bytes : List ℕ) → IsPath ps cs → i < length cs
+    → file ≡ front_of ps (take i cs) → bytes ≡ way (get_or cs i 0) (get_or ps i (Same [])) → file ++ bytes ≡ front_of ps (take (i + 1) cs)
+front_one_more ps cs i file bytes path l is here =
+    let e : i + 1 ≡ suc i = omega arith in
+    rw e (ap (λ z. z ++ bytes) is ∙ ap (λ z. front_of ps (take i cs) ++ z) here ∙ sym (front_more ps cs i path l))
+
+-- the first copy of short ones is short
+first_within : (copies : List (List ℕ)) → length (get_or copies 0 []) ≤ sum_by length copies
+first_within [] = omega arith
+first_within (c ∷ cs) = let s = sum_by-cons length c cs in omega (arith, s)
+
+pub first_is_short : (copies : List (List ℕ)) (parts : List Part) → AreParts copies parts → 0 < length copies → AreShort copies
+    → length (made 0 parts) < 2 ^ 64
+first_is_short copies parts are some short =
+    let l = ap length (are.make 0 some) in
+    let w = first_within copies in
+    omega (arith, l, w, short)
+
+-- a single file that is lacked, as the code has it
+pub lacks_maps : {A B C D : Type 0} (f : A → C) (g : B → D) (x : Option A) (y : Option B)
+    → lacks_single (option_map f x) (option_map g y) ≡ lacks_single x y
+lacks_maps f g None y = refl
+lacks_maps f g (Some x) None = refl
+lacks_maps f g (Some x) (Some y) = refl
+
+pub length-map : {X Y : Type 0} (f : X → Y) (xs : List X) → length (map f xs) ≡ length xs
+length-map f [] = refl
+length-map f (x ∷ xs) = ap suc (length-map f xs)

@@ -1,0 +1,51 @@
+-- Members of the lists that the code holds.
+use Rattle.std.proofs.Common.{◌≡◌, ℕ, zero, suc, ◌<◌, ◌||◌, Bool, true, false, List, [], ◌∷◌, length, get_or, Bor, Vec, Global, refl, sym, ap, ◌∙◌, subst, arith}
+use Rattle.std.specs.Str.{bytes_eq}
+use Rattle.jls_copy_files.specs.CopyFiles.{copies_of}
+use Rattle.jls_copy_files.specs.declared.copy.CopyFile.{CopyFile}
+use Rattle.jls_parts.specs.PartsOf.{bytes_of}
+use Rattle.jls_parts.specs.Parts.{Part}
+use Rattle.jls_splice.specs.Choices.{IsWhole, front_of}
+use Rattle.jls_splice.specs.Faultless.{IsFaultless}
+use Rattle.jls_splice.specs.Search.{MakeFiles, lists_of}
+use Rattle.jls_station.specs.declared.input.ReadStop.TheVariants.{Whole}
+use Rattle.jls_splice_run.specs.Copies.{AreWhole, stops_read}
+use Rattle.jls_splice_run.specs.Files.{is_copy}
+use Rattle.jls_splice_run.specs.Tasks.{texts_of}
+
+or_true : (b : Bool) → true ≡ (b || true)
+or_true true = refl
+or_true false = refl
+
+-- a copy with the bytes of the file
+pub is_copy_at : (slices : List (Bor (List ℕ))) (file : List ℕ) (i : ℕ) (d : Bor (List ℕ)) → i < length slices
+    → true ≡ bytes_eq (get_or slices i d).now file → true ≡ is_copy (bytes_of slices) file
+is_copy_at [] file i d l e = absurd (omega (arith, l))
+is_copy_at (s ∷ ss) file zero d l e = ap (λ b. b || is_copy (bytes_of ss) file) e
+is_copy_at (s ∷ ss) file (suc i) d l e =
+    or_true (bytes_eq s.now file) ∙ ap (λ b. bytes_eq s.now file || b) (is_copy_at ss file i d (omega (arith, l)) e)
+
+-- each of whole copies is whole
+pub whole_at : (copies : List CopyFile) (i : ℕ) (v d : CopyFile) → i < length copies → v ≡ get_or copies i d → AreWhole (copies_of copies)
+    → v.stop ≡ Whole
+whole_at [] i v d l e w = absurd (omega (arith, l))
+whole_at (c ∷ cs) zero v d l e w = ap (λ (x : CopyFile). x.stop) e ∙ w.0
+whole_at (c ∷ cs) (suc i) v d l e w = whole_at cs i v d (omega (arith, l)) e w.1
+
+-- each of the choices that a search found makes a file without a fault
+pub made_at : (ps : List Part) (vs : List (Vec ℕ Global)) (i : ℕ) (v d : Vec ℕ Global) → MakeFiles ps (lists_of vs) → i < length vs
+    → v ≡ get_or vs i d → IsWhole ps v.items × IsFaultless (front_of ps v.items)
+made_at ps [] i v d files l e = absurd (omega (arith, l))
+made_at ps (w ∷ vs) zero v d files l e = subst (λ (x : Vec ℕ Global). IsWhole ps x.items × IsFaultless (front_of ps x.items)) (sym e) files.0
+made_at ps (w ∷ vs) (suc i) v d files l e = made_at ps vs i v d files.1 (omega (arith, l)) e
+
+-- the first copy, and the first name
+pub first_stop : (copies : List CopyFile) (d : CopyFile) → 0 < length copies
+    → (get_or copies 0 d).stop ≡ get_or (stops_read (copies_of copies)) 0 Whole
+first_stop [] d l = absurd (omega (arith, l))
+first_stop (c ∷ cs) d l = refl
+
+pub name_at : (names : List (Bor (List ℕ))) (i : ℕ) (d : Bor (List ℕ)) → i < length names → (get_or names i d).now ≡ get_or (texts_of names) i []
+name_at [] i d l = absurd (omega (arith, l))
+name_at (n ∷ ns) zero d l = refl
+name_at (n ∷ ns) (suc i) d l = name_at ns i d (omega (arith, l))

@@ -1,0 +1,91 @@
+-- Runs, by what was done.
+use Rattle.std.proofs.Common.{◌≡◌, ℕ, true, false, inl, inr, List, [], ◌++◌, sym, ap, ◌∙◌, subst}
+use Rattle.std.specs.Prelude.{◌⊎◌}
+use Rattle.std.proofs.lemmas.List.{append-nil}
+use Rattle.clap.specs.Words.{Text}
+use Rattle.clap.specs.declared.error.kind.ErrorKind.{ErrorKind}
+use Rattle.clap.specs.declared.error.kind.ErrorKind.TheVariants as kind
+use Rattle.jls_device.specs.Event.{Event, History, GrewBy}
+use Rattle.jls_device.specs.Writing.{Printed}
+use Rattle.jls_device.proofs.Growing.{grew_twice}
+use Rattle.jls_splice_words.specs.Asking.{Asked, AskFor, AskForNothing}
+use Rattle.jls_splice_words.specs.Words.{AreRefused}
+use Rattle.jls_splice_answers.specs.Answers.{is_help, is_want_of_memory, Answer, Answered, ran_out, usage, help, cut}
+use Rattle.jls_splice_answers.specs.FaultLines.{fault_line, not_understood_line, out_of_memory_line}
+use Rattle.jls_splice_answers.specs.Outcomes.{exit_status}
+use Rattle.jls_splice_answers.specs.declared.outcome.Outcome.{Outcome}
+use Rattle.jls_splice_run.specs.Runs.{GrewAll, Performs, Ran, Run, Splices, came_of, no_names, performed, misused, helped, help_cut, nothing_begun, nothing_asked}
+
+-- an answer is a run, where the kind is one of those that clap has for the words
+run_of_answer : (words : List Text) (k : ErrorKind) (status : ℕ) (report faults : List Event)
+    → (k ≡ kind.OutOfMemory) ⊎ AreRefused words k → Answer k status report faults → Run words status [] report faults
+run_of_answer words k _ _ faults r (ran_out _ _ line) = nothing_begun faults line
+run_of_answer words k _ _ faults (inr r) (usage _ text _ m n line) = misused k text faults r n line
+run_of_answer words k _ _ faults (inl is) (usage _ text _ m n line) = let e : true ≡ false = sym (ap is_want_of_memory is) ∙ m in absurd cc
+run_of_answer words k _ report _ (inr r) (help _ text _ n wrote) = helped k text report r n wrote
+run_of_answer words k _ report _ (inl is) (help _ text _ n wrote) = let e : false ≡ true = sym (ap is_help is) ∙ n in absurd cc
+run_of_answer words k _ report faults (inr r) (cut _ text count _ _ n wrote line) = help_cut k text count report faults r n wrote line
+run_of_answer words k _ report faults (inl is) (cut _ text count _ _ n wrote line) = let e : false ≡ true = sym (ap is_help is) ∙ n in absurd cc
+
+module _ (a : Asked) (desk desk' report report' faults mid faults' : History) where
+  pub performs : (status : ℕ) (outcome : Outcome) → status ≡ exit_status outcome → GrewAll (Splices a outcome) desk desk' report report' faults mid
+      → GrewBy (Printed (fault_line outcome)) mid faults' → GrewAll (Performs a status) desk desk' report report' faults faults'
+  performs status outcome is h line = record {
+    desk_events = h.desk_events;
+    report_events = h.report_events;
+    fault_events = h.fault_events ++ line.events;
+    desk_is = h.desk_is;
+    report_is = h.report_is;
+    faults_are = grew_twice faults mid faults' h.fault_events line.events h.faults_are line.grew;
+    they_are =
+        subst (λ (s : ℕ). Performs a s h.desk_events h.report_events (h.fault_events ++ line.events)) (sym is)
+        (came_of outcome h.desk_events h.report_events h.fault_events line.events h.they_are line.they_are);
+  }
+
+  pub performs_nothing : GrewBy (Printed out_of_memory_line) faults faults' → GrewAll (Performs a 5) desk desk report report faults faults'
+  performs_nothing line = record {
+    desk_events = [];
+    report_events = [];
+    fault_events = line.events;
+    desk_is = sym (append-nil desk);
+    report_is = sym (append-nil report);
+    faults_are = line.grew;
+    they_are = no_names line.events line.they_are;
+  }
+
+module _ (words : List Text) (desk desk' report report' faults faults' : History) where
+  pub ran_refused : (k : ErrorKind) (status : ℕ) → (k ≡ kind.OutOfMemory) ⊎ AreRefused words k
+      → Answered k status report report' faults faults' → Ran words status desk desk report report' faults faults'
+  ran_refused k status r a = record {
+    desk_events = [];
+    report_events = a.report_events;
+    fault_events = a.fault_events;
+    desk_is = sym (append-nil desk);
+    report_is = a.report_is;
+    faults_are = a.faults_are;
+    they_are = run_of_answer words k status a.report_events a.fault_events r a.answer;
+  }
+
+  pub ran : (a : Asked) (status : ℕ) → AskFor words a → GrewAll (Performs a status) desk desk' report report' faults faults'
+      → Ran words status desk desk' report report' faults faults'
+  ran a status asks h = record {
+    desk_events = h.desk_events;
+    report_events = h.report_events;
+    fault_events = h.fault_events;
+    desk_is = h.desk_is;
+    report_is = h.report_is;
+    faults_are = h.faults_are;
+    they_are = performed a status h.desk_events h.report_events h.fault_events asks h.they_are;
+  }
+
+  pub ran_nothing : AskForNothing words → GrewBy (Printed not_understood_line) faults faults'
+      → Ran words 2 desk desk report report faults faults'
+  ran_nothing asks line = record {
+    desk_events = [];
+    report_events = [];
+    fault_events = line.events;
+    desk_is = sym (append-nil desk);
+    report_is = sym (append-nil report);
+    faults_are = line.grew;
+    they_are = nothing_asked line.events asks line.they_are;
+  }

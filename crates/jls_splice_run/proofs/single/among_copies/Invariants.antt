@@ -1,0 +1,7 @@
+use Rattle.std.proofs.Common.{take}
+use Rattle.jls_parts.specs.PartsOf.{bytes_of}
+use Rattle.jls_splice_run.specs.Single.{AreSeenSo}
+use Rattle.jls_splice_run.proofs.single.among_copies.Given as goal
+
+abbrev pub invariant-loop-copy : goal.invariant-loop-copy
+invariant-loop-copy l = AreSeenSo (bytes_of (take l.copy-index l.copies)) l.faultless

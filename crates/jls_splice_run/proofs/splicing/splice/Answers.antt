@@ -1,0 +1,78 @@
+use Rattle.std.proofs.Common.{◌≡◌, ◌<◌, ℕ, List, length, Bor, subst, sym, arith}
+use Rattle.jls_device.specs.Event.{Event}
+use Rattle.jls_copy_files.specs.CopyFiles.{AreCopiesRead, copies_of, copy_of}
+use Rattle.jls_copy_files.specs.declared.copy.CopyFile.{CopyFile}
+use Rattle.jls_splice_run.specs.Copies.{AreWhole}
+use Rattle.jls_splice_run.specs.Making.{CantMake, HoldsMade}
+use Rattle.jls_splice_run.specs.Tasks.{task_of, texts_of}
+use Rattle.jls_splice_run.proofs.Done.{is_done, read_count, stops_at_copies, stops_in_handing, stops_unmade}
+use Rattle.jls_splice_run.proofs.MakingLemmas.{length-map}
+use Rattle.std.specs.Prelude.{◌↔◌, IsTrue}
+use Rattle.jls_splice_run.proofs.splicing.splice.Goals as goal
+
+-- as many copies as names
+counts : (names : List (Bor (List ℕ))) (copies : List CopyFile) (events : List Event) → AreCopiesRead (texts_of names) (copies_of copies) events
+    → length names ≡ length copies
+counts names copies events read =
+    let count = read_count (texts_of names) (copies_of copies) events read in
+    let n = length-map (λ (s : Bor (List ℕ)). s.now) names in
+    let m = length-map copy_of copies in
+    omega (arith, count, n, m)
+
+pub returns-in-Err : goal.returns-in-Err
+returns-in-Err g c =
+    let desk = g.D.Device.history in
+    let report = g.W.Device.history c.args.report.now in
+    let faults = g.E.Device.history c.args.faults.now in
+    stops_at_copies (task_of c.args.task.now) (desk c.args.desk.now) (desk c.read_all.new.desk) (desk c.read_all.new.desk) report report faults faults
+    c.in-Err.refusal c.in-Err.ensures.stopped
+
+pub make-requires-clause-some_copy : goal.make-requires-clause-some_copy
+make-requires-clause-some_copy g c =
+    let names = c.args.task.now.names.now in
+    let copies = c.in-Ok.copies.items in
+    let same = counts names copies c.in-Ok.ensures.read.events c.in-Ok.ensures.read.they_are in
+    let some : 0 < length copies = omega (arith, same, c.requires) in
+    subst (λ (xs : List CopyFile). 0 < length xs) (sym c.deref.ensures.value) some
+
+pub make-requires-clause-names : goal.make-requires-clause-names
+make-requires-clause-names g c =
+    let names = c.args.task.now.names.now in
+    let same = counts names c.in-Ok.copies.items c.in-Ok.ensures.read.events c.in-Ok.ensures.read.they_are in
+    subst (λ (xs : List CopyFile). length names ≡ length xs) (sym c.deref.ensures.value) same
+
+pub returns-in-Err-make : goal.returns-in-Err-make
+returns-in-Err-make g c =
+    let desk = g.D.Device.history in
+    let report = g.W.Device.history c.args.report.now in
+    let faults = g.E.Device.history c.args.faults.now in
+    let a = task_of c.args.task.now in
+    let r = c.in-Err-make.refusal in
+    stops_unmade a (desk c.args.desk.now) (desk c.read_all.new.desk) (desk c.read_all.new.desk) report report faults faults (copies_of c.in-Ok.copies.items) c.in-Ok.ensures.read r
+    (subst (λ (xs : List CopyFile). CantMake a (copies_of xs) r) c.deref.ensures.value c.in-Err-make.ensures.stopped)
+
+pub returns : goal.returns
+returns g c =
+    let desk = g.D.Device.history in
+    let report = g.W.Device.history in
+    let faults = g.E.Device.history in
+    let a = task_of c.args.task.now in
+    let v = c.in-Ok-make.made in
+    stops_in_handing a (desk c.args.desk.now) (desk c.read_all.new.desk) (desk c.hand_out.new.desk) (report c.args.report.now) (report c.hand_out.new.report)
+    (faults c.args.faults.now) (faults c.hand_out.new.faults) (copies_of c.in-Ok.copies.items) c.in-Ok.ensures.read v
+    (subst (λ (xs : List CopyFile). HoldsMade a (copies_of xs) v) c.deref.ensures.value c.in-Ok-make.ensures.made)
+    c.in-Err-hand_out.refusal c.in-Err-hand_out.ensures.stopped
+
+pub returns-in-Ok-hand_out : goal.returns-in-Ok-hand_out
+returns-in-Ok-hand_out g c =
+    let desk = g.D.Device.history in
+    let report = g.W.Device.history in
+    let faults = g.E.Device.history in
+    let a = task_of c.args.task.now in
+    let v = c.in-Ok-make.made in
+    let whole = c.are_whole.result in
+    is_done a (desk c.args.desk.now) (desk c.read_all.new.desk) (desk c.hand_out.new.desk) (report c.args.report.now) (report c.hand_out.new.report)
+    (faults c.args.faults.now) (faults c.hand_out.new.faults) (copies_of c.in-Ok.copies.items) c.in-Ok.ensures.read v
+    (subst (λ (xs : List CopyFile). HoldsMade a (copies_of xs) v) c.deref.ensures.value c.in-Ok-make.ensures.made)
+    whole (subst (λ (xs : List CopyFile). IsTrue whole ↔ AreWhole (copies_of xs)) c.deref-in-Ok-hand_out.ensures.value c.are_whole.ensures)
+    c.in-Ok-hand_out.ensures.done

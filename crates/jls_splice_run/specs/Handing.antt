@@ -1,0 +1,57 @@
+-- What was made, handed out.
+use Rattle.std.specs.Prelude.{◌≡◌, ℕ, List, [], ◌∷◌, ◌++◌, Option, Some, None, codes}
+use Rattle.jls_device.specs.Event.{Event, created, not_created}
+use Rattle.jls_device.specs.Writing.{Wrote, WroteFront, Printed}
+use Rattle.jls_commands.specs.Outputs.{HandsOut}
+use Rattle.jls_splice_answers.specs.declared.outcome.Cause.TheVariants as cause
+use Rattle.jls_splice_answers.specs.declared.outcome.Refusal.{Refusal}
+
+-- the report output stops the run: it was handed so many of the bytes when a write failed
+pub record StopsAtReport (bytes : List ℕ) (r : Refusal) (events : List Event) : Type 0 where
+  pub count : ℕ
+  pub wrote : WroteFront bytes count events
+  pub name_is : r.name.now ≡ codes "-"
+  pub cause_is : r.cause ≡ cause.NotWritten count
+
+-- an output of this name stops it: it is not created; or it is, and was handed so many of the bytes when a write failed
+pub data StopsAtOutput (name bytes : List ℕ) (r : Refusal) : List Event → Type 0 where
+  not_there : r.name.now ≡ name → r.cause ≡ cause.NotCreated → StopsAtOutput name bytes r (not_created name ∷ [])
+  cut : (count : ℕ) (writes : List Event) → r.name.now ≡ name → r.cause ≡ cause.NotWritten count → WroteFront bytes count writes
+      → StopsAtOutput name bytes r (created name ∷ writes)
+
+-- an output is handed these bytes, where there are a name and bytes; nothing is done, where one of them is missing
+abbrev pub HandsFile : Option (List ℕ) → Option (List ℕ) → List Event → Type 0
+HandsFile (Some name) (Some bytes) events = HandsOut name bytes events
+HandsFile _ _ events = events ≡ []
+
+-- it stops the run
+abbrev pub StopsAtFile : Option (List ℕ) → Option (List ℕ) → Refusal → List Event → Type 0
+StopsAtFile (Some name) (Some bytes) r events = StopsAtOutput name bytes r events
+StopsAtFile _ _ r events = ⊥
+
+-- all that a run hands out: the line of its progress, the lines that it prints, the text of its output, and the single file
+pub record Texts : Type 0 where
+  pub progress : List ℕ
+  pub lines : List ℕ
+  pub out : List ℕ
+  pub text : List ℕ
+  pub file_name : Option (List ℕ)
+  pub file : Option (List ℕ)
+
+-- it is handed out in this order; the events are those of the desk, of the report output and of the fault output
+pub record HandsAll (t : Texts) (desk report faults : List Event) : Type 0 where
+  pub told : Printed t.progress faults
+  pub printed : Wrote t.lines report
+  pub writing : List Event
+  pub more : List Event
+  pub desk_is : desk ≡ writing ++ more
+  pub handed : HandsOut t.out t.text writing
+  pub file_handed : HandsFile t.file_name t.file more
+
+-- the run stops before all of it is: at the report output, at its output, or at the file
+pub data StopsInHanding (t : Texts) (r : Refusal) : List Event → List Event → List Event → Type 0 where
+  at_report : (report faults : List Event) → Printed t.progress faults → StopsAtReport t.lines r report → StopsInHanding t r [] report faults
+  at_output : (desk report faults : List Event) → Printed t.progress faults → Wrote t.lines report → StopsAtOutput t.out t.text r desk
+      → StopsInHanding t r desk report faults
+  at_file : (writing more report faults : List Event) → Printed t.progress faults → Wrote t.lines report → HandsOut t.out t.text writing
+      → StopsAtFile t.file_name t.file r more → StopsInHanding t r (writing ++ more) report faults

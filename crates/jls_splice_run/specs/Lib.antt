@@ -1,0 +1,8 @@
+-- What the contracts of this crate cite.
+pub mod Copies
+pub mod Files
+pub mod Handing
+pub mod Making
+pub mod Runs
+pub mod Single
+pub mod Tasks

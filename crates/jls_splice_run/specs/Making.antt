@@ -1,0 +1,152 @@
+-- What is made of the copies.
+use Rattle.std.specs.Prelude.{◌≡◌, ◌↔◌, ◌⊎◌, ℕ, Bool, true, false, IsTrue, List, [], ◌++◌, Option, Some, None, codes, get_or, length, option_map, if◌then◌else◌}
+use Rattle.std.specs.Str.{bytes_eq}
+use Rattle.jls_marker.specs.declared.fault.MarkerFault.{MarkerFault}
+use Rattle.jls_partial.specs.Partial.{PartialPicture, nothing_known}
+use Rattle.jls_partial.specs.Status.{IsSettled}
+use Rattle.jls_partial.specs.Text.{text}
+use Rattle.jls_parts.specs.Parts.{Part, AreParts}
+use Rattle.jls_parts.specs.PartsOf.{parts_of}
+use Rattle.jls_splice.specs.Search.{CameTo, files_of, lists_of}
+use Rattle.jls_splice.specs.declared.copies.SearchedCopies.{SearchedCopies}
+use Rattle.jls_report.specs.Report.{report_of}
+use Rattle.jls_report.specs.ReportText.{report_text}
+use Rattle.jls_splice_lines.specs.Differences.{differences}
+use Rattle.jls_splice_lines.specs.Lines.{differ_lines, groups_line, progress_line, single_line, splices_line, used_up_line}
+use Rattle.jls_station.specs.declared.input.ReadStop.{ReadStop}
+use Rattle.jls_station.specs.declared.input.ReadStop.TheVariants.{Whole}
+use Rattle.jls_copy_files.specs.CopyFiles.{CopyBytes}
+use Rattle.jls_splicing.specs.Shapes.{IsShapeFound, IsShapeTaken}
+use Rattle.jls_splicing.specs.Stations.{TakesFiles}
+use Rattle.jls_splicing.specs.declared.shape_found.ShapeFound.{ShapeFound}
+use Rattle.jls_splicing.specs.declared.shape_found.ShapeFound.TheVariants.{Taken, Differ, NoFrame}
+use Rattle.jls_splice_words.specs.Asking.{Asked}
+use Rattle.jls_splice_answers.specs.declared.outcome.Cause.{Cause}
+use Rattle.jls_splice_answers.specs.declared.outcome.Cause.TheVariants as cause
+use Rattle.jls_splice_answers.specs.declared.outcome.Refusal.{Refusal}
+use Rattle.jls_splice_run.specs.Copies.{bytes_read, stops_read}
+use Rattle.jls_splice_run.specs.Files.{count_new}
+use Rattle.jls_splice_run.specs.Single.{IsSingleAsked}
+use Rattle.jls_splice_run.specs.declared.made.Made.{Made as MadeValue}
+
+-- ---- what was found and made
+
+-- the parts of the copies, the splices that the search came to, each as its choices, and whether it was cut off
+pub record Found : Type 0 where
+  pub parts : List Part
+  pub choices : List (List ℕ)
+  pub is_used_up : Bool
+
+-- a search over these copies found it
+pub record IsFound (copies : List (List ℕ)) (f : Found) : Type 0 where
+  pub are_parts : AreParts copies f.parts
+  pub came_to : CameTo f.parts f.choices f.is_used_up
+
+-- the splices that were found
+abbrev pub splices_in : Found → List (List ℕ)
+splices_in f = files_of f.parts f.choices
+
+-- the files taken: the copies in their order, then the splices
+abbrev pub files_taken : List (List ℕ) → Found → List (List ℕ)
+files_taken copies f = copies ++ splices_in f
+
+-- the picture is the union of what the files taken give under the source, and has the shape that is taken
+pub record IsPictureOf (source : Option ℕ) (copies splices : List (List ℕ)) (p : PartialPicture) : Type 0 where
+  pub shape_is : IsShapeTaken copies splices p.shape
+  pub union_is : TakesFiles source (copies ++ splices) (nothing_known p.shape) p
+
+-- what is made of copies: what was found, with how many tries; the picture; and the single file without a fault
+pub record Made : Type 0 where
+  pub found : Found
+  pub tries : ℕ
+  pub picture : PartialPicture
+  pub single : Option (List ℕ)
+
+pub record IsMade (a : Asked) (copies : List (List ℕ)) (m : Made) : Type 0 where
+  pub is_found : IsFound copies m.found
+  pub is_picture : IsPictureOf a.options.source copies (splices_in m.found) m.picture
+  pub is_single : IsSingleAsked a.options.file (files_taken copies m.found) m.single
+
+-- ---- what is told of it
+
+-- a single file is asked for, and there is none
+abbrev pub lacks_single : {A B : Type 0} → Option A → Option B → Bool
+lacks_single None single = false
+lacks_single (Some name) (Some file) = false
+lacks_single (Some name) None = true
+
+-- the lines of what was found: of its parts, of so many splices that are no copies, of a search that was cut off or was not, and of a
+-- single file that is lacked or is not
+abbrev pub told_lines : List Part → ℕ → Bool → Bool → List ℕ
+told_lines parts splices is_used_up lacks =
+    differ_lines (differences parts) ++ splices_line splices ++ used_up_line is_used_up ++ groups_line None ++ single_line lacks
+
+abbrev pub found_lines : Bool → List (List ℕ) → Found → List ℕ
+found_lines lacks copies f = told_lines f.parts (count_new copies (splices_in f)) f.is_used_up lacks
+
+-- what is printed: these lines, and then the report; nothing, where the output is standard output
+abbrev pub lines : Asked → List (List ℕ) → Made → List ℕ
+lines a copies m =
+    if bytes_eq a.out (codes "-") then []
+    else found_lines (lacks_single a.options.file m.single) copies m.found ++ report_text (report_of m.picture)
+
+-- the line of how much was tried, where that is asked for
+abbrev pub progress : Asked → Made → List ℕ
+progress a m = if a.options.progress then progress_line m.tries (length m.found.choices) else []
+
+-- ---- why nothing is made
+
+-- what is said where no file has a frame, by how the reading of the first copy stopped
+abbrev pub no_picture_cause : ReadStop → MarkerFault → ℕ → Cause
+no_picture_cause Whole f offset = cause.NoPicture f offset
+no_picture_cause _ f offset = cause.NotRead
+
+-- what is said of copies of these names for which this is found, as how their readings stopped has it
+abbrev pub IsRefusedFor : List (List ℕ) → List ReadStop → ShapeFound → Refusal → Type 0
+IsRefusedFor names stops (Taken shape) r = ⊥
+IsRefusedFor names stops (Differ copy) r = (r.name.now ≡ get_or names copy []) × (r.cause ≡ cause.ShapeDiffers)
+IsRefusedFor names stops (NoFrame f offset) r = (r.name.now ≡ get_or names 0 []) × (r.cause ≡ no_picture_cause (get_or stops 0 Whole) f offset)
+
+-- memory runs out
+abbrev pub IsWantOfMemory : Asked → Refusal → Type 0
+IsWantOfMemory a r = (r.name.now ≡ a.out) × (r.cause ≡ cause.OutOfMemory)
+
+-- why no picture comes of copies and splices: memory runs out; or the shape that is found for them
+abbrev pub IsUnsettled : Asked → List CopyBytes → List (List ℕ) → Refusal → Type 0
+IsUnsettled a copies splices r =
+    IsWantOfMemory a r
+    ⊎ ((found : ShapeFound) × IsShapeFound (bytes_read copies) splices found × IsRefusedFor a.copies (stops_read copies) found r)
+
+-- why a run stops behind the copies
+abbrev pub CantMake : Asked → List CopyBytes → Refusal → Type 0
+CantMake a copies r = IsWantOfMemory a r ⊎ ((f : Found) × IsFound (bytes_read copies) f × IsUnsettled a copies (splices_in f) r)
+
+-- ---- as the code has it
+
+abbrev pub found_of : SearchedCopies → Found
+found_of s = record {
+  parts = parts_of s.parts.items;
+  choices = lists_of s.searched.splices.items;
+  is_used_up = s.searched.is_used_up;
+}
+
+-- what was made, by what was searched, the picture, and what the code holds of it
+abbrev pub made_of : SearchedCopies → PartialPicture → MadeValue → Made
+made_of s p v = record {
+  found = found_of s;
+  tries = s.searched.tries;
+  picture = p;
+  single = option_map (λ f. f.items) v.file;
+}
+
+-- the code holds what is handed out of it
+pub record AreTextsOf (a : Asked) (copies : List (List ℕ)) (m : Made) (v : MadeValue) : Type 0 where
+  pub progress_is : v.progress.items ≡ progress a m
+  pub lines_are : v.lines.items ≡ lines a copies m
+  pub text_is : v.text.items ≡ text m.picture
+  pub file_is : option_map (λ f. f.items) v.file ≡ m.single
+  pub settled_is : IsTrue v.settled ↔ IsSettled m.picture
+
+-- and it was made of these copies
+abbrev pub HoldsMade : Asked → List CopyBytes → MadeValue → Type 0
+HoldsMade a copies v = (m : Made) × IsMade a (bytes_read copies) m × AreTextsOf a (bytes_read copies) m v

@@ -1,0 +1,102 @@
+-- What a run of the program is.
+use Rattle.std.specs.Prelude.{◌≡◌, ◌↔◌, ℕ, Bool, true, false, IsTrue, List, [], ◌++◌, codes, option_map}
+use Rattle.clap.specs.Words.{Text}
+use Rattle.clap.specs.declared.error.kind.ErrorKind.{ErrorKind}
+use Rattle.jls_device.specs.Event.{Event, History}
+use Rattle.jls_device.specs.Writing.{Wrote, WroteFront, Printed}
+use Rattle.jls_partial.specs.Status.{IsSettled}
+use Rattle.jls_partial.specs.Text.{text}
+use Rattle.jls_copy_files.specs.CopyFiles.{AreCopiesRead, CopyBytes}
+use Rattle.jls_splice_words.specs.Asking.{Asked, AskFor, AskForNothing}
+use Rattle.jls_splice_words.specs.Words.{AreRefused}
+use Rattle.jls_splice_answers.specs.Answers.{is_help}
+use Rattle.jls_splice_answers.specs.FaultLines.{cause_line, fault_line, not_understood_line, out_of_memory_line}
+use Rattle.jls_splice_answers.specs.Outcomes.{exit_status}
+use Rattle.jls_splice_answers.specs.declared.outcome.Cause.TheVariants as cause
+use Rattle.jls_splice_answers.specs.declared.outcome.Outcome.{Outcome}
+use Rattle.jls_splice_answers.specs.declared.outcome.Outcome.TheVariants.{Done, Refused}
+use Rattle.jls_splice_answers.specs.declared.outcome.Refusal.{Refusal}
+use Rattle.jls_splice_run.specs.Copies.{AreWhole, bytes_read, StopsAtCopies}
+use Rattle.jls_splice_run.specs.Handing.{HandsAll, StopsInHanding, Texts}
+use Rattle.jls_splice_run.specs.Making.{CantMake, IsMade, Made, lines, progress}
+use Rattle.jls_splice_run.specs.declared.made.Made.{Made as MadeValue}
+
+-- the histories of the three devices grew by events, and they are such: nothing else was done
+pub record GrewAll (Are : List Event → List Event → List Event → Type 0) (desk desk' report report' faults faults' : History) : Type 0 where
+  pub desk_events : List Event
+  pub report_events : List Event
+  pub fault_events : List Event
+  pub desk_is : desk' ≡ desk ++ desk_events
+  pub report_is : report' ≡ report ++ report_events
+  pub faults_are : faults' ≡ faults ++ fault_events
+  pub they_are : Are desk_events report_events fault_events
+
+-- what is handed out of what was made of these copies
+abbrev pub texts : Asked → List CopyBytes → Made → Texts
+texts a copies m = record {
+  progress = progress a m;
+  lines = lines a (bytes_read copies) m;
+  out = a.out;
+  text = text m.picture;
+  file_name = a.options.file;
+  file = m.single;
+}
+
+-- and as the code holds it
+abbrev pub texts_held : Asked → MadeValue → Texts
+texts_held a v = record {
+  progress = v.progress.items;
+  lines = v.lines.items;
+  out = a.out;
+  text = v.text.items;
+  file_name = a.options.file;
+  file = option_map (λ f. f.items) v.file;
+}
+
+-- What comes of what was asked, by the events of the desk, of the report output and of the fault output. A copy stops the run; or all
+-- were read, and nothing can be made of them; or something is, and one of the outputs stops the run; or all of it is handed out. Then it is
+-- said whether each line is settled, and whether each copy was read to its end
+pub data Splices (a : Asked) : Outcome → List Event → List Event → List Event → Type 0 where
+  at_copies : (r : Refusal) (desk : List Event) → StopsAtCopies a.copies r desk → Splices a (Refused r) desk [] []
+  not_made : (r : Refusal) (copies : List CopyBytes) (desk : List Event) → AreCopiesRead a.copies copies desk → CantMake a copies r
+      → Splices a (Refused r) desk [] []
+  not_handed : (r : Refusal) (copies : List CopyBytes) (m : Made) (reading desk report faults : List Event)
+      → AreCopiesRead a.copies copies reading → IsMade a (bytes_read copies) m → StopsInHanding (texts a copies m) r desk report faults
+      → Splices a (Refused r) (reading ++ desk) report faults
+  done : (copies : List CopyBytes) (m : Made) (settled whole : Bool) (reading desk report faults : List Event)
+      → AreCopiesRead a.copies copies reading → IsMade a (bytes_read copies) m → HandsAll (texts a copies m) desk report faults
+      → (IsTrue settled ↔ IsSettled m.picture) → (IsTrue whole ↔ AreWhole copies)
+      → Splices a (Done settled whole) (reading ++ desk) report faults
+
+-- what was asked ends with this status: what came of it has the status, and its fault line is printed last; or memory ran out before a copy
+-- was opened
+pub data Performs (a : Asked) : ℕ → List Event → List Event → List Event → Type 0 where
+  came_of : (outcome : Outcome) (desk report faults line : List Event)
+      → Splices a outcome desk report faults → Printed (fault_line outcome) line
+      → Performs a (exit_status outcome) desk report (faults ++ line)
+  no_names : (faults : List Event) → Printed out_of_memory_line faults → Performs a 5 [] [] faults
+
+-- a run over these words ends with this status; the events are those of the desk, of the report output and of the fault output
+pub data Run (words : List Text) : ℕ → List Event → List Event → List Event → Type 0 where
+  -- the words ask for something
+  performed : (a : Asked) (status : ℕ) (desk report faults : List Event)
+      → AskFor words a → Performs a status desk report faults → Run words status desk report faults
+  -- clap refuses the words, and not to show help: some text, which may be any, goes to the fault output
+  misused : (k : ErrorKind) (usage : List ℕ) (faults : List Event)
+      → AreRefused words k → is_help k ≡ false → Printed usage faults → Run words 2 [] [] faults
+  -- help or the version was asked for: some text, which may be any, goes to the report output
+  helped : (k : ErrorKind) (help : List ℕ) (report : List Event)
+      → AreRefused words k → is_help k ≡ true → Wrote help report → Run words 0 [] report []
+  -- and a write failed there
+  help_cut : (k : ErrorKind) (help : List ℕ) (count : ℕ) (report faults : List Event)
+      → AreRefused words k → is_help k ≡ true → WroteFront help count report
+      → Printed (cause_line (codes "-") (cause.NotWritten count)) faults
+      → Run words 4 [] report faults
+  -- memory ran out as the words were read
+  nothing_begun : (faults : List Event) → Printed out_of_memory_line faults → Run words 5 [] [] faults
+  -- clap takes the words, and they ask for nothing that there is
+  nothing_asked : (faults : List Event) → AskForNothing words → Printed not_understood_line faults → Run words 2 [] [] faults
+
+-- the histories of the three devices grew by the events of such a run
+abbrev pub Ran : List Text → ℕ → History → History → History → History → History → History → Type 0
+Ran words status desk desk' report report' faults faults' = GrewAll (Run words status) desk desk' report report' faults faults'

@@ -1,0 +1,78 @@
+//! What was made, handed out.
+
+ghost use Rattle.std.specs.Prelude.{IfErr, OnOk, option_map};
+ghost use Rattle.jls_device.specs.Event.{GrewBy};
+ghost use Rattle.jls_device.specs.Writing.{Printed, Wrote};
+ghost use Rattle.jls_commands.specs.Outputs.{HandsOut};
+ghost use Rattle.jls_splice_run.specs.Handing.{HandsFile, StopsAtFile, StopsAtOutput, StopsAtReport};
+
+use jls_device::{Desk, Sink, write_all};
+use jls_splice_answers::{Cause, Refusal};
+
+/// Prints a line as a fault line is printed: a write that fails ends it, and is ignored.
+pub(crate) fn tell<E: Sink>(faults: &mut E, line: &[u8])
+    ensures { GrewBy (Printed line.now) (E.history faults.old) (E.history faults.new) }
+{
+    let _ = write_all(faults, line);
+}
+
+/// Prints lines to the report output.
+pub(crate) fn print_lines<'a, W: Sink>(report: &mut W, lines: &[u8]) -> Result<(), Refusal<'a>>
+    ensures printed { OnOk result (GrewBy (Wrote lines.now) (W.history report.old) (W.history report.new)) }
+    ensures stopped { IfErr result (λ refusal.
+        GrewBy (StopsAtReport lines.now refusal) (W.history report.old) (W.history report.new)) }
+{
+    match write_all(report, lines) {
+        Ok(()) => Ok(()),
+        Err(count) => Err(Refusal {
+            name: "-",
+            cause: Cause::NotWritten(count),
+        }),
+    }
+}
+
+/// Creates an output and hands all of the bytes to it.
+pub(crate) fn write_output<'a, D: Desk>(
+    desk: &mut D,
+    name: &'a str,
+    bytes: &[u8],
+) -> Result<(), Refusal<'a>>
+    ensures written { OnOk result (GrewBy (HandsOut name.entry.now bytes.now) (D.history desk.old) (D.history desk.new)) }
+    ensures stopped { IfErr result (λ refusal.
+        GrewBy (StopsAtOutput name.entry.now bytes.now refusal) (D.history desk.old) (D.history desk.new)) }
+{
+    match desk.create_output(name) {
+        Ok(()) => {}
+        Err(_) => {
+            let cause = Cause::NotCreated;
+            return Err(Refusal { name, cause });
+        }
+    }
+    match write_all(desk, bytes) {
+        Ok(()) => Ok(()),
+        Err(count) => {
+            let cause = Cause::NotWritten(count);
+            Err(Refusal { name, cause })
+        }
+    }
+}
+
+/// Creates the output for the single file and hands that to it, if there are both.
+pub(crate) fn write_file<'a, D: Desk>(
+    desk: &mut D,
+    name: Option<&'a str>,
+    file: Option<&[u8]>,
+) -> Result<(), Refusal<'a>>
+    ensures written { OnOk result (GrewBy (HandsFile (option_map (λ s. s.now) name.entry) (option_map (λ s. s.now) file.entry))
+        (D.history desk.old) (D.history desk.new)) }
+    ensures stopped { IfErr result (λ refusal. GrewBy (StopsAtFile (option_map (λ s. s.now) name.entry)
+        (option_map (λ s. s.now) file.entry) refusal) (D.history desk.old) (D.history desk.new)) }
+{
+    let Some(name) = name else {
+        return Ok(());
+    };
+    let Some(file) = file else {
+        return Ok(());
+    };
+    write_output(desk, name, file)
+}

@@ -1,0 +1,88 @@
+//! The lines that a run prints.
+
+ghost use Rattle.std.specs.Prelude.{◌≡◌, ◌++◌, ◌<◌, ◌^◌, [], length, IfOk, codes, None, if◌then◌else◌};
+ghost use Rattle.std.specs.Str.{bytes_eq};
+ghost use Rattle.jls_parts.specs.Parts.{made};
+ghost use Rattle.jls_parts.specs.PartsOf.{parts_of};
+ghost use Rattle.jls_report.specs.Report.{report_of};
+ghost use Rattle.jls_report.specs.ReportText.{report_text};
+ghost use Rattle.jls_splice_lines.specs.Lines.{progress_line};
+ghost use Rattle.jls_splice_run.specs.Making.{told_lines};
+
+use jls_partial::Partial;
+use jls_parts::Part;
+use jls_report::Report;
+use jls_splice_lines::{Found, differences_of, put_found, put_progress};
+use std::alloc::{AllocError, Global};
+
+/// What the search came to, as the lines tell it.
+#[derive(Clone, Copy)]
+pub(crate) struct Told {
+    /// How many of the files that were found are no copies.
+    pub splices: usize,
+    pub is_used_up: bool,
+    pub lacks_single_file: bool,
+}
+
+/// The lines of what was found.
+fn found_lines(alloc: Global, parts: &[Part<'_>], told: Told) -> Result<Vec<u8>, AllocError>
+    requires { length (made 0 (parts_of parts.now)) < 2 ^ 64 }
+    ensures { IfOk result (λ lines. lines.items ≡ told_lines (parts_of parts.now) told.splices told.is_used_up told.lacks_single_file) }
+{
+    let differences = differences_of(alloc, parts)?;
+    let found = Found {
+        differences: &differences,
+        splices: told.splices,
+        is_used_up: told.is_used_up,
+        by_groups: None,
+        lacks_single_file: told.lacks_single_file,
+    };
+    let mut out = Vec::new(alloc);
+    put_found(&mut out, &found)?;
+    Ok(out)
+}
+
+/// The lines of the report of a partial picture.
+fn report_lines(alloc: Global, partial: &Partial) -> Result<Vec<u8>, AllocError>
+    ensures { IfOk result (λ lines. lines.items ≡ report_text (report_of partial.now)) }
+{
+    let report = Report::of(alloc, partial)?;
+    report.to_text(alloc)
+}
+
+/// All lines: those of what was found, and then the report. None, where the output is standard output.
+pub(crate) fn lines_of(
+    alloc: Global,
+    out: &str,
+    parts: &[Part<'_>],
+    told: Told,
+    partial: &Partial,
+) -> Result<Vec<u8>, AllocError>
+    requires { length (made 0 (parts_of parts.now)) < 2 ^ 64 }
+    ensures { IfOk result (λ lines. lines.items ≡ (if bytes_eq out.now (codes "-") then []
+        else told_lines (parts_of parts.now) told.splices told.is_used_up told.lacks_single_file ++ report_text (report_of partial.now))) }
+{
+    if out == "-" {
+        return Ok(Vec::new(alloc));
+    }
+    let mut lines = found_lines(alloc, parts, told)?;
+    let report = report_lines(alloc, partial)?;
+    lines.extend_from_slice(&report)?;
+    Ok(lines)
+}
+
+/// The line that tells how much was tried, if that is asked for.
+pub(crate) fn progress_of(
+    alloc: Global,
+    is_asked: bool,
+    tries: u32,
+    files: usize,
+) -> Result<Vec<u8>, AllocError>
+    ensures { IfOk result (λ line. line.items ≡ (if is_asked then progress_line tries files else [])) }
+{
+    let mut line = Vec::new(alloc);
+    if is_asked {
+        put_progress(&mut line, tries, files)?;
+    }
+    Ok(line)
+}

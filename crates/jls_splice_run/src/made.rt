@@ -1,0 +1,161 @@
+//! What is made of the copies, in memory.
+
+ghost use Rattle.std.specs.Prelude.{◌≡◌, ◌<◌, ◌^◌, length, IfOk, IfErr, IsTrue, option_map};
+ghost use Rattle.jls_copy_files.specs.CopyFiles.{copies_of};
+ghost use Rattle.jls_parts.specs.Parts.{made};
+ghost use Rattle.jls_parts.specs.PartsOf.{bytes_of, parts_of};
+ghost use Rattle.jls_splice.specs.Search.{IsShort, MakeFiles, lists_of};
+ghost use Rattle.jls_splicing.specs.Files as given;
+ghost use Rattle.jls_splice_run.specs.Making.{AreTextsOf, CantMake, HoldsMade, IsFound, files_taken, found_of, lacks_single, made_of};
+ghost use Rattle.jls_splice_run.specs.Single.{IsSingleAsked};
+ghost use Rattle.jls_splice_run.specs.Tasks.{task_of};
+
+use crate::copies::slices_of;
+use crate::files::count_new;
+use crate::lines::{Told, lines_of, progress_of};
+use crate::settling::settle;
+use crate::single::single_file;
+use crate::task::{Task, want_of_memory};
+use jls_copy_files::CopyFile;
+use jls_partial::Partial;
+use jls_splice::{SearchedCopies, are_short, parts_can_be_searched, search_copies};
+use jls_splice_answers::Refusal;
+use jls_splicing::Files;
+use std::alloc::{AllocError, Global};
+
+/// What a run hands out, and whether each line of its picture is settled.
+#[derive(Drop)]
+pub struct Made {
+    /// The line that tells how much was tried: empty where that is not asked for.
+    pub progress: Vec<u8>,
+    /// The lines that are printed.
+    pub lines: Vec<u8>,
+    /// The text of the partial picture.
+    pub text: Vec<u8>,
+    /// The single file without a fault, if one is asked for and there is one.
+    pub file: Option<Vec<u8>>,
+    pub settled: bool,
+}
+
+/// Searches the splices of the copies.
+fn search<'c>(
+    alloc: Global,
+    copies: &[&'c [u8]],
+    tries: u32,
+) -> Result<SearchedCopies<'c>, AllocError>
+    requires { 0 < length copies.now }
+    ensures found { IfOk result (λ found. IsFound (bytes_of copies.now) (found_of found)) }
+    ensures short { IfOk result (λ found. IsShort (parts_of found.parts.items)) }
+    ensures small { IfOk result (λ found. length (made 0 (parts_of found.parts.items)) < 2 ^ 64) }
+{
+    parts_can_be_searched();
+    if !are_short(copies) {
+        return Err(AllocError);
+    }
+    let found = search_copies(alloc, copies, tries)?;
+    Ok(found)
+}
+
+/// The single file, if a name is given for it.
+fn file_asked(
+    alloc: Global,
+    name: Option<&str>,
+    files: &Files<'_, '_>,
+) -> Result<Option<Vec<u8>>, AllocError>
+    requires { MakeFiles (parts_of files.now.parts.now) (lists_of files.now.splices.now) }
+    ensures { IfOk result (λ file. IsSingleAsked name.entry (given.files_taken files.now) (option_map (λ f. f.items) file)) }
+{
+    match name {
+        Some(_) => single_file(alloc, files),
+        None => Ok(None),
+    }
+}
+
+/// Whether a single file is asked for, and there is none.
+fn lacks_file(name: Option<&str>, file: &Option<Vec<u8>>) -> bool
+    ensures { result ≡ lacks_single name.entry file.now }
+{
+    match (name, file) {
+        (Some(_), None) => true,
+        _ => false,
+    }
+}
+
+/// What is handed out.
+fn texts_of(
+    alloc: Global,
+    task: &Task<'_, '_>,
+    copies: &[&[u8]],
+    found: &SearchedCopies<'_>,
+    partial: &Partial,
+) -> Result<Made, AllocError>
+    requires files { MakeFiles (parts_of found.now.parts.items) (lists_of found.now.searched.splices.items) }
+    requires small { length (made 0 (parts_of found.now.parts.items)) < 2 ^ 64 }
+    ensures texts { IfOk result (λ made. AreTextsOf (task_of task.now) (bytes_of copies.now) (made_of found.now partial.now made) made) }
+    ensures single { IfOk result (λ made. IsSingleAsked (task_of task.now).options.file
+        (files_taken (bytes_of copies.now) (found_of found.now)) (option_map (λ f. f.items) made.file)) }
+{
+    let searched = &found.searched;
+    let files = Files {
+        copies,
+        parts: &found.parts,
+        splices: &searched.splices,
+    };
+    let file = file_asked(alloc, task.options.file, &files)?;
+    let splices = count_new(alloc, copies, &found.parts, &searched.splices)?;
+    let told = Told {
+        splices,
+        is_used_up: searched.is_used_up,
+        lacks_single_file: lacks_file(task.options.file, &file),
+    };
+    let progress = progress_of(
+        alloc,
+        task.options.progress,
+        searched.tries,
+        searched.splices.len(),
+    )?;
+    let lines = lines_of(alloc, task.out, &found.parts, told, partial)?;
+    let text = partial.to_bytes(alloc)?;
+    let settled = partial.is_settled();
+    Ok(Made {
+        progress,
+        lines,
+        text,
+        file,
+        settled,
+    })
+}
+
+/// What is made of the copies of a task.
+pub(crate) fn make<'a>(
+    alloc: Global,
+    task: &Task<'_, 'a>,
+    copies: &[CopyFile],
+) -> Result<Made, Refusal<'a>>
+    requires some_copy { 0 < length copies.now }
+    requires names { length task.now.names.now ≡ length copies.now }
+    ensures made { IfOk result (λ made. HoldsMade (task_of task.now) (copies_of copies.now) made) }
+    ensures stopped { IfErr result (λ refusal. CantMake (task_of task.now) (copies_of copies.now) refusal) }
+{
+    let slices = match slices_of(alloc, copies) {
+        Ok(slices) => slices,
+        Err(_) => return Err(want_of_memory(task)),
+    };
+    let found = match search(alloc, &slices, task.options.tries) {
+        Ok(found) => found,
+        Err(_) => return Err(want_of_memory(task)),
+    };
+    let files = Files {
+        copies: &slices,
+        parts: &found.parts,
+        splices: &found.searched.splices,
+    };
+    let station = match settle(alloc, task, copies, &files) {
+        Ok(station) => station,
+        Err(refusal) => return Err(refusal),
+    };
+    match texts_of(alloc, task, &slices, &found, station.partial()) {
+        Ok(made) => Ok(made),
+        Err(_) => Err(want_of_memory(task)),
+    }
+}

@@ -1,0 +1,75 @@
+//! The program without its main.
+
+ghost use Rattle.std.specs.Prelude.{map};
+ghost use Rattle.std.specs.String.{string_bytes};
+ghost use Rattle.jls_splice_words.specs.Asking.{asked_of};
+ghost use Rattle.jls_splice_run.specs.Runs.{GrewAll, Performs, Ran};
+
+use crate::splicing::splice;
+use crate::task::{Task, names_of};
+use jls_device::{Desk, Sink};
+use jls_splice_answers::{answer, print_not_understood, print_out_of_memory, print_outcome};
+use jls_splice_words::{Asked, asked_splice, matches};
+use std::alloc::Global;
+
+/// Does what is asked for, and prints the line of what came of it.
+fn perform<D: Desk, W: Sink, E: Sink>(
+    alloc: Global,
+    asked: &Asked<'_, '_>,
+    desk: &mut D,
+    report: &mut W,
+    faults: &mut E,
+) -> u8
+    ensures { GrewAll (Performs (asked_of asked.now) result) (D.history desk.old) (D.history desk.new)
+        (W.history report.old) (W.history report.new) (E.history faults.old) (E.history faults.new) }
+{
+    let names = match names_of(alloc, asked) {
+        Ok(names) => names,
+        Err(_) => {
+            print_out_of_memory(faults);
+            return 5;
+        }
+    };
+    let task = Task {
+        options: asked.options,
+        out: asked.out,
+        names: &names,
+    };
+    let outcome = splice(alloc, desk, report, faults, &task);
+    print_outcome(faults, &outcome);
+    outcome.status()
+}
+
+/// The program `jls-splice`. The words begin with the program's own name, and the answer is the exit status:
+///
+/// - 0: done, and each line of OUT is settled; or help or the version was asked for;
+/// - 1: done, with lines that are missing or disputed;
+/// - 2: the words were not understood;
+/// - 3: a copy is a partial picture, no file taken has a picture, or files without a fault differ in shape;
+/// - 4: a copy can't be opened or read, an output can't be created, or a write failed; or the run is done, but a copy was not read
+///   to its end;
+/// - 5: out of memory.
+///
+/// The texts of help, usage and version are clap's. That there is one, and what it says, is tested and not proved.
+pub fn run<D: Desk, W: Sink, E: Sink>(
+    alloc: Global,
+    words: &[String],
+    desk: &mut D,
+    report: &mut W,
+    faults: &mut E,
+) -> u8
+    ensures { Ran (map string_bytes words.now) result (D.history desk.old) (D.history desk.new)
+        (W.history report.old) (W.history report.new) (E.history faults.old) (E.history faults.new) }
+{
+    let matches = match matches(alloc, words) {
+        Ok(matches) => matches,
+        Err(error) => return answer(alloc, &error, report, faults),
+    };
+    match asked_splice(&matches) {
+        Some(asked) => perform(alloc, &asked, desk, report, faults),
+        None => {
+            print_not_understood(faults);
+            2
+        }
+    }
+}

@@ -1,0 +1,88 @@
+//! The picture that comes of the files taken.
+
+ghost use Rattle.std.specs.Prelude.{◌≡◌, ◌<◌, length, IfOk, IfErr};
+ghost use Rattle.std.specs.List.{AllByRecursion};
+ghost use Rattle.jls_partial.specs.Partial.{nothing_known};
+ghost use Rattle.jls_copy_files.specs.CopyFiles.{copies_of};
+ghost use Rattle.jls_parts.specs.PartsOf.{bytes_of, parts_of};
+ghost use Rattle.jls_splice.specs.Choices.{IsWhole};
+ghost use Rattle.jls_splice.specs.Search.{IsShort, lists_of};
+ghost use Rattle.jls_splicing.specs.Files.{files_taken, splices_found};
+ghost use Rattle.jls_splicing.specs.Stations.{TakesFiles};
+ghost use Rattle.jls_splice_run.specs.Copies.{bytes_read};
+ghost use Rattle.jls_splice_run.specs.Making.{IsPictureOf, IsUnsettled, IsWantOfMemory};
+ghost use Rattle.jls_splice_run.specs.Making as spec;
+ghost use Rattle.jls_splice_run.specs.Tasks.{task_of};
+
+use crate::task::{Task, want_of_memory};
+use jls_copy_files::CopyFile;
+use jls_marker::MarkerFault;
+use jls_splice_answers::{Cause, Refusal};
+use jls_splicing::{Files, ShapeFound, find_shape, take_files};
+use jls_station::{ReadStop, Station};
+use jls_values::Shape;
+use std::alloc::Global;
+
+/// Why a run stops over whose files no frame was found, by how the reading of the first copy stopped.
+fn no_picture_cause(stop: ReadStop, fault: MarkerFault, offset: u64) -> Cause
+    ensures { result ≡ spec.no_picture_cause stop fault offset }
+{
+    match stop {
+        ReadStop::Whole => Cause::NoPicture(fault, offset),
+        ReadStop::Failed | ReadStop::Turns => Cause::NotRead,
+    }
+}
+
+/// The station that takes the files under a shape.
+fn take<'a>(
+    alloc: Global,
+    task: &Task<'_, 'a>,
+    shape: Shape,
+    files: &Files<'_, '_>,
+) -> Result<Station, Refusal<'a>>
+    requires whole { AllByRecursion (IsWhole (parts_of files.now.parts.now)) (lists_of files.now.splices.now) }
+    requires short { IsShort (parts_of files.now.parts.now) }
+    ensures shape { IfOk result (λ station. station.shape ≡ shape) }
+    ensures taken { IfOk result (λ station.
+        TakesFiles (task_of task.now).options.source (files_taken files.now) (nothing_known shape) station) }
+    ensures stopped { IfErr result (λ refusal. IsWantOfMemory (task_of task.now) refusal) }
+{
+    match take_files(alloc, shape, task.options.source, files) {
+        Ok(station) => Ok(station),
+        Err(_) => Err(want_of_memory(task)),
+    }
+}
+
+/// The station that takes the files of a task; or why there is none.
+pub(crate) fn settle<'a>(
+    alloc: Global,
+    task: &Task<'_, 'a>,
+    copies: &[CopyFile],
+    files: &Files<'_, '_>,
+) -> Result<Station, Refusal<'a>>
+    requires some_copy { 0 < length copies.now }
+    requires names { length task.now.names.now ≡ length copies.now }
+    requires copies { bytes_of files.now.copies.now ≡ bytes_read (copies_of copies.now) }
+    requires whole { AllByRecursion (IsWhole (parts_of files.now.parts.now)) (lists_of files.now.splices.now) }
+    requires short { IsShort (parts_of files.now.parts.now) }
+    ensures settled { IfOk result (λ station.
+        IsPictureOf (task_of task.now).options.source (bytes_read (copies_of copies.now)) (splices_found files.now) station) }
+    ensures stopped { IfErr result (λ refusal.
+        IsUnsettled (task_of task.now) (copies_of copies.now) (splices_found files.now) refusal) }
+{
+    let found = match find_shape(alloc, files) {
+        Ok(found) => found,
+        Err(_) => return Err(want_of_memory(task)),
+    };
+    match found {
+        ShapeFound::Taken(shape) => take(alloc, task, shape, files),
+        ShapeFound::Differ(copy) => Err(Refusal {
+            name: task.names[copy],
+            cause: Cause::ShapeDiffers,
+        }),
+        ShapeFound::NoFrame(fault, offset) => Err(Refusal {
+            name: task.names[0],
+            cause: no_picture_cause(copies[0].stop, fault, offset),
+        }),
+    }
+}

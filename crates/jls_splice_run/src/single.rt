@@ -1,0 +1,117 @@
+//! The single file without a fault.
+
+ghost use Rattle.std.specs.Prelude.{◌↔◌, ◌++◌, ◌∷◌, [], ℕ, List, IfOk, IsTrue, option_map};
+ghost use Rattle.jls_parts.specs.PartsOf.{bytes_of, parts_of};
+ghost use Rattle.jls_splice.specs.Faultless.{IsFaultless};
+ghost use Rattle.jls_splice.specs.Search.{MakeFiles, files_of, lists_of};
+ghost use Rattle.jls_splicing.specs.Files.{files_taken};
+ghost use Rattle.jls_splice_run.specs.Single.{AreSeenSo, IsSingle};
+
+use crate::files::file_of;
+use jls_copy::CopyReader;
+use jls_parts::Part;
+use jls_splice::is_faultless;
+use jls_splicing::Files;
+use std::alloc::{AllocError, Global};
+
+/// The files without a fault among some files.
+#[derive(Drop)]
+pub(crate) enum Faultless {
+    /// There is none.
+    Nothing,
+    /// All of them have these bytes.
+    One(Vec<u8>),
+    /// Two of them differ.
+    Several,
+}
+
+/// One file more, which has no fault.
+fn one_more(faultless: Faultless, file: Vec<u8>) -> Faultless
+    ensures { (files : List (List ℕ)) → AreSeenSo files faultless → IsFaultless file.items → AreSeenSo (files ++ file.items ∷ []) result }
+{
+    match faultless {
+        Faultless::Nothing => Faultless::One(file),
+        Faultless::One(other) => {
+            if *other == *file {
+                Faultless::One(other)
+            } else {
+                Faultless::Several
+            }
+        }
+        Faultless::Several => Faultless::Several,
+    }
+}
+
+/// Whether a copy has no fault.
+fn is_copy_faultless(alloc: Global, copy: &[u8]) -> Result<bool, AllocError>
+    ensures { IfOk result (λ faultless. IsTrue faultless ↔ IsFaultless copy.now) }
+{
+    let mut reader = CopyReader::new(alloc);
+    reader.feed(copy)?;
+    is_faultless(reader)
+}
+
+/// One copy more.
+fn with_copy(alloc: Global, faultless: Faultless, copy: &[u8]) -> Result<Faultless, AllocError>
+    ensures { IfOk result (λ more. (files : List (List ℕ)) → AreSeenSo files faultless → AreSeenSo (files ++ copy.now ∷ []) more) }
+{
+    let has_none = is_copy_faultless(alloc, copy)?;
+    if has_none {
+        let bytes = Vec::from_slice(alloc, copy)?;
+        return Ok(one_more(faultless, bytes));
+    }
+    Ok(faultless)
+}
+
+/// The copies without a fault.
+fn among_copies(alloc: Global, copies: &[&[u8]]) -> Result<Faultless, AllocError>
+    ensures { IfOk result (λ faultless. AreSeenSo (bytes_of copies.now) faultless) }
+{
+    let mut faultless = Faultless::Nothing;
+    for copy in copies {
+        faultless = with_copy(alloc, faultless, copy)?;
+    }
+    Ok(faultless)
+}
+
+/// They, and the splices, none of which has a fault.
+fn with_splices(
+    alloc: Global,
+    copies: Faultless,
+    parts: &[Part<'_>],
+    splices: &[Vec<usize>],
+) -> Result<Faultless, AllocError>
+    requires { MakeFiles (parts_of parts.now) (lists_of splices.now) }
+    ensures { IfOk result (λ faultless. (files : List (List ℕ)) → AreSeenSo files copies
+        → AreSeenSo (files ++ files_of (parts_of parts.now) (lists_of splices.now)) faultless) }
+{
+    let mut faultless = copies;
+    for choices in splices {
+        faultless = one_more(faultless, file_of(alloc, parts, choices)?);
+    }
+    Ok(faultless)
+}
+
+/// Its bytes, where there is one.
+fn single_of(faultless: Faultless) -> Option<Vec<u8>>
+    ensures { (files : List (List ℕ)) → AreSeenSo files faultless → IsSingle files (option_map (λ file. file.items) result) }
+{
+    match faultless {
+        Faultless::Nothing => None,
+        Faultless::One(file) => Some(file),
+        Faultless::Several => None,
+    }
+}
+
+/// The bytes of the file without a fault, where exactly one of the files taken has none. Files of the same bytes are one.
+pub(crate) fn single_file(
+    alloc: Global,
+    files: &Files<'_, '_>,
+) -> Result<Option<Vec<u8>>, AllocError>
+    requires { MakeFiles (parts_of files.now.parts.now) (lists_of files.now.splices.now) }
+    ensures { IfOk result (λ single. IsSingle (files_taken files.now) (option_map (λ file. file.items) single)) }
+{
+    let copies = among_copies(alloc, files.copies)?;
+    let faultless = with_splices(alloc, copies, files.parts, files.splices)?;
+    Ok(single_of(faultless))
+}

@@ -1,0 +1,84 @@
+//! A run whose words ask for something.
+
+ghost use Rattle.std.specs.Prelude.{◌≡◌, ◌<◌, length, IfErr, OnOk, option_map};
+ghost use Rattle.jls_splice_run.specs.Handing.{HandsAll, StopsInHanding};
+ghost use Rattle.jls_splice_run.specs.Runs.{GrewAll, Splices, texts_held};
+ghost use Rattle.jls_splice_run.specs.Tasks.{task_of};
+
+use crate::copies::{are_whole, read_all};
+use crate::handing::{print_lines, tell, write_file, write_output};
+use crate::made::{Made, make};
+use crate::task::Task;
+use jls_device::{Desk, Sink};
+use jls_splice_answers::{Outcome, Refusal};
+use std::alloc::Global;
+
+/// The bytes of a file, if there is one.
+fn bytes_in(file: &Option<Vec<u8>>) -> Option<&[u8]>
+    ensures { option_map (λ s. s.now) result ≡ option_map (λ f. f.items) file.now }
+{
+    match file {
+        Some(file) => Some(file.as_slice()),
+        None => None,
+    }
+}
+
+/// Hands out what was made.
+fn hand_out<'a, D: Desk, W: Sink, E: Sink>(
+    desk: &mut D,
+    report: &mut W,
+    faults: &mut E,
+    task: &Task<'_, 'a>,
+    made: &Made,
+) -> Result<(), Refusal<'a>>
+    ensures done { OnOk result (GrewAll (HandsAll (texts_held (task_of task.now) made.now)) (D.history desk.old) (D.history desk.new)
+        (W.history report.old) (W.history report.new) (E.history faults.old) (E.history faults.new)) }
+    ensures stopped { IfErr result (λ refusal. GrewAll (StopsInHanding (texts_held (task_of task.now) made.now) refusal)
+        (D.history desk.old) (D.history desk.new) (W.history report.old) (W.history report.new)
+        (E.history faults.old) (E.history faults.new)) }
+{
+    tell(faults, &made.progress);
+    match print_lines(report, &made.lines) {
+        Ok(()) => {}
+        Err(refusal) => return Err(refusal),
+    }
+    match write_output(desk, task.out, &made.text) {
+        Ok(()) => {}
+        Err(refusal) => return Err(refusal),
+    }
+    match write_file(desk, task.options.file, bytes_in(&made.file)) {
+        Ok(()) => Ok(()),
+        Err(refusal) => Err(refusal),
+    }
+}
+
+/// Reads the copies, searches their splices, takes all that reads, and hands out what comes of it: first the lines, to the report output;
+/// then the text of the union of what the files taken give; and then the single file, if one is asked for. Both texts are made before
+/// anything is handed out. The line of the progress goes to the fault output, once, when all is taken.
+pub fn splice<'a, D: Desk, W: Sink, E: Sink>(
+    alloc: Global,
+    desk: &mut D,
+    report: &mut W,
+    faults: &mut E,
+    task: &Task<'_, 'a>,
+) -> Outcome<'a>
+    requires { 0 < length task.now.names.now }
+    ensures { GrewAll (Splices (task_of task.now) result) (D.history desk.old) (D.history desk.new)
+        (W.history report.old) (W.history report.new) (E.history faults.old) (E.history faults.new) }
+{
+    let copies = match read_all(alloc, desk, task.names) {
+        Ok(copies) => copies,
+        Err(refusal) => return Outcome::Refused(refusal),
+    };
+    let made = match make(alloc, task, &copies) {
+        Ok(made) => made,
+        Err(refusal) => return Outcome::Refused(refusal),
+    };
+    match hand_out(desk, report, faults, task, &made) {
+        Ok(()) => Outcome::Done {
+            settled: made.settled,
+            whole: are_whole(&copies),
+        },
+        Err(refusal) => Outcome::Refused(refusal),
+    }
+}

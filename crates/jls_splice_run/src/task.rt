@@ -1,0 +1,43 @@
+//! What a run is to do.
+
+ghost use Rattle.std.specs.Prelude.{◌≡◌, ◌<◌, length, IfOk, map};
+ghost use Rattle.jls_splice_answers.specs.declared.outcome.Cause.TheVariants.{OutOfMemory};
+ghost use Rattle.jls_splice_words.specs.Asking.{asked_of};
+ghost use Rattle.jls_splice_run.specs.Tasks.{texts_of};
+
+use jls_splice_answers::{Cause, Refusal};
+use jls_splice_words::{Asked, Options};
+use std::alloc::{AllocError, Global};
+
+/// What a run is to do: its options, the output, and the copies in their order.
+#[derive(Clone, Copy)]
+pub struct Task<'m, 'a> {
+    pub options: Options<'a>,
+    pub out: &'a str,
+    pub names: &'m [&'a str],
+}
+
+/// The names of the copies, in their order.
+pub(crate) fn names_of<'a>(alloc: Global, asked: &Asked<'_, 'a>) -> Result<Vec<&'a str>, AllocError>
+    ensures { IfOk result (λ names. texts_of names.items ≡ (asked_of asked.now).copies) }
+{
+    let others = asked.others;
+    let mut names = Vec::new(alloc);
+    names.push(asked.first)?;
+    names.push(asked.second)?;
+    for name in others {
+        names.push(name)?;
+    }
+    Ok(names)
+}
+
+/// Why a run stops for which memory ran out.
+pub(crate) fn want_of_memory<'a>(task: &Task<'_, 'a>) -> Refusal<'a>
+    ensures name { result.name.now ≡ task.now.out.now }
+    ensures cause { result.cause ≡ OutOfMemory }
+{
+    Refusal {
+        name: task.out,
+        cause: Cause::OutOfMemory,
+    }
+}
