@@ -66,6 +66,14 @@ fn front(rt: &HostRuntime, name: &str) -> io::Result<[u8; 2]> {
     Ok([first[0], second[0]])
 }
 
+/// Ends an output, if it is a file. `Err` has its name, where it could not be kept.
+fn end_of(rt: &HostRuntime, output: Option<Opened>, ending: Ending) -> Result<(), Name> {
+    match output {
+        Some(Opened::File(output)) => output.end(&mut Calls(rt), ending),
+        _ => Ok(()),
+    }
+}
+
 /// The folder that a name stands in.
 fn folder(name: &str) -> &str {
     match Path::new(name).parent() {
@@ -152,25 +160,10 @@ impl<'a> HostFiles<'a> {
         }
     }
 
-    /// Ends the output that was created last.
-    fn end_last(&mut self, ending: Ending) -> Result<(), Name> {
-        match self.output.take() {
-            Some(Opened::File(output)) => output.end(&mut Calls(self.rt), ending),
-            _ => Ok(()),
-        }
-    }
-
-    /// Keeps the output before the one that is created now.
-    fn keep_last(&mut self) {
-        if let Err(name) = self.end_last(Ending::Keep) {
-            self.unkept = Some(name);
-        }
-    }
-
     /// Ends the output that was created last, when the run has ended. `Err` has the name of an output that could not be kept: of the one
     /// before it, if there is such a one.
     pub fn end(&mut self, ending: Ending) -> Result<(), Name> {
-        let ended = self.end_last(ending);
+        let ended = end_of(self.rt, self.output.take(), ending);
         match self.unkept.take() {
             Some(name) => Err(name),
             None => ended,
@@ -213,7 +206,10 @@ impl Open for &mut HostFiles<'_> {
     }
 
     fn create_output(&mut self, name: &str) -> io::Result<()> {
-        self.keep_last();
+        let last = self.output.take();
+        if let Err(name) = end_of(self.rt, last, Ending::Keep) {
+            self.unkept = Some(name);
+        }
         if name == "-" {
             self.output = Some(Opened::Standard(self.rt.stdout()));
             return Ok(());
