@@ -10,7 +10,7 @@ mod CopyGives
 mod SameCopies
 mod Unions
 mod Stations
-mod SourcedStations
+pub mod SourcedStations
 mod Pictures
 mod WrittenFiles
 mod StationPictures
@@ -20,7 +20,7 @@ mod InputMarks
 mod JoinThenWrite
 mod SettledInputs
 mod WrittenInputs
-mod StationCalls
+pub mod StationCalls
 pub mod TwoLineExamples
 mod FileExamples
 mod PremiseExamples

@@ -1,0 +1,2 @@
+pub mod HeldFiles
+pub mod SplicedCopies
