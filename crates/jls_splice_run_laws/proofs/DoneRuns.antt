@@ -1,0 +1,81 @@
+-- Runs that end with status 0.
+use Rattle.std.proofs.Common.{◌≡◌, ℕ, ◌<◌, Bool, true, false, List, [], ◌∷◌, ◌++◌, length, refl, subst, arith}
+use Rattle.std.specs.Prelude.{IsTrue}
+use Rattle.jls_device.specs.Event.{Event}
+use Rattle.jls_copy_files.specs.CopyFiles.{CopyBytes, AreCopiesRead}
+use Rattle.jls_splice.specs.Search.{CameTo}
+use Rattle.jls_splice_words.specs.Asking.{Asked}
+use Rattle.jls_splice_answers.specs.Outcomes.{exit_status, exit_status_of_cause}
+use Rattle.jls_splice_answers.specs.declared.outcome.Cause.{Cause}
+use Rattle.jls_splice_answers.specs.declared.outcome.Cause.TheVariants as cause
+use Rattle.jls_splice_answers.specs.declared.outcome.Outcome.TheVariants.{Done, Refused}
+use Rattle.jls_splice_run.specs.Copies.{bytes_read}
+use Rattle.jls_splice_run.specs.Runs.{Performs, came_of, no_names, Splices, at_copies, not_made, not_handed, done}
+use Rattle.jls_splicing_laws.specs.SplicingLaws.{SplicedCopiesGiveNoOther}
+use Rattle.jls_splice_run_laws.specs.RunLaws.{DidSplice, SplicedRunsGiveNoOther}
+
+-- a cause has another status
+not_zero : (c : Cause) → exit_status_of_cause c ≡ 0 → ⊥
+not_zero cause.NotOpened e = omega (arith, e)
+not_zero cause.PartialPicture e = omega (arith, e)
+not_zero (cause.NoPicture f offset) e = omega (arith, e)
+not_zero cause.NotRead e = omega (arith, e)
+not_zero cause.ShapeDiffers e = omega (arith, e)
+not_zero cause.NotCreated e = omega (arith, e)
+not_zero (cause.NotWritten count) e = omega (arith, e)
+not_zero cause.OutOfMemory e = omega (arith, e)
+
+-- a run that is done ends with it only so
+is_settled : (settled whole : Bool) → exit_status (Done settled whole) ≡ 0 → IsTrue settled
+is_settled true true e = refl
+is_settled true false e = absurd (omega (arith, e))
+is_settled false true e = absurd (omega (arith, e))
+is_settled false false e = absurd (omega (arith, e))
+
+is_whole : (settled whole : Bool) → exit_status (Done settled whole) ≡ 0 → IsTrue whole
+is_whole true true e = refl
+is_whole true false e = absurd (omega (arith, e))
+is_whole false true e = absurd (omega (arith, e))
+is_whole false false e = absurd (omega (arith, e))
+
+did : (a : Asked) (status : ℕ) (desk report faults : List Event) → Performs a status desk report faults → status ≡ 0 → DidSplice a desk report
+did a _ _ _ _ (came_of _ _ _ _ line (at_copies r desk stops) told) e = absurd (not_zero r.cause e)
+did a _ _ _ _ (came_of _ _ _ _ line (not_made r copies desk read cant) told) e = absurd (not_zero r.cause e)
+did a _ _ _ _ (came_of _ _ _ _ line (not_handed r copies m reading desk report faults read made stops) told) e = absurd (not_zero r.cause e)
+did a _ _ _ _ (came_of _ _ _ _ line (done copies m settled whole reading desk report faults read made handed is_set is_read) told) e = record {
+  copies = copies;
+  made = m;
+  reading = reading;
+  writing = desk;
+  told = faults;
+  desk_is = refl;
+  read = read;
+  whole = is_read.0 (is_whole settled whole e);
+  is_made = made;
+  settled = is_set.0 (is_settled settled whole e);
+  handed = handed;
+}
+did a _ _ _ _ (no_names faults told) e = absurd (omega (arith, e))
+
+-- as many copies were read as there are names
+some_copy : (names : List (List ℕ)) (copies : List CopyBytes) (events : List Event) → AreCopiesRead names copies events → 0 < length names
+    → 0 < length (bytes_read copies)
+some_copy [] [] events read some = some
+some_copy [] (copy ∷ copies) events read some = absurd read
+some_copy (name ∷ names) [] events read some = absurd read
+some_copy (name ∷ names) (copy ∷ copies) events read some = omega arith
+
+pub spliced_runs_give_no_other : SplicedCopiesGiveNoOther → SplicedRunsGiveNoOther
+spliced_runs_give_no_other never a desk report faults some performs =
+    let d : DidSplice a desk report = did a 0 desk report faults performs refl in (
+      d,
+      λ enough pic is file whole splice. never (bytes_read d.copies) d.made.found.parts a.options.source d.made.picture (record {
+        some_copy = some_copy a.copies d.copies d.reading d.read some;
+        are_parts = d.is_made.is_found.are_parts;
+        found = d.made.found.choices;
+        searched = subst (CameTo d.made.found.parts d.made.found.choices) enough d.is_made.is_found.came_to;
+        shape = d.made.picture.shape;
+        shape_is = d.is_made.is_picture.shape_is;
+        takes = d.is_made.is_picture.union_is;
+      }) pic is file whole splice d.settled,
+    )

@@ -1,0 +1,14 @@
+//! The law of what a run with status 0 has written. It is a function that does nothing and whose contract is the law.
+
+ghost use Rattle.jls_splice_run_laws.specs.RunLaws.{SplicedRunsGiveNoOther};
+
+use jls_splicing_laws::spliced_copies_give_no_other;
+
+/// A law: what was asked of `jls-splice` ended with status 0, so OUT was handed the text of a picture. Let the tries of the search not be
+/// used up, and let some copy have, at each part in which the copies are found to differ, what an undamaged file has there. Then the
+/// picture is that file's and no other.
+pub fn spliced_runs_give_no_other()
+    ensures { SplicedRunsGiveNoOther }
+{
+    spliced_copies_give_no_other();
+}
