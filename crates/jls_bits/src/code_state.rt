@@ -56,8 +56,8 @@ impl CodeState {
         }
     }
 
-    /// The state of a short code that all bits of a chunk begin: fewer zeros than an escape's, or the one behind them and too few bits
-    /// of the remainder. None where no such state has these bits.
+    /// The state of a short code that all bits of a chunk begin. They are fewer zeros than an escape's, or the one behind them and too few
+    /// bits of the remainder. None where no such state has these bits.
     #[inline(always)]
     pub fn of_short(k: u8, g: u8, qbpp: u8, chunk: &Chunk) -> Option<CodeState>
         requires k { k ≤ 16 }

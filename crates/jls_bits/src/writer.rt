@@ -8,8 +8,8 @@ use crate::packing::Packing;
 use std::alloc::{AllocError, Global};
 use std::marker::Model;
 
-/// Collects the bits of an interval, the most significant bit of each byte first, with a bit 0 stuffed after each byte
-/// 0xFF (ITU-T T.87, A.1). A contract sees the list of the bits so far.
+/// Collects the bits of an interval, the most significant bit of each byte first. A bit 0 is stuffed after each byte 0xFF (ITU-T T.87,
+/// A.1). A contract sees the list of the bits so far.
 #[derive(Drop)]
 pub struct BitWriter {
     packing: Packing,
@@ -91,9 +91,8 @@ impl BitWriter {
         Ok(())
     }
 
-    /// The bytes whose data bits are the bits and then zeros alone: as few as there can be without 0xFF at the end, and
-    /// so exactly one list. That zeros fill up, and that 0xFF is never last, is this profile's choice. Out of memory gives
-    /// the bits up.
+    /// The bytes whose data bits are the bits and then zeros alone. They are as few as there can be without 0xFF at the end, and so
+    /// exactly one list. That zeros fill up, and that 0xFF is never last, is this profile's choice. Out of memory gives the bits up.
     pub fn finish(self) -> Result<Vec<u8>, AllocError>
         ensures { IfOk result (λ v. IsPad self v.items) }
     {

@@ -10,10 +10,10 @@ use crate::output::write_output;
 use jls_device::Desk;
 use std::alloc::Global;
 
-/// The command `join`: takes these inputs, in turn, and then creates the output and writes the text of their union to it. An input
-/// is a text or a copy; the readings of each copy are taken under the number of a source, if the inputs have one. A copy that can't
-/// be read to its end is taken as far as it was read, if a frame was, and then the outcome says that not every input was read whole.
-/// The texts of the inputs and of the union have one room, in turn.
+/// The command `join`: takes these inputs, in turn, and then creates the output and writes the text of their union to it. An input is a
+/// text or a copy. If the inputs have a source, the readings of each copy are kept under its number. If reading a copy breaks off after
+/// its frame, the bytes read so far are used. The outcome then says that not every input was read whole. The texts of the inputs and of
+/// the union have one room, in turn.
 pub fn join<'a, D: Desk>(
     alloc: Global,
     desk: &mut D,

@@ -6,8 +6,9 @@ use jls_copy::bytes_decide;
 use jls_partial::{Partial, parts_give_the_picture, texts_are_apart};
 use jls_values::same_members_same_join;
 
-/// If two runs of `join` are done and their inputs, texts and damaged copies, gave the same bytes, both join them to the same picture
-/// and hand the same bytes to their outputs. Order, repeats and file names make no difference, nor does how the reading of a copy stopped.
+/// The inputs are texts and damaged copies. If two runs of `join` are done and their inputs gave the same bytes, both join them to the
+/// same picture. They hand the same bytes to their outputs. Order, repeats and file names make no difference, nor does how the reading of
+/// a copy stopped.
 pub fn same_inputs_same_output(one: &Partial)
     ensures { SameInputsSameOutput }
 {
@@ -16,8 +17,8 @@ pub fn same_inputs_same_output(one: &Partial)
     same_members_same_join(one);
 }
 
-/// If a run of `join` is done, its inputs, texts and damaged copies, give parts of one picture, and each line of the picture survives in
-/// one of them, then it hands out the text of that picture and nothing else.
+/// The inputs are texts and damaged copies that give parts of one picture, and each line of the picture survives in one of them. If such a
+/// run of `join` is done, it hands out the text of that picture and nothing else.
 pub fn surviving_lines_give_the_picture()
     ensures { SurvivingLinesGiveThePicture }
 {

@@ -36,8 +36,8 @@ pub struct Refusal<'a> {
 /// What came of a command.
 #[derive(Clone, Copy, Debug, PartialEq, Eq)]
 pub enum Outcome<'a> {
-    /// It is done. `settled` is true if and only if every line of what it made is settled, and `whole` if and only if
-    /// every input was read whole (`ReadStop::Whole`).
+    /// It is done. `settled` is true if and only if every line of what it made is settled. `whole` is true if and only if every input was
+    /// read whole (`ReadStop::Whole`).
     Done { settled: bool, whole: bool },
     /// It stopped before it was done.
     Refused(Refusal<'a>),
@@ -46,8 +46,8 @@ pub enum Outcome<'a> {
 impl Cause {
     ghost use Rattle.jls_commands.specs.Outcomes.{exit_status_of_cause};
 
-    /// The exit status: 1 if a line isn't settled, 2 if an interval is too large, 3 if an input is refused for what it says or shapes
-    /// differ, 4 if a device failed or the reads of an input were used up, 5 if memory ran out.
+    /// The exit status. It is 1 if a line isn't settled, and 2 if an interval is too large. It is 3 if an input is refused for what it
+    /// says, or if shapes differ. It is 4 if a device failed or the reads of an input were used up, and 5 if memory ran out.
     pub fn status(self) -> u8
         ensures { result ≡ exit_status_of_cause self }
     {
@@ -66,8 +66,8 @@ impl Cause {
 impl Outcome<'_> {
     ghost use Rattle.jls_commands.specs.Outcomes.{exit_status};
 
-    /// The exit status: for a command that is done 4 if an input was not read whole, else 0 if every line is settled
-    /// and 1 if not; for a refusal that of its cause.
+    /// The exit status. For a command that is done it is 4 if an input was not read whole. Else it is 0 if every line is settled, and 1 if
+    /// not. For a refusal it is the status of its cause.
     pub fn status(self) -> u8
         ensures { result ≡ exit_status self.entry }
     {

@@ -84,8 +84,8 @@ impl Cells {
         quantized_gradient(&self.params, to, from)
     }
 
-    /// The mode of a sample with these quantized gradients, as `gradient` gives them of Rd and Rb, Rb and Rc, and Rc and Ra
-    /// (A.3.2 to A.3.4).
+    /// The mode of a sample with these quantized gradients (A.3.2 to A.3.4). `gradient` gives them, of Rd and Rb, of Rb and Rc, and of Rc
+    /// and Ra.
     #[inline(always)]
     pub fn mode_of(&self, first: i32, second: i32, third: i32) -> Mode
         requires first { IsStep first }

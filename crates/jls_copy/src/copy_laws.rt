@@ -9,8 +9,8 @@ pub fn bytes_decide()
     ensures { BytesDecide }
 {}
 
-/// A law: where the course of a copy ends at EOI, or at a fault other than that of an input that ends too early, bytes behind the copy
-/// leave its course as it is.
+/// A law: bytes behind a copy leave its course as it is, if the course ends at EOI or at a fault. The fault `Ended`, of an input that ends
+/// too early, is excepted.
 pub fn final_ends_stay()
     ensures { FinalEndsStay }
 {}
@@ -20,8 +20,8 @@ pub fn other_ends_change()
     ensures { OtherEndsChange }
 {}
 
-/// A law: each piece of a copy's course reads as the lines of its interval, or it has a record, with its scan, its number, its offset and
-/// why it doesn't; and no other record is counted. The first 4,096 of these records are those that are told.
+/// A law: each piece of a copy's course reads as the lines of its interval, or it has a record. A record has the scan, the number and the
+/// offset of the piece, and why it doesn't read. No other record is counted. The first 4,096 of these records are those that are told.
 pub fn records_are_of_faulty_pieces()
     ensures { RecordsAreOfFaultyPieces }
 {}

@@ -18,9 +18,9 @@ pub fn pieces_stand_at_their_offsets()
     ensures { PiecesStandAtTheirOffsets }
 {}
 
-/// A law: where a copy ends at EOI, its offset is that of the byte 0xFF before the code; where it ends with the input, the input's length.
-/// At a fault it is that of the last byte 0xFF before the marker's code; or of the byte that stands where a marker must; or it is the
-/// input's length, where the input ends too early.
+/// A law: where a copy ends at EOI, its end's offset is that of the byte 0xFF before the code. Where it ends with the input, it is the
+/// input's length. At a fault it is that of the last byte 0xFF before the marker's code, or of the byte that stands where a marker must.
+/// Where the input ends too early, it is the input's length.
 pub fn ends_stand_at_their_offsets()
     ensures { EndsStandAtTheirOffsets }
 {}

@@ -2,32 +2,30 @@
 
 ghost use Rattle.jls_copy.specs.CutLaws.{OneCut, UnitsAreCut, NumbersAreLeast, LostMarksAreBridged, MarksBeyondChangeNothing};
 
-/// A law: every list of bytes that begins where scan data does is cut into pieces and marks in exactly one way (T.81 B.1.1.2
-/// and B.2.1).
+/// A law: every list of bytes that begins where scan data does is cut into pieces and marks in exactly one way (T.81 B.1.1.2, B.2.1).
 pub fn scan_data_has_one_cut()
     ensures { OneCut }
 {}
 
-/// A law: the pieces and marks that a unit of a course holds are those of this cut of its scan data, with what follows the unit. So the
-/// pieces of a course, of which `CopyReads` speaks, are the pieces that scan data is cut into.
+/// A law: the pieces and marks of a unit of a course are those of this cut of its scan data and what follows it. So the pieces of a
+/// course, of which `CopyReads` speaks, are the pieces that scan data is cut into.
 pub fn units_are_cut()
     ensures { UnitsAreCut }
 {}
 
-/// A law: the number that a restart marker gives to the piece behind it is the least one above the number given last whose
-/// marker it can be.
+/// A law: a restart marker gives a number to the piece behind it. It is the least one above the number given last whose marker it can be.
 pub fn numbers_are_least()
     ensures { NumbersAreLeast }
 {}
 
-/// A law of lists of marks: where fewer than eight restart markers in a row are lost, and every marker that is seen is a true
-/// one, those that are left give the pieces behind them the numbers that these have in the undamaged picture. That the pieces
-/// of a copy get these numbers is a law of the crate `jls_headline`.
+/// A law of lists of marks. Fewer than eight restart markers in a row are lost, and every marker that is seen is a true one. Then those
+/// that are left give the pieces behind them the numbers that these have in the undamaged picture. That the pieces of a copy get these
+/// numbers is a law of the crate `jls_headline`.
 pub fn lost_marks_are_bridged()
     ensures { LostMarksAreBridged }
 {}
 
-/// A law of lists of marks: a mark whose number is beyond the last interval gives that number to the piece behind it, and leaves the
+/// A law of lists of marks: a mark whose number is beyond the last interval gives that number to the piece behind it. It leaves the
 /// numbers of all later pieces as they were without it.
 pub fn marks_beyond_change_nothing()
     ensures { MarksBeyondChangeNothing }

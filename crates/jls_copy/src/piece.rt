@@ -15,8 +15,8 @@ use std::alloc::{AllocError, Global};
 /// Why a piece of scan data doesn't read as the lines of its interval.
 #[derive(Clone, Copy, Debug, PartialEq, Eq)]
 pub enum PieceKind {
-    /// It reads as no lines and is not too long: its data bits begin with the code of no lines, or a byte of 0x80 or more follows
-    /// 0xFF in it.
+    /// It reads as no lines and is not too long. Its data bits begin with the code of no lines, or a byte of 0x80 or more follows 0xFF in
+    /// it.
     Broken,
     /// More than seven bits follow the code of lines.
     Long,
@@ -30,8 +30,8 @@ pub enum PieceKind {
 pub struct PieceRecord {
     /// The scan of the copy, counted from 0.
     pub scan: u8,
-    /// Its number among the restart intervals of the scan, from 0. For `Beyond` it is the number that the restart marker before the
-    /// piece stands for, at or above the number of intervals, which was not given.
+    /// Its number among the restart intervals of the scan, from 0. For `Beyond` it is the number that the restart marker before the piece
+    /// stands for. It is at or above the number of intervals, and was not given.
     pub interval: u32,
     /// The offset of its first byte.
     pub offset: u64,

@@ -213,8 +213,8 @@ impl CopyReader {
         is_final(&self.machine.place)
     }
 
-    /// Whether the piece in hand is known to be broken, whatever follows: then each list of bytes that begins with those fed so far has a
-    /// faulty piece there (`fronts_stay_broken`). `false` says nothing. No memory is taken.
+    /// Whether the piece in hand is known to be broken, whatever follows. If so, each list of bytes that begins with those fed so far has
+    /// a faulty piece there (`fronts_stay_broken`). `false` says nothing. No memory is taken.
     pub fn is_piece_broken(&self) -> bool
         ensures { result ≡ true → IfSome self.now (λ bytes. IsPieceBroken bytes) }
     {
@@ -224,9 +224,9 @@ impl CopyReader {
         self.machine.place.reads_no_more()
     }
 
-    /// What the copy gave, if the input ends here. `NoPicture` comes if no frame was taken: with the fault that ended the copy and
-    /// its offset, or with `Ended` and the input's length if the input ended where a marker may begin. `OutOfMemory` comes if a `feed`
-    /// was refused, or if memory runs out for the last piece.
+    /// What the copy gave, if the input ends here. `NoPicture` comes if no frame was taken. It has the fault that ended the copy, and its
+    /// offset. If the input ended where a marker may begin, it has `Ended` and the input's length. `OutOfMemory` comes if a `feed` was
+    /// refused, or if memory runs out for the last piece.
     pub fn finish(self) -> Result<CopyRead, CopyFault>
         ensures read { IfOk result (λ read. IfSome self (λ bytes. CopyReads bytes read)) }
         ensures none { IfErr result (λ fault. IfSome self (λ bytes. CopyGivesNone bytes fault)) }

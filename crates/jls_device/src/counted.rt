@@ -42,8 +42,8 @@ pub trait Open: Read + Write {
 /// buffered, so what a write took has gone to the writer. A read while no input is open gives 0 bytes, and a write while no
 /// output is open fails; the stream behind is not asked.
 ///
-/// Contracts speak of what is noted. Where the bytes behind the device are known, as those of a list in memory, what is noted is
-/// what they lose or gain (`reads_give_the_content`, `writes_are_held`), and names are handed on, each once (`Open`). That each read
+/// Contracts speak of what is noted. If the bytes behind the device are known, as those of a list in memory, what is noted is what they
+/// lose or gain. The laws `reads_give_the_content` and `writes_are_held` say so. Names are handed on, each once (`Open`). That each read
 /// and each write asks the stream behind it only once no contract says: it is read here.
 #[derive(Drop)]
 pub struct Counted<T> {

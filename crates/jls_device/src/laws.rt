@@ -21,8 +21,8 @@ pub fn sink_over_list(list: Vec<u8>) -> Counted<Vec<u8>>
     Counted::new(list)
 }
 
-/// Where the bytes behind a source are known, all reads together give exactly these bytes, in their order: each read keeps that,
-/// and where a read meets the end they were all given. The history has this one read more, as one that gave bytes or as one that failed.
+/// If the bytes behind a source are known, all reads together give exactly these bytes, in their order. Each read keeps that, and where a
+/// read meets the end they were all given. The history has this one read more, as one that gave bytes or as one that failed.
 pub fn reads_give_the_content<S: Source>(
     source: &mut S,
     into: &mut [u8],
@@ -37,9 +37,8 @@ pub fn reads_give_the_content<S: Source>(
     source.read_some(into)
 }
 
-/// Where the bytes that a sink holds are known, it holds exactly what it held before and what all writes took, in their order:
-/// each write keeps that. The history has this one write more, as one that took bytes or as one that failed; a write of some bytes
-/// takes at least one.
+/// If the bytes that a sink holds are known, it holds what it held before and then what all writes took, in their order. Each write keeps
+/// that. The history has this one write more, as one that took bytes or as one that failed. A write of some bytes takes at least one.
 pub fn writes_are_held<W: Sink>(sink: &mut W, bytes: &[u8]) -> Result<usize, SinkFault>
     ensures held { (before : List ℕ) → HasTaken before (W.history sink.old) (W.contents sink.old)
         → HasTaken before (W.history sink.new) (W.contents sink.new) }

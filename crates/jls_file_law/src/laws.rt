@@ -20,7 +20,7 @@ pub fn written_files_read_back()
     ensures { FileLaw }
 {}
 
-/// A reader of copies answers of a written file: the picture's shape, its lines as the only readings, no faulty piece, and the
+/// A reader of copies answers this of a written file. It has the picture's shape, its lines as the only readings, no faulty piece, and the
 /// end at EOI.
 pub fn written_files_are_read()
     ensures { FileIsRead }

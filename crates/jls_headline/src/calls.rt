@@ -6,9 +6,9 @@ ghost use Rattle.jls_headline.specs.SourceLaws.{NewStationTookNothingUnder, Copy
 ghost use Rattle.jls_headline.specs.SourceLaws.{PartialIsTakenUnder, PartialIsRefusedUnder, SourcesAside};
 ghost use Rattle.jls_headline.specs.SourceLaws.{FinishedCopiesHold, ReadCopiesHold};
 
-/// A law: a new station took nothing. A station that answers a copy with Ok took the bytes that the reads of this call gave; one that
-/// refuses a copy took nothing, or ran out of memory over it. The same holds of partial pictures that hold exactly the readings of
-/// copies. So the clauses of each call on a station tell what it took.
+/// A law: a new station took nothing. A station that answers a copy with Ok took the bytes that the reads of this call gave. One that
+/// refuses a copy took nothing, or ran out of memory over it. The same holds of partial pictures that hold exactly the readings of copies.
+/// So the clauses of each call on a station tell what it took.
 pub fn calls_tell_what_was_taken()
     ensures new { NewStationTookNothing }
     ensures taken { CopyIsTaken }

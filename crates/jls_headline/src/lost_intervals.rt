@@ -3,14 +3,14 @@
 ghost use Rattle.jls_headline.specs.LostIntervalLaws.{NumbersComeBack, SurvivingLinesAreGiven};
 ghost use Rattle.jls_headline.specs.LostIntervalLaws.{DamagedCopiesGiveExactly, DamagedCopiesGiveNoOther};
 
-/// A law: where fewer than eight restart markers in a row are lost, and every marker that is seen is a true one, the pieces of a copy's
-/// scan data get the numbers that they have in the picture, and none is beyond the last interval.
+/// A law: let fewer than eight restart markers in a row be lost, and every marker that is seen be a true one. Then the pieces of a copy's
+/// scan data get the numbers that they have in the picture. None is beyond the last interval.
 pub fn numbers_come_back()
     ensures { NumbersComeBack }
 {}
 
-/// A law: a damaged copy gives exactly the picture's lines of the intervals whose piece reads, and those of the head of a piece that the
-/// input's end cuts off; so whatever it gives is a line of the picture.
+/// A law: a damaged copy gives exactly the picture's lines of the intervals whose piece reads, and of the head of a piece that the input's
+/// end cuts off. So whatever it gives is a line of the picture.
 pub fn damaged_copies_give_the_picture()
     ensures exactly { DamagedCopiesGiveExactly }
     ensures no_other { DamagedCopiesGiveNoOther }

@@ -7,22 +7,22 @@ ghost use Rattle.jls_headline.specs.JoinThenWrite.{WrittenJoinsAreThePicture, Wr
 ghost use Rattle.jls_headline.specs.JoinThenWrite.{WrittenTextJoinsAreThePicture, WrittenTextJoinsReadAsThePicture};
 ghost use Rattle.jls_headline.specs.JoinThenWrite.{WrittenTextJoinsAreSettled};
 
-/// A law: what a run of `join` joins that is done, and whose inputs are copies and no texts, holds exactly the readings that these copies
-/// give. Two such runs whose inputs were the same copies, in any order and with any repeats, join what holds and says the same, and
-/// under the same source, or none, have the same text. Where the inputs are damaged copies of one picture and every line survives in
-/// some input, each line of what is joined is settled, and they are that picture; and the JPEG-LS file that is written of it, under any
-/// options that fit, reads as that picture and no other.
+/// A law: a run of `join` is done, and its inputs are copies and no texts. Then what it joined holds exactly the readings that these
+/// copies give. Let the inputs of two such runs be the same copies, in any order and with any repeats. Then what they join holds and says
+/// the same. Under the same source, or none, it has the same text. Now let the inputs be damaged copies of one picture, and let every line
+/// survive in some input. Then each line of what is joined is settled, and they are that picture. The JPEG-LS file that is written of it,
+/// under any options that fit, reads as that picture and no other.
 pub fn joined_copies_give_the_picture()
     ensures exactly { RunsHoldExactly }
     ensures same { RunsSayTheSame }
     ensures damaged { RunsGiveThePicture }
 {}
 
-/// A law: the same where texts are among the inputs, each of which stands for the copies of which its partial picture holds exactly the
-/// readings. So stations that hand on what they hold as texts come to what all their copies give; and two such runs of one shape, over the
-/// same copies from whatever sources, join what holds and says the same.
-/// Each reading has exactly the sources of the copies that give it, where texts stand for copies under sources; and two such runs of one
-/// shape, over the same copies under the same sources, hand the same bytes to their outputs.
+/// A law: the same where texts are among the inputs. Each of them stands for the copies of which its partial picture holds exactly the
+/// readings. So stations that hand on what they hold as texts come to what all their copies give. Two such runs of one shape, over the
+/// same copies from whatever sources, join what holds and says the same. Where texts stand for copies under sources, each reading has
+/// exactly the sources of the copies that give it. Two such runs of one shape, over the same copies under the same sources, hand the same
+/// bytes to their outputs.
 pub fn joined_texts_give_the_picture()
     ensures exactly { RunsWithTextsHoldExactly }
     ensures sources { RunsHoldExactlyUnder }
@@ -31,17 +31,17 @@ pub fn joined_texts_give_the_picture()
     ensures damaged { RunsWithTextsGiveThePicture }
 {}
 
-/// A law: where the inputs of a run of `join` that is done are damaged copies of one picture in which every line survives, and the one
-/// input of a run of `write` gave the bytes that the `join` handed to its output, a `write` that is done handed exactly the file of
-/// that picture to its own output. As JPEG-LS, with any restart interval, this file reads as that picture and no other. And such a
-/// `write` isn't refused for a line that isn't settled.
+/// A law: the inputs of a run of `join` that is done are damaged copies of one picture in which every line survives. The one input of a
+/// run of `write` gave the bytes that the `join` handed to its output. Then a `write` that is done handed exactly the file of that picture
+/// to its own output. As JPEG-LS, with any restart interval, this file reads as that picture and no other. And such a `write` isn't
+/// refused for a line that isn't settled.
 pub fn written_joins_read_as_the_picture()
     ensures written { WrittenJoinsAreThePicture }
     ensures reads { WrittenJoinsReadAsThePicture }
     ensures settled { WrittenJoinsAreSettled }
 {}
 
-/// A law: the same where texts are among the inputs of the `join`, each of which stands for the copies of which its partial picture holds
+/// A law: the same where texts are among the inputs of the `join`. Each of them stands for the copies of which its partial picture holds
 /// exactly the readings.
 pub fn written_text_joins_read_as_the_picture()
     ensures written { WrittenTextJoinsAreThePicture }

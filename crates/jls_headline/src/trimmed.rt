@@ -11,8 +11,7 @@ pub fn trimmed_pieces_are_harmless()
     ensures first_lines { TrimmedPiecesHaveHeadsOfPicture }
 {}
 
-/// A law: a copy that has only lost intervals and been trimmed is a damaged copy, so that nothing has to be assumed of what its pieces
-/// read as.
+/// A law: a copy that has only lost intervals and been trimmed is a damaged copy. So nothing has to be assumed of what its pieces read as.
 pub fn trimmed_copies_are_damaged()
     ensures { TrimmedCopiesAreDamaged }
 {}

@@ -73,8 +73,8 @@ fn refused() -> io::Error {
 }
 
 impl<F: Write + Drop> Output<F> {
-    /// Makes the output of this name. Where nothing stands there, or a regular file, it is a file of its own beside the name, and what
-    /// stands there stays; else it is the file at the name, emptied. A guarded file, and one that does not open for writing, is an error.
+    /// Makes the output of this name. If nothing stands there, or a regular file, it is a file of its own beside the name, and what stands
+    /// there stays. Else it is the file at the name, emptied. A guarded file, and one that does not open for writing, is an error.
     pub fn create<M: Machine<File = F>>(
         machine: &mut M,
         name: &str,

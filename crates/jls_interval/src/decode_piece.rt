@@ -23,10 +23,9 @@ pub enum PieceFault {
     OutOfMemory,
 }
 
-/// Reads the bytes of an interval as its lines: row by row, and in a row by component, each of
-/// `width` samples of at most MAXVAL. `rows` is the number of lines of each component. The whole piece
-/// is looked at, also behind its last line: at most seven bits may follow the code, of any value,
-/// which is this profile's choice. A byte of 0x80 or more behind 0xFF makes the piece broken wherever
+/// Reads the bytes of an interval as its lines. They stand row by row, and in a row by component. Each has `width` samples of at most
+/// MAXVAL. `rows` is the number of lines of each component. The whole piece is looked at, also behind its last line. At most seven bits
+/// may follow the code, of any value, which is this profile's choice. A byte of 0x80 or more behind 0xFF makes the piece broken wherever
 /// it stands (ITU-T T.87, A.1).
 pub fn decode_interval(
     alloc: Global,

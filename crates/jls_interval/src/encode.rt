@@ -45,10 +45,9 @@ fn write_lines(
     Ok(())
 }
 
-/// The bytes that lines are written as, where they fit an interval (`fits`). The width is that of a
-/// line in samples. The lines stand row by row, and in a row by component; the components share the
-/// cells, and each has a RUNindex of its own (ITU-T T.87, A.7 and B.2). The bytes are the pad of the
-/// lines' code: as few as there can be without 0xFF at the end. The only refusal is out of memory.
+/// The bytes that lines are written as, where they fit an interval (`fits`). The width is that of a line in samples. The lines stand row
+/// by row, and in a row by component. The components share the cells, and each has a RUNindex of its own (ITU-T T.87, A.7 and B.2). The
+/// bytes are the pad of the lines' code: as few as there can be without 0xFF at the end. The only refusal is out of memory.
 pub fn encode_interval(
     alloc: Global,
     params: &Params,

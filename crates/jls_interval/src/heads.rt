@@ -19,10 +19,10 @@ pub fn read_pieces_have_no_head()
     ensures { ReadPiecesHaveNone }
 {}
 
-/// Behind whole events, bits cut an event that can come next if and only if lines are still to come and the bits are one of
-/// these: in regular mode, a proper prefix of the code of some error; in run mode, ones for full blocks with columns left
-/// behind them, or a count of columns whose least continuation is below the columns left, or a whole count that is below
-/// them and a proper prefix of the code of some error other than that of the run's own value.
+/// Bits behind whole events may cut an event that can come next. They do if and only if lines are still to come and the bits are one of
+/// these. In regular mode they are a proper prefix of the code of some error. In run mode they are ones for full blocks, with columns left
+/// behind these. Or they are a count of columns whose least continuation is below the columns left. Or they are a whole count below the
+/// columns left, and a proper prefix of the code of some error. That error is not the one of the run's own value.
 pub fn cut_events_go_on()
     ensures { CutEventsGoOn }
 {}

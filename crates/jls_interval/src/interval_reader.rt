@@ -72,8 +72,8 @@ impl IntervalReader {
         }
     }
 
-    /// Takes samples from the front of a chunk that are no last ones of their line, where no event has begun, as long as there are at
-    /// least so many bits.
+    /// Takes samples from the front of a chunk, as long as there are at least so many bits. No event has begun, and the last samples of a
+    /// line are not taken.
     fn push_samples(&mut self, looked_for: u8, chunk: &mut Chunk) -> Result<(), AllocError>
         requires state { self.old.state ≡ State.Working }
         requires reading { (p : CodingParameters) × (given : List Bool) × IsReading p given self.old }

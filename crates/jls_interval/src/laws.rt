@@ -7,8 +7,8 @@ pub fn lines_are_parted_once()
     ensures { PartedOnce }
 {}
 
-/// The neighbours of a place in finished lines, by L(y, x), are those that a coder finds from the two
-/// lines of the component above and the samples of the line so far.
+/// The neighbours of a place in finished lines, by L(y, x), are those that a coder finds. It finds them from the two lines of the
+/// component above, and from the samples of the line so far.
 pub fn neighbours_agree()
     ensures { NeighboursAgree }
 {}
@@ -55,8 +55,8 @@ pub fn broken_pieces_begin_with_no_code()
     ensures { BrokenBeginsWithNone }
 {}
 
-/// Bits are a proper prefix of the code of some lines exactly where they are the bits of whole first
-/// events and then a proper prefix of the bits of one event that can come next.
+/// Bits are a proper prefix of the code of some lines if and only if they are this. They are the bits of whole first events, and then a
+/// proper prefix of the bits of one event that can come next.
 pub fn cuts_are_exact()
     ensures { CutsAreExact }
 {}

@@ -45,8 +45,8 @@ pub enum MarkerFault {
     /// An LSE segment of an ID other than 1, 2 and 3.
     #[error("unknown kind of preset parameters")]
     LseId,
-    /// The code of a marker that is not EOI and has no segment in this profile, a second SOI and a restart marker outside of scan data
-    /// among them.
+    /// The code of a marker that is not EOI and has no segment in this profile. A second SOI is one, and so is a restart marker outside of
+    /// scan data.
     #[error("unknown marker")]
     UnknownMarker,
     /// A restart interval of the scan has more than 2^28 samples.

@@ -92,8 +92,8 @@ fn begin(
     Ok(ScanPlan::new(frame, components, params, restart_interval))
 }
 
-/// What the segments of a copy have set so far: the frame, the preset parameters and the restart interval in force, and how many scans
-/// have begun.
+/// What the segments of a copy have set so far. These are the frame, the preset parameters and the restart interval in force, and how many
+/// scans have begun.
 #[derive(Drop)]
 pub struct Headers {
     frame: Option<Shape>,
@@ -163,11 +163,11 @@ impl Headers {
         self.scans
     }
 
-    /// Takes a segment, and answers the scan that it begins where it is an SOS. A segment that can't stand here is refused, and leaves
-    /// the headers as they were: `SecondFrame` for a frame after the frame, and for a scan, in this order, `NoFrame`,
-    /// `UnknownComponent` for an identifier that isn't in the frame, `BadParams` where the values of the last LSE of ID 1 are out of
-    /// range at the precision of the frame, `IntervalTooLarge` for a restart interval of more than 2^28 samples, and `TooManyScans` for
-    /// the seventeenth scan. It takes no memory.
+    /// Takes a segment, and answers the scan that it begins where it is an SOS. A segment that can't stand here is refused, and leaves the
+    /// headers as they were. A frame after the frame is `SecondFrame`. A scan can have these refusals, in this order. `NoFrame` comes
+    /// before a frame, and `UnknownComponent` for an identifier that isn't in the frame. `BadParams` comes if the values of the last LSE
+    /// of ID 1 are out of range at the frame's precision. `IntervalTooLarge` comes for a restart interval of more than 2^28 samples, and
+    /// `TooManyScans` for the seventeenth scan. It takes no memory.
     pub fn accept(&mut self, segment: &Segment) -> Result<Option<ScanPlan>, MarkerFault>
         ensures accepted { IfOk result (λ scan. headers.accepted self.old segment.now ≡ Ok (self.new, scan)) }
         ensures refused { IfErr result (λ fault. headers.accepted self.old segment.now ≡ Err fault) }

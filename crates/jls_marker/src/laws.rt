@@ -53,14 +53,14 @@ pub fn intervals_part_the_lines()
     ensures { IntervalsPartTheLines }
 {}
 
-/// Behind a segment that is taken, the restart interval is that of DRI where it is one, the preset values are those of LSE of ID 1
-/// where it is one, and the frame is that of SOF where it is one. Each of these is otherwise what it was.
+/// Behind a DRI that is taken, the restart interval is its own. Behind an LSE of ID 1 the preset values are its own, and behind a SOF the
+/// frame is. Each of these is otherwise what it was.
 pub fn segments_set_their_own()
     ensures { SegmentsSetTheirOwn }
 {}
 
-/// A scan that begins has the components that its header names by their places in the frame, and the parameters and the restart
-/// interval that are in force before it.
+/// A scan that begins has the components that its header names, by their places in the frame. Its parameters and its restart interval are
+/// those in force before it.
 pub fn scans_have_what_is_in_force()
     ensures { ScansHaveWhatIsInForce }
 {}

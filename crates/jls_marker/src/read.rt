@@ -176,10 +176,10 @@ fn read_restart(payload: &[u8]) -> Result<Segment, MarkerFault>
     }
 }
 
-/// The segment of the marker with this code, where `payload` is what follows its length. Each segment is judged whole, and the
-/// first fault in this order is answered: of SOF55 `Length`, `BadShape`, `Sampling`; of SOS `Length`, `RepeatedComponent`,
-/// `MappingTable`, `Lossy`, `Interleave`, `PointTransform`; of LSE `Length` where it has no ID, `LseId`, and for ID 1 `Length`; of DRI
-/// `Length`; of any other code that has no segment `UnknownMarker`. It takes no memory.
+/// The segment of the marker with this code, where `payload` is what follows its length. Each segment is judged whole, and the first fault
+/// in this order is answered. Of SOF55: `Length`, `BadShape`, `Sampling`. Of SOS: `Length`, `RepeatedComponent`, `MappingTable`, `Lossy`,
+/// `Interleave`, `PointTransform`. Of LSE: `Length` where it has no ID, `LseId`, and for ID 1 `Length`. Of DRI: `Length`. Any other code
+/// that has no segment is `UnknownMarker`. It takes no memory.
 pub fn read_segment(code: u8, payload: &[u8]) -> Result<Segment, MarkerFault>
     ensures { result ≡ segment_of code payload.now }
 {

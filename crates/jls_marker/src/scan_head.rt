@@ -7,8 +7,8 @@ use crate::fault::MarkerFault;
 use arrayvec::ArrayVec;
 use std::marker::Model;
 
-/// A scan header of lossless coding: the components of the scan, by the identifiers of the frame header and in the order in which
-/// they take turns, and whether they are interleaved by line (ITU-T T.87, C.2.3).
+/// A scan header of lossless coding (ITU-T T.87, C.2.3). It has the identifiers of the scan's components, in the order in which they take
+/// turns. It says whether they are interleaved by line.
 #[derive(PartialEq, Eq, Drop)]
 pub struct ScanHead {
     ids: ArrayVec<u8, 4>,
@@ -46,8 +46,8 @@ impl ScanHead {
     ghost use Rattle.jls_values.specs.Shape.{has_repeat};
     ghost use Rattle.jls_marker.specs.ScanSelection.{IsScanSelection, selection_of};
 
-    /// The header of a scan of these components. The refusals are, in this order, `Length` where there aren't one to four,
-    /// `RepeatedComponent` where one stands twice, and `Interleave` where there is more than one and they aren't interleaved by line.
+    /// The header of a scan of these components. The refusals come in this order. `Length` comes if there aren't one to four, and
+    /// `RepeatedComponent` if one stands twice. `Interleave` comes if there is more than one and they aren't interleaved by line.
     pub fn new(ids: &[u8], line: bool) -> Result<ScanHead, MarkerFault>
         ensures { result ≡ selection_of ids.now line }
     {

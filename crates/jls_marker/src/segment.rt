@@ -21,6 +21,6 @@ pub enum Segment {
     /// DRI: the number of rows of a restart interval, where 0 says that there are no restart markers (ITU-T T.81, B.2.4.4;
     /// ITU-T T.87, C.2.5).
     Restart(u32),
-    /// A segment that says nothing to this reader, by the code of its marker: APP0 to APP15, COM, and LSE of the IDs 2 and 3.
+    /// A segment that says nothing to this reader, by the code of its marker. It is APP0 to APP15, COM, or LSE of the IDs 2 and 3.
     Skipped(u8),
 }

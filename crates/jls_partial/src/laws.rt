@@ -19,8 +19,8 @@ pub fn joins_hold_exactly()
     ensures marks { JoinsHoldAllMarks }
 {}
 
-/// Parts of one picture, which say of each line nothing or what the picture says, join to that picture, with the sources of all
-/// of them, where one of them holds each line.
+/// Parts of one picture say of each line nothing, or what the picture says. If one of them holds each line, they join to that picture,
+/// with the sources of all of them.
 pub fn parts_give_the_picture()
     ensures { PartsGiveThePicture }
 {}

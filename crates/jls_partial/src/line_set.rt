@@ -86,8 +86,8 @@ impl LineSet {
         self.lines().len()
     }
 
-    /// The line that has `i` others below it, lent from the set: lines stand in ascending order of
-    /// their samples, compared from the first one on. What is held fits the precision and the width.
+    /// The line that has `i` others below it, lent from the set. Lines stand in ascending order of their samples, compared from the first
+    /// one on. What is held fits the precision and the width.
     pub fn get(&self, i: usize) -> &[u16]
         requires { i < length (set.items self.now.lines) }
         ensures value { slice_get (set.items self.now.lines) i ≡ Some result.now }
@@ -144,9 +144,9 @@ impl Merge for LineSet {
 
     ghost laws = { line_set_laws };
 
-    /// Takes in the lines of `other`, and their sources. `ShapeDiffers`, where the precisions or the widths differ,
-    /// changes nothing; after want of memory all that was held is still held, with some of the other's
-    /// lines and their sources, and the same call can be made again.
+    /// Takes in the lines of `other`, and their sources. `ShapeDiffers` comes if the precisions or the widths differ, and changes nothing.
+    /// After want of memory all that was held is still held, with some of the other's lines and their sources. The same call can then be
+    /// made again.
     fn merge(&mut self, other: &LineSet) -> Result<(), MergeFault>
         ensures ok { OnOk result (self.new ≡ union_of_lines self.old other.now) }
         ensures ok_same_shape { OnOk result (has_same_line_shape self.old other.now ≡ true) }

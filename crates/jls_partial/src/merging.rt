@@ -50,9 +50,8 @@ impl Merge for Partial {
 
     ghost laws = { partial_laws };
 
-    /// Takes in the readings of `other`, and their sources. At `ShapeDiffers` nothing has changed; after want of memory
-    /// all that was held is still held, with some of the other's readings and their sources, and the same call can be
-    /// made again.
+    /// Takes in the readings of `other`, and their sources. At `ShapeDiffers` nothing has changed. After want of memory all that was held
+    /// is still held, with some of the other's readings and their sources. The same call can then be made again.
     fn merge(&mut self, other: &Partial) -> Result<(), MergeFault>
         ensures ok { OnOk result (self.new ≡ union self.old other.now) }
         ensures ok_same_shape { OnOk result (has_same_shape self.old other.now ≡ true) }

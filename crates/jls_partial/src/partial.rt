@@ -157,8 +157,8 @@ impl Partial {
         count_at(&self.store, Place { component, line })
     }
 
-    /// The reading of a line that has `i` others below it, lent from the store: readings stand in
-    /// ascending order of their samples, compared from the first one on. Each fits the shape.
+    /// The reading of a line that has `i` others below it, lent from the store. Readings stand in ascending order of their samples,
+    /// compared from the first one on. Each fits the shape.
     pub fn reading(&self, component: u8, line: u16, i: usize) -> &[u16]
         requires component_in { component < length self.now.shape.ids }
         requires line_in { line < self.now.shape.height }

@@ -35,10 +35,11 @@ impl From<TextFault> for MergeTextFault {
 }
 
 impl Partial {
-    /// Takes in the readings of the partial picture whose text the bytes are, and their sources, without a second partial picture
-    /// in memory: what `from_bytes` and `merge` do. The fault of a text is the one that `from_bytes` gives, and it comes before
-    /// `ShapeDiffers`. A text that begins as those of another shape do changes nothing. After a fault or want of memory all that was held is still held, with some of
-    /// the readings that stand in the text before the fault; after want of memory the same call can be made again.
+    /// Takes in the readings and the sources of the partial picture whose text the bytes are. It does what `from_bytes` and `merge` do,
+    /// without a second partial picture in memory. The fault of a text is the one that `from_bytes` gives, and it comes before
+    /// `ShapeDiffers`. A text that begins as those of another shape do changes nothing. After a fault or want of memory all that was held
+    /// is still held. Some of the readings that stand in the text before the fault may be held too. After want of memory the same call can
+    /// be made again.
     pub fn merge_text(&mut self, alloc: Global, bytes: &[u8]) -> Result<(), MergeTextFault>
         ensures ok { OnOk result (MergesText self.old bytes.now self.new) }
         ensures refused { IfErr result (λ fault. RefusesText self.old bytes.now fault) }

@@ -127,8 +127,8 @@ impl Options {
         row * u64::from(self.rows_of_interval(shape))
     }
 
-    /// Whether a picture can be written so: the parameters are of its precision, no sample is above their MAXVAL, and
-    /// no interval has more than 2^28 samples.
+    /// Whether a picture can be written so. The parameters have its precision, no sample is above their MAXVAL, and no interval has more
+    /// than 2^28 samples.
     pub fn fits(&self, picture: &Picture<'_>) -> bool
         ensures { IsTrue result ↔ OptionsFit picture.now self.now }
     {

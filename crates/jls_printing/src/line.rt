@@ -11,8 +11,8 @@ use crate::pending::{Pending, flush, put};
 use itoa::Buffer;
 use jls_device::Sink;
 
-/// A line by its parts: the name of the program, a colon and a space; the name of an input or output, if the line is about one; a text, a
-/// number, more text, a second number, and the end, with its newline.
+/// A line by its parts. It begins with the name of the program, a colon and a space. If it is about an input or output, the name of that
+/// follows. Then come a text, a number, more text, a second number, and the end with its newline.
 ///
 /// The name is shown with each control character by its code, as `\u{1b}`, and with each backslash twice.
 #[derive(Clone, Copy)]

@@ -14,12 +14,12 @@ use std::alloc::Global;
 /// The program `jls-salvage`. The words begin with the program's own name, and the answer is the exit status:
 ///
 /// - 0: done, and each line of what was read is settled; or help or the version was asked for;
-/// - 1: `check`, `show` and `join` are done, with lines that are missing or disputed; `write` is refused for such a line, and
-///   its output is not created;
-/// - 2: the words were not understood, or an interval of a JPEG-LS file would be too large;
+/// - 1: `check`, `show` and `join` are done, with lines that are missing or disputed. Or `write` is refused for such a line, and its
+///   output is not created;
+/// - 2: the command line is wrong, or an interval of a JPEG-LS file would be too large;
 /// - 3: an input is no copy with a picture and not the text of a partial picture, or shapes differ;
-/// - 4: an input can't be opened or read, the output can't be created, or a write failed; or the command is done, but a copy was not read
-///   whole: behind its frame a read failed, or the reads were used up;
+/// - 4: an input can't be opened or read, the output can't be created, or a write failed. Or the command is done, but a read of a copy
+///   failed after its frame, or the reads of it were used up;
 /// - 5: out of memory.
 ///
 /// The texts of help, usage and version are clap's. That there is one, and what it says, is tested and not proved.

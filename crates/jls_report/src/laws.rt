@@ -27,8 +27,8 @@ pub fn full_count_is_settled()
     ensures { FullCountIsSettled }
 {}
 
-/// The number of missing lines in a report is that of the lines in its ranges, and the number of disputed ones is that of its disputed
-/// lines.
+/// The number of missing lines in a report is the number of lines in its ranges. The number of disputed lines is the number of its entries
+/// of disputed lines.
 pub fn counts_are_of_entries()
     ensures { CountsAreOfEntries }
 {}

@@ -11,8 +11,8 @@ use jls_values::Shape;
 use std::alloc::{AllocError, Global};
 use std::marker::Model;
 
-/// How much is known of a picture: its shape, the numbers of its settled, missing and disputed lines over all
-/// components, and an entry for each longest range of missing lines and each disputed line.
+/// How much is known of a picture. It has the shape, and the numbers of settled, missing and disputed lines over all components. It has an
+/// entry for each longest range of missing lines and for each disputed line.
 #[derive(Drop)]
 pub struct Report {
     shape: Shape,

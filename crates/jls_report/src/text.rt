@@ -129,8 +129,8 @@ fn put_entries(out: &mut Vec<u8>, ids: &[u8], entries: &[ReportEntry]) -> Result
 }
 
 impl Report {
-    /// The one text of the report, in ASCII, with a newline at the end of each line: the shape, the three numbers, and a
-    /// line for each entry. Components are named by their identifiers.
+    /// The one text of the report, in ASCII. It has the shape, the three numbers, and a line for each entry, each ended by a newline.
+    /// Components are named by their identifiers.
     pub fn to_text(&self, alloc: Global) -> Result<Vec<u8>, AllocError>
         ensures { IfOk result (λ text. text.items ≡ report_text self.now) }
     {

@@ -69,8 +69,8 @@ fn has_fault(reader: CopyReader) -> Result<bool, AllocError>
     Ok(true)
 }
 
-/// Whether no file without a fault begins with what was fed: the piece in hand is broken, or the copy has ended and has a fault. `false`
-/// says nothing. The only refusal is out of memory.
+/// Whether it is known that no file without a fault begins with the bytes fed. Either the piece in hand is broken, or the copy has ended
+/// and has a fault. `false` says nothing. The only refusal is out of memory.
 pub fn is_dead(reader: CopyReader) -> Result<bool, AllocError>
     ensures { IfOk result (λ dead. dead ≡ true → IfSome reader (λ front. IsDead front)) }
 {

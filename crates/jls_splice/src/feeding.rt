@@ -40,8 +40,8 @@ fn feed_way(reader: &mut CopyReader, way: &[u8]) -> Result<(), AllocError>
     reader.feed(way)
 }
 
-/// Feeds what the choices make of the first parts, part by part, as slices of the copies: a whole splice, where there is a choice for
-/// each part. No memory is taken for it. Where the reader refuses memory, it refuses all further bytes.
+/// Feeds what the choices make of the first parts, part by part, as slices of the copies. If there is a choice for each part, that is a
+/// whole splice. No memory is taken for it. Where the reader refuses memory, it refuses all further bytes.
 pub fn feed_front(
     reader: &mut CopyReader,
     parts: &[Part<'_>],

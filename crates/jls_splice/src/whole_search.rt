@@ -76,8 +76,9 @@ fn try_next(
     }
 }
 
-/// Searches the splices of some copies for files without a fault, depth first, part by part: ways in the order of the copies, those with
-/// equal bytes once. Choices whose front no file without a fault begins with are given up. Each front and each file that is tried counts.
+/// Searches the splices of some copies for files without a fault, depth first, part by part. Ways are tried in the order of the copies,
+/// and ways with equal bytes once. Choices whose front no file without a fault begins with are given up. Each front and each file that is
+/// tried counts.
 ///
 /// Parts of short copies are as it requires them (`parts_can_be_searched`).
 ///

@@ -39,7 +39,7 @@ pub enum InputFault {
     Text(TextFault),
     /// It is a copy that was read whole and in which no frame was taken: the fault that ended it, and its offset.
     NoPicture(MarkerFault, u64),
-    /// The device stopped before its end, when it had given so many bytes: in a text, or in a copy in which no frame was taken.
+    /// The device stopped before its end, after it had given this many bytes. The input is a text, or a copy in which no frame was taken.
     Read(ReadStop, u64),
     /// Memory ran out for it.
     OutOfMemory,
@@ -224,8 +224,8 @@ pub enum InputForm {
     Copy(InputRead),
 }
 
-/// Reads an input as `read_input` does, but for the text itself: its bytes are read into the room of `text`, which grows as far as
-/// it has to.
+/// Reads an input as `read_input` does, but does not read a text as a partial picture. The bytes of a text go into `text`, which grows as
+/// needed.
 pub fn read_form<S: Source>(
     alloc: Global,
     source: Option<u32>,
@@ -264,8 +264,8 @@ pub fn read_form<S: Source>(
 /// is read as long as more bytes can change what it gives. Reads have room for at most 4,096 bytes, and there are at most
 /// 4,294,967,295 of them.
 ///
-/// A copy in which a frame was taken is never refused, but where memory runs out: what was read before the device stopped is kept, and
-/// the report tells how it did. A text is refused as `Read` if the device stopped before its end, whatever the bytes are.
+/// A copy in which a frame was taken is refused only if memory runs out. What was read before the device stopped is kept, and the report
+/// tells why it stopped. A text is refused as `Read` if the device stopped before its end, whatever the bytes are.
 pub fn read_input<S: Source>(
     alloc: Global,
     source: Option<u32>,

@@ -58,8 +58,8 @@ impl Station {
         self.alloc
     }
 
-    /// Takes in the readings of a partial picture. At `ShapeDiffers` nothing has changed; after `OutOfMemory` all that was
-    /// held is still held, with some or all of the other's readings, and the same call can be made again.
+    /// Takes in the readings of a partial picture. At `ShapeDiffers` nothing has changed. After `OutOfMemory` all that was held is still
+    /// held, with some or all of the other's readings. The same call can then be made again.
     pub fn take(&mut self, other: &Partial) -> Result<(), MergeFault>
         ensures ok { OnOk result (self.new ≡ union self.old other.now) }
         ensures ok_same_shape { OnOk result (has_same_shape self.old other.now ≡ true) }
@@ -71,8 +71,8 @@ impl Station {
     }
 
     /// Takes in the readings of the partial picture whose text the bytes are, as `Partial::merge_text` does. The fault of a text comes
-    /// before `ShapeDiffers`. A refused text may have given those of its readings that stand before the fault; after want of memory the
-    /// same call can be made again.
+    /// before `ShapeDiffers`. A refused text may have given those of its readings that stand before the fault. If memory ran out, the same
+    /// call can be made again.
     pub fn take_text(&mut self, bytes: &[u8]) -> Result<(), MergeTextFault>
         ensures ok { OnOk result (MergesText self.old bytes.now self.new) }
         ensures refused { IfErr result (λ fault. RefusesText self.old bytes.now fault) }

@@ -38,8 +38,8 @@ pub trait Merge {
         ensures keeps_shape { same_shape self.old self.new ≡ true };
 }
 
-/// Merges the members of a list in their order, and stops at the first refusal: the members before
-/// that one are merged whole, and at `ShapeDiffers` nothing else has changed.
+/// Merges the members of a list in their order, and stops at the first refusal. The members before that one are merged whole, and at
+/// `ShapeDiffers` nothing else has changed.
 pub fn merge_all<M: Merge>(into: &mut M, list: &[M]) -> Result<(), MergeFault>
     ensures ok { OnOk result (into.new ≡ join_all M.join into.old list.now) }
     ensures ok_same_shape { OnOk result (AllOfShape M.same_shape into.old list.now) }

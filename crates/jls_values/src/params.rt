@@ -30,8 +30,8 @@ pub enum ParamFault {
     Reset,
 }
 
-/// The parameters of lossless coding that are in force for a scan: the precision in bits per
-/// sample, and the preset values of ITU-T T.87, C.2.4.1.1.
+/// The parameters of lossless coding that are in force for a scan. They are the precision in bits per sample, and the preset values of
+/// ITU-T T.87, C.2.4.1.1.
 #[derive(Clone, Copy, Debug, PartialEq, Eq)]
 pub struct Params {
     precision: u8,

@@ -28,8 +28,8 @@ pub enum ShapeFault {
     RepeatedId,
 }
 
-/// What a frame header says of a picture: the precision in bits per sample, the width in samples,
-/// the height in lines, and the component identifiers in the order of the frame (ITU-T T.87, C.2.2).
+/// What a frame header says of a picture (ITU-T T.87, C.2.2). It has the precision in bits per sample, the width in samples, and the
+/// height in lines. It has the component identifiers in the order of the frame.
 #[derive(PartialEq, Eq, Drop)]
 pub struct Shape {
     precision: u8,

@@ -30,8 +30,8 @@ pub enum Asked<'m, 'a> {
         out: &'a str,
         file: &'a str,
     },
-    /// To write it as JPEG-LS: with `line` all components stand in one scan, line by line, and else each in one of its own;
-    /// `ri` is the restart interval in rows, and 0 means that there are no restart markers.
+    /// To write it as JPEG-LS. With `line` all components stand in one scan, line by line; without it each has a scan of its own. `ri` is
+    /// the restart interval in rows, and 0 means that there are no restart markers.
     WriteJls {
         line: bool,
         ri: u16,
