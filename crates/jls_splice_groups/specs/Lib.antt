@@ -1,0 +1,3 @@
+pub mod Groups
+pub mod ReadsBetween
+pub mod OfGroups

@@ -1,0 +1,1 @@
+//! Groups of parts, worked by hand.
