@@ -1,3 +1,2 @@
+pub mod Borders
 pub mod Groups
-pub mod ReadsBetween
-pub mod OfGroups

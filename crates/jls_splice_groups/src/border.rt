@@ -2,7 +2,7 @@
 
 ghost use Rattle.std.specs.Prelude.{◌≡◌, ◌↔◌, ◌<◌, length, IsTrue, IfSome};
 ghost use Rattle.jls_parts.specs.PartsOf.{part_of, parts_of};
-ghost use Rattle.jls_splice_groups.specs.Groups.{IsMark, IsBehindMark, IsBorder, IsBorderOf};
+ghost use Rattle.jls_splice_groups.specs.Borders.{IsMark, IsBehindMark, IsBorder, IsBorderOf};
 
 use jls_parts::Part;
 

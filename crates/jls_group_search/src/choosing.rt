@@ -6,9 +6,9 @@ ghost use Rattle.jls_parts.specs.Parts.{Same};
 ghost use Rattle.jls_parts.specs.Parts as spec;
 ghost use Rattle.jls_parts.specs.PartsOf.{part_of, parts_of};
 ghost use Rattle.jls_splice.specs.Choices.{IsNew, IsFirstWay, IsPath};
-ghost use Rattle.jls_splice_groups.specs.OfGroups.{HasCopy, IsSet};
+ghost use Rattle.jls_group_search.specs.OfGroups.{HasCopy, IsSet};
 
-use crate::group::{Setting, is_free};
+use crate::setting::{Setting, is_free};
 use jls_parts::Part;
 use jls_splice::next_way_at;
 use std::alloc::AllocError;

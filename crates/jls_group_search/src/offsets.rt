@@ -3,13 +3,13 @@
 ghost use Rattle.std.specs.Prelude.{◌≡◌, ◌-◌, ◌^◌, ◌<◌, ◌≤◌, length, take, IfOk, Some, IfSome};
 ghost use Rattle.jls_parts.specs.PartsOf.{parts_of};
 ghost use Rattle.jls_splice.specs.Choices.{IsPath, front_of};
-ghost use Rattle.jls_splice_groups.specs.Groups.{IsBorder, offset_of, end_offset_of};
-ghost use Rattle.jls_splice_groups.specs.Groups as spec;
+ghost use Rattle.jls_splice_groups.specs.Borders.{IsBorder};
+ghost use Rattle.jls_group_search.specs.Places.{offset_of, end_offset_of};
 
-use crate::border::Border;
 use jls_copy::CopyReader;
 use jls_parts::Part;
 use jls_splice::{feed_front, way_at};
+use jls_splice_groups::Border;
 use std::alloc::{AllocError, Global};
 
 /// How many bytes the first choices make, so many of them.

@@ -7,15 +7,15 @@ ghost use Rattle.jls_parts.specs.PartsOf.{parts_of};
 ghost use Rattle.jls_splice.specs.Choices.{IsWhole};
 ghost use Rattle.jls_splice.specs.Search.{IsShort};
 ghost use Rattle.jls_splice_groups.specs.Groups.{IsGroup};
-ghost use Rattle.jls_splice_groups.specs.OfGroups.{HasCopy, IsSetting};
+ghost use Rattle.jls_group_search.specs.OfGroups.{HasCopy, IsSetting};
 
 use crate::choosing::choice_at;
-use crate::find::find_groups;
-use crate::group::{Group, Setting};
 use crate::offsets::{border_offset, end_offset, reader_of};
 use crate::reading::reads_between;
+use crate::setting::Setting;
 use jls_copy::{CopyFault, CopyRead};
 use jls_parts::Part;
+use jls_splice_groups::{Group, find_groups};
 use std::alloc::{AllocError, Global};
 
 /// The choices that make a copy.

@@ -5,10 +5,11 @@ use Rattle.jls_parts.specs.Parts.{Part, Same, Differ, way}
 use Rattle.jls_splice.specs.Choices.{IsPath, IsWhole, front_of}
 use Rattle.jls_splice.specs.Search.{lists_of}
 use Rattle.jls_splice.specs.declared.whole_search.Searched.{Searched}
-use Rattle.jls_splice_groups.specs.Groups.{IsGroup, IsInside, offset_of, end_offset_of}
-use Rattle.jls_splice_groups.specs.ReadsBetween.{ReadsBetween}
+use Rattle.jls_splice_groups.specs.Groups.{IsGroup, IsInside}
+use Rattle.jls_group_search.specs.Places.{offset_of, end_offset_of}
+use Rattle.jls_group_search.specs.ReadsBetween.{ReadsBetween}
 use Rattle.jls_splice_groups.specs.declared.group.Group.{Group}
-use Rattle.jls_splice_groups.specs.declared.group.Setting.{Setting}
+use Rattle.jls_group_search.specs.declared.setting.Setting.{Setting}
 
 -- outside of the group the choices take what this copy has
 abbrev pub IsCopyOutside : List Part → Group → ℕ → List ℕ → Type 0

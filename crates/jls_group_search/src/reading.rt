@@ -3,11 +3,9 @@
 ghost use Rattle.std.specs.Prelude.{◌≡◌, ℕ, List, ◌↔◌, true, false, IsTrue, IfOk, IfSome};
 ghost use Rattle.std.specs.List.{AllByRecursion};
 ghost use Rattle.jls_copy.specs.CopyReads.{CopyReads};
-ghost use Rattle.jls_splice_groups.specs.ReadsBetween.{IsBetween, Reaches, ReadsBetween};
+ghost use Rattle.jls_group_search.specs.ReadsBetween.{IsBetween, Reaches, ReadsBetween};
 
-use jls_copy::{
-    CopyFault, CopyRead, CopyReader, End, PieceRecord, records_are_of_faulty_pieces,
-};
+use jls_copy::{CopyFault, CopyRead, CopyReader, End, PieceRecord, records_are_of_faulty_pieces};
 use std::alloc::AllocError;
 
 /// Whether an offset is the first of these or behind it, and before the second, if there is one.
@@ -22,10 +20,10 @@ fn is_between(from: u64, to: Option<u64>, offset: u64) -> bool
 
 /// Whether one of the records is of a piece that begins there.
 fn has_record_between(records: &[PieceRecord], from: u64, to: Option<u64>) -> bool
-    ensures { result ≡ false → AllByRecursion (λ record. IsBetween from to record.offset → ⊥) records.now }
+    ensures { result ≡ false → AllByRecursion (λ told. IsBetween from to told.offset → ⊥) records.now }
 {
-    for record in records {
-        if is_between(from, to, record.offset) {
+    for told in records {
+        if is_between(from, to, told.offset) {
             return true;
         }
     }
@@ -63,7 +61,11 @@ pub fn reads_between(read: &CopyRead, from: u64, to: Option<u64>) -> bool
 }
 
 /// Whether what was fed reads there, if it ends here. The only refusal is out of memory.
-pub(crate) fn is_read_between(reader: CopyReader, from: u64, to: Option<u64>) -> Result<bool, AllocError>
+pub(crate) fn is_read_between(
+    reader: CopyReader,
+    from: u64,
+    to: Option<u64>,
+) -> Result<bool, AllocError>
     ensures { IfOk result (λ answer. answer ≡ true → IfSome reader (λ file. ReadsBetween from to file)) }
 {
     match reader.finish() {

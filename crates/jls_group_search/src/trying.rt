@@ -6,12 +6,12 @@ ghost use Rattle.jls_parts.specs.PartsOf.{parts_of};
 ghost use Rattle.jls_splice.specs.Choices.{IsPath, front_of};
 ghost use Rattle.jls_splice.specs.Search.{IsShort, lists_of};
 ghost use Rattle.jls_splice_groups.specs.Groups.{IsGroup};
-ghost use Rattle.jls_splice_groups.specs.OfGroups.{HasCopy, IsOfGroup, IsSetting, IsSet, ReadsInGroup, HasOneMore};
+ghost use Rattle.jls_group_search.specs.OfGroups.{HasCopy, IsOfGroup, IsSetting, IsSet, ReadsInGroup, HasOneMore};
 
 use crate::choosing::{choice_at, descend, turn};
-use crate::group::Setting;
 use crate::offsets::{border_offset, end_offset, reader_of};
 use crate::reading::is_read_between;
+use crate::setting::Setting;
 use jls_parts::Part;
 use std::alloc::{AllocError, Global};
 

@@ -1,0 +1,4 @@
+mod Lists
+mod Sets
+mod Records
+mod BorderOffsets

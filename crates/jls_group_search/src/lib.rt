@@ -1,0 +1,16 @@
+//! The search by groups: splices of copies that read between two markers, where no splice is without a fault.
+#![tactic(auto)]
+
+mod choosing;
+mod offsets;
+mod order;
+mod reading;
+mod search;
+mod setting;
+mod trying;
+
+pub use reading::reads_between;
+pub use search::search_groups;
+
+#[cfg(test)]
+mod tests;
