@@ -48,9 +48,9 @@ module _ (ps : List Part) (count : ℕ) (found : Found) (end : Option Border) (i
   the_group : IsGroup ps The × (The.head ≡ found.head)
   the_group = ((is.begin, is.head, end_is_later ps count found.begin.part end is.behind is_end), refl)
 
-  groups_if : (was_open : Bool) → AllByRecursion (λ group. IsGroup ps group × (group.head ≡ found.head))
+  groups_if : (was_open : Bool) → AllByRecursion (λ (group : Group). IsGroup ps group × (group.head ≡ found.head))
       (if was_open then found.groups.items ++ The ∷ [] else found.groups.items)
-  groups_if true = all_more (λ group. IsGroup ps group × (group.head ≡ found.head)) found.groups.items The is.groups the_group
+  groups_if true = all_more (λ (group : Group). IsGroup ps group × (group.head ≡ found.head)) found.groups.items The is.groups the_group
   groups_if false = is.groups
 
   in_more : (place : ℕ) → IsInSome found.groups.items place → IsInSome (found.groups.items ++ The ∷ []) place
@@ -74,7 +74,7 @@ module _ (ps : List Part) (count : ℕ) (found : Found) (end : Option Border) (i
   covered_if false place l (inr (inl h)) = inr h
   covered_if false place l (inr (inr h)) = let e : false ≡ true = h.0 in absurd cc
 
-  pub closed_groups_are : AllByRecursion (λ group. IsGroup ps group × (group.head ≡ found.head)) (closed_groups found end)
+  pub closed_groups_are : AllByRecursion (λ (group : Group). IsGroup ps group × (group.head ≡ found.head)) (closed_groups found end)
   closed_groups_are = groups_if found.is_open
 
   pub closed_groups_cover : (place : ℕ) → place < count → Differs (get_or ps place (Same [])) → (place < found.head) ⊎ IsInSome (closed_groups found end) place
@@ -87,7 +87,7 @@ module _ (ps : List Part) (count : ℕ) (found : Found) (is : IsFound ps count f
   pub pass_differ : (after : Found) → after ≡ record found { is_open = true } → IsFound ps (count + 1) after
   pass_differ after e = subst (IsFound ps (count + 1)) (sym e) (record {
     begin = is.begin;
-    behind = (let l = is.behind in omega (arith, l));
+    behind = (let l = is.behind in let g : found.begin.part < count + 1 = omega (arith, l) in g);
     head = is.head;
     groups = is.groups;
     covered = λ place l differs. elim (last_or_before place count l) [
@@ -110,7 +110,7 @@ module _ (ps : List Part) (count : ℕ) (found : Found) (is : IsFound ps count f
   pub pass_same : (Differs (get_or ps count (Same [])) → ⊥) → IsFound ps (count + 1) found
   pass_same same = record {
     begin = is.begin;
-    behind = (let l = is.behind in omega (arith, l));
+    behind = (let l = is.behind in let g : found.begin.part < count + 1 = omega (arith, l) in g);
     head = is.head;
     groups = is.groups;
     covered = λ place l differs. is.covered place (not_here same place l differs) differs;
@@ -124,11 +124,11 @@ module _ (ps : List Part) (count : ℕ) (found : Found) (is : IsFound ps count f
       let heads : closed.head ≡ found.head = c.head in
       subst (IsFound ps (count + 1)) (sym e) (record {
         begin = is_next;
-        behind = (omega (arith, at_next));
-        head = (let h = is.head in let b = is.behind in omega (arith, h, b, at_next, heads));
+        behind = (let g : next.part < count + 1 = omega (arith, at_next) in g);
+        head = (let h = is.head in let b = is.behind in let g : closed.head ≤ next.part = omega (arith, h, b, at_next, heads) in g);
         groups =
-            subst (λ gs. AllByRecursion (λ group. IsGroup ps group × (group.head ≡ closed.head)) gs) (sym c.groups)
-            (subst (λ n. AllByRecursion (λ group. IsGroup ps group × (group.head ≡ n)) (closed_groups found (Some end))) (sym heads)
+            subst (λ gs. AllByRecursion (λ (group : Group). IsGroup ps group × (group.head ≡ closed.head)) gs) (sym c.groups)
+            (subst (λ n. AllByRecursion (λ (group : Group). IsGroup ps group × (group.head ≡ n)) (closed_groups found (Some end))) (sym heads)
             (closed_groups_are ps count found (Some end) is (is_end, at_end)));
         covered = λ place l differs.
             elim (closed_groups_cover ps count found (Some end) is (is_end, at_end) place (not_here same place l differs) differs) [
@@ -141,12 +141,12 @@ module _ (ps : List Part) (count : ℕ) (found : Found) (is : IsFound ps count f
 pub found_first : (ps : List Part) (first : Border) (found : Found) → IsBorder ps first → found.head ≡ first.part → found.begin ≡ first
     → found.groups.items ≡ [] → ((place : ℕ) → place < first.part + 1 → Differs (get_or ps place (Same [])) → place < first.part)
     → IsFound ps (first.part + 1) found
-found_first ps first found is head begin none before = record {
-  begin = subst (IsBorder ps) (sym begin) is;
-  behind = (let e = ap (λ (b : Border). b.part) begin in omega (arith, e));
-  head = (let e = ap (λ (b : Border). b.part) begin in omega (arith, e, head));
-  groups = subst (AllByRecursion (λ group. IsGroup ps group × (group.head ≡ found.head))) (sym none) tt;
-  covered = λ place l differs. inl (subst (λ n. place < n) (sym head) (before place l differs));
+found_first ps first found is head_is begin_is none before = record {
+  begin = subst (IsBorder ps) (sym begin_is) is;
+  behind = (let e : found.begin.part ≡ first.part = ap (λ (b : Border). b.part) begin_is in omega (arith, e));
+  head = (let e : found.begin.part ≡ first.part = ap (λ (b : Border). b.part) begin_is in omega (arith, e, head_is));
+  groups = subst (AllByRecursion (λ (group : Group). IsGroup ps group × (group.head ≡ found.head))) (sym none) tt;
+  covered = λ place l differs. inl (subst (λ n. place < n) (sym head_is) (before place l differs));
 }
 
 -- what is found of all parts, however many were gone over
@@ -178,18 +178,18 @@ before_first ps first is place l differs =
 -- The end ----------------------------------------------------------------------------------------------------------
 
 -- what is in the head is in each group
-in_head : (ps : List Part) (head place : ℕ) (groups : List Group) → AllByRecursion (λ group. IsGroup ps group × (group.head ≡ head)) groups
+in_head : (ps : List Part) (head place : ℕ) (groups : List Group) → AllByRecursion (λ (group : Group). IsGroup ps group × (group.head ≡ head)) groups
     → 0 < length groups → place < head → IsInSome groups place
 in_head ps head place [] h some l = absurd (omega (arith, some))
 in_head ps head place (group ∷ groups) h some l = (group, (0, omega arith, refl), inl (subst (λ n. place < n) (sym h.0.1) l))
 
 module _ (ps : List Part) (found after : Found) (is : IsFound ps (length ps) found) (closed : IsClosed found None after) where
-  all_groups : AllByRecursion (λ group. IsGroup ps group × (group.head ≡ found.head)) after.groups.items
-  all_groups = subst (λ gs. AllByRecursion (λ group. IsGroup ps group × (group.head ≡ found.head)) gs) (sym closed.groups)
+  all_groups : AllByRecursion (λ (group : Group). IsGroup ps group × (group.head ≡ found.head)) after.groups.items
+  all_groups = subst (λ gs. AllByRecursion (λ (group : Group). IsGroup ps group × (group.head ≡ found.head)) gs) (sym closed.groups)
       (closed_groups_are ps (length ps) found None is tt)
 
   pub are_groups : AllByRecursion (IsGroup ps) after.groups.items
-  are_groups = all_of (λ group. IsGroup ps group × (group.head ≡ found.head)) (IsGroup ps) after.groups.items (λ group h. h.0) all_groups
+  are_groups = all_of (λ (group : Group). IsGroup ps group × (group.head ≡ found.head)) (IsGroup ps) after.groups.items (λ group h. h.0) all_groups
 
   pub groups_cover : CoverParts ps after.groups.items
   groups_cover some place l differs =
@@ -197,3 +197,24 @@ module _ (ps : List Part) (found after : Found) (is : IsFound ps (length ps) fou
         | inl h ↦ in_head ps found.head place after.groups.items all_groups some h
         | inr h ↦ subst (λ gs. IsInSome gs place) (sym closed.groups) h
       ]
+
+-- Closing ----------------------------------------------------------------------------------------------------------
+
+pub closed_before : (found : Found) (end : Option Border) → found.is_open ≡ false → IsClosed found end found
+closed_before found end e = record {
+  head = refl;
+  begin = refl;
+  is_open = e;
+  groups = sym (ap (λ (was_open : Bool). if was_open then found.groups.items ++ (record { head = found.head; begin = found.begin; end = end }) ∷ [] else found.groups.items) e);
+}
+
+pub closed_now : (found after : Found) (end : Option Border) → found.is_open ≡ true → after.head ≡ found.head → after.begin ≡ found.begin
+    → after.is_open ≡ false
+    → after.groups.items ≡ found.groups.items ++ (record { head = found.head; begin = found.begin; end = end }) ∷ [] → IsClosed found end after
+closed_now found after end e head_is begin_is over added = record {
+  head = head_is;
+  begin = begin_is;
+  is_open = over;
+  groups = added
+      ∙ sym (ap (λ (was_open : Bool). if was_open then found.groups.items ++ (record { head = found.head; begin = found.begin; end = end }) ∷ [] else found.groups.items) e);
+}

@@ -1,6 +1,6 @@
 //! Borders of groups: places behind a marker in parts that all copies have alike.
 
-ghost use Rattle.std.specs.Prelude.{◌≡◌, ◌↔◌, ◌<◌, length, IsTrue, IfSome};
+ghost use Rattle.std.specs.Prelude.{◌≡◌, ◌<◌, length, IsTrue, IfSome};
 ghost use Rattle.jls_parts.specs.PartsOf.{part_of, parts_of};
 ghost use Rattle.jls_splice_groups.specs.Borders.{IsMark, IsBehindMark, IsBorder, IsBorderOf};
 
@@ -17,9 +17,12 @@ pub struct Border {
 
 /// Whether it is the code of SOS, or of a restart marker.
 fn is_mark(code: u8) -> bool
-    ensures { IsTrue result ↔ IsMark code }
+    ensures { IsTrue result → IsMark code }
 {
-    code == 0xDA || (0xD0 <= code && code <= 0xD7)
+    if code == 0xDA {
+        return true;
+    }
+    0xD0 <= code && code <= 0xD7
 }
 
 /// Whether such a marker ends behind so many of the bytes.

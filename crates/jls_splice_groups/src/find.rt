@@ -57,22 +57,25 @@ fn first_border(parts: &[Part<'_>]) -> Option<Border>
 }
 
 /// Adds the group that is open, if one is, and that ends there.
+#[tactic(auto, using(crate::proofs::Steps::closed_before, crate::proofs::Steps::closed_now))]
 fn close(found: &mut Found, end: Option<Border>) -> Result<(), AllocError>
     ensures { OnOk result (IsClosed found.old end found.new) }
 {
-    if found.is_open {
-        let group = Group {
-            head: found.head,
-            begin: found.begin,
-            end,
-        };
-        found.groups.push(group)?;
+    if !found.is_open {
+        return Ok(());
     }
+    let group = Group {
+        head: found.head,
+        begin: found.begin,
+        end,
+    };
+    found.groups.push(group)?;
     found.is_open = false;
     Ok(())
 }
 
 /// Goes on over one part.
+#[tactic(auto, using(crate::proofs::Steps::pass_differ, crate::proofs::Steps::pass_same, crate::proofs::Steps::pass_borders))]
 fn pass(found: &mut Found, parts: &[Part<'_>], part: usize) -> Result<(), AllocError>
     requires within { part < length parts.now }
     requires found { IsFound (parts_of parts.now) part found.old }
@@ -91,6 +94,7 @@ fn pass(found: &mut Found, parts: &[Part<'_>], part: usize) -> Result<(), AllocE
 }
 
 /// What is found in all parts, from the first border on.
+#[tactic(auto, using(crate::proofs::Steps::found_first, crate::proofs::Steps::before_first, crate::proofs::Steps::found_all))]
 fn found_in(alloc: Global, parts: &[Part<'_>], first: Border) -> Result<Found, AllocError>
     requires { IsBorder (parts_of parts.now) first }
     ensures { IfOk result (λ found. IsFound (parts_of parts.now) (length parts.now) found) }
@@ -112,6 +116,7 @@ fn found_in(alloc: Global, parts: &[Part<'_>], first: Border) -> Result<Found, A
 /// memory is refused.
 ///
 /// Which markers are taken is a proposal, as bytes that look like one can stand in a segment. SOS is taken where a scan header follows.
+#[tactic(auto, using(crate::proofs::Steps::are_groups, crate::proofs::Steps::groups_cover))]
 pub fn find_groups(alloc: Global, parts: &[Part<'_>]) -> Result<Vec<Group>, AllocError>
     ensures groups { IfOk result (λ groups. AllByRecursion (IsGroup (parts_of parts.now)) groups.items) }
     ensures cover { IfOk result (λ groups. CoverParts (parts_of parts.now) groups.items) }
