@@ -59,7 +59,7 @@ fn borders_in(bytes: &[u8], from: usize) -> Option<(usize, usize)>
     ensures { IfSome result (λ places. IsBehindMark bytes.now places.0 × IsBehindMark bytes.now places.1) }
 {
     let mut borders = None;
-    for at in from..bytes.len() {
+    for at in from..bytes.len() + 1 {
         if is_border(bytes, at) {
             let first = match borders {
                 Some((first, _)) => first,

@@ -17,7 +17,7 @@ const SCAN: [u8; 11] = [
 #[test]
 fn groups_between_markers(rt: HostRuntime) -> Result<(), Fail> {
     let alloc = rt.alloc();
-    let mark = [0x01, 0xFF, 0xD0, 0x02, 0xFF, 0xD1, 0x03];
+    let mark = [0x01, 0xFF, 0xD0, 0x02, 0xFF, 0xD1];
     let empty: [&[u8]; 2] = [&[1], &[2]];
     let mut parts = Vec::new(alloc);
     assert!(rt; find_groups(alloc, &parts)?.is_empty());
