@@ -142,6 +142,22 @@ fn many_fill_bytes(rt: HostRuntime) -> Result<(), Fail> {
     Ok(())
 }
 
+/// The copy of ten lines with 100,000 bytes FF in place of the one before the first mark.
+#[test]
+fn many_fill_bytes_before_a_mark(rt: HostRuntime) -> Result<(), Fail> {
+    let alloc = rt.alloc();
+    let whole = bytes_of(alloc, TEN_LINES)?;
+    let (front, back) = whole.split_at(32usize.min(whole.len()));
+    let mut bytes = front.to_vec(alloc)?;
+    for _ in 0..99_999u32 {
+        bytes.push(0xFF)?;
+    }
+    bytes.extend_from_slice(back)?;
+    let lines =
+        "0.0=[0] 0.1=[1] 0.2=[2] 0.3=[3] 0.4=[4] 0.5=[5] 0.6=[6] 0.7=[7] 0.8=[8] 0.9=[9] | 0 Eoi(100058)";
+    check_copy(&rt, alloc, &bytes, lines)
+}
+
 #[test]
 fn copies_in_pieces_of_every_size(rt: HostRuntime) -> Result<(), Fail> {
     let alloc = rt.alloc();
