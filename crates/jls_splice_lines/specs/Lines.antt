@@ -30,7 +30,7 @@ groups_end is_used_up = if is_used_up then codes ", tries used up\n" else codes 
 -- so many groups were searched; no line, where none was
 abbrev pub groups_line : Option GroupSearch → List ℕ
 groups_line None = []
-groups_line (Some search) = codes "by groups " ++ decimal search.groups ++ groups_end search.is_used_up
+groups_line (Some found) = codes "by groups " ++ decimal found.groups ++ groups_end found.is_used_up
 
 -- a single file was asked for, and there is none
 abbrev pub single_line : Bool → List ℕ
