@@ -73,7 +73,7 @@ fn bare<'a>(alloc: Global) -> Command<'a>
     ensures local { (out-Command result).has_globals ≡ false }
 {
     let named = Command::new(alloc, "jls-splice").about(texts::ABOUT);
-    named.after_help(texts::NOTES).version("0.1.0")
+    named.after_help(texts::NOTES).version("1.0.0")
 }
 
 /// The command with its options.

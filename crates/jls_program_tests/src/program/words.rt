@@ -84,6 +84,6 @@ fn says_where_the_report_stopped(rt: HostRuntime) -> Result<(), Fail> {
 #[test]
 fn tells_its_version(rt: HostRuntime) -> Result<(), Fail> {
     let found = run_words(rt.alloc(), "--version", GOOD)?;
-    assert_eq!(rt; found.report.as_slice(), b"jls-salvage 0.1.0\n".as_slice());
+    assert_eq!(rt; found.report.as_slice(), b"jls-salvage 1.0.0\n".as_slice());
     Ok(())
 }
