@@ -16,8 +16,8 @@ PartsCanBeSearched =
     (copies : List (List ℕ)) (parts : List Part) → AreParts copies parts → 0 < length copies → AreShort copies
     → AllByRecursion HasSomeWay parts × IsShort parts
 
--- What a search over one copy or more found are splices of them without a fault. Where its tries were not used up, it found each file without
--- a fault that has, at each of the parts, what some copy has there
+-- What a search over one copy or more found are splices of them without a fault. Where its tries were not used up, it found each file
+-- without a fault that has, at each of the parts, what some copy has there
 abbrev pub SearchesComeToEachSplice : Type 0
 SearchesComeToEachSplice =
     (copies : List (List ℕ)) (parts : List Part) → AreParts copies parts → 0 < length copies → (found : List (List ℕ)) (is_used_up : Bool)

@@ -37,17 +37,17 @@ WholeSplicesGiveNoOther =
     → (pic : WholePicture) → IsPicture pic → (file : List ℕ) → IsWholeFile pic file → IsSplice (length copies) parts file
     → (station : PartialPicture) → TookInTheEnd station files → IsSettled station → picture_of station ≡ pic
 
--- What is taken of the copies and of what `search_copies` came to over them are files taken, each of which is a splice. Where its tries were
--- not used up, each splice without a fault is among them
+-- What is taken of the copies and of what `search_copies` came to over them are files taken, each of which is a splice. Where its tries
+-- were not used up, each splice without a fault is among them
 abbrev pub SearchedFilesAreTaken : Type 0
 SearchedFilesAreTaken =
     (copies : List (List ℕ)) (parts : List Part) (found : List (List ℕ)) (is_used_up : Bool) (shape : PictureShape) (files : List (List ℕ))
     → SearchTaken copies parts found is_used_up shape files
     → FilesTaken copies parts shape files × (is_used_up ≡ false → AllTaken copies parts shape files)
 
--- So, where the tries of `search_copies` were not used up: if some copy has, at each part in which the copies are found to differ, what an
--- undamaged file has there, that file is taken; and not each line of a station that took the files taken is settled, or they are that file's
--- picture
+-- So, where the tries of `search_copies` were not used up: if some copy has, at each part in which the copies are found to differ, what
+-- an undamaged file has there, that file is taken; and not each line of a station that took the files taken is settled, or they are that
+-- file's picture
 abbrev pub SearchedSplicesGiveNoOther : Type 0
 SearchedSplicesGiveNoOther =
     (copies : List (List ℕ)) (parts : List Part) (found : List (List ℕ)) (shape : PictureShape) (files : List (List ℕ))

@@ -50,7 +50,8 @@ pub record HandsAll (t : Texts) (desk report faults : List Event) : Type 0 where
 
 -- the run stops before all of it is: at the report output, at its output, or at the file
 pub data StopsInHanding (t : Texts) (r : Refusal) : List Event → List Event → List Event → Type 0 where
-  at_report : (report faults : List Event) → Printed t.progress faults → StopsAtReport t.lines r report → StopsInHanding t r [] report faults
+  at_report : (report faults : List Event) → Printed t.progress faults → StopsAtReport t.lines r report
+      → StopsInHanding t r [] report faults
   at_output : (desk report faults : List Event) → Printed t.progress faults → Wrote t.lines report → StopsAtOutput t.out t.text r desk
       → StopsInHanding t r desk report faults
   at_file : (writing more report faults : List Event) → Printed t.progress faults → Wrote t.lines report → HandsOut t.out t.text writing

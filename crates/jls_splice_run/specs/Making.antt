@@ -105,7 +105,8 @@ no_picture_cause _ f offset = cause.NotRead
 abbrev pub IsRefusedFor : List (List ℕ) → List ReadStop → ShapeFound → Refusal → Type 0
 IsRefusedFor names stops (Taken shape) r = ⊥
 IsRefusedFor names stops (Differ copy) r = (r.name.now ≡ get_or names copy []) × (r.cause ≡ cause.ShapeDiffers)
-IsRefusedFor names stops (NoFrame f offset) r = (r.name.now ≡ get_or names 0 []) × (r.cause ≡ no_picture_cause (get_or stops 0 Whole) f offset)
+IsRefusedFor names stops (NoFrame f offset) r =
+    (r.name.now ≡ get_or names 0 []) × (r.cause ≡ no_picture_cause (get_or stops 0 Whole) f offset)
 
 -- memory runs out
 abbrev pub IsWantOfMemory : Asked → Refusal → Type 0

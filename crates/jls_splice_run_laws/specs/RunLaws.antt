@@ -13,8 +13,8 @@ use Rattle.jls_splice_run.specs.Handing.{HandsAll}
 use Rattle.jls_splice_run.specs.Making.{Made, IsMade}
 use Rattle.jls_splice_run.specs.Runs.{Performs, texts}
 
--- what was asked was done: the copies were read to their ends, this was made of them, each line of its picture is settled, and all of it was
--- handed out
+-- what was asked was done: the copies were read to their ends, this was made of them, each line of its picture is settled, and all of it
+-- was handed out
 pub record DidSplice (a : Asked) (desk report : List Event) : Type 0 where
   pub copies : List CopyBytes
   pub made : Made
