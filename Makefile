@@ -1,6 +1,6 @@
 # make, make test, make install, make uninstall, make dist: the programs, their gate, and their files in their places.
 #
-# `make` wants the Rattle toolchain (rt); `make install` and what `make dist` packs don't. docs/INSTALL.md says more.
+# `make` needs the Rattle toolchain (rt); `make install` and what `make dist` packs don't. docs/INSTALL.md says more.
 
 PREFIX ?= /usr/local
 DESTDIR ?=

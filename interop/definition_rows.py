@@ -1,9 +1,9 @@
 """The rows of docs/DEFINITIONS.md: one for each definition that a public function rests on, in the order of `./audit --list`.
 
 A row has a name, what it says, its source, and the files of examples that compute it. The rows of a file of specs/ are a table under its
-name, and the files of a crate stand under the crate's. Names, order and examples are made here. What a row says and its source are
-written by hand; a row that is new gets the comment of its definition. Text before the first crate, between a crate and its first file,
-and behind the last crate stays as it is.
+name, and the files of a crate are under the crate's. Names, order and examples are made here. What a row says and its source are
+written by hand; a new row gets the comment of its definition. Text before the first crate, between a crate and its first file,
+and after the last crate stays as it is.
 """
 import glob
 import importlib.machinery

@@ -1,6 +1,6 @@
 /* The calls of the system that interop/faults lets fail, loaded before the C library. The environment says which ones, and where:
 
-   READ_FAILS, WRITE_FAILS   the read or write behind so many bytes fails; BY_SIGNAL: with EINTR; TAKES_NONE: the write takes nothing
+   READ_FAILS, WRITE_FAILS   the read or write after so many bytes fails; BY_SIGNAL: with EINTR; TAKES_NONE: the write takes nothing
    READ_MOST, WRITE_MOST     the most bytes that a call gives or takes
    WRITE_SLEEPS              so many microseconds before each write
    KILLED_AT_WRITE           the write of this number is ended by SIGKILL

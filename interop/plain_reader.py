@@ -1,16 +1,16 @@
 """A plain reader of one JPEG-LS file that may be damaged, to compare with. It looks at the whole file at once. It is written from the
 marker syntax of ITU-T T.81, annex B, and T.87, annex C, with these rules of this project for damage:
 
-- Segments are read until EOI or the first fault. A file may end where a marker may begin, or in scan data. What came before stands.
+- Segments are read until EOI or the first fault. A file may end where a marker may begin, or in scan data. What was read before counts.
 - An interval has Ri rows of the picture, the last one the rest; with Ri 0 there is one for all rows.
-- Scan data ends at the first EOI, SOS, LSE, DRI, COM or APPn, and RSTm parts it into pieces. FF bytes before these markers are fill, and
-  those that the file ends in are dropped. Every other marker belongs to its piece.
-- The first piece is interval 0. The one after RSTm is the next interval that RSTm can stand before. If the scan has no such interval, the
+- Scan data ends at the first EOI, SOS, LSE, DRI, COM or APPn, and RSTm divides it into pieces. FF bytes before these markers are fill, and
+  those at the end of the file are dropped. Every other marker belongs to its piece.
+- The first piece is interval 0. The one after RSTm is the next interval that RSTm can precede. If the scan has no such interval, the
   piece is beyond, and counts for nothing.
 - A last piece that the end of the file cuts gives its head: the first complete lines. That is so if what is there of the piece can be a
   prefix of some lines' code.
 
-`tell` gives all that a reader has to say of a file, as lines of text.
+`tell` gives all that a reader finds in a file, as lines of text.
 """
 import bisect
 import re

@@ -7,7 +7,7 @@ ghost use Rattle.jls_bits.specs.Chunk.{NoShortFront};
 
 use std::marker::Model;
 
-/// Up to 64 bits, which are appended at the end and taken at the front. A contract sees the list of the bits.
+/// Up to 64 bits. They are appended at the end and taken from the start. A contract sees the list of the bits.
 #[derive(Drop)]
 pub struct Chunk {
     /// The bits are its low `count` ones.
@@ -142,8 +142,7 @@ impl Chunk {
         Some((zeros, number as u32))
     }
 
-    /// Takes the code of a number, where it is short and stands whole at the front. None exactly where no short code does: then it
-    /// takes nothing.
+    /// Takes the code of a number, if the chunk begins with a complete short code. Otherwise it answers None and takes nothing.
     pub fn take_code(&mut self, k: u8, g: u8, qbpp: u8) -> Option<u32>
         requires k { k ≤ 16 }
         requires qbpp { (1 ≤ qbpp) × (qbpp ≤ 16) }

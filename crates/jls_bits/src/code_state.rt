@@ -56,8 +56,8 @@ impl CodeState {
         }
     }
 
-    /// The state of a short code that all bits of a chunk begin. They are fewer zeros than an escape's, or the one behind them and too few
-    /// bits of the remainder. None where no such state has these bits.
+    /// The state of an incomplete short code whose bits are all bits of a chunk. They are fewer zeros than those of an escape, or such
+    /// zeros, the one after them and too few bits of the remainder. None if no such state has these bits.
     #[inline(always)]
     pub fn of_short(k: u8, g: u8, qbpp: u8, chunk: &Chunk) -> Option<CodeState>
         requires k { k ≤ 16 }
@@ -119,8 +119,8 @@ impl CodeState {
         }
     }
 
-    /// Takes bits from the front of a chunk until the code is whole or refused, or no bit is left. Behind a refusal the
-    /// rest of the chunk is of no use.
+    /// Takes bits from the start of a chunk until the code is complete or refused, or no bit is left. After a refusal the rest of the
+    /// chunk is of no use.
     #[inline(always)]
     pub fn push_chunk(self, k: u8, g: u8, qbpp: u8, chunk: &mut Chunk) -> CodeStep
         requires k { k ≤ 16 }

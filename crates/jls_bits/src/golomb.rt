@@ -29,10 +29,10 @@ fn read_code(reader: &mut BitReader<'_>, k: u8, g: u8, qbpp: u8) -> Option<u32>
     None
 }
 
-/// Reads the code LG(k, g) at the front of what is left, and gives its number (ITU-T T.87, A.5.3). Here k is the number of bits of the
-/// remainder, and g the length of an escape in bits. An escape has `qbpp` bits behind its zeros and its one. The number may be above
-/// 2^qbpp, since a short code has no such bound. None where no code stands there. The bits end before the code does, or they are no
-/// number's, as an escape for a number that has a short code. The reader then stands where it stood.
+/// Reads the code LG(k, g) that comes next, and gives its number (ITU-T T.87, A.5.3). Here k is the number of bits of the remainder,
+/// and g the length of an escape in bits. An escape has `qbpp` bits after its zeros and its one. The number may be above 2^qbpp, since
+/// a short code has no such bound. The answer is None if no code comes next: the bits end before the code does, or they are no
+/// number's, as an escape for a number that has a short code. Then the reader does not move.
 pub fn read_golomb(reader: &mut BitReader<'_>, k: u8, g: u8, qbpp: u8) -> Option<u32>
     requires k { k ≤ 16 }
     requires qbpp { (1 ≤ qbpp) × (qbpp ≤ 16) }

@@ -150,8 +150,8 @@ impl<'a> BitReader<'a> {
     }
 }
 
-/// A law: bytes are whole exactly where each byte behind 0xFF is below 0x80. What can be read of other bytes is the data
-/// bits in front of the first byte of 0x80 or more that follows 0xFF.
+/// A law: bytes are whole if and only if each byte after 0xFF is below 0x80. What can be read of other bytes is the data bits before
+/// the first byte of 0x80 or more that follows 0xFF.
 pub fn data_bits_end_at_a_marker()
     ensures whole { (bytes : List ℕ) → (is_whole bytes ≡ true) ↔ BelowMarkers bytes }
     ensures read { (front back : List ℕ) (x : ℕ) → is_whole (front ++ 0xFF ∷ []) ≡ true → 0x80 ≤ x

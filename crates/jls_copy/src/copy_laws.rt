@@ -9,13 +9,13 @@ pub fn bytes_decide()
     ensures { BytesDecide }
 {}
 
-/// A law: bytes behind a copy leave its course as it is, if the course ends at EOI or at a fault. The fault `Ended`, of an input that ends
-/// too early, is excepted.
+/// A law: bytes after a copy leave its course as it is, if the course ends at EOI or at a fault. The fault `Ended`, of an input that
+/// ends too early, is excepted.
 pub fn final_ends_stay()
     ensures { FinalEndsStay }
 {}
 
-/// A law: each other end is the input's, and any bytes behind the copy change it.
+/// A law: each other end is the input's, and any bytes after the copy change it.
 pub fn other_ends_change()
     ensures { OtherEndsChange }
 {}

@@ -13,19 +13,19 @@ pub fn units_are_cut()
     ensures { UnitsAreCut }
 {}
 
-/// A law: a restart marker gives a number to the piece behind it. It is the least one above the number given last whose marker it can be.
+/// A law: a restart marker gives a number to the piece after it. It is the least one above the number given last that fits the marker.
 pub fn numbers_are_least()
     ensures { NumbersAreLeast }
 {}
 
 /// A law of lists of marks. Fewer than eight restart markers in a row are lost, and every marker that is seen is a true one. Then those
-/// that are left give the pieces behind them the numbers that these have in the undamaged picture. That the pieces of a copy get these
+/// that are left give the pieces after them the numbers that these have in the undamaged picture. That the pieces of a copy get these
 /// numbers is a law of the crate `jls_headline`.
 pub fn lost_marks_are_bridged()
     ensures { LostMarksAreBridged }
 {}
 
-/// A law of lists of marks: a mark whose number is beyond the last interval gives that number to the piece behind it. It leaves the
+/// A law of lists of marks: a mark whose number is beyond the last interval gives that number to the piece after it. It leaves the
 /// numbers of all later pieces as they were without it.
 pub fn marks_beyond_change_nothing()
     ensures { MarksBeyondChangeNothing }

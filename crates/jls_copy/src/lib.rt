@@ -1,5 +1,5 @@
-//! One copy of a picture as a JPEG-LS file, read through damage: its segments, the pieces of its scan data between restart markers, and
-//! the lines that each piece still gives (ITU-T T.87 with the marker syntax of ITU-T T.81).
+//! One copy of a picture as a JPEG-LS file, which may be damaged. The crate reads its segments, the pieces of its scan data between
+//! restart markers, and the lines that each piece gives (ITU-T T.87 with the marker syntax of ITU-T T.81).
 #![tactic(auto)]
 
 mod copy_laws;

@@ -135,7 +135,7 @@ impl CopyReader {
         }
     }
 
-    /// How many bytes were fed, those behind the copy's end among them. After a refused `feed` nothing is promised of the answer.
+    /// How many bytes were fed, also those after the copy's end. After a refused `feed` nothing is promised of the answer.
     pub fn fed(&self) -> u64
         ensures { IfSome self.now (λ bytes. result ≡ length bytes) }
     {
@@ -182,9 +182,9 @@ impl CopyReader {
         Ok(count)
     }
 
-    /// Takes the next slice of the copy, which may be empty. All slices together may have 2^63 - 1 bytes at most. Bytes behind the
-    /// copy's end are counted, and otherwise ignored. The only refusal is out of memory, and it is for good: every further `feed` is
-    /// refused too, and `finish` answers `OutOfMemory`.
+    /// Takes the next slice of the copy, which may be empty. All slices together may have 2^63 - 1 bytes at most. Bytes after the
+    /// copy's end are counted, and otherwise ignored. The only refusal is out of memory. After it every further `feed` is refused too,
+    /// and `finish` answers `OutOfMemory`.
     pub fn feed(&mut self, slice: &[u8]) -> Result<(), AllocError>
         requires { IfSome self.old (λ bytes. length bytes + length slice.now ≤ 2 ^ 63 - 1) }
         ensures ok { OnOk result (self.new ≡ after self.old slice.now) }

@@ -29,9 +29,9 @@ pub(crate) fn is_text(bytes: &[u8]) -> bool
     bytes.starts_with(b"JLSP")
 }
 
-/// Reads a copy to its end, behind the end of its picture too, from the device's current position on, and puts its bytes into the room of
-/// `bytes`. Reads have room for at most 4,096 bytes, and there are at most 4,294,967,295 of them. None is made once the bytes begin as
-/// the text of a partial picture: that stops the reading as its end does.
+/// Reads a copy to the end of the device, from its current position on. Bytes after the end of the picture are read too. They go into
+/// the room of `bytes`. Reads have room for at most 4,096 bytes, and there are at most 4,294,967,295 of them. None is made once the
+/// bytes begin as the text of a partial picture: that stops the reading as its end does.
 pub fn read_to_end<S: Source>(device: &mut S, bytes: &mut Vec<u8>) -> Result<ReadStop, AllocError>
     ensures read { IfOk result (λ stop.
         GrewBy (λ reads. IsRead IsTextFront reads bytes.new.items stop) (S.history device.old) (S.history device.new)) }

@@ -38,13 +38,13 @@ pub trait Open: Read + Write {
 
 /// A device over a reader, a writer or files of std: it notes each call, with what the call gave or took.
 ///
-/// Every error counts as a failure, an interrupted call too, and so does a write that took 0 of some bytes. Nothing is
-/// buffered, so what a write took has gone to the writer. A read while no input is open gives 0 bytes, and a write while no
-/// output is open fails; the stream behind is not asked.
+/// Every error counts as a failure, an interrupted call too, and so does a write that took 0 of some bytes. Nothing is buffered, so
+/// what a write took has gone to the writer. If no input is open a read gives 0 bytes, and if no output is open a write fails. Then the
+/// stream is not called.
 ///
-/// Contracts speak of what is noted. If the bytes behind the device are known, as those of a list in memory, what is noted is what they
-/// lose or gain. The laws `reads_give_the_content` and `writes_are_held` say so. Names are handed on, each once (`Open`). That each read
-/// and each write asks the stream behind it only once no contract says: it is read here.
+/// Contracts speak of what is noted. If the bytes of the stream are known, as those of a list in memory, what is noted is what they
+/// lose or gain. The laws `reads_give_the_content` and `writes_are_held` say so. Names are handed on, each once (`Open`). No contract
+/// says that each read and each write calls the stream only once: the code here shows it.
 #[derive(Drop)]
 pub struct Counted<T> {
     inner: T,

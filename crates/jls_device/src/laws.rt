@@ -21,8 +21,8 @@ pub fn sink_over_list(list: Vec<u8>) -> Counted<Vec<u8>>
     Counted::new(list)
 }
 
-/// If the bytes behind a source are known, all reads together give exactly these bytes, in their order. Each read keeps that, and where a
-/// read meets the end they were all given. The history has this one read more, as one that gave bytes or as one that failed.
+/// If the bytes of a source are known, all reads together give exactly these bytes, in their order. Each read keeps that, and if a read
+/// meets the end they were all given. The history has this one read more, as one that gave bytes or as one that failed.
 pub fn reads_give_the_content<S: Source>(
     source: &mut S,
     into: &mut [u8],

@@ -21,8 +21,8 @@ pub fn join(alloc: Global, first: Partial, second: &Partial) -> Result<Station, 
     Ok(station)
 }
 
-/// A station that holds what either a partial picture or a text holds. The fault of a text is its first one from the front, and it comes
-/// before `ShapeDiffers`. `Text(OutOfMemory)` comes where memory runs out, and then nothing is said of the text.
+/// A station that holds what either a partial picture or a text holds. If the bytes are no text, their first fault is answered, and it
+/// comes before `ShapeDiffers`. `Text(OutOfMemory)` comes if memory runs out, and then nothing is said of the text.
 pub fn join_text(alloc: Global, held: Partial, bytes: &[u8]) -> Result<Station, MergeTextFault>
     ensures joined { IfOk result (λ station. MergesText held bytes.now station) }
     ensures refused { IfErr result (λ fault. RefusesText held bytes.now fault) }

@@ -9,16 +9,16 @@ ghost use Rattle.jls_headline.specs.SourceLaws.{SameSourcesSameText};
 use jls_picture::{Picture, pictures_are_whole};
 
 /// A law, the one that this product is trusted for. Stations of one shape took the same copies, in any order and with any repeats. Then
-/// they hold for every component and line the same readings, exactly the ones that those copies give. Their reports and their pictures are
-/// the same, and so are the PNM files and JPEG-LS files of these. If the copies were taken under the same sources, the stations and their
-/// texts are the same. Each reading then has exactly the sources of the copies that give it. A copy is the bytes that were read of it, in
-/// whatever lengths. Now let the copies be damaged copies of one picture, and let every line survive in some copy. Then each line of the
-/// station is settled, and they are that picture. The JPEG-LS file that is written of it, under any options that fit, reads as that
+/// they hold for every component and line the same readings, exactly the ones that those copies give. Their reports and their pictures
+/// are the same, and so are the PNM files and JPEG-LS files of these. If the copies were taken under the same sources, the stations and
+/// their texts are the same. Each reading then has exactly the sources of the copies that give it. A copy is the bytes that were read
+/// from it, in whatever lengths. Now let the copies be damaged copies of one picture, and let every line survive in some copy. Then
+/// each line of the station is settled, and the lines are that picture. Its JPEG-LS file, under any options that fit, reads as that
 /// picture and no other.
 ///
 /// A damaged copy may have lost whole restart intervals, fewer than eight restart markers in a row before one that is seen. The markers
-/// that are seen must be true ones. No piece must read as other lines than the picture's, be it damaged itself or stand behind a header
-/// that was changed. For pieces behind true headers that were only cut off, or run on, this is proved (`trimmed_copies_are_damaged`).
+/// that are seen must be true ones. No piece may decode to other lines than the picture's, even if it is damaged or a header before it
+/// was changed. For pieces that were only truncated or extended, after true headers, this is proved (`trimmed_copies_are_damaged`).
 pub fn same_copies_give_the_picture()
     ensures same { SameCopiesSameReadings }
     ensures same_sources { SameSourcesSameText }

@@ -9,8 +9,8 @@ pub fn numbers_come_back()
     ensures { NumbersComeBack }
 {}
 
-/// A law: a damaged copy gives exactly the picture's lines of the intervals whose piece reads, and of the head of a piece that the input's
-/// end cuts off. So whatever it gives is a line of the picture.
+/// A law: of the picture's lines a damaged copy gives exactly those of the intervals whose piece reads, and those of the head of a
+/// piece that the input's end cuts off. So whatever it gives is a line of the picture.
 pub fn damaged_copies_give_the_picture()
     ensures exactly { DamagedCopiesGiveExactly }
     ensures no_other { DamagedCopiesGiveNoOther }

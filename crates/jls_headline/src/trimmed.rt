@@ -3,8 +3,8 @@
 ghost use Rattle.jls_headline.specs.LostIntervalLaws.{TrimmedPiecesAreHarmless, TrimmedCopiesAreDamaged};
 ghost use Rattle.jls_headline.specs.LostIntervalLaws.{TrimmedPiecesHaveHeads, TrimmedPiecesHaveHeadsOfPicture};
 
-/// A law: a piece of which only the front came, or behind which bytes came, reads as the picture's lines or as none. Where it lacks a
-/// bit of their code its head is those of them that stand whole, and else empty.
+/// A law: a truncated or extended piece reads as the picture's lines or as none. If it lacks a bit of their code, its head is the lines
+/// that are complete. Otherwise its head is empty.
 pub fn trimmed_pieces_are_harmless()
     ensures lines { TrimmedPiecesAreHarmless }
     ensures heads { TrimmedPiecesHaveHeads }

@@ -8,8 +8,8 @@ use itoa::Buffer;
 /// The name of a file, of at most 4,096 bytes. Linux has no longer path.
 pub type Name = ArrayString<4096>;
 
-/// The name of a file beside an output: the output's name with `.jls-salvage-` and this number behind it. `None` where that is
-/// longer than 4,096 bytes.
+/// The name of a file beside an output: the output's name, then `.jls-salvage-` and this number. `None` if that is longer than 4,096
+/// bytes.
 pub fn name_beside(name: &str, number: u32) -> Option<Name>
     ensures named { IfSome result (λ n. n.bytes ≡ name.now ++ (codes ".jls-salvage-" ++ decimal number)) }
     ensures too_long { IfNone result (4096 < length (name.now ++ (codes ".jls-salvage-" ++ decimal number))) }

@@ -2,7 +2,7 @@
 
 use crate::decode_piece::PieceFault;
 
-/// What the bytes of an interval give where the input ends behind them.
+/// What the bytes of an interval give if the input ends after them.
 #[derive(Debug, PartialEq, Eq, Drop)]
 pub enum CutEnd {
     /// The lines that they read as.

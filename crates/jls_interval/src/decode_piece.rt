@@ -15,7 +15,7 @@ pub enum PieceFault {
     /// The whole piece has data bits, and more than seven of them follow the code of some lines.
     #[error("more than seven bits follow the code of the lines")]
     Long,
-    /// The bytes are no lines' code with at most seven bits behind it, nor are they `Long`.
+    /// The bytes are not the code of any lines with at most seven bits after it, nor are they `Long`.
     #[error("the bytes are no code of lines")]
     Broken,
     /// Memory was refused. Nothing is said of the bytes.
@@ -23,10 +23,10 @@ pub enum PieceFault {
     OutOfMemory,
 }
 
-/// Reads the bytes of an interval as its lines. They stand row by row, and in a row by component. Each has `width` samples of at most
-/// MAXVAL. `rows` is the number of lines of each component. The whole piece is looked at, also behind its last line. At most seven bits
-/// may follow the code, of any value, which is this profile's choice. A byte of 0x80 or more behind 0xFF makes the piece broken wherever
-/// it stands (ITU-T T.87, A.1).
+/// Reads the bytes of an interval as its lines, row by row, and within a row by component. Each has `width` samples of at most MAXVAL.
+/// `rows` is the number of lines of each component. The whole piece is judged, also after its last line. At most seven bits may follow
+/// the code, of any value, which is this profile's choice. A byte of 0x80 or more after 0xFF makes the piece broken, wherever it is
+/// (ITU-T T.87, A.1).
 pub fn decode_interval(
     alloc: Global,
     params: &Params,

@@ -9,7 +9,7 @@ pub fn heads_are_one()
     ensures { HeadsAreOne }
 {}
 
-/// If bits cut an event, behind those of whole events, then their head is the lines that were finished before it.
+/// If bits are those of whole events and then cut an event, their head is the lines that were finished before that event.
 pub fn heads_are_finished_lines()
     ensures { HeadsAreFinishedLines }
 {}
@@ -19,10 +19,10 @@ pub fn read_pieces_have_no_head()
     ensures { ReadPiecesHaveNone }
 {}
 
-/// Bits behind whole events may cut an event that can come next. They do if and only if lines are still to come and the bits are one of
-/// these. In regular mode they are a proper prefix of the code of some error. In run mode they are ones for full blocks, with columns left
-/// behind these. Or they are a count of columns whose least continuation is below the columns left. Or they are a whole count below the
-/// columns left, and a proper prefix of the code of some error. That error is not the one of the run's own value.
+/// Bits after whole events may cut an event that can come next. They do if and only if lines are still to come and the bits are one of
+/// these. In regular mode they are a proper prefix of the code of some error. In run mode they are ones for full blocks, with columns
+/// left after these. Or they are a count of columns whose least continuation is below the columns left. Or they are a whole count below
+/// the columns left, and a proper prefix of the code of some error. That error is not the one of the run's own value.
 pub fn cut_events_go_on()
     ensures { CutEventsGoOn }
 {}

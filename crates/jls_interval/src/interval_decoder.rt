@@ -266,9 +266,9 @@ impl IntervalDecoder {
         }
     }
 
-    /// The lines that the bytes read as, or why there are none. Where a push was refused the answer is out of memory, and else it never
-    /// is. The whole piece is looked at, also behind its last line. At most seven bits may follow the code, of any value, which is this
-    /// profile's choice. A byte of 0x80 or more behind 0xFF makes the piece broken wherever it stands (ITU-T T.87, A.1).
+    /// The lines that the bytes read as, or why there are none. If a push was refused the answer is out of memory, and otherwise it
+    /// never is. The whole piece is judged, also after its last line. At most seven bits may follow the code, of any value, which is
+    /// this profile's choice. A byte of 0x80 or more after 0xFF makes the piece broken, wherever it is (ITU-T T.87, A.1).
     pub fn finish(self) -> Result<Vec<Vec<u16>>, PieceFault>
         ensures outcome { MatchOption self.bytes (result ≡ Err PieceFault.OutOfMemory)
             (λ bytes. OutcomeIs self.parameters self.width self.components (self.rows * self.components) bytes result) }
@@ -279,8 +279,9 @@ impl IntervalDecoder {
         self.outcome()
     }
 
-    /// What the bytes give if the input ends behind them: the lines that they read as. If they read as none, it is the fault that `finish`
-    /// would answer, with the lines of their head. The only refusal is out of memory, where a push was refused. No memory is taken.
+    /// What the bytes give if the input ends after them: the lines that they read as. If they read as none, it is the fault that
+    /// `finish` would answer, with the lines of their head. The only refusal is out of memory, if a push was refused. No memory is
+    /// taken.
     pub fn finish_cut(self) -> Result<CutEnd, AllocError>
         ensures refused { IfNone self.bytes (IsErr result) }
         ensures cut_end { IfSome self.bytes (λ bytes. MatchResult result

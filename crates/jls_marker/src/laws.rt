@@ -53,8 +53,8 @@ pub fn intervals_part_the_lines()
     ensures { IntervalsPartTheLines }
 {}
 
-/// Behind a DRI that is taken, the restart interval is its own. Behind an LSE of ID 1 the preset values are its own, and behind a SOF the
-/// frame is. Each of these is otherwise what it was.
+/// After a DRI that is taken, the restart interval is its own. After an LSE of ID 1 the preset values are its own, and after a SOF the
+/// frame is. Otherwise each of these is what it was.
 pub fn segments_set_their_own()
     ensures { SegmentsSetTheirOwn }
 {}

@@ -1,5 +1,5 @@
-//! Marker segments of JPEG-LS and the state of the headers: which segment a payload is, what each segment sets, and the scan
-//! that an SOS begins (ITU-T T.87, annex C; ITU-T T.81, annex B).
+//! Marker segments of JPEG-LS and the state of the headers. The crate says which segment a payload is, what each segment sets, and
+//! which scan an SOS begins (ITU-T T.87, annex C; ITU-T T.81, annex B).
 #![tactic(auto)]
 
 mod codes;

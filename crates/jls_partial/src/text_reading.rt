@@ -258,9 +258,9 @@ fn read_partial(alloc: Global, bytes: &[u8]) -> Result<Partial, TextFault>
 }
 
 impl Partial {
-    /// The partial picture whose text the bytes are, in version 1 or 2, or the first fault from the front with its offset. Each field is
-    /// judged as soon as all its bytes are there. Readings of a text of version 1 have no source. Memory grows with the readings and the
-    /// sources that are there, not with the numbers that the text claims.
+    /// The partial picture whose text the bytes are, in version 1 or 2, or the first fault with its offset. Each field is judged as
+    /// soon as all its bytes are there. Readings of a text of version 1 have no source. Memory grows with the readings and the sources
+    /// that are there, not with the numbers that the text claims.
     pub fn from_bytes(alloc: Global, bytes: &[u8]) -> Result<Partial, TextFault>
         // What is read has these bytes as a text.
         ensures found { IfOk result (λ p. IsTextOf bytes.now p) }

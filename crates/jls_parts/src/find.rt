@@ -20,14 +20,14 @@ fn one_part<'a>(alloc: Global, copies: &[&'a [u8]]) -> Result<Vec<Part<'a>>, All
     Ok(parts)
 }
 
-/// The parts of some copies of one file. `Err` comes where memory is refused.
+/// The parts of some copies of one file. `Err` comes if memory is refused.
 ///
 /// A search proposes them and they are checked, so the contract holds however they are found. It goes along all copies while they
-/// agree. Behind a difference it looks for the next 24 bytes that agree again, where bytes were lost or added with a shift.
+/// agree. After a difference it looks for the next 24 bytes that agree again, with a shift if bytes were lost or added.
 ///
-/// On the way there one agreeing byte parts two stretches. Between two restart markers or scan headers, more than 11 stretches are too
-/// many: the nearest are joined, if fewer than 8 bytes agree between them. A run of 8 zeros or more in some copies begins a stretch and
-/// ends it. Where copies have different lengths in a stretch, those of the most frequent length part it.
+/// Inside a difference, one agreeing byte divides two stretches. Between two restart markers or scan headers, more than 11 stretches
+/// are too many. Then the nearest are joined, if fewer than 8 bytes agree between them. A run of 8 zeros or more in some copies begins
+/// a stretch and ends it. If copies have different lengths in a stretch, those of the most frequent length divide it.
 pub fn find_parts<'a>(alloc: Global, copies: &[&'a [u8]]) -> Result<Vec<Part<'a>>, AllocError>
     ensures { IfOk result (λ parts. AreParts (bytes_of copies.now) (parts_of parts.items)) }
 {

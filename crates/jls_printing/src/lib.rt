@@ -1,5 +1,5 @@
-//! Lines on a fault output. A line of at most 4,096 bytes is one write, no line needs memory, and no name in it can steer a terminal or
-//! forge a line.
+//! Lines on a fault output. A line of at most 4,096 bytes is one write, and no line needs memory. No name in a line can steer a
+//! terminal or forge a line.
 #![tactic(auto)]
 
 mod line;

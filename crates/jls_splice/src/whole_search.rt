@@ -20,7 +20,7 @@ pub const MOST_FOUND: usize = 64;
 pub struct Searched {
     /// The splices without a fault, each as its choices, one for each part.
     pub splices: Vec<Vec<usize>>,
-    /// How many fronts and files were tried.
+    /// How many prefixes and files were tried.
     pub tries: u32,
     /// Whether the search ended before it had come to all splices.
     pub is_used_up: bool,
@@ -77,8 +77,8 @@ fn try_next(
 }
 
 /// Searches the splices of some copies for files without a fault, depth first, part by part. Ways are tried in the order of the copies,
-/// and ways with equal bytes once. Choices whose front no file without a fault begins with are given up. Each front and each file that is
-/// tried counts.
+/// and ways with equal bytes once. Choices are given up if no file without a fault begins with what they make. Each prefix and each
+/// file that is tried counts.
 ///
 /// Parts of short copies are as it requires them (`parts_can_be_searched`).
 ///

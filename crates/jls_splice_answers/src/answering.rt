@@ -25,9 +25,14 @@ fn is_help(kind: ErrorKind) -> bool
     matches!(kind, ErrorKind::DisplayHelp | ErrorKind::DisplayVersion)
 }
 
-/// Answers words that clap refused for this error, with the exit status: help goes to the report output, with status 0; what
-/// is wrong with the words goes to the fault output, with status 2; status 5 if memory ran out, and 4 if a write to the
-/// report output failed. The texts are clap's, and only tested.
+/// Answers words that clap refused for this error, with the exit status:
+///
+/// - 0: help or the version, which goes to the report output;
+/// - 2: what is wrong with the words goes to the fault output;
+/// - 4: a write to the report output failed;
+/// - 5: memory ran out.
+///
+/// The texts are clap's, and only tested.
 pub fn answer<W: Sink, E: Sink>(alloc: Global, error: &Error, report: &mut W, faults: &mut E) -> u8
     ensures { Answered (kind_of error.now) result (W.history report.old) (W.history report.new)
         (E.history faults.old) (E.history faults.new) }

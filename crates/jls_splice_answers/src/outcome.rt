@@ -35,8 +35,8 @@ pub struct Refusal<'a> {
 /// What came of a run.
 #[derive(Clone, Copy, Debug, PartialEq, Eq)]
 pub enum Outcome<'a> {
-    /// It is done. `settled` is true if and only if every line of what it made is settled, and `whole` if and only if
-    /// every copy was read to its end (`ReadStop::Whole`).
+    /// It is done. `settled` is true if and only if every line of what it made is settled. `whole` is true if and only if every copy
+    /// was read to its end (`ReadStop::Whole`).
     Done { settled: bool, whole: bool },
     /// It stopped before it was done.
     Refused(Refusal<'a>),
@@ -60,8 +60,8 @@ impl Cause {
 impl Outcome<'_> {
     ghost use Rattle.jls_splice_answers.specs.Outcomes.{exit_status};
 
-    /// The exit status: for a run that is done 4 if a copy was not read to its end, else 0 if every line is settled and 1 if not; for a
-    /// refusal that of its cause.
+    /// The exit status. For a run that is done it is 4 if a copy was not read to its end. Otherwise it is 0 if every line is settled,
+    /// and 1 if not. For a refusal it is that of its cause.
     pub fn status(self) -> u8
         ensures { result ≡ exit_status self.entry }
     {

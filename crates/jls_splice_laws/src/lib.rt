@@ -1,6 +1,6 @@
-//! The laws of splices that speak of readings and pictures: what a search for files without a fault finds, what survives in such a file,
-//! and what the files that are taken settle. This crate has definitions and laws alone; each law is a function that does nothing and
-//! whose contract is the law.
+//! The laws of splices that speak of readings and pictures. They say what a search for files without a fault finds, what survives in
+//! such a file, and what the files that are taken settle. This crate has definitions and laws alone. Each law is a function that does
+//! nothing: its contract is the law.
 #![tactic(auto)]
 
 mod searches;

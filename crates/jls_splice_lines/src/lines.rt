@@ -120,7 +120,7 @@ fn put_single(out: &mut Vec<u8>, lacks_single_file: bool) -> Result<(), AllocErr
     Ok(())
 }
 
-/// Appends the lines of what was found, in ASCII, each of which ends with a newline. At `Err` a front of them may stand there.
+/// Appends the lines of what was found, in ASCII. Each ends with a newline. At `Err` a prefix of them may have been appended.
 pub fn put_found(out: &mut Vec<u8>, found: &Found<'_>) -> Result<(), AllocError>
     ensures { OnOk result (out.new.items ≡ out.old.items ++ found_text found.now) }
 {
@@ -131,7 +131,7 @@ pub fn put_found(out: &mut Vec<u8>, found: &Found<'_>) -> Result<(), AllocError>
     put_single(out, found.lacks_single_file)
 }
 
-/// Appends the line that tells how far a search is: how many fronts and files were tried, and how many files were found.
+/// Appends the line that says how far a search is: how many prefixes and files were tried, and how many files were found.
 pub fn put_progress(out: &mut Vec<u8>, tries: u32, files: usize) -> Result<(), AllocError>
     ensures { OnOk result (out.new.items ≡ out.old.items ++ progress_line tries files) }
 {

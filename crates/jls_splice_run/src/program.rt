@@ -46,7 +46,7 @@ fn perform<D: Desk, W: Sink, E: Sink>(
 /// - 1: done, with lines that are missing or disputed;
 /// - 2: the words were not understood;
 /// - 3: a copy is a partial picture, no file taken has a picture, or files without a fault differ in shape;
-/// - 4: a copy can't be opened or read, an output can't be created, or a write failed; or the run is done, but a copy was not read
+/// - 4: a copy can't be opened or read, an output can't be created, or a write failed. The run may be done then, if a copy was not read
 ///   to its end;
 /// - 5: out of memory.
 ///

@@ -52,9 +52,9 @@ fn hand_out<'a, D: Desk, W: Sink, E: Sink>(
     }
 }
 
-/// Reads the copies, searches their splices, takes all that reads, and hands out what comes of it: first the lines, to the report output;
-/// then the text of the union of what the files taken give; and then the single file, if one is asked for. Both texts are made before
-/// anything is handed out. The line of the progress goes to the fault output, once, when all is taken.
+/// Reads the copies, searches their splices, takes all files that decode, and hands out what comes of it. First come the lines, on the
+/// report output. Then comes the text of the union of what the files taken give, and last the single file, if one is asked for. Both
+/// are made before anything is handed out. The line of the progress goes to the fault output, once, when all is taken.
 pub fn splice<'a, D: Desk, W: Sink, E: Sink>(
     alloc: Global,
     desk: &mut D,

@@ -4,9 +4,9 @@ ghost use Rattle.jls_splice_run_laws.specs.RunLaws.{SplicedRunsGiveNoOther};
 
 use jls_splicing_laws::spliced_copies_give_no_other;
 
-/// A law: what was asked of `jls-splice` ended with status 0, so OUT was handed the text of a picture. Let the tries of the search not be
-/// used up, and let some copy have, at each part in which the copies are found to differ, what an undamaged file has there. Then the
-/// picture is that file's and no other.
+/// A law: what was asked of `jls-splice` ended with status 0, so OUT was handed the text of a picture. Assume that the tries of the
+/// search were not used up. Assume also that an undamaged file has, at each part in which the copies are found to differ, what some
+/// copy has there. Then the picture is that file's and no other.
 pub fn spliced_runs_give_no_other()
     ensures { SplicedRunsGiveNoOther }
 {

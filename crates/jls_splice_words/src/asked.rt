@@ -12,7 +12,7 @@ use clap::ArgMatches;
 pub struct Options<'a> {
     /// The number of the source under which readings are taken, if one is given.
     pub source: Option<u32>,
-    /// How many fronts and files each search tries at most: at least 1.
+    /// How many prefixes and files each search tries at most: at least 1.
     pub tries: u32,
     /// Whether each search tells how far it is.
     pub progress: bool,

@@ -5,16 +5,16 @@ pub(crate) const ABOUT: &str =
 
 pub(crate) const NOTES: &str = "\
 The COPYs are two or more damaged copies of one JPEG-LS file. At each place where they differ, a splice of
-them has what one of them has there. The program takes the COPYs, and each splice in which nothing is damaged.
-It writes all their readings to OUT: a partial picture, as jls-salvage join writes it. The program neither
-guesses nor chooses: where what was taken differs, the line is disputed.
+them has what one of them has there. The program takes the COPYs, and each splice that decodes whole. It
+writes all their readings to OUT: a partial picture, as jls-salvage join writes it. The program neither
+guesses nor chooses: if two readings of a line differ, the line is disputed.
 
 It prints
   differ OFFSET LENGTH, for each place where the copies differ, as the first COPY has it
   differ more N, if there are more than 4,096 such places: N of them are not listed
-  splices N, the number of splices that were taken
+  splices N, the number of files that are no copies and decode whole
   tries used up, if the search of all splices was cut off
-  no single file, if --file was given and not exactly one of the files taken is undamaged
+  no single file, if --file was given and not exactly one file decodes whole
 and then what jls-salvage show prints for OUT. If OUT is -, only the text of OUT is printed.
 
 Exit status:
@@ -41,7 +41,7 @@ pub(crate) const PROGRESS_HELP: &str =
     "Prints on standard error how much was tried, once the search has ended";
 
 pub(crate) const FILE_HELP: &str =
-    "The file to write if exactly one undamaged file was found: that file, byte for byte";
+    "The file to write if exactly one file decodes whole: that file, byte for byte";
 
 pub(crate) const OUT_HELP: &str =
     "The partial picture to write, created or replaced after the search; - is standard output";

@@ -1,5 +1,5 @@
-//! The shape of the files taken of some copies of one picture, and the station that took them: the copies, and the splices that a search
-//! found.
+//! The shape of the files taken of some copies of one picture, and the station that took them. The files are the copies, and the
+//! splices that a search found.
 #![tactic(auto)]
 
 mod file;

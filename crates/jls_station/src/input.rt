@@ -24,7 +24,7 @@ use std::marker::Model;
 /// How the reading of an input stopped.
 #[derive(Clone, Copy, Debug, PartialEq, Eq)]
 pub enum ReadStop {
-    /// At the end of the input, or at that of a copy, behind which no byte changes what it gives.
+    /// At the end of the input, or at that of a copy, after which no byte changes what it gives.
     Whole,
     /// A read failed.
     Failed,
@@ -35,7 +35,7 @@ pub enum ReadStop {
 /// Why an input is refused.
 #[derive(Clone, Copy, Debug, PartialEq, Eq)]
 pub enum InputFault {
-    /// It begins as a text, and is not the text of a partial picture. The fault is the first one from the front.
+    /// It begins as a text, and is not the text of a partial picture. This is its first fault.
     Text(TextFault),
     /// It is a copy that was read whole and in which no frame was taken: the fault that ended it, and its offset.
     NoPicture(MarkerFault, u64),

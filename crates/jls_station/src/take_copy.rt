@@ -65,9 +65,9 @@ fn read_from_start<S: Source>(
 
 impl Station {
     /// Takes in the readings of a damaged copy, under the number of a source if there is one. It reads the copy whole from the device's
-    /// current position on, then checks its shape, and then merges. A device that stops behind a frame ends the copy there, and the report
-    /// tells how it stopped. Reads have room for at most 4,096 bytes, and there are at most 4,294,967,295 of them. None is made if no
-    /// further byte can change what the copy gives.
+    /// current position on, then checks its shape, and then merges. If the device stops after a frame, the copy ends there, and the
+    /// report says how it stopped. Reads have room for at most 4,096 bytes, and there are at most 4,294,967,295 of them. None is made
+    /// if no further byte can change what the copy gives.
     ///
     /// At `NoPicture`, `Read` and `ShapeDiffers` nothing has changed. After `OutOfMemory` all that was held is still held, with some or
     /// all of the copy's readings and nothing else. A copy that begins as a text does is read as a copy here.

@@ -52,14 +52,14 @@ impl TakeReport {
         self.ended
     }
 
-    /// How many bytes of the copy were read, those behind its end among them.
+    /// How many bytes of the copy were read, also those after its end.
     pub fn count(&self) -> u64
         ensures { result ≡ self.now.found.count }
     {
         self.count
     }
 
-    /// How the reading of the copy stopped. `Whole` is the source's end, or the copy's, behind which no byte is asked for.
+    /// How the reading of the copy stopped. `Whole` is the source's end, or the copy's, after which no byte is asked for.
     pub fn stop(&self) -> ReadStop
         ensures { result ≡ self.now.stop }
     {

@@ -5,16 +5,16 @@ pub(crate) const ABOUT: &str = "Salvages JPEG-LS pictures from damaged copies, l
 pub(crate) const EXAMPLES: &str = "\
 Examples:
   jls-salvage check damaged.jls
-      prints where a copy is damaged, and which lines it still has
+      prints which pieces of a copy can't be decoded, and which lines it gives
   jls-salvage join all.jlsp damaged.jls other.jls
-      writes all lines that the two copies still have to the file all.jlsp
+      writes all lines that the two copies give to the file all.jlsp
   jls-salvage write --as pnm all.pgm all.jlsp
       writes the picture, if no line is missing or disputed
 
 The file name - means standard input or output. For more about a command: jls-salvage COMMAND --help.";
 
 pub(crate) const CHECK_ABOUT: &str =
-    "Checks a copy: prints where FILE is damaged, and which lines it has";
+    "Checks a copy: prints which pieces of FILE can't be decoded, and which lines it gives";
 
 pub(crate) const CHECK_NOTES: &str = "\
 For a JPEG-LS copy it first prints
@@ -63,7 +63,7 @@ Examples:
   jls-salvage show - < damaged.jls";
 
 pub(crate) const JOIN_ABOUT: &str =
-    "Joins copies and partial pictures: writes all that any FILE holds to OUT";
+    "Joins copies and partial pictures: writes all readings of the FILEs to OUT";
 
 pub(crate) const JOIN_NOTES: &str = "\
 A FILE is a JPEG-LS copy, damaged or not, or a partial picture that this command wrote. OUT is a
