@@ -210,10 +210,11 @@ KINDS = {b"P": "piece", b"L": "lines", b"+": "long", b"-": "broken", b"?": "refu
 
 
 class Coder:
-    """The program while it runs. `params` are precision, MAXVAL, T1, T2, T3 and RESET, where 0 asks for the default."""
+    """The program while it runs, with these variables more. `params` are precision, MAXVAL, T1, T2, T3 and RESET, 0 for the default."""
 
-    def __init__(self):
-        self.child = subprocess.Popen([built()], stdin=subprocess.PIPE, stdout=subprocess.PIPE)
+    def __init__(self, variables=None):
+        told = {**os.environ, **(variables or {})}
+        self.child = subprocess.Popen([built()], stdin=subprocess.PIPE, stdout=subprocess.PIPE, env=told)
 
     def encode(self, params, width, components, samples):
         """`samples` is an array of type H with those of all lines, row by row and in a row by component."""
