@@ -38,7 +38,7 @@ class PartialPicture:
             component, line, count = self.take(">BHQ")
             self.readings[component, line] = [self.take_reading() for _ in range(count)]
         if self.at != len(text):
-            raise NotAPartialPicture(f"bytes behind the last entry, from {self.at} on")
+            raise NotAPartialPicture(f"bytes after the last entry, from {self.at} on")
         del self.text
 
     def take(self, form):
