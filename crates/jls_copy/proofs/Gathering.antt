@@ -1,6 +1,6 @@
 -- One byte more, over what a reader holds.
 use Rattle.std.proofs.Common.{◌≡◌, ℕ, zero, suc, get_or, ◌+◌, ◌-◌, ◌^◌, ◌<◌, ◌≤◌, Bool, true, false, List, [], ◌∷◌, ◌++◌, take, length, Option, Some, None, refl, sym, ap, ◌∙◌, subst, append_assoc, arith, add-zero, length-append, ◌⊎◌, inl, inr}
-use Rattle.std.proofs.lemmas.List.{append-nil, take_all, take-append-le, length-take}
+use Rattle.std.proofs.lemmas.List.{append-nil, take_all, take-append-le, length-take, length-take-le}
 use Rattle.std.proofs.lemmas.Bool.{cases_lt}
 use Rattle.std.proofs.lemmas.Bool.Decides.{nat_tests}
 use Rattle.std.specs.Prelude.{nat_lt, ◌==◌, ◌*◌, cond, Result, Ok, Err, IfSome, IfOk, IfErr}
@@ -24,9 +24,8 @@ use Rattle.jls_copy.specs.Pieces.{FoundPiece, PieceOutcome, Lines, Fault, IsOutc
 use Rattle.jls_copy.specs.Findings.{Adds, HoldsShape, with_readings, picture_of, kept_with}
 use Rattle.jls_copy.specs.Gathers.{Gathers}
 use Rattle.jls_copy.specs.Pieces.{AreOutcomes, readings, records}
-use Rattle.jls_copy.specs.ReaderState.{Step, Reading, reading, reading_with, reading_from, after_byte, step_from, closed_at, segment_taken}
-use Rattle.jls_copy.specs.Machine.{state_of, IsBehind}
-use Rattle.jls_copy.specs.Stretch.{LeadsWith}
+use Rattle.jls_copy.specs.ReaderState.{ReaderState, Step, Reading, reading, reading_with, reading_from, after_byte, step_from, closed_at, segment_taken}
+use Rattle.jls_copy.specs.Machine.{state_of, Takes}
 use Rattle.jls_copy.specs.Reader.{IsReading}
 use Rattle.jls_copy.specs.ReadCopy.{after}
 use Rattle.jls_copy.specs.Sound.{IsPlace}
@@ -180,36 +179,6 @@ adds_one frame [] old new e = rw e (omega arith)
 adds_one frame (q ∷ []) old new (shape, framed, o, is, adds) = rw adds.count_is (omega (arith, one_at_most q o))
 adds_one frame (q ∷ r ∷ more) old new a = absurd a
 
-low_more : (bytes : List ℕ) (b : ℕ) → AllByRecursion (λ x. x < 256) bytes → b < 256 → AllByRecursion (λ x. x < 256) (bytes ++ b ∷ [])
-low_more [] b h l = (l, tt)
-low_more (x ∷ bytes) b h l = (h.0, low_more bytes b h.1 l)
-
--- one byte more
-pub reading_more : (m n : Machine) (bytes : List ℕ) (b : ℕ) → IsReading m bytes → state_of n ≡ after_byte (state_of m) b
-    → Adds m.headers.frame (closed_at m.place b) m.findings n.findings
-    → IsPlace n.headers.frame n.place n.payload.items → length n.payload.items ≤ 65535 → length bytes + 1 ≤ 2 ^ 63 - 1 → b < 256 → IsReading n (bytes ++ b ∷ [])
-reading_more m n bytes b h e a p small few low =
-    let place_is : m.place ≡ (reading bytes).state.place = ap (λ s. s.place) h.state_is in
-    let count : n.count ≡ m.count + 1 = ap (λ s. s.count) e in
-    let frame : n.headers.frame ≡ (step_from m.place m.count m.headers m.payload.items b).headers.frame = ap (λ s. s.headers.frame) e in
-    let pieces : (reading (bytes ++ b ∷ [])).pieces ≡ (reading bytes).pieces ++ closed_at m.place b =
-    ap (λ r. r.pieces) (reading_snoc bytes b) ∙ ap (λ q. (reading bytes).pieces ++ closed_at q b) (sym place_is) in
-    let more : Gathers n.headers.frame ((reading bytes).pieces ++ closed_at m.place b) n.findings =
-    gathers_frame m.headers.frame n.headers.frame _ n.findings (λ s f. frame ∙ frame_stays m.place m.count m.headers m.payload.items b s f)
-    (gathers_pieces m.headers.frame (reading bytes).pieces (closed_at m.place b) m.findings n.findings h.gathers a) in
-    record {
-      state_is = e ∙ ap (λ s. after_byte s b) h.state_is ∙ sym (ap (λ r. r.state) (reading_snoc bytes b));
-      gathers = subst (λ ps. Gathers n.headers.frame ps n.findings) (sym pieces) more;
-      count_is = count ∙ ap (λ k. k + 1) h.count_is ∙ sym (length-append bytes (b ∷ []));
-      few = omega (arith, length-append bytes (b ∷ []));
-      are_bytes = low_more bytes b h.are_bytes low;
-      place_is = p;
-      behind = behind_some n.place n.count (omega (arith, count));
-      records_counted = omega (arith, count, adds_one m.headers.frame (closed_at m.place b) m.findings n.findings a, h.records_counted);
-      records_kept = rw more.records_are (omega (arith, length-take 4096 (records ((reading bytes).pieces ++ closed_at m.place b) more.outcomes)));
-      header_bytes = small;
-    }
-
 -- what a reader that wasn't refused was fed
 pub of_fed : (failed : Bool) (bytes : List ℕ) (v : Option (List ℕ)) (P : List ℕ → Type 0) → cond failed None (Some bytes) ≡ v
     → failed ≡ false → IfSome v P → P bytes
@@ -255,33 +224,47 @@ low_all : (xs ys : List ℕ) → AllByRecursion (λ x. x < 256) xs → AllByRecu
 low_all [] ys h l = l
 low_all (x ∷ xs) ys h l = (h.0, low_all xs ys h.1 l)
 
-behind_on : (p q : Place) (before after : List ℕ) (n : ℕ) (more : List ℕ) → IsBehind p n → LeadsWith p before more q after
-    → IsBehind q (n + length more)
-behind_on p q before after n [] h leads = rw add-zero (subst (λ place. IsBehind place n) (ap (λ r. r.state.place) (leads 0 no_headers [])) h)
-behind_on p q before after n (b ∷ more) h leads = behind_some q (n + length (b ∷ more)) (omega arith)
+-- a state with another count, and pieces
+abbrev counted : ReaderState → List FoundPiece → ℕ → Reading
+counted s ps k = record { state = record s { count = k }; pieces = ps }
 
-pub reading_on : (m n : Machine) (bytes more : List ℕ) → IsReading m bytes
-    → LeadsWith m.place m.payload.items more n.place n.payload.items → n.count ≡ m.count + length more
-    → (n.headers ≡ m.headers) × (n.findings ≡ m.findings)
-    → IsPlace n.headers.frame n.place n.payload.items → length n.payload.items ≤ 65535
-    → length bytes + length more ≤ 2 ^ 63 - 1 → AllByRecursion (λ x. x < 256) more → IsReading n (bytes ++ more)
-reading_on m n bytes more h leads count kept sound header_bytes small low =
-    let all : reading (bytes ++ more) ≡ reading_from (reading bytes) more = from_append _ bytes more in
-    let before : reading bytes ≡ record { state = state_of m; pieces = (reading bytes).pieces } = ap (λ s. record { state = s; pieces = (reading bytes).pieces }) (sym h.state_is) in
-    let there = leads m.count m.headers (reading bytes).pieces in
-    let told : reading (bytes ++ more) ≡ record { state = state_of n; pieces = (reading bytes).pieces } =
-    all ∙ ap (λ r. reading_from r more) before ∙ there ∙ rw (kept.0, count) refl in
+frame_stays_on : (more : List ℕ) (r : Reading) (s : PictureShape) → r.state.headers.frame ≡ Some s
+    → (reading_from r more).state.headers.frame ≡ Some s
+frame_stays_on [] r s f = f
+frame_stays_on (b ∷ more) r s f =
+    frame_stays_on more (reading_with r b) s (frame_stays r.state.place r.state.count r.state.headers r.state.payload b s f)
+
+-- some bytes more, which a machine took, and which were counted then
+pub reading_on : (m n : Machine) (bytes xs : List ℕ) (count : ℕ) → IsReading m bytes → Takes m xs n count
+    → length bytes + length xs ≤ 2 ^ 63 - 1 → AllByRecursion (λ x. x < 256) (take count xs)
+    → IsReading (record n { count = n.count + count }) (bytes ++ take count xs)
+reading_on m n bytes xs count h t small low =
+    let closed : List FoundPiece = closed_at m.place (get_or xs 0 0) in
+    let size : length (take count xs) ≡ count = length-take-le count xs t.within in
+    let before : reading bytes ≡ record { state = state_of m; pieces = (reading bytes).pieces } =
+    ap (λ s. record { state = s; pieces = (reading bytes).pieces }) (sym h.state_is) in
+    let total : m.count + length (take count xs) ≡ n.count + count = omega (arith, size, t.count_is) in
+    let told : reading (bytes ++ take count xs)
+    ≡ record { state = record (state_of n) { count = n.count + count }; pieces = (reading bytes).pieces ++ closed } =
+    from_append _ bytes (take count xs) ∙ ap (λ r. reading_from r (take count xs)) before ∙ t.leads (reading bytes).pieces
+    ∙ ap (λ (k : ℕ). counted (state_of n) ((reading bytes).pieces ++ closed) k) total in
+    let frame : (s : PictureShape) → m.headers.frame ≡ Some s → n.headers.frame ≡ Some s =
+    λ s f. ap (λ r. r.state.headers.frame) (sym (t.leads [])) ∙ frame_stays_on (take count xs) (record { state = state_of m; pieces = [] }) s f in
+    let gathered : Gathers n.headers.frame ((reading bytes).pieces ++ closed) n.findings =
+    gathers_frame m.headers.frame n.headers.frame _ n.findings frame
+    (gathers_pieces m.headers.frame (reading bytes).pieces closed m.findings n.findings h.gathers t.found) in
+    let one : n.findings.record_count ≤ m.findings.record_count + 1 = adds_one m.headers.frame closed m.findings n.findings t.found in
     record {
       state_is = sym (ap (λ r. r.state) told);
-      gathers = rw (kept.0, kept.1) (subst (λ ps. Gathers m.headers.frame ps m.findings) (sym (ap (λ r. r.pieces) told)) h.gathers);
-      count_is = count ∙ ap (λ k. k + length more) h.count_is ∙ sym (length-append bytes more);
-      few = omega (arith, length-append bytes more);
-      are_bytes = low_all bytes more h.are_bytes low;
-      place_is = sound;
-      behind = rw count (behind_on m.place n.place m.payload.items n.payload.items m.count more h.behind leads);
-      records_counted = rw kept.1 (omega (arith, count, h.records_counted));
-      records_kept = rw kept.1 h.records_kept;
-      header_bytes = header_bytes;
+      gathers = subst (λ ps. Gathers n.headers.frame ps n.findings) (sym (ap (λ r. r.pieces) told)) gathered;
+      count_is = omega (arith, t.count_is, h.count_is, length-append bytes (take count xs), size);
+      few = omega (arith, length-append bytes (take count xs), size, t.within, small);
+      are_bytes = low_all bytes (take count xs) h.are_bytes low;
+      place_is = t.place_is;
+      behind = behind_some n.place (n.count + count) (omega (arith, t.some));
+      records_counted = omega (arith, t.count_is, one, h.records_counted, t.some);
+      records_kept = rw gathered.records_are (omega (arith, length-take 4096 (records ((reading bytes).pieces ++ closed) gathered.outcomes)));
+      header_bytes = t.header_bytes;
     }
 
 -- bytes fed in two slices

@@ -4,13 +4,13 @@ use Rattle.std.specs.Prelude.{nat_lt, ◌==◌}
 use Rattle.jls_marker.specs.HeaderState.{HeaderState}
 use Rattle.jls_marker.specs.Scan.{Scan}
 use Rattle.jls_marker.specs.Headers.{headers_after}
-use Rattle.jls_copy.specs.ReaderState.{Step, segment_taken, length_known, payload_grown}
+use Rattle.jls_copy.specs.ReaderState.{Step, segment_taken, length_known}
 use Rattle.jls_copy.specs.Machine.{IsBehind}
 use Rattle.jls_marker.specs.declared.fault.MarkerFault.{MarkerFault}
 use Rattle.jls_copy.specs.declared.place.Place.{Place}
 use Rattle.jls_copy.specs.declared.place.Place.TheVariants.{Start, AtMarker, AtLength, InLength, InPayload, InScan, Done}
 
-taken_payload : (count : ℕ) (h : HeaderState) (payload : List ℕ) (marker : ℕ) (r : Result (HeaderState × Option Scan) MarkerFault)
+pub taken_payload : (count : ℕ) (h : HeaderState) (payload : List ℕ) (marker : ℕ) (r : Result (HeaderState × Option Scan) MarkerFault)
     → (segment_taken count h payload marker r).payload ≡ payload
 taken_payload count h payload marker (Ok r) = refl
 taken_payload count h payload marker (Err f) = refl
@@ -22,11 +22,6 @@ cond_payload false x y z p q = q
 pub length_keeps : (count : ℕ) (h : HeaderState) (marker code size : ℕ) → (length_known count h marker code size).payload ≡ []
 length_keeps count h marker code size =
     cond_payload (nat_lt size 2) _ _ [] refl (cond_payload (size == 2) _ _ [] (taken_payload count h [] marker (headers_after h code [])) refl)
-
-pub payload_keeps : (count : ℕ) (h : HeaderState) (payload : List ℕ) (marker code size : ℕ)
-    → (payload_grown count h payload marker code size).payload ≡ payload
-payload_keeps count h payload marker code size =
-    cond_payload (length payload + 2 == size) _ _ payload (taken_payload count h payload marker (headers_after h code payload)) refl
 
 pub behind_some : (p : Place) (n : ℕ) → 1 ≤ n → IsBehind p n
 behind_some (Start fill) n h = λ e. h

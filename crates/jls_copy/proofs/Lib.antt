@@ -15,10 +15,12 @@ mod TellsScan
 mod TellsSegment
 mod ReadingTells
 mod CourseTold
-mod DataBytes
 mod Stretches
 mod Idle
 mod PayloadStretch
+mod SegmentStretch
+mod MachineTakes
+mod ScanTakes
 mod StretchEnds
 mod Gathering
 mod CutOutcomes

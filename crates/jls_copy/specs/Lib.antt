@@ -10,8 +10,8 @@ pub mod Fits
 pub mod Findings
 pub mod PieceDecoder
 pub mod ReaderState
-pub mod Stretch
 pub mod Sound
+pub mod Stretch
 pub mod Machine
 pub mod Gathers
 pub mod Reader

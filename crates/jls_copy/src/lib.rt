@@ -12,7 +12,6 @@ mod findings;
 mod interval_shape;
 mod lanes;
 mod machine;
-mod payload;
 mod piece;
 mod piece_decoder;
 mod place;

@@ -1,66 +1,21 @@
 //! A copy, byte after byte.
 
-ghost use Rattle.std.specs.Prelude.{◌≡◌, ◌+◌, ◌-◌, ◌*◌, ◌^◌, ◌∷◌, ◌++◌, [], ◌<◌, ◌≤◌, ℕ, OnOk, IfOk, true, false, Some, None, is_some};
-ghost use Rattle.std.specs.Prelude.{List, Option, length, take};
+ghost use Rattle.std.specs.Prelude.{◌≡◌, ◌+◌, ◌^◌, ◌∷◌, [], ◌<◌, ◌≤◌, ℕ, OnOk, IfOk, IfSome, true, Some, List, length};
 ghost use Rattle.jls_copy.specs.ReaderState as state;
-ghost use Rattle.jls_copy.specs.Machine.{state_of, IsMachine, IsBehind};
-ghost use Rattle.jls_copy.specs.Findings.{Adds, AddsBy, AddsCut, HoldsShape};
-ghost use Rattle.jls_marker.specs.Scan.{intervals};
-ghost use Rattle.jls_copy.specs.Numbers.{number_behind};
+ghost use Rattle.jls_copy.specs.Machine.{IsMachine, IsWholeSegment, Takes};
+ghost use Rattle.jls_copy.specs.Findings.{AddsBy, AddsCut, HoldsShape};
 ghost use Rattle.jls_values.specs.Shape.{PictureShape};
-ghost use Rattle.jls_copy.specs.Stretch.{LeadsWith};
-ghost use Rattle.jls_copy.specs.Sound.{IsPlace, IsOpenScan, IsOpenPiece, IsOfFrame};
+ghost use Rattle.jls_copy.specs.Sound.{IsPlace, IsOpenPiece, IsOfFrame};
+ghost use Rattle.jls_copy.specs.declared.place.Place.TheVariants.{Start, AtMarker, InPayload};
 
 use crate::end::End;
+use crate::fill::fill_len;
 use crate::findings::Findings;
-use crate::payload::take_payload;
-use crate::piece::{ClosedBy, OpenPiece, ToldPiece};
+use crate::piece::ClosedBy;
 use crate::place::Place;
-use crate::scan::{ByteClass, Held, OpenScan, class_of, next_number};
-use jls_marker::{Headers, MarkerFault, ScanPlan, has_segment};
+use crate::scan::{OpenScan, ScanStep};
+use jls_marker::{Headers, MarkerFault, has_segment};
 use std::alloc::{AllocError, Global};
-use std::mem;
-
-/// Before SOI.
-fn from_start(fill: bool, count: u64, byte: u8) -> Place
-    requires { fill ≡ true → 1 ≤ count }
-    ensures { result ≡ state.from_start fill count byte }
-{
-    if byte == 0xff {
-        Place::Start(true)
-    } else if !fill {
-        Place::Done(End::Header(MarkerFault::NoSoi, count))
-    } else if byte == 0xd8 {
-        Place::AtMarker(false)
-    } else {
-        Place::Done(End::Header(MarkerFault::NoSoi, count - 1))
-    }
-}
-
-/// Where a marker may begin.
-fn from_marker(fill: bool, has_frame: bool, count: u64, byte: u8) -> Place
-    requires { fill ≡ true → 1 ≤ count }
-    ensures { result ≡ state.from_marker fill has_frame count byte }
-{
-    if byte == 0xff {
-        return Place::AtMarker(true);
-    }
-    if !fill {
-        return Place::Done(End::Header(MarkerFault::NoMarker, count));
-    }
-    let marker = count - 1;
-    if byte == 0xd9 {
-        if has_frame {
-            Place::Done(End::Eoi(marker))
-        } else {
-            Place::Done(End::Header(MarkerFault::NoFrame, marker))
-        }
-    } else if has_segment(byte) {
-        Place::AtLength(marker, byte)
-    } else {
-        Place::Done(End::Header(MarkerFault::UnknownMarker, marker))
-    }
-}
 
 /// What is kept of a copy between one byte and the next.
 #[derive(Drop)]
@@ -75,295 +30,265 @@ pub(crate) struct Machine {
     pub(crate) findings: Findings,
 }
 
+/// Takes what the piece of a scan gives that is closed so. What stays of it was told nothing.
+fn close(
+    alloc: Global,
+    headers: &Headers,
+    findings: &mut Findings,
+    scan: &mut OpenScan,
+    by: ClosedBy,
+) -> Result<(), AllocError>
+    requires count { findings.old.record_count < 2 ^ 63 }
+    requires sound { IsOpenPiece scan.old.plan scan.old.piece }
+    requires scan { IsOfFrame headers.now.frame scan.old.plan }
+    requires held { (shape : PictureShape) → headers.now.frame ≡ Some shape → HoldsShape findings.old.partial shape }
+    ensures rest { scan.new ≡ record scan.old { piece = scan.new.piece } }
+    ensures found { OnOk result (AddsBy by headers.now.frame (state.found scan.old ∷ []) findings.old findings.new) }
+{
+    let told = scan.close();
+    match headers.shape() {
+        None => unreachable!(),
+        Some(shape) => match by {
+            ClosedBy::Marker => findings.close(alloc, shape, &scan.plan, told),
+            ClosedBy::Input => findings.close_cut(alloc, shape, &scan.plan, told),
+        },
+    }
+}
+
+/// The size of the segment whose marker stands at the front of these bytes, behind no other fill, and which stands whole there: of its
+/// payload and of the two bytes of its length.
+fn whole_segment_size(bytes: &[u8]) -> Option<u16>
+    ensures { IfSome result (IsWholeSegment bytes.now) }
+{
+    let [0xff, code, high, low, rest @ ..] = bytes else {
+        return None;
+    };
+    let size = u16::from_be_bytes([*high, *low]);
+    if has_segment(*code) && size >= 2 && rest.len() + 2 >= usize::from(size) {
+        Some(size)
+    } else {
+        None
+    }
+}
+
 impl Machine {
-    /// Takes the segment whose payload is whole, and whose marker stands at this offset.
-    fn take_segment(&mut self, marker: u64, code: u8) -> Place
-        requires { self.old.count < 2 ^ 63 }
-        ensures place { result ≡ (state.with_segment self.old.count self.old.headers self.old.payload.items marker code).place }
-        ensures headers { self.new.headers ≡ (state.with_segment self.old.count self.old.headers self.old.payload.items marker code).headers }
+    /// A byte before SOI.
+    fn step_at_start(&mut self, fill: bool, byte: u8)
+        requires { fill ≡ true → 1 ≤ self.old.count }
+        ensures { self.new ≡ record self.old { place = state.from_start fill self.old.count byte } }
+    {
+        if byte == 0xff {
+            self.place = Place::Start(true);
+        } else if !fill {
+            self.place = Place::Done(End::Header(MarkerFault::NoSoi, self.count));
+        } else if byte == 0xd8 {
+            self.place = Place::AtMarker(false);
+        } else {
+            self.place = Place::Done(End::Header(MarkerFault::NoSoi, self.count - 1));
+        }
+    }
+
+    /// A byte where a marker may begin.
+    fn step_at_marker(&mut self, fill: bool, has_frame: bool, byte: u8)
+        requires { fill ≡ true → 1 ≤ self.old.count }
+        ensures { self.new ≡ record self.old { place = state.from_marker fill has_frame self.old.count byte } }
+    {
+        if byte == 0xff {
+            self.place = Place::AtMarker(true);
+            return;
+        }
+        if !fill {
+            self.place = Place::Done(End::Header(MarkerFault::NoMarker, self.count));
+            return;
+        }
+        let marker = self.count - 1;
+        if byte == 0xd9 {
+            if has_frame {
+                self.place = Place::Done(End::Eoi(marker));
+            } else {
+                self.place = Place::Done(End::Header(MarkerFault::NoFrame, marker));
+            }
+        } else if has_segment(byte) {
+            self.place = Place::AtLength(marker, byte);
+        } else {
+            self.place = Place::Done(End::Header(MarkerFault::UnknownMarker, marker));
+        }
+    }
+
+    /// Takes the segment whose payload is whole. Its marker stands at this offset, and so many bytes stand before its last.
+    fn take_segment(&mut self, marker: u64, code: u8, before_last: u64)
+        requires { before_last < 2 ^ 63 }
+        ensures place { self.new.place ≡ (state.with_segment before_last self.old.headers self.old.payload.items marker code).place }
+        ensures headers { self.new.headers
+            ≡ (state.with_segment before_last self.old.headers self.old.payload.items marker code).headers }
         ensures count { self.new.count ≡ self.old.count }
         ensures payload { self.new.payload.items ≡ self.old.payload.items }
         ensures findings { self.new.findings ≡ self.old.findings }
-        ensures sound { IsPlace self.new.headers.frame result [] }
+        ensures sound { (payload : List ℕ) → IsPlace self.new.headers.frame self.new.place payload }
     {
         let index = self.headers.scans();
         match self.headers.take(code, &self.payload) {
-            Err(fault) => Place::Done(End::Header(fault, marker)),
-            Ok(None) => Place::AtMarker(false),
+            Err(fault) => {
+                self.place = Place::Done(End::Header(fault, marker));
+            }
+            Ok(None) => {
+                self.place = Place::AtMarker(false);
+            }
             Ok(Some(plan)) => {
-                let scan = OpenScan::open(self.alloc, index, plan, self.count + 1);
-                Place::InScan(scan)
+                let scan = OpenScan::open(self.alloc, index, plan, before_last + 1);
+                self.place = Place::InScan(scan);
             }
         }
     }
 
-    /// Takes what the piece of a scan gives that is closed so, and gives the plan back.
-    fn close(&mut self, scan: OpenScan, by: ClosedBy) -> Result<ScanPlan, AllocError>
-        requires count { self.old.findings.record_count < 2 ^ 63 }
-        requires sound { IsOpenPiece scan.plan scan.piece }
-        requires scan { IsOfFrame self.old.headers.frame scan.plan }
-        requires held { (shape : PictureShape) → self.old.headers.frame ≡ Some shape → HoldsShape self.old.findings.partial shape }
-        ensures plan { IfOk result (λ plan. plan ≡ scan.plan) }
-        ensures found { OnOk result (AddsBy by self.old.headers.frame (state.found scan ∷ []) self.old.findings self.new.findings) }
-        ensures count { self.new.count ≡ self.old.count }
-        ensures headers { self.new.headers ≡ self.old.headers }
-        ensures payload { self.new.payload.items ≡ self.old.payload.items }
+    /// Before SOI.
+    fn take_at_start(&mut self, fill: bool, bytes: &[u8]) -> usize
+        requires some { 0 < length bytes.now }
+        requires behind { fill ≡ true → 1 ≤ self.old.count }
+        requires place { self.old.place ≡ Start fill }
+        requires header_bytes { length self.old.payload.items ≤ 65535 }
+        ensures { Takes self.old bytes.now self.new result }
     {
-        let OpenScan {
-            index,
-            plan,
-            last: _,
-            held: _,
-            offset,
-            piece,
-        } = scan;
-        let told = ToldPiece {
-            scan: index,
-            offset,
-            piece,
-        };
-        match self.headers.shape() {
-            None => unreachable!(),
-            Some(shape) => match by {
-                ClosedBy::Marker => {
-                    self.findings.close(self.alloc, shape, &plan, told)?;
-                    Ok(plan)
-                }
-                ClosedBy::Input => {
-                    self.findings.close_cut(self.alloc, shape, &plan, told)?;
-                    Ok(plan)
-                }
-            },
-        }
-    }
-
-    /// The scan behind a restart marker, of which this is the last byte.
-    fn mark(&mut self, scan: OpenScan, mark: u8) -> Result<OpenScan, AllocError>
-        requires mark { mark < 8 }
-        requires count { self.old.count < 2 ^ 63 }
-        requires records { self.old.findings.record_count < 2 ^ 63 }
-        requires sound { IsOpenScan scan }
-        requires frame { IsOfFrame self.old.headers.frame scan.plan }
-        requires held { (shape : PictureShape) → self.old.headers.frame ≡ Some shape → HoldsShape self.old.findings.partial shape }
-        ensures scan { IfOk result
-            (λ next. next ≡ state.scan_behind scan (number_behind (intervals scan.plan) scan.last mark) (self.old.count + 1)) }
-        ensures found { OnOk result (Adds self.old.headers.frame (state.found scan ∷ []) self.old.findings self.new.findings) }
-        ensures count { self.new.count ≡ self.old.count }
-        ensures headers { self.new.headers ≡ self.old.headers }
-        ensures payload { self.new.payload.items ≡ self.old.payload.items }
-        ensures sound { IfOk result (λ next. IsOpenScan next) }
-    {
-        let index = scan.index;
-        let last = scan.last;
-        let plan = self.close(scan, ClosedBy::Marker)?;
-        let number = next_number(last, mark);
-        let piece = OpenPiece::open(self.alloc, &plan, number);
-        let last = if number < plan.intervals() {
-            number
-        } else {
-            last
-        };
-        Ok(OpenScan {
-            index,
-            plan,
-            last,
-            held: Held::Nothing,
-            offset: self.count + 1,
-            piece,
-        })
-    }
-
-    /// One byte of scan data.
-    fn scan_byte(&mut self, mut scan: OpenScan, byte: u8) -> Result<Place, AllocError>
-        requires count { self.old.count < 2 ^ 63 }
-        requires some { 1 ≤ self.old.count }
-        requires records { self.old.findings.record_count < 2 ^ 63 }
-        requires sound { IsOpenScan scan }
-        requires frame { IsOfFrame self.old.headers.frame scan.plan }
-        requires held { (shape : PictureShape) → self.old.headers.frame ≡ Some shape → HoldsShape self.old.findings.partial shape }
-        ensures place { IfOk result (λ place. place ≡ state.from_scan (state.class_of scan.held byte) scan self.old.count byte) }
-        ensures found { OnOk result (Adds self.old.headers.frame (state.closed_by (state.class_of scan.held byte) scan)
-            self.old.findings self.new.findings) }
-        ensures count { self.new.count ≡ self.old.count }
-        ensures headers { self.new.headers ≡ self.old.headers }
-        ensures payload { self.new.payload.items ≡ self.old.payload.items }
-        ensures sound { IfOk result (λ place. IsPlace self.new.headers.frame place []) }
-    {
-        match class_of(scan.held, byte) {
-            ByteClass::Fill => {
-                scan.hold();
-                Ok(Place::InScan(scan))
-            }
-            ByteClass::Data => {
-                scan.tell(byte)?;
-                Ok(Place::InScan(scan))
-            }
-            ByteClass::Mark => {
-                let next = self.mark(scan, byte - 0xd0)?;
-                Ok(Place::InScan(next))
-            }
-            ByteClass::Stop => {
-                self.close(scan, ClosedBy::Marker)?;
-                Ok(from_marker(true, true, self.count, byte))
+        if fill {
+            let count = fill_len(bytes);
+            if count > 0 {
+                return count;
             }
         }
+        self.step_at_start(fill, bytes[0]);
+        1
+    }
+
+    /// Where a marker may begin.
+    fn take_at_marker(&mut self, fill: bool, bytes: &[u8]) -> Result<usize, AllocError>
+        requires some { 0 < length bytes.now }
+        requires few { self.old.count + length bytes.now < 2 ^ 63 }
+        requires behind { 1 ≤ self.old.count }
+        requires place { self.old.place ≡ AtMarker fill }
+        requires header_bytes { length self.old.payload.items ≤ 65535 }
+        ensures { IfOk result (Takes self.old bytes.now self.new) }
+    {
+        if let Some(size) = whole_segment_size(bytes) {
+            let end = usize::from(size) + 2;
+            self.payload.clear();
+            self.payload.extend_from_slice(&bytes[4..end])?;
+            self.take_segment(self.count, bytes[1], self.count + end as u64 - 1);
+            return Ok(end);
+        }
+        if fill {
+            let count = fill_len(bytes);
+            if count > 0 {
+                return Ok(count);
+            }
+        }
+        let has_frame = self.headers.shape().is_some();
+        self.step_at_marker(fill, has_frame, bytes[0]);
+        Ok(1)
     }
 
     /// The length of a segment is known.
     #[tactic(auto, using(crate::proofs::Kept::length_keeps))]
-    fn length_known(&mut self, marker: u64, code: u8, size: u16) -> Place
+    fn length_known(&mut self, marker: u64, code: u8, size: u16)
         requires { self.old.count < 2 ^ 63 }
-        ensures place { result ≡ (state.length_known self.old.count self.old.headers marker code size).place }
+        ensures place { self.new.place ≡ (state.length_known self.old.count self.old.headers marker code size).place }
         ensures headers { self.new.headers ≡ (state.length_known self.old.count self.old.headers marker code size).headers }
         ensures count { self.new.count ≡ self.old.count }
         ensures payload { self.new.payload.items ≡ (state.length_known self.old.count self.old.headers marker code size).payload }
         ensures header_bytes { length self.new.payload.items ≤ 65535 }
         ensures findings { self.new.findings ≡ self.old.findings }
-        ensures sound { IsPlace self.new.headers.frame result [] }
+        ensures sound { IsPlace self.new.headers.frame self.new.place self.new.payload.items }
     {
         self.payload.clear();
         if size < 2 {
-            Place::Done(End::Header(MarkerFault::Length, marker))
+            self.place = Place::Done(End::Header(MarkerFault::Length, marker));
         } else if size == 2 {
-            self.take_segment(marker, code)
+            self.take_segment(marker, code, self.count);
         } else {
-            Place::InPayload(marker, code, size)
+            self.place = Place::InPayload(marker, code, size);
         }
     }
 
-    /// One byte of a payload.
-    #[tactic(auto, using(crate::proofs::Kept::payload_keeps))]
-    fn payload_byte(
+    /// In a payload.
+    fn take_in_payload(
         &mut self,
         marker: u64,
         code: u8,
         size: u16,
-        byte: u8,
-    ) -> Result<Place, AllocError>
-        requires count { self.old.count < 2 ^ 63 }
+        bytes: &[u8],
+    ) -> Result<usize, AllocError>
+        requires some { 0 < length bytes.now }
+        requires few { self.old.count + length bytes.now < 2 ^ 63 }
+        requires place { self.old.place ≡ InPayload marker code size }
         requires sound { length self.old.payload.items + 2 < size }
-        ensures place { IfOk result
-            (λ place. place
-            ≡ (state.payload_grown self.old.count self.old.headers (self.old.payload.items ++ byte ∷ []) marker code size).place) }
-        ensures headers { OnOk result (self.new.headers
-            ≡ (state.payload_grown self.old.count self.old.headers (self.old.payload.items ++ byte ∷ []) marker code size).headers) }
-        ensures count { self.new.count ≡ self.old.count }
-        ensures payload { OnOk result (self.new.payload.items
-            ≡ (state.payload_grown self.old.count self.old.headers (self.old.payload.items ++ byte ∷ []) marker code size).payload) }
-        ensures header_bytes { OnOk result (length self.new.payload.items ≤ 65535) }
-        ensures findings { self.new.findings ≡ self.old.findings }
-        ensures sound { IfOk result (λ place. IsPlace self.new.headers.frame place self.new.payload.items) }
+        ensures { IfOk result (Takes self.old bytes.now self.new) }
     {
-        self.payload.push(byte)?;
-        if self.payload.len() + 2 == usize::from(size) {
-            Ok(self.take_segment(marker, code))
-        } else {
-            Ok(Place::InPayload(marker, code, size))
+        let lacking = usize::from(size) - 2 - self.payload.len();
+        let count = lacking.min(bytes.len());
+        self.payload.extend_from_slice(&bytes[..count])?;
+        if count < lacking {
+            return Ok(count);
         }
+        self.take_segment(marker, code, self.count + count as u64 - 1);
+        Ok(count)
     }
 
-    /// Where the bytes end with one byte more.
-    fn place_after(&mut self, place: Place, byte: u8) -> Result<Place, AllocError>
-        requires count { self.old.count < 2 ^ 63 }
-        requires records { self.old.findings.record_count < 2 ^ 63 }
-        requires behind { IsBehind place self.old.count }
-        requires sound { IsPlace self.old.headers.frame place self.old.payload.items }
-        requires held { (shape : PictureShape) → self.old.headers.frame ≡ Some shape → HoldsShape self.old.findings.partial shape }
-        requires header_bytes { length self.old.payload.items ≤ 65535 }
-        ensures place { IfOk result
-            (λ next. next ≡ (state.step_from place self.old.count self.old.headers self.old.payload.items byte).place) }
-        ensures headers { OnOk result (self.new.headers
-            ≡ (state.step_from place self.old.count self.old.headers self.old.payload.items byte).headers) }
-        ensures payload { OnOk result (self.new.payload.items
-            ≡ (state.step_from place self.old.count self.old.headers self.old.payload.items byte).payload) }
-        ensures count { self.new.count ≡ self.old.count }
-        ensures found { OnOk result (Adds self.old.headers.frame (state.closed_at place byte) self.old.findings self.new.findings) }
-        ensures sound { IfOk result (λ next. IsPlace self.new.headers.frame next self.new.payload.items) }
-        ensures header_bytes { OnOk result (length self.new.payload.items ≤ 65535) }
+    /// Takes the first of these bytes, or as many as can be taken at once, and says how many. All is done but their count.
+    pub(crate) fn take(&mut self, bytes: &[u8]) -> Result<usize, AllocError>
+        requires some { 0 < length bytes.now }
+        requires few { self.old.count + length bytes.now < 2 ^ 63 }
+        requires machine { IsMachine self.old }
+        ensures { IfOk result (Takes self.old bytes.now self.new) }
     {
-        match place {
-            Place::Start(fill) => Ok(from_start(fill, self.count, byte)),
+        match &mut self.place {
+            Place::Start(fill) => {
+                let fill = *fill;
+                Ok(self.take_at_start(fill, bytes))
+            }
             Place::AtMarker(fill) => {
-                let has_frame = self.headers.shape().is_some();
-                Ok(from_marker(fill, has_frame, self.count, byte))
+                let fill = *fill;
+                self.take_at_marker(fill, bytes)
             }
-            Place::AtLength(marker, code) => Ok(Place::InLength(marker, code, byte)),
+            Place::AtLength(marker, code) => {
+                self.place = Place::InLength(*marker, *code, bytes[0]);
+                Ok(1)
+            }
             Place::InLength(marker, code, high) => {
-                let size = u16::from(high) * 256 + u16::from(byte);
-                Ok(self.length_known(marker, code, size))
+                let (marker, code, high) = (*marker, *code, *high);
+                let size = u16::from_be_bytes([high, bytes[0]]);
+                self.length_known(marker, code, size);
+                Ok(1)
             }
-            Place::InPayload(marker, code, size) => self.payload_byte(marker, code, size, byte),
-            Place::InScan(scan) => self.scan_byte(scan, byte),
-            Place::Done(end) => Ok(Place::Done(end)),
+            Place::InPayload(marker, code, size) => {
+                let (marker, code, size) = (*marker, *code, *size);
+                self.take_in_payload(marker, code, size, bytes)
+            }
+            Place::InScan(scan) => match scan.take(bytes)? {
+                ScanStep::Data(count) => Ok(count),
+                ScanStep::Restart(mark) => {
+                    close(
+                        self.alloc,
+                        &self.headers,
+                        &mut self.findings,
+                        scan,
+                        ClosedBy::Marker,
+                    )?;
+                    scan.begin(self.alloc, mark, self.count + 1);
+                    Ok(1)
+                }
+                ScanStep::End => {
+                    close(
+                        self.alloc,
+                        &self.headers,
+                        &mut self.findings,
+                        scan,
+                        ClosedBy::Marker,
+                    )?;
+                    self.step_at_marker(true, true, bytes[0]);
+                    Ok(1)
+                }
+            },
+            Place::Done(_) => Ok(bytes.len()),
         }
-    }
-
-    /// One byte that leads to another place.
-    fn step_on(&mut self, byte: u8) -> Result<(), AllocError>
-        requires { IsMachine self.old }
-        ensures state { OnOk result (state_of self.new ≡ state.after_byte (state_of self.old) byte) }
-        ensures found { OnOk result (Adds self.old.headers.frame (state.closed_at self.old.place byte)
-            self.old.findings self.new.findings) }
-        ensures sound { OnOk result (IsPlace self.new.headers.frame self.new.place self.new.payload.items) }
-        ensures header_bytes { OnOk result (length self.new.payload.items ≤ 65535) }
-    {
-        let place = mem::replace(&mut self.place, Place::Start(false));
-        self.place = self.place_after(place, byte)?;
-        self.count += 1;
-        Ok(())
-    }
-
-    /// One byte more.
-    pub(crate) fn step(&mut self, byte: u8) -> Result<(), AllocError>
-        requires { IsMachine self.old }
-        ensures state { OnOk result (state_of self.new ≡ state.after_byte (state_of self.old) byte) }
-        ensures found { OnOk result (Adds self.old.headers.frame (state.closed_at self.old.place byte)
-            self.old.findings self.new.findings) }
-        ensures sound { OnOk result (IsPlace self.new.headers.frame self.new.place self.new.payload.items) }
-        ensures header_bytes { OnOk result (length self.new.payload.items ≤ 65535) }
-    {
-        if !self.place.take_data(byte)? {
-            return self.step_on(byte);
-        }
-        self.count += 1;
-        Ok(())
-    }
-
-    /// Takes as many of these bytes as can be taken at once, and says how many. All is done but the count of bytes.
-    fn pass_stretch(&mut self, bytes: &[u8]) -> Result<usize, AllocError>
-        requires sound { IsPlace self.old.headers.frame self.old.place self.old.payload.items }
-        requires header_bytes { length self.old.payload.items ≤ 65535 }
-        ensures within { IfOk result (λ taken. taken ≤ length bytes.now) }
-        ensures leads { IfOk result
-            (λ taken. LeadsWith self.old.place self.old.payload.items (take taken bytes.now) self.new.place self.new.payload.items) }
-        ensures count { self.new.count ≡ self.old.count }
-        ensures headers { self.new.headers ≡ self.old.headers }
-        ensures findings { self.new.findings ≡ self.old.findings }
-        ensures sound { OnOk result (IsPlace self.new.headers.frame self.new.place self.new.payload.items) }
-        ensures header_bytes { OnOk result (length self.new.payload.items ≤ 65535) }
-    {
-        match &self.place {
-            Place::InPayload(_, _, size) => take_payload(&mut self.payload, *size, bytes),
-            _ => self.place.take_stretch(bytes),
-        }
-    }
-
-    /// As many of these bytes as can be taken at once. How many is the answer.
-    pub(crate) fn take_stretch(&mut self, bytes: &[u8]) -> Result<usize, AllocError>
-        requires count { self.old.count + length bytes.now < 2 ^ 63 }
-        requires sound { IsPlace self.old.headers.frame self.old.place self.old.payload.items }
-        requires header_bytes { length self.old.payload.items ≤ 65535 }
-        ensures within { IfOk result (λ taken. taken ≤ length bytes.now) }
-        ensures leads { IfOk result
-            (λ taken. LeadsWith self.old.place self.old.payload.items (take taken bytes.now) self.new.place self.new.payload.items) }
-        ensures count { IfOk result (λ taken. self.new.count ≡ self.old.count + taken) }
-        ensures kept { OnOk result ((self.new.headers ≡ self.old.headers) × (self.new.findings ≡ self.old.findings)) }
-        ensures sound { OnOk result (IsPlace self.new.headers.frame self.new.place self.new.payload.items) }
-        ensures header_bytes { OnOk result (length self.new.payload.items ≤ 65535) }
-    {
-        let taken = self.pass_stretch(bytes)?;
-        self.count += taken as u64;
-        Ok(taken)
     }
 
     /// The input ends. Where it does is the answer.
@@ -374,8 +299,7 @@ impl Machine {
             self.old.findings self.new.findings) }
         ensures headers { OnOk result (self.new.headers ≡ self.old.headers) }
     {
-        let place = mem::replace(&mut self.place, Place::Start(false));
-        match place {
+        match &mut self.place {
             Place::Start(_) | Place::AtMarker(true) => Ok(End::Header(
                 MarkerFault::Ended,
                 self.count,
@@ -385,10 +309,16 @@ impl Machine {
                 Ok(End::Header(MarkerFault::Ended, self.count))
             }
             Place::InScan(scan) => {
-                self.close(scan, ClosedBy::Input)?;
+                close(
+                    self.alloc,
+                    &self.headers,
+                    &mut self.findings,
+                    scan,
+                    ClosedBy::Input,
+                )?;
                 Ok(End::Input(self.count))
             }
-            Place::Done(end) => Ok(end),
+            Place::Done(end) => Ok(*end),
         }
     }
 }

@@ -1,16 +1,16 @@
 //! Pieces of scan data.
 
-ghost use Rattle.std.specs.Prelude.{◌≡◌, ◌∷◌, [], ◌<◌, ◌^◌, OnOk, true};
+ghost use Rattle.std.specs.Prelude.{◌≡◌, ◌<◌, ◌^◌, true};
 ghost use Rattle.jls_copy.specs.Fronts.{OpenReadsNoMore};
 ghost use Rattle.jls_marker.specs.Scan.{intervals};
 ghost use Rattle.jls_copy.specs.Numbers.{numbered};
-ghost use Rattle.jls_copy.specs.ReaderState.{piece_opened, piece_with};
+ghost use Rattle.jls_copy.specs.ReaderState.{piece_opened};
 ghost use Rattle.jls_copy.specs.Sound.{IsOpenPiece};
 
 use crate::interval_shape::IntervalShape;
 use crate::piece_decoder::PieceDecoder;
 use jls_marker::ScanPlan;
-use std::alloc::{AllocError, Global};
+use std::alloc::Global;
 
 /// Why a piece of scan data doesn't read as the lines of its interval.
 #[derive(Clone, Copy, Debug, PartialEq, Eq)]
@@ -84,13 +84,13 @@ impl OpenPiece {
         OpenPiece::Within(number, PieceDecoder::new(alloc, shape))
     }
 
-    /// Tells one byte more.
-    pub(crate) fn push(&mut self, byte: u8) -> Result<(), AllocError>
-        ensures { OnOk result (self.new ≡ piece_with self.old (byte ∷ [])) }
+    /// The piece as it was told. What stays was told nothing.
+    pub(crate) fn take(&mut self) -> OpenPiece
+        ensures { result ≡ self.old }
     {
         match self {
-            OpenPiece::Within(_, decoder) => decoder.push(byte),
-            OpenPiece::Beyond(_) => Ok(()),
+            OpenPiece::Within(number, decoder) => OpenPiece::Within(*number, decoder.take()),
+            OpenPiece::Beyond(number) => OpenPiece::Beyond(*number),
         }
     }
 
@@ -101,16 +101,6 @@ impl OpenPiece {
         match self {
             OpenPiece::Within(_, decoder) => decoder.reads_no_more(),
             OpenPiece::Beyond(_) => true,
-        }
-    }
-
-    /// Tells the next bytes.
-    pub(crate) fn push_all(&mut self, bytes: &[u8]) -> Result<(), AllocError>
-        ensures { OnOk result (self.new ≡ piece_with self.old bytes.now) }
-    {
-        match self {
-            OpenPiece::Within(_, decoder) => decoder.push_all(bytes),
-            OpenPiece::Beyond(_) => Ok(()),
         }
     }
 }

@@ -1,6 +1,6 @@
 //! The decoder of a piece, in a place that doesn't move.
 
-ghost use Rattle.std.specs.Prelude.{◌≡◌, ◌*◌, ◌∷◌, [], OnOk, IfOk, IfSome, IfNone, IsErr, true, MatchOption, MatchResult, Err};
+ghost use Rattle.std.specs.Prelude.{◌≡◌, ◌*◌, OnOk, IfOk, IfSome, IfNone, IsErr, true, MatchOption, MatchResult, Err};
 ghost use Rattle.jls_interval.specs.Reads.{ReadsNoMore};
 ghost use Rattle.jls_interval.specs.PieceFaults.{OutcomeIs};
 ghost use Rattle.jls_interval.specs.CutEnds.{CutEndIs};
@@ -71,20 +71,18 @@ impl PieceDecoder {
         }
     }
 
-    /// Takes one byte of the piece. After want of memory the decoder stays refused.
-    pub(crate) fn push(&mut self, byte: u8) -> Result<(), AllocError>
-        ensures { OnOk result (self.new ≡ with_bytes self.old (byte ∷ [])) }
+    /// The decoder as it was told. What stays was told nothing.
+    pub(crate) fn take(&mut self) -> PieceDecoder
+        ensures { result ≡ self.old }
     {
-        match &mut self.made {
-            Some(decoder) => decoder.push(byte),
-            None => {
-                self.made = Some(decoder_with(self.alloc, self.shape, &[byte])?);
-                Ok(())
-            }
+        PieceDecoder {
+            alloc: self.alloc,
+            shape: self.shape,
+            made: self.made.take(),
         }
     }
 
-    /// Takes bytes of the piece in turn, as `push` does.
+    /// Takes bytes of the piece in turn. After want of memory the decoder stays refused.
     pub(crate) fn push_all(&mut self, bytes: &[u8]) -> Result<(), AllocError>
         ensures { OnOk result (self.new ≡ with_bytes self.old bytes.now) }
     {

@@ -1,6 +1,6 @@
 //! One copy of a picture, fed in slices of any size.
 
-ghost use Rattle.std.specs.Prelude.{◌≡◌, ◌+◌, ◌-◌, ◌≤◌, ◌<◌, ◌^◌, ◌∷◌, [], length, Some, None, IfSome, OnOk, OnErr, IsOk, IsSome};
+ghost use Rattle.std.specs.Prelude.{◌≡◌, ◌+◌, ◌-◌, ◌≤◌, ◌<◌, ◌^◌, [], length, Some, None, IfSome, OnOk, OnErr, IsOk, IsSome};
 ghost use Rattle.std.specs.Prelude.{IsErr, IfOk, IfErr, IfNone, take, true};
 ghost use Rattle.jls_copy.specs.Fronts.{IsPieceBroken};
 ghost use Rattle.jls_copy.specs.ReadCopy.{after};
@@ -142,30 +142,11 @@ impl CopyReader {
         self.machine.count
     }
 
-    fn feed_byte(&mut self, byte: u8) -> Result<(), AllocError>
-        requires { IfSome self.old (λ bytes. length bytes + 1 ≤ 2 ^ 63 - 1) }
-        ensures ok { OnOk result (self.new ≡ after self.old (byte ∷ [])) }
-        ensures err { OnErr result (self.new ≡ None) }
-        ensures not_refused { IsOk result → IsSome self.old }
-    {
-        if self.failed {
-            return Err(AllocError);
-        }
-        match self.machine.step(byte) {
-            Ok(()) => {
-                self.bytes.note(byte);
-                Ok(())
-            }
-            Err(refused) => {
-                self.failed = true;
-                Err(refused)
-            }
-        }
-    }
-
-    /// Takes as many of these bytes as can be taken at once, and says how many.
-    fn feed_stretch(&mut self, bytes: &[u8]) -> Result<usize, AllocError>
-        requires { IfSome self.old (λ before. length before + length bytes.now ≤ 2 ^ 63 - 1) }
+    /// Takes the first of these bytes, or as many as can be taken at once, and says how many.
+    fn feed_some(&mut self, bytes: &[u8]) -> Result<usize, AllocError>
+        requires some { 0 < length bytes.now }
+        requires few { IfSome self.old (λ before. length before + length bytes.now ≤ 2 ^ 63 - 1) }
+        ensures some { IfOk result (λ count. 0 < count) }
         ensures within { IfOk result (λ count. count ≤ length bytes.now) }
         ensures ok { IfOk result (λ count. self.new ≡ after self.old (take count bytes.now)) }
         ensures err { OnErr result (self.new ≡ None) }
@@ -174,10 +155,11 @@ impl CopyReader {
         if self.failed {
             return Err(AllocError);
         }
-        let Ok(count) = self.machine.take_stretch(bytes) else {
+        let Ok(count) = self.machine.take(bytes) else {
             self.failed = true;
             return Err(AllocError);
         };
+        self.machine.count += count as u64;
         self.bytes.note_all(&bytes[..count]);
         Ok(count)
     }
@@ -196,11 +178,7 @@ impl CopyReader {
         }
         let mut at = 0;
         while at < slice.len() {
-            at += self.feed_stretch(&slice[at..])?;
-            if at < slice.len() {
-                self.feed_byte(slice[at])?;
-                at += 1;
-            }
+            at += self.feed_some(&slice[at..])?;
         }
         Ok(())
     }

@@ -1,17 +1,16 @@
 //! Scan data, byte after byte.
 
-ghost use Rattle.std.specs.Prelude.{◌≡◌, ℕ, ◌+◌, ◌-◌, ◌^◌, ◌<◌, ◌≤◌, OnOk, IfOk, List, Option, length, take};
-ghost use Rattle.jls_copy.specs.Numbers.{next_number as number_rule};
+ghost use Rattle.std.specs.Prelude.{◌≡◌, ◌+◌, ◌-◌, ◌^◌, ◌<◌, ◌≤◌, OnOk, IfOk, length};
+ghost use Rattle.jls_copy.specs.Numbers.{next_number as number_rule, number_behind};
 ghost use Rattle.jls_copy.specs.ScanData.{is_restart_code as restart_code, ends_scan_data as end_code};
 ghost use Rattle.jls_copy.specs.ReaderState as state;
 ghost use Rattle.jls_copy.specs.declared.scan.ByteClass.TheVariants.{Mark};
-ghost use Rattle.jls_copy.specs.Sound.{IsOpenScan, IsPlace};
-ghost use Rattle.jls_copy.specs.Stretch.{LeadsTo};
-ghost use Rattle.jls_copy.specs.declared.place.Place.TheVariants.{InScan};
-ghost use Rattle.jls_values.specs.Shape.{PictureShape};
+ghost use Rattle.jls_copy.specs.Sound.{IsOpenScan};
+ghost use Rattle.jls_copy.specs.Stretch.{TakesStep};
+ghost use Rattle.jls_marker.specs.Scan.{intervals};
 
 use crate::cut_search::stretch_len;
-use crate::piece::OpenPiece;
+use crate::piece::{OpenPiece, ToldPiece};
 use jls_marker::ScanPlan;
 use std::alloc::{AllocError, Global};
 
@@ -34,6 +33,17 @@ pub(crate) enum ByteClass {
     Stop,
     /// It belongs to the piece.
     Data,
+}
+
+/// What came of bytes of scan data.
+#[derive(Clone, Copy)]
+pub(crate) enum ScanStep {
+    /// So many were taken.
+    Data(usize),
+    /// The first is the code of RSTm, which closes the piece.
+    Restart(u8),
+    /// The first is the code of a marker that ends the scan data.
+    End,
 }
 
 /// A scan whose data is told byte after byte.
@@ -67,7 +77,7 @@ fn ends_scan_data(code: u8) -> bool
 }
 
 /// What a byte of scan data does behind these held bytes.
-pub(crate) fn class_of(held: Held, byte: u8) -> ByteClass
+fn class_of(held: Held, byte: u8) -> ByteClass
     ensures class { result ≡ state.class_of held byte }
     ensures mark { result ≡ Mark → (208 ≤ byte) × (byte < 216) }
 {
@@ -98,7 +108,7 @@ fn one_more(held: Held) -> Held
 }
 
 /// The number of the piece behind RSTm, where `last` was given last.
-pub(crate) fn next_number(last: u32, mark: u8) -> u32
+fn next_number(last: u32, mark: u8) -> u32
     requires mark { mark < 8 }
     requires last { last < 2 ^ 16 }
     ensures value { result ≡ number_rule last mark }
@@ -125,43 +135,89 @@ impl OpenScan {
     }
 
     /// One FF byte more that may be fill.
-    pub(crate) fn hold(&mut self)
+    fn hold(&mut self)
         ensures { self.new ≡ record self.old { held = state.one_more self.old.held } }
     {
         self.held = one_more(self.held);
     }
 
+    /// Tells the piece the next bytes.
+    fn tell_all(&mut self, bytes: &[u8]) -> Result<(), AllocError>
+        ensures { OnOk result (self.new ≡ record self.old { piece = state.piece_with self.old.piece bytes.now }) }
+    {
+        match &mut self.piece {
+            OpenPiece::Within(_, decoder) => decoder.push_all(bytes),
+            OpenPiece::Beyond(_) => Ok(()),
+        }
+    }
+
     /// Tells the piece what was held and one byte more.
-    pub(crate) fn tell(&mut self, byte: u8) -> Result<(), AllocError>
+    fn tell(&mut self, byte: u8) -> Result<(), AllocError>
         ensures { OnOk result (self.new ≡ state.scan_with self.old byte) }
     {
         match self.held {
-            Held::Nothing => {}
-            Held::One => self.piece.push(0xff)?,
-            Held::More => {
-                self.piece.push(0xff)?;
-                self.piece.push(0xff)?;
-            }
+            Held::Nothing => self.tell_all(&[byte])?,
+            Held::One => self.tell_all(&[0xff, byte])?,
+            Held::More => self.tell_all(&[0xff, 0xff, byte])?,
         }
         self.held = Held::Nothing;
-        self.piece.push(byte)
+        Ok(())
     }
 
-    /// Tells the piece as many of these bytes as can be told at once, and says how many: none where an FF byte is held.
-    pub(crate) fn tell_stretch(&mut self, bytes: &[u8]) -> Result<usize, AllocError>
-        ensures within { IfOk result (λ count. count ≤ length bytes.now) }
-        ensures leads { IfOk result (λ count. LeadsTo (InScan self.old) (take count bytes.now) (InScan self.new)) }
-        ensures sound { IfOk result
-            (λ count. (frame : Option PictureShape) (payload : List ℕ) → IsPlace frame (InScan self.old) payload
-            → IsPlace frame (InScan self.new) payload) }
+    /// Takes the first of these bytes, or as many as the piece can be told at once, and says what came of them. The code of a marker is
+    /// left to the caller, since it closes the piece.
+    pub(crate) fn take(&mut self, bytes: &[u8]) -> Result<ScanStep, AllocError>
+        requires { 0 < length bytes.now }
+        ensures { IfOk result (λ step. TakesStep self.old bytes.now self.new step) }
     {
-        match self.held {
-            Held::Nothing => {
-                let count = stretch_len(bytes);
-                self.piece.push_all(&bytes[..count])?;
-                Ok(count)
+        if let Held::Nothing = self.held {
+            let count = stretch_len(bytes);
+            if count > 0 {
+                self.tell_all(&bytes[..count])?;
+                return Ok(ScanStep::Data(count));
             }
-            Held::One | Held::More => Ok(0),
         }
+        let byte = bytes[0];
+        match class_of(self.held, byte) {
+            ByteClass::Fill => {
+                self.hold();
+                Ok(ScanStep::Data(1))
+            }
+            ByteClass::Data => {
+                self.tell(byte)?;
+                Ok(ScanStep::Data(1))
+            }
+            ByteClass::Mark => Ok(ScanStep::Restart(byte - 0xd0)),
+            ByteClass::Stop => Ok(ScanStep::End),
+        }
+    }
+
+    /// Gives the piece as it was told. What stays of it was told nothing.
+    pub(crate) fn close(&mut self) -> ToldPiece
+        ensures told { result ≡ record { scan = self.old.index; offset = self.old.offset; piece = self.old.piece } }
+        ensures rest { self.new ≡ record self.old { piece = self.new.piece } }
+    {
+        ToldPiece {
+            scan: self.index,
+            offset: self.offset,
+            piece: self.piece.take(),
+        }
+    }
+
+    /// Begins the piece behind RSTm at this offset.
+    pub(crate) fn begin(&mut self, alloc: Global, mark: u8, offset: u64)
+        requires mark { mark < 8 }
+        requires last { self.old.last < intervals self.old.plan }
+        ensures scan { self.new ≡ state.scan_behind self.old (number_behind (intervals self.old.plan) self.old.last mark) offset }
+        ensures sound { IsOpenScan self.new }
+    {
+        let count = self.plan.intervals();
+        let number = next_number(self.last, mark);
+        self.piece = OpenPiece::open(alloc, &self.plan, number);
+        if number < count {
+            self.last = number;
+        }
+        self.held = Held::Nothing;
+        self.offset = offset;
     }
 }

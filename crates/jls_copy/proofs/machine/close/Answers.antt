@@ -1,4 +1,4 @@
-use Rattle.jls_copy.proofs.machine.Machine.close.Goals as goal
+use Rattle.jls_copy.proofs.machine.close.Goals as goal
 
 pub close-requires-clause-held : goal.close-requires-clause-held
 close-requires-clause-held c = c.requires.held c.in-Some.shape.now c.in-Some.ensures.some
