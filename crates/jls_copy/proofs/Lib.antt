@@ -26,7 +26,6 @@ mod Gathering
 mod CutOutcomes
 mod CutGathering
 mod CopyTold
-pub mod HeadersKept
 pub mod ScansOfCourse
 pub mod BytesDecide
 pub mod FinalEnds

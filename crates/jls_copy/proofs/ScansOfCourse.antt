@@ -5,12 +5,12 @@ use Rattle.jls_marker.specs.HeaderState.{HeaderState, IsHeaderState, no_headers}
 use Rattle.jls_marker.specs.Scan.{Scan, IsScan, intervals}
 use Rattle.jls_marker.specs.SegmentLaws.{AreBytes}
 use Rattle.jls_marker.proofs.HeaderSteps.{scans_are_in_range}
+use Rattle.jls_marker.proofs.HeadersKept.{headers_kept, no_headers_kept}
 use Rattle.jls_copy.specs.ScanData.{fill_bytes, ClosedPiece, closed_bytes}
 use Rattle.jls_copy.specs.Numbers.{PieceNumber, number_behind, given_last}
 use Rattle.jls_copy.specs.Pieces.{FoundPiece, pieces_from, pieces_in, pieces}
 use Rattle.jls_copy.specs.Course.{CopyUnit, segment, scan, segment_unit_bytes, scan_data_bytes, AreUnits, Course, IsCourse, with_soi, with_another_marker, with_no_marker, with_fill_alone}
 use Rattle.jls_copy.specs.declared.end.End.{End}
-use Rattle.jls_copy.proofs.HeadersKept.{headers_kept, no_headers_kept}
 
 -- the piece is of a scan in its ranges
 abbrev pub HasScan : FoundPiece → Type 0

@@ -7,10 +7,10 @@ use Rattle.jls_marker.specs.HeaderState.{HeaderState, IsHeaderState, no_headers}
 use Rattle.jls_marker.specs.Headers.{headers_after}
 use Rattle.jls_marker.specs.SegmentLaws.{AreBytes}
 use Rattle.jls_marker.proofs.HeaderSteps.{frame_stays, scans_begin, scans_are_in_range}
+use Rattle.jls_marker.proofs.HeadersKept.{headers_kept, no_headers_kept}
 use Rattle.jls_copy.specs.ScanData.{fill_bytes}
 use Rattle.jls_copy.specs.Course.{CopyUnit, segment, scan, segment_unit_bytes, scan_data_bytes, AreUnits, with_soi, with_another_marker, with_no_marker, with_fill_alone}
 use Rattle.jls_copy.specs.declared.end.End.{End}
-use Rattle.jls_copy.proofs.HeadersKept.{headers_kept, no_headers_kept}
 use Rattle.jls_headline.specs.ScanLaws.{IsScanUnder, ScanOfUnitIs, ScansAreOfTheFrame}
 use Rattle.jls_headline.proofs.Members.{all_front, all_back}
 

@@ -1,5 +1,5 @@
 -- What a decoder holds at the end of its bytes.
-use Rattle.std.proofs.Common.{◌≡◌, ℕ, ◌*◌, ◌<◌, ◌≤◌, Bool, true, false, List, [], ◌∷◌, ◌++◌, length, get_or, suc, map, Vec, Global, Result, Ok, Err, sym, ap, ◌∙◌, subst, arith, inl, inr, append_assoc, length-append}
+use Rattle.std.proofs.Common.{◌≡◌, ℕ, ◌*◌, ◌^◌, ◌<◌, ◌≤◌, Bool, true, false, List, [], ◌∷◌, ◌++◌, length, get_or, suc, map, Vec, Global, Result, Ok, Err, sym, ap, ◌∙◌, subst, arith, inl, inr, append_assoc, length-append}
 use Rattle.std.specs.Prelude.{not, Option, Some, None, MatchOption, IfSome, MatchResult}
 use Rattle.std.proofs.lemmas.List.{append-nil}
 use Rattle.std.proofs.lemmas.Bool.{cases_Bool}
@@ -10,11 +10,12 @@ use Rattle.jls_bits.proofs.DataBits.{data_end, data_stop, length_more, width_bou
 use Rattle.jls_bits.proofs.Appending.{whole_front}
 use Rattle.jls_interval.specs.Reads.{Reads, IsLong, IsBroken}
 use Rattle.jls_interval.specs.PieceFaults.{NoLines, OutcomeIs}
-use Rattle.jls_interval.specs.Decoding.{IsOver, IsDead, IsReading, TakesFirst, GivesBack, HasShape}
+use Rattle.jls_interval.specs.Decoding.{IsOver, IsDead, HaveWidth, IsReading, TakesFirst, GivesBack, HasShape}
 use Rattle.jls_interval.specs.IntervalBytes.{IsReadingBefore, HasLengths}
 use Rattle.jls_interval.specs.declared.interval_reader.IntervalReader.{IntervalReader}
 use Rattle.jls_interval.specs.declared.decode_piece.PieceFault.{PieceFault}
 use Rattle.jls_interval.specs.declared.decode_piece.PieceFault.TheVariants.{Long, Broken, OutOfMemory}
+use Rattle.jls_interval.proofs.IntervalReading.{items}
 use Rattle.jls_interval.proofs.PiecesReadOnce.{reads_once, read_not_long}
 
 -- The bytes so far ---------------------------------------------------------------------------
@@ -94,6 +95,7 @@ pub lengths_more : (bytes more : List ℕ) (d : IntervalReader) → HasLengths b
 lengths_more bytes more d h = record {
   lines_paid = (let a = h.lines_paid in let s = length-append bytes more in omega arith);
   lines_at_most = h.lines_at_most;
+  lines_wide = h.lines_wide;
   line_at_most = h.line_at_most;
 }
 
@@ -102,6 +104,7 @@ module _ (p : CodingParameters) (bytes : List ℕ) (d : IntervalReader) where
   before_lengths chunk h = record {
     lines_paid = (let a = h.reading.lines_paid in let e = ap length h.bits_are in let s = length-append h.given chunk in let b = data_bits_at_most 0 bytes in omega arith);
     lines_at_most = h.reading.lines_at_most;
+    lines_wide = h.reading.lines_wide;
     line_at_most = h.reading.line_at_most;
   }
 
@@ -136,5 +139,12 @@ pub lengths_same : (bytes : List ℕ) (d d' : IntervalReader) → HasShape d d' 
 lengths_same bytes d d' s e h = record {
   lines_paid = (let a = h.lines_paid in let q = ap (λ (v : Vec (Vec ℕ Global) Global). length v.items) e.0 in omega arith);
   lines_at_most = (let a = h.lines_at_most in let q = ap (λ (v : Vec (Vec ℕ Global) Global). length v.items) e.0 in let n = s.count in omega arith);
+  lines_wide = subst (λ z. HaveWidth z (items d'.lines.items)) (sym s.width) (subst (λ (v : Vec (Vec ℕ Global) Global). HaveWidth d.reader.width (items v.items)) (sym e.0) h.lines_wide);
   line_at_most = (let a = h.line_at_most in let q = ap (λ (v : Vec ℕ Global). length v.items) e.1 in let n = s.width in omega arith);
 }
+
+-- how many samples an interval has
+pub samples_same : (rows : ℕ) (d d' : IntervalReader) → d'.reader.width ≡ d.reader.width → d'.components ≡ d.components
+    → d.reader.width * d.components * rows ≤ 2 ^ 28 → d'.reader.width * d'.components * rows ≤ 2 ^ 28
+samples_same rows d d' e f h =
+    subst (λ z. z * d'.components * rows ≤ 2 ^ 28) (sym e) (subst (λ z. d.reader.width * z * rows ≤ 2 ^ 28) (sym f) h)

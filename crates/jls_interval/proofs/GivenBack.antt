@@ -67,6 +67,7 @@ module _ (p : CodingParameters) (given : List Bool) (d : IntervalReader) (h : Is
           components_at_most = h.components_at_most;
           lines_at_most = h.lines_at_most;
           lines_paid = (let e = length-map d.lines.items (λ (v : Vec ℕ Global). v.items) in omega arith);
+          lines_wide = h.lines_wide;
           line_at_most = h.line_at_most;
           state_is = subst (λ s. StateIs p w k d.count before L line cells ri Fresh s) (sym is) (record { earlier = x.earlier; told = []; leads = x.leads; bits_are = sym (append-nil before); samples = x.samples; unfinished = x.unfinished; few = x.few; is_after = x.is_after; hand_at = refl });
         };

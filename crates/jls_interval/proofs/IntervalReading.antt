@@ -1,5 +1,5 @@
 -- What a reader of an interval keeps, from what an event made of its line.
-use Rattle.std.proofs.Common.{◌≡◌, ℕ, ◌<◌, ◌≤◌, Bool, true, List, [], ◌++◌, length, get_or, map, Vec, Global, ◌%◌, refl, sym, ap, ◌∙◌, subst, arith, append_assoc, length-append}
+use Rattle.std.proofs.Common.{◌≡◌, ℕ, ◌<◌, ◌≤◌, Bool, true, List, [], ◌∷◌, ◌++◌, length, get_or, map, Vec, Global, ◌%◌, refl, sym, ap, ◌∙◌, subst, arith, append_assoc, length-append}
 use Rattle.std.proofs.lemmas.List.{append-nil}
 use Rattle.jls_values.specs.Params.{CodingParameters}
 use Rattle.jls_values.specs.Params.{AreCodingParameters}
@@ -7,7 +7,7 @@ use Rattle.jls_context.specs.Variables.{Variables}
 use Rattle.jls_interval.specs.Events.{Event, Above, above}
 use Rattle.jls_interval.specs.After.{IsAfter}
 use Rattle.jls_interval.specs.Hands.{NoEvent, HandAt, Holds, EventDone, EventPushed}
-use Rattle.jls_interval.specs.Decoding.{IsWorking, IsDead, StateIs, IsReading, TakesAll, Taken, TakesFirst, TakesEvent, HasShape}
+use Rattle.jls_interval.specs.Decoding.{IsWorking, IsDead, StateIs, HaveWidth, IsReading, TakesAll, Taken, TakesFirst, TakesEvent, HasShape}
 use Rattle.jls_interval.specs.LineSamples.{Works, TakesInLine}
 use Rattle.jls_interval.specs.declared.line_reader.Hand.{Hand}
 use Rattle.jls_interval.specs.declared.line_reader.Hand.TheVariants.{Fresh}
@@ -68,6 +68,15 @@ taking_fewer old new chunk unread t p given h =
 
 abbrev pub items : List (Vec ℕ Global) → List (List ℕ)
 items vs = map (λ v. v.items) vs
+
+-- the lines have a width, which is given in two ways
+pub wide_same : (w w' : ℕ) (lines : List (List ℕ)) → w' ≡ w → HaveWidth w lines → HaveWidth w' lines
+wide_same w w' lines e h = subst (λ z. HaveWidth z lines) (sym e) h
+
+-- and so do they with a line behind them that has it
+pub wide_more : (w : ℕ) (lines : List (List ℕ)) (line : List ℕ) → HaveWidth w lines → length line ≡ w → HaveWidth w (lines ++ line ∷ [])
+wide_more w [] line h e = (e, tt)
+wide_more w (x ∷ xs) line h e = (h.0, wide_more w xs line h.1 e)
 
 pub line_fits : (p : CodingParameters) (w k : ℕ) (up : Above) (line line' : List ℕ) (cells' : Variables) (run_indices' : List ℕ) (told : List Bool) (earlier : List Event)
     → EventDone p w k up line line' cells' run_indices' told earlier → length line < w → length line' ≤ w
@@ -164,6 +173,7 @@ module _ (p : CodingParameters) (d : IntervalReader) (given : List Bool) (h : Is
             components_at_most = h.components_at_most;
             lines_at_most = h.lines_at_most;
             lines_paid = (let b = h.lines_paid in let m = length-append given a.taken in omega arith);
+            lines_wide = wide_same w new.width lines wide h.lines_wide;
             line_at_most = (let b = works.unfinished in omega arith);
             state_is = subst (λ s. StateIs p new.width n d.count (given ++ a.taken) lines new.line.items new.coder.cells new.coder.run_indices new.hand s) (sym is) works;
           };

@@ -1,5 +1,6 @@
 -- What a decoder that is given a few bits at a time keeps.
 use Rattle.std.specs.Prelude.{◌≡◌, ℕ, ◌%◌, ◌<◌, ◌≤◌, Bool, true, false, List, ◌++◌, length, get_or, map, min}
+use Rattle.std.specs.List.{AllByRecursion}
 use Rattle.jls_values.specs.Params.{CodingParameters}
 use Rattle.jls_context.specs.Variables.{Variables}
 use Rattle.jls_interval.specs.Lines.{AreLines}
@@ -47,6 +48,10 @@ StateIs p w c n given lines line cells run_indices hand Working =
 StateIs p w c n given lines line cells run_indices hand (Over extra) = IsOver p w c n given lines extra
 StateIs p w c n given lines line cells run_indices hand Dead = IsDead p w c n given
 
+-- each of these lines has so many samples
+abbrev pub HaveWidth : ℕ → List (List ℕ) → Type 0
+HaveWidth w lines = AllByRecursion (λ line. length line ≡ w) lines
+
 -- what the fields of a reader say of the bits given. No line is finished without a bit of its own
 pub record IsReading (p : CodingParameters) (given : List Bool) (d : IntervalReader) : Type 0 where
   pub parameters : d.reader.coder.cells.parameters ≡ p
@@ -55,6 +60,7 @@ pub record IsReading (p : CodingParameters) (given : List Bool) (d : IntervalRea
   pub components_at_most : d.components ≤ 4
   pub lines_at_most : length d.lines.items ≤ d.count
   pub lines_paid : length d.lines.items ≤ length given
+  pub lines_wide : HaveWidth d.reader.width (map (λ v. v.items) d.lines.items)
   pub line_at_most : length d.reader.line.items ≤ d.reader.width
   pub state_is : StateIs p d.reader.width d.components d.count given (map
       (λ v. v.items) d.lines.items) d.reader.line.items d.reader.coder.cells d.reader.coder.run_indices d.reader.hand d.state

@@ -2,6 +2,7 @@ pub mod Beginning
 pub mod FaultsOf
 pub mod FirstFailing
 pub mod HeaderSteps
+pub mod HeadersKept
 pub mod InForce
 pub mod Intervals
 pub mod Layouts

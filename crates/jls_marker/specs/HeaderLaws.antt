@@ -3,7 +3,7 @@ use Rattle.std.specs.Prelude.{◌≡◌, ℕ, ◌+◌, ◌≤◌, List, map, Opt
 use Rattle.jls_values.specs.Shape.{PictureShape}
 use Rattle.jls_marker.specs.ComponentIndex.{index_of}
 use Rattle.jls_marker.specs.Scan.{Scan, IsScan, IsScanOf, PartTheLines}
-use Rattle.jls_marker.specs.HeaderState.{HeaderState, IsHeaderState}
+use Rattle.jls_marker.specs.HeaderState.{HeaderState, IsHeaderState, no_headers}
 use Rattle.jls_marker.specs.Headers.{headers_after, params_judged}
 use Rattle.jls_marker.specs.PresetParameters.{PresetParameters}
 use Rattle.jls_marker.specs.ScanSelection.{ScanSelection}
@@ -29,6 +29,12 @@ pub record Begins (h after : HeaderState) (scan : Scan) : Type 0 where
 abbrev pub ScansBegin : Type 0
 ScansBegin = (h after : HeaderState) (code : ℕ) (payload : List ℕ) (scan : Scan) → headers_after h code payload ≡ Ok (after, Some scan)
     → Begins h after scan
+
+-- Headers are in their ranges before the first segment. Behind each that is taken they still are, if its payload consists of bytes
+abbrev pub HeadersStayInRange : Type 0
+HeadersStayInRange = IsHeaderState no_headers
+    × ((h after : HeaderState) (code : ℕ) (payload : List ℕ) (scan : Option Scan) → IsHeaderState h → AreBytes payload
+    → headers_after h code payload ≡ Ok (after, scan) → IsHeaderState after)
 
 -- a scan that begins is in its ranges, if the headers before it are in theirs and the payload consists of bytes
 abbrev pub ScansAreInRange : Type 0

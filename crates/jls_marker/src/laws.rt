@@ -1,6 +1,6 @@
 //! The laws of marker segments and of the state of the headers. Each is a function that does nothing and whose contract is the law.
 
-ghost use Rattle.jls_marker.specs.HeaderLaws.{FrameStays, ScansBegin, ScansAreInRange, OthersCountNone, NeverEnded, IntervalsPartTheLines, SegmentsSetTheirOwn, ScansHaveWhatIsInForce};
+ghost use Rattle.jls_marker.specs.HeaderLaws.{FrameStays, HeadersStayInRange, ScansBegin, ScansAreInRange, OthersCountNone, NeverEnded, IntervalsPartTheLines, SegmentsSetTheirOwn, ScansHaveWhatIsInForce};
 ghost use Rattle.jls_marker.specs.SegmentLaws.{LayoutsAreRead, PayloadsAreRead, WrittenReadsBack, UnknownCodes};
 
 /// A payload has one layout of its segment at most, and that is the one that is read.
@@ -31,6 +31,11 @@ pub fn frame_stays()
 /// A scan begins under a frame alone, is one of that frame, and changes nothing but the number of scans, by one.
 pub fn scans_begin()
     ensures { ScansBegin }
+{}
+
+/// Headers are in their ranges before the first segment, and behind each that is taken, if its payload consists of bytes.
+pub fn headers_stay_in_range()
+    ensures { HeadersStayInRange }
 {}
 
 /// A scan that begins is in its ranges, if the headers before it are in theirs and the payload consists of bytes.

@@ -17,9 +17,9 @@ pub use codes::has_segment;
 pub use fault::MarkerFault;
 pub use headers::Headers;
 pub use laws::{
-    frame_stays, intervals_part_the_lines, layouts_are_read, never_ended, others_count_none,
-    payloads_are_read, scans_are_in_range, scans_begin, scans_have_what_is_in_force,
-    segments_set_their_own, unknown_codes, written_reads_back,
+    frame_stays, headers_stay_in_range, intervals_part_the_lines, layouts_are_read, never_ended,
+    others_count_none, payloads_are_read, scans_are_in_range, scans_begin,
+    scans_have_what_is_in_force, segments_set_their_own, unknown_codes, written_reads_back,
 };
 pub use read::read_segment;
 pub use scan_head::ScanHead;

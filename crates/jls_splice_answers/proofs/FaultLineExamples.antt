@@ -6,7 +6,7 @@ use Rattle.std.specs.Str.{chars}
 use Rattle.std.proofs.lemmas.Fmt.{decimal_digit, decimal-digits_of}
 use Rattle.jls_marker.specs.declared.fault.MarkerFault.TheVariants.{NoSoi}
 use Rattle.jls_splice_answers.specs.declared.outcome.Cause.TheVariants as cause
-use Rattle.jls_splice_answers.specs.FaultLines.{cause_line, not_replaced_line}
+use Rattle.jls_splice_answers.specs.FaultLines.{cause_line, not_replaced_line, not_understood_line}
 
 -- the numbers in them
 d0 : decimal 0 ≡ codes "0"
@@ -59,6 +59,10 @@ not_replaced = refl
 memory : cause_line (codes "OUT") cause.OutOfMemory ≡ codes "jls-splice: out of memory\n"
 unfolding chars encode_utf8
 memory = refl
+
+-- words
+not_understood : not_understood_line ≡ codes "jls-splice: the words were not understood\n"
+not_understood = refl
 
 -- a name with ESC
 escape : cause_line (0x1B ∷ codes "[2J") cause.NotOpened ≡ codes "jls-splice: \\u{1b}[2J: cannot be opened\n"

@@ -1,2 +1,3 @@
 mod FaultLineExamples
 pub mod RefusedWords
+mod StatusExamples

@@ -4,10 +4,10 @@ use Rattle.jls_interval.specs.Events.{Event, Above, above}
 use Rattle.jls_interval.specs.After.{IsAfter}
 use Rattle.jls_interval.specs.Hands.{Holds, EventPushed}
 use Rattle.jls_interval.specs.Place.{above_of}
-use Rattle.jls_interval.specs.Decoding.{IsWorking, IsOver, IsDead, StateIs}
+use Rattle.jls_interval.specs.Decoding.{IsWorking, IsOver, IsDead, StateIs, HaveWidth}
 use Rattle.jls_interval.specs.declared.line_reader.EventStep.{EventStep}
 use Rattle.jls_interval.proofs.Decoding.{working_takes, working_on, working_line, working_over}
-use Rattle.jls_interval.proofs.IntervalReading.{items, line_fits, state_same, working, in_range, more_state, more_same, refused_same, refused_state, moved_taken}
+use Rattle.jls_interval.proofs.IntervalReading.{items, wide_same, wide_more, line_fits, state_same, working, in_range, more_state, more_same, refused_same, refused_state, moved_taken}
 use Rattle.jls_interval.proofs.interval_reader.IntervalReader.push_event.Goals as goal
 
 pub returns-in-More-clause-bits : goal.returns-in-More-clause-bits
@@ -26,6 +26,7 @@ returns-in-More-clause-bits c = λ p given h.
       components_at_most = h.components_at_most;
       lines_at_most = h.lines_at_most;
       lines_paid = (let a = h.lines_paid in omega arith);
+      lines_wide = wide_same w new.width L wide h.lines_wide;
       line_at_most = (let a = h.line_at_most in let b = ap length same.0 in omega arith);
       state_is = state_same p n d.count L d.state w new.width (given ++ chunk) (given ++ chunk) line new.line.items d.reader.coder.cells new.coder.cells d.reader.coder.run_indices new.coder.run_indices new.hand wide refl same.0 same.1 same.2 (more_state p d given h c.requires.state new chunk unread k k_is up up_is all);
     }
@@ -46,6 +47,7 @@ returns-in-Refused-clause-bits c = λ p given h.
       components_at_most = h.components_at_most;
       lines_at_most = h.lines_at_most;
       lines_paid = (let a = h.lines_paid in omega arith);
+      lines_wide = wide_same w new.width L wide h.lines_wide;
       line_at_most = (let a = h.line_at_most in let b = ap length (refused_same p d given h c.requires.state new chunk unread k k_is up up_is all) in omega arith);
       state_is = subst (λ z. IsDead p z n d.count (given ++ chunk)) (sym wide) (refused_state p d given h c.requires.state new chunk unread k k_is up up_is all);
     }
@@ -75,6 +77,7 @@ returns-else-len-self-clause-bits c = λ p given h.
         components_at_most = h.components_at_most;
         lines_at_most = h.lines_at_most;
         lines_paid = (let a = h.lines_paid in omega arith);
+        lines_wide = wide_same w new.width L wide h.lines_wide;
         line_at_most = omega arith;
         state_is = subst (λ s. StateIs p new.width n d.count (given ++ taken) L line' new.coder.cells new.coder.run_indices new.hand s) (sym c.requires.state) (subst (λ z. IsWorking p z n d.count (given ++ taken) L line' new.coder.cells new.coder.run_indices new.hand) (sym wide) state);
       };
@@ -110,6 +113,7 @@ returns-then-len-self-2-clause-bits c = λ p given h.
         components_at_most = h.components_at_most;
         lines_at_most = (let f = c.if-len-self-2.true in omega arith);
         lines_paid = (let a = h.lines_paid in omega arith);
+        lines_wide = wide_same w new.width after wide (subst (HaveWidth w) (sym pushed) (wide_more w L line' h.lines_wide whole));
         line_at_most = omega arith;
         state_is = subst (λ z. IsOver p z n d.count (given ++ taken) after 0) (sym wide) (subst (λ z. IsOver p w n d.count (given ++ taken) z 0) (sym pushed) (working_over p ok w n d.count any given L line d.reader.coder.cells d.reader.coder.run_indices d.reader.hand work taken line' new.coder.cells new.coder.run_indices m.2 whole all'));
       };
@@ -147,6 +151,7 @@ returns-else-len-self-2-clause-bits c = λ p given h.
         components_at_most = h.components_at_most;
         lines_at_most = (let f = c.if-len-self-2.false in omega (arith, number, number', maps'));
         lines_paid = (let a = h.lines_paid in omega arith);
+        lines_wide = wide_same w new.width after wide (subst (HaveWidth w) (sym pushed) (wide_more w L line' h.lines_wide whole));
         line_at_most = omega arith;
         state_is = subst (λ s. StateIs p new.width n d.count (given ++ taken) after c.reserve.new.self.items new.coder.cells new.coder.run_indices new.hand s) (sym c.requires.state) placed;
       };

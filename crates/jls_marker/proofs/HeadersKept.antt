@@ -1,4 +1,4 @@
--- The headers of a course keep their ranges.
+-- Headers keep their ranges, segment after segment.
 use Rattle.std.proofs.Common.{◌≡◌, ℕ, ◌+◌, ◌^◌, ◌<◌, ◌≤◌, List, length, Option, Some, None, Result, Ok, Err, refl, sym, ap, subst, arith, inl, inr}
 use Rattle.std.proofs.lemmas.Bool.{cases_eq, ltb-true}
 use Rattle.jls_values.specs.Shape.{PictureShape, IsShape}
