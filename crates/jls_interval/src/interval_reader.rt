@@ -65,8 +65,6 @@ impl IntervalReader {
                     self.lines.push(line)?;
                     if self.lines.len() == self.count {
                         self.state = State::Over(0);
-                    } else {
-                        self.reader.line.reserve(self.reader.width)?;
                     }
                 }
                 Ok(true)

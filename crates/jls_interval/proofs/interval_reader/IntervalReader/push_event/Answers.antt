@@ -131,11 +131,11 @@ returns-else-len-self-2-clause-bits c = λ p given h.
     let value : (c.replace-line.result).items ≡ line' = ap (λ (v : Vec ℕ Global). v.items) c.replace-line.ensures.value in
     let after : List (List ℕ) = items c.push.new.self.items in
     let pushed : after ≡ L ++ line' ∷ [] = ap items c.in_ok-push-in-Moved.ensures.items ∙ map-append (λ (v : Vec ℕ Global). v.items) d.lines.items (c.replace-line.result ∷ []) ∙ ap (λ z. L ++ z ∷ []) value in
-    let empty : c.reserve.new.self.items ≡ [] = c.reserve.ensures.items ∙ ap (λ (v : Vec ℕ Global). v.items) c.replace-line.ensures.after ∙ c.new.ensures.items in
+    let empty : c.replace-line.new.dest.items ≡ [] = ap (λ (v : Vec ℕ Global). v.items) c.replace-line.ensures.after ∙ c.new.ensures.items in
     let none = ap length empty in let number = length-append L (line' ∷ []) in let number' = ap length pushed in let maps' = length-map c.push.new.self.items (λ (v : Vec ℕ Global). v.items) in let few = work.few in let len = c.len-then-len-self.ensures in
     let more : length (L ++ line' ∷ []) < d.count = (let f = c.if-len-self-2.false in omega (arith, number, number', maps')) in
     let state : IsWorking p w n d.count (given ++ taken) (L ++ line' ∷ []) [] new.coder.cells new.coder.run_indices new.hand = subst (λ z. IsWorking p w n d.count (given ++ taken) (L ++ line' ∷ []) [] new.coder.cells new.coder.run_indices z) (sym m.3) (working_line p ok w n d.count any given L line d.reader.coder.cells d.reader.coder.run_indices d.reader.hand work taken line' new.coder.cells new.coder.run_indices m.2 whole more) in
-    let placed : IsWorking p new.width n d.count (given ++ taken) after c.reserve.new.self.items new.coder.cells new.coder.run_indices new.hand = subst (λ z. IsWorking p z n d.count (given ++ taken) after c.reserve.new.self.items new.coder.cells new.coder.run_indices new.hand) (sym wide) (subst (λ z. IsWorking p w n d.count (given ++ taken) z c.reserve.new.self.items new.coder.cells new.coder.run_indices new.hand) (sym pushed) (subst (λ z. IsWorking p w n d.count (given ++ taken) (L ++ line' ∷ []) z new.coder.cells new.coder.run_indices new.hand) (sym empty) state)) in
+    let placed : IsWorking p new.width n d.count (given ++ taken) after c.replace-line.new.dest.items new.coder.cells new.coder.run_indices new.hand = subst (λ z. IsWorking p z n d.count (given ++ taken) after c.replace-line.new.dest.items new.coder.cells new.coder.run_indices new.hand) (sym wide) (subst (λ z. IsWorking p w n d.count (given ++ taken) z c.replace-line.new.dest.items new.coder.cells new.coder.run_indices new.hand) (sym pushed) (subst (λ z. IsWorking p w n d.count (given ++ taken) (L ++ line' ∷ []) z new.coder.cells new.coder.run_indices new.hand) (sym empty) state)) in
     record {
       taken = taken;
       chunk_is = m.1;
@@ -148,6 +148,6 @@ returns-else-len-self-2-clause-bits c = λ p given h.
         lines_at_most = (let f = c.if-len-self-2.false in omega (arith, number, number', maps'));
         lines_paid = (let a = h.lines_paid in omega arith);
         line_at_most = omega arith;
-        state_is = subst (λ s. StateIs p new.width n d.count (given ++ taken) after c.reserve.new.self.items new.coder.cells new.coder.run_indices new.hand s) (sym c.requires.state) placed;
+        state_is = subst (λ s. StateIs p new.width n d.count (given ++ taken) after c.replace-line.new.dest.items new.coder.cells new.coder.run_indices new.hand s) (sym c.requires.state) placed;
       };
     }
