@@ -4,10 +4,11 @@ The lines say where the first copy has its parts. The bytes between two parts st
 say where. So another copy is taken to be parted in each of the ways in which it has them. Mostly there is one such way. An answer is
 given if all of them lead to the same one.
 """
+import bisect
 import itertools
 import re
 
-MOST = 2000  # so many ways to part the copies are tried
+MOST = 500  # so many ways to part the copies are tried
 
 
 def parts_of(lines, first):
@@ -49,17 +50,18 @@ def ways_to_part(copy, same):
         if number == len(same):
             yield ()
             return
-        for start in places[number]:
-            if start >= end:
-                for others in behind(number + 1, start + len(same[number])):
-                    yield (copy[end:start], *others)
+        for start in places[number][bisect.bisect_left(places[number], end) :]:
+            for others in behind(number + 1, start + len(same[number])):
+                yield (copy[end:start], *others)
 
     return behind(1, len(same[0]))
 
 
 def any_ways(copy, same):
-    """For each part all that this copy can have there, and for each part what it must have there, if that is known."""
+    """For each part all that this copy can have there, and for each part what it must have there, if that is known. None if it is much."""
     places = places_of(copy, same)
+    if any(len(here) * len(behind) > MOST for here, behind in zip(places, places[1:])):
+        return None
     able, sure = [], []
     for before, here, behind in zip(same, places, places[1:]):
         found = {copy[start + len(before) : end] for start in here for end in behind if start + len(before) <= end}
@@ -87,6 +89,8 @@ def is_splice(file, copies, lines):
         return None
     same, first = parts_of(lines, copies[0])
     bounds = [any_ways(copy, same) for copy in copies[1:]]
+    if None in bounds:
+        return None
     if not reads(file, same, with_first(first, [able for able, _ in bounds])):
         return False
     if reads(file, same, with_first(first, [sure for _, sure in bounds])):
