@@ -111,9 +111,9 @@ fn found_in(alloc: Global, parts: &[Part<'_>], first: Border) -> Result<Found, A
     Ok(found)
 }
 
-/// The groups of some parts, in the order of the file: wherever copies differ behind the first SOS, between two markers that stand whole in
-/// parts that all have alike. There is none where copies differ nowhere behind SOS, or where SOS stands in no such part. `Err` comes where
-/// memory is refused.
+/// The groups of some parts, in the order of the file. A group goes over parts in which copies differ, from one marker to the next. Both
+/// stand whole in parts that all copies have alike. The last group can end with the parts. There is no group where copies differ nowhere
+/// behind SOS, or where SOS stands in no such part. `Err` comes where memory is refused.
 ///
 /// Which markers are taken is a proposal, as bytes that look like one can stand in a segment. SOS is taken where a scan header follows.
 #[tactic(auto, using(crate::proofs::Steps::are_groups, crate::proofs::Steps::groups_cover))]
