@@ -1,4 +1,4 @@
-mod Paths
+pub mod Paths
 pub mod Fronts
 mod FaultlessFiles
 mod Searching

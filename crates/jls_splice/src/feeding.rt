@@ -22,8 +22,8 @@ fn way_of<'a>(part: &Part<'a>, choice: usize) -> &'a [u8]
     }
 }
 
-/// The same, of the part at this place.
-fn way_at<'a>(parts: &[Part<'a>], place: usize, choice: usize) -> &'a [u8]
+/// What a choice takes of the part at this place.
+pub fn way_at<'a>(parts: &[Part<'a>], place: usize, choice: usize) -> &'a [u8]
     requires place { place < length parts.now }
     requires choice { IsFirstWay (get_or (parts_of parts.now) place (Same [])) choice }
     ensures { result.now ≡ way choice (get_or (parts_of parts.now) place (Same [])) }

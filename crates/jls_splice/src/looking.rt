@@ -23,7 +23,11 @@ pub(crate) enum Sight {
 }
 
 /// A reader that was fed what the path makes.
-fn reader_of(alloc: Global, parts: &[Part<'_>], path: &[usize]) -> Result<CopyReader, AllocError>
+pub fn reader_of(
+    alloc: Global,
+    parts: &[Part<'_>],
+    path: &[usize],
+) -> Result<CopyReader, AllocError>
     requires path { IsPath (parts_of parts.now) path.now }
     requires few { length (front_of (parts_of parts.now) path.now) ≤ 2 ^ 63 - 1 }
     ensures { IfOk result (λ reader. reader ≡ Some (front_of (parts_of parts.now) path.now)) }

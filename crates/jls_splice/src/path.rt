@@ -53,8 +53,8 @@ fn next_way(part: &Part<'_>, behind: usize) -> Option<usize>
     }
 }
 
-/// The same, of the part at this place.
-fn next_way_at(parts: &[Part<'_>], place: usize, behind: usize) -> Option<usize>
+/// The next way of the part at this place behind one, before which none has the same bytes.
+pub fn next_way_at(parts: &[Part<'_>], place: usize, behind: usize) -> Option<usize>
     requires place { place < length parts.now }
     requires first { IsFirstWay (get_or (parts_of parts.now) place (Same [])) behind }
     ensures some { IfSome result (λ choice. IsFirstWay (get_or (parts_of parts.now) place (Same [])) choice

@@ -8,6 +8,7 @@ use Rattle.jls_splice.proofs.Fronts.{front_more}
 use Rattle.jls_splice.specs.Choices.{IsFirstWay, IsPath, front_of}
 use Rattle.jls_splice.specs.SearchLaws.{AreShort}
 use Rattle.jls_splice_run.specs.Making.{lacks_single}
+use Rattle.jls_splice_run.specs.Single.{IsSingleAsked}
 
 -- each choice of a path
 pub path_at : (ps : List Part) (cs : List ℕ) (i : ℕ) → IsPath ps cs → i < length cs
@@ -46,3 +47,15 @@ lacks_maps f g (Some x) (Some y) = refl
 pub length-map : {X Y : Type 0} (f : X → Y) (xs : List X) → length (map f xs) ≡ length xs
 length-map f [] = refl
 length-map f (x ∷ xs) = ap suc (length-map f xs)
+
+-- so many of them are that many
+pub length_front : {X : Type 0} (n : ℕ) (xs : List X) → n ≤ length xs → n ≡ length (take n xs)
+length_front zero xs l = refl
+length_front (suc n) [] l = absurd (omega (arith, l))
+length_front (suc n) (x ∷ xs) l = ap suc (length_front n xs (omega (arith, l)))
+
+-- a single file that is asked for by a name, as the code has the name
+pub single_maps : {A B : Type 0} (f : A → B) (o : Option A) (files : List (List ℕ)) (single : Option (List ℕ))
+    → IsSingleAsked o files single → IsSingleAsked (option_map f o) files single
+single_maps f None files single h = h
+single_maps f (Some name) files single h = h

@@ -1,13 +1,9 @@
 -- Members of the lists that the code holds.
-use Rattle.std.proofs.Common.{◌≡◌, ℕ, zero, suc, ◌<◌, ◌||◌, Bool, true, false, List, [], ◌∷◌, length, get_or, Bor, Vec, Global, refl, sym, ap, ◌∙◌, subst, arith}
+use Rattle.std.proofs.Common.{◌≡◌, ℕ, zero, suc, ◌<◌, ◌||◌, Bool, true, false, List, [], ◌∷◌, length, get_or, Bor, refl, ap, ◌∙◌, arith}
 use Rattle.std.specs.Str.{bytes_eq}
 use Rattle.jls_copy_files.specs.CopyFiles.{copies_of}
 use Rattle.jls_copy_files.specs.declared.copy.CopyFile.{CopyFile}
 use Rattle.jls_parts.specs.PartsOf.{bytes_of}
-use Rattle.jls_parts.specs.Parts.{Part}
-use Rattle.jls_splice.specs.Choices.{IsWhole, front_of}
-use Rattle.jls_splice.specs.Faultless.{IsFaultless}
-use Rattle.jls_splice.specs.Search.{MakeFiles, lists_of}
 use Rattle.jls_station.specs.declared.input.ReadStop.TheVariants.{Whole}
 use Rattle.jls_splice_run.specs.Copies.{AreWhole, stops_read}
 use Rattle.jls_splice_run.specs.Files.{is_copy}
@@ -31,13 +27,6 @@ pub whole_at : (copies : List CopyFile) (i : ℕ) (v d : CopyFile) → i < lengt
 whole_at [] i v d l e w = absurd (omega (arith, l))
 whole_at (c ∷ cs) zero v d l e w = ap (λ (x : CopyFile). x.stop) e ∙ w.0
 whole_at (c ∷ cs) (suc i) v d l e w = whole_at cs i v d (omega (arith, l)) e w.1
-
--- each of the choices that a search found makes a file without a fault
-pub made_at : (ps : List Part) (vs : List (Vec ℕ Global)) (i : ℕ) (v d : Vec ℕ Global) → MakeFiles ps (lists_of vs) → i < length vs
-    → v ≡ get_or vs i d → IsWhole ps v.items × IsFaultless (front_of ps v.items)
-made_at ps [] i v d files l e = absurd (omega (arith, l))
-made_at ps (w ∷ vs) zero v d files l e = subst (λ (x : Vec ℕ Global). IsWhole ps x.items × IsFaultless (front_of ps x.items)) (sym e) files.0
-made_at ps (w ∷ vs) (suc i) v d files l e = made_at ps vs i v d files.1 (omega (arith, l)) e
 
 -- the first copy, and the first name
 pub first_stop : (copies : List CopyFile) (d : CopyFile) → 0 < length copies

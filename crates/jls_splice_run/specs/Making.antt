@@ -5,14 +5,14 @@ use Rattle.jls_marker.specs.declared.fault.MarkerFault.{MarkerFault}
 use Rattle.jls_partial.specs.Partial.{PartialPicture, nothing_known}
 use Rattle.jls_partial.specs.Status.{IsSettled}
 use Rattle.jls_partial.specs.Text.{text}
-use Rattle.jls_parts.specs.Parts.{Part, AreParts}
-use Rattle.jls_parts.specs.PartsOf.{parts_of}
-use Rattle.jls_splice.specs.Search.{CameTo, files_of, lists_of}
-use Rattle.jls_splice.specs.declared.copies.SearchedCopies.{SearchedCopies}
+use Rattle.jls_parts.specs.Parts.{Part}
+use Rattle.jls_group_search.specs.Found.{ByGroups, Found, IsFound, found_of, splices_in}
+use Rattle.jls_group_search.specs.declared.found.FoundSplices.{FoundSplices}
 use Rattle.jls_report.specs.Report.{report_of}
 use Rattle.jls_report.specs.ReportText.{report_text}
 use Rattle.jls_splice_lines.specs.Differences.{differences}
 use Rattle.jls_splice_lines.specs.Lines.{differ_lines, groups_line, progress_line, single_line, splices_line, used_up_line}
+use Rattle.jls_splice_lines.specs.declared.found.GroupSearch.{GroupSearch}
 use Rattle.jls_station.specs.declared.input.ReadStop.{ReadStop}
 use Rattle.jls_station.specs.declared.input.ReadStop.TheVariants.{Whole}
 use Rattle.jls_copy_files.specs.CopyFiles.{CopyBytes}
@@ -31,22 +31,7 @@ use Rattle.jls_splice_run.specs.declared.made.Made.{Made as MadeValue}
 
 -- ---- what was found and made
 
--- the parts of the copies, the splices that the search came to, each as its choices, and whether it was cut off
-pub record Found : Type 0 where
-  pub parts : List Part
-  pub choices : List (List ℕ)
-  pub is_used_up : Bool
-
--- a search over these copies found it
-pub record IsFound (copies : List (List ℕ)) (f : Found) : Type 0 where
-  pub are_parts : AreParts copies f.parts
-  pub came_to : CameTo f.parts f.choices f.is_used_up
-
--- the splices that were found
-abbrev pub splices_in : Found → List (List ℕ)
-splices_in f = files_of f.parts f.choices
-
--- the files taken: the copies in their order, then the splices
+-- the files taken: the copies in their order, then the splices of both searches
 abbrev pub files_taken : List (List ℕ) → Found → List (List ℕ)
 files_taken copies f = copies ++ splices_in f
 
@@ -75,14 +60,19 @@ lacks_single None single = false
 lacks_single (Some name) (Some file) = false
 lacks_single (Some name) None = true
 
--- the lines of what was found: of its parts, of so many splices that are no copies, of a search that was cut off or was not, and of a
--- single file that is lacked or is not
-abbrev pub told_lines : List Part → ℕ → Bool → Bool → List ℕ
-told_lines parts splices is_used_up lacks =
-    differ_lines (differences parts) ++ splices_line splices ++ used_up_line is_used_up ++ groups_line None ++ single_line lacks
+-- what is told of a search by groups, where there was one
+abbrev pub groups_told : Option ByGroups → Option GroupSearch
+groups_told None = None
+groups_told (Some b) = Some (record { groups = b.groups; is_used_up = b.is_used_up })
+
+-- the lines of what was found: of its parts, of so many splices that are no copies, of a search that was cut off or was not, of the search by
+-- groups, and of a single file that is lacked or is not
+abbrev pub told_lines : List Part → ℕ → Bool → Option GroupSearch → Bool → List ℕ
+told_lines parts splices is_used_up by_groups lacks =
+    differ_lines (differences parts) ++ splices_line splices ++ used_up_line is_used_up ++ groups_line by_groups ++ single_line lacks
 
 abbrev pub found_lines : Bool → List (List ℕ) → Found → List ℕ
-found_lines lacks copies f = told_lines f.parts (count_new copies (splices_in f)) f.is_used_up lacks
+found_lines lacks copies f = told_lines f.parts (count_new copies (splices_in f)) f.is_used_up (groups_told f.by_groups) lacks
 
 -- what is printed: these lines, and then the report; nothing, where the output is standard output
 abbrev pub lines : Asked → List (List ℕ) → Made → List ℕ
@@ -124,18 +114,11 @@ CantMake a copies r = IsWantOfMemory a r ⊎ ((f : Found) × IsFound (bytes_read
 
 -- ---- as the code has it
 
-abbrev pub found_of : SearchedCopies → Found
-found_of s = record {
-  parts = parts_of s.parts.items;
-  choices = lists_of s.searched.splices.items;
-  is_used_up = s.searched.is_used_up;
-}
-
 -- what was made, by what was searched, the picture, and what the code holds of it
-abbrev pub made_of : SearchedCopies → PartialPicture → MadeValue → Made
+abbrev pub made_of : FoundSplices → PartialPicture → MadeValue → Made
 made_of s p v = record {
   found = found_of s;
-  tries = s.searched.tries;
+  tries = s.tries;
   picture = p;
   single = option_map (λ f. f.items) v.file;
 }

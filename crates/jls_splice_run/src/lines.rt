@@ -1,6 +1,6 @@
 //! The lines that a run prints.
 
-ghost use Rattle.std.specs.Prelude.{◌≡◌, ◌++◌, ◌<◌, ◌^◌, [], length, IfOk, codes, None, if◌then◌else◌};
+ghost use Rattle.std.specs.Prelude.{◌≡◌, ◌++◌, ◌<◌, ◌^◌, [], length, IfOk, codes, if◌then◌else◌};
 ghost use Rattle.std.specs.Str.{bytes_eq};
 ghost use Rattle.jls_parts.specs.Parts.{made};
 ghost use Rattle.jls_parts.specs.PartsOf.{parts_of};
@@ -12,7 +12,7 @@ ghost use Rattle.jls_splice_run.specs.Making.{told_lines};
 use jls_partial::Partial;
 use jls_parts::Part;
 use jls_report::Report;
-use jls_splice_lines::{Found, differences_of, put_found, put_progress};
+use jls_splice_lines::{Found, GroupSearch, differences_of, put_found, put_progress};
 use std::alloc::{AllocError, Global};
 
 /// What the search came to, as the lines tell it.
@@ -21,20 +21,23 @@ pub(crate) struct Told {
     /// How many of the files that were found are no copies.
     pub splices: usize,
     pub is_used_up: bool,
+    /// What is told of the search by groups, if there was one.
+    pub by_groups: Option<GroupSearch>,
     pub lacks_single_file: bool,
 }
 
 /// The lines of what was found.
 fn found_lines(alloc: Global, parts: &[Part<'_>], told: Told) -> Result<Vec<u8>, AllocError>
     requires { length (made 0 (parts_of parts.now)) < 2 ^ 64 }
-    ensures { IfOk result (λ lines. lines.items ≡ told_lines (parts_of parts.now) told.splices told.is_used_up told.lacks_single_file) }
+    ensures { IfOk result (λ lines.
+        lines.items ≡ told_lines (parts_of parts.now) told.splices told.is_used_up told.by_groups told.lacks_single_file) }
 {
     let differences = differences_of(alloc, parts)?;
     let found = Found {
         differences: &differences,
         splices: told.splices,
         is_used_up: told.is_used_up,
-        by_groups: None,
+        by_groups: told.by_groups,
         lacks_single_file: told.lacks_single_file,
     };
     let mut out = Vec::new(alloc);
@@ -60,7 +63,8 @@ pub(crate) fn lines_of(
 ) -> Result<Vec<u8>, AllocError>
     requires { length (made 0 (parts_of parts.now)) < 2 ^ 64 }
     ensures { IfOk result (λ lines. lines.items ≡ (if bytes_eq out.now (codes "-") then []
-        else told_lines (parts_of parts.now) told.splices told.is_used_up told.lacks_single_file ++ report_text (report_of partial.now))) }
+        else told_lines (parts_of parts.now) told.splices told.is_used_up told.by_groups told.lacks_single_file
+        ++ report_text (report_of partial.now))) }
 {
     if out == "-" {
         return Ok(Vec::new(alloc));

@@ -1,12 +1,16 @@
 //! What is made of the copies, in memory.
 
-ghost use Rattle.std.specs.Prelude.{◌≡◌, ◌<◌, ◌^◌, length, IfOk, IfErr, IsTrue, option_map};
+ghost use Rattle.std.specs.Prelude.{◌≡◌, ◌<◌, ◌≤◌, ◌^◌, ℕ, List, length, IfOk, IfErr, IsTrue, option_map};
+ghost use Rattle.std.specs.List.{AllByRecursion};
 ghost use Rattle.jls_copy_files.specs.CopyFiles.{copies_of};
 ghost use Rattle.jls_parts.specs.Parts.{made};
 ghost use Rattle.jls_parts.specs.PartsOf.{bytes_of, parts_of};
-ghost use Rattle.jls_splice.specs.Search.{IsShort, MakeFiles, lists_of};
+ghost use Rattle.jls_splice.specs.Choices.{IsWhole};
+ghost use Rattle.jls_splice.specs.Search.{IsShort, files_of, lists_of};
+ghost use Rattle.jls_group_search.specs.Found.{IsFound, by_groups_of, found_of, splices_in};
 ghost use Rattle.jls_splicing.specs.Files as given;
-ghost use Rattle.jls_splice_run.specs.Making.{AreTextsOf, CantMake, HoldsMade, IsFound, files_taken, found_of, lacks_single, made_of};
+ghost use Rattle.jls_splice_run.specs.Making.{AreTextsOf, CantMake, HoldsMade, files_taken, lacks_single, made_of};
+ghost use Rattle.jls_splice_run.specs.Making as spec;
 ghost use Rattle.jls_splice_run.specs.Single.{IsSingleAsked};
 ghost use Rattle.jls_splice_run.specs.Tasks.{task_of};
 
@@ -17,9 +21,11 @@ use crate::settling::settle;
 use crate::single::single_file;
 use crate::task::{Task, want_of_memory};
 use jls_copy_files::CopyFile;
+use jls_group_search::{FoundSplices, GroupsTold, complete_by_groups};
 use jls_partial::Partial;
-use jls_splice::{SearchedCopies, are_short, parts_can_be_searched, search_copies};
+use jls_splice::{are_short, parts_can_be_searched, search_copies};
 use jls_splice_answers::Refusal;
+use jls_splice_lines::GroupSearch;
 use jls_splicing::Files;
 use std::alloc::{AllocError, Global};
 
@@ -37,14 +43,17 @@ pub struct Made {
     pub settled: bool,
 }
 
-/// Searches the splices of the copies.
+/// Searches the splices of the copies, and by groups where that is cut off or comes to nothing.
 fn search<'c>(
     alloc: Global,
     copies: &[&'c [u8]],
     tries: u32,
-) -> Result<SearchedCopies<'c>, AllocError>
+) -> Result<FoundSplices<'c>, AllocError>
     requires { 0 < length copies.now }
     ensures found { IfOk result (λ found. IsFound (bytes_of copies.now) (found_of found)) }
+    ensures splices { IfOk result (λ found. files_of (parts_of found.parts.items) (lists_of found.splices.items) ≡ splices_in (found_of found)) }
+    ensures each { IfOk result (λ found. AllByRecursion (IsWhole (parts_of found.parts.items)) (lists_of found.splices.items)) }
+    ensures whole { IfOk result (λ found. found.whole ≤ length found.splices.items) }
     ensures short { IfOk result (λ found. IsShort (parts_of found.parts.items)) }
     ensures small { IfOk result (λ found. length (made 0 (parts_of found.parts.items)) < 2 ^ 64) }
 {
@@ -53,7 +62,8 @@ fn search<'c>(
         return Err(AllocError);
     }
     let found = search_copies(alloc, copies, tries)?;
-    Ok(found)
+    let more = complete_by_groups(alloc, copies, found, tries)?;
+    Ok(more)
 }
 
 /// The single file, if a name is given for it.
@@ -62,7 +72,7 @@ fn file_asked(
     name: Option<&str>,
     files: &Files<'_, '_>,
 ) -> Result<Option<Vec<u8>>, AllocError>
-    requires { MakeFiles (parts_of files.now.parts.now) (lists_of files.now.splices.now) }
+    requires { AllByRecursion (IsWhole (parts_of files.now.parts.now)) (lists_of files.now.splices.now) }
     ensures { IfOk result (λ file. IsSingleAsked name.entry (given.files_taken files.now) (option_map (λ f. f.items) file)) }
 {
     match name {
@@ -81,39 +91,49 @@ fn lacks_file(name: Option<&str>, file: &Option<Vec<u8>>) -> bool
     }
 }
 
+/// What is told of the search by groups.
+fn groups_told(by_groups: Option<GroupsTold>) -> Option<GroupSearch>
+    ensures { (choices : List (List ℕ)) → result ≡ spec.groups_told (option_map (by_groups_of choices) by_groups) }
+{
+    match by_groups {
+        Some(told) => Some(GroupSearch {
+            groups: told.groups,
+            is_used_up: told.is_used_up,
+        }),
+        None => None,
+    }
+}
+
 /// What is handed out.
 fn texts_of(
     alloc: Global,
     task: &Task<'_, '_>,
     copies: &[&[u8]],
-    found: &SearchedCopies<'_>,
+    found: &FoundSplices<'_>,
     partial: &Partial,
 ) -> Result<Made, AllocError>
-    requires files { MakeFiles (parts_of found.now.parts.items) (lists_of found.now.searched.splices.items) }
+    requires splices { files_of (parts_of found.now.parts.items) (lists_of found.now.splices.items) ≡ splices_in (found_of found.now) }
+    requires each { AllByRecursion (IsWhole (parts_of found.now.parts.items)) (lists_of found.now.splices.items) }
+    requires whole { found.now.whole ≤ length found.now.splices.items }
     requires small { length (made 0 (parts_of found.now.parts.items)) < 2 ^ 64 }
     ensures texts { IfOk result (λ made. AreTextsOf (task_of task.now) (bytes_of copies.now) (made_of found.now partial.now made) made) }
     ensures single { IfOk result (λ made. IsSingleAsked (task_of task.now).options.file
         (files_taken (bytes_of copies.now) (found_of found.now)) (option_map (λ f. f.items) made.file)) }
 {
-    let searched = &found.searched;
     let files = Files {
         copies,
         parts: &found.parts,
-        splices: &searched.splices,
+        splices: &found.splices,
     };
     let file = file_asked(alloc, task.options.file, &files)?;
-    let splices = count_new(alloc, copies, &found.parts, &searched.splices)?;
+    let splices = count_new(alloc, copies, &found.parts, &found.splices)?;
     let told = Told {
         splices,
-        is_used_up: searched.is_used_up,
+        is_used_up: found.is_used_up,
+        by_groups: groups_told(found.by_groups),
         lacks_single_file: lacks_file(task.options.file, &file),
     };
-    let progress = progress_of(
-        alloc,
-        task.options.progress,
-        searched.tries,
-        searched.splices.len(),
-    )?;
+    let progress = progress_of(alloc, task.options.progress, found.tries, found.whole)?;
     let lines = lines_of(alloc, task.out, &found.parts, told, partial)?;
     let text = partial.to_bytes(alloc)?;
     let settled = partial.is_settled();
@@ -148,7 +168,7 @@ pub(crate) fn make<'a>(
     let files = Files {
         copies: &slices,
         parts: &found.parts,
-        splices: &found.searched.splices,
+        splices: &found.splices,
     };
     let station = match settle(alloc, task, copies, &files) {
         Ok(station) => station,

@@ -1,9 +1,11 @@
 //! The single file without a fault.
 
 ghost use Rattle.std.specs.Prelude.{◌↔◌, ◌++◌, ◌∷◌, [], ℕ, List, IfOk, IsTrue, option_map};
+ghost use Rattle.std.specs.List.{AllByRecursion};
 ghost use Rattle.jls_parts.specs.PartsOf.{bytes_of, parts_of};
 ghost use Rattle.jls_splice.specs.Faultless.{IsFaultless};
-ghost use Rattle.jls_splice.specs.Search.{MakeFiles, files_of, lists_of};
+ghost use Rattle.jls_splice.specs.Choices.{IsWhole};
+ghost use Rattle.jls_splice.specs.Search.{files_of, lists_of};
 ghost use Rattle.jls_splicing.specs.Files.{files_taken};
 ghost use Rattle.jls_splice_run.specs.Single.{AreSeenSo, IsSingle};
 
@@ -42,7 +44,7 @@ fn one_more(faultless: Faultless, file: Vec<u8>) -> Faultless
     }
 }
 
-/// Whether a copy has no fault.
+/// Whether a file has no fault.
 fn is_copy_faultless(alloc: Global, copy: &[u8]) -> Result<bool, AllocError>
     ensures { IfOk result (λ faultless. IsTrue faultless ↔ IsFaultless copy.now) }
 {
@@ -51,7 +53,7 @@ fn is_copy_faultless(alloc: Global, copy: &[u8]) -> Result<bool, AllocError>
     is_faultless(reader)
 }
 
-/// One copy more.
+/// One file more.
 fn with_copy(alloc: Global, faultless: Faultless, copy: &[u8]) -> Result<Faultless, AllocError>
     ensures { IfOk result (λ more. (files : List (List ℕ)) → AreSeenSo files faultless → AreSeenSo (files ++ copy.now ∷ []) more) }
 {
@@ -74,20 +76,21 @@ fn among_copies(alloc: Global, copies: &[&[u8]]) -> Result<Faultless, AllocError
     Ok(faultless)
 }
 
-/// They, and the splices, none of which has a fault.
+/// They, and the splices without a fault. Each splice is made in memory for it, one at a time.
 fn with_splices(
     alloc: Global,
     copies: Faultless,
     parts: &[Part<'_>],
     splices: &[Vec<usize>],
 ) -> Result<Faultless, AllocError>
-    requires { MakeFiles (parts_of parts.now) (lists_of splices.now) }
+    requires { AllByRecursion (IsWhole (parts_of parts.now)) (lists_of splices.now) }
     ensures { IfOk result (λ faultless. (files : List (List ℕ)) → AreSeenSo files copies
         → AreSeenSo (files ++ files_of (parts_of parts.now) (lists_of splices.now)) faultless) }
 {
     let mut faultless = copies;
     for choices in splices {
-        faultless = one_more(faultless, file_of(alloc, parts, choices)?);
+        let file = file_of(alloc, parts, choices)?;
+        faultless = with_copy(alloc, faultless, &file)?;
     }
     Ok(faultless)
 }
@@ -108,7 +111,7 @@ pub(crate) fn single_file(
     alloc: Global,
     files: &Files<'_, '_>,
 ) -> Result<Option<Vec<u8>>, AllocError>
-    requires { MakeFiles (parts_of files.now.parts.now) (lists_of files.now.splices.now) }
+    requires { AllByRecursion (IsWhole (parts_of files.now.parts.now)) (lists_of files.now.splices.now) }
     ensures { IfOk result (λ single. IsSingle (files_taken files.now) (option_map (λ file. file.items) single)) }
 {
     let copies = among_copies(alloc, files.copies)?;

@@ -1,9 +1,15 @@
 -- Runs that end with status 0.
 use Rattle.std.proofs.Common.{◌≡◌, ℕ, ◌<◌, Bool, true, false, List, [], ◌∷◌, ◌++◌, length, refl, subst, arith}
 use Rattle.std.specs.Prelude.{IsTrue}
+use Rattle.std.specs.List.{Contains}
 use Rattle.jls_device.specs.Event.{Event}
 use Rattle.jls_copy_files.specs.CopyFiles.{CopyBytes, AreCopiesRead}
-use Rattle.jls_splice.specs.Search.{CameTo}
+use Rattle.jls_partial.specs.Partial.{PartialPicture, nothing_known}
+use Rattle.jls_splice.specs.Search.{CameTo, files_of}
+use Rattle.jls_group_search.specs.Found.{Found, splices_in}
+use Rattle.jls_group_search.proofs.NoGroups.{splices_of_all}
+use Rattle.jls_splicing.specs.Shapes.{IsShapeTaken}
+use Rattle.jls_splicing.specs.Stations.{TakesFiles}
 use Rattle.jls_splice_words.specs.Asking.{Asked}
 use Rattle.jls_splice_answers.specs.Outcomes.{exit_status, exit_status_of_cause}
 use Rattle.jls_splice_answers.specs.declared.outcome.Cause.{Cause}
@@ -69,13 +75,24 @@ pub spliced_runs_give_no_other : SplicedCopiesGiveNoOther → SplicedRunsGiveNoO
 spliced_runs_give_no_other never a desk report faults some performs =
     let d : DidSplice a desk report = did a 0 desk report faults performs refl in (
       d,
-      λ enough pic is file whole splice. never (bytes_read d.copies) d.made.found.parts a.options.source d.made.picture (record {
-        some_copy = some_copy a.copies d.copies d.reading d.read some;
-        are_parts = d.is_made.is_found.are_parts;
-        found = d.made.found.choices;
-        searched = subst (CameTo d.made.found.parts d.made.found.choices) enough d.is_made.is_found.came_to;
-        shape = d.made.picture.shape;
-        shape_is = d.is_made.is_picture.shape_is;
-        takes = d.is_made.is_picture.union_is;
-      }) pic is file whole splice d.settled,
+      λ enough pic is file whole splice.
+          let copies : List (List ℕ) = bytes_read d.copies in
+          let f : Found = d.made.found in
+          let p : PartialPicture = d.made.picture in
+          let copy : 0 < length copies = some_copy a.copies d.copies d.reading d.read some in
+          let found = d.is_made.is_found in
+          let came : CameTo f.parts f.choices false = subst (CameTo f.parts f.choices) enough found.came_to in
+          let among : Contains (files_of f.parts f.choices) file =
+          came.all refl (length copies) copy found.are_parts.ways file whole.bytes splice whole.faultless in
+          let splices : splices_in f ≡ files_of f.parts f.choices = splices_of_all copies f file found enough among in
+          never copies f.parts a.options.source p (record {
+            some_copy = copy;
+            are_parts = found.are_parts;
+            found = f.choices;
+            searched = came;
+            shape = p.shape;
+            shape_is = subst (λ (xs : List (List ℕ)). IsShapeTaken copies xs p.shape) splices d.is_made.is_picture.shape_is;
+            takes = subst (λ (xs : List (List ℕ)). TakesFiles a.options.source (copies ++ xs) (nothing_known p.shape) p) splices
+                d.is_made.is_picture.union_is;
+          }) pic is file whole splice d.settled,
     )

@@ -1,38 +1,54 @@
-use Rattle.std.proofs.Common.{◌≡◌, ℕ, List, [], ◌++◌, length, Vec, Global, Bor, ap, refl, sym, ◌∙◌, arith}
-use Rattle.std.specs.Prelude.{codes, option_map, if◌then◌else◌}
+use Rattle.std.proofs.Common.{◌≡◌, ℕ, List, [], ◌++◌, length, drop, Option, Vec, Global, Bor, ap, refl, sym, ◌∙◌, subst, arith}
+use Rattle.std.specs.Prelude.{◌≤◌, codes, option_map, if◌then◌else◌}
 use Rattle.std.specs.Str.{bytes_eq}
 use Rattle.jls_parts.specs.PartsOf.{bytes_of, parts_of}
 use Rattle.jls_report.specs.Report.{report_of}
 use Rattle.jls_report.specs.ReportText.{report_text}
 use Rattle.jls_splice.specs.Search.{files_of, lists_of}
 use Rattle.jls_splice_lines.specs.Lines.{progress_line}
+use Rattle.jls_splice_lines.specs.declared.found.GroupSearch.{GroupSearch}
+use Rattle.jls_group_search.specs.Found.{found_of, splices_in}
 use Rattle.jls_splice_run.specs.Files.{count_new}
-use Rattle.jls_splice_run.specs.Making.{lacks_single, told_lines}
-use Rattle.jls_splice_run.proofs.MakingLemmas.{lacks_maps, length-map}
+use Rattle.jls_splice_run.specs.Making.{groups_told, lacks_single, told_lines}
+use Rattle.jls_splice_run.specs.Single.{IsSingleAsked}
+use Rattle.jls_splice_run.proofs.MakingLemmas.{lacks_maps, length-map, length_front, single_maps}
 use Rattle.jls_splice_run.proofs.made.texts_of.Goals as goal
 
 pub returns-clause-texts : goal.returns-clause-texts
 returns-clause-texts c =
     let found = c.args.found.now in
-    let searched = found.searched in
+    let lists = lists_of found.splices.items in
     let copies = bytes_of c.args.copies.now in
     let options = c.args.task.now.options in
     let file = c.in_ok-file.file in
     let name = option_map (λ (s : Bor (List ℕ)). s.now) options.file in
     let single = option_map (λ (f : Vec ℕ Global). f.items) file in
-    let all = length-map (λ (v : Vec ℕ Global). v.items) searched.splices.items in
-    let held = ap length c.deref-4.ensures.value in
-    let count : c.len.result ≡ length (lists_of searched.splices.items) = omega (arith, all, held, c.deref-4.ensures.len, c.len.ensures) in
-    let new : c.in_ok-splices.splices ≡ count_new copies (files_of (parts_of found.parts.items) (lists_of searched.splices.items)) =
-    c.in_ok-splices.ensures ∙ (λ i. count_new copies (files_of (parts_of (c.deref-3.ensures.value i)) (lists_of (c.deref-4.ensures.value i)))) in
+    let all = length-map (λ (v : Vec ℕ Global). v.items) found.splices.items in
+    let fits : found.whole ≤ length lists = (let w = c.requires.whole in omega (arith, all, w)) in
+    let count = length_front found.whole lists fits in
+    let new : c.in_ok-splices.splices ≡ count_new copies (splices_in (found_of found)) =
+    c.in_ok-splices.ensures ∙ (λ i. count_new copies (files_of (parts_of (c.deref-3.ensures.value i)) (lists_of (c.deref-4.ensures.value i))))
+    ∙ ap (count_new copies) c.requires.splices in
+    let groups : c.groups_told.result ≡ groups_told (found_of found).by_groups = c.groups_told.ensures (drop found.whole lists) in
     let lacks : c.lacks_file.result ≡ lacks_single name single =
     c.lacks_file.ensures ∙ sym (lacks_maps (λ (s : Bor (List ℕ)). s.now) (λ (f : Vec ℕ Global). f.items) options.file file) in
     record {
-      progress_is = c.in_ok-progress.ensures ∙ ap (λ (n : ℕ). if options.progress then progress_line searched.tries n else []) count;
+      progress_is = c.in_ok-progress.ensures ∙ ap (λ (n : ℕ). if options.progress then progress_line found.tries n else []) count;
       lines_are = c.in_ok-lines.ensures
           ∙ (λ i. if bytes_eq c.args.task.now.out.now (codes "-") then []
-          else told_lines (parts_of (c.deref-5.ensures.value i)) (new i) searched.is_used_up (lacks i) ++ report_text (report_of c.args.partial.now));
+          else told_lines (parts_of (c.deref-5.ensures.value i)) (new i) found.is_used_up (groups i) (lacks i) ++ report_text (report_of c.args.partial.now));
       text_is = c.in_ok-text.ensures;
       file_is = refl;
       settled_is = c.is_settled-settled.ensures;
     }
+
+pub returns-clause-single : goal.returns-clause-single
+returns-clause-single c =
+    let found = c.args.found.now in
+    let copies = bytes_of c.args.copies.now in
+    let options = c.args.task.now.options in
+    let single = option_map (λ (f : Vec ℕ Global). f.items) c.in_ok-file.file in
+    let splices : files_of (parts_of c.deref.result.now) (lists_of c.deref-2.result.now) ≡ splices_in (found_of found) =
+    (λ i. files_of (parts_of (c.deref.ensures.value i)) (lists_of (c.deref-2.ensures.value i))) ∙ c.requires.splices in
+    single_maps (λ (s : Bor (List ℕ)). s.now) options.file (copies ++ splices_in (found_of found)) single
+    (subst (λ (xs : List (List ℕ)). IsSingleAsked options.file (copies ++ xs) single) splices c.in_ok-file.ensures)

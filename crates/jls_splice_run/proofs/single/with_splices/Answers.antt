@@ -2,19 +2,17 @@ use Rattle.std.proofs.Common.{◌≡◌, ℕ, List, [], ◌∷◌, ◌++◌, Vec
 use Rattle.std.proofs.lemmas.List.{take_all}
 use Rattle.jls_parts.specs.PartsOf.{parts_of}
 use Rattle.jls_splice.specs.Choices.{IsPath, front_of}
-use Rattle.jls_splice.specs.Faultless.{IsFaultless}
 use Rattle.jls_splice.specs.Search.{files_of, lists_of}
-use Rattle.jls_splicing.proofs.Members.{splices_one_more}
+use Rattle.jls_splicing.proofs.Members.{splices_one_more, whole_at}
 use Rattle.jls_splice_run.specs.Single.{AreSeenSo}
-use Rattle.jls_splice_run.proofs.Members.{made_at}
 use Rattle.jls_splice_run.proofs.single.with_splices.Goals as goal
 
 pub file_of-requires : goal.file_of-requires
 file_of-requires c =
     let ps = parts_of c.args.parts.now in
     let v = c.choices-item.result in
-    let w = made_at ps c.args.splices.now c.loop-choices.choices-index v v c.requires c.loop-choices-test.true c.choices-item.is in
-    subst (IsPath ps) (sym c.deref.ensures.value) w.0.0
+    let w = whole_at ps c.args.splices.now c.loop-choices.choices-index v v c.requires c.loop-choices-test.true c.choices-item.is in
+    subst (IsPath ps) (sym c.deref.ensures.value) w.0
 
 pub loop-choices-preserved : goal.loop-choices-preserved
 loop-choices-preserved c = λ files seen.
@@ -22,14 +20,13 @@ loop-choices-preserved c = λ files seen.
     let vs = c.args.splices.now in
     let i = c.loop-choices.choices-index in
     let v = c.choices-item.result in
-    let file = c.in_ok-file_of.field-0.items in
+    let bytes : List ℕ = c.deref-in-loop-choices.result.now in
     let before = files_of ps (lists_of (take i vs)) in
-    let w = made_at ps vs i v v c.requires c.loop-choices-test.true c.choices-item.is in
-    let made : file ≡ front_of ps v.items = c.in_ok-file_of.ensures ∙ ap (front_of ps) c.deref.ensures.value in
-    subst (λ (xs : List (List ℕ)). AreSeenSo xs c.one_more-faultless.result)
-    (append_assoc files before (file ∷ []) ∙ ap (λ (z : List ℕ). files ++ (before ++ z ∷ [])) made
+    let made : bytes ≡ front_of ps v.items = c.deref-in-loop-choices.ensures.value ∙ c.in_ok-file.ensures ∙ ap (front_of ps) c.deref.ensures.value in
+    subst (λ (xs : List (List ℕ)). AreSeenSo xs c.in_ok-faultless.faultless)
+    (append_assoc files before (bytes ∷ []) ∙ ap (λ (z : List ℕ). files ++ (before ++ z ∷ [])) made
     ∙ ap (λ (z : List (List ℕ)). files ++ z) (sym (splices_one_more ps vs i v c.loop-choices-test.true c.choices-item.is)))
-    (c.one_more-faultless.ensures (files ++ before) (c.loop-choices.invariant files seen) (subst IsFaultless (sym made) w.1))
+    (c.in_ok-faultless.ensures (files ++ before) (c.loop-choices.invariant files seen))
 
 pub returns : goal.returns
 returns c = λ files seen.

@@ -1,0 +1,4 @@
+pub mod Places
+pub mod ReadsBetween
+pub mod OfGroups
+pub mod Found

@@ -1,0 +1,113 @@
+//! What is found in some copies by both searches.
+
+ghost use Rattle.std.specs.Prelude.{◌≡◌, ◌≢◌, ◌<◌, ◌≤◌, ◌⊎◌, true, false, length, IfOk};
+ghost use Rattle.std.specs.List.{AllByRecursion};
+ghost use Rattle.jls_parts.specs.Parts.{AreParts};
+ghost use Rattle.jls_parts.specs.PartsOf.{bytes_of, parts_of};
+ghost use Rattle.jls_splice.specs.Choices.{IsWhole};
+ghost use Rattle.jls_splice.specs.Search.{CameTo, files_of, lists_of};
+ghost use Rattle.jls_splice.specs.SearchLaws.{AreShort};
+ghost use Rattle.jls_group_search.specs.Found.{IsFound, found_of, splices_in};
+
+use crate::search::{SearchedGroups, search_groups};
+use jls_parts::Part;
+use jls_splice::{Searched, SearchedCopies};
+use std::alloc::{AllocError, Global};
+
+/// What is told of a search by groups.
+#[derive(Clone, Copy, Debug, PartialEq, Eq)]
+pub struct GroupsTold {
+    /// How many groups there are.
+    pub groups: usize,
+    /// Whether the search was cut off.
+    pub is_used_up: bool,
+}
+
+/// The parts of some copies, and the splices that were found.
+#[derive(Drop)]
+pub struct FoundSplices<'a> {
+    /// The parts that were found.
+    pub parts: Vec<Part<'a>>,
+    /// The splices, each as its choices, one for each part: those of the search of all, and behind them those that groups gave.
+    pub splices: Vec<Vec<usize>>,
+    /// How many of them the search of all came to.
+    pub whole: usize,
+    /// How many fronts and files the search of all tried.
+    pub tries: u32,
+    /// Whether the search of all was cut off.
+    pub is_used_up: bool,
+    /// What is told of the search by groups, if there was one.
+    pub by_groups: Option<GroupsTold>,
+}
+
+/// Whether groups are searched, where the search of all splices was cut off or was not, and came to so many.
+fn wants_groups(is_used_up: bool, whole: usize) -> bool
+    ensures yes { result ≡ true → (is_used_up ≡ true) ⊎ (whole ≡ 0) }
+    ensures no { result ≡ false → (is_used_up ≡ false) × (whole ≢ 0) }
+{
+    is_used_up || whole == 0
+}
+
+/// What the search of all splices found, and what groups give where it was cut off or came to nothing. That search has its own tries, so
+/// many at most. `Err` comes where memory is refused.
+pub fn complete_by_groups<'a>(
+    alloc: Global,
+    copies: &[&'a [u8]],
+    found: SearchedCopies<'a>,
+    limit: u32,
+) -> Result<FoundSplices<'a>, AllocError>
+    requires some_copy { 0 < length copies.now }
+    requires short { AreShort (bytes_of copies.now) }
+    requires parts { AreParts (bytes_of copies.now) (parts_of found.parts.items) }
+    requires searched { CameTo (parts_of found.parts.items) (lists_of found.searched.splices.items) found.searched.is_used_up }
+    ensures found { IfOk result (λ more. IsFound (bytes_of copies.now) (found_of more)) }
+    ensures tries { IfOk result (λ more. more.tries ≡ found.entry.searched.tries) }
+    ensures used_up { IfOk result (λ more. more.is_used_up ≡ found.entry.searched.is_used_up) }
+    ensures kept { IfOk result (λ more. (found_of more).choices ≡ lists_of found.entry.searched.splices.items) }
+    ensures splices { IfOk result (λ more. files_of (parts_of more.parts.items) (lists_of more.splices.items) ≡ splices_in (found_of more)) }
+    ensures each { IfOk result (λ more. AllByRecursion (IsWhole (parts_of more.parts.items)) (lists_of more.splices.items)) }
+    ensures whole { IfOk result (λ more. more.whole ≤ length more.splices.items) }
+{
+    let SearchedCopies { parts, searched } = found;
+    let Searched {
+        mut splices,
+        tries,
+        is_used_up,
+    } = searched;
+    let whole = splices.len();
+    let wants = wants_groups(is_used_up, whole);
+    if !wants {
+        return Ok(FoundSplices {
+            parts,
+            splices,
+            whole,
+            tries,
+            is_used_up,
+            by_groups: None,
+        });
+    }
+    let by = search_groups(alloc, copies, &parts, limit)?;
+    let SearchedGroups {
+        groups,
+        searched: of_groups,
+    } = by;
+    let Searched {
+        splices: mut given,
+        is_used_up: is_cut_off,
+        ..
+    } = of_groups;
+    let count = groups.len();
+    splices.append(&mut given)?;
+    let told = GroupsTold {
+        groups: count,
+        is_used_up: is_cut_off,
+    };
+    Ok(FoundSplices {
+        parts,
+        splices,
+        whole,
+        tries,
+        is_used_up,
+        by_groups: Some(told),
+    })
+}
