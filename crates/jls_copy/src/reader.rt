@@ -77,7 +77,9 @@ impl CopyRead {
         ensures pieces { result.1.items ≡ self.pieces }
     {
         let Self {
-            partial, pieces, ..
+            partial,
+            pieces,
+            ..
         } = self;
         (partial, pieces)
     }

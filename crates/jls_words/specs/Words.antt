@@ -57,7 +57,7 @@ write_app = with_rule (with_rule write_options_app (word_rule (codes "OUT"))) (w
 -- the program without its commands: it has a version, which each command tells too, and must be followed by a command
 abbrev pub bare_app : App
 bare_app =
-  let app = new_app (codes "jls-salvage") in
+    let app = new_app (codes "jls-salvage") in
     record app { top = record app.top { has_version = true; propagate_version = true; subcommand_required = true } }
 
 abbrev pub salvage_app : App
