@@ -14,6 +14,8 @@ It prints
   differ more N, if there are more than 4,096 such places: N of them are not listed
   splices N, the number of files that are no copies and decode whole
   tries used up, if the search of all splices was cut off
+  by groups N, if it was cut off or found no file: N groups, each between two markers, were searched;
+    with ', tries used up' after it if that search was cut off
   no single file, if --file was given and not exactly one file decodes whole
 and then what jls-salvage show prints for OUT. If OUT is -, only the text of OUT is printed.
 
