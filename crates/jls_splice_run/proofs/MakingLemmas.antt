@@ -48,12 +48,6 @@ pub length-map : {X Y : Type 0} (f : X → Y) (xs : List X) → length (map f xs
 length-map f [] = refl
 length-map f (x ∷ xs) = ap suc (length-map f xs)
 
--- so many of them are that many
-pub length_front : {X : Type 0} (n : ℕ) (xs : List X) → n ≤ length xs → n ≡ length (take n xs)
-length_front zero xs l = refl
-length_front (suc n) [] l = absurd (omega (arith, l))
-length_front (suc n) (x ∷ xs) l = ap suc (length_front n xs (omega (arith, l)))
-
 -- a single file that is asked for by a name, as the code has the name
 pub single_maps : {A B : Type 0} (f : A → B) (o : Option A) (files : List (List ℕ)) (single : Option (List ℕ))
     → IsSingleAsked o files single → IsSingleAsked (option_map f o) files single

@@ -10,6 +10,7 @@ use Rattle.jls_group_search.specs.Found.{Found, splices_in}
 use Rattle.jls_group_search.proofs.NoGroups.{splices_of_all}
 use Rattle.jls_splicing.specs.Shapes.{IsShapeTaken}
 use Rattle.jls_splicing.specs.Stations.{TakesFiles}
+use Rattle.jls_splice_laws.specs.WholeFiles.{WholeFilesAreFaultless}
 use Rattle.jls_splice_words.specs.Asking.{Asked}
 use Rattle.jls_splice_answers.specs.Outcomes.{exit_status, exit_status_of_cause}
 use Rattle.jls_splice_answers.specs.declared.outcome.Cause.{Cause}
@@ -46,14 +47,13 @@ is_whole false false e = absurd (omega (arith, e))
 
 did : (a : Asked) (status : ℕ) (desk report faults : List Event) → Performs a status desk report faults → status ≡ 0 → DidSplice a desk report
 did a _ _ _ _ (came_of _ _ _ _ line (at_copies r desk stops) told) e = absurd (not_zero r.cause e)
-did a _ _ _ _ (came_of _ _ _ _ line (not_made r copies desk read cant) told) e = absurd (not_zero r.cause e)
-did a _ _ _ _ (came_of _ _ _ _ line (not_handed r copies m reading desk report faults read made stops) told) e = absurd (not_zero r.cause e)
-did a _ _ _ _ (came_of _ _ _ _ line (done copies m settled whole reading desk report faults read made handed is_set is_read) told) e = record {
+did a _ _ _ _ (came_of _ _ _ _ line (not_made r copies desk faults read cant) told) e = absurd (not_zero r.cause e)
+did a _ _ _ _ (came_of _ _ _ _ line (not_handed r copies m reading desk report faults read made tells stops) told) e = absurd (not_zero r.cause e)
+did a _ _ _ _ (came_of _ _ _ _ line (done copies m settled whole reading desk report faults read made tells handed is_set is_read) told) e = record {
   copies = copies;
   made = m;
   reading = reading;
   writing = desk;
-  told = faults;
   desk_is = refl;
   read = read;
   whole = is_read.0 (is_whole settled whole e);
@@ -71,8 +71,8 @@ some_copy [] (copy ∷ copies) events read some = absurd read
 some_copy (name ∷ names) [] events read some = absurd read
 some_copy (name ∷ names) (copy ∷ copies) events read some = omega arith
 
-pub spliced_runs_give_no_other : SplicedCopiesGiveNoOther → SplicedRunsGiveNoOther
-spliced_runs_give_no_other never a desk report faults some performs =
+pub spliced_runs_give_no_other : WholeFilesAreFaultless → SplicedCopiesGiveNoOther → SplicedRunsGiveNoOther
+spliced_runs_give_no_other are_faultless never a desk report faults some performs =
     let d : DidSplice a desk report = did a 0 desk report faults performs refl in (
       d,
       λ enough pic is file whole splice.
@@ -80,14 +80,14 @@ spliced_runs_give_no_other never a desk report faults some performs =
           let f : Found = d.made.found in
           let p : PartialPicture = d.made.picture in
           let copy : 0 < length copies = some_copy a.copies d.copies d.reading d.read some in
-          let found = d.is_made.is_found in
-          let came : CameTo f.parts f.choices false = subst (CameTo f.parts f.choices) enough found.came_to in
+          let is_found = d.is_made.is_found in
+          let came : CameTo f.parts f.choices false = subst (CameTo f.parts f.choices) enough is_found.came_to in
           let among : Contains (files_of f.parts f.choices) file =
-          came.all refl (length copies) copy found.are_parts.ways file whole.bytes splice whole.faultless in
-          let splices : splices_in f ≡ files_of f.parts f.choices = splices_of_all copies f file found enough among in
+          came.all refl (length copies) copy is_found.are_parts.ways file whole.bytes splice (are_faultless pic file whole) in
+          let splices : splices_in f ≡ files_of f.parts f.choices = splices_of_all copies f file is_found enough among in
           never copies f.parts a.options.source p (record {
             some_copy = copy;
-            are_parts = found.are_parts;
+            are_parts = is_found.are_parts;
             found = f.choices;
             searched = came;
             shape = p.shape;

@@ -2,6 +2,7 @@
 
 ghost use Rattle.jls_splice_run_laws.specs.RunLaws.{SplicedRunsGiveNoOther};
 
+use jls_splice_laws::whole_files_survive;
 use jls_splicing_laws::spliced_copies_give_no_other;
 
 /// A law: what was asked of `jls-splice` ended with status 0, so OUT was handed the text of a picture. Assume that the tries of the
@@ -10,5 +11,6 @@ use jls_splicing_laws::spliced_copies_give_no_other;
 pub fn spliced_runs_give_no_other()
     ensures { SplicedRunsGiveNoOther }
 {
+    whole_files_survive();
     spliced_copies_give_no_other();
 }

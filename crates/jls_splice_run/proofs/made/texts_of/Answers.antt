@@ -1,17 +1,15 @@
-use Rattle.std.proofs.Common.{◌≡◌, ℕ, List, [], ◌++◌, length, drop, Option, Vec, Global, Bor, ap, refl, sym, ◌∙◌, subst, arith}
-use Rattle.std.specs.Prelude.{◌≤◌, codes, option_map, if◌then◌else◌}
+use Rattle.std.proofs.Common.{◌≡◌, ℕ, List, [], ◌++◌, drop, Vec, Global, Bor, ap, refl, sym, ◌∙◌, subst}
+use Rattle.std.specs.Prelude.{codes, option_map, if◌then◌else◌}
 use Rattle.std.specs.Str.{bytes_eq}
 use Rattle.jls_parts.specs.PartsOf.{bytes_of, parts_of}
 use Rattle.jls_report.specs.Report.{report_of}
 use Rattle.jls_report.specs.ReportText.{report_text}
 use Rattle.jls_splice.specs.Search.{files_of, lists_of}
-use Rattle.jls_splice_lines.specs.Lines.{progress_line}
-use Rattle.jls_splice_lines.specs.declared.found.GroupSearch.{GroupSearch}
 use Rattle.jls_group_search.specs.Found.{found_of, splices_in}
 use Rattle.jls_splice_run.specs.Files.{count_new}
 use Rattle.jls_splice_run.specs.Making.{groups_told, lacks_single, told_lines}
 use Rattle.jls_splice_run.specs.Single.{IsSingleAsked}
-use Rattle.jls_splice_run.proofs.MakingLemmas.{lacks_maps, length-map, length_front, single_maps}
+use Rattle.jls_splice_run.proofs.MakingLemmas.{lacks_maps, single_maps}
 use Rattle.jls_splice_run.proofs.made.texts_of.Goals as goal
 
 pub returns-clause-texts : goal.returns-clause-texts
@@ -23,9 +21,6 @@ returns-clause-texts c =
     let file = c.in_ok-file.file in
     let name = option_map (λ (s : Bor (List ℕ)). s.now) options.file in
     let single = option_map (λ (f : Vec ℕ Global). f.items) file in
-    let all = length-map (λ (v : Vec ℕ Global). v.items) found.splices.items in
-    let fits : found.whole ≤ length lists = (let w = c.requires.whole in omega (arith, all, w)) in
-    let count = length_front found.whole lists fits in
     let new : c.in_ok-splices.splices ≡ count_new copies (splices_in (found_of found)) =
     c.in_ok-splices.ensures ∙ (λ i. count_new copies (files_of (parts_of (c.deref-3.ensures.value i)) (lists_of (c.deref-4.ensures.value i))))
     ∙ ap (count_new copies) c.requires.splices in
@@ -33,7 +28,6 @@ returns-clause-texts c =
     let lacks : c.lacks_file.result ≡ lacks_single name single =
     c.lacks_file.ensures ∙ sym (lacks_maps (λ (s : Bor (List ℕ)). s.now) (λ (f : Vec ℕ Global). f.items) options.file file) in
     record {
-      progress_is = c.in_ok-progress.ensures ∙ ap (λ (n : ℕ). if options.progress then progress_line found.tries n else []) count;
       lines_are = c.in_ok-lines.ensures
           ∙ (λ i. if bytes_eq c.args.task.now.out.now (codes "-") then []
           else told_lines (parts_of (c.deref-5.ensures.value i)) (new i) found.is_used_up (groups i) (lacks i) ++ report_text (report_of c.args.partial.now));
