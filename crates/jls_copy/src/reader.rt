@@ -71,6 +71,17 @@ impl CopyRead {
         partial
     }
 
+    /// The readings, and the records of the first 4,096 pieces that gave none.
+    pub fn into_parts(self) -> (Partial, Vec<PieceRecord>)
+        ensures partial { result.0 ≡ self.partial }
+        ensures pieces { result.1.items ≡ self.pieces }
+    {
+        let Self {
+            partial, pieces, ..
+        } = self;
+        (partial, pieces)
+    }
+
     /// The first 4,096 pieces of scan data that didn't read as the lines of their intervals, in the order of the copy.
     pub fn pieces(&self) -> &[PieceRecord]
         ensures { result.now ≡ self.now.pieces }
