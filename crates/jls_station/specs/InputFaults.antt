@@ -1,7 +1,8 @@
 -- The fault of an input that has the fault of a text, or of a copy.
-use Rattle.std.specs.Prelude.{ℕ}
+use Rattle.std.specs.Prelude.{◌≡◌, ℕ, List, length}
 use Rattle.jls_partial.specs.declared.text_fault.TextFault.{TextFault}
 use Rattle.jls_partial.specs.declared.text_fault.TextFault.TheVariants.{OutOfMemory}
+use Rattle.jls_copy.specs.CopyReads.{CopyGivesNone}
 use Rattle.jls_copy.specs.declared.reader.CopyFault.{CopyFault}
 use Rattle.jls_copy.specs.declared.reader.CopyFault.TheVariants as copy
 use Rattle.jls_station.specs.declared.input.ReadStop.{ReadStop}
@@ -18,3 +19,7 @@ abbrev pub input_fault_of_copy : CopyFault → ReadStop → ℕ → InputFault
 input_fault_of_copy copy.OutOfMemory stop count = fault.OutOfMemory
 input_fault_of_copy (copy.NoPicture f offset) Whole count = fault.NoPicture f offset
 input_fault_of_copy (copy.NoPicture f offset) stop count = fault.Read stop count
+
+-- a copy of these bytes, whose reading stopped so, is refused for this
+abbrev pub IsCopyRefused : List ℕ → ReadStop → InputFault → Type 0
+IsCopyRefused bytes stop answer = (f : CopyFault) × CopyGivesNone bytes f × (answer ≡ input_fault_of_copy f stop (length bytes))

@@ -5,7 +5,6 @@ use Rattle.jls_marker.specs.declared.fault.MarkerFault.{MarkerFault}
 use Rattle.jls_partial.specs.Partial.{PartialPicture, has_same_shape, union}
 use Rattle.jls_copy.specs.CopyReads.{CopyReads, CopyGivesNone}
 use Rattle.jls_copy.specs.ReadCopy.{ReadCopy}
-use Rattle.jls_copy.specs.declared.reader.CopyFault.{CopyFault}
 use Rattle.jls_copy.specs.declared.reader.CopyFault.TheVariants as copy
 use Rattle.jls_device.specs.Event.{Event}
 use Rattle.jls_station.specs.Given.{CopyReport, found_in, marked}
@@ -13,14 +12,16 @@ use Rattle.jls_station.specs.Inputs.{IsCopyDone}
 use Rattle.jls_station.specs.Reading.{IsRead, IsReadInPart}
 use Rattle.jls_station.specs.declared.input.ReadStop.{ReadStop}
 use Rattle.jls_station.specs.declared.input.ReadStop.TheVariants.{Whole}
+use Rattle.jls_station.specs.declared.input.InputFault.{InputFault}
+use Rattle.jls_station.specs.declared.input.InputFault.TheVariants as input
 use Rattle.jls_station.specs.declared.take_copy.TakeFault.{TakeFault}
 use Rattle.jls_station.specs.declared.take_copy.TakeFault.TheVariants as fault
 
--- the fault of a copy whose reading stopped so, behind so many bytes
-abbrev pub take_fault_of : CopyFault → ReadStop → ℕ → TakeFault
-take_fault_of copy.OutOfMemory stop count = fault.OutOfMemory
-take_fault_of (copy.NoPicture f offset) Whole count = fault.NoPicture f offset
-take_fault_of (copy.NoPicture f offset) stop count = fault.Read stop count
+-- a copy that is refused so as an input is not taken for this
+pub data IsTakenFor : InputFault → TakeFault → Type 0 where
+  no_frame : (f : MarkerFault) (offset : ℕ) → IsTakenFor (input.NoPicture f offset) (fault.NoPicture f offset)
+  unread : (stop : ReadStop) (count : ℕ) → IsTakenFor (input.Read stop count) (fault.Read stop count)
+  for_memory : IsTakenFor input.OutOfMemory fault.OutOfMemory
 
 -- these are all reads of a copy in which a frame was taken, and it gives this partial picture and this report
 pub record CopyGives (source : Option ℕ) (p : PartialPicture) (report : CopyReport) (reads : List Event) : Type 0 where

@@ -1,15 +1,16 @@
 //! What a copy gives when its reading has stopped.
 
 ghost use Rattle.std.specs.Prelude.{◌≡◌, OnOk, IfOk, IfErr, IfSome};
-ghost use Rattle.jls_copy.specs.CopyReads.{CopyReads, CopyGivesNone};
+ghost use Rattle.jls_copy.specs.CopyReads.{CopyReads};
 ghost use Rattle.jls_copy.specs.ReadCopy.{ReadCopy};
 ghost use Rattle.jls_station.specs.Given.{marked, report_of};
+ghost use Rattle.jls_station.specs.InputFaults.{input_fault_of_copy, IsCopyRefused};
 
-use crate::input::ReadStop;
+use crate::input::{InputFault, ReadStop};
 use crate::take_report::TakeReport;
 use jls_copy::{CopyFault, CopyReader};
 use jls_partial::Partial;
-use std::alloc::{AllocError, Global};
+use std::alloc::AllocError;
 
 /// What a copy gave: its readings, under a source if there is one, and what is told of it beside them.
 #[derive(Drop)]
@@ -28,33 +29,46 @@ fn put_source(partial: &mut Partial, source: Option<u32>) -> Result<(), AllocErr
     }
 }
 
+/// The fault of a copy of which so many bytes were read when its reading stopped so.
+fn copy_fault(fault: CopyFault, stop: ReadStop, count: u64) -> InputFault
+    ensures { result ≡ input_fault_of_copy fault stop count }
+{
+    match (fault, stop) {
+        (CopyFault::OutOfMemory, _) => InputFault::OutOfMemory,
+        (CopyFault::NoPicture(fault, offset), ReadStop::Whole) => InputFault::NoPicture(
+            fault, offset,
+        ),
+        (CopyFault::NoPicture(_, _), stop) => InputFault::Read(stop, count),
+    }
+}
+
 /// What a reader gives of a copy under this source, where the reading of the copy stopped so.
 pub(crate) fn read_of_copy(
-    alloc: Global,
     source: Option<u32>,
     reader: CopyReader,
     stop: ReadStop,
-) -> Result<CopyGiven, CopyFault>
+) -> Result<CopyGiven, InputFault>
     ensures given { IfOk result (λ given. IfSome reader (λ bytes. (read : ReadCopy) × CopyReads bytes read
         × (given.partial ≡ marked source read.partial) × (given.report ≡ report_of bytes read stop))) }
-    ensures none { IfErr result (λ fault. IfSome reader (λ bytes. CopyGivesNone bytes fault)) }
+    ensures refused { IfErr result (λ fault. IfSome reader (λ bytes. IsCopyRefused bytes stop fault)) }
 {
     let count = reader.fed();
-    let read = reader.finish()?;
-    let pieces = match Vec::from_slice(alloc, read.pieces()) {
-        Ok(pieces) => pieces,
-        Err(_) => return Err(CopyFault::OutOfMemory),
+    let read = match reader.finish() {
+        Ok(read) => read,
+        Err(fault) => return Err(copy_fault(fault, stop, count)),
     };
+    let piece_count = read.piece_count();
+    let ended = read.ended();
+    let (mut partial, pieces) = read.into_parts();
     let report = TakeReport {
         pieces,
-        piece_count: read.piece_count(),
-        ended: read.ended(),
+        piece_count,
+        ended,
         count,
         stop,
     };
-    let mut partial = read.into_partial();
     match put_source(&mut partial, source) {
         Ok(()) => Ok(CopyGiven { partial, report }),
-        Err(_) => Err(CopyFault::OutOfMemory),
+        Err(_) => Err(InputFault::OutOfMemory),
     }
 }

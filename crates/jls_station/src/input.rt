@@ -6,7 +6,7 @@ ghost use Rattle.jls_device.specs.Event.{History, GrewBy};
 ghost use Rattle.jls_station.specs.Forms.{IsForm, IsAllOf};
 ghost use Rattle.jls_station.specs.Given.{given_by_text, given_of};
 ghost use Rattle.jls_station.specs.Inputs.{IsEnough, IsCopyDone, ReadsGive, ReadsRefuse};
-ghost use Rattle.jls_station.specs.InputFaults.{input_fault_of, input_fault_of_copy};
+ghost use Rattle.jls_station.specs.InputFaults.{input_fault_of};
 ghost use Rattle.jls_station.specs.Reading.{IsRead, ReadSoFar};
 ghost use Rattle.jls_station.specs.Texts.{is_text, IsTextOf};
 ghost use Rattle.jls_station.specs.declared.input.ReadStop.TheVariants.{Whole};
@@ -14,7 +14,7 @@ ghost use Rattle.jls_station.specs.declared.input.ReadStop.TheVariants.{Whole};
 use crate::copy_end::{CopyGiven, read_of_copy};
 use crate::reading::{front, read_copy_on, read_text_on};
 use crate::take_report::TakeReport;
-use jls_copy::{CopyFault, CopyReader, copies_have_one_course};
+use jls_copy::{CopyReader, copies_have_one_course};
 use jls_device::Source;
 use jls_marker::MarkerFault;
 use jls_partial::{Partial, TextFault};
@@ -140,19 +140,6 @@ pub fn input_fault(fault: TextFault) -> InputFault
     }
 }
 
-/// The fault of a copy of which so many bytes were read when its reading stopped so.
-fn copy_fault(fault: CopyFault, stop: ReadStop, count: u64) -> InputFault
-    ensures { result ≡ input_fault_of_copy fault stop count }
-{
-    match (fault, stop) {
-        (CopyFault::OutOfMemory, _) => InputFault::OutOfMemory,
-        (CopyFault::NoPicture(fault, offset), ReadStop::Whole) => InputFault::NoPicture(
-            fault, offset,
-        ),
-        (CopyFault::NoPicture(_, _), stop) => InputFault::Read(stop, count),
-    }
-}
-
 /// Reads a text to its end, whose first read gave these bytes, into the room of `text`.
 /// In the clauses `before` is what the device had done, or what it had left to give, before the first read.
 fn read_text<S: Source>(device: &mut S, first: &[u8], text: &mut Vec<u8>) -> Result<(), InputFault>
@@ -205,14 +192,9 @@ fn read_copy<S: Source>(
         Ok(stop) => stop,
         Err(_) => return Err(InputFault::OutOfMemory),
     };
-    let count = reader.fed();
-    match read_of_copy(alloc, source, reader, stop) {
-        Ok(given) => {
-            let CopyGiven { partial, report } = given;
-            Ok(InputRead::of_copy(partial, report))
-        }
-        Err(fault) => Err(copy_fault(fault, stop, count)),
-    }
+    let given = read_of_copy(source, reader, stop)?;
+    let CopyGiven { partial, report } = given;
+    Ok(InputRead::of_copy(partial, report))
 }
 
 /// What is read of an input.
@@ -247,15 +229,11 @@ pub fn read_form<S: Source>(
     }
     let first = front(&chunk, count);
     if first[0] == FIRST_OF_TEXT {
-        match read_text(device, first, text) {
-            Ok(()) => Ok(InputForm::Text),
-            Err(fault) => Err(fault),
-        }
+        read_text(device, first, text)?;
+        Ok(InputForm::Text)
     } else {
-        match read_copy(alloc, source, device, first) {
-            Ok(read) => Ok(InputForm::Copy(read)),
-            Err(fault) => Err(fault),
-        }
+        let read = read_copy(alloc, source, device, first)?;
+        Ok(InputForm::Copy(read))
     }
 }
 

@@ -1,15 +1,15 @@
 //! Copies that a station takes.
 
-ghost use Rattle.std.specs.Prelude.{◌≡◌, IfOk, IfErr};
+ghost use Rattle.std.specs.Prelude.{IfOk, IfErr};
 ghost use Rattle.jls_device.specs.Event.{GrewBy};
-ghost use Rattle.jls_station.specs.TakingCopies.{take_fault_of, CopyGives, CopyStops, TakesCopy, RefusesCopy};
+ghost use Rattle.jls_station.specs.TakingCopies.{IsTakenFor, CopyGives, CopyStops, TakesCopy, RefusesCopy};
 
 use crate::copy_end::{CopyGiven, read_of_copy};
-use crate::input::ReadStop;
+use crate::input::{InputFault, ReadStop};
 use crate::reading::read_copy_on;
 use crate::station::Station;
 use crate::take_report::TakeReport;
-use jls_copy::{CopyFault, CopyReader};
+use jls_copy::CopyReader;
 use jls_device::Source;
 use jls_marker::MarkerFault;
 use jls_values::MergeFault;
@@ -28,16 +28,16 @@ pub enum TakeFault {
     OutOfMemory,
 }
 
-/// The fault of a copy of which so many bytes were read when its reading stopped so.
-fn take_fault(fault: CopyFault, stop: ReadStop, count: u64) -> TakeFault
-    ensures { result ≡ take_fault_of fault stop count }
+/// Why a station doesn't take a copy that is refused so as an input. As a text none is.
+fn take_fault(fault: InputFault) -> TakeFault
+    requires { (taken : TakeFault) × IsTakenFor fault taken }
+    ensures { IsTakenFor fault result }
 {
-    match (fault, stop) {
-        (CopyFault::OutOfMemory, _) => TakeFault::OutOfMemory,
-        (CopyFault::NoPicture(fault, offset), ReadStop::Whole) => TakeFault::NoPicture(
-            fault, offset,
-        ),
-        (CopyFault::NoPicture(_, _), stop) => TakeFault::Read(stop, count),
+    match fault {
+        InputFault::NoPicture(fault, offset) => TakeFault::NoPicture(fault, offset),
+        InputFault::Read(stop, count) => TakeFault::Read(stop, count),
+        InputFault::OutOfMemory => TakeFault::OutOfMemory,
+        InputFault::Text(_) => unreachable!(),
     }
 }
 
@@ -56,10 +56,9 @@ fn read_from_start<S: Source>(
         Ok(stop) => stop,
         Err(_) => return Err(TakeFault::OutOfMemory),
     };
-    let count = reader.fed();
-    match read_of_copy(alloc, source, reader, stop) {
+    match read_of_copy(source, reader, stop) {
         Ok(given) => Ok(given),
-        Err(fault) => Err(take_fault(fault, stop, count)),
+        Err(fault) => Err(take_fault(fault)),
     }
 }
 
@@ -81,10 +80,7 @@ impl Station {
         ensures refused { IfErr result (λ fault.
             GrewBy (RefusesCopy source self.old self.new fault) (S.history device.old) (S.history device.new)) }
     {
-        let given = match read_from_start(self.allocator(), source, device) {
-            Ok(given) => given,
-            Err(fault) => return Err(fault),
-        };
+        let given = read_from_start(self.allocator(), source, device)?;
         match self.take(&given.partial) {
             Ok(()) => {}
             Err(MergeFault::ShapeDiffers) => return Err(TakeFault::ShapeDiffers),

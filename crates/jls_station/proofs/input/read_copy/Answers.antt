@@ -1,4 +1,5 @@
 use Rattle.std.proofs.Common.{◌≡◌, ℕ, List, Option, Some, ap, ◌∙◌, arith}
+use Rattle.std.proofs.lemmas.Result.{err_from_is_err_and}
 use Rattle.jls_copy.specs.ReadCopy.{after}
 use Rattle.jls_station.specs.Inputs.{IsCopyDone}
 use Rattle.jls_station.proofs.CopyEnds.{copy_gives, copy_refused}
@@ -16,18 +17,20 @@ returns-in-Err-read_copy_on-clause-refused g c before h =
     let fed : c.feed.new.self ≡ Some c.args.first.now = c.in-Ok.ensures.ok ∙ ap (λ (o : Option (List ℕ)). after o c.args.first.now) c.new-reader.ensures in
     out_of_memory_in_part before now (part_of_input before now (c.in-Err-read_copy_on.ensures.refused before c.args.first.now fed h))
 
-pub returns-in-Ok-read_of_copy-clause-given : goal.returns-in-Ok-read_of_copy-clause-given
-returns-in-Ok-read_of_copy-clause-given g c before h =
+pub returns-clause-given : goal.returns-clause-given
+returns-clause-given g c before h =
     let first = c.args.first.now in
     let fed : c.feed.new.self ≡ Some first = c.in-Ok.ensures.ok ∙ ap (λ (o : Option (List ℕ)). after o first) c.new-reader.ensures in
     let e = c.in-Ok-read_copy_on.ensures in
-    copy_gives c.args.source first c.in-Ok-read_copy_on.stop before (g.S.Device.history c.read_copy_on.new.device) c.requires.no_text c.read_copy_on.new.reader c.in-Ok-read_of_copy.given.partial c.in-Ok-read_of_copy.given.report c.of_copy.result c.of_copy.ensures
-    (e.begins first fed c.requires.some) (e.read before first fed h) c.in-Ok-read_of_copy.ensures.given
+    let given = c.in_ok-given.given in
+    copy_gives c.args.source first c.in-Ok-read_copy_on.stop before (g.S.Device.history c.read_copy_on.new.device) c.requires.no_text c.read_copy_on.new.reader given.partial given.report c.of_copy.result c.of_copy.ensures
+    (e.begins first fed c.requires.some) (e.read before first fed h) c.in_ok-given.ensures.given
 
-pub returns-in-Err-read_of_copy-clause-refused : goal.returns-in-Err-read_of_copy-clause-refused
-returns-in-Err-read_of_copy-clause-refused g c before h =
+pub returns-in_err-given-clause-refused : goal.returns-in_err-given-clause-refused
+returns-in_err-given-clause-refused g c before h =
     let first = c.args.first.now in
     let fed : c.feed.new.self ≡ Some first = c.in-Ok.ensures.ok ∙ ap (λ (o : Option (List ℕ)). after o first) c.new-reader.ensures in
     let e = c.in-Ok-read_copy_on.ensures in
-    copy_refused c.args.source first c.in-Ok-read_copy_on.stop before (g.S.Device.history c.read_copy_on.new.device) c.requires.no_text c.read_copy_on.new.reader c.in-Err-read_of_copy.fault c.fed-count.result
-    c.copy_fault.result (e.begins first fed c.requires.some) (e.read before first fed h) c.in-Err-read_of_copy.ensures.none c.fed-count.ensures c.copy_fault.ensures
+    let p = err_from_is_err_and c.from_residual.result c.from_residual.ensures.1 in
+    rw (p.1, p.2) (copy_refused c.args.source first c.in-Ok-read_copy_on.stop before (g.S.Device.history c.read_copy_on.new.device) c.requires.no_text c.read_copy_on.new.reader c.in_err-given.field-0.0
+    (e.begins first fed c.requires.some) (e.read before first fed h) c.in_err-given.ensures.refused)

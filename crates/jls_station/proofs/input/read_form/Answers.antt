@@ -1,5 +1,6 @@
 use Rattle.std.proofs.Common.{rules, ◌≡◌, ◌<◌, ℕ, List, [], ap, refl, sym, subst, arith, length, take}
 use Rattle.std.proofs.lemmas.List.{length-take}
+use Rattle.std.proofs.lemmas.Result.{err_from_is_err_and}
 use Rattle.jls_marker.specs.declared.fault.MarkerFault.TheVariants as marker
 use Rattle.jls_device.specs.Event.{GrewBy}
 use Rattle.jls_station.specs.Inputs.{IsEnough, IsCopyDone, no_picture, copy_not_read}
@@ -27,8 +28,8 @@ returns-then-count-eq0-clause-refused g c =
     (ap (λ (k : ℕ). take k c.read_some.new.into) c.if-count-eq0.true) (λ e. empty_goes_on c.copies_have_one_course.ensures e.1) (omega arith) (omega arith) (omega arith))
     (fault.NoPicture marker.Ended 0) (no_picture [] marker.Ended 0 refl empty_gives_none)
 
-pub returns-in-Ok-read_text-clause-form : goal.returns-in-Ok-read_text-clause-form
-returns-in-Ok-read_text-clause-form g c =
+pub returns-in_ok-read_text-clause-form : goal.returns-in_ok-read_text-clause-form
+returns-in_ok-read_text-clause-form g c =
     let old = g.S.Device.history c.args.device.now in
     let mid = g.S.Device.history c.read_some.new.self in
     let given = take c.in-Ok.count c.read_some.new.into in
@@ -37,11 +38,11 @@ returns-in-Ok-read_text-clause-form g c =
     let so_far = subst (λ (t : List ℕ). GrewBy (ReadSoFar IsEnough 1 t) old mid) (sym c.front-first.ensures.front)
     (one_read_more IsEnough 0 old old mid [] 4096 given (nothing_read IsEnough 0 old old old []) (rw room at c.in-Ok.ensures.read)
     (λ e. empty_goes_on c.copies_have_one_course.ensures e.1) (omega arith) some (subst AreBytes c.front-first.ensures.front c.front-first.ensures.bytes)) in
-    let read = c.in-Ok-read_text.ensures.read old so_far in
-    record { events = read.events; grew = read.grew; they_are = (read.they_are, c.in-Ok-read_text.ensures.text) }
+    let read = c.in_ok-read_text.ensures.read old so_far in
+    record { events = read.events; grew = read.grew; they_are = (read.they_are, c.in_ok-read_text.ensures.text) }
 
-pub returns-in-Err-read_text-clause-refused : goal.returns-in-Err-read_text-clause-refused
-returns-in-Err-read_text-clause-refused g c =
+pub returns-in_err-read_text-clause-refused : goal.returns-in_err-read_text-clause-refused
+returns-in_err-read_text-clause-refused g c =
     let old = g.S.Device.history c.args.device.now in
     let mid = g.S.Device.history c.read_some.new.self in
     let given = take c.in-Ok.count c.read_some.new.into in
@@ -50,10 +51,11 @@ returns-in-Err-read_text-clause-refused g c =
     let so_far = subst (λ (t : List ℕ). GrewBy (ReadSoFar IsEnough 1 t) old mid) (sym c.front-first.ensures.front)
     (one_read_more IsEnough 0 old old mid [] 4096 given (nothing_read IsEnough 0 old old old []) (rw room at c.in-Ok.ensures.read)
     (λ e. empty_goes_on c.copies_have_one_course.ensures e.1) (omega arith) some (subst AreBytes c.front-first.ensures.front c.front-first.ensures.bytes)) in
-    c.in-Err-read_text.ensures.refused old so_far
+    let p = err_from_is_err_and c.from_residual.result c.from_residual.ensures.1 in
+    rw (p.1, p.2) (c.in_err-read_text.ensures.refused old so_far)
 
-pub returns-in-Ok-read_copy-clause-form : goal.returns-in-Ok-read_copy-clause-form
-returns-in-Ok-read_copy-clause-form g c =
+pub returns-in_ok-read-clause-form : goal.returns-in_ok-read-clause-form
+returns-in_ok-read-clause-form g c =
     let old = g.S.Device.history c.args.device.now in
     let mid = g.S.Device.history c.read_some.new.self in
     let given = take c.in-Ok.count c.read_some.new.into in
@@ -62,10 +64,10 @@ returns-in-Ok-read_copy-clause-form g c =
     let so_far = subst (λ (t : List ℕ). GrewBy (ReadSoFar IsCopyDone 1 t) old mid) (sym c.front-first.ensures.front)
     (one_read_more IsCopyDone 0 old old mid [] 4096 given (nothing_read IsCopyDone 0 old old old []) (rw room at c.in-Ok.ensures.read)
     (empty_goes_on c.copies_have_one_course.ensures) (omega arith) some (subst AreBytes c.front-first.ensures.front c.front-first.ensures.bytes)) in
-    c.in-Ok-read_copy.ensures.given old so_far
+    c.in_ok-read.ensures.given old so_far
 
-pub returns-in-Err-read_copy-clause-refused : goal.returns-in-Err-read_copy-clause-refused
-returns-in-Err-read_copy-clause-refused g c =
+pub returns-in_err-read-clause-refused : goal.returns-in_err-read-clause-refused
+returns-in_err-read-clause-refused g c =
     let old = g.S.Device.history c.args.device.now in
     let mid = g.S.Device.history c.read_some.new.self in
     let given = take c.in-Ok.count c.read_some.new.into in
@@ -74,4 +76,5 @@ returns-in-Err-read_copy-clause-refused g c =
     let so_far = subst (λ (t : List ℕ). GrewBy (ReadSoFar IsCopyDone 1 t) old mid) (sym c.front-first.ensures.front)
     (one_read_more IsCopyDone 0 old old mid [] 4096 given (nothing_read IsCopyDone 0 old old old []) (rw room at c.in-Ok.ensures.read)
     (empty_goes_on c.copies_have_one_course.ensures) (omega arith) some (subst AreBytes c.front-first.ensures.front c.front-first.ensures.bytes)) in
-    c.in-Err-read_copy.ensures.refused old so_far
+    let p = err_from_is_err_and c.from_residual-in_err-read.result c.from_residual-in_err-read.ensures.1 in
+    rw (p.1, p.2) (c.in_err-read.ensures.refused old so_far)

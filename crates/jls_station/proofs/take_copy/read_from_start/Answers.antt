@@ -4,7 +4,7 @@ use Rattle.jls_station.specs.Inputs.{IsCopyDone}
 use Rattle.jls_station.specs.Reading.{IsReadInPart}
 use Rattle.jls_station.specs.TakingCopies.{CopyStops, between_reads}
 use Rattle.jls_station.specs.declared.take_copy.TakeFault.TheVariants as take
-use Rattle.jls_station.proofs.CopyEnds.{whole_copy_gives, whole_copy_stops}
+use Rattle.jls_station.proofs.CopyEnds.{is_taken, whole_copy_gives, whole_copy_stops}
 use Rattle.jls_station.proofs.OneInput.{nothing_read}
 use Rattle.jls_station.proofs.take_copy.read_from_start.Goals as goal
 
@@ -26,5 +26,11 @@ pub returns-in-Err-read_of_copy-clause-refused : goal.returns-in-Err-read_of_cop
 returns-in-Err-read_of_copy-clause-refused g c =
     let old = g.S.Device.history c.args.device.now in
     let new = g.S.Device.history c.read_copy_on.new.device in
-    whole_copy_stops c.args.source c.in-Ok.stop old new c.read_copy_on.new.reader c.in-Err-read_of_copy.fault c.fed-count.result c.take_fault.result
-    (c.in-Ok.ensures.read old [] c.new-reader.ensures (nothing_read IsCopyDone 0 old old old [])) c.in-Err-read_of_copy.ensures.none c.fed-count.ensures c.take_fault.ensures
+    whole_copy_stops c.args.source c.in-Ok.stop old new c.read_copy_on.new.reader c.in-Err-read_of_copy.fault c.take_fault.result
+    (c.in-Ok.ensures.read old [] c.new-reader.ensures (nothing_read IsCopyDone 0 old old old [])) c.in-Err-read_of_copy.ensures.refused c.take_fault.ensures
+
+pub take_fault-requires : goal.take_fault-requires
+take_fault-requires g c =
+    let old = g.S.Device.history c.args.device.now in
+    is_taken _ c.read_copy_on.new.reader c.in-Ok.stop c.in-Err-read_of_copy.fault
+    (c.in-Ok.ensures.read old [] c.new-reader.ensures (nothing_read IsCopyDone 0 old old old [])) c.in-Err-read_of_copy.ensures.refused
