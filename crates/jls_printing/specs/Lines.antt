@@ -1,19 +1,15 @@
 -- A line by its parts.
-use Rattle.std.specs.Prelude.{ℕ, List, [], ◌++◌, Option, Some, None, codes, decimal}
-use Rattle.std.specs.Borrow.{Bor}
+use Rattle.std.specs.Prelude.{ℕ, List, [], ◌∷◌, ◌++◌, codes, decimal}
 use Rattle.jls_printing.specs.Names.{shown_name}
-use Rattle.jls_printing.specs.declared.line.Line.{Line}
+use Rattle.jls_printing.specs.declared.line.LinePart.{LinePart}
+use Rattle.jls_printing.specs.declared.line.LinePart.TheVariants.{Text, Name, Number}
 
-abbrev pub name_part : Option (Bor (List ℕ)) → List ℕ
-name_part None = []
-name_part (Some name) = shown_name name.now
+abbrev pub part_bytes : LinePart → List ℕ
+part_bytes (Text text) = text.now
+part_bytes (Name name) = shown_name name.now
+part_bytes (Number n) = decimal n
 
-abbrev pub number_part : Option ℕ → List ℕ
-number_part None = []
-number_part (Some n) = decimal n
-
-abbrev pub bytes_of : Line → List ℕ
-bytes_of line =
-    line.program.now
-    ++ (codes ": " ++ (name_part line.name
-    ++ (line.text.now ++ (number_part line.number ++ (line.between.now ++ (number_part line.second ++ line.end.now))))))
+-- the parts one after the other, and then a newline
+abbrev pub line_of : List LinePart → List ℕ
+line_of [] = codes "\n"
+line_of (part ∷ parts) = part_bytes part ++ line_of parts

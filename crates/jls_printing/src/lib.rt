@@ -6,4 +6,4 @@ mod line;
 mod names;
 mod pending;
 
-pub use line::{Line, print_line, print_text};
+pub use line::{LinePart, print_line, print_text};

@@ -53,6 +53,11 @@ input_fault_line name (fault.NoPicture f offset) = no_picture_line name (fault_n
 input_fault_line name (fault.Read stop offset) = codes "jls-salvage: " ++ (shown_name name ++ codes ": read failed\n")
 input_fault_line name fault.OutOfMemory = out_of_memory_line
 
+-- the line of an output of this name of which so many bytes went out
+abbrev pub not_written_line : List ℕ → ℕ → List ℕ
+not_written_line name count =
+    codes "jls-salvage: " ++ (shown_name name ++ (codes ": write failed after " ++ (decimal count ++ codes " bytes\n")))
+
 -- the line of a cause at an input or output of this name
 abbrev pub cause_line : List ℕ → Cause → List ℕ
 cause_line name cause.NotOpened = codes "jls-salvage: " ++ (shown_name name ++ codes ": cannot be opened\n")
@@ -61,8 +66,7 @@ cause_line name cause.ShapeDiffers = codes "jls-salvage: " ++ (shown_name name +
 cause_line name (cause.Unsettled id line disputed) = unsettled_line id line disputed
 cause_line name cause.TooLarge = codes "jls-salvage: interval too large, give --ri\n"
 cause_line name cause.NotCreated = codes "jls-salvage: " ++ (shown_name name ++ codes ": cannot be created\n")
-cause_line name (cause.NotWritten count) =
-    codes "jls-salvage: " ++ (shown_name name ++ (codes ": write failed after " ++ (decimal count ++ codes " bytes\n")))
+cause_line name (cause.NotWritten count) = not_written_line name count
 cause_line name cause.OutOfMemory = out_of_memory_line
 
 -- the second line of a join that would replace a JPEG file of this name

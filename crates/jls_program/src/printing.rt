@@ -1,141 +1,156 @@
 //! The lines on the fault output. A write that fails there is ignored: there is nowhere left to say so.
 
-ghost use Rattle.std.specs.Prelude.{◌≡◌, ◌++◌, codes, decimal};
+ghost use Rattle.std.specs.Prelude.{◌++◌, codes, decimal};
 ghost use Rattle.jls_device.specs.Event.{GrewBy};
 ghost use Rattle.jls_marker.specs.Faults.{fault_number};
 ghost use Rattle.jls_device.specs.Writing.{Printed};
-ghost use Rattle.jls_printing.specs.Lines.{bytes_of, name_part};
 ghost use Rattle.jls_printing.specs.Names.{shown_name};
 ghost use Rattle.jls_commands.specs.declared.outcome.Outcome.TheVariants.{Refused};
-ghost use Rattle.jls_program.specs.FaultLines.{cause_line, input_fault_line, text_fault_line, fault_line, no_picture_line, not_replaced_line, out_of_memory_line, unknown_value_line, unsettled_line};
+ghost use Rattle.jls_program.specs.FaultLines.{bad_text_line, cause_line, fault_line, input_fault_line, no_picture_line, not_replaced_line, not_written_line, out_of_memory_line, text_fault_line, unknown_value_line, unsettled_line};
 
 use jls_commands::{Cause, Outcome, Refusal};
 use jls_device::Sink;
 use jls_marker::MarkerFault;
 use jls_partial::TextFault;
-use jls_printing::{Line, print_line};
+use jls_printing::{LinePart, print_line};
 use jls_station::InputFault;
 
-/// The name of the program, as its fault lines begin.
-const PROGRAM: &str = "jls-salvage";
+/// How each fault line begins: with the name of the program.
+const PROGRAM: &str = "jls-salvage: ";
 
-/// A line without a number.
-fn plain<'a>(name: Option<&'a str>, text: &'static str) -> Line<'a>
-    ensures { bytes_of result ≡ codes "jls-salvage: " ++ (name_part name.entry ++ (text.now ++ codes "\n")) }
+/// Prints a line that is about no input or output.
+fn print_plain<E: Sink>(faults: &mut E, text: &'static str)
+    ensures { GrewBy (Printed (codes "jls-salvage: " ++ (text.now ++ codes "\n"))) (E.history faults.old) (E.history faults.new) }
 {
-    Line {
-        program: PROGRAM,
-        name,
-        text,
-        number: None,
-        between: "",
-        second: None,
-        end: "\n",
+    print_line(faults, &[LinePart::Text(PROGRAM), LinePart::Text(text)]);
+}
+
+/// Prints a line about the input or output of this name.
+fn print_about<E: Sink>(faults: &mut E, name: &str, text: &'static str)
+    ensures { GrewBy (Printed (codes "jls-salvage: " ++ (shown_name name.now ++ (text.now ++ codes "\n"))))
+        (E.history faults.old) (E.history faults.new) }
+{
+    print_line(
+        faults,
+        &[
+            LinePart::Text(PROGRAM),
+            LinePart::Name(name),
+            LinePart::Text(text),
+        ],
+    );
+}
+
+/// Prints the line of a text with a fault of this kind at this offset.
+fn print_bad_text<E: Sink>(faults: &mut E, name: &str, said: &'static str, offset: u64)
+    ensures { GrewBy (Printed (bad_text_line name.now said.now offset)) (E.history faults.old) (E.history faults.new) }
+{
+    print_line(
+        faults,
+        &[
+            LinePart::Text(PROGRAM),
+            LinePart::Name(name),
+            LinePart::Text(said),
+            LinePart::Number(offset),
+        ],
+    );
+}
+
+/// Prints the line of a copy in which no frame was taken.
+fn print_no_picture<E: Sink>(faults: &mut E, name: &str, fault: MarkerFault, offset: u64)
+    ensures { GrewBy (Printed (no_picture_line name.now (fault_number fault) offset)) (E.history faults.old) (E.history faults.new) }
+{
+    print_line(
+        faults,
+        &[
+            LinePart::Text(PROGRAM),
+            LinePart::Name(name),
+            LinePart::Text(": no picture, fault "),
+            LinePart::Number(u64::from(fault.number())),
+            LinePart::Text(" at "),
+            LinePart::Number(offset),
+        ],
+    );
+}
+
+/// Prints a line about a line of a picture.
+fn print_about_line<E: Sink>(faults: &mut E, id: u8, line: u16, said: &'static str)
+    ensures { GrewBy (Printed (codes "jls-salvage: line " ++ (decimal line ++ (codes " of component "
+        ++ (decimal id ++ (said.now ++ codes "\n")))))) (E.history faults.old) (E.history faults.new) }
+{
+    print_line(
+        faults,
+        &[
+            LinePart::Text(PROGRAM),
+            LinePart::Text("line "),
+            LinePart::Number(u64::from(line)),
+            LinePart::Text(" of component "),
+            LinePart::Number(u64::from(id)),
+            LinePart::Text(said),
+        ],
+    );
+}
+
+/// Prints the line of a picture's line that is disputed, or missing.
+fn print_unsettled<E: Sink>(faults: &mut E, id: u8, line: u16, disputed: bool)
+    ensures { GrewBy (Printed (unsettled_line id line disputed)) (E.history faults.old) (E.history faults.new) }
+{
+    if disputed {
+        print_about_line(faults, id, line, " is disputed");
+    } else {
+        print_about_line(faults, id, line, " is missing");
     }
 }
 
-/// A line with a number at its end.
-fn numbered<'a>(name: &'a str, text: &'static str, number: u64) -> Line<'a>
-    ensures { bytes_of result ≡ codes "jls-salvage: " ++ (shown_name name.now ++ (text.now ++ (decimal number ++ codes "\n"))) }
+/// Prints the line of an output of which so many bytes went out.
+fn print_not_written<E: Sink>(faults: &mut E, name: &str, count: u64)
+    ensures { GrewBy (Printed (not_written_line name.now count)) (E.history faults.old) (E.history faults.new) }
 {
-    Line {
-        program: PROGRAM,
-        name: Some(name),
-        text,
-        number: Some(number),
-        between: "",
-        second: None,
-        end: "\n",
-    }
+    print_line(
+        faults,
+        &[
+            LinePart::Text(PROGRAM),
+            LinePart::Name(name),
+            LinePart::Text(": write failed after "),
+            LinePart::Number(count),
+            LinePart::Text(" bytes"),
+        ],
+    );
 }
 
-/// The line of a copy in which no frame was taken.
-fn no_picture<'a>(name: &'a str, fault: MarkerFault, offset: u64) -> Line<'a>
-    ensures { bytes_of result ≡ no_picture_line name.now (fault_number fault) offset }
-{
-    Line {
-        program: PROGRAM,
-        name: Some(name),
-        text: ": no picture, fault ",
-        number: Some(u64::from(fault.number())),
-        between: " at ",
-        second: Some(offset),
-        end: "\n",
-    }
-}
-
-/// The line of a picture's line that is disputed, or missing.
-fn unsettled<'a>(id: u8, line: u16, disputed: bool) -> Line<'a>
-    ensures { bytes_of result ≡ unsettled_line id line disputed }
-{
-    Line {
-        program: PROGRAM,
-        name: None,
-        text: "line ",
-        number: Some(u64::from(line)),
-        between: " of component ",
-        second: Some(u64::from(id)),
-        end: if disputed {
-            " is disputed\n"
-        } else {
-            " is missing\n"
-        },
-    }
-}
-
-fn out_of_memory<'a>() -> Line<'a>
-    ensures { bytes_of result ≡ out_of_memory_line }
-{
-    plain(None, "out of memory")
-}
-
-fn line_of_text_fault<'a>(name: &'a str, fault: TextFault) -> Line<'a>
-    ensures { bytes_of result ≡ text_fault_line name.now fault }
+/// Prints the line of a text that is refused.
+fn print_text_fault<E: Sink>(faults: &mut E, name: &str, fault: TextFault)
+    ensures { GrewBy (Printed (text_fault_line name.now fault)) (E.history faults.old) (E.history faults.new) }
 {
     match fault {
-        TextFault::Magic(offset) => numbered(name, ": bad text, magic at ", offset),
-        TextFault::BadShape(offset) => numbered(name, ": bad text, shape at ", offset),
-        TextFault::Truncated(offset) => numbered(name, ": bad text, truncated at ", offset),
-        TextFault::Place(offset) => numbered(name, ": bad text, place at ", offset),
-        TextFault::Count(offset) => numbered(name, ": bad text, count at ", offset),
-        TextFault::Order(offset) => numbered(name, ": bad text, order at ", offset),
-        TextFault::Sample(offset) => numbered(name, ": bad text, sample at ", offset),
-        TextFault::Trailing(offset) => numbered(name, ": bad text, trailing at ", offset),
-        TextFault::OutOfMemory => out_of_memory(),
+        TextFault::Magic(offset) => print_bad_text(faults, name, ": bad text, magic at ", offset),
+        TextFault::BadShape(offset) => {
+            print_bad_text(faults, name, ": bad text, shape at ", offset)
+        }
+        TextFault::Truncated(offset) => {
+            print_bad_text(faults, name, ": bad text, truncated at ", offset)
+        }
+        TextFault::Place(offset) => print_bad_text(faults, name, ": bad text, place at ", offset),
+        TextFault::Count(offset) => print_bad_text(faults, name, ": bad text, count at ", offset),
+        TextFault::Order(offset) => print_bad_text(faults, name, ": bad text, order at ", offset),
+        TextFault::Sample(offset) => {
+            print_bad_text(faults, name, ": bad text, sample at ", offset)
+        }
+        TextFault::Trailing(offset) => {
+            print_bad_text(faults, name, ": bad text, trailing at ", offset)
+        }
+        TextFault::OutOfMemory => print_out_of_memory(faults),
     }
 }
 
-fn line_of_input_fault<'a>(name: &'a str, fault: InputFault) -> Line<'a>
-    ensures { bytes_of result ≡ input_fault_line name.now fault }
+/// Prints the line of an input that is refused.
+fn print_input_fault<E: Sink>(faults: &mut E, name: &str, fault: InputFault)
+    ensures { GrewBy (Printed (input_fault_line name.now fault)) (E.history faults.old) (E.history faults.new) }
 {
     match fault {
-        InputFault::Text(fault) => line_of_text_fault(name, fault),
-        InputFault::NoPicture(fault, offset) => no_picture(name, fault, offset),
-        InputFault::Read(_, _) => plain(Some(name), ": read failed"),
-        InputFault::OutOfMemory => out_of_memory(),
-    }
-}
-
-fn line_of_cause<'a>(name: &'a str, cause: Cause) -> Line<'a>
-    ensures { bytes_of result ≡ cause_line name.now cause }
-{
-    match cause {
-        Cause::NotOpened => plain(Some(name), ": cannot be opened"),
-        Cause::Input(fault) => line_of_input_fault(name, fault),
-        Cause::ShapeDiffers => plain(Some(name), ": shape differs"),
-        Cause::Unsettled { id, line, disputed } => unsettled(id, line, disputed),
-        Cause::TooLarge => plain(None, "interval too large, give --ri"),
-        Cause::NotCreated => plain(Some(name), ": cannot be created"),
-        Cause::NotWritten(count) => Line {
-            program: PROGRAM,
-            name: Some(name),
-            text: ": write failed after ",
-            number: Some(count),
-            between: "",
-            second: None,
-            end: " bytes\n",
-        },
-        Cause::OutOfMemory => out_of_memory(),
+        InputFault::Text(fault) => print_text_fault(faults, name, fault),
+        InputFault::NoPicture(fault, offset) => print_no_picture(faults, name, fault, offset),
+        InputFault::Read(_, _) => print_about(faults, name, ": read failed"),
+        InputFault::OutOfMemory => print_out_of_memory(faults),
     }
 }
 
@@ -144,9 +159,9 @@ pub(crate) fn print_unknown_value<E: Sink>(faults: &mut E, format_is_known: bool
     ensures { GrewBy (Printed (unknown_value_line format_is_known)) (E.history faults.old) (E.history faults.new) }
 {
     if format_is_known {
-        print_line(faults, &plain(None, "--ilv takes none or line"));
+        print_plain(faults, "--ilv takes none or line");
     } else {
-        print_line(faults, &plain(None, "--as takes jls or pnm"));
+        print_plain(faults, "--as takes jls or pnm");
     }
 }
 
@@ -154,29 +169,48 @@ pub(crate) fn print_unknown_value<E: Sink>(faults: &mut E, format_is_known: bool
 pub fn print_not_created<E: Sink>(faults: &mut E, name: &str)
     ensures { GrewBy (Printed (cause_line name.now Cause.NotCreated)) (E.history faults.old) (E.history faults.new) }
 {
-    print_line(faults, &plain(Some(name), ": cannot be created"));
+    print_about(faults, name, ": cannot be created");
 }
 
 /// Prints why a join did not create the output of this name: it would replace a JPEG file.
 pub fn print_not_replaced<E: Sink>(faults: &mut E, name: &str)
     ensures { GrewBy (Printed (not_replaced_line name.now)) (E.history faults.old) (E.history faults.new) }
 {
-    let text = " is a JPEG file, and join does not replace one";
-    print_line(faults, &plain(Some(name), text));
+    print_about(
+        faults,
+        name,
+        " is a JPEG file, and join does not replace one",
+    );
 }
 
 /// Prints that memory ran out.
 pub(crate) fn print_out_of_memory<E: Sink>(faults: &mut E)
     ensures { GrewBy (Printed out_of_memory_line) (E.history faults.old) (E.history faults.new) }
 {
-    print_line(faults, &out_of_memory())
+    print_plain(faults, "out of memory");
+}
+
+/// Prints the line of a cause at an input or output of this name.
+fn print_cause<E: Sink>(faults: &mut E, name: &str, cause: Cause)
+    ensures { GrewBy (Printed (cause_line name.now cause)) (E.history faults.old) (E.history faults.new) }
+{
+    match cause {
+        Cause::NotOpened => print_about(faults, name, ": cannot be opened"),
+        Cause::Input(fault) => print_input_fault(faults, name, fault),
+        Cause::ShapeDiffers => print_about(faults, name, ": shape differs"),
+        Cause::Unsettled { id, line, disputed } => print_unsettled(faults, id, line, disputed),
+        Cause::TooLarge => print_plain(faults, "interval too large, give --ri"),
+        Cause::NotCreated => print_not_created(faults, name),
+        Cause::NotWritten(count) => print_not_written(faults, name, count),
+        Cause::OutOfMemory => print_out_of_memory(faults),
+    }
 }
 
 /// Prints why a command stopped, as one line.
 pub(crate) fn print_refusal<E: Sink>(faults: &mut E, refusal: &Refusal<'_>)
     ensures { GrewBy (Printed (cause_line refusal.now.name.now refusal.now.cause)) (E.history faults.old) (E.history faults.new) }
 {
-    print_line(faults, &line_of_cause(refusal.name, refusal.cause))
+    print_cause(faults, refusal.name, refusal.cause);
 }
 
 /// Prints the line of what came of a command, if it has one.

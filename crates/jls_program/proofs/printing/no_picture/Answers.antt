@@ -1,6 +1,0 @@
-use Rattle.std.proofs.Common.{ℕ, ◌∙◌, ap}
-use Rattle.jls_program.specs.FaultLines.{no_picture_line}
-use Rattle.jls_program.proofs.printing.no_picture.Goals as goal
-
-pub returns : goal.returns
-returns c = ap (λ (n : ℕ). no_picture_line c.args.name.now n c.args.offset) (c.from.ensures ∙ c.number.ensures)
