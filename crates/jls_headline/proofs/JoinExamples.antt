@@ -22,7 +22,7 @@ use Rattle.jls_commands.specs.AllInputs.{IsTaken}
 use Rattle.jls_commands.specs.Joining.{JoinIsDone}
 use Rattle.jls_station.specs.Reading.{IsRead, AreBytes}
 use Rattle.jls_station.specs.declared.input.ReadStop.TheVariants.{Whole}
-use Rattle.jls_commands.specs.declared.outcome.Outcome.TheVariants.{Done}
+use Rattle.jls_commands.specs.Outcomes.{finished}
 use Rattle.jls_station.proofs.OneInput.{empty_goes_on}
 use Rattle.jls_commands.specs.WritingFiles.{done}
 use Rattle.jls_commands.specs.declared.writing.Format.TheVariants.{Pnm}
@@ -190,7 +190,7 @@ module _ (a b : ReadCopy) (ra : CopyReads first a) (rb : CopyReads second b) whe
     some_bytes : 0 < length (pnm (picture_of both))
     some_bytes = subst (λ (p : WholePicture). 0 < length (pnm p)) (sym gives.1) (omega arith)
 
-    writes : WritesWhatWasJoined joining Pnm (Done true true) ((opened (111 ∷ []) ∷ gave 4096 (text both) ∷ gave 4096 [] ∷ []) ++ handing)
+    writes : WritesWhatWasJoined joining Pnm (finished true true) ((opened (111 ∷ []) ∷ gave 4096 (text both) ∷ gave 4096 [] ∷ []) ++ handing)
     writes = record {
       out = 112 ∷ [];
       name = 111 ∷ [];

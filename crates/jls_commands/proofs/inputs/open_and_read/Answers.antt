@@ -5,7 +5,7 @@ use Rattle.jls_commands.proofs.inputs.open_and_read.Goals as goal
 pub returns-in-Err-clause-stopped : goal.returns-in-Err-clause-stopped
 returns-in-Err-clause-stopped g c =
     let history = g.D.Device.history in
-    not_opened_at_all None (history c.args.desk.now) (history c.open_input.new.self) (history c.open_input.new.self) c.args.name.now [] c.in-Err.ensures.failed
+    not_opened_at_all None (history c.args.desk.now) (history c.open_input.new.self) (history c.open_input.new.self) c.args.name [] c.in-Err.ensures.failed
 
 pub returns-in-Ok-read_input-clause-taken : goal.returns-in-Ok-read_input-clause-taken
 returns-in-Ok-read_input-clause-taken g c =
@@ -15,4 +15,4 @@ returns-in-Ok-read_input-clause-taken g c =
 pub returns-in-Err-read_input-clause-stopped : goal.returns-in-Err-read_input-clause-stopped
 returns-in-Err-read_input-clause-stopped g c =
     let history = g.D.Device.history in
-    opened_and_refused None (history c.args.desk.now) (history c.open_input.new.self) (history c.read_input.new.device) c.args.name.now c.in-Err-read_input.fault [] c.in-Ok.ensures.opened c.in-Err-read_input.ensures.refused
+    opened_and_refused None (history c.args.desk.now) (history c.open_input.new.self) (history c.read_input.new.device) c.args.name c.in-Err-read_input.fault [] c.in-Ok.ensures.opened c.in-Err-read_input.ensures.refused

@@ -13,12 +13,12 @@ pub returns-in-Err-clause-stopped : goal.returns-in-Err-clause-stopped
 returns-in-Err-clause-stopped g c = λ before h.
     let history = g.D.Device.history in
     let mid = history c.open_input.new.self in
-    not_opened_at_all c.args.room.now.source (history c.args.desk.now) mid mid c.args.name.now before c.in-Err.ensures.failed
+    not_opened_at_all c.args.room.now.source (history c.args.desk.now) mid mid c.args.name before c.in-Err.ensures.failed
 
 pub returns-in-Err-read_form-clause-stopped : goal.returns-in-Err-read_form-clause-stopped
 returns-in-Err-read_form-clause-stopped g c = λ before h.
     let history = g.D.Device.history in
-    opened_and_refused c.args.room.now.source (history c.args.desk.now) (history c.open_input.new.self) (history c.read_form.new.device) c.args.name.now c.in-Err-read_form.fault before c.in-Ok.ensures.opened c.in-Err-read_form.ensures.refused
+    opened_and_refused c.args.room.now.source (history c.args.desk.now) (history c.open_input.new.self) (history c.read_form.new.device) c.args.name c.in-Err-read_form.fault before c.in-Ok.ensures.opened c.in-Err-read_form.ensures.refused
 
 pub returns-in_ok-station-in-Ok-Text-clause-joined : goal.returns-in_ok-station-in-Ok-Text-clause-joined
 returns-in_ok-station-in-Ok-Text-clause-joined g c =
@@ -40,10 +40,10 @@ returns-in_err-station-in-Ok-Text-clause-stopped g c = λ before h.
     let new = history c.read_form.new.device in
     let bytes = c.read_form.new.text.items in
     let form = subst (λ (f : InputForm). GrewBy (IsForm source bytes f) mid new) c.in-Ok-Text.field-0-is c.in-Ok-Text.ensures.form in
-    let cause = c.in_err-station-in-Ok-Text.field-0.0 in
+    let refusal = c.in_err-station-in-Ok-Text.field-0.0 in
     let p = err_from_is_err_and c.from_residual.result c.from_residual.ensures.1 in
-    rw (p.1, p.2) (text_stops source (history c.args.desk.now) mid new c.args.name.now c.in-Ok.ensures.opened c.args.held before h bytes cause form
-    (subst (λ (t : List ℕ). CantJoinText c.args.held t cause) c.deref.ensures.value c.in_err-station-in-Ok-Text.ensures.refused))
+    rw (p.1, p.2) (text_stops source (history c.args.desk.now) mid new c.args.name.now c.in-Ok.ensures.opened c.args.held before h bytes refusal c.in_err-station-in-Ok-Text.ensures.named form
+    (subst (λ (t : List ℕ). CantJoinText c.args.held t refusal) c.deref.ensures.value c.in_err-station-in-Ok-Text.ensures.refused))
 
 pub returns-in_ok-station-in-Ok-Copy-clause-joined : goal.returns-in_ok-station-in-Ok-Copy-clause-joined
 returns-in_ok-station-in-Ok-Copy-clause-joined g c =
@@ -67,4 +67,14 @@ returns-in_err-station-in-Ok-Copy-clause-stopped g c = λ before h.
     let form : GrewBy (ReadsGive source read) mid new =
     subst (λ (f : InputForm). GrewBy (IsForm source c.read_form.new.text.items f) mid new) c.in-Ok-Copy.field-0-is c.in-Ok-Copy.ensures.form in
     let p = err_from_is_err_and c.from_residual-in_err-station-in-Ok-Copy.result c.from_residual-in_err-station-in-Ok-Copy.ensures.1 in
-    rw (p.1, p.2) (given_stops source (history c.args.desk.now) mid new c.args.name.now c.in-Ok.ensures.opened c.args.held before h read c.in_err-station-in-Ok-Copy.field-0.0 form c.in_err-station-in-Ok-Copy.ensures.refused)
+    rw (p.1, p.2) (given_stops source (history c.args.desk.now) mid new c.args.name.now c.in-Ok.ensures.opened c.args.held before h read c.in_err-station-in-Ok-Copy.field-0.0 c.in_err-station-in-Ok-Copy.ensures.named form c.in_err-station-in-Ok-Copy.ensures.refused)
+
+pub returns-in_err-station-in-Ok-Text-clause-named : goal.returns-in_err-station-in-Ok-Text-clause-named
+returns-in_err-station-in-Ok-Text-clause-named g c =
+    let p = err_from_is_err_and c.from_residual.result c.from_residual.ensures.1 in
+    rw (p.1, p.2) c.in_err-station-in-Ok-Text.ensures.named
+
+pub returns-in_err-station-in-Ok-Copy-clause-named : goal.returns-in_err-station-in-Ok-Copy-clause-named
+returns-in_err-station-in-Ok-Copy-clause-named g c =
+    let p = err_from_is_err_and c.from_residual-in_err-station-in-Ok-Copy.result c.from_residual-in_err-station-in-Ok-Copy.ensures.1 in
+    rw (p.1, p.2) c.in_err-station-in-Ok-Copy.ensures.named
