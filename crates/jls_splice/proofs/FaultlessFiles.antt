@@ -18,7 +18,9 @@ use Rattle.jls_marker.specs.declared.fault.MarkerFault.{MarkerFault}
 use Rattle.jls_copy.proofs.OneCourse.{one_course}
 use Rattle.jls_copy.proofs.BytesDecide.{one_outcome}
 use Rattle.jls_copy.proofs.ScansOfCourse.{HasScan, course_has}
-use Rattle.jls_splice.specs.Faultless.{HasLines, EndsWell, IsFaultless, IsDead, IsAnswerWithoutFrame}
+use Rattle.jls_values.specs.Shape.{PictureShape}
+use Rattle.jls_splice.specs.Faultless.{HasLines, GivesEachLine, EndsWell, IsFaultless, IsDead, IsEachLineRead, IsAnswerWithoutFrame}
+use Rattle.jls_splice.proofs.LinesRead.{lines_given, lines_read}
 
 -- Lists ------------------------------------------------------------------------------------------------------------
 
@@ -52,8 +54,8 @@ none_faulty _ _ scans all (faulty p ps r rs is rest) = absurd (lines_or_fault p 
 -- What was read ----------------------------------------------------------------------------------------------------
 
 module _ (law : RecordsAreOfFaultyPieces) (bytes : List ℕ) (read : ReadCopy) (h : CopyReads bytes read) where
-  pub read_faultless : read.piece_count ≡ 0 → EndsWell read.ended → IsFaultless bytes
-  read_faultless none ends =
+  pub read_faultless : read.piece_count ≡ 0 → EndsWell read.ended → IsEachLineRead read.partial → IsFaultless bytes
+  read_faultless none ends lines =
       let r = law bytes read h in
       record {
         course = h.course;
@@ -62,15 +64,21 @@ module _ (law : RecordsAreOfFaultyPieces) (bytes : List ℕ) (read : ReadCopy) (
         framed = h.framed;
         ends = subst EndsWell h.ended_is ends;
         each = all_read (pieces h.course) r.0 r.1 (sym r.3 ∙ none);
+        whole = lines_given bytes read h lines;
       }
 
-  pub faultless_read : AllByRecursion (λ b. b < 256) bytes → IsFaultless bytes → (read.piece_count ≡ 0) × EndsWell read.ended
+  same_shape : (f : IsFaultless bytes) → f.course ≡ h.course → f.shape ≡ h.shape
+  same_shape f e = (let framed : Some f.shape ≡ Some h.shape = sym f.framed ∙ ap (λ (c : Course). c.headers.frame) e ∙ h.framed in cc)
+
+  pub faultless_read : AllByRecursion (λ b. b < 256) bytes → IsFaultless bytes
+      → (read.piece_count ≡ 0) × EndsWell read.ended × IsEachLineRead read.partial
   faultless_read low f =
       let r = law bytes read h in
       let e : f.course ≡ h.course = one_course bytes f.course h.course f.is_course h.is_course in
       let each : AllByRecursion HasLines (pieces h.course) = subst (λ (c : Course). AllByRecursion HasLines (pieces c)) e f.each in (
         r.3 ∙ none_faulty (pieces h.course) r.0 (course_has bytes h.course low h.is_course) each r.1,
         subst EndsWell (sym h.ended_is) (subst (λ (c : Course). EndsWell c.end) e f.ends),
+        lines_read bytes read h low (subst (λ (s : PictureShape). GivesEachLine s h.course) (same_shape f e) (subst (GivesEachLine f.shape) e f.whole)),
       )
 
 -- what holds of the file that was fed, if there is one
@@ -107,6 +115,7 @@ dead_if_done stay (Some front) done t h has_fault = λ more low f.
       framed = subst (λ (c : Course). c.headers.frame ≡ Some f.shape) e f.framed;
       ends = subst (λ (c : Course). EndsWell c.end) e f.ends;
       each = subst (λ (c : Course). AllByRecursion HasLines (pieces c)) e f.each;
+      whole = subst (GivesEachLine f.shape) e f.whole;
     })
 
 -- Answers ----------------------------------------------------------------------------------------------------------

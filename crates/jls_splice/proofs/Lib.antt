@@ -1,5 +1,6 @@
 mod Paths
 pub mod Fronts
+mod LinesRead
 mod FaultlessFiles
 mod Searching
 mod Lengths

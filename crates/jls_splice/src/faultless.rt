@@ -5,6 +5,7 @@ ghost use Rattle.std.specs.List.{AllByRecursion};
 ghost use Rattle.jls_copy.specs.CopyReads.{CopyReads};
 ghost use Rattle.jls_splice.specs.Faultless.{EndsWell, IsFaultless, IsDead, IsAnswerWithoutFrame};
 
+use crate::lines::is_each_line_read;
 use jls_copy::{
     CopyFault, CopyRead, CopyReader, End, final_ends_stay, fronts_stay_broken,
     records_are_of_faulty_pieces,
@@ -22,7 +23,8 @@ fn ends_well(end: End) -> bool
     }
 }
 
-/// Whether what was read is a file without a fault.
+/// Whether what was read is a file without a fault: no fault of the headers ended it, no piece of it is faulty, and each line of its frame
+/// is read.
 pub fn is_read_faultless(read: &CopyRead) -> bool
     ensures faultless { result ≡ true → (file : List ℕ) → CopyReads file read.now → IsFaultless file }
     ensures faulty { result ≡ false
@@ -32,7 +34,11 @@ pub fn is_read_faultless(read: &CopyRead) -> bool
     if read.piece_count() != 0 {
         return false;
     }
-    ends_well(read.ended())
+    let well_ended = ends_well(read.ended());
+    if !well_ended {
+        return false;
+    }
+    is_each_line_read(read.partial())
 }
 
 /// The answer where no frame was taken. The only refusal is out of memory.

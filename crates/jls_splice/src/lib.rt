@@ -5,6 +5,7 @@ mod copies;
 mod faultless;
 mod feeding;
 mod laws;
+mod lines;
 mod looking;
 mod path;
 mod short;
