@@ -1,20 +1,25 @@
 -- A file of two lines, two copies of it that are damaged at one place each, and their parts: the file is a splice of them without a fault.
--- What doesn't begin with SOI has one, and can be given up.
-use Rattle.std.proofs.Common.{◌≡◌, ℕ, zero, suc, ◌<◌, List, [], ◌∷◌, Some, refl, subst, lit<, arith}
+-- Headers alone have one, since no line is read. What doesn't begin with SOI has one, and can be given up.
+use Rattle.std.proofs.Common.{◌≡◌, ℕ, zero, suc, ◌<◌, List, [], ◌∷◌, Some, length, refl, sym, ap, ◌∙◌, subst, lit<, arith, inl, inr}
 use Rattle.std.specs.Prelude.{get_or}
+use Rattle.jls_values.specs.Shape.{PictureShape}
+use Rattle.jls_partial.specs.Reading.{reading_of}
 use Rattle.jls_marker.specs.ComponentIndex.{index_of}
 use Rattle.jls_marker.specs.MarkerCodes.{has_segment}
 use Rattle.jls_marker.specs.HeaderState.{HeaderState, no_headers}
 use Rattle.jls_marker.specs.Headers.{headers_after}
 use Rattle.jls_marker.specs.Scan.{Scan}
 use Rattle.jls_marker.specs.declared.fault.MarkerFault.TheVariants as fault
+use Rattle.jls_copy.specs.Numbers.{Interval}
+use Rattle.jls_copy.specs.Pieces.{FoundPiece}
 use Rattle.jls_copy.specs.ScanData.{ClosedPiece}
 use Rattle.jls_copy.specs.Course.{by_marker, CopyUnit, segment, scan, Course, IsCourse, with_soi, with_no_marker, without_units, at_eoi, for_good}
 use Rattle.jls_copy.specs.declared.end.End.TheVariants.{Eoi, Header}
 use Rattle.jls_copy.proofs.OneCourse.{one_course}
+use Rattle.jls_headline.proofs.Members.{none_in}
 use Rattle.jls_headline.proofs.TwoLineExamples.{shape, bits_8, frame_payload, scan_payload, pieces_read}
 use Rattle.jls_parts.specs.Parts.{Part, Same, Differ, made, AreParts, IsSplice}
-use Rattle.jls_splice.specs.Faultless.{EndsWell, IsFaultless}
+use Rattle.jls_splice.specs.Faultless.{Gives, GivesEachLine, EndsWell, IsFaultless}
 use Rattle.jls_splice_laws.specs.Searches.{done, Searched, along, given_up}
 
 -- one scan, with a restart interval for each line
@@ -107,7 +112,20 @@ is_course =
       ),
     )
 
--- it has no fault: its pieces read as the samples 0 and 255
+-- its pieces read as the samples 0 and 255, and these are its lines
+abbrev first : FoundPiece
+first = record { scan = 0; plan = plan; number = Interval 0; offset = 31; bytes = 0x80 ∷ [] }
+
+abbrev second : FoundPiece
+second = record { scan = 0; plan = plan; number = Interval 1; offset = 34; bytes = 0x40 ∷ [] }
+
+each_line : GivesEachLine shape course
+each_line zero zero k l = (0 ∷ [], inl (first, (0, lit< tt, refl), (0 ∷ []) ∷ [], pieces_read.zero_read, (0, lit< tt, refl)))
+each_line zero (suc zero) k l = (255 ∷ [], inl (second, (1, lit< tt, refl), (255 ∷ []) ∷ [], pieces_read.largest_read, (0, lit< tt, refl)))
+each_line zero (suc (suc line)) k l = absurd (omega (arith, l))
+each_line (suc component) line k l = absurd (omega (arith, k))
+
+-- it has no fault
 file_is_faultless : IsFaultless file
 file_is_faultless = record {
   course = course;
@@ -116,7 +134,38 @@ file_is_faultless = record {
   framed = refl;
   ends = tt;
   each = (((0 ∷ []) ∷ [], pieces_read.zero_read), (((255 ∷ []) ∷ [], pieces_read.largest_read), tt));
+  whole = each_line;
 }
+
+-- Headers alone ------------------------------------------------------------------------------------------------------
+
+-- SOI, SOF55 and EOI
+abbrev no_scan : List ℕ
+no_scan = 0xFF ∷ 0xD8 ∷ 0xFF ∷ 0xF7 ∷ 0 ∷ 0x0B ∷ 8 ∷ 0 ∷ 2 ∷ 0 ∷ 1 ∷ 1 ∷ 1 ∷ 0x11 ∷ 0 ∷ 0xFF ∷ 0xD9 ∷ []
+
+abbrev bare : Course
+bare = record { begin = 2; units = segment 0 0xF7 frame_payload ∷ []; headers = framed; end = Eoi 15 }
+
+is_bare : IsCourse no_scan bare
+unfolding headers_after index_of has_segment
+is_bare =
+    with_soi 0 _ (segment 0 0xF7 frame_payload ∷ []) framed (Eoi 15) (
+      framed,
+      _,
+      refl,
+      ((refl, lit< tt), refl),
+      (refl, for_good framed 15 (0xFF ∷ 0xD9 ∷ []) (Eoi 15) (at_eoi framed 15 0 [] refl)),
+    )
+
+-- there is a frame, and no piece is faulty; but no line is read, and that is a fault
+no_line_is_read : IsFaultless no_scan → ⊥
+no_line_is_read f =
+    let e = one_course no_scan f.course bare f.is_course is_bare in
+    let same : Some shape ≡ Some f.shape = sym (ap (λ (c : Course). c.headers.frame) e) ∙ f.framed in
+    let s : shape ≡ f.shape = cc in
+    let g = f.whole 0 0 (subst (λ (t : PictureShape). 0 < length t.ids) s (lit< tt)) (subst (λ (t : PictureShape). 0 < t.height) s (lit< tt)) in
+    let none : Gives bare (reading_of 0 0 g.0) = subst (λ c. Gives c (reading_of 0 0 g.0)) e g.1 in
+    elim none [ inl (p, m, lines, reads, has) ↦ none_in p m | inr (p, m, head, is, has) ↦ none_in p m ]
 
 -- What doesn't begin with SOI ----------------------------------------------------------------------------------------
 

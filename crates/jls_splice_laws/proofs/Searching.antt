@@ -12,7 +12,7 @@ use Rattle.jls_headline.proofs.Members.{is_first, none_in, first_or_rest, all_at
 use Rattle.jls_parts.proofs.Members.{in_map, of_map, in_flat_map, of_flat_map}
 use Rattle.jls_parts.specs.Parts.{Part, Same, Differ, HasWays, IsSplice, splices}
 use Rattle.jls_parts.specs.SpliceLaws.{SplicesAreListed}
-use Rattle.jls_splice.specs.Faultless.{HasLines, EndsWell, IsFaultless}
+use Rattle.jls_splice.specs.Faultless.{HasLines, GivesEachLine, EndsWell, IsFaultless}
 use Rattle.jls_splice_laws.specs.Searches.{CanBeGivenUp, broken, done, Searched, found, has_fault, along, no_way, last_way, way_again, given_up}
 use Rattle.jls_splice_laws.specs.Searches.{SearchesFindSplices, SearchesLoseNothing}
 
@@ -103,6 +103,7 @@ module _ (stay : FrontsStayBroken) (ends_stay : FinalEndsStay) where
         framed = subst (λ (c : Course). c.headers.frame ≡ Some f.shape) e f.framed;
         ends = subst (λ (c : Course). EndsWell c.end) e f.ends;
         each = subst (λ (c : Course). AllByRecursion HasLines (pieces c)) e f.each;
+        whole = subst (GivesEachLine f.shape) e f.whole;
       })
 
   is_found : (front : List ℕ) (parts : List Part) (files : List (List ℕ)) → Searched front parts files → (bytes : List ℕ)

@@ -12,7 +12,7 @@ use Rattle.jls_splice.specs.Search.{HasEachSplice, files_of}
 use Rattle.jls_splice.specs.SearchLaws.{SearchesComeToEachSplice}
 use Rattle.jls_splice_laws.specs.SpliceLaws.{FaultlessSplicesAreTaken, SearchedFilesAreTaken, SearchedSplicesGiveNoOther, SplicesGiveNoOther, WholeSplicesGiveNoOther}
 use Rattle.jls_splice_laws.specs.Taken.{FilesTaken, AllTaken, SearchTaken, AreOfShape, none_left, taken, passed_over}
-use Rattle.jls_splice_laws.proofs.WholeFiles.{whole_files_survive}
+use Rattle.jls_splice_laws.proofs.WholeFiles.{whole_files_are_faultless, whole_files_survive}
 
 -- a file of the shape is among those that are taken
 kept_of_shape : (shape : PictureShape) (files more : List (List ℕ)) (file : List ℕ) → AreOfShape shape files more
@@ -53,10 +53,9 @@ splices_give_no_other never same copies parts shape files t station took = (
 
 pub whole_splices_give_no_other : NeverAnotherPicture → WholeSplicesGiveNoOther
 whole_splices_give_no_other never copies parts shape files t pic is file whole splice station took settled =
-    let f = whole.faultless in
-    let inside : Contains files file = faultless_splices_are_taken copies parts shape files t file whole.bytes splice f in
+    let inside : Contains files file = faultless_splices_are_taken copies parts shape files t file whole.bytes splice (whole_files_are_faultless pic file whole) in
     never pic is station files took
-    (λ c y l k. (file, inside, whole_files_survive pic file whole.bytes whole.reads (f.course, f.is_course, f.each) c y l k)) settled
+    (λ c y l k. (file, inside, whole_files_survive pic file whole.bytes whole.reads (whole.course, whole.is_course, whole.each) c y l k)) settled
 
 -- Of a search ------------------------------------------------------------------------------------------------------
 
@@ -83,6 +82,6 @@ searched_files_are_taken law copies parts found is_used_up shape files t =
 pub searched_splices_give_no_other : SearchesComeToEachSplice → NeverAnotherPicture → SearchedSplicesGiveNoOther
 searched_splices_give_no_other law never copies parts found shape files t pic is file whole splice =
     let all = (searched_files_are_taken law copies parts found false shape files t).1 refl in (
-      faultless_splices_are_taken copies parts shape files all file whole.bytes splice whole.faultless,
+      faultless_splices_are_taken copies parts shape files all file whole.bytes splice (whole_files_are_faultless pic file whole),
       whole_splices_give_no_other never copies parts shape files all pic is file whole splice,
     )

@@ -17,15 +17,15 @@ use Rattle.jls_copy.specs.CutPieces.{closed_by_input, last_piece, IsHeadAt}
 use Rattle.jls_copy.specs.declared.end.End.{End}
 use Rattle.jls_copy.proofs.OneCourse.{one_course}
 use Rattle.jls_copy.proofs.ScansOfCourse.{HasScan, course_has}
-use Rattle.jls_picture.specs.Picture.{WholePicture}
+use Rattle.jls_picture.specs.Picture.{WholePicture, line_of}
 use Rattle.jls_file.specs.WrittenFile.{interval_lines}
 use Rattle.jls_file_law.specs.Covering.{IsLineOf}
 use Rattle.jls_headline.specs.PictureLines.{placed_in_interval, picture_reading}
 use Rattle.jls_headline.specs.Gives.{PieceGives, CourseGives}
 use Rattle.jls_headline.specs.Damaged.{PiecesAre}
 use Rattle.jls_headline.specs.Survives.{SomePieceIs, ReadsWithLine, SurvivesInUnit, Survives}
-use Rattle.jls_splice.specs.Faultless.{HasLines}
-use Rattle.jls_splice_laws.specs.WholeFiles.{WholeFilesSurvive}
+use Rattle.jls_splice.specs.Faultless.{HasLines, Gives}
+use Rattle.jls_splice_laws.specs.WholeFiles.{WholeFilesAreFaultless, WholeFilesSurvive}
 use Rattle.jls_headline.proofs.Members.{is_first, in_rest, none_in, first_or_rest, all_at, all_front, all_back}
 use Rattle.jls_splice_laws.proofs.Lists.{all_from}
 use Rattle.jls_splice_laws.proofs.Rows.{are_interval_lines, has_line}
@@ -253,3 +253,26 @@ whole_files_survive pic file low reads_as no_fault component line l k = survives
     survives =
         let given = (reads_as.readings r).1 (l, k, refl) in
         by (subst (λ d. CourseGives d r) (one_course file given.0 c given.1 is) given.2)
+
+-- Its frame --------------------------------------------------------------------------------------------------------
+
+-- what a course gives, as jls_splice has it
+given_by : (c : Course) (r : Reading) → CourseGives c r → Gives c r
+given_by c r (inl (p, m, g)) = inl (p, m, g.lines, g.reads, g.among)
+given_by c r (inr (p, m, g)) = inr (p, m, g.head, g.is_head, g.among)
+
+pub whole_files_are_faultless : WholeFilesAreFaultless
+whole_files_are_faultless pic file w = record {
+  course = w.course;
+  is_course = w.is_course;
+  shape = pic.shape;
+  framed = ap (λ (d : Course). d.headers.frame) (one_course file w.course w.reads.shape.0 w.is_course w.reads.shape.1) ∙ w.reads.shape.2;
+  ends = w.ends;
+  each = w.each;
+  whole = λ component line k l.
+      let r = picture_reading pic component line in
+      let given = (w.reads.readings r).1 (k, l, refl) in (
+        line_of pic component line,
+        given_by w.course r (subst (λ d. CourseGives d r) (one_course file given.0 w.course given.1 w.is_course) given.2),
+      );
+}

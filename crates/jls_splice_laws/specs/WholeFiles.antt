@@ -6,17 +6,24 @@ use Rattle.jls_copy.specs.Pieces.{pieces}
 use Rattle.jls_picture.specs.Picture.{WholePicture}
 use Rattle.jls_headline.specs.ReadsAs.{ReadsAs}
 use Rattle.jls_headline.specs.Survives.{Survives}
-use Rattle.jls_splice.specs.Faultless.{HasLines, IsFaultless}
+use Rattle.jls_splice.specs.Faultless.{HasLines, EndsWell, IsFaultless}
 
 -- each piece of the file reads as lines
 abbrev pub NoPieceIsFaulty : List ℕ → Type 0
 NoPieceIsFaulty file = (c : Course) × IsCourse file c × AllByRecursion HasLines (pieces c)
 
--- the bytes are a file without a fault that reads as the picture
+-- the bytes are a file that reads as the picture, no fault of the headers ended it, and no piece of it is faulty
 pub record IsWholeFile (pic : WholePicture) (file : List ℕ) : Type 0 where
   pub bytes : AllByRecursion (λ b. b < 256) file
   pub reads : ReadsAs file pic
-  pub faultless : IsFaultless file
+  pub course : Course
+  pub is_course : IsCourse file course
+  pub ends : EndsWell course.end
+  pub each : AllByRecursion HasLines (pieces course)
+
+-- Such a file is one without a fault: each line of its frame is read
+abbrev pub WholeFilesAreFaultless : Type 0
+WholeFilesAreFaultless = (pic : WholePicture) (file : List ℕ) → IsWholeFile pic file → IsFaultless file
 
 -- Each line of a picture survives in a file that reads as it and has no faulty piece, whatever ended the file
 abbrev pub WholeFilesSurvive : Type 0

@@ -2,14 +2,16 @@
 //! law.
 
 ghost use Rattle.jls_splice_laws.specs.SpliceLaws.{FaultlessSplicesAreTaken, SearchedFilesAreTaken, SearchedSplicesGiveNoOther, SplicesGiveNoOther, WholeSplicesGiveNoOther};
-ghost use Rattle.jls_splice_laws.specs.WholeFiles.{WholeFilesSurvive};
+ghost use Rattle.jls_splice_laws.specs.WholeFiles.{WholeFilesAreFaultless, WholeFilesSurvive};
 
 use jls_headline::{never_another_picture, same_copies_give_the_picture};
 use jls_splice::searches_come_to_each_splice;
 
-/// A law: each line of a picture survives in a file that reads as it and has no faulty piece.
+/// A law: each line of a picture survives in a file that reads as it and has no faulty piece. If no fault of its headers ended it either,
+/// it is a file without a fault.
 pub fn whole_files_survive()
-    ensures { WholeFilesSurvive }
+    ensures lines { WholeFilesSurvive }
+    ensures faultless { WholeFilesAreFaultless }
 {}
 
 /// A law: where the tries of the search were enough, each splice without a fault is among the files taken. What is taken of what

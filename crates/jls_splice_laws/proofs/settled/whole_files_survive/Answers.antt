@@ -1,5 +1,8 @@
-use Rattle.jls_splice_laws.proofs.WholeFiles.{whole_files_survive}
+use Rattle.jls_splice_laws.proofs.WholeFiles.{whole_files_are_faultless, whole_files_survive}
 use Rattle.jls_splice_laws.proofs.settled.whole_files_survive.Goals as goal
 
-pub returns : goal.returns
-returns c = whole_files_survive
+pub returns-clause-lines : goal.returns-clause-lines
+returns-clause-lines c = whole_files_survive
+
+pub returns-clause-faultless : goal.returns-clause-faultless
+returns-clause-faultless c = whole_files_are_faultless
