@@ -1,4 +1,4 @@
--- The order in which choices are tried. It concerns no caller.
+-- The order in which choices are tried.
 use Rattle.std.specs.Prelude.{◌≡◌, ℕ, ◌<◌, List, [], ◌∷◌, ◌⊎◌}
 
 -- the choices begin with the path, or stand behind all that do

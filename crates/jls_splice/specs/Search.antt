@@ -1,5 +1,5 @@
 -- What a search has found, and what it has still to come to.
-use Rattle.std.specs.Prelude.{◌≡◌, ℕ, ◌-◌, ◌^◌, ◌<◌, ◌≤◌, Bool, true, false, List, length, map, ◌⊎◌}
+use Rattle.std.specs.Prelude.{◌≡◌, ℕ, ◌-◌, ◌^◌, ◌<◌, ◌≤◌, Bool, true, false, List, length, map, max, ◌⊎◌}
 use Rattle.std.specs.List.{AllByRecursion, Contains}
 use Rattle.std.specs.declared.vec.Vec.{Vec}
 use Rattle.std.specs.declared.alloc.Global.{Global}
@@ -7,6 +7,7 @@ use Rattle.jls_parts.specs.Parts.{Part, HasWays, IsSplice}
 use Rattle.jls_splice.specs.Choices.{IsPath, IsWhole, front_of}
 use Rattle.jls_splice.specs.Faultless.{IsFaultless}
 use Rattle.jls_splice.specs.Order.{IsToCome, IsBehind}
+use Rattle.jls_splice.specs.declared.whole_search.WholeSearch.{WholeSearch}
 use Rattle.jls_splice.specs.declared.looking.Sight.{Sight}
 use Rattle.jls_splice.specs.declared.looking.Sight.TheVariants.{Dead, Open, Found}
 
@@ -38,7 +39,7 @@ pub record CameTo (parts : List Part) (found : List (List ℕ)) (is_used_up : Bo
   pub files : MakeFiles parts found
   pub all : is_used_up ≡ false → HasEachSplice parts (files_of parts found)
 
--- Inside the crate -------------------------------------------------------------------------------------------------
+-- A search that goes on ---------------------------------------------------------------------------------------------
 
 -- one choice for each part, and together a file without a fault
 pub record MakesFile (parts : List Part) (choices : List ℕ) : Type 0 where
@@ -61,6 +62,23 @@ pub record IsOver (parts : List Part) (found : List (List ℕ)) : Type 0 where
 abbrev pub GoesOn : List Part → List ℕ → List (List ℕ) → Bool → Type 0
 GoesOn parts path found true = StandsAt parts path found
 GoesOn parts path found false = IsOver parts found
+
+-- A search over the parts has come so far: each splice without a fault is one that it found, or is still to come
+abbrev pub IsSearch : List Part → WholeSearch → Type 0
+IsSearch parts s = GoesOn parts s.path.items (lists_of s.splices.items) s.goes_on × (length (lists_of s.splices.items) ≤ 64)
+
+-- it can go on: there is more to try, fewer tries than these were made, and fewer than 64 files were found
+abbrev pub CanGoOn : WholeSearch → ℕ → Type 0
+CanGoOn s limit = (s.goes_on ≡ true) × (s.tries < limit) × (length (lists_of s.splices.items) < 64)
+
+-- it went on up to so many tries in all: it has forgotten none, and has made one at least, where it could go on
+pub record GoesFrom (old new : WholeSearch) (limit : ℕ) : Type 0 where
+  pub tries : old.tries ≤ new.tries
+  pub files : length (lists_of old.splices.items) ≤ length (lists_of new.splices.items)
+  pub within : new.tries ≤ max old.tries limit
+  pub some : CanGoOn old limit → old.tries < new.tries
+
+-- Inside the crate -------------------------------------------------------------------------------------------------
 
 -- what is seen of a path
 abbrev pub IsSeen : List Part → List ℕ → Sight → Type 0

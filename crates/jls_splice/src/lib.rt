@@ -16,4 +16,4 @@ pub use faultless::{is_dead, is_faultless, is_read_faultless};
 pub use feeding::feed_front;
 pub use laws::{parts_can_be_searched, searches_come_to_each_splice};
 pub use short::are_short;
-pub use whole_search::{MOST_FOUND, Searched, search};
+pub use whole_search::{MOST_FOUND, Searched, WholeSearch, search};

@@ -1,11 +1,12 @@
 //! The whole search.
 
-ghost use Rattle.std.specs.Prelude.{◌≡◌, ◌+◌, ◌≤◌, ◌⊎◌, ◌∷◌, ◌++◌, [], true, false, length, IfOk, OnOk};
+ghost use Rattle.std.specs.Prelude.{◌≡◌, ◌↔◌, List, ◌+◌, ◌≤◌, ◌⊎◌, ◌∷◌, ◌++◌, [], true, false, length, IsTrue, IfOk, OnOk};
 ghost use Rattle.std.specs.List.{AllByRecursion};
+ghost use Rattle.jls_parts.specs.Parts.{Part as SpecPart};
 ghost use Rattle.jls_parts.specs.PartsOf.{parts_of};
 ghost use Rattle.jls_splice.specs.Choices.{HasSomeWay, front_of};
 ghost use Rattle.jls_splice.specs.Faultless.{IsFaultless};
-ghost use Rattle.jls_splice.specs.Search.{IsShort, HasEachSplice, MakeFiles, files_of, lists_of, StandsAt, GoesOn};
+ghost use Rattle.jls_splice.specs.Search.{IsShort, IsSearch, CanGoOn, GoesFrom, CameTo, HasEachSplice, MakeFiles, files_of, lists_of, StandsAt, GoesOn};
 
 use crate::looking::{Sight, look};
 use crate::path::{descend, follow_same, turn};
@@ -46,7 +47,8 @@ fn pass_found(
     requires whole { length path.old.items ≡ length (parts_of parts.now) }
     requires faultless { IsFaultless (front_of (parts_of parts.now) path.old.items) }
     ensures next { IfOk result (λ more. GoesOn (parts_of parts.now) path.new.items (lists_of found.new.items) more) }
-    ensures count { IfOk result (λ more. length (lists_of found.new.items) ≤ length (lists_of found.old.items) + 1) }
+    ensures count { IfOk result (λ more. (length (lists_of found.old.items) ≤ length (lists_of found.new.items))
+        × (length (lists_of found.new.items) ≤ length (lists_of found.old.items) + 1)) }
 {
     take_found(alloc, path, found)?;
     turn(parts, path)
@@ -63,7 +65,8 @@ fn try_next(
     requires short { IsShort (parts_of parts.now) }
     requires stands { StandsAt (parts_of parts.now) path.old.items (lists_of found.old.items) }
     ensures next { IfOk result (λ more. GoesOn (parts_of parts.now) path.new.items (lists_of found.new.items) more) }
-    ensures count { IfOk result (λ more. length (lists_of found.new.items) ≤ length (lists_of found.old.items) + 1) }
+    ensures count { IfOk result (λ more. (length (lists_of found.old.items) ≤ length (lists_of found.new.items))
+        × (length (lists_of found.new.items) ≤ length (lists_of found.old.items) + 1)) }
 {
     let sight = look(alloc, parts, path)?;
     match sight {
@@ -76,9 +79,76 @@ fn try_next(
     }
 }
 
-/// Searches the splices of some copies for files without a fault, depth first, part by part. Ways are tried in the order of the copies,
-/// and ways with equal bytes once. Choices whose front no file without a fault begins with are given up. Each front and each file that is
-/// tried counts.
+/// A search that goes on as far as its caller wants, depth first, part by part. Ways are tried in the order of the copies, and ways with
+/// equal bytes once. Choices whose front no file without a fault begins with are given up. Each front and each file that is tried counts.
+#[derive(Drop)]
+pub struct WholeSearch {
+    /// The splices without a fault that it has found, each as its choices, one for each part.
+    pub splices: Vec<Vec<usize>>,
+    /// How many fronts and files were tried.
+    pub tries: u32,
+    /// Whether there is more to try.
+    pub goes_on: bool,
+    /// What is tried next: a choice for each of the first parts.
+    pub path: Vec<usize>,
+}
+
+impl WholeSearch {
+    /// A search that has tried nothing.
+    pub fn begin(alloc: Global, parts: &[Part<'_>]) -> Result<WholeSearch, AllocError>
+        ensures stands { IfOk result (λ begun. IsSearch (parts_of parts.now) begun) }
+        ensures untried { IfOk result (λ begun. (begun.tries ≡ 0) × (begun.splices.items ≡ []) × (begun.goes_on ≡ true)) }
+    {
+        let mut path = Vec::new(alloc);
+        follow_same(parts, &mut path)?;
+        Ok(WholeSearch {
+            splices: Vec::new(alloc),
+            tries: 0,
+            goes_on: true,
+            path,
+        })
+    }
+
+    /// Whether it can go on: there is more to try, fewer tries than these were made, and fewer than 64 files were found.
+    pub fn can_go_on(&self, limit: u32) -> bool
+        ensures { IsTrue result ↔ CanGoOn self.now limit }
+    {
+        self.goes_on && self.tries < limit && self.splices.len() < MOST_FOUND
+    }
+
+    /// Goes on until so many tries were made in all, or it can't. It is over these parts. `Err` comes where memory is refused.
+    pub fn go_on(&mut self, alloc: Global, parts: &[Part<'_>], limit: u32) -> Result<(), AllocError>
+        requires some_way { AllByRecursion HasSomeWay (parts_of parts.now) }
+        requires short { IsShort (parts_of parts.now) }
+        requires stands { IsSearch (parts_of parts.now) self.old }
+        ensures stands { OnOk result (IsSearch (parts_of parts.now) self.new) }
+        ensures stops { OnOk result (CanGoOn self.new limit → ⊥) }
+        ensures went { OnOk result (GoesFrom self.old self.new limit) }
+    {
+        while self.can_go_on(limit) {
+            self.tries += 1;
+            self.goes_on = try_next(alloc, parts, &mut self.path, &mut self.splices)?;
+        }
+        Ok(())
+    }
+
+    /// What it came to. Its tries are used up where there is more to try.
+    pub fn into_searched(self) -> Searched
+        ensures came_to { (parts : List SpecPart) → IsSearch parts self
+            → CameTo parts (lists_of result.splices.items) result.is_used_up }
+        ensures tries { result.tries ≡ self.tries }
+        ensures splices { result.splices ≡ self.splices }
+        ensures used_up { result.is_used_up ≡ self.goes_on }
+    {
+        Searched {
+            splices: self.splices,
+            tries: self.tries,
+            is_used_up: self.goes_on,
+        }
+    }
+}
+
+/// Searches the splices of some copies for files without a fault, as `WholeSearch` does.
 ///
 /// Parts of short copies are as it requires them (`parts_can_be_searched`).
 ///
@@ -93,24 +163,7 @@ pub fn search(alloc: Global, parts: &[Part<'_>], limit: u32) -> Result<Searched,
         (λ searched. searched.is_used_up ≡ true → (searched.tries ≡ limit) ⊎ (length searched.splices.items ≡ 64)) }
     ensures few { IfOk result (λ searched. (searched.tries ≤ limit) × (length searched.splices.items ≤ 64)) }
 {
-    let mut path = Vec::new(alloc);
-    follow_same(parts, &mut path)?;
-    let mut splices = Vec::new(alloc);
-    let mut tries = 0;
-    while tries < limit && splices.len() < MOST_FOUND {
-        tries += 1;
-        let more = try_next(alloc, parts, &mut path, &mut splices)?;
-        if !more {
-            return Ok(Searched {
-                splices,
-                tries,
-                is_used_up: false,
-            });
-        }
-    }
-    Ok(Searched {
-        splices,
-        tries,
-        is_used_up: true,
-    })
+    let mut begun = WholeSearch::begin(alloc, parts)?;
+    begun.go_on(alloc, parts, limit)?;
+    Ok(begun.into_searched())
 }

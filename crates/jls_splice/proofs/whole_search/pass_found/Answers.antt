@@ -21,4 +21,4 @@ pub returns-clause-count : goal.returns-clause-count
 returns-clause-count c =
     let F : List (List ℕ) = lists_of c.args.found.now.items in let M : List (List ℕ) = lists_of c.take_found.new.found.items in
     let e : length M ≡ length F + 1 = ap length c.in_ok-take_found.ensures ∙ length-append F (c.deref.result.now ∷ []) in
-    on_ok c.turn.result (length M ≤ length F + 1) (omega (arith, e))
+    on_ok c.turn.result ((length F ≤ length M) × (length M ≤ length F + 1)) (omega (arith, e), omega (arith, e))

@@ -1,18 +1,36 @@
-use Rattle.std.proofs.Common.{◌≡◌, ℕ, Bool, false, List, subst, rules}
-use Rattle.jls_parts.specs.Parts.{Part}
+use Rattle.std.proofs.Common.{◌≡◌, ℕ, List, length, Vec, Global, sym, ap, ◌∙◌, arith, inl, inr}
 use Rattle.jls_parts.specs.PartsOf.{parts_of}
-use Rattle.jls_splice.specs.Search.{IsOver, GoesOn, lists_of}
-use Rattle.jls_splice.proofs.Searching.{has_each_splice}
+use Rattle.jls_splice.specs.Search.{lists_of}
+use Rattle.jls_splice.proofs.Paths.{length-map}
+use Rattle.jls_splice.proofs.Walks.{used_up}
 use Rattle.jls_splice.proofs.whole_search.search.Goals as goal
 
-pub try_next-requires : goal.try_next-requires
-try_next-requires c = record { some_way = c.requires.some_way; short = c.requires.short; stands = c.loop-tries.invariant.2 }
+pub returns-clause-files : goal.returns-clause-files
+returns-clause-files c = (c.into_searched.ensures.came_to (parts_of c.args.parts.now) c.in_ok-go_on.ensures.stands).files
 
-over : (ps : List Part) (path : List ℕ) (found : List (List ℕ)) (more : Bool) → more ≡ false → GoesOn ps path found more → IsOver ps found
-over ps path found more e h = subst (GoesOn ps path found) e h
+pub returns-clause-all : goal.returns-clause-all
+returns-clause-all c = (c.into_searched.ensures.came_to (parts_of c.args.parts.now) c.in_ok-go_on.ensures.stands).all
 
-pub returns-then-not-more-clause-all : goal.returns-then-not-more-clause-all
-returns-then-not-more-clause-all c = λ _.
-    let ps : List Part = parts_of c.args.parts.now in let found : List (List ℕ) = lists_of c.try_next.new.found.items in
-    let e : c.in_ok-more.more ≡ false = search rules in
-    has_each_splice ps found (over ps c.try_next.new.path.items found c.in_ok-more.more e c.in_ok-more.ensures.next)
+pub returns-clause-used_up : goal.returns-clause-used_up
+returns-clause-used_up c = λ yes.
+    let walk = c.go_on.new.self in
+    let same = c.into_searched.ensures in
+    let went = c.in_ok-go_on.ensures.went.within in
+    let none = c.in_ok-begun.ensures.untried.0 in
+    let all = length-map (λ (v : Vec ℕ Global). v.items) walk.splices.items in
+    elim (used_up walk c.args.limit c.in_ok-go_on.ensures.stops (omega (arith, went, none)) c.in_ok-go_on.ensures.stands.1 (sym same.used_up ∙ yes)) [
+      | inl made ↦ inl (same.tries ∙ made)
+      | inr full ↦ inr (ap (λ (v : Vec (Vec ℕ Global) Global). length v.items) same.splices ∙ omega (arith, all, full))
+    ]
+
+pub returns-clause-few : goal.returns-clause-few
+returns-clause-few c =
+    let walk = c.go_on.new.self in
+    let same = c.into_searched.ensures in
+    let went = c.in_ok-go_on.ensures.went.within in
+    let none = c.in_ok-begun.ensures.untried.0 in
+    let tries = same.tries in
+    let all = length-map (λ (v : Vec ℕ Global). v.items) walk.splices.items in
+    let few = c.in_ok-go_on.ensures.stands.1 in
+    let found = ap (λ (v : Vec (Vec ℕ Global) Global). length v.items) same.splices in
+    (omega (arith, went, none, tries), omega (arith, all, few, found))

@@ -48,4 +48,4 @@ returns-in-Dead-clause-next c =
 pub returns-in-Dead-clause-count : goal.returns-in-Dead-clause-count
 returns-in-Dead-clause-count c =
     let F : List (List ℕ) = lists_of c.args.found.now.items in
-    on_ok c.turn.result (length F ≤ length F + 1) (omega arith)
+    on_ok c.turn.result ((length F ≤ length F) × (length F ≤ length F + 1)) (omega arith, omega arith)
