@@ -1,0 +1,17 @@
+use Rattle.std.proofs.Common.{◌-◌}
+use Rattle.jls_device.specs.Event.{GrewBy}
+use Rattle.jls_parts.specs.PartsOf.{parts_of}
+use Rattle.jls_splice.specs.Search.{IsSearch}
+use Rattle.jls_splice_progress.specs.Telling.{HasTold}
+use Rattle.jls_splice_progress.proofs.searching.search_parts.Given as goal
+
+abbrev pub invariant-loop-alloc : goal.invariant-loop-alloc
+invariant-loop-alloc g l =
+    let history = g.E.Device.history in
+    record {
+      stands : IsSearch (parts_of l.parts) l.walk;
+      told : GrewBy (HasTold l.options l.walk) (history l.fn.faults) (history l.faults);
+    }
+
+abbrev pub decreases-loop-alloc : goal.decreases-loop-alloc
+decreases-loop-alloc g l = l.options.tries - l.walk.tries
