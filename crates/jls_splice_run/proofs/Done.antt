@@ -11,8 +11,8 @@ use Rattle.jls_splice_answers.specs.declared.outcome.Outcome.TheVariants.{Done, 
 use Rattle.jls_splice_answers.specs.declared.outcome.Refusal.{Refusal}
 use Rattle.jls_splice_run.specs.Copies.{AreWhole, bytes_read, StopsAtCopies}
 use Rattle.jls_splice_run.specs.Handing.{HandsAll, StopsInHanding, Texts}
-use Rattle.jls_splice_run.specs.Making.{AreTextsOf, CantMake, HoldsMade, IsMade, Made}
-use Rattle.jls_splice_run.specs.Runs.{GrewAll, Splices, at_copies, done, not_handed, not_made, texts, texts_held}
+use Rattle.jls_splice_run.specs.Making.{AreTextsOf, CantMake, HoldsMade, IsMade, Made, Tells}
+use Rattle.jls_splice_run.specs.Runs.{GrewAll, GrewBoth, Splices, at_copies, done, not_handed, not_made, texts, texts_held}
 use Rattle.jls_splice_run.specs.declared.made.Made.{Made as MadeValue}
 
 -- as many copies are read as there are names
@@ -27,7 +27,6 @@ read_count (n ∷ ns) (c ∷ cs) events h = ap suc (read_count ns cs h.1 h.4)
 texts_are : (a : Asked) (copies : List CopyBytes) (m : Made) (v : MadeValue) → AreTextsOf a (bytes_read copies) m v
     → texts_held a v ≡ texts a copies m
 texts_are a copies m v h = λ i. record {
-  progress = h.progress_is i;
   lines = h.lines_are i;
   out = a.out;
   text = h.text_is i;
@@ -49,41 +48,44 @@ module _ (a : Asked) (desk mid new report report' faults faults' : History) wher
   }
 
   module _ (copies : List CopyBytes) (read : GrewBy (AreCopiesRead a.copies copies) desk mid) where
-    pub stops_unmade : (r : Refusal) → CantMake a copies r → GrewAll (Splices a (Refused r)) desk mid report report faults faults
+    pub stops_unmade : (r : Refusal) → GrewBy (CantMake a copies r) faults faults' → GrewAll (Splices a (Refused r)) desk mid report report faults faults'
     stops_unmade r cant = record {
       desk_events = read.events;
       report_events = [];
-      fault_events = [];
+      fault_events = cant.events;
       desk_is = read.grew;
       report_is = sym (append-nil report);
-      faults_are = sym (append-nil faults);
-      they_are = not_made r copies read.events read.they_are cant;
+      faults_are = cant.grew;
+      they_are = not_made r copies read.events cant.events read.they_are cant.they_are;
     }
 
-    module _ (v : MadeValue) (made : HoldsMade a copies v) where
-      pub stops_in_handing : (r : Refusal) → GrewAll (StopsInHanding (texts_held a v) r) mid new report report' faults faults'
+    module _ (v : MadeValue) (holds : GrewBy (HoldsMade a copies v) faults faults') where
+      abbrev made : HoldsMade a copies v holds.events
+      made = holds.they_are
+
+      pub stops_in_handing : (r : Refusal) → GrewBoth (StopsInHanding (texts_held a v) r) mid new report report'
           → GrewAll (Splices a (Refused r)) desk new report report' faults faults'
       stops_in_handing r h = record {
         desk_events = read.events ++ h.desk_events;
         report_events = h.report_events;
-        fault_events = h.fault_events;
+        fault_events = holds.events;
         desk_is = grew_twice desk mid new read.events h.desk_events read.grew h.desk_is;
         report_is = h.report_is;
-        faults_are = h.faults_are;
-        they_are = not_handed r copies made.0 read.events h.desk_events h.report_events h.fault_events read.they_are made.1
-            (subst (λ (t : Texts). StopsInHanding t r h.desk_events h.report_events h.fault_events) (texts_are a copies made.0 v made.2) h.they_are);
+        faults_are = holds.grew;
+        they_are = not_handed r copies made.0 read.events h.desk_events h.report_events holds.events read.they_are made.1 made.3
+            (subst (λ (t : Texts). StopsInHanding t r h.desk_events h.report_events) (texts_are a copies made.0 v made.2) h.they_are);
       }
 
-      pub is_done : (whole : Bool) → (IsTrue whole ↔ AreWhole copies) → GrewAll (HandsAll (texts_held a v)) mid new report report' faults faults'
+      pub is_done : (whole : Bool) → (IsTrue whole ↔ AreWhole copies) → GrewBoth (HandsAll (texts_held a v)) mid new report report'
           → GrewAll (Splices a (Done v.settled whole)) desk new report report' faults faults'
       is_done whole whole_is h = record {
         desk_events = read.events ++ h.desk_events;
         report_events = h.report_events;
-        fault_events = h.fault_events;
+        fault_events = holds.events;
         desk_is = grew_twice desk mid new read.events h.desk_events read.grew h.desk_is;
         report_is = h.report_is;
-        faults_are = h.faults_are;
-        they_are = done copies made.0 v.settled whole read.events h.desk_events h.report_events h.fault_events read.they_are made.1
-            (subst (λ (t : Texts). HandsAll t h.desk_events h.report_events h.fault_events) (texts_are a copies made.0 v made.2) h.they_are)
+        faults_are = holds.grew;
+        they_are = done copies made.0 v.settled whole read.events h.desk_events h.report_events holds.events read.they_are made.1 made.3
+            (subst (λ (t : Texts). HandsAll t h.desk_events h.report_events) (texts_are a copies made.0 v made.2) h.they_are)
             made.2.settled_is whole_is;
       }

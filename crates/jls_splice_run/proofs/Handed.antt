@@ -2,12 +2,12 @@
 use Rattle.std.proofs.Common.{◌≡◌, List, [], ◌∷◌, ◌++◌, refl, sym, subst}
 use Rattle.std.proofs.lemmas.List.{append-nil}
 use Rattle.jls_device.specs.Event.{Event, History, GrewBy}
-use Rattle.jls_device.specs.Writing.{Wrote, Printed}
+use Rattle.jls_device.specs.Writing.{Wrote}
 use Rattle.jls_device.proofs.Growing.{grew_on, grew_twice}
 use Rattle.jls_commands.specs.Outputs.{HandsOut}
 use Rattle.jls_splice_answers.specs.declared.outcome.Refusal.{Refusal}
 use Rattle.jls_splice_run.specs.Handing.{HandsAll, HandsFile, StopsAtFile, StopsAtOutput, StopsAtReport, StopsInHanding, Texts, at_file, at_output, at_report}
-use Rattle.jls_splice_run.specs.Runs.{GrewAll}
+use Rattle.jls_splice_run.specs.Runs.{GrewBoth}
 
 -- one event, and then others
 pub grew_behind : (A B : List Event → Type 0) (old mid new : History) (first : Event) → ((events : List Event) → A events → B (first ∷ events))
@@ -16,55 +16,46 @@ grew_behind A B old mid new first see e h =
     grew_on (λ events. events ≡ first ∷ []) A B old mid new (λ a b is t. subst (λ (x : List Event). B (x ++ b)) (sym is) (see b t))
     (record { events = first ∷ []; grew = e; they_are = refl }) h
 
-module _ (t : Texts) (desk mid new report report' faults faults' : History) (told : GrewBy (Printed t.progress) faults faults') where
+module _ (t : Texts) (desk mid new report report' : History) where
   pub stops_at_report : (r : Refusal) → GrewBy (StopsAtReport t.lines r) report report'
-      → GrewAll (StopsInHanding t r) desk desk report report' faults faults'
+      → GrewBoth (StopsInHanding t r) desk desk report report'
   stops_at_report r h = record {
     desk_events = [];
     report_events = h.events;
-    fault_events = told.events;
     desk_is = sym (append-nil desk);
     report_is = h.grew;
-    faults_are = told.grew;
-    they_are = at_report h.events told.events told.they_are h.they_are;
+    they_are = at_report h.events h.they_are;
   }
 
   module _ (printed : GrewBy (Wrote t.lines) report report') where
     pub stops_at_output : (r : Refusal) → GrewBy (StopsAtOutput t.out t.text r) desk mid
-        → GrewAll (StopsInHanding t r) desk mid report report' faults faults'
+        → GrewBoth (StopsInHanding t r) desk mid report report'
     stops_at_output r h = record {
       desk_events = h.events;
       report_events = printed.events;
-      fault_events = told.events;
       desk_is = h.grew;
       report_is = printed.grew;
-      faults_are = told.grew;
-      they_are = at_output h.events printed.events told.events told.they_are printed.they_are h.they_are;
+      they_are = at_output h.events printed.events printed.they_are h.they_are;
     }
 
     module _ (handed : GrewBy (HandsOut t.out t.text) desk mid) where
       pub stops_at_file : (r : Refusal) → GrewBy (StopsAtFile t.file_name t.file r) mid new
-          → GrewAll (StopsInHanding t r) desk new report report' faults faults'
+          → GrewBoth (StopsInHanding t r) desk new report report'
       stops_at_file r h = record {
         desk_events = handed.events ++ h.events;
         report_events = printed.events;
-        fault_events = told.events;
         desk_is = grew_twice desk mid new handed.events h.events handed.grew h.grew;
         report_is = printed.grew;
-        faults_are = told.grew;
-        they_are = at_file handed.events h.events printed.events told.events told.they_are printed.they_are handed.they_are h.they_are;
+        they_are = at_file handed.events h.events printed.events printed.they_are handed.they_are h.they_are;
       }
 
-      pub hands_all : GrewBy (HandsFile t.file_name t.file) mid new → GrewAll (HandsAll t) desk new report report' faults faults'
+      pub hands_all : GrewBy (HandsFile t.file_name t.file) mid new → GrewBoth (HandsAll t) desk new report report'
       hands_all h = record {
         desk_events = handed.events ++ h.events;
         report_events = printed.events;
-        fault_events = told.events;
         desk_is = grew_twice desk mid new handed.events h.events handed.grew h.grew;
         report_is = printed.grew;
-        faults_are = told.grew;
         they_are = record {
-          told = told.they_are;
           printed = printed.they_are;
           writing = handed.events;
           more = h.events;

@@ -1,7 +1,7 @@
 -- What was made, handed out.
 use Rattle.std.specs.Prelude.{◌≡◌, ℕ, List, [], ◌∷◌, ◌++◌, Option, Some, None, codes}
 use Rattle.jls_device.specs.Event.{Event, created, not_created}
-use Rattle.jls_device.specs.Writing.{Wrote, WroteFront, Printed}
+use Rattle.jls_device.specs.Writing.{Wrote, WroteFront}
 use Rattle.jls_commands.specs.Outputs.{HandsOut}
 use Rattle.jls_splice_answers.specs.declared.outcome.Cause.TheVariants as cause
 use Rattle.jls_splice_answers.specs.declared.outcome.Refusal.{Refusal}
@@ -29,18 +29,16 @@ abbrev pub StopsAtFile : Option (List ℕ) → Option (List ℕ) → Refusal →
 StopsAtFile (Some name) (Some bytes) r events = StopsAtOutput name bytes r events
 StopsAtFile _ _ r events = ⊥
 
--- all that a run hands out: the line of its progress, the lines that it prints, the text of its output, and the single file
+-- all that a run hands out: the lines that it prints, the text of its output, and the single file
 pub record Texts : Type 0 where
-  pub progress : List ℕ
   pub lines : List ℕ
   pub out : List ℕ
   pub text : List ℕ
   pub file_name : Option (List ℕ)
   pub file : Option (List ℕ)
 
--- it is handed out in this order; the events are those of the desk, of the report output and of the fault output
-pub record HandsAll (t : Texts) (desk report faults : List Event) : Type 0 where
-  pub told : Printed t.progress faults
+-- it is handed out in this order; the events are those of the desk and of the report output
+pub record HandsAll (t : Texts) (desk report : List Event) : Type 0 where
   pub printed : Wrote t.lines report
   pub writing : List Event
   pub more : List Event
@@ -49,9 +47,8 @@ pub record HandsAll (t : Texts) (desk report faults : List Event) : Type 0 where
   pub file_handed : HandsFile t.file_name t.file more
 
 -- the run stops before all of it is: at the report output, at its output, or at the file
-pub data StopsInHanding (t : Texts) (r : Refusal) : List Event → List Event → List Event → Type 0 where
-  at_report : (report faults : List Event) → Printed t.progress faults → StopsAtReport t.lines r report → StopsInHanding t r [] report faults
-  at_output : (desk report faults : List Event) → Printed t.progress faults → Wrote t.lines report → StopsAtOutput t.out t.text r desk
-      → StopsInHanding t r desk report faults
-  at_file : (writing more report faults : List Event) → Printed t.progress faults → Wrote t.lines report → HandsOut t.out t.text writing
-      → StopsAtFile t.file_name t.file r more → StopsInHanding t r (writing ++ more) report faults
+pub data StopsInHanding (t : Texts) (r : Refusal) : List Event → List Event → Type 0 where
+  at_report : (report : List Event) → StopsAtReport t.lines r report → StopsInHanding t r [] report
+  at_output : (desk report : List Event) → Wrote t.lines report → StopsAtOutput t.out t.text r desk → StopsInHanding t r desk report
+  at_file : (writing more report : List Event) → Wrote t.lines report → HandsOut t.out t.text writing
+      → StopsAtFile t.file_name t.file r more → StopsInHanding t r (writing ++ more) report

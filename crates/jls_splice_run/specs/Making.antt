@@ -1,6 +1,7 @@
 -- What is made of the copies.
-use Rattle.std.specs.Prelude.{◌≡◌, ◌↔◌, ◌⊎◌, ℕ, Bool, true, false, IsTrue, List, [], ◌++◌, Option, Some, None, codes, get_or, length, option_map, if◌then◌else◌}
+use Rattle.std.specs.Prelude.{◌≡◌, ◌≤◌, ◌↔◌, ◌⊎◌, ℕ, Bool, true, false, IsTrue, List, [], ◌++◌, Option, Some, None, codes, get_or, length, option_map, if◌then◌else◌}
 use Rattle.std.specs.Str.{bytes_eq}
+use Rattle.jls_device.specs.Event.{Event}
 use Rattle.jls_marker.specs.declared.fault.MarkerFault.{MarkerFault}
 use Rattle.jls_partial.specs.Partial.{PartialPicture, nothing_known}
 use Rattle.jls_partial.specs.Status.{IsSettled}
@@ -12,7 +13,8 @@ use Rattle.jls_splice.specs.declared.copies.SearchedCopies.{SearchedCopies}
 use Rattle.jls_report.specs.Report.{report_of}
 use Rattle.jls_report.specs.ReportText.{report_text}
 use Rattle.jls_splice_lines.specs.Differences.{differences}
-use Rattle.jls_splice_lines.specs.Lines.{differ_lines, groups_line, progress_line, single_line, splices_line, used_up_line}
+use Rattle.jls_splice_lines.specs.Lines.{differ_lines, groups_line, single_line, splices_line, used_up_line}
+use Rattle.jls_splice_progress.specs.Telling.{IsTold, ToldSome}
 use Rattle.jls_station.specs.declared.input.ReadStop.{ReadStop}
 use Rattle.jls_station.specs.declared.input.ReadStop.TheVariants.{Whole}
 use Rattle.jls_copy_files.specs.CopyFiles.{CopyBytes}
@@ -62,8 +64,14 @@ pub record Made : Type 0 where
   pub picture : PartialPicture
   pub single : Option (List ℕ)
 
+-- so many tries were made of those that are allowed; and where they were used up these are all of them, or 64 files were found
+pub record AreTries (limit : ℕ) (m : Made) : Type 0 where
+  pub within : m.tries ≤ limit
+  pub used_up : m.found.is_used_up ≡ true → (m.tries ≡ limit) ⊎ (length m.found.choices ≡ 64)
+
 pub record IsMade (a : Asked) (copies : List (List ℕ)) (m : Made) : Type 0 where
   pub is_found : IsFound copies m.found
+  pub are_tries : AreTries a.options.tries m
   pub is_picture : IsPictureOf a.options.source copies (splices_in m.found) m.picture
   pub is_single : IsSingleAsked a.options.file (files_taken copies m.found) m.single
 
@@ -90,9 +98,9 @@ lines a copies m =
     if bytes_eq a.out (codes "-") then []
     else found_lines (lacks_single a.options.file m.single) copies m.found ++ report_text (report_of m.picture)
 
--- the line of how much was tried, where that is asked for
-abbrev pub progress : Asked → Made → List ℕ
-progress a m = if a.options.progress then progress_line m.tries (length m.found.choices) else []
+-- the events of the fault output by which the search told how far it was, where that is asked for
+abbrev pub Tells : Asked → Made → List Event → Type 0
+Tells a m events = IsTold a.options.progress m.tries (length m.found.choices) events
 
 -- ---- why nothing is made
 
@@ -117,9 +125,12 @@ IsUnsettled a copies splices r =
     IsWantOfMemory a r
     ⊎ ((found : ShapeFound) × IsShapeFound (bytes_read copies) splices found × IsRefusedFor a.copies (stops_read copies) found r)
 
--- why a run stops behind the copies
-abbrev pub CantMake : Asked → List CopyBytes → Refusal → Type 0
-CantMake a copies r = IsWantOfMemory a r ⊎ ((f : Found) × IsFound (bytes_read copies) f × IsUnsettled a copies (splices_in f) r)
+-- why a run stops behind the copies, and how it told until then how far its search was
+abbrev pub CantMake : Asked → List CopyBytes → Refusal → List Event → Type 0
+CantMake a copies r events =
+    (IsWantOfMemory a r × ToldSome a.options.progress events)
+    ⊎ ((f : Found) × (tries : ℕ) × IsFound (bytes_read copies) f × IsUnsettled a copies (splices_in f) r
+    × IsTold a.options.progress tries (length f.choices) events)
 
 -- ---- as the code has it
 
@@ -141,12 +152,12 @@ made_of s p v = record {
 
 -- the code holds what is handed out of it
 pub record AreTextsOf (a : Asked) (copies : List (List ℕ)) (m : Made) (v : MadeValue) : Type 0 where
-  pub progress_is : v.progress.items ≡ progress a m
   pub lines_are : v.lines.items ≡ lines a copies m
   pub text_is : v.text.items ≡ text m.picture
   pub file_is : option_map (λ f. f.items) v.file ≡ m.single
   pub settled_is : IsTrue v.settled ↔ IsSettled m.picture
 
--- and it was made of these copies
-abbrev pub HoldsMade : Asked → List CopyBytes → MadeValue → Type 0
-HoldsMade a copies v = (m : Made) × IsMade a (bytes_read copies) m × AreTextsOf a (bytes_read copies) m v
+-- and it was made of these copies, and told so
+abbrev pub HoldsMade : Asked → List CopyBytes → MadeValue → List Event → Type 0
+HoldsMade a copies v events =
+    (m : Made) × IsMade a (bytes_read copies) m × AreTextsOf a (bytes_read copies) m v × Tells a m events

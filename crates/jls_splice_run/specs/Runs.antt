@@ -18,10 +18,18 @@ use Rattle.jls_splice_answers.specs.declared.outcome.Outcome.TheVariants.{Done, 
 use Rattle.jls_splice_answers.specs.declared.outcome.Refusal.{Refusal}
 use Rattle.jls_splice_run.specs.Copies.{AreWhole, bytes_read, StopsAtCopies}
 use Rattle.jls_splice_run.specs.Handing.{HandsAll, StopsInHanding, Texts}
-use Rattle.jls_splice_run.specs.Making.{CantMake, IsMade, Made, lines, progress}
+use Rattle.jls_splice_run.specs.Making.{CantMake, IsMade, Made, Tells, lines}
 use Rattle.jls_splice_run.specs.declared.made.Made.{Made as MadeValue}
 
--- the histories of the three devices grew by events, and they are such: nothing else was done
+-- the histories of two devices grew by events, and they are such: nothing else was done
+pub record GrewBoth (Are : List Event → List Event → Type 0) (desk desk' report report' : History) : Type 0 where
+  pub desk_events : List Event
+  pub report_events : List Event
+  pub desk_is : desk' ≡ desk ++ desk_events
+  pub report_is : report' ≡ report ++ report_events
+  pub they_are : Are desk_events report_events
+
+-- those of all three did
 pub record GrewAll (Are : List Event → List Event → List Event → Type 0) (desk desk' report report' faults faults' : History) : Type 0 where
   pub desk_events : List Event
   pub report_events : List Event
@@ -34,7 +42,6 @@ pub record GrewAll (Are : List Event → List Event → List Event → Type 0) (
 -- what is handed out of what was made of these copies
 abbrev pub texts : Asked → List CopyBytes → Made → Texts
 texts a copies m = record {
-  progress = progress a m;
   lines = lines a (bytes_read copies) m;
   out = a.out;
   text = text m.picture;
@@ -45,7 +52,6 @@ texts a copies m = record {
 -- and as the code holds it
 abbrev pub texts_held : Asked → MadeValue → Texts
 texts_held a v = record {
-  progress = v.progress.items;
   lines = v.lines.items;
   out = a.out;
   text = v.text.items;
@@ -55,16 +61,17 @@ texts_held a v = record {
 
 -- What comes of what was asked, by the events of the desk, of the report output and of the fault output. A copy stops the run; or all
 -- were read, and nothing can be made of them; or something is, and one of the outputs stops the run; or all of it is handed out. Then it is
--- said whether each line is settled, and whether each copy was read to its end
+-- said whether each line is settled, and whether each copy was read to its end. The search tells how far it is, if that is asked for
 pub data Splices (a : Asked) : Outcome → List Event → List Event → List Event → Type 0 where
   at_copies : (r : Refusal) (desk : List Event) → StopsAtCopies a.copies r desk → Splices a (Refused r) desk [] []
-  not_made : (r : Refusal) (copies : List CopyBytes) (desk : List Event) → AreCopiesRead a.copies copies desk → CantMake a copies r
-      → Splices a (Refused r) desk [] []
+  not_made : (r : Refusal) (copies : List CopyBytes) (desk faults : List Event) → AreCopiesRead a.copies copies desk
+      → CantMake a copies r faults → Splices a (Refused r) desk [] faults
   not_handed : (r : Refusal) (copies : List CopyBytes) (m : Made) (reading desk report faults : List Event)
-      → AreCopiesRead a.copies copies reading → IsMade a (bytes_read copies) m → StopsInHanding (texts a copies m) r desk report faults
-      → Splices a (Refused r) (reading ++ desk) report faults
+      → AreCopiesRead a.copies copies reading → IsMade a (bytes_read copies) m → Tells a m faults
+      → StopsInHanding (texts a copies m) r desk report → Splices a (Refused r) (reading ++ desk) report faults
   done : (copies : List CopyBytes) (m : Made) (settled whole : Bool) (reading desk report faults : List Event)
-      → AreCopiesRead a.copies copies reading → IsMade a (bytes_read copies) m → HandsAll (texts a copies m) desk report faults
+      → AreCopiesRead a.copies copies reading → IsMade a (bytes_read copies) m → Tells a m faults
+      → HandsAll (texts a copies m) desk report
       → (IsTrue settled ↔ IsSettled m.picture) → (IsTrue whole ↔ AreWhole copies)
       → Splices a (Done settled whole) (reading ++ desk) report faults
 

@@ -2,19 +2,12 @@
 
 ghost use Rattle.std.specs.Prelude.{IfErr, OnOk, option_map};
 ghost use Rattle.jls_device.specs.Event.{GrewBy};
-ghost use Rattle.jls_device.specs.Writing.{Printed, Wrote};
+ghost use Rattle.jls_device.specs.Writing.{Wrote};
 ghost use Rattle.jls_commands.specs.Outputs.{HandsOut};
 ghost use Rattle.jls_splice_run.specs.Handing.{HandsFile, StopsAtFile, StopsAtOutput, StopsAtReport};
 
 use jls_device::{Desk, Sink, write_all};
 use jls_splice_answers::{Cause, Refusal};
-
-/// Prints a line as a fault line is printed: a write that fails ends it, and is ignored.
-pub(crate) fn tell<E: Sink>(faults: &mut E, line: &[u8])
-    ensures { GrewBy (Printed line.now) (E.history faults.old) (E.history faults.new) }
-{
-    let _ = write_all(faults, line);
-}
 
 /// Prints lines to the report output.
 pub(crate) fn print_lines<'a, W: Sink>(report: &mut W, lines: &[u8]) -> Result<(), Refusal<'a>>

@@ -6,13 +6,12 @@ ghost use Rattle.jls_parts.specs.Parts.{made};
 ghost use Rattle.jls_parts.specs.PartsOf.{parts_of};
 ghost use Rattle.jls_report.specs.Report.{report_of};
 ghost use Rattle.jls_report.specs.ReportText.{report_text};
-ghost use Rattle.jls_splice_lines.specs.Lines.{progress_line};
 ghost use Rattle.jls_splice_run.specs.Making.{told_lines};
 
 use jls_partial::Partial;
 use jls_parts::Part;
 use jls_report::Report;
-use jls_splice_lines::{Found, differences_of, put_found, put_progress};
+use jls_splice_lines::{Found, differences_of, put_found};
 use std::alloc::{AllocError, Global};
 
 /// What the search came to, as the lines tell it.
@@ -69,20 +68,4 @@ pub(crate) fn lines_of(
     let report = report_lines(alloc, partial)?;
     lines.extend_from_slice(&report)?;
     Ok(lines)
-}
-
-/// The line that tells how much was tried, if that is asked for.
-pub(crate) fn progress_of(
-    alloc: Global,
-    is_asked: bool,
-    tries: u32,
-    files: usize,
-) -> Result<Vec<u8>, AllocError>
-    ensures { IfOk result (λ line. line.items ≡ (if is_asked then progress_line tries files else [])) }
-{
-    let mut line = Vec::new(alloc);
-    if is_asked {
-        put_progress(&mut line, tries, files)?;
-    }
-    Ok(line)
 }

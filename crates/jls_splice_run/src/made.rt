@@ -1,33 +1,35 @@
 //! What is made of the copies, in memory.
 
-ghost use Rattle.std.specs.Prelude.{◌≡◌, ◌<◌, ◌^◌, length, IfOk, IfErr, IsTrue, option_map};
+ghost use Rattle.std.specs.Prelude.{◌≡◌, ◌⊎◌, ◌<◌, ◌≤◌, ◌^◌, length, true, IfOk, IfErr, IsTrue, OnErr, option_map};
 ghost use Rattle.jls_copy_files.specs.CopyFiles.{copies_of};
+ghost use Rattle.jls_device.specs.Event.{GrewBy};
 ghost use Rattle.jls_parts.specs.Parts.{made};
 ghost use Rattle.jls_parts.specs.PartsOf.{bytes_of, parts_of};
 ghost use Rattle.jls_splice.specs.Search.{IsShort, MakeFiles, lists_of};
 ghost use Rattle.jls_splicing.specs.Files as given;
+ghost use Rattle.jls_splice_progress.specs.Telling.{IsTold, ToldSome};
 ghost use Rattle.jls_splice_run.specs.Making.{AreTextsOf, CantMake, HoldsMade, IsFound, files_taken, found_of, lacks_single, made_of};
 ghost use Rattle.jls_splice_run.specs.Single.{IsSingleAsked};
 ghost use Rattle.jls_splice_run.specs.Tasks.{task_of};
 
 use crate::copies::slices_of;
 use crate::files::count_new;
-use crate::lines::{Told, lines_of, progress_of};
+use crate::lines::{Told, lines_of};
 use crate::settling::settle;
 use crate::single::single_file;
 use crate::task::{Task, want_of_memory};
 use jls_copy_files::CopyFile;
+use jls_device::Sink;
 use jls_partial::Partial;
-use jls_splice::{SearchedCopies, are_short, parts_can_be_searched, search_copies};
+use jls_splice::{SearchedCopies, are_short, parts_can_be_searched};
 use jls_splice_answers::Refusal;
+use jls_splice_progress::{SearchOptions, search_and_tell};
 use jls_splicing::Files;
 use std::alloc::{AllocError, Global};
 
 /// What a run hands out, and whether each line of its picture is settled.
 #[derive(Drop)]
 pub struct Made {
-    /// The line that tells how much was tried: empty where that is not asked for.
-    pub progress: Vec<u8>,
     /// The lines that are printed.
     pub lines: Vec<u8>,
     /// The text of the partial picture.
@@ -37,22 +39,30 @@ pub struct Made {
     pub settled: bool,
 }
 
-/// Searches the splices of the copies.
-fn search<'c>(
+/// Searches the splices of the copies, and tells how far it is, if that is asked for.
+fn search<'c, E: Sink>(
     alloc: Global,
     copies: &[&'c [u8]],
-    tries: u32,
+    options: SearchOptions,
+    faults: &mut E,
 ) -> Result<SearchedCopies<'c>, AllocError>
     requires { 0 < length copies.now }
     ensures found { IfOk result (λ found. IsFound (bytes_of copies.now) (found_of found)) }
     ensures short { IfOk result (λ found. IsShort (parts_of found.parts.items)) }
     ensures small { IfOk result (λ found. length (made 0 (parts_of found.parts.items)) < 2 ^ 64) }
+    ensures few { IfOk result (λ found. found.searched.tries ≤ options.tries) }
+    ensures used_up { IfOk result (λ found. found.searched.is_used_up ≡ true
+        → (found.searched.tries ≡ options.tries) ⊎ (length (lists_of found.searched.splices.items) ≡ 64)) }
+    ensures told { IfOk result (λ found.
+        GrewBy (IsTold options.tells found.searched.tries (length (lists_of found.searched.splices.items)))
+        (E.history faults.old) (E.history faults.new)) }
+    ensures told_some { OnErr result (GrewBy (ToldSome options.tells) (E.history faults.old) (E.history faults.new)) }
 {
     parts_can_be_searched();
     if !are_short(copies) {
         return Err(AllocError);
     }
-    let found = search_copies(alloc, copies, tries)?;
+    let found = search_and_tell(alloc, copies, options, faults)?;
     Ok(found)
 }
 
@@ -108,17 +118,10 @@ fn texts_of(
         is_used_up: searched.is_used_up,
         lacks_single_file: lacks_file(task.options.file, &file),
     };
-    let progress = progress_of(
-        alloc,
-        task.options.progress,
-        searched.tries,
-        searched.splices.len(),
-    )?;
     let lines = lines_of(alloc, task.out, &found.parts, told, partial)?;
     let text = partial.to_bytes(alloc)?;
     let settled = partial.is_settled();
     Ok(Made {
-        progress,
         lines,
         text,
         file,
@@ -126,22 +129,29 @@ fn texts_of(
     })
 }
 
-/// What is made of the copies of a task.
-pub(crate) fn make<'a>(
+/// What is made of the copies of a task. The search tells how far it is, if that is asked for.
+pub(crate) fn make<'a, E: Sink>(
     alloc: Global,
     task: &Task<'_, 'a>,
     copies: &[CopyFile],
+    faults: &mut E,
 ) -> Result<Made, Refusal<'a>>
     requires some_copy { 0 < length copies.now }
     requires names { length task.now.names.now ≡ length copies.now }
-    ensures made { IfOk result (λ made. HoldsMade (task_of task.now) (copies_of copies.now) made) }
-    ensures stopped { IfErr result (λ refusal. CantMake (task_of task.now) (copies_of copies.now) refusal) }
+    ensures made { IfOk result (λ made.
+        GrewBy (HoldsMade (task_of task.now) (copies_of copies.now) made) (E.history faults.old) (E.history faults.new)) }
+    ensures stopped { IfErr result (λ refusal.
+        GrewBy (CantMake (task_of task.now) (copies_of copies.now) refusal) (E.history faults.old) (E.history faults.new)) }
 {
     let slices = match slices_of(alloc, copies) {
         Ok(slices) => slices,
         Err(_) => return Err(want_of_memory(task)),
     };
-    let found = match search(alloc, &slices, task.options.tries) {
+    let options = SearchOptions {
+        tries: task.options.tries,
+        tells: task.options.progress,
+    };
+    let found = match search(alloc, &slices, options, faults) {
         Ok(found) => found,
         Err(_) => return Err(want_of_memory(task)),
     };

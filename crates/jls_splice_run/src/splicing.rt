@@ -2,11 +2,11 @@
 
 ghost use Rattle.std.specs.Prelude.{◌≡◌, ◌<◌, length, IfErr, OnOk, option_map};
 ghost use Rattle.jls_splice_run.specs.Handing.{HandsAll, StopsInHanding};
-ghost use Rattle.jls_splice_run.specs.Runs.{GrewAll, Splices, texts_held};
+ghost use Rattle.jls_splice_run.specs.Runs.{GrewAll, GrewBoth, Splices, texts_held};
 ghost use Rattle.jls_splice_run.specs.Tasks.{task_of};
 
 use crate::copies::{are_whole, read_all};
-use crate::handing::{print_lines, tell, write_file, write_output};
+use crate::handing::{print_lines, write_file, write_output};
 use crate::made::{Made, make};
 use crate::task::Task;
 use jls_device::{Desk, Sink};
@@ -24,20 +24,17 @@ fn bytes_in(file: &Option<Vec<u8>>) -> Option<&[u8]>
 }
 
 /// Hands out what was made.
-fn hand_out<'a, D: Desk, W: Sink, E: Sink>(
+fn hand_out<'a, D: Desk, W: Sink>(
     desk: &mut D,
     report: &mut W,
-    faults: &mut E,
     task: &Task<'_, 'a>,
     made: &Made,
 ) -> Result<(), Refusal<'a>>
-    ensures done { OnOk result (GrewAll (HandsAll (texts_held (task_of task.now) made.now)) (D.history desk.old) (D.history desk.new)
-        (W.history report.old) (W.history report.new) (E.history faults.old) (E.history faults.new)) }
-    ensures stopped { IfErr result (λ refusal. GrewAll (StopsInHanding (texts_held (task_of task.now) made.now) refusal)
-        (D.history desk.old) (D.history desk.new) (W.history report.old) (W.history report.new)
-        (E.history faults.old) (E.history faults.new)) }
+    ensures done { OnOk result (GrewBoth (HandsAll (texts_held (task_of task.now) made.now)) (D.history desk.old) (D.history desk.new)
+        (W.history report.old) (W.history report.new)) }
+    ensures stopped { IfErr result (λ refusal. GrewBoth (StopsInHanding (texts_held (task_of task.now) made.now) refusal)
+        (D.history desk.old) (D.history desk.new) (W.history report.old) (W.history report.new)) }
 {
-    tell(faults, &made.progress);
     match print_lines(report, &made.lines) {
         Ok(()) => {}
         Err(refusal) => return Err(refusal),
@@ -54,7 +51,7 @@ fn hand_out<'a, D: Desk, W: Sink, E: Sink>(
 
 /// Reads the copies, searches their splices, takes all that reads, and hands out what comes of it: first the lines, to the report output;
 /// then the text of the union of what the files taken give; and then the single file, if one is asked for. Both texts are made before
-/// anything is handed out. The line of the progress goes to the fault output, once, when all is taken.
+/// anything is handed out. While it searches it tells on the fault output how far it is, if that is asked for.
 pub fn splice<'a, D: Desk, W: Sink, E: Sink>(
     alloc: Global,
     desk: &mut D,
@@ -70,11 +67,11 @@ pub fn splice<'a, D: Desk, W: Sink, E: Sink>(
         Ok(copies) => copies,
         Err(refusal) => return Outcome::Refused(refusal),
     };
-    let made = match make(alloc, task, &copies) {
+    let made = match make(alloc, task, &copies, faults) {
         Ok(made) => made,
         Err(refusal) => return Outcome::Refused(refusal),
     };
-    match hand_out(desk, report, faults, task, &made) {
+    match hand_out(desk, report, task, &made) {
         Ok(()) => Outcome::Done {
             settled: made.settled,
             whole: are_whole(&copies),

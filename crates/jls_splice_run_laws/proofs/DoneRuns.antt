@@ -40,14 +40,13 @@ is_whole false false e = absurd (omega (arith, e))
 
 did : (a : Asked) (status : ℕ) (desk report faults : List Event) → Performs a status desk report faults → status ≡ 0 → DidSplice a desk report
 did a _ _ _ _ (came_of _ _ _ _ line (at_copies r desk stops) told) e = absurd (not_zero r.cause e)
-did a _ _ _ _ (came_of _ _ _ _ line (not_made r copies desk read cant) told) e = absurd (not_zero r.cause e)
-did a _ _ _ _ (came_of _ _ _ _ line (not_handed r copies m reading desk report faults read made stops) told) e = absurd (not_zero r.cause e)
-did a _ _ _ _ (came_of _ _ _ _ line (done copies m settled whole reading desk report faults read made handed is_set is_read) told) e = record {
+did a _ _ _ _ (came_of _ _ _ _ line (not_made r copies desk faults read cant) told) e = absurd (not_zero r.cause e)
+did a _ _ _ _ (came_of _ _ _ _ line (not_handed r copies m reading desk report faults read made tells stops) told) e = absurd (not_zero r.cause e)
+did a _ _ _ _ (came_of _ _ _ _ line (done copies m settled whole reading desk report faults read made tells handed is_set is_read) told) e = record {
   copies = copies;
   made = m;
   reading = reading;
   writing = desk;
-  told = faults;
   desk_is = refl;
   read = read;
   whole = is_read.0 (is_whole settled whole e);

@@ -20,13 +20,12 @@ pub record DidSplice (a : Asked) (desk report : List Event) : Type 0 where
   pub made : Made
   pub reading : List Event
   pub writing : List Event
-  pub told : List Event
   pub desk_is : desk ≡ reading ++ writing
   pub read : AreCopiesRead a.copies copies reading
   pub whole : AreWhole copies
   pub is_made : IsMade a (bytes_read copies) made
   pub settled : IsSettled made.picture
-  pub handed : HandsAll (texts a copies made) writing report told
+  pub handed : HandsAll (texts a copies made) writing report
 
 -- What was asked of some copies ends with status 0: it was done. Where the tries of the search were not used up, and some copy has, at each
 -- part in which the copies are found to differ, what an undamaged file has there, the picture is that file's

@@ -38,7 +38,7 @@ pub(crate) const TRIES_HELP: &str =
     "The most prefixes and files that the search tries, 1 to 4294967295";
 
 pub(crate) const PROGRESS_HELP: &str =
-    "Prints on standard error how much was tried, once the search has ended";
+    "Prints on standard error how much was tried, behind each 64 tries";
 
 pub(crate) const FILE_HELP: &str =
     "The file to write if exactly one undamaged file was found: that file, byte for byte";

@@ -1,16 +1,59 @@
-use Rattle.std.proofs.Common.{◌≡◌, ℕ, List, ap, sym, ◌∙◌, subst}
-use Rattle.jls_copy_files.specs.CopyFiles.{copies_of}
+use Rattle.std.proofs.Common.{◌≡◌, ℕ, List, [], length, inl, inr, ap, sym, ◌∙◌, subst}
+use Rattle.jls_copy_files.specs.CopyFiles.{CopyBytes, copies_of}
+use Rattle.jls_device.proofs.Growing.{grew_as, grew_not}
 use Rattle.jls_partial.specs.Partial.{PartialPicture}
 use Rattle.jls_parts.specs.PartsOf.{bytes_of, parts_of}
 use Rattle.jls_splice.specs.Search.{files_of, lists_of}
+use Rattle.jls_splice_progress.specs.Telling.{IsTold, ToldSome}
+use Rattle.jls_splice_progress.proofs.Rounds.{none_told}
 use Rattle.jls_splice_run.specs.Copies.{bytes_read}
-use Rattle.jls_splice_run.specs.Making.{AreTextsOf, IsFound, IsPictureOf, files_taken, found_of, made_of}
+use Rattle.jls_splice_run.specs.Making.{AreTextsOf, CantMake, HoldsMade, IsFound, IsPictureOf, IsUnsettled, files_taken, found_of, made_of}
 use Rattle.jls_splice_run.specs.Single.{IsSingleAsked}
 use Rattle.jls_splice_run.specs.Tasks.{task_of}
 use Rattle.jls_splice_run.proofs.made.make.Goals as goal
 
+pub returns-in-Err-clause-stopped : goal.returns-in-Err-clause-stopped
+returns-in-Err-clause-stopped g c =
+    let a = task_of c.args.task.now in
+    let want = c.want_of_memory.ensures in
+    grew_not (CantMake a (copies_of c.args.copies.now) c.want_of_memory.result) (g.E.Device.history c.args.faults.now)
+    (inl ((want.name, want.cause), (0, 0, none_told a.options.progress)))
+
+pub returns-in-Err-search-clause-stopped : goal.returns-in-Err-search-clause-stopped
+returns-in-Err-search-clause-stopped g c =
+    let a = task_of c.args.task.now in
+    let want = c.want_of_memory-in-Err-search.ensures in
+    grew_as (ToldSome a.options.progress) (CantMake a (copies_of c.args.copies.now) c.want_of_memory-in-Err-search.result)
+    (g.E.Device.history c.args.faults.now) (g.E.Device.history c.search.new.faults)
+    (λ events told. inl ((want.name, want.cause), told)) c.in-Err-search.ensures.told_some
+
+pub returns-in-Err-settle-clause-stopped : goal.returns-in-Err-settle-clause-stopped
+returns-in-Err-settle-clause-stopped g c =
+    let a = task_of c.args.task.now in
+    let copies : List CopyBytes = copies_of c.args.copies.now in
+    let found = c.in-Ok-search.found in
+    let r = c.in-Err-settle.refusal in
+    let searched : bytes_of c.deref.result.now ≡ bytes_read copies = ap bytes_of c.deref.ensures.value ∙ c.in-Ok.ensures in
+    let splices : files_of (parts_of c.deref-3.result.now) (lists_of c.deref-4.result.now) ≡ files_of (parts_of found.parts.items) (lists_of found.searched.splices.items) =
+    (λ i. files_of (parts_of (c.deref-3.ensures.value i)) (lists_of (c.deref-4.ensures.value i))) in
+    let is_found = subst (λ (xs : List (List ℕ)). IsFound xs (found_of found)) searched c.in-Ok-search.ensures.found in
+    let unsettled = subst (λ (xs : List (List ℕ)). IsUnsettled a copies xs r) splices c.in-Err-settle.ensures.stopped in
+    grew_as (IsTold a.options.progress found.searched.tries (length (lists_of found.searched.splices.items))) (CantMake a copies r)
+    (g.E.Device.history c.args.faults.now) (g.E.Device.history c.search.new.faults)
+    (λ events told. inr (found_of found, found.searched.tries, is_found, unsettled, told)) c.in-Ok-search.ensures.told
+
+pub returns-clause-stopped : goal.returns-clause-stopped
+returns-clause-stopped g c =
+    let a = task_of c.args.task.now in
+    let found = c.in-Ok-search.found in
+    let want = c.want_of_memory-in-Err-texts_of.ensures in
+    let files = length (lists_of found.searched.splices.items) in
+    grew_as (IsTold a.options.progress found.searched.tries files) (CantMake a (copies_of c.args.copies.now) c.want_of_memory-in-Err-texts_of.result)
+    (g.E.Device.history c.args.faults.now) (g.E.Device.history c.search.new.faults)
+    (λ events told. inl ((want.name, want.cause), (found.searched.tries, files, told))) c.in-Ok-search.ensures.told
+
 pub returns-in-Ok-texts_of-clause-made : goal.returns-in-Ok-texts_of-clause-made
-returns-in-Ok-texts_of-clause-made c =
+returns-in-Ok-texts_of-clause-made g c =
     let a = task_of c.args.task.now in
     let copies = bytes_read (copies_of c.args.copies.now) in
     let v = c.in-Ok-texts_of.made in
@@ -20,13 +63,19 @@ returns-in-Ok-texts_of-clause-made c =
     let searched : bytes_of c.deref.result.now ≡ copies = ap bytes_of c.deref.ensures.value ∙ c.in-Ok.ensures in
     let told : bytes_of c.deref-5.result.now ≡ copies = ap bytes_of c.deref-5.ensures.value ∙ c.in-Ok.ensures in
     let splices : files_of (parts_of c.deref-3.result.now) (lists_of c.deref-4.result.now) ≡ files_of (parts_of found.parts.items) (lists_of found.searched.splices.items) =
-    (λ i. files_of (parts_of (c.deref-3.ensures.value i)) (lists_of (c.deref-4.ensures.value i))) in (
+    (λ i. files_of (parts_of (c.deref-3.ensures.value i)) (lists_of (c.deref-4.ensures.value i))) in
+    grew_as (IsTold a.options.progress found.searched.tries (length (lists_of found.searched.splices.items))) (HoldsMade a (copies_of c.args.copies.now) v)
+    (g.E.Device.history c.args.faults.now) (g.E.Device.history c.search.new.faults)
+    (λ events lines. (
       m,
       record {
         is_found = subst (λ (xs : List (List ℕ)). IsFound xs (found_of found)) searched c.in-Ok-search.ensures.found;
+        are_tries = record { within = c.in-Ok-search.ensures.few; used_up = c.in-Ok-search.ensures.used_up };
         is_picture = subst (λ (q : PartialPicture). IsPictureOf a.options.source copies (files_of (parts_of found.parts.items) (lists_of found.searched.splices.items)) q) (sym c.partial.ensures)
             (subst (λ (xs : List (List ℕ)). IsPictureOf a.options.source copies xs c.in-Ok-settle.station) splices c.in-Ok-settle.ensures.settled);
         is_single = subst (λ (xs : List (List ℕ)). IsSingleAsked a.options.file (files_taken xs (found_of found)) m.single) told c.in-Ok-texts_of.ensures.single;
       },
       subst (λ (xs : List (List ℕ)). AreTextsOf a xs m v) told c.in-Ok-texts_of.ensures.texts,
-    )
+      lines,
+    ))
+    c.in-Ok-search.ensures.told

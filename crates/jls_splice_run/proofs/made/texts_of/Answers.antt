@@ -5,10 +5,9 @@ use Rattle.jls_parts.specs.PartsOf.{bytes_of, parts_of}
 use Rattle.jls_report.specs.Report.{report_of}
 use Rattle.jls_report.specs.ReportText.{report_text}
 use Rattle.jls_splice.specs.Search.{files_of, lists_of}
-use Rattle.jls_splice_lines.specs.Lines.{progress_line}
 use Rattle.jls_splice_run.specs.Files.{count_new}
 use Rattle.jls_splice_run.specs.Making.{lacks_single, told_lines}
-use Rattle.jls_splice_run.proofs.MakingLemmas.{lacks_maps, length-map}
+use Rattle.jls_splice_run.proofs.MakingLemmas.{lacks_maps}
 use Rattle.jls_splice_run.proofs.made.texts_of.Goals as goal
 
 pub returns-clause-texts : goal.returns-clause-texts
@@ -20,15 +19,11 @@ returns-clause-texts c =
     let file = c.in_ok-file.file in
     let name = option_map (λ (s : Bor (List ℕ)). s.now) options.file in
     let single = option_map (λ (f : Vec ℕ Global). f.items) file in
-    let all = length-map (λ (v : Vec ℕ Global). v.items) searched.splices.items in
-    let held = ap length c.deref-4.ensures.value in
-    let count : c.len.result ≡ length (lists_of searched.splices.items) = omega (arith, all, held, c.deref-4.ensures.len, c.len.ensures) in
     let new : c.in_ok-splices.splices ≡ count_new copies (files_of (parts_of found.parts.items) (lists_of searched.splices.items)) =
     c.in_ok-splices.ensures ∙ (λ i. count_new copies (files_of (parts_of (c.deref-3.ensures.value i)) (lists_of (c.deref-4.ensures.value i)))) in
     let lacks : c.lacks_file.result ≡ lacks_single name single =
     c.lacks_file.ensures ∙ sym (lacks_maps (λ (s : Bor (List ℕ)). s.now) (λ (f : Vec ℕ Global). f.items) options.file file) in
     record {
-      progress_is = c.in_ok-progress.ensures ∙ ap (λ (n : ℕ). if options.progress then progress_line searched.tries n else []) count;
       lines_are = c.in_ok-lines.ensures
           ∙ (λ i. if bytes_eq c.args.task.now.out.now (codes "-") then []
           else told_lines (parts_of (c.deref-5.ensures.value i)) (new i) searched.is_used_up (lacks i) ++ report_text (report_of c.args.partial.now));

@@ -1,6 +1,6 @@
 use Rattle.std.proofs.Common.{ℕ, List, Option, subst}
 use Rattle.jls_device.specs.Event.{GrewBy}
-use Rattle.jls_device.specs.Writing.{Printed, Wrote}
+use Rattle.jls_device.specs.Writing.{Wrote}
 use Rattle.jls_commands.specs.Outputs.{HandsOut}
 use Rattle.jls_splice_run.specs.Handing.{HandsFile, StopsAtFile, StopsAtOutput, StopsAtReport}
 use Rattle.jls_splice_run.specs.Runs.{texts_held}
@@ -12,48 +12,36 @@ pub returns-in-Err-clause-stopped : goal.returns-in-Err-clause-stopped
 returns-in-Err-clause-stopped g c =
     let desk = g.D.Device.history in
     let report = g.W.Device.history in
-    let faults = g.E.Device.history in
-    let told = subst (λ (line : List ℕ). GrewBy (Printed line) (faults c.args.faults.now) (faults c.tell.new.faults)) c.deref.ensures.value c.tell.ensures in
-    stops_at_report (texts_held (task_of c.args.task.now) c.args.made.now) (desk c.args.desk.now) (desk c.args.desk.now) (desk c.args.desk.now) (report c.args.report.now) (report c.print_lines.new.report)
-    (faults c.args.faults.now) (faults c.tell.new.faults) told c.in-Err.refusal
-    (subst (λ (lines : List ℕ). GrewBy (StopsAtReport lines c.in-Err.refusal) (report c.args.report.now) (report c.print_lines.new.report)) c.deref-2.ensures.value c.in-Err.ensures.stopped)
+    stops_at_report (texts_held (task_of c.args.task.now) c.args.made.now) (desk c.args.desk.now) (desk c.args.desk.now) (desk c.args.desk.now) (report c.args.report.now) (report c.print_lines.new.report) c.in-Err.refusal
+    (subst (λ (lines : List ℕ). GrewBy (StopsAtReport lines c.in-Err.refusal) (report c.args.report.now) (report c.print_lines.new.report)) c.deref.ensures.value c.in-Err.ensures.stopped)
 
 pub returns-in-Err-write_output-clause-stopped : goal.returns-in-Err-write_output-clause-stopped
 returns-in-Err-write_output-clause-stopped g c =
     let desk = g.D.Device.history in
     let report = g.W.Device.history in
-    let faults = g.E.Device.history in
-    let told = subst (λ (line : List ℕ). GrewBy (Printed line) (faults c.args.faults.now) (faults c.tell.new.faults)) c.deref.ensures.value c.tell.ensures in
-    let printed = subst (λ (lines : List ℕ). GrewBy (Wrote lines) (report c.args.report.now) (report c.print_lines.new.report)) c.deref-2.ensures.value c.in-Ok.ensures.printed in
+    let printed = subst (λ (lines : List ℕ). GrewBy (Wrote lines) (report c.args.report.now) (report c.print_lines.new.report)) c.deref.ensures.value c.in-Ok.ensures.printed in
     let out = c.args.task.now.out.now in
-    stops_at_output (texts_held (task_of c.args.task.now) c.args.made.now) (desk c.args.desk.now) (desk c.write_output.new.desk) (desk c.write_output.new.desk) (report c.args.report.now) (report c.print_lines.new.report)
-    (faults c.args.faults.now) (faults c.tell.new.faults) told printed c.in-Err-write_output.refusal
-    (subst (λ (text : List ℕ). GrewBy (StopsAtOutput out text c.in-Err-write_output.refusal) (desk c.args.desk.now) (desk c.write_output.new.desk)) c.deref-3.ensures.value c.in-Err-write_output.ensures.stopped)
+    stops_at_output (texts_held (task_of c.args.task.now) c.args.made.now) (desk c.args.desk.now) (desk c.write_output.new.desk) (desk c.write_output.new.desk) (report c.args.report.now) (report c.print_lines.new.report) printed c.in-Err-write_output.refusal
+    (subst (λ (text : List ℕ). GrewBy (StopsAtOutput out text c.in-Err-write_output.refusal) (desk c.args.desk.now) (desk c.write_output.new.desk)) c.deref-2.ensures.value c.in-Err-write_output.ensures.stopped)
 
 pub returns-in-Ok-write_file-clause-done : goal.returns-in-Ok-write_file-clause-done
 returns-in-Ok-write_file-clause-done g c =
     let desk = g.D.Device.history in
     let report = g.W.Device.history in
-    let faults = g.E.Device.history in
-    let told = subst (λ (line : List ℕ). GrewBy (Printed line) (faults c.args.faults.now) (faults c.tell.new.faults)) c.deref.ensures.value c.tell.ensures in
-    let printed = subst (λ (lines : List ℕ). GrewBy (Wrote lines) (report c.args.report.now) (report c.print_lines.new.report)) c.deref-2.ensures.value c.in-Ok.ensures.printed in
+    let printed = subst (λ (lines : List ℕ). GrewBy (Wrote lines) (report c.args.report.now) (report c.print_lines.new.report)) c.deref.ensures.value c.in-Ok.ensures.printed in
     let out = c.args.task.now.out.now in
-    let handed = subst (λ (text : List ℕ). GrewBy (HandsOut out text) (desk c.args.desk.now) (desk c.write_output.new.desk)) c.deref-3.ensures.value c.in-Ok-write_output.ensures.written in
+    let handed = subst (λ (text : List ℕ). GrewBy (HandsOut out text) (desk c.args.desk.now) (desk c.write_output.new.desk)) c.deref-2.ensures.value c.in-Ok-write_output.ensures.written in
     let t = texts_held (task_of c.args.task.now) c.args.made.now in
-    hands_all t (desk c.args.desk.now) (desk c.write_output.new.desk) (desk c.write_file.new.desk) (report c.args.report.now) (report c.print_lines.new.report)
-    (faults c.args.faults.now) (faults c.tell.new.faults) told printed handed
+    hands_all t (desk c.args.desk.now) (desk c.write_output.new.desk) (desk c.write_file.new.desk) (report c.args.report.now) (report c.print_lines.new.report) printed handed
     (subst (λ (file : Option (List ℕ)). GrewBy (HandsFile t.file_name file) (desk c.write_output.new.desk) (desk c.write_file.new.desk)) c.bytes_in.ensures c.in-Ok-write_file.ensures.written)
 
 pub returns-in-Err-write_file-clause-stopped : goal.returns-in-Err-write_file-clause-stopped
 returns-in-Err-write_file-clause-stopped g c =
     let desk = g.D.Device.history in
     let report = g.W.Device.history in
-    let faults = g.E.Device.history in
-    let told = subst (λ (line : List ℕ). GrewBy (Printed line) (faults c.args.faults.now) (faults c.tell.new.faults)) c.deref.ensures.value c.tell.ensures in
-    let printed = subst (λ (lines : List ℕ). GrewBy (Wrote lines) (report c.args.report.now) (report c.print_lines.new.report)) c.deref-2.ensures.value c.in-Ok.ensures.printed in
+    let printed = subst (λ (lines : List ℕ). GrewBy (Wrote lines) (report c.args.report.now) (report c.print_lines.new.report)) c.deref.ensures.value c.in-Ok.ensures.printed in
     let out = c.args.task.now.out.now in
-    let handed = subst (λ (text : List ℕ). GrewBy (HandsOut out text) (desk c.args.desk.now) (desk c.write_output.new.desk)) c.deref-3.ensures.value c.in-Ok-write_output.ensures.written in
+    let handed = subst (λ (text : List ℕ). GrewBy (HandsOut out text) (desk c.args.desk.now) (desk c.write_output.new.desk)) c.deref-2.ensures.value c.in-Ok-write_output.ensures.written in
     let t = texts_held (task_of c.args.task.now) c.args.made.now in
-    stops_at_file t (desk c.args.desk.now) (desk c.write_output.new.desk) (desk c.write_file.new.desk) (report c.args.report.now) (report c.print_lines.new.report)
-    (faults c.args.faults.now) (faults c.tell.new.faults) told printed handed c.in-Err-write_file.refusal
+    stops_at_file t (desk c.args.desk.now) (desk c.write_output.new.desk) (desk c.write_file.new.desk) (report c.args.report.now) (report c.print_lines.new.report) printed handed c.in-Err-write_file.refusal
     (subst (λ (file : Option (List ℕ)). GrewBy (StopsAtFile t.file_name file c.in-Err-write_file.refusal) (desk c.write_output.new.desk) (desk c.write_file.new.desk)) c.bytes_in.ensures c.in-Err-write_file.ensures.stopped)

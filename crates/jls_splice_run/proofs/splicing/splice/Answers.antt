@@ -1,5 +1,5 @@
 use Rattle.std.proofs.Common.{◌≡◌, ◌<◌, ℕ, List, length, Bor, subst, sym, arith}
-use Rattle.jls_device.specs.Event.{Event}
+use Rattle.jls_device.specs.Event.{Event, GrewBy}
 use Rattle.jls_copy_files.specs.CopyFiles.{AreCopiesRead, copies_of, copy_of}
 use Rattle.jls_copy_files.specs.declared.copy.CopyFile.{CopyFile}
 use Rattle.jls_splice_run.specs.Copies.{AreWhole}
@@ -45,11 +45,12 @@ pub returns-in-Err-make : goal.returns-in-Err-make
 returns-in-Err-make g c =
     let desk = g.D.Device.history in
     let report = g.W.Device.history c.args.report.now in
-    let faults = g.E.Device.history c.args.faults.now in
+    let faults = g.E.Device.history in
     let a = task_of c.args.task.now in
     let r = c.in-Err-make.refusal in
-    stops_unmade a (desk c.args.desk.now) (desk c.read_all.new.desk) (desk c.read_all.new.desk) report report faults faults (copies_of c.in-Ok.copies.items) c.in-Ok.ensures.read r
-    (subst (λ (xs : List CopyFile). CantMake a (copies_of xs) r) c.deref.ensures.value c.in-Err-make.ensures.stopped)
+    stops_unmade a (desk c.args.desk.now) (desk c.read_all.new.desk) (desk c.read_all.new.desk) report report (faults c.args.faults.now) (faults c.make.new.faults)
+    (copies_of c.in-Ok.copies.items) c.in-Ok.ensures.read r
+    (subst (λ (xs : List CopyFile). GrewBy (CantMake a (copies_of xs) r) (faults c.args.faults.now) (faults c.make.new.faults)) c.deref.ensures.value c.in-Err-make.ensures.stopped)
 
 pub returns : goal.returns
 returns g c =
@@ -59,8 +60,8 @@ returns g c =
     let a = task_of c.args.task.now in
     let v = c.in-Ok-make.made in
     stops_in_handing a (desk c.args.desk.now) (desk c.read_all.new.desk) (desk c.hand_out.new.desk) (report c.args.report.now) (report c.hand_out.new.report)
-    (faults c.args.faults.now) (faults c.hand_out.new.faults) (copies_of c.in-Ok.copies.items) c.in-Ok.ensures.read v
-    (subst (λ (xs : List CopyFile). HoldsMade a (copies_of xs) v) c.deref.ensures.value c.in-Ok-make.ensures.made)
+    (faults c.args.faults.now) (faults c.make.new.faults) (copies_of c.in-Ok.copies.items) c.in-Ok.ensures.read v
+    (subst (λ (xs : List CopyFile). GrewBy (HoldsMade a (copies_of xs) v) (faults c.args.faults.now) (faults c.make.new.faults)) c.deref.ensures.value c.in-Ok-make.ensures.made)
     c.in-Err-hand_out.refusal c.in-Err-hand_out.ensures.stopped
 
 pub returns-in-Ok-hand_out : goal.returns-in-Ok-hand_out
@@ -72,7 +73,7 @@ returns-in-Ok-hand_out g c =
     let v = c.in-Ok-make.made in
     let whole = c.are_whole.result in
     is_done a (desk c.args.desk.now) (desk c.read_all.new.desk) (desk c.hand_out.new.desk) (report c.args.report.now) (report c.hand_out.new.report)
-    (faults c.args.faults.now) (faults c.hand_out.new.faults) (copies_of c.in-Ok.copies.items) c.in-Ok.ensures.read v
-    (subst (λ (xs : List CopyFile). HoldsMade a (copies_of xs) v) c.deref.ensures.value c.in-Ok-make.ensures.made)
+    (faults c.args.faults.now) (faults c.make.new.faults) (copies_of c.in-Ok.copies.items) c.in-Ok.ensures.read v
+    (subst (λ (xs : List CopyFile). GrewBy (HoldsMade a (copies_of xs) v) (faults c.args.faults.now) (faults c.make.new.faults)) c.deref.ensures.value c.in-Ok-make.ensures.made)
     whole (subst (λ (xs : List CopyFile). IsTrue whole ↔ AreWhole (copies_of xs)) c.deref-in-Ok-hand_out.ensures.value c.are_whole.ensures)
     c.in-Ok-hand_out.ensures.done
