@@ -1,0 +1,75 @@
+//! Damaged copies of files.
+
+use crate::files::file_of;
+use std::alloc::{AllocError, Global};
+
+/// What the bytes from an offset on, up to another, have become.
+#[derive(Clone, Copy)]
+struct Damage {
+    from: usize,
+    behind: usize,
+    /// The byte that stands for each of them now; none where they are lost.
+    becomes: Option<u8>,
+}
+
+/// `FROM+COUNT=BYTE`, or `FROM+COUNT=lost`.
+fn damage_of(text: &str) -> Option<Damage> {
+    let (place, becomes) = text.split_once('=')?;
+    let (from, count) = place.split_once('+')?;
+    let from = from.parse::<usize>().ok()?;
+    let count = count.parse::<usize>().ok()?;
+    Some(Damage {
+        from,
+        behind: from.saturating_add(count),
+        becomes: becomes.parse::<u8>().ok(),
+    })
+}
+
+/// All of them, with blanks between them.
+fn damages_of(alloc: Global, text: &str) -> Result<Vec<Damage>, AllocError> {
+    let mut damages = Vec::new(alloc);
+    for word in text.split_whitespace() {
+        if let Some(damage) = damage_of(word) {
+            damages.push(damage)?;
+        }
+    }
+    Ok(damages)
+}
+
+/// What stands for the byte at an offset.
+fn byte_at(damages: &[Damage], offset: usize, byte: u8) -> Option<u8> {
+    for damage in damages {
+        if damage.from <= offset && offset < damage.behind {
+            return damage.becomes;
+        }
+    }
+    Some(byte)
+}
+
+/// The copy of a file that is damaged so. A name of another file is a copy of that one.
+pub(crate) fn copy_of(alloc: Global, file: &[u8], text: &str) -> Result<Vec<u8>, AllocError> {
+    if let Some(other) = file_of(text) {
+        return Vec::from_slice(alloc, other);
+    }
+    let damages = damages_of(alloc, text)?;
+    let mut copy = Vec::new(alloc);
+    for (offset, byte) in file.iter().enumerate() {
+        if let Some(byte) = byte_at(&damages, offset, *byte) {
+            copy.push(byte)?;
+        }
+    }
+    Ok(copy)
+}
+
+/// The copies of a file, damaged as the parts of a text between ` / ` say.
+pub(crate) fn copies_of(
+    alloc: Global,
+    file: &[u8],
+    text: &str,
+) -> Result<Vec<Vec<u8>>, AllocError> {
+    let mut copies = Vec::new(alloc);
+    for part in text.split(" / ") {
+        copies.push(copy_of(alloc, file, part)?)?;
+    }
+    Ok(copies)
+}

@@ -1,0 +1,87 @@
+//! Files without a fault, and fronts that no such file begins with.
+
+use crate::damage::copy_of;
+use crate::files::file_of;
+use jls_copy::CopyReader;
+use jls_splice::{are_short, is_dead, is_faultless, parts_can_be_searched, search_copies};
+use std::alloc::Global;
+use std::process::Abort;
+use std::test::Fail;
+
+/// A file, what is damaged in it, and whether that is without a fault, and whether it is a dead front.
+const FRONTS: [(&str, &str, bool, bool); 9] = [
+    ("eight", "whole", true, false),
+    ("scans", "whole", true, false),
+    ("restarts", "whole", true, false),
+    // the scan data is cut off
+    ("eight", "500+999=lost", false, false),
+    // FF A0 in the scan data, which is cut off behind that
+    ("eight", "100+1=255 101+1=160 300+999=lost", false, true),
+    // the frame header ends the file, or EOI stands behind it
+    ("eight", "15+999=lost", false, false),
+    ("eight", "15+669=lost", false, true),
+    // the second interval and the marker behind it are lost
+    ("restarts", "97+69=lost", false, true),
+    // there is no third scan
+    ("scans", "269+136=lost", false, true),
+];
+
+/// A reader that was fed the bytes.
+fn reader_of(alloc: Global, bytes: &[u8]) -> Result<CopyReader, Fail> {
+    let mut reader = CopyReader::new(alloc);
+    if reader.feed(bytes).is_err() {
+        return Err(Fail::from("out of memory"));
+    }
+    Ok(reader)
+}
+
+#[test]
+fn judges_fronts(rt: HostRuntime) -> Result<(), Fail> {
+    for (name, damage, faultless, dead) in FRONTS {
+        let file = file_of(name).ok_or("no file")?;
+        let front = copy_of(rt.alloc(), file, damage)?;
+        let is_without_fault = is_faultless(reader_of(rt.alloc(), &front)?)?;
+        assert_eq!(rt; is_without_fault, faultless, "{name} {damage}");
+        let is_given_up = is_dead(reader_of(rt.alloc(), &front)?)?;
+        assert_eq!(rt; is_given_up, dead, "{name} {damage}");
+    }
+    Ok(())
+}
+
+/// How many files without a fault are found in so many tries of the first file, and whether the tries are used up, where its copies are
+/// damaged at these offsets.
+const SEARCHES: [(&str, &str, u32, usize, bool); 4] = [
+    ("100+8=0", "400+8=0", 4096, 1, false),
+    ("100+8=0", "400+8=0", 1, 0, true),
+    ("whole", "whole", 4096, 1, false),
+    ("300+8=0", "300+8=85", 4096, 0, false),
+];
+
+fn check_search(
+    rt: &impl Abort,
+    alloc: Global,
+    copies: &[&[u8]],
+    row: (u32, usize, bool),
+) -> Result<(), Fail> {
+    if copies.is_empty() || !are_short(copies) {
+        return Err(Fail::from("no copy, or too many bytes"));
+    }
+    parts_can_be_searched();
+    let (limit, files, is_used_up) = row;
+    let found = search_copies(alloc, copies, limit)?;
+    assert_eq!(rt; found.searched.splices.len(), files);
+    assert_eq!(rt; found.searched.is_used_up, is_used_up);
+    Ok(())
+}
+
+#[test]
+fn searches(rt: HostRuntime) -> Result<(), Fail> {
+    let file = file_of("eight").ok_or("no file")?;
+    for (first, second, limit, files, is_used_up) in SEARCHES {
+        let first = copy_of(rt.alloc(), file, first)?;
+        let second = copy_of(rt.alloc(), file, second)?;
+        let row = (limit, files, is_used_up);
+        check_search(&rt, rt.alloc(), &[first.as_slice(), second.as_slice()], row)?;
+    }
+    Ok(())
+}

@@ -1,0 +1,161 @@
+//! Runs over copies of one file, each damaged in its own way: what comes back is the picture of the file, or is told not to.
+
+use crate::damage::copies_of;
+use crate::files::{file_of, text_of};
+use crate::memory::MemoryFiles;
+use jls_device::Counted;
+use jls_splice_run::run;
+use std::alloc::{AllocError, Global};
+use std::process::Abort;
+use std::test::Fail;
+
+/// What stands in a row behind its name: the file; what is damaged in each copy; the words behind the program's name; the status; the
+/// picture that OUT is to be, or `other` where it is to be none, or `nothing` where it is not created; and a line that is printed.
+const ROWS: &str = "\
+one place: eight: 100+8=0 / 400+8=0: OUT 1 2: 0 eight: splices 1
+two places: eight: 100+8=0 300+8=0 / 200+8=0 500+8=0: OUT 1 2: 0 eight: splices 1
+twelve bytes apart: eight: 200+8=0 / 220+8=0: OUT 1 2: 0 eight: splices 1
+sectors that touch: eight: 200+64=0 / 264+64=0: OUT 1 2: 0 eight: splices 1
+cut off behind the damage: eight: 500+999=lost / 100+8=0: OUT 1 2: 0 eight: splices 1
+lost and zeroed: eight: 200+5=lost / 400+8=0: OUT 1 2: 0 eight: splices 1
+a header and data: eight: 0+24=0 / 300+8=0: OUT 1 2: 0 eight: splices 1
+a header twice and data: eight: 2+4=0 300+8=0 / 12+3=0: OUT 1 2: 0 eight: splices 1
+a third of each: eight: 25+220=0 / 245+220=0 / 465+219=0: OUT 1 2 3: 0 eight: splices 1
+lost where others are damaged: eight: 200+8=lost / 200+2=0 400+8=0 / 206+2=0 500+8=0: OUT 1 2 3: 0 eight: splices 1
+in a COM segment: comment: 100+8=0 / 400+8=0: OUT 1 2: 0 comment: splices 1
+three scans: scans: 60+8=85 330+8=85 / 200+8=85: OUT 1 2: 0 scans: splices 1
+one interval: restarts: 45+3=0 / 70+3=0: OUT 1 2: 0 restarts: splices 1
+two intervals: restarts: 50+4=0 / 140+4=0: OUT 1 2: 0 restarts: splices 1
+one place in all: eight: 300+8=0 / 300+8=85: OUT 1 2: 1 other: missing 1 0-19
+one copy twice: eight: whole / whole: OUT 1 2: 0 eight: splices 0
+a flipped bit in each: eight: 114+1=221 / 400+1=237: OUT 1 2: 1 other: splices 1
+two pictures: eight: whole / other: OUT 1 2: 1 other: splices 0
+a height: flat: whole / 8+1=3: OUT 1 2: 3 nothing: jls-splice: 2: shape differs
+no copy begins: eight: 0+999=lost / 0+999=lost: OUT 1 2: 3 nothing: jls-splice: 1: no picture, fault 19 at 0
+one byte: eight: 1+999=lost / 0+999=lost: OUT 1 2: 3 nothing: jls-splice: 1: no picture, fault 19 at 1
+two bytes: eight: 2+999=lost / 0+999=lost: OUT 1 2: 3 nothing: jls-splice: 1: no picture, fault 19 at 2
+no frame but in the last: eight: 0+999=lost / 0+3=0 / 400+8=0: OUT 1 2 3: 0 eight: splices 1
+not there: eight: whole / whole: OUT 1 3: 4 nothing: jls-splice: 3: cannot be opened
+the mended file: eight: 100+8=0 / 400+8=0: --file NAME OUT 1 2: 0 eight: splices 1
+no mended file: eight: 300+8=0 / 300+8=85: --file NAME OUT 1 2: 1 other: no single file
+two mended files: eight: whole / other: --file NAME OUT 1 2: 1 other: no single file
+each sixteenth: eight: 40+4=0 120+4=0 200+4=0 280+4=0 360+4=0 440+4=0 520+4=0 600+4=0 / 80+4=0 160+4=0 240+4=0 320+4=0 400+4=0 \
+480+4=0 560+4=0 640+4=0: --tries 100 OUT 1 2: 0 eight: splices 1
+few tries: eight: 100+8=0 / 400+8=0: --tries 2 OUT 1 2: 1 other: tries used up
+its progress: eight: 100+8=0 / 400+8=0: --tries 2 --progress OUT 1 2: 1 other: 2 tries, 0 files
+many files: sixteen: 40+1=165 112+1=165 184+1=165 256+1=165 328+1=165 400+1=165 472+1=165 / 76+1=165 148+1=165 220+1=165 292+1=165 \
+364+1=165 436+1=165: OUT 1 2: 1 other: tries used up";
+
+/// What a run is to do, and what is to come of it.
+#[derive(Clone, Copy)]
+struct Row<'a> {
+    name: &'a str,
+    file: &'a str,
+    copies: &'a str,
+    words: &'a str,
+    status: &'a str,
+    picture: &'a str,
+    told: &'a str,
+}
+
+fn row_of(text: &str) -> Option<Row<'_>> {
+    let (name, rest) = text.split_once(": ")?;
+    let (file, rest) = rest.split_once(": ")?;
+    let (copies, rest) = rest.split_once(": ")?;
+    let (words, rest) = rest.split_once(": ")?;
+    let (end, told) = rest.split_once(": ")?;
+    let (status, picture) = end.split_once(' ')?;
+    Some(Row {
+        name,
+        file,
+        copies,
+        words,
+        status,
+        picture,
+        told,
+    })
+}
+
+/// How a run ended.
+#[derive(Drop)]
+struct Ending {
+    status: u8,
+    report: Vec<u8>,
+    faults: Vec<u8>,
+}
+
+/// Runs the program with the words of a line behind its name.
+fn run_line(alloc: Global, line: &str, files: &mut MemoryFiles<'_>) -> Result<Ending, AllocError> {
+    let mut words = Vec::new(alloc);
+    words.push(String::from_str(alloc, "jls-splice")?)?;
+    for word in line.split_whitespace() {
+        words.push(String::from_str(alloc, word)?)?;
+    }
+    let mut report = Vec::new(alloc);
+    let mut faults = Vec::new(alloc);
+    let status = run(
+        alloc,
+        &words,
+        &mut Counted::closed(files),
+        &mut Counted::new(&mut report),
+        &mut Counted::new(&mut faults),
+    );
+    Ok(Ending {
+        status,
+        report,
+        faults,
+    })
+}
+
+/// Whether this line stands in a text.
+fn has_line(text: &[u8], line: &str) -> bool {
+    match std::str::from_utf8(text) {
+        Ok(text) => text.lines().any(|found| found == line),
+        Err(_) => false,
+    }
+}
+
+/// Whether OUT is as the row says.
+fn is_output(alloc: Global, row: Row<'_>, output: Option<&[u8]>) -> Result<bool, AllocError> {
+    let Some(output) = output else {
+        return Ok(row.picture == "nothing");
+    };
+    match text_of(alloc, row.picture)? {
+        Some(text) => Ok(output == text.as_slice()),
+        None => Ok(row.picture == "other"),
+    }
+}
+
+/// Whether NAME is created where exactly one file has no fault, and is that file then.
+fn is_mended(row: Row<'_>, mended: Option<&[u8]>) -> bool {
+    let Some(mended) = mended else {
+        return row.status != "0" || !row.words.starts_with("--file");
+    };
+    match file_of(row.file) {
+        Some(file) => row.status == "0" && mended == file,
+        None => false,
+    }
+}
+
+fn check_row(rt: &impl Abort, alloc: Global, text: &str) -> Result<(), Fail> {
+    let row = row_of(text).ok_or("no row")?;
+    let file = file_of(row.file).ok_or("no file")?;
+    let copies = copies_of(alloc, file, row.copies)?;
+    let mut files = MemoryFiles::new(alloc, &copies);
+    let ending = run_line(alloc, row.words, &mut files)?;
+    assert_eq!(rt; Ok(ending.status), row.status.parse::<u8>(), "{}", row.name);
+    let is_right = is_output(alloc, row, files.output("OUT"))?;
+    assert!(rt; is_right, "{}", row.name);
+    assert!(rt; is_mended(row, files.output("NAME")), "{}", row.name);
+    let is_told = has_line(&ending.report, row.told) || has_line(&ending.faults, row.told);
+    assert!(rt; is_told, "{}", row.name);
+    Ok(())
+}
+
+#[test]
+fn mends_files(rt: HostRuntime) -> Result<(), Fail> {
+    for row in ROWS.lines() {
+        check_row(&rt, rt.alloc(), row)?;
+    }
+    Ok(())
+}

@@ -1,0 +1,74 @@
+//! That words are read: no clause says that memory is left for it.
+
+use jls_splice_words::{Asked, Options, asked_splice, matches};
+use std::alloc::{AllocError, Global};
+use std::test::Fail;
+
+/// The words of a command line, behind the program's name.
+fn words_of(alloc: Global, line: &str) -> Result<Vec<String>, AllocError> {
+    let mut words = Vec::new(alloc);
+    words.push(String::from_str(alloc, "jls-splice")?)?;
+    for word in line.split_whitespace() {
+        words.push(String::from_str(alloc, word)?)?;
+    }
+    Ok(words)
+}
+
+/// What is asked for where no option is given.
+const PLAIN: Options<'static> = Options {
+    source: None,
+    tries: 4096,
+    progress: false,
+    file: None,
+};
+
+#[test]
+fn words_are_read(rt: HostRuntime) -> Result<(), Fail> {
+    let all = Options {
+        source: Some(4_294_967_295),
+        tries: 1,
+        progress: true,
+        file: Some("mended.jls"),
+    };
+    let rows = [
+        ("OUT 1 2 3", PLAIN),
+        (
+            "--source=4294967295 --tries 1 OUT 1 --progress 2 3 --file mended.jls",
+            all,
+        ),
+    ];
+    for (line, options) in rows {
+        let words = words_of(rt.alloc(), line)?;
+        let matches = matches(rt.alloc(), &words)?;
+        let asked = asked_splice(&matches).ok_or("nothing asked")?;
+        let expected = Asked {
+            options,
+            out: "OUT",
+            first: "1",
+            second: "2",
+            others: &["3"],
+        };
+        assert_eq!(rt; asked, expected, "{line}");
+    }
+    Ok(())
+}
+
+#[test]
+fn words_are_refused(rt: HostRuntime) -> Result<(), Fail> {
+    let rows = [
+        "",
+        "OUT",
+        "OUT 1",
+        "--tries 0 OUT 1 2",
+        "--tries 4294967296 OUT 1 2",
+        "--source -1 OUT 1 2",
+        "--source 4294967296 OUT 1 2",
+        "--file OUT 1 2 --file",
+        "--groups OUT 1 2",
+    ];
+    for line in rows {
+        let words = words_of(rt.alloc(), line)?;
+        assert!(rt; matches(rt.alloc(), &words).is_err(), "{line}");
+    }
+    Ok(())
+}
