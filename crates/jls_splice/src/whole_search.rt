@@ -6,7 +6,7 @@ ghost use Rattle.jls_parts.specs.Parts.{Part as SpecPart};
 ghost use Rattle.jls_parts.specs.PartsOf.{parts_of};
 ghost use Rattle.jls_splice.specs.Choices.{HasSomeWay, front_of};
 ghost use Rattle.jls_splice.specs.Faultless.{IsFaultless};
-ghost use Rattle.jls_splice.specs.Search.{IsShort, IsSearch, CanGoOn, GoesFrom, CameTo, HasEachSplice, MakeFiles, files_of, lists_of, StandsAt, GoesOn};
+ghost use Rattle.jls_splice.specs.Search.{IsShort, IsBegun, IsSearch, IsStep, CanGoOn, GoesFrom, WereTried, CameTo, HasEachSplice, MakeFiles, files_of, lists_of, StandsAt, GoesOn};
 
 use crate::looking::{Sight, look};
 use crate::path::{descend, follow_same, turn};
@@ -49,6 +49,7 @@ fn pass_found(
     ensures next { IfOk result (λ more. GoesOn (parts_of parts.now) path.new.items (lists_of found.new.items) more) }
     ensures count { IfOk result (λ more. (length (lists_of found.old.items) ≤ length (lists_of found.new.items))
         × (length (lists_of found.new.items) ≤ length (lists_of found.old.items) + 1)) }
+    ensures step { IfOk result (λ more. IsStep path.old.items (lists_of found.old.items) path.new.items (lists_of found.new.items) more) }
 {
     take_found(alloc, path, found)?;
     turn(parts, path)
@@ -67,6 +68,7 @@ fn try_next(
     ensures next { IfOk result (λ more. GoesOn (parts_of parts.now) path.new.items (lists_of found.new.items) more) }
     ensures count { IfOk result (λ more. (length (lists_of found.old.items) ≤ length (lists_of found.new.items))
         × (length (lists_of found.new.items) ≤ length (lists_of found.old.items) + 1)) }
+    ensures step { IfOk result (λ more. IsStep path.old.items (lists_of found.old.items) path.new.items (lists_of found.new.items) more) }
 {
     let sight = look(alloc, parts, path)?;
     match sight {
@@ -97,7 +99,7 @@ impl WholeSearch {
     /// A search that has tried nothing.
     pub fn begin(alloc: Global, parts: &[Part<'_>]) -> Result<WholeSearch, AllocError>
         ensures stands { IfOk result (λ begun. IsSearch (parts_of parts.now) begun) }
-        ensures untried { IfOk result (λ begun. (begun.tries ≡ 0) × (begun.splices.items ≡ []) × (begun.goes_on ≡ true)) }
+        ensures untried { IfOk result (λ begun. IsBegun begun) }
     {
         let mut path = Vec::new(alloc);
         follow_same(parts, &mut path)?;
@@ -123,7 +125,7 @@ impl WholeSearch {
         requires stands { IsSearch (parts_of parts.now) self.old }
         ensures stands { OnOk result (IsSearch (parts_of parts.now) self.new) }
         ensures stops { OnOk result (CanGoOn self.new limit → ⊥) }
-        ensures went { OnOk result (GoesFrom self.old self.new limit) }
+        ensures went { OnOk result (GoesFrom (parts_of parts.now) self.old self.new limit) }
     {
         while self.can_go_on(limit) {
             self.tries += 1;
@@ -162,6 +164,7 @@ pub fn search(alloc: Global, parts: &[Part<'_>], limit: u32) -> Result<Searched,
     ensures used_up { IfOk result
         (λ searched. searched.is_used_up ≡ true → (searched.tries ≡ limit) ⊎ (length searched.splices.items ≡ 64)) }
     ensures few { IfOk result (λ searched. (searched.tries ≤ limit) × (length searched.splices.items ≤ 64)) }
+    ensures tried { IfOk result (λ searched. WereTried (parts_of parts.now) searched.tries (lists_of searched.splices.items)) }
 {
     let mut begun = WholeSearch::begin(alloc, parts)?;
     begun.go_on(alloc, parts, limit)?;

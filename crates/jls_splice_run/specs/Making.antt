@@ -8,7 +8,7 @@ use Rattle.jls_partial.specs.Status.{IsSettled}
 use Rattle.jls_partial.specs.Text.{text}
 use Rattle.jls_parts.specs.Parts.{Part, AreParts}
 use Rattle.jls_parts.specs.PartsOf.{parts_of}
-use Rattle.jls_splice.specs.Search.{CameTo, files_of, lists_of}
+use Rattle.jls_splice.specs.Search.{CameTo, WereTried, files_of, lists_of}
 use Rattle.jls_splice.specs.declared.copies.SearchedCopies.{SearchedCopies}
 use Rattle.jls_report.specs.Report.{report_of}
 use Rattle.jls_report.specs.ReportText.{report_text}
@@ -64,8 +64,10 @@ pub record Made : Type 0 where
   pub picture : PartialPicture
   pub single : Option (List ℕ)
 
--- so many tries were made of those that are allowed; and where they were used up these are all of them, or 64 files were found
+-- so many tries were made of those that are allowed, and came to what was found; and where they were used up these are all of them, or 64
+-- files were found
 pub record AreTries (limit : ℕ) (m : Made) : Type 0 where
+  pub tried : WereTried m.found.parts m.tries m.found.choices
   pub within : m.tries ≤ limit
   pub used_up : m.found.is_used_up ≡ true → (m.tries ≡ limit) ⊎ (length m.found.choices ≡ 64)
 

@@ -5,7 +5,7 @@ ghost use Rattle.jls_copy_files.specs.CopyFiles.{copies_of};
 ghost use Rattle.jls_device.specs.Event.{GrewBy};
 ghost use Rattle.jls_parts.specs.Parts.{made};
 ghost use Rattle.jls_parts.specs.PartsOf.{bytes_of, parts_of};
-ghost use Rattle.jls_splice.specs.Search.{IsShort, MakeFiles, lists_of};
+ghost use Rattle.jls_splice.specs.Search.{IsShort, MakeFiles, WereTried, lists_of};
 ghost use Rattle.jls_splicing.specs.Files as given;
 ghost use Rattle.jls_splice_progress.specs.Telling.{IsTold, ToldSome};
 ghost use Rattle.jls_splice_run.specs.Making.{AreTextsOf, CantMake, HoldsMade, IsFound, files_taken, found_of, lacks_single, made_of};
@@ -51,6 +51,8 @@ fn search<'c, E: Sink>(
     ensures short { IfOk result (λ found. IsShort (parts_of found.parts.items)) }
     ensures small { IfOk result (λ found. length (made 0 (parts_of found.parts.items)) < 2 ^ 64) }
     ensures few { IfOk result (λ found. found.searched.tries ≤ options.tries) }
+    ensures tried { IfOk result (λ found.
+        WereTried (parts_of found.parts.items) found.searched.tries (lists_of found.searched.splices.items)) }
     ensures used_up { IfOk result (λ found. found.searched.is_used_up ≡ true
         → (found.searched.tries ≡ options.tries) ⊎ (length (lists_of found.searched.splices.items) ≡ 64)) }
     ensures told { IfOk result (λ found.

@@ -1,4 +1,4 @@
-use Rattle.std.proofs.Common.{◌≡◌, ℕ, ◌+◌, ◌<◌, ◌≤◌, List, length, sym, subst, arith}
+use Rattle.std.proofs.Common.{◌≡◌, ℕ, ◌+◌, ◌<◌, ◌≤◌, List, length, refl, sym, subst, arith, inl}
 use Rattle.jls_parts.specs.PartsOf.{parts_of}
 use Rattle.jls_parts.specs.Parts.{Part}
 use Rattle.jls_splice.specs.Choices.{IsPath}
@@ -6,7 +6,7 @@ use Rattle.jls_splice.specs.Search.{IsSeen, lists_of}
 use Rattle.jls_splice.specs.declared.looking.Sight.{Sight}
 use Rattle.jls_splice.specs.declared.looking.Sight.TheVariants.{Dead, Open, Found}
 use Rattle.jls_splice.proofs.Paths.{length-map}
-use Rattle.jls_splice.proofs.Searching.{descended, turned_on, dead_behind, on_ok}
+use Rattle.jls_splice.proofs.Searching.{descended, turned_on, turned_step, dead_behind, on_ok}
 use Rattle.jls_splice.proofs.whole_search.try_next.Goals as goal
 
 seen : (ps : List Part) (path there : List ℕ) (sight is : Sight) → there ≡ path → sight ≡ is → IsSeen ps there sight → IsSeen ps path is
@@ -49,3 +49,11 @@ pub returns-in-Dead-clause-count : goal.returns-in-Dead-clause-count
 returns-in-Dead-clause-count c =
     let F : List (List ℕ) = lists_of c.args.found.now.items in
     on_ok c.turn.result ((length F ≤ length F) × (length F ≤ length F + 1)) (omega arith, omega arith)
+
+pub returns-in_ok-descend-in-Open-clause-step : goal.returns-in_ok-descend-in-Open-clause-step
+returns-in_ok-descend-in-Open-clause-step c = (inl refl, λ _. inl c.in_ok-descend-in-Open.ensures.grew)
+
+pub returns-in-Dead-clause-step : goal.returns-in-Dead-clause-step
+returns-in-Dead-clause-step c =
+    let F : List (List ℕ) = lists_of c.args.found.now.items in
+    turned_step c.turn.result c.args.path.now.items c.turn.new.path.items F F (inl refl) c.turn.ensures.behind

@@ -70,7 +70,7 @@ returns-in-Ok-texts_of-clause-made g c =
       m,
       record {
         is_found = subst (λ (xs : List (List ℕ)). IsFound xs (found_of found)) searched c.in-Ok-search.ensures.found;
-        are_tries = record { within = c.in-Ok-search.ensures.few; used_up = c.in-Ok-search.ensures.used_up };
+        are_tries = record { tried = c.in-Ok-search.ensures.tried; within = c.in-Ok-search.ensures.few; used_up = c.in-Ok-search.ensures.used_up };
         is_picture = subst (λ (q : PartialPicture). IsPictureOf a.options.source copies (files_of (parts_of found.parts.items) (lists_of found.searched.splices.items)) q) (sym c.partial.ensures)
             (subst (λ (xs : List (List ℕ)). IsPictureOf a.options.source copies xs c.in-Ok-settle.station) splices c.in-Ok-settle.ensures.settled);
         is_single = subst (λ (xs : List (List ℕ)). IsSingleAsked a.options.file (files_taken xs (found_of found)) m.single) told c.in-Ok-texts_of.ensures.single;
