@@ -36,6 +36,13 @@ impl PushedBytes {
         PushedBytes {}
     }
 
+    /// The same bytes once more.
+    pub fn to_owned(&self) -> PushedBytes
+        ensures { result.list ≡ self.now.list }
+    {
+        PushedBytes::then(self, &NextBytes { bytes: &[] })
+    }
+
     /// Notes bytes.
     pub fn note_all(&mut self, bytes: &[u8])
         ensures { self.new.list ≡ self.old.list ++ bytes.now }

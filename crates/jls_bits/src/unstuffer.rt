@@ -41,6 +41,17 @@ impl Unstuffer {
         }
     }
 
+    /// A second one that was given the same bytes. It takes no memory.
+    pub fn to_owned(&self) -> Unstuffer
+        ensures { result ≡ self.now }
+    {
+        Unstuffer {
+            pushed: self.pushed.to_owned(),
+            last: self.last,
+            ended: self.ended,
+        }
+    }
+
     /// The data bits of the next byte, as a number and how many they are: 8, or 7 after 0xFF. None for a byte of 0x80
     /// or more that follows 0xFF, and for each byte from then on: these have no data bits.
     pub fn push(&mut self, byte: u8) -> Option<(u8, u8)>

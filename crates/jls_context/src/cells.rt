@@ -64,6 +64,18 @@ impl Cells {
         }
     }
 
+    /// The same cells once more.
+    pub fn to_owned(&self) -> Cells
+        ensures { result ≡ self.now }
+    {
+        Cells {
+            params: self.params,
+            regular: self.regular,
+            run_other: self.run_other,
+            run_same: self.run_same,
+        }
+    }
+
     /// The mode of a sample with Ra to its left, Rb above, Rc above to the left and Rd above to the right (A.3).
     #[inline(always)]
     pub fn mode(&self, ra: u16, rb: u16, rc: u16, rd: u16) -> Mode

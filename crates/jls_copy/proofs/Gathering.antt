@@ -36,14 +36,6 @@ use Rattle.jls_copy.specs.declared.place.Place.{Place}
 use Rattle.jls_copy.specs.declared.place.Place.TheVariants.{Start, AtMarker, AtLength, InLength, InPayload, InScan, Done}
 use Rattle.jls_copy.proofs.Kept.{behind_some}
 
--- reading is a fold: one byte more is one step more
-from_snoc : (r : Reading) (bytes : List ℕ) (b : ℕ) → reading_from r (bytes ++ b ∷ []) ≡ reading_with (reading_from r bytes) b
-from_snoc r [] b = refl
-from_snoc r (x ∷ bytes) b = from_snoc (reading_with r x) bytes b
-
-pub reading_snoc : (bytes : List ℕ) (b : ℕ) → reading (bytes ++ b ∷ []) ≡ reading_with (reading bytes) b
-reading_snoc bytes b = from_snoc _ bytes b
-
 pub are_more : (ps : List FoundPiece) (os : List PieceOutcome) (p : FoundPiece) (o : PieceOutcome) → AreOutcomes ps os → IsOutcome p o
     → AreOutcomes (ps ++ p ∷ []) (os ++ o ∷ [])
 are_more [] [] p o h i = (i, tt)

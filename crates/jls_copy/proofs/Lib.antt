@@ -23,6 +23,7 @@ mod MachineTakes
 mod ScanTakes
 mod StretchEnds
 mod Gathering
+mod Clones
 mod CutOutcomes
 mod CutGathering
 mod CopyTold

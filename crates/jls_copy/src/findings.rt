@@ -1,6 +1,6 @@
 //! What a copy gives: readings, and records of the pieces that give none.
 
-ghost use Rattle.std.specs.Prelude.{◌≡◌, ◌≢◌, ◌+◌, ◌*◌, ◌^◌, ◌≤◌, ◌<◌, ◌∷◌, [], ℕ, OnOk, length, map, take, Some, None};
+ghost use Rattle.std.specs.Prelude.{◌≡◌, ◌≢◌, ◌+◌, ◌*◌, ◌^◌, ◌≤◌, ◌<◌, ◌∷◌, [], ℕ, IfOk, OnOk, length, map, take, Some, None};
 ghost use Rattle.jls_copy.specs.Findings.{with_readings, picture_of, HoldsShape, kept_with, Adds, AddsCut, IsKindOf};
 ghost use Rattle.jls_copy.specs.Fits.{FitFrom};
 ghost use Rattle.jls_partial.specs.InsertFaults.{reading_fault};
@@ -15,7 +15,7 @@ use crate::piece::{OpenPiece, PieceKind, PieceRecord, ToldPiece};
 use jls_interval::{CutEnd, PieceFault};
 use jls_marker::ScanPlan;
 use jls_partial::{InsertFault, Partial};
-use jls_values::Shape;
+use jls_values::{Merge, MergeFault, Shape};
 use std::alloc::{AllocError, Global};
 
 /// The readings, the first 4,096 records, and how many pieces gave none.
@@ -24,6 +24,18 @@ pub(crate) struct Findings {
     pub(crate) partial: Option<Partial>,
     pub(crate) records: Vec<PieceRecord>,
     pub(crate) record_count: u64,
+}
+
+/// A second picture with the same readings.
+fn cloned_picture(alloc: Global, partial: &Partial) -> Result<Partial, AllocError>
+    ensures { IfOk result (λ clone. clone ≡ partial.now) }
+{
+    let mut clone = Partial::empty(alloc, partial.shape().to_owned());
+    match clone.merge(partial) {
+        Ok(()) => Ok(clone),
+        Err(MergeFault::OutOfMemory) => Err(AllocError),
+        Err(MergeFault::ShapeDiffers) => unreachable!(),
+    }
 }
 
 /// Takes a line that fits into the picture.
@@ -75,6 +87,23 @@ fn kind_of(fault: PieceFault) -> PieceKind
 }
 
 impl Findings {
+    /// Second findings of the same readings and records.
+    pub(crate) fn try_clone(&self, alloc: Global) -> Result<Findings, AllocError>
+        ensures picture { IfOk result (λ clone. clone.partial ≡ self.now.partial) }
+        ensures records { IfOk result (λ clone. clone.records.items ≡ self.now.records.items) }
+        ensures count { IfOk result (λ clone. clone.record_count ≡ self.now.record_count) }
+    {
+        let partial = match &self.partial {
+            None => None,
+            Some(partial) => Some(cloned_picture(alloc, partial)?),
+        };
+        Ok(Findings {
+            partial,
+            records: Vec::from_slice(alloc, &self.records)?,
+            record_count: self.record_count,
+        })
+    }
+
     /// Keeps a record, if fewer than 4,096 are kept, and counts it.
     fn note(&mut self, entry: PieceRecord) -> Result<(), AllocError>
         requires { self.old.record_count < 2 ^ 63 }

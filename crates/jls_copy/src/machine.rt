@@ -2,11 +2,12 @@
 
 ghost use Rattle.std.specs.Prelude.{◌≡◌, ◌+◌, ◌^◌, ◌∷◌, [], ◌<◌, ◌≤◌, ℕ, OnOk, IfOk, IfSome, true, Some, List, length};
 ghost use Rattle.jls_copy.specs.ReaderState as state;
-ghost use Rattle.jls_copy.specs.Machine.{IsMachine, IsWholeSegment, Takes};
+ghost use Rattle.jls_copy.specs.Machine.{IsMachine, IsWholeSegment, Takes, state_of};
 ghost use Rattle.jls_copy.specs.Findings.{AddsBy, AddsCut, HoldsShape};
 ghost use Rattle.jls_values.specs.Shape.{PictureShape};
 ghost use Rattle.jls_copy.specs.Sound.{IsPlace, IsOpenPiece, IsOfFrame};
 ghost use Rattle.jls_copy.specs.declared.place.Place.TheVariants.{Start, AtMarker, InPayload};
+ghost use Rattle.jls_copy.specs.declared.piece.ClosedBy.TheVariants.{Marker};
 
 use crate::end::End;
 use crate::fill::fill_len;
@@ -14,6 +15,7 @@ use crate::findings::Findings;
 use crate::piece::ClosedBy;
 use crate::place::Place;
 use crate::scan::{OpenScan, ScanStep};
+use jls_marker::codes::{EOI, SOI};
 use jls_marker::{Headers, MarkerFault, has_segment};
 use std::alloc::{AllocError, Global};
 
@@ -55,8 +57,25 @@ fn close(
     }
 }
 
-/// The size of the segment whose marker stands at the front of these bytes, behind no other fill, and which stands whole there: of its
-/// payload and of the two bytes of its length.
+/// The same, of the piece that a marker closes.
+fn close_at_marker(
+    alloc: Global,
+    headers: &Headers,
+    findings: &mut Findings,
+    scan: &mut OpenScan,
+) -> Result<(), AllocError>
+    requires count { findings.old.record_count < 2 ^ 63 }
+    requires sound { IsOpenPiece scan.old.plan scan.old.piece }
+    requires scan { IsOfFrame headers.now.frame scan.old.plan }
+    requires held { (shape : PictureShape) → headers.now.frame ≡ Some shape → HoldsShape findings.old.partial shape }
+    ensures rest { scan.new ≡ record scan.old { piece = scan.new.piece } }
+    ensures found { OnOk result (AddsBy Marker headers.now.frame (state.found scan.old ∷ []) findings.old findings.new) }
+{
+    close(alloc, headers, findings, scan, ClosedBy::Marker)
+}
+
+/// The size of the segment with which these bytes begin, where its marker has one FF and all its bytes are there. The size counts the
+/// payload and the two bytes of the length.
 fn whole_segment_size(bytes: &[u8]) -> Option<u16>
     ensures { IfSome result (IsWholeSegment bytes.now) }
 {
@@ -72,6 +91,26 @@ fn whole_segment_size(bytes: &[u8]) -> Option<u16>
 }
 
 impl Machine {
+    /// A second machine that was told the same bytes.
+    pub(crate) fn try_clone(&self) -> Result<Machine, AllocError>
+        ensures state { IfOk result (λ clone. state_of clone ≡ state_of self.now) }
+        ensures picture { IfOk result (λ clone. clone.findings.partial ≡ self.now.findings.partial) }
+        ensures records { IfOk result (λ clone. clone.findings.records.items ≡ self.now.findings.records.items) }
+        ensures record_count { IfOk result (λ clone. clone.findings.record_count ≡ self.now.findings.record_count) }
+    {
+        let place = self.place.try_clone()?;
+        let payload = Vec::from_slice(self.alloc, &self.payload)?;
+        let findings = self.findings.try_clone(self.alloc)?;
+        Ok(Machine {
+            alloc: self.alloc,
+            count: self.count,
+            place,
+            headers: self.headers.to_owned(),
+            payload,
+            findings,
+        })
+    }
+
     /// A byte before SOI.
     fn step_at_start(&mut self, fill: bool, byte: u8)
         requires { fill ≡ true → 1 ≤ self.old.count }
@@ -81,7 +120,7 @@ impl Machine {
             self.place = Place::Start(true);
         } else if !fill {
             self.place = Place::Done(End::Header(MarkerFault::NoSoi, self.count));
-        } else if byte == 0xd8 {
+        } else if byte == SOI {
             self.place = Place::AtMarker(false);
         } else {
             self.place = Place::Done(End::Header(MarkerFault::NoSoi, self.count - 1));
@@ -102,7 +141,7 @@ impl Machine {
             return;
         }
         let marker = self.count - 1;
-        if byte == 0xd9 {
+        if byte == EOI {
             if has_frame {
                 self.place = Place::Done(End::Eoi(marker));
             } else {
@@ -265,24 +304,12 @@ impl Machine {
             Place::InScan(scan) => match scan.take(bytes)? {
                 ScanStep::Data(count) => Ok(count),
                 ScanStep::Restart(mark) => {
-                    close(
-                        self.alloc,
-                        &self.headers,
-                        &mut self.findings,
-                        scan,
-                        ClosedBy::Marker,
-                    )?;
+                    close_at_marker(self.alloc, &self.headers, &mut self.findings, scan)?;
                     scan.begin(self.alloc, mark, self.count + 1);
                     Ok(1)
                 }
                 ScanStep::End => {
-                    close(
-                        self.alloc,
-                        &self.headers,
-                        &mut self.findings,
-                        scan,
-                        ClosedBy::Marker,
-                    )?;
+                    close_at_marker(self.alloc, &self.headers, &mut self.findings, scan)?;
                     self.step_at_marker(true, true, bytes[0]);
                     Ok(1)
                 }

@@ -1,6 +1,6 @@
 //! Pieces of scan data.
 
-ghost use Rattle.std.specs.Prelude.{◌≡◌, ◌<◌, ◌^◌, true};
+ghost use Rattle.std.specs.Prelude.{◌≡◌, ◌<◌, ◌^◌, true, IfOk};
 ghost use Rattle.jls_copy.specs.Fronts.{OpenReadsNoMore};
 ghost use Rattle.jls_marker.specs.Scan.{intervals};
 ghost use Rattle.jls_copy.specs.Numbers.{numbered};
@@ -10,7 +10,7 @@ ghost use Rattle.jls_copy.specs.Sound.{IsOpenPiece};
 use crate::interval_shape::IntervalShape;
 use crate::piece_decoder::PieceDecoder;
 use jls_marker::ScanPlan;
-use std::alloc::Global;
+use std::alloc::{AllocError, Global};
 
 /// Why a piece of scan data doesn't read as the lines of its interval.
 #[derive(Clone, Copy, Debug, PartialEq, Eq)]
@@ -91,6 +91,18 @@ impl OpenPiece {
         match self {
             OpenPiece::Within(number, decoder) => OpenPiece::Within(*number, decoder.take()),
             OpenPiece::Beyond(number) => OpenPiece::Beyond(*number),
+        }
+    }
+
+    /// A second piece of this number that was told the same bytes.
+    pub(crate) fn try_clone(&self) -> Result<OpenPiece, AllocError>
+        ensures { IfOk result (λ clone. clone ≡ self.now) }
+    {
+        match self {
+            OpenPiece::Within(number, decoder) => {
+                Ok(OpenPiece::Within(*number, decoder.try_clone()?))
+            }
+            OpenPiece::Beyond(number) => Ok(OpenPiece::Beyond(*number)),
         }
     }
 

@@ -82,6 +82,21 @@ impl PieceDecoder {
         }
     }
 
+    /// A second decoder that was told the same bytes. It takes memory only if there are some.
+    pub(crate) fn try_clone(&self) -> Result<PieceDecoder, AllocError>
+        ensures { IfOk result (λ clone. clone ≡ self.now) }
+    {
+        let made = match &self.made {
+            None => None,
+            Some(decoder) => Some(Box::new(self.alloc, decoder.try_clone()?)?),
+        };
+        Ok(PieceDecoder {
+            alloc: self.alloc,
+            shape: self.shape,
+            made,
+        })
+    }
+
     /// Takes bytes of the piece in turn. After want of memory the decoder stays refused.
     pub(crate) fn push_all(&mut self, bytes: &[u8]) -> Result<(), AllocError>
         ensures { OnOk result (self.new ≡ with_bytes self.old bytes.now) }

@@ -148,6 +148,24 @@ impl CopyReader {
         }
     }
 
+    /// A second reader that was fed the same bytes. Each of the two can then be fed on by itself. A refused reader has a refused clone.
+    /// The only refusal of this call is out of memory.
+    pub fn try_clone(&self) -> Result<CopyReader, AllocError>
+        ensures { IfOk result (λ clone. clone ≡ self.now) }
+    {
+        if self.failed {
+            let mut refused = CopyReader::new(self.machine.alloc);
+            refused.failed = true;
+            return Ok(refused);
+        }
+        let machine = self.machine.try_clone()?;
+        Ok(CopyReader {
+            bytes: self.bytes.to_owned(),
+            machine,
+            failed: false,
+        })
+    }
+
     /// How many bytes were fed, also those after the copy's end. After a refused `feed` nothing is promised of the answer.
     pub fn fed(&self) -> u64
         ensures { IfSome self.now (λ bytes. result ≡ length bytes) }

@@ -12,6 +12,7 @@ ghost use Rattle.jls_marker.specs.Scan.{intervals};
 use crate::cut_search::stretch_len;
 use crate::piece::{OpenPiece, ToldPiece};
 use jls_marker::ScanPlan;
+use jls_marker::codes::{APP0, APP15, COM, DRI, EOI, LSE, RST0, RST7, SOS};
 use std::alloc::{AllocError, Global};
 
 /// How many FF bytes stand at the end of what was told.
@@ -62,24 +63,24 @@ pub(crate) struct OpenScan {
 fn is_restart_code(code: u8) -> bool
     ensures { result ≡ restart_code code }
 {
-    code >= 0xd0 && code <= 0xd7
+    code >= RST0 && code <= RST7
 }
 
 fn ends_scan_data(code: u8) -> bool
     ensures { result ≡ end_code code }
 {
-    code == 0xd9
-        || code == 0xda
-        || code == 0xdd
-        || code == 0xf8
-        || code == 0xfe
-        || (code >= 0xe0 && code <= 0xef)
+    code == EOI
+        || code == SOS
+        || code == DRI
+        || code == LSE
+        || code == COM
+        || (code >= APP0 && code <= APP15)
 }
 
 /// What a byte of scan data does behind these held bytes.
 fn class_of(held: Held, byte: u8) -> ByteClass
     ensures class { result ≡ state.class_of held byte }
-    ensures mark { result ≡ Mark → (208 ≤ byte) × (byte < 216) }
+    ensures mark { result ≡ Mark → (0xD0 ≤ byte) × (byte ≤ 0xD7) }
 {
     if byte == 0xff {
         return ByteClass::Fill;
@@ -132,6 +133,21 @@ impl OpenScan {
             offset,
             piece,
         }
+    }
+
+    /// A second scan that was told the same bytes.
+    pub(crate) fn try_clone(&self) -> Result<OpenScan, AllocError>
+        ensures { IfOk result (λ clone. clone ≡ self.now) }
+    {
+        let piece = self.piece.try_clone()?;
+        Ok(OpenScan {
+            index: self.index,
+            plan: self.plan.to_owned(),
+            last: self.last,
+            held: self.held,
+            offset: self.offset,
+            piece,
+        })
     }
 
     /// One FF byte more that may be fill.
@@ -187,7 +203,7 @@ impl OpenScan {
                 self.tell(byte)?;
                 Ok(ScanStep::Data(1))
             }
-            ByteClass::Mark => Ok(ScanStep::Restart(byte - 0xd0)),
+            ByteClass::Mark => Ok(ScanStep::Restart(byte - RST0)),
             ByteClass::Stop => Ok(ScanStep::End),
         }
     }

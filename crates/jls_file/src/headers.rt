@@ -6,6 +6,7 @@ ghost use Rattle.jls_values.specs.Params.{AreCodingParameters};
 ghost use Rattle.std.specs.Prelude.{◌≡◌, ◌++◌, IfOk, OnOk};
 ghost use Rattle.std.specs.List.{flat_map};
 
+use jls_marker::codes::SOI;
 use jls_marker::{Segment, write_segment};
 use jls_picture::{Options, Picture};
 use jls_values::Params;
@@ -71,7 +72,7 @@ pub(crate) fn header_bytes(
 {
     let shape = picture.shape();
     let mut bytes = Vec::with_capacity(alloc, MOST_OTHERS + 3 * shape.ids().len())?;
-    bytes.extend_from_slice(&[0xFF, 0xD8])?;
+    bytes.extend_from_slice(&[0xFF, SOI])?;
     write_segment(&mut bytes, &Segment::Frame(shape.to_owned()))?;
     write_presets(&mut bytes, &options.params())?;
     write_restart_interval(&mut bytes, options.restart_interval())?;

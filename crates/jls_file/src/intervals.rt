@@ -9,6 +9,7 @@ ghost use Rattle.std.specs.List.{flat_map, range_with_len, AllByRecursion};
 
 use crate::scan_part::ScanPart;
 use jls_interval::encode_interval;
+use jls_marker::codes::RST0;
 use jls_marker::{ScanHead, Segment, write_segment};
 use std::alloc::{AllocError, Global};
 
@@ -104,5 +105,5 @@ pub(crate) fn before_interval(
     if interval == 0 {
         return scan_header(alloc, part);
     }
-    Vec::from_slice(alloc, &[0xFF, 0xD0 + ((interval - 1) % 8) as u8])
+    Vec::from_slice(alloc, &[0xFF, RST0 + ((interval - 1) % 8) as u8])
 }

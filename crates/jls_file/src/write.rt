@@ -13,6 +13,7 @@ use crate::headers::header_bytes;
 use crate::intervals::{before_interval, interval_code};
 use crate::scan_part::{ScanPart, components_of_scan, scan_count};
 use jls_device::Sink;
+use jls_marker::codes::EOI;
 use jls_picture::{Options, OutputFault, Picture, write_part};
 use std::alloc::{AllocError, Global};
 
@@ -144,7 +145,7 @@ pub fn write_jls<W: Sink>(
         Ok(header) => {
             let count = write_part(sink, 0, &header)?;
             let count = write_scans(alloc, picture, options, count, sink)?;
-            write_part(sink, count, &[0xFF, 0xD9])?;
+            write_part(sink, count, &[0xFF, EOI])?;
             Ok(())
         }
     }

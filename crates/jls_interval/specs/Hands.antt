@@ -70,8 +70,8 @@ EventStepIs component up old new told earlier More =
     (new.line.items ≡ old.line.items) × (new.coder.cells ≡ old.coder.cells) × (new.coder.run_indices ≡ old.coder.run_indices)
     × HandAt old.coder.cells.parameters old.width up old.line.items old.coder.cells (get_or old.coder.run_indices component 0) new.hand told
 EventStepIs component up old new told earlier Moved =
-    EventDone old.coder.cells.parameters old.width component up old.line.items new.line.items new.coder.cells new.coder.run_indices told earlier
-    × (new.hand ≡ Fresh)
+    EventDone old.coder.cells.parameters old.width component up old.line.items new.line.items new.coder.cells new.coder.run_indices told
+    earlier × (new.hand ≡ Fresh)
 EventStepIs component up old new told earlier Refused =
     (new.line.items ≡ old.line.items) × ((more : List Bool) → NoEvent old.coder.cells.parameters old.width component up old.line.items (told
     ++ more) earlier)

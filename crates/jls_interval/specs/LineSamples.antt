@@ -27,7 +27,8 @@ pub record SampleTaken (p : CodingParameters) (near : Neighbours) (value : ℕ) 
       ++ unread
 
 -- all bits are the first ones of a sample of regular mode, and were taken
-pub record SampleBegun (p : CodingParameters) (near : Neighbours) (cells : Variables) (code : CodeState) (chunk unread : List Bool) : Type 0 where
+pub record SampleBegun (p : CodingParameters) (near : Neighbours) (cells : Variables) (code : CodeState)
+    (chunk unread : List Bool) : Type 0 where
   pub not_run : is_run_mode near ≡ false
   pub opened : IsOpen (regular_k (cell_at cells (context p near))) (limit p) (qbpp p) code
   pub told : chunk ≡ bits_told (limit p) (qbpp p) code

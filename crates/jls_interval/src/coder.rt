@@ -45,6 +45,19 @@ impl Coder {
         }
     }
 
+    /// The same values once more.
+    pub(crate) fn to_owned(&self) -> Coder
+        ensures cells { result.cells ≡ self.now.cells }
+        ensures lengths { result.lengths ≡ self.now.lengths }
+        ensures run_indices { result.run_indices ≡ self.now.run_indices }
+    {
+        Coder {
+            cells: self.cells.to_owned(),
+            lengths: self.lengths,
+            run_indices: self.run_indices,
+        }
+    }
+
     /// RUNindex of a component.
     pub(crate) fn run_index(&self, component: usize) -> u8
         requires { component < 4 }

@@ -186,6 +186,21 @@ impl IntervalDecoder {
         }
     }
 
+    /// A second decoder that was given the same bytes. A refused decoder has a refused clone. The only refusal is out of memory.
+    pub fn try_clone(&self) -> Result<IntervalDecoder, AllocError>
+        ensures { IfOk result (λ clone. clone ≡ self.now) }
+    {
+        let reader = self.reader.try_clone()?;
+        Ok(IntervalDecoder {
+            params: self.params,
+            rows: self.rows,
+            unstuffer: self.unstuffer.to_owned(),
+            reader,
+            ended: self.ended,
+            refused: self.refused,
+        })
+    }
+
     /// Takes the next byte. The only refusal is out of memory, which is for good.
     pub fn push(&mut self, byte: u8) -> Result<(), AllocError>
         ensures ok { OnOk result (self.new ≡ record self.old { bytes = option_map (λ bytes. bytes ++ byte ∷ []) self.old.bytes }) }

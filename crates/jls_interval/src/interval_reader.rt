@@ -1,6 +1,6 @@
 //! The lines of an interval, from a few bits at a time.
 
-ghost use Rattle.std.specs.Prelude.{◌≡◌, ◌↔◌, ◌-◌, ◌≤◌, List, Bool, length, IsTrue, IfOk, OnOk};
+ghost use Rattle.std.specs.Prelude.{◌≡◌, ◌↔◌, ◌-◌, ◌≤◌, ℕ, List, Bool, length, map, IsTrue, IfOk, OnOk};
 ghost use Rattle.jls_values.specs.Params.{CodingParameters};
 
 use crate::line_reader::{EventStep, Hand, LineReader};
@@ -40,8 +40,38 @@ pub(crate) struct IntervalReader {
 /// looked for in vain.
 const LOOKED_FOR: u8 = 20;
 
+/// The same lines once more.
+fn cloned_lines(alloc: Global, lines: &[Vec<u16>]) -> Result<Vec<Vec<u16>>, AllocError>
+    ensures { IfOk result (λ clones. map (λ v. v.items) clones.items ≡ map (λ v. v.items) lines.now) }
+{
+    let mut clones = Vec::with_capacity(alloc, lines.len())?;
+    for line in lines {
+        clones.push(Vec::from_slice(alloc, line)?)?;
+    }
+    Ok(clones)
+}
+
 impl IntervalReader {
     ghost use Rattle.jls_interval.specs.Decoding.{IsReading, TakesAll, TakesFirst, TakesEvent, GivesBack, HasShape};
+    ghost use Rattle.jls_interval.specs.IntervalBytes.{HasLengths};
+
+    /// A second reader that was given the same bits.
+    pub(crate) fn try_clone(&self) -> Result<IntervalReader, AllocError>
+        ensures shape { IfOk result (HasShape self.now) }
+        ensures lengths { IfOk result (λ clone. (bytes : List ℕ) → HasLengths bytes self.now → HasLengths bytes clone) }
+        ensures bits { IfOk result
+            (λ clone. (p : CodingParameters) (given : List Bool) → IsReading p given self.now → IsReading p given clone) }
+    {
+        let lines = cloned_lines(self.alloc, &self.lines)?;
+        Ok(IntervalReader {
+            alloc: self.alloc,
+            reader: self.reader.try_clone(self.alloc)?,
+            components: self.components,
+            count: self.count,
+            lines,
+            state: self.state,
+        })
+    }
 
     /// Takes the bits of the event in hand, where lines are still to come, and says whether it is whole. Else
     /// nothing more is to be taken.

@@ -5,6 +5,7 @@ ghost use Rattle.std.specs.Prelude.{◌<◌, ◌^◌};
 use crate::coder::Coder;
 use crate::run_reader::RunState;
 use jls_bits::CodeState;
+use std::alloc::{AllocError, Global};
 
 /// A run that is read, and the first bits of the sample that interrupts it.
 #[derive(Clone, Copy)]
@@ -49,4 +50,25 @@ pub(crate) struct LineReader {
     pub line: Vec<u16>,
     pub hand: Hand,
     ghost width_below: { width < 2 ^ 16 },
+}
+
+impl LineReader {
+    ghost use Rattle.std.specs.Prelude.{◌≡◌, IfOk};
+
+    /// A second reader of the same line, which was given the same bits.
+    pub(crate) fn try_clone(&self, alloc: Global) -> Result<LineReader, AllocError>
+        ensures cells { IfOk result (λ clone. clone.coder.cells ≡ self.now.coder.cells) }
+        ensures run_indices { IfOk result (λ clone. clone.coder.run_indices ≡ self.now.coder.run_indices) }
+        ensures width { IfOk result (λ clone. clone.width ≡ self.now.width) }
+        ensures line { IfOk result (λ clone. clone.line.items ≡ self.now.line.items) }
+        ensures hand { IfOk result (λ clone. clone.hand ≡ self.now.hand) }
+    {
+        let line = Vec::from_slice(alloc, &self.line)?;
+        Ok(LineReader {
+            coder: self.coder.to_owned(),
+            width: self.width,
+            line,
+            hand: self.hand,
+        })
+    }
 }

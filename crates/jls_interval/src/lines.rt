@@ -5,10 +5,7 @@ ghost use Rattle.std.specs.List.{AllByRecursion};
 ghost use Rattle.jls_interval.specs.Lines.{IsLine};
 ghost use Rattle.jls_interval.specs.Fits.{FitsInterval};
 
-use jls_values::Params;
-
-/// The most samples that an interval may have, in all its lines together.
-const MOST_SAMPLES: usize = 1 << 28;
+use jls_values::{MOST_SAMPLES, Params};
 
 fn is_line(params: &Params, width: u16, line: &[u16]) -> bool
     ensures { IsTrue result ↔ IsLine params.now width line.now }
@@ -37,6 +34,6 @@ pub fn fits(params: &Params, width: u16, components: u8, lines: &[Vec<u16>]) -> 
         && (1..=4).contains(&components)
         && !lines.is_empty()
         && lines.len() % usize::from(components) == 0
-        && lines.len() <= MOST_SAMPLES / usize::from(width)
+        && lines.len() <= MOST_SAMPLES as usize / usize::from(width)
         && are_lines(params, width, lines)
 }

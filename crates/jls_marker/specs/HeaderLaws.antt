@@ -95,6 +95,6 @@ pub record HasWhatIsInForce (h : HeaderState) (frame : PictureShape) (s : ScanSe
   pub restart_interval : scan.restart_interval ≡ h.restart_interval
 
 abbrev pub ScansHaveWhatIsInForce : Type 0
-ScansHaveWhatIsInForce = (h after : HeaderState) (code : ℕ) (payload : List ℕ) (scan : Scan) → headers_after h code payload ≡ Ok (after, Some scan)
-    → (s : ScanSelection) × (segment_of code payload ≡ Ok (segment.Scan s))
+ScansHaveWhatIsInForce = (h after : HeaderState) (code : ℕ) (payload : List ℕ) (scan : Scan)
+    → headers_after h code payload ≡ Ok (after, Some scan) → (s : ScanSelection) × (segment_of code payload ≡ Ok (segment.Scan s))
     × ((frame : PictureShape) → h.frame ≡ Some frame → HasWhatIsInForce h frame s scan)

@@ -3,19 +3,38 @@
 ghost use Rattle.std.specs.Prelude.{◌≡◌};
 ghost use Rattle.jls_marker.specs.MarkerCodes as codes;
 
-pub(crate) const SOF55: u8 = 0xF7;
+/// The first of the restart markers.
+pub const RST0: u8 = 0xD0;
 
-pub(crate) const SOS: u8 = 0xDA;
+/// The last of the restart markers.
+pub const RST7: u8 = 0xD7;
 
-pub(crate) const LSE: u8 = 0xF8;
+/// Start of image.
+pub const SOI: u8 = 0xD8;
 
-pub(crate) const DRI: u8 = 0xDD;
+/// End of image.
+pub const EOI: u8 = 0xD9;
 
-pub(crate) const COM: u8 = 0xFE;
+/// Start of scan.
+pub const SOS: u8 = 0xDA;
 
-pub(crate) const APP0: u8 = 0xE0;
+/// Define restart interval.
+pub const DRI: u8 = 0xDD;
 
-pub(crate) const APP15: u8 = 0xEF;
+/// The first of the application segments.
+pub const APP0: u8 = 0xE0;
+
+/// The last of the application segments.
+pub const APP15: u8 = 0xEF;
+
+/// Start of a JPEG-LS frame.
+pub const SOF55: u8 = 0xF7;
+
+/// JPEG-LS preset parameters.
+pub const LSE: u8 = 0xF8;
+
+/// Comment.
+pub const COM: u8 = 0xFE;
 
 /// Whether a segment of this profile follows the marker with this code.
 #[tactic(auto, unfolding(crate::specs::MarkerCodes::has_segment))]

@@ -10,14 +10,11 @@ use crate::read::read_segment;
 use crate::scan_head::ScanHead;
 use crate::scan_plan::ScanPlan;
 use crate::segment::Segment;
-use jls_values::{ParamFault, Params, Shape};
+use jls_values::{MOST_SAMPLES, ParamFault, Params, Shape};
 use std::marker::Model;
 
 /// How many scans a copy may have.
 const MOST_SCANS: u8 = 16;
-
-/// How many samples a restart interval may have.
-const MOST_SAMPLES: u64 = 1 << 28;
 
 /// The values of an LSE segment of ID 1.
 #[derive(Clone, Copy)]
@@ -144,6 +141,22 @@ impl Headers {
             },
             restart_interval: 0,
             scans: 0,
+        }
+    }
+
+    /// Second headers of the same values. They take no memory.
+    pub fn to_owned(&self) -> Headers
+        ensures { result ≡ self.now }
+    {
+        let frame = match &self.frame {
+            None => None,
+            Some(shape) => Some(shape.to_owned()),
+        };
+        Headers {
+            frame,
+            preset: self.preset,
+            restart_interval: self.restart_interval,
+            scans: self.scans,
         }
     }
 

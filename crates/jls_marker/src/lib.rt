@@ -2,7 +2,7 @@
 //! which scan an SOS begins (ITU-T T.87, annex C; ITU-T T.81, annex B).
 #![tactic(auto)]
 
-mod codes;
+pub mod codes;
 mod component_index;
 mod fault;
 mod headers;

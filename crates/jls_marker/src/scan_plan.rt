@@ -67,6 +67,19 @@ impl ScanPlan {
         }
     }
 
+    /// A second plan of the same scan. It takes no memory.
+    pub fn to_owned(&self) -> ScanPlan
+        ensures { result ≡ self.now }
+    {
+        ScanPlan {
+            components: ArrayVec::try_from(self.components.as_slice()).unwrap(),
+            params: self.params,
+            width: self.width,
+            height: self.height,
+            restart_interval: self.restart_interval,
+        }
+    }
+
     /// The components of the scan in the order in which they take turns, as indices in the frame, from 0.
     pub fn components(&self) -> &[u8]
         ensures value { result.now ≡ self.now.components }

@@ -35,7 +35,9 @@ pub record StoredLines : Type 0 where
 
 -- the checker's logic stores these as their parts
 abbrev pub coded_line_entry : Coded LineEntry
-coded_line_entry = coded× (code_by (ℕ × ℕ) (coded× coded_ℕ coded_ℕ) (λ at. (at.component, at.line)) (λ p. record { component = p.0; line = p.1 }) (λ _. refl)) coded_lines
+coded_line_entry =
+    coded× (code_by (ℕ × ℕ) (coded× coded_ℕ coded_ℕ) (λ at. (at.component, at.line)) (λ p. record { component = p.0; line = p.1 })
+    (λ _. refl)) coded_lines
 
 abbrev pub coded_stored : Coded StoredLines
 coded_stored = code_by (ℕ × (ℕ × List LineEntry)) (coded× coded_ℕ (coded× coded_ℕ (coded_list coded_line_entry)))

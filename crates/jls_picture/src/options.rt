@@ -6,11 +6,8 @@ ghost use Rattle.jls_picture.specs.Picture.{line_of};
 ghost use Rattle.std.specs.Prelude.{◌≡◌, ◌<◌, ◌≤◌, ◌↔◌, ◌*◌, ℕ, All, IsTrue, length};
 
 use crate::picture::Picture;
-use jls_values::{Params, Shape};
+use jls_values::{MOST_SAMPLES, Params, Shape};
 use std::marker::Model;
-
-/// The most samples that an interval may have: this profile's bound.
-const MOST_SAMPLES: u64 = 1 << 28;
 
 /// The interleave mode, the restart interval in rows, and the coding parameters of all scans (ITU-T T.87, C.2.3 and C.2.4).
 #[derive(Clone, Copy, Debug, PartialEq, Eq)]

@@ -22,7 +22,8 @@ impl Model for Size {
 
     ghost view = { λ s. (s.width, s.components, s.rows) };
 
-    ghost invariant = { λ s. (1 ≤ s.width) × (1 ≤ s.components) × (s.components ≤ 4) × (1 ≤ s.rows) × (s.width * s.components * s.rows ≤ 2 ^ 28) };
+    ghost invariant = { λ s. (1 ≤ s.width) × (1 ≤ s.components) × (s.components ≤ 4) × (1 ≤ s.rows)
+        × (s.width * s.components * s.rows ≤ 2 ^ 28) };
 }
 
 impl Size {

@@ -8,7 +8,7 @@ use std::process::Abort;
 use std::test::Fail;
 
 /// The bytes that hexadecimal digits spell.
-fn bytes_of(alloc: Global, text: &str) -> Result<Vec<u8>, Fail> {
+pub(crate) fn bytes_of(alloc: Global, text: &str) -> Result<Vec<u8>, Fail> {
     let mut bytes = Vec::new(alloc);
     for digits in text.split_whitespace() {
         bytes.push(u8::from_str_radix(digits, 16)?)?;
@@ -17,7 +17,7 @@ fn bytes_of(alloc: Global, text: &str) -> Result<Vec<u8>, Fail> {
 }
 
 /// Feeds a piece, of which no test has so many bytes that they could not be counted.
-fn feed_piece(reader: &mut CopyReader, piece: &[u8]) -> Result<(), CopyFault> {
+pub(crate) fn feed_piece(reader: &mut CopyReader, piece: &[u8]) -> Result<(), CopyFault> {
     let fed = reader.fed();
     if fed > 1_000_000 || piece.len() > 1_000_000 {
         return Err(CopyFault::OutOfMemory);
@@ -93,7 +93,8 @@ fn text_of(alloc: Global, read: &CopyRead) -> Result<String, Fail> {
     Ok(out)
 }
 
-fn told(alloc: Global, read: Result<CopyRead, CopyFault>) -> Result<String, Fail> {
+/// What a copy gave, as a text: its readings, the records of its faulty pieces, and its end; or why it gave nothing.
+pub(crate) fn told(alloc: Global, read: Result<CopyRead, CopyFault>) -> Result<String, Fail> {
     match read {
         Ok(read) => text_of(alloc, &read),
         Err(fault) => Ok(format!(in alloc; "{fault:?}")?),
