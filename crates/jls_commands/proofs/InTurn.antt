@@ -1,5 +1,6 @@
 -- Inputs taken one after the other.
 use Rattle.std.proofs.Common.{◌≡◌, ℕ, ◌+◌, ◌<◌, Bool, true, false, List, [], ◌∷◌, ◌++◌, Option, length, get_or, map, take, drop, refl, sym, subst, ap, ◌∙◌, append_assoc, arith}
+use Rattle.std.specs.Borrow.{Bor}
 use Rattle.std.specs.Prelude.{◌↔◌, ◌&&◌, IsTrue, All}
 use Rattle.std.proofs.Math.Seq.{get_or-append_seam}
 use Rattle.std.proofs.lemmas.List.{append-nil, drop_more, get_or_append_left, length-append, map-append, take_more, take-append-drop}
@@ -16,8 +17,9 @@ use Rattle.jls_station.specs.Inputs.{ReadsGive, ReadsRefuse}
 use Rattle.jls_commands.specs.AllInputs.{partials, AreOfOneShape, IsOfOtherShape, IsUnionOf, IsTaken, TakesInTurn, TakesUnion, StopsAt, not_there, refused, StopsAtInput}
 use Rattle.jls_station.specs.declared.input.ReadStop.TheVariants.{Whole}
 use Rattle.jls_station.specs.declared.input.InputFault.{InputFault}
-use Rattle.jls_commands.specs.declared.outcome.Cause.TheVariants as cause
+use Rattle.jls_commands.specs.Outcomes.{name_of}
 use Rattle.jls_commands.specs.declared.outcome.Refusal.{Refusal}
+use Rattle.jls_commands.specs.declared.outcome.Refusal.TheVariants as refusal
 
 -- ---- one input
 
@@ -35,13 +37,17 @@ module _ (source : Option ℕ) (old mid new : History) (name : List ℕ) where
       → GrewBy (IsTaken source name g) old new
   opened_and_given g = grew_behind (ReadsGive source g) (IsTaken source name g) old mid new (opened name) (λ reads h. record { reads = reads; events_are = refl; give = h })
 
-  pub opened_and_refused : (f : InputFault) (before : List Given) → mid ≡ old ++ opened name ∷ [] → GrewBy (ReadsRefuse f) mid new
-      → GrewBy (StopsAt source before name (cause.Input f)) old new
-  opened_and_refused f before = grew_behind (ReadsRefuse f) (StopsAt source before name (cause.Input f)) old mid new (opened name) (λ reads h. refused source before name f reads h)
+module _ (source : Option ℕ) (old mid new : History) (name : Bor (List ℕ)) where
+  pub opened_and_refused : (f : InputFault) (before : List Given) → mid ≡ old ++ opened name.now ∷ [] → GrewBy (ReadsRefuse f) mid new
+      → GrewBy (StopsAt source before (refusal.Input name f)) old new
+  opened_and_refused f before =
+      grew_behind (ReadsRefuse f) (StopsAt source before (refusal.Input name f)) old mid new (opened name.now) (λ reads h. refused source before name f reads h)
 
-  pub not_opened_at_all : (before : List Given) → new ≡ old ++ not_opened name ∷ []
-      → GrewBy (StopsAt source before name cause.NotOpened) old new
-  not_opened_at_all before e = record { events = not_opened name ∷ []; grew = e; they_are = not_there source before name }
+  pub not_opened_at_all : (before : List Given) (r : Refusal) → r ≡ refusal.NotOpened name → new ≡ old ++ not_opened name.now ∷ []
+      → GrewBy (StopsAt source before r) old new
+  not_opened_at_all before r is grew =
+      subst (λ (x : Refusal). GrewBy (StopsAt source before x) old new) (sym is)
+      (record { events = not_opened name.now ∷ []; grew = grew; they_are = not_there source before name })
 
 -- ---- unions
 
@@ -165,8 +171,8 @@ module _ (source : Option ℕ) (old mid new : History) (names : List (List ℕ))
         (next_taken source names name g also w joined whole both b e taken.events h.events taken.they_are h.they_are);
   }
 
-  module _ (all after : List (List ℕ)) (r : Refusal) (among : all ≡ names ++ r.name.now ∷ after) where
-    pub stops_next : ((before : List Given) → IsUnionOf (partials before) joined → GrewBy (StopsAt source before r.name.now r.cause) mid new)
+  module _ (all after : List (List ℕ)) (r : Refusal) (among : all ≡ names ++ name_of r ∷ after) where
+    pub stops_next : ((before : List Given) → IsUnionOf (partials before) joined → GrewBy (StopsAt source before r) mid new)
         → GrewBy (StopsAtInput source all r) old new
     stops_next h =
         let s = h taken.they_are.givens taken.they_are.union_is in
@@ -187,17 +193,16 @@ module _ (source : Option ℕ) (old mid new : History) (names : List (List ℕ))
         }
 
 -- the first input stops the command
-pub stops_first : (source : Option ℕ) (old new : History) (others : List (List ℕ)) (r : Refusal)
-    → GrewBy (StopsAt source [] r.name.now r.cause) old new
-    → GrewBy (StopsAtInput source (r.name.now ∷ others) r) old new
-stops_first source old new others r s =
+pub stops_first : (source : Option ℕ) (old new : History) (first : List ℕ) (others : List (List ℕ)) (r : Refusal) → name_of r ≡ first
+    → GrewBy (StopsAt source [] r) old new → GrewBy (StopsAtInput source (first ∷ others) r) old new
+stops_first source old new first others r named s =
     record {
       events = s.events;
       grew = s.grew;
       they_are = record {
         before = [];
         after = others;
-        among = refl;
+        among = λ i. sym named i ∷ others;
         givens = [];
         reading = [];
         taken = record { in_turn = refl; one_shape = tt };
@@ -209,13 +214,13 @@ stops_first source old new others r s =
 
 -- ---- names
 
-module _ {X : Type 0} (name_of : X → List ℕ) where
+module _ {X : Type 0} (f : X → List ℕ) where
   pub names_one_more : (xs : List X) (i : ℕ) (d : X) → i < length xs
-      → map name_of (take (i + 1) xs) ≡ map name_of (take i xs) ++ name_of (get_or xs i d) ∷ []
-  names_one_more xs i d lt = ap (map name_of) (take_more xs i d lt) ∙ map-append name_of (take i xs) (get_or xs i d ∷ [])
+      → map f (take (i + 1) xs) ≡ map f (take i xs) ++ f (get_or xs i d) ∷ []
+  names_one_more xs i d lt = ap (map f) (take_more xs i d lt) ∙ map-append f (take i xs) (get_or xs i d ∷ [])
 
   pub names_split : (xs : List X) (i : ℕ) (d : X) → i < length xs
-      → map name_of xs ≡ map name_of (take i xs) ++ name_of (get_or xs i d) ∷ map name_of (drop (i + 1) xs)
+      → map f xs ≡ map f (take i xs) ++ f (get_or xs i d) ∷ map f (drop (i + 1) xs)
   names_split xs i d lt =
-      ap (map name_of) (sym (take-append-drop i xs)) ∙ (map-append name_of (take i xs) (drop i xs)
-      ∙ ap (λ (ys : List X). map name_of (take i xs) ++ map name_of ys) (drop_more xs i d lt))
+      ap (map f) (sym (take-append-drop i xs)) ∙ (map-append f (take i xs) (drop i xs)
+      ∙ ap (λ (ys : List X). map f (take i xs) ++ map f ys) (drop_more xs i d lt))

@@ -1,55 +1,51 @@
 -- The steps of `join`, put together.
-use Rattle.std.proofs.Common.{◌≡◌, ℕ, Bool, List, [], ◌∷◌, ◌++◌, Option, subst, sym, refl}
+use Rattle.std.proofs.Common.{◌≡◌, ℕ, Bool, List, [], ◌∷◌, ◌++◌, Option, Err, subst, sym, refl}
+use Rattle.std.specs.Borrow.{Bor}
 use Rattle.std.specs.Prelude.{◌↔◌, IsTrue}
 use Rattle.jls_partial.specs.Partial.{PartialPicture}
 use Rattle.jls_partial.specs.Status.{IsSettled}
 use Rattle.jls_partial.specs.Text.{text}
-use Rattle.jls_device.specs.Event.{Event, History, GrewBy, created, not_created}
-use Rattle.jls_device.specs.Writing.{Wrote, WroteFront}
+use Rattle.jls_device.specs.Event.{History, GrewBy, created, not_created}
+use Rattle.jls_device.specs.Writing.{WroteFront}
 use Rattle.jls_device.proofs.Growing.{grew_on, grew_as}
 use Rattle.jls_commands.specs.AllInputs.{TakesUnion, StopsAtInput}
-use Rattle.jls_commands.specs.Outputs.{HandsOut, IsNotCreated, StopsAtOutput, not_there, cut}
+use Rattle.jls_commands.specs.Outputs.{HandsOut, StopsAtOutput, not_there, cut}
 use Rattle.jls_commands.specs.Joining.{Joins, done, at_input, no_memory, at_output}
-use Rattle.jls_commands.specs.declared.outcome.Cause.{Cause}
-use Rattle.jls_commands.specs.declared.outcome.Cause.TheVariants as cause
+use Rattle.jls_commands.specs.Outcomes.{finished, name_of}
 use Rattle.jls_commands.specs.declared.outcome.Refusal.{Refusal}
-use Rattle.jls_commands.specs.declared.outcome.Outcome.TheVariants.{Done, Refused}
+use Rattle.jls_commands.specs.declared.outcome.Refusal.TheVariants as refusal
 use Rattle.jls_commands.proofs.InTurn.{grew_behind}
 
 -- ---- an output
 
-module _ (old mid new : History) (name bytes : List ℕ) where
-  pub not_created_at_all : (c : Cause) → GrewBy (IsNotCreated name c) old new → GrewBy (StopsAtOutput name bytes c) old new
-  not_created_at_all c h = record {
-    events = h.events;
-    grew = h.grew;
-    they_are = subst (λ (events : List Event). StopsAtOutput name bytes c events) (sym h.they_are.1)
-        (subst (λ (x : Cause). StopsAtOutput name bytes x (not_created name ∷ [])) (sym h.they_are.0) (not_there name bytes));
-  }
+pub not_created_at_all : (old new : History) (name : Bor (List ℕ)) (bytes : List ℕ) (r : Refusal) → r ≡ refusal.NotCreated name
+    → new ≡ old ++ not_created name.now ∷ [] → GrewBy (StopsAtOutput bytes r) old new
+not_created_at_all old new name bytes r is grew =
+    subst (λ (x : Refusal). GrewBy (StopsAtOutput bytes x) old new) (sym is)
+    (record { events = not_created name.now ∷ []; grew = grew; they_are = not_there name bytes })
 
-  pub created_and_written : mid ≡ old ++ created name ∷ [] → GrewBy (Wrote bytes) mid new → GrewBy (HandsOut name bytes) old new
-  created_and_written = grew_behind (Wrote bytes) (HandsOut name bytes) old mid new (created name) (λ writes h. record { writes = writes; events_are = refl; wrote = h })
-
-  pub created_and_cut : (count : ℕ) → mid ≡ old ++ created name ∷ [] → GrewBy (WroteFront bytes count) mid new
-      → GrewBy (StopsAtOutput name bytes (cause.NotWritten count)) old new
-  created_and_cut count = grew_behind (WroteFront bytes count) (StopsAtOutput name bytes (cause.NotWritten count)) old mid new (created name) (λ writes h. cut name bytes count writes h)
+pub created_and_cut : (old mid new : History) (name : Bor (List ℕ)) (bytes : List ℕ) (count : ℕ) → mid ≡ old ++ created name.now ∷ []
+    → GrewBy (WroteFront bytes count) mid new → GrewBy (StopsAtOutput bytes (refusal.NotWritten name count)) old new
+created_and_cut old mid new name bytes count =
+    grew_behind (WroteFront bytes count) (StopsAtOutput bytes (refusal.NotWritten name count)) old mid new (created name.now) (λ writes h. cut name bytes count writes h)
 
 -- ---- the whole
 
 module _ (source : Option ℕ) (out : List ℕ) (names : List (List ℕ)) (old mid new : History) where
-  pub ends_at_input : (r : Refusal) → GrewBy (StopsAtInput source names r) old mid → GrewBy (Joins source out names (Refused r)) old mid
-  ends_at_input r = grew_as (StopsAtInput source names r) (Joins source out names (Refused r)) old mid (λ events h. at_input source out names r events h)
+  pub ends_at_input : (r : Refusal) → GrewBy (StopsAtInput source names r) old mid → GrewBy (Joins source out names (Err r)) old mid
+  ends_at_input r = grew_as (StopsAtInput source names r) (Joins source out names (Err r)) old mid (λ events h. at_input source out names r events h)
 
   module _ (joined : PartialPicture) (whole : Bool) (taken : GrewBy (TakesUnion source names joined whole) old mid) where
-    pub ends_for_memory : (r : Refusal) → r.name.now ≡ out → r.cause ≡ cause.OutOfMemory
-        → GrewBy (Joins source out names (Refused r)) old mid
-    ends_for_memory r named is = grew_as (TakesUnion source names joined whole) (Joins source out names (Refused r)) old mid (λ events h. no_memory source out names r joined whole events named is h) taken
+    pub ends_for_memory : (name : Bor (List ℕ)) → name.now ≡ out → GrewBy (Joins source out names (Err (refusal.OutOfMemory name))) old mid
+    ends_for_memory name named =
+        grew_as (TakesUnion source names joined whole) (Joins source out names (Err (refusal.OutOfMemory name))) old mid
+        (λ events h. no_memory source out names name joined whole events named h) taken
 
     pub is_done : (settled : Bool) (written : List ℕ) → written ≡ text joined → (IsTrue settled ↔ IsSettled joined)
         → GrewBy (HandsOut out written) mid new
-        → GrewBy (Joins source out names (Done settled whole)) old new
+        → GrewBy (Joins source out names (finished settled whole)) old new
     is_done settled written is s h =
-        grew_on (TakesUnion source names joined whole) (HandsOut out written) (Joins source out names (Done settled whole)) old mid new
+        grew_on (TakesUnion source names joined whole) (HandsOut out written) (Joins source out names (finished settled whole)) old mid new
         (λ a b t w. done source out names joined settled whole (a ++ b) (record {
           reading = a;
           writing = b;
@@ -59,9 +55,9 @@ module _ (source : Option ℕ) (out : List ℕ) (names : List (List ℕ)) (old m
           settled_is = s;
         })) taken h
 
-    pub ends_at_output : (r : Refusal) (written : List ℕ) → r.name.now ≡ out → written ≡ text joined
-        → GrewBy (StopsAtOutput out written r.cause) mid new
-        → GrewBy (Joins source out names (Refused r)) old new
+    pub ends_at_output : (r : Refusal) (written : List ℕ) → name_of r ≡ out → written ≡ text joined
+        → GrewBy (StopsAtOutput written r) mid new
+        → GrewBy (Joins source out names (Err r)) old new
     ends_at_output r written named is h =
-        grew_on (TakesUnion source names joined whole) (StopsAtOutput out written r.cause) (Joins source out names (Refused r)) old mid new
-        (λ a b t w. at_output source out names r joined whole a b named t (subst (λ (bytes : List ℕ). StopsAtOutput out bytes r.cause b) is w)) taken h
+        grew_on (TakesUnion source names joined whole) (StopsAtOutput written r) (Joins source out names (Err r)) old mid new
+        (λ a b t w. at_output source out names r joined whole a b named t (subst (λ (bytes : List ℕ). StopsAtOutput bytes r b) is w)) taken h

@@ -1,4 +1,5 @@
 -- What the inputs of a command give, and how one of them stops it.
+use Rattle.std.specs.Borrow.{Bor}
 use Rattle.std.specs.Prelude.{◌≡◌, ◌↔◌, ℕ, Bool, false, true, IsTrue, All, List, [], ◌∷◌, ◌++◌, map, Option, None, Some, IfSome}
 use Rattle.jls_values.specs.Join.{join_all, AllOfShape}
 use Rattle.jls_partial.specs.Partial.{PartialPicture, has_same_shape, union}
@@ -11,10 +12,10 @@ use Rattle.jls_station.specs.InputFaults.{input_fault_of}
 use Rattle.jls_station.specs.Inputs.{ReadsGive, ReadsRefuse}
 use Rattle.jls_station.specs.declared.input.ReadStop.TheVariants.{Whole}
 use Rattle.jls_station.specs.declared.input.InputFault.{InputFault}
-use Rattle.jls_commands.specs.declared.outcome.Cause.{Cause}
-use Rattle.jls_commands.specs.declared.outcome.Cause.TheVariants as cause
 use Rattle.jls_commands.specs.declared.outcome.Refusal.{Refusal}
+use Rattle.jls_commands.specs.declared.outcome.Refusal.TheVariants as refusal
 use Rattle.jls_commands.specs.declared.inputs.JoinInputs.{JoinInputs}
+use Rattle.jls_commands.specs.Outcomes.{name_of}
 
 -- `source` is the number under which the readings of copies are taken, where there is one
 
@@ -68,29 +69,30 @@ pub record TakesUnion (source : Option ℕ) (names : List (List ℕ)) (joined : 
   pub union_is : IsUnionOf (partials givens) joined
   pub whole_is : IsTrue whole ↔ All (λ g. g.stop ≡ Whole) givens
 
--- an input of this name stops the command for this cause, where those before it gave this: it is not opened; it is refused;
+-- an input stops the command for this refusal, which has its name, where those before it gave this: it is not opened; it is refused;
 -- it is of another shape; or it is not, and memory ran out as it was joined to the others
-pub data StopsAt : Option ℕ → List Given → List ℕ → Cause → List Event → Type 0 where
-  not_there : (source : Option ℕ) (before : List Given) (name : List ℕ) → StopsAt source before name cause.NotOpened (not_opened name ∷ [])
-  refused : (source : Option ℕ) (before : List Given) (name : List ℕ) (f : InputFault) (reads : List Event)
-      → ReadsRefuse f reads → StopsAt source before name (cause.Input f) (opened name ∷ reads)
-  other_shape : (source : Option ℕ) (before : List Given) (name : List ℕ) (g : Given) (events : List Event)
-      → IsTaken source name g events → IsOfOtherShape (partials before) g.partial → StopsAt source before name cause.ShapeDiffers events
-  no_memory : (source : Option ℕ) (before : List Given) (name : List ℕ) (g : Given) (events : List Event)
-      → IsTaken source name g events → (IsOfOtherShape (partials before) g.partial → ⊥)
-      → StopsAt source before name cause.OutOfMemory events
+pub data StopsAt : Option ℕ → List Given → Refusal → List Event → Type 0 where
+  not_there : (source : Option ℕ) (before : List Given) (name : Bor (List ℕ))
+      → StopsAt source before (refusal.NotOpened name) (not_opened name.now ∷ [])
+  refused : (source : Option ℕ) (before : List Given) (name : Bor (List ℕ)) (f : InputFault) (reads : List Event)
+      → ReadsRefuse f reads → StopsAt source before (refusal.Input name f) (opened name.now ∷ reads)
+  other_shape : (source : Option ℕ) (before : List Given) (name : Bor (List ℕ)) (g : Given) (events : List Event)
+      → IsTaken source name.now g events → IsOfOtherShape (partials before) g.partial
+      → StopsAt source before (refusal.ShapeDiffers name) events
+  no_memory : (source : Option ℕ) (before : List Given) (name : Bor (List ℕ)) (g : Given) (events : List Event)
+      → IsTaken source name.now g events → (IsOfOtherShape (partials before) g.partial → ⊥)
+      → StopsAt source before (refusal.OutOfMemory name) events
 
--- the inputs before one were taken; that one, whose name the refusal has, stops the command for the refusal's cause; and
--- nothing else was done
+-- the inputs before one were taken; that one, whose name the refusal has, stops the command for it; and nothing else was done
 pub record StopsAtInput (source : Option ℕ) (names : List (List ℕ)) (r : Refusal) (events : List Event) : Type 0 where
   pub before : List (List ℕ)
   pub after : List (List ℕ)
-  pub among : names ≡ before ++ r.name.now ∷ after
+  pub among : names ≡ before ++ name_of r ∷ after
   pub givens : List Given
   pub reading : List Event
   pub taken : TakesAll source before givens reading
   pub last : List Event
-  pub stops : StopsAt source givens r.name.now r.cause last
+  pub stops : StopsAt source givens r last
   pub events_are : events ≡ reading ++ last
 
 -- what is held where this was joined to what was: to nothing at first
@@ -123,13 +125,15 @@ pub record JoinsText (held : Option PartialPicture) (bytes : List ℕ) (new : Pa
   pub joined : JoinsWith held said new
 
 -- why this was not joined to what was held: it is of another shape; or it is not, and memory ran out
-pub data CantJoin : Option PartialPicture → PartialPicture → Cause → Type 0 where
-  differs : (old p : PartialPicture) → has_same_shape old p ≡ false → CantJoin (Some old) p cause.ShapeDiffers
-  runs_out : (old p : PartialPicture) → (has_same_shape old p ≡ false → ⊥) → CantJoin (Some old) p cause.OutOfMemory
+pub data CantJoin : Option PartialPicture → PartialPicture → Refusal → Type 0 where
+  differs : (old p : PartialPicture) (name : Bor (List ℕ)) → has_same_shape old p ≡ false
+      → CantJoin (Some old) p (refusal.ShapeDiffers name)
+  runs_out : (old p : PartialPicture) (name : Bor (List ℕ)) → (has_same_shape old p ≡ false → ⊥)
+      → CantJoin (Some old) p (refusal.OutOfMemory name)
 
 -- why the bytes were not joined to it as a text: this is their first fault, unless memory ran out; or what they say is of another shape
-pub data CantJoinText : Option PartialPicture → List ℕ → Cause → Type 0 where
-  refused_text : (held : Option PartialPicture) (bytes : List ℕ) (f : TextFault) → Fails f (read_text bytes)
-      → CantJoinText held bytes (cause.Input (input_fault_of f))
-  other_text : (old said : PartialPicture) (bytes : List ℕ) → IsTextOf bytes said → has_same_shape old said ≡ false
-      → CantJoinText (Some old) bytes cause.ShapeDiffers
+pub data CantJoinText : Option PartialPicture → List ℕ → Refusal → Type 0 where
+  refused_text : (held : Option PartialPicture) (bytes : List ℕ) (name : Bor (List ℕ)) (f : TextFault) → Fails f (read_text bytes)
+      → CantJoinText held bytes (refusal.Input name (input_fault_of f))
+  other_text : (old said : PartialPicture) (bytes : List ℕ) (name : Bor (List ℕ)) → IsTextOf bytes said
+      → has_same_shape old said ≡ false → CantJoinText (Some old) bytes (refusal.ShapeDiffers name)

@@ -1,15 +1,15 @@
 -- What comes of `join`.
-use Rattle.std.specs.Prelude.{◌≡◌, ◌↔◌, ℕ, Bool, List, ◌++◌, Option, IsTrue}
+use Rattle.std.specs.Borrow.{Bor}
+use Rattle.std.specs.Prelude.{◌≡◌, ◌↔◌, ℕ, Bool, List, ◌++◌, Option, Err, IsTrue}
 use Rattle.jls_partial.specs.Partial.{PartialPicture}
 use Rattle.jls_partial.specs.Status.{IsSettled}
 use Rattle.jls_partial.specs.Text.{text}
 use Rattle.jls_device.specs.Event.{Event}
 use Rattle.jls_commands.specs.AllInputs.{TakesUnion, StopsAtInput}
 use Rattle.jls_commands.specs.Outputs.{HandsOut, StopsAtOutput}
-use Rattle.jls_commands.specs.declared.outcome.Cause.TheVariants as cause
+use Rattle.jls_commands.specs.Outcomes.{Outcome, finished, name_of}
 use Rattle.jls_commands.specs.declared.outcome.Refusal.{Refusal}
-use Rattle.jls_commands.specs.declared.outcome.Outcome.{Outcome}
-use Rattle.jls_commands.specs.declared.outcome.Outcome.TheVariants.{Done, Refused}
+use Rattle.jls_commands.specs.declared.outcome.Refusal.TheVariants as refusal
 
 -- a `join` that is done: the inputs were taken in turn; then the output was created and handed the text of the union of all
 -- that they gave
@@ -26,14 +26,14 @@ pub record JoinIsDone (source : Option ℕ) (out : List ℕ) (names : List (List
 -- text, when all inputs were taken; or the output stops it
 pub data Joins : Option ℕ → List ℕ → List (List ℕ) → Outcome → List Event → Type 0 where
   done : (source : Option ℕ) (out : List ℕ) (names : List (List ℕ)) (joined : PartialPicture) (settled whole : Bool) (events : List Event)
-      → JoinIsDone source out names joined settled whole events → Joins source out names (Done settled whole) events
+      → JoinIsDone source out names joined settled whole events → Joins source out names (finished settled whole) events
   at_input : (source : Option ℕ) (out : List ℕ) (names : List (List ℕ)) (r : Refusal) (events : List Event)
-      → StopsAtInput source names r events → Joins source out names (Refused r) events
-  no_memory : (source : Option ℕ) (out : List ℕ) (names : List (List ℕ)) (r : Refusal)
+      → StopsAtInput source names r events → Joins source out names (Err r) events
+  no_memory : (source : Option ℕ) (out : List ℕ) (names : List (List ℕ)) (name : Bor (List ℕ))
       (joined : PartialPicture) (whole : Bool) (events : List Event)
-      → r.name.now ≡ out → r.cause ≡ cause.OutOfMemory → TakesUnion source names joined whole events
-      → Joins source out names (Refused r) events
+      → name.now ≡ out → TakesUnion source names joined whole events
+      → Joins source out names (Err (refusal.OutOfMemory name)) events
   at_output : (source : Option ℕ) (out : List ℕ) (names : List (List ℕ)) (r : Refusal)
       (joined : PartialPicture) (whole : Bool) (reading writing : List Event)
-      → r.name.now ≡ out → TakesUnion source names joined whole reading → StopsAtOutput out (text joined) r.cause writing
-      → Joins source out names (Refused r) (reading ++ writing)
+      → name_of r ≡ out → TakesUnion source names joined whole reading → StopsAtOutput (text joined) r writing
+      → Joins source out names (Err r) (reading ++ writing)

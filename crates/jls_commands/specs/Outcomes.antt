@@ -1,28 +1,53 @@
--- The exit status of what came of a command.
-use Rattle.std.specs.Prelude.{ℕ, true, false}
+-- What comes of a command, and its exit status.
+use Rattle.std.specs.Prelude.{ℕ, Bool, true, false, List, Result, Ok, Err}
+use Rattle.jls_station.specs.declared.input.InputFault.{InputFault}
 use Rattle.jls_station.specs.declared.input.InputFault.TheVariants as fault
-use Rattle.jls_commands.specs.declared.outcome.Cause.{Cause}
-use Rattle.jls_commands.specs.declared.outcome.Cause.TheVariants as cause
-use Rattle.jls_commands.specs.declared.outcome.Outcome.{Outcome}
-use Rattle.jls_commands.specs.declared.outcome.Outcome.TheVariants.{Done, Refused}
+use Rattle.jls_commands.specs.declared.outcome.Done.{Done}
+use Rattle.jls_commands.specs.declared.outcome.Refusal.{Refusal}
+use Rattle.jls_commands.specs.declared.outcome.Refusal.TheVariants as refusal
 
--- (no input is refused as a text whose fault is want of memory: that is `Input OutOfMemory`)
-abbrev pub exit_status_of_cause : Cause → ℕ
-exit_status_of_cause cause.NotOpened = 4
-exit_status_of_cause (cause.Input (fault.Text f)) = 3
-exit_status_of_cause (cause.Input (fault.NoPicture f offset)) = 3
-exit_status_of_cause (cause.Input (fault.Read stop offset)) = 4
-exit_status_of_cause (cause.Input fault.OutOfMemory) = 5
-exit_status_of_cause cause.ShapeDiffers = 3
-exit_status_of_cause (cause.Unsettled id line disputed) = 1
-exit_status_of_cause cause.TooLarge = 2
-exit_status_of_cause cause.NotCreated = 4
-exit_status_of_cause (cause.NotWritten count) = 4
-exit_status_of_cause cause.OutOfMemory = 5
+-- a command is done, or refused
+abbrev pub Outcome : Type 0
+Outcome = Result Done Refusal
+
+-- it is done, and this is said of the lines of what it made and of the reading of its inputs
+abbrev pub finished : Bool → Bool → Outcome
+finished settled whole = Ok (record { settled = settled; whole = whole })
+
+-- the name of the input or output at which a command stopped
+abbrev pub name_of : Refusal → List ℕ
+name_of (refusal.NotOpened name) = name.now
+name_of (refusal.Input name f) = name.now
+name_of (refusal.ShapeDiffers name) = name.now
+name_of (refusal.Unsettled name id line disputed) = name.now
+name_of (refusal.TooLarge name) = name.now
+name_of (refusal.NotCreated name) = name.now
+name_of (refusal.NotWritten name count) = name.now
+name_of (refusal.OutOfMemory name) = name.now
+
+-- (no input is refused as a text whose fault is want of memory: that is `OutOfMemory`)
+abbrev pub status_of_input : InputFault → ℕ
+status_of_input (fault.Text f) = 3
+status_of_input (fault.NoPicture f offset) = 3
+status_of_input (fault.Read stop offset) = 4
+status_of_input fault.OutOfMemory = 5
+
+abbrev pub status_of_refusal : Refusal → ℕ
+status_of_refusal (refusal.NotOpened name) = 4
+status_of_refusal (refusal.Input name f) = status_of_input f
+status_of_refusal (refusal.ShapeDiffers name) = 3
+status_of_refusal (refusal.Unsettled name id line disputed) = 1
+status_of_refusal (refusal.TooLarge name) = 2
+status_of_refusal (refusal.NotCreated name) = 4
+status_of_refusal (refusal.NotWritten name count) = 4
+status_of_refusal (refusal.OutOfMemory name) = 5
 
 -- done: 4 where an input was not read whole, else 0 or 1 as all lines are settled or not
+abbrev pub status_of_done : Bool → Bool → ℕ
+status_of_done settled false = 4
+status_of_done true true = 0
+status_of_done false true = 1
+
 abbrev pub exit_status : Outcome → ℕ
-exit_status (Done settled false) = 4
-exit_status (Done true true) = 0
-exit_status (Done false true) = 1
-exit_status (Refused r) = exit_status_of_cause r.cause
+exit_status (Ok d) = status_of_done d.settled d.whole
+exit_status (Err r) = status_of_refusal r

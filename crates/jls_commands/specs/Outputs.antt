@@ -1,9 +1,10 @@
 -- How a command hands out what it made.
+use Rattle.std.specs.Borrow.{Bor}
 use Rattle.std.specs.Prelude.{◌≡◌, ℕ, List, [], ◌∷◌}
 use Rattle.jls_device.specs.Event.{Event, created, not_created}
 use Rattle.jls_device.specs.Writing.{Wrote, WroteFront}
-use Rattle.jls_commands.specs.declared.outcome.Cause.{Cause}
-use Rattle.jls_commands.specs.declared.outcome.Cause.TheVariants as cause
+use Rattle.jls_commands.specs.declared.outcome.Refusal.{Refusal}
+use Rattle.jls_commands.specs.declared.outcome.Refusal.TheVariants as refusal
 
 -- an output was created by this name and handed exactly these bytes
 pub record HandsOut (name bytes : List ℕ) (events : List Event) : Type 0 where
@@ -11,13 +12,9 @@ pub record HandsOut (name bytes : List ℕ) (events : List Event) : Type 0 where
   pub events_are : events ≡ created name ∷ writes
   pub wrote : Wrote bytes writes
 
--- no output was created by this name, and this is the cause
-abbrev pub IsNotCreated : List ℕ → Cause → List Event → Type 0
-IsNotCreated name c events = (c ≡ cause.NotCreated) × (events ≡ not_created name ∷ [])
-
--- the output stops the command for this cause: it is not created; or it is, and was handed so many of the bytes, from the
--- front on, when a write failed
-pub data StopsAtOutput : List ℕ → List ℕ → Cause → List Event → Type 0 where
-  not_there : (name bytes : List ℕ) → StopsAtOutput name bytes cause.NotCreated (not_created name ∷ [])
-  cut : (name bytes : List ℕ) (count : ℕ) (writes : List Event) → WroteFront bytes count writes
-      → StopsAtOutput name bytes (cause.NotWritten count) (created name ∷ writes)
+-- an output stops the command for this refusal, which has its name: it is not created; or it is, and was handed so many of the bytes,
+-- from the front on, when a write failed
+pub data StopsAtOutput : List ℕ → Refusal → List Event → Type 0 where
+  not_there : (name : Bor (List ℕ)) (bytes : List ℕ) → StopsAtOutput bytes (refusal.NotCreated name) (not_created name.now ∷ [])
+  cut : (name : Bor (List ℕ)) (bytes : List ℕ) (count : ℕ) (writes : List Event) → WroteFront bytes count writes
+      → StopsAtOutput bytes (refusal.NotWritten name count) (created name.now ∷ writes)

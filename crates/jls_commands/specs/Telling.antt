@@ -1,5 +1,6 @@
 -- What comes of a command that tells what one input gave.
-use Rattle.std.specs.Prelude.{◌≡◌, ◌↔◌, ℕ, Bool, IsTrue, List, [], ◌++◌, None, codes, if◌then◌else◌}
+use Rattle.std.specs.Borrow.{Bor}
+use Rattle.std.specs.Prelude.{◌≡◌, ◌↔◌, ℕ, Bool, IsTrue, List, [], ◌++◌, None, Err, codes, if◌then◌else◌}
 use Rattle.jls_partial.specs.Partial.{PartialPicture}
 use Rattle.jls_partial.specs.Status.{IsSettled}
 use Rattle.jls_report.specs.Report.{report_of}
@@ -9,10 +10,9 @@ use Rattle.jls_device.specs.Writing.{Wrote, WroteFront}
 use Rattle.jls_station.specs.Given.{Given}
 use Rattle.jls_commands.specs.AllInputs.{IsTaken, StopsAt}
 use Rattle.jls_station.specs.declared.input.ReadStop.TheVariants.{Whole}
-use Rattle.jls_commands.specs.declared.outcome.Cause.TheVariants as cause
+use Rattle.jls_commands.specs.Outcomes.{Outcome, finished, name_of}
 use Rattle.jls_commands.specs.declared.outcome.Refusal.{Refusal}
-use Rattle.jls_commands.specs.declared.outcome.Outcome.{Outcome}
-use Rattle.jls_commands.specs.declared.outcome.Outcome.TheVariants.{Done, Refused}
+use Rattle.jls_commands.specs.declared.outcome.Refusal.TheVariants as refusal
 use Rattle.jls_commands.specs.Tracing.{trace_lines}
 
 -- the lines that tell what is known of a partial picture
@@ -34,11 +34,11 @@ pub record Says (g : Given) (settled whole : Bool) : Type 0 where
 pub data Tells (lines : Given → List ℕ) : List ℕ → Outcome → List Event → List Event → Type 0 where
   done : (name : List ℕ) (g : Given) (settled whole : Bool) (reading writing : List Event)
       → IsTaken None name g reading → Says g settled whole → Wrote (lines g) writing
-      → Tells lines name (Done settled whole) reading writing
+      → Tells lines name (finished settled whole) reading writing
   at_input : (name : List ℕ) (r : Refusal) (reading : List Event)
-      → r.name.now ≡ name → StopsAt None [] name r.cause reading → Tells lines name (Refused r) reading []
-  no_memory : (name : List ℕ) (r : Refusal) (g : Given) (reading : List Event)
-      → r.name.now ≡ name → r.cause ≡ cause.OutOfMemory → IsTaken None name g reading → Tells lines name (Refused r) reading []
-  not_printed : (name : List ℕ) (r : Refusal) (g : Given) (count : ℕ) (reading writing : List Event)
-      → r.name.now ≡ codes "-" → r.cause ≡ cause.NotWritten count → IsTaken None name g reading → WroteFront (lines g) count writing
-      → Tells lines name (Refused r) reading writing
+      → name_of r ≡ name → StopsAt None [] r reading → Tells lines name (Err r) reading []
+  no_memory : (name : List ℕ) (file : Bor (List ℕ)) (g : Given) (reading : List Event)
+      → file.now ≡ name → IsTaken None name g reading → Tells lines name (Err (refusal.OutOfMemory file)) reading []
+  not_printed : (name : List ℕ) (out : Bor (List ℕ)) (g : Given) (count : ℕ) (reading writing : List Event)
+      → out.now ≡ codes "-" → IsTaken None name g reading → WroteFront (lines g) count writing
+      → Tells lines name (Err (refusal.NotWritten out count)) reading writing

@@ -1,5 +1,6 @@
 -- What comes of the command `write`.
-use Rattle.std.specs.Prelude.{◌≡◌, ℕ, ◌*◌, ◌^◌, ◌<◌, Bool, true, false, List, [], ◌∷◌, ◌++◌, length, take, None, get_or}
+use Rattle.std.specs.Borrow.{Bor}
+use Rattle.std.specs.Prelude.{◌≡◌, ℕ, ◌*◌, ◌^◌, ◌<◌, Bool, true, false, List, [], ◌∷◌, ◌++◌, length, take, None, Err, get_or}
 use Rattle.jls_partial.specs.Partial.{PartialPicture}
 use Rattle.jls_partial.specs.Status.{IsSettled}
 use Rattle.jls_report.specs.Lines.{is_disputed}
@@ -18,11 +19,9 @@ use Rattle.jls_device.specs.Writing.{Wrote}
 use Rattle.jls_station.specs.Given.{Given}
 use Rattle.jls_commands.specs.AllInputs.{IsTaken, StopsAt}
 use Rattle.jls_commands.specs.Outputs.{HandsOut, StopsAtOutput}
-use Rattle.jls_commands.specs.declared.outcome.Cause.{Cause}
-use Rattle.jls_commands.specs.declared.outcome.Cause.TheVariants as cause
+use Rattle.jls_commands.specs.Outcomes.{Outcome, finished, name_of}
 use Rattle.jls_commands.specs.declared.outcome.Refusal.{Refusal}
-use Rattle.jls_commands.specs.declared.outcome.Outcome.{Outcome}
-use Rattle.jls_commands.specs.declared.outcome.Outcome.TheVariants.{Done, Refused}
+use Rattle.jls_commands.specs.declared.outcome.Refusal.TheVariants as refusal
 use Rattle.jls_commands.specs.Telling.{Says}
 use Rattle.jls_commands.specs.declared.writing.Format.{Format}
 use Rattle.jls_commands.specs.declared.writing.Format.TheVariants.{Pnm, Jls}
@@ -60,25 +59,26 @@ abbrev pub takes_memory : Format → Bool
 takes_memory Pnm = false
 takes_memory (Jls line ri) = true
 
--- the file of these bytes stops the command at an output of this name, for this cause: it is too large, and nothing is created;
+-- the file of these bytes stops the command for this refusal, which has the name of the output: it is too large, and nothing is created;
 -- the output stops it; or memory runs out when so many of the bytes went out, from the front on and not all
-pub data StopsAtFile (Fits TooLarge : Type 0) (takes : Bool) : List ℕ → List ℕ → Cause → List Event → Type 0 where
-  too_large : (name bytes : List ℕ) → TooLarge → StopsAtFile Fits TooLarge takes name bytes cause.TooLarge []
-  at_output : (name bytes : List ℕ) (c : Cause) (events : List Event) → Fits → StopsAtOutput name bytes c events
-      → StopsAtFile Fits TooLarge takes name bytes c events
-  no_memory : (name bytes : List ℕ) (count : ℕ) (writes : List Event) → Fits → takes ≡ true → count < length bytes
-      → Wrote (take count bytes) writes → StopsAtFile Fits TooLarge takes name bytes cause.OutOfMemory (created name ∷ writes)
+pub data StopsAtFile (Fits TooLarge : Type 0) (takes : Bool) : List ℕ → Refusal → List Event → Type 0 where
+  too_large : (name : Bor (List ℕ)) (bytes : List ℕ) → TooLarge → StopsAtFile Fits TooLarge takes bytes (refusal.TooLarge name) []
+  at_output : (bytes : List ℕ) (r : Refusal) (events : List Event) → Fits → StopsAtOutput bytes r events
+      → StopsAtFile Fits TooLarge takes bytes r events
+  no_memory : (name : Bor (List ℕ)) (bytes : List ℕ) (count : ℕ) (writes : List Event) → Fits → takes ≡ true → count < length bytes
+      → Wrote (take count bytes) writes → StopsAtFile Fits TooLarge takes bytes (refusal.OutOfMemory name) (created name.now ∷ writes)
 
 -- ---- the command
 
 -- what is said of a line that is not settled: the identifier of its component, its number, and whether it has readings
-abbrev pub unsettled_cause : PartialPicture → PictureFault → Cause
-unsettled_cause p (Unsettled component line) = cause.Unsettled (get_or p.shape.ids component 0) line (is_disputed p component line)
+abbrev pub unsettled_refusal : Bor (List ℕ) → PartialPicture → PictureFault → Refusal
+unsettled_refusal name p (Unsettled component line) =
+    refusal.Unsettled name (get_or p.shape.ids component 0) line (is_disputed p component line)
 
 -- what is said of a file that was not handed out whole
-abbrev pub cut_cause : OutputFault → Cause
-cut_cause (Write count) = cause.NotWritten count
-cut_cause (OutOfMemory count) = cause.OutOfMemory
+abbrev pub cut_refusal : Bor (List ℕ) → OutputFault → Refusal
+cut_refusal name (Write count) = refusal.NotWritten name count
+cut_refusal name (OutOfMemory count) = refusal.OutOfMemory name
 
 -- What comes of `write` in this format with this output and this input: it is done, and the output was created when the input
 -- was taken; the input stops it; the first line that is not settled does; or the file does
@@ -86,14 +86,15 @@ pub data WritesFile : Format → List ℕ → List ℕ → Outcome → List Even
   done : (f : Format) (out name : List ℕ) (g : Given) (whole : Bool) (reading writing : List Event)
       → IsTaken None name g reading → IsSettled g.partial → Says g true whole → FitsFormat f (picture_of g.partial)
       → HandsOut out (file f (picture_of g.partial)) writing
-      → WritesFile f out name (Done true whole) (reading ++ writing)
+      → WritesFile f out name (finished true whole) (reading ++ writing)
   at_input : (f : Format) (out name : List ℕ) (r : Refusal) (reading : List Event)
-      → r.name.now ≡ name → StopsAt None [] name r.cause reading → WritesFile f out name (Refused r) reading
-  unsettled : (f : Format) (out name : List ℕ) (r : Refusal) (g : Given) (fault : PictureFault) (reading : List Event)
-      → r.name.now ≡ name → IsTaken None name g reading → NamesFirstUnsettled g.partial fault
-      → r.cause ≡ unsettled_cause g.partial fault → WritesFile f out name (Refused r) reading
+      → name_of r ≡ name → StopsAt None [] r reading → WritesFile f out name (Err r) reading
+  unsettled : (f : Format) (out name : List ℕ) (r : Refusal) (input : Bor (List ℕ)) (g : Given) (fault : PictureFault)
+      (reading : List Event)
+      → input.now ≡ name → IsTaken None name g reading → NamesFirstUnsettled g.partial fault
+      → r ≡ unsettled_refusal input g.partial fault → WritesFile f out name (Err r) reading
   at_file : (f : Format) (out name : List ℕ) (r : Refusal) (g : Given) (reading writing : List Event)
-      → r.name.now ≡ out → IsTaken None name g reading → IsSettled g.partial
-      → StopsAtFile (FitsFormat f (picture_of g.partial)) (IsTooLarge f (picture_of g.partial)) (takes_memory f) out
-      (file f (picture_of g.partial)) r.cause writing
-      → WritesFile f out name (Refused r) (reading ++ writing)
+      → name_of r ≡ out → IsTaken None name g reading → IsSettled g.partial
+      → StopsAtFile (FitsFormat f (picture_of g.partial)) (IsTooLarge f (picture_of g.partial)) (takes_memory f)
+      (file f (picture_of g.partial)) r writing
+      → WritesFile f out name (Err r) (reading ++ writing)

@@ -1,11 +1,12 @@
 //! The inputs of a command, opened and read in turn.
 
-ghost use Rattle.std.specs.Prelude.{◌≡◌, [], List, IfOk, IfErr, None};
-ghost use Rattle.jls_device.specs.Event.{GrewBy};
+ghost use Rattle.std.specs.Prelude.{◌≡◌, ◌++◌, ◌∷◌, [], List, OnOk, OnErr, IfOk, IfErr, None};
+ghost use Rattle.jls_device.specs.Event.{GrewBy, opened, not_opened};
 ghost use Rattle.jls_station.specs.Given.{Given};
+ghost use Rattle.jls_commands.specs.Outcomes.{name_of};
 ghost use Rattle.jls_commands.specs.AllInputs.{names_of, partials, IsHeld, IsTaken, JoinsInput, JoinsText, JoinsWith, CantJoin, CantJoinText, TakesUnion, StopsAt, StopsAtInput};
 
-use crate::outcome::{Cause, Refusal};
+use crate::outcome::Refusal;
 use jls_device::Desk;
 use jls_partial::{MergeTextFault, Partial};
 use jls_station::{InputForm, InputRead, Station, input_fault, read_form, read_input};
@@ -29,54 +30,70 @@ pub(crate) struct Taken {
     pub whole: bool,
 }
 
-/// Opens one input and reads it. A copy has no source.
-pub(crate) fn open_and_read<D: Desk>(
-    alloc: Global,
-    desk: &mut D,
-    name: &str,
-) -> Result<InputRead, Cause>
-    ensures taken { IfOk result (λ given. GrewBy (IsTaken None name.now given) (D.history desk.old) (D.history desk.new)) }
-    ensures stopped { IfErr result (λ cause. GrewBy (StopsAt None [] name.now cause) (D.history desk.old) (D.history desk.new)) }
+/// Opens the input of this name.
+fn open<'a, D: Desk>(desk: &mut D, name: &'a str) -> Result<(), Refusal<'a>>
+    ensures opened { OnOk result (D.history desk.new ≡ D.history desk.old ++ opened name.now ∷ []) }
+    ensures not_opened { OnErr result (D.history desk.new ≡ D.history desk.old ++ not_opened name.now ∷ []) }
+    ensures refusal { IfErr result (λ refusal. refusal ≡ Refusal.NotOpened name.entry) }
 {
-    match desk.open_input(name) {
-        Ok(()) => {}
-        Err(_) => return Err(Cause::NotOpened),
-    }
-    match read_input(alloc, None, desk) {
-        Ok(read) => Ok(read),
-        Err(fault) => Err(Cause::Input(fault)),
-    }
+    desk.open_input(name).map_err(|_| Refusal::NotOpened(name))
 }
 
-/// Joins what a text says to what is held: to nothing at first.
-fn join_text(alloc: Global, held: Option<Station>, text: &[u8]) -> Result<Station, Cause>
+/// Opens one input and reads it. A copy has no source.
+pub(crate) fn open_and_read<'a, D: Desk>(
+    alloc: Global,
+    desk: &mut D,
+    name: &'a str,
+) -> Result<InputRead, Refusal<'a>>
+    ensures taken { IfOk result (λ given. GrewBy (IsTaken None name.now given) (D.history desk.old) (D.history desk.new)) }
+    ensures stopped { IfErr result (λ refusal. GrewBy (StopsAt None [] refusal) (D.history desk.old) (D.history desk.new)) }
+    ensures named { IfErr result (λ refusal. name_of refusal ≡ name.now) }
+{
+    open(desk, name)?;
+    read_input(alloc, None, desk).map_err(|fault| Refusal::Input(name, fault))
+}
+
+/// Joins what the text of an input says to what is held: to nothing at first.
+fn join_text<'a>(
+    alloc: Global,
+    held: Option<Station>,
+    text: &[u8],
+    name: &'a str,
+) -> Result<Station, Refusal<'a>>
     ensures joined { IfOk result (λ station. JoinsText held text.now station) }
-    ensures refused { IfErr result (λ cause. CantJoinText held text.now cause) }
+    ensures refused { IfErr result (λ refusal. CantJoinText held text.now refusal) }
+    ensures named { IfErr result (λ refusal. name_of refusal ≡ name.now) }
 {
     match held {
         None => match Partial::from_bytes(alloc, text) {
             Ok(partial) => Ok(Station::holding(alloc, partial)),
-            Err(fault) => Err(Cause::Input(input_fault(fault))),
+            Err(fault) => Err(Refusal::Input(name, input_fault(fault))),
         },
         Some(mut station) => match station.take_text(text) {
             Ok(()) => Ok(station),
-            Err(MergeTextFault::Text(fault)) => Err(Cause::Input(input_fault(fault))),
-            Err(MergeTextFault::ShapeDiffers) => Err(Cause::ShapeDiffers),
+            Err(MergeTextFault::Text(fault)) => Err(Refusal::Input(name, input_fault(fault))),
+            Err(MergeTextFault::ShapeDiffers) => Err(Refusal::ShapeDiffers(name)),
         },
     }
 }
 
 /// Joins what a copy gives to what is held: to nothing at first.
-fn join_copy(alloc: Global, held: Option<Station>, read: InputRead) -> Result<Station, Cause>
+fn join_copy<'a>(
+    alloc: Global,
+    held: Option<Station>,
+    read: InputRead,
+    name: &'a str,
+) -> Result<Station, Refusal<'a>>
     ensures joined { IfOk result (λ station. JoinsWith held read.partial station) }
-    ensures refused { IfErr result (λ cause. CantJoin held read.partial cause) }
+    ensures refused { IfErr result (λ refusal. CantJoin held read.partial refusal) }
+    ensures named { IfErr result (λ refusal. name_of refusal ≡ name.now) }
 {
     match held {
         None => Ok(Station::holding(alloc, read.into_partial())),
         Some(mut station) => match station.take(read.partial()) {
             Ok(()) => Ok(station),
-            Err(MergeFault::ShapeDiffers) => Err(Cause::ShapeDiffers),
-            Err(MergeFault::OutOfMemory) => Err(Cause::OutOfMemory),
+            Err(MergeFault::ShapeDiffers) => Err(Refusal::ShapeDiffers(name)),
+            Err(MergeFault::OutOfMemory) => Err(Refusal::OutOfMemory(name)),
         },
     }
 }
@@ -90,26 +107,24 @@ struct Room {
 }
 
 /// Opens one input, reads it, and joins what it gives to what is held: to nothing at first.
-fn take_input<D: Desk>(
+fn take_input<'a, D: Desk>(
     desk: &mut D,
     room: &mut Room,
     held: Option<Station>,
-    name: &str,
-) -> Result<Taken, Cause>
+    name: &'a str,
+) -> Result<Taken, Refusal<'a>>
     ensures joined { IfOk result (λ taken. GrewBy (JoinsInput room.old.source name.now held taken.station taken.whole)
         (D.history desk.old) (D.history desk.new)) }
     // Whatever the inputs before it gave, of which the union is held.
-    ensures stopped { (before : List Given) → IsHeld (partials before) held → IfErr result (λ cause.
-        GrewBy (StopsAt room.old.source before name.now cause) (D.history desk.old) (D.history desk.new)) }
+    ensures stopped { (before : List Given) → IsHeld (partials before) held → IfErr result (λ refusal.
+        GrewBy (StopsAt room.old.source before refusal) (D.history desk.old) (D.history desk.new)) }
+    ensures named { IfErr result (λ refusal. name_of refusal ≡ name.now) }
     ensures source { room.new.source ≡ room.old.source }
 {
-    match desk.open_input(name) {
-        Ok(()) => {}
-        Err(_) => return Err(Cause::NotOpened),
-    }
+    open(desk, name)?;
     match read_form(room.alloc, room.source, desk, &mut room.text) {
         Ok(InputForm::Text) => {
-            let station = join_text(room.alloc, held, &room.text)?;
+            let station = join_text(room.alloc, held, &room.text, name)?;
             Ok(Taken {
                 station,
                 whole: true,
@@ -117,10 +132,10 @@ fn take_input<D: Desk>(
         }
         Ok(InputForm::Copy(read)) => {
             let whole = read.is_whole();
-            let station = join_copy(room.alloc, held, read)?;
+            let station = join_copy(room.alloc, held, read, name)?;
             Ok(Taken { station, whole })
         }
-        Err(fault) => Err(Cause::Input(fault)),
+        Err(fault) => Err(Refusal::Input(name, fault)),
     }
 }
 
@@ -148,18 +163,13 @@ pub(crate) fn take_inputs<'a, D: Desk>(
         source,
         text,
     };
+    let begun = take_input(desk, &mut room, None, first)?;
     let Taken {
         mut station,
         mut whole,
-    } = match take_input(desk, &mut room, None, first) {
-        Ok(taken) => taken,
-        Err(cause) => return Err(Refusal { name: first, cause }),
-    };
+    } = begun;
     for name in others {
-        let taken = match take_input(desk, &mut room, Some(station), name) {
-            Ok(taken) => taken,
-            Err(cause) => return Err(Refusal { name, cause }),
-        };
+        let taken = take_input(desk, &mut room, Some(station), name)?;
         station = taken.station;
         whole &= taken.whole;
     }

@@ -13,6 +13,6 @@ mod writing;
 pub use inputs::JoinInputs;
 pub use joining::join;
 pub use laws::{same_inputs_same_output, surviving_lines_give_the_picture};
-pub use outcome::{Cause, Outcome, Refusal};
+pub use outcome::{Done, Refusal, exit_status};
 pub use telling::{check, show};
 pub use writing::{Format, write};

@@ -6,7 +6,7 @@ ghost use Rattle.jls_commands.specs.Telling.{lines, report_lines, Tells};
 ghost use Rattle.jls_commands.specs.Tracing.{trace_lines};
 
 use crate::inputs::open_and_read;
-use crate::outcome::{Cause, Outcome, Refusal};
+use crate::outcome::{Done, Refusal};
 use crate::tracing::put_trace;
 use jls_device::{Desk, Sink, write_all};
 use jls_partial::Partial;
@@ -61,30 +61,18 @@ fn tell<'a, D: Desk, W: Sink>(
     report: &mut W,
     traced: bool,
     file: &'a str,
-) -> Outcome<'a>
+) -> Result<Done, Refusal<'a>>
     ensures { GrewBoth (Tells (lines traced) file.now result) (D.history desk.old) (D.history desk.new)
         (W.history report.old) (W.history report.new) }
 {
-    let input = match open_and_read(alloc, desk, file) {
-        Ok(input) => input,
-        Err(cause) => return Outcome::Refused(Refusal { name: file, cause }),
-    };
-    let text = match lines_of(alloc, &input, traced) {
-        Ok(text) => text,
-        Err(_) => {
-            let cause = Cause::OutOfMemory;
-            return Outcome::Refused(Refusal { name: file, cause });
-        }
-    };
+    let input = open_and_read(alloc, desk, file)?;
+    let text = lines_of(alloc, &input, traced).map_err(|_| Refusal::OutOfMemory(file))?;
     match write_all(report, &text) {
-        Ok(()) => Outcome::Done {
+        Ok(()) => Ok(Done {
             settled: input.partial().is_settled(),
             whole: input.is_whole(),
-        },
-        Err(count) => {
-            let cause = Cause::NotWritten(count);
-            Outcome::Refused(Refusal { name: "-", cause })
-        }
+        }),
+        Err(count) => Err(Refusal::NotWritten("-", count)),
     }
 }
 
@@ -94,7 +82,7 @@ pub fn check<'a, D: Desk, W: Sink>(
     desk: &mut D,
     report: &mut W,
     file: &'a str,
-) -> Outcome<'a>
+) -> Result<Done, Refusal<'a>>
     ensures { GrewBoth (Tells (lines true) file.now result) (D.history desk.old) (D.history desk.new)
         (W.history report.old) (W.history report.new) }
 {
@@ -107,7 +95,7 @@ pub fn show<'a, D: Desk, W: Sink>(
     desk: &mut D,
     report: &mut W,
     file: &'a str,
-) -> Outcome<'a>
+) -> Result<Done, Refusal<'a>>
     ensures { GrewBoth (Tells (lines false) file.now result) (D.history desk.old) (D.history desk.new)
         (W.history report.old) (W.history report.new) }
 {

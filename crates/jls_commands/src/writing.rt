@@ -2,15 +2,16 @@
 
 ghost use Rattle.std.specs.Prelude.{◌≡◌, true, OnOk, IfErr};
 ghost use Rattle.jls_device.specs.Event.{GrewBy};
+ghost use Rattle.jls_commands.specs.Outcomes.{name_of};
 ghost use Rattle.jls_commands.specs.Outputs.{HandsOut, StopsAtOutput};
 ghost use Rattle.jls_picture.specs.Unsettled.{NamesFirstUnsettled};
 ghost use Rattle.jls_file.specs.WrittenFile.{written_file};
 ghost use Rattle.jls_picture.specs.Options.{OptionsFit};
 ghost use Rattle.jls_picture.specs.Pnm.{pnm};
-ghost use Rattle.jls_commands.specs.WritingFiles.{cut_cause, file, FitsFormat, IsTooLarge, options_for, StopsAtFile, takes_memory, unsettled_cause, WritesFile};
+ghost use Rattle.jls_commands.specs.WritingFiles.{file, cut_refusal, FitsFormat, IsTooLarge, options_for, StopsAtFile, takes_memory, unsettled_refusal, WritesFile};
 
 use crate::inputs::open_and_read;
-use crate::outcome::{Cause, Outcome, Refusal};
+use crate::outcome::{Done, Refusal};
 use crate::output::create;
 use jls_device::Desk;
 use jls_file::write_jls;
@@ -30,26 +31,27 @@ pub enum Format {
     Jls { line: bool, ri: u16 },
 }
 
-/// The cause that names a line which isn't settled.
-fn unsettled(partial: &Partial, fault: PictureFault) -> Cause
+/// The refusal that tells of a line of an input which isn't settled.
+fn unsettled<'a>(name: &'a str, partial: &Partial, fault: PictureFault) -> Refusal<'a>
     requires { NamesFirstUnsettled partial.now fault }
-    ensures { result ≡ unsettled_cause partial.now fault }
+    ensures { result ≡ unsettled_refusal name.entry partial.now fault }
 {
     let PictureFault::Unsettled(component, line) = fault;
-    Cause::Unsettled {
+    Refusal::Unsettled {
+        name,
         id: partial.shape().ids()[component as usize],
         line,
         disputed: partial.count(component, line) > 1,
     }
 }
 
-/// The cause that names what became of an output.
-fn cut(fault: OutputFault) -> Cause
-    ensures { result ≡ cut_cause fault }
+/// The refusal that tells what became of an output.
+fn cut<'a>(name: &'a str, fault: OutputFault) -> Refusal<'a>
+    ensures { result ≡ cut_refusal name.entry fault }
 {
     match fault {
-        OutputFault::Write(count) => Cause::NotWritten(count),
-        OutputFault::OutOfMemory(_) => Cause::OutOfMemory,
+        OutputFault::Write(count) => Refusal::NotWritten(name, count),
+        OutputFault::OutOfMemory(_) => Refusal::OutOfMemory(name),
     }
 }
 
@@ -65,55 +67,56 @@ fn jls_options(picture: &Picture<'_>, line: bool, ri: u16) -> Options
 }
 
 /// Creates the output of this name and hands the PNM file of the picture to it.
-fn hand_out_pnm<D: Desk>(desk: &mut D, name: &str, picture: &Picture<'_>) -> Result<(), Cause>
+fn hand_out_pnm<'a, D: Desk>(
+    desk: &mut D,
+    name: &'a str,
+    picture: &Picture<'_>,
+) -> Result<(), Refusal<'a>>
     ensures written { OnOk result (GrewBy (HandsOut name.now (pnm picture.now)) (D.history desk.old) (D.history desk.new)) }
-    ensures stopped { IfErr result (λ cause.
-        GrewBy (StopsAtOutput name.now (pnm picture.now) cause) (D.history desk.old) (D.history desk.new)) }
+    ensures stopped { IfErr result (λ refusal.
+        GrewBy (StopsAtOutput (pnm picture.now) refusal) (D.history desk.old) (D.history desk.new)) }
+    ensures named { IfErr result (λ refusal. name_of refusal ≡ name.now) }
 {
     create(desk, name)?;
-    match write_pnm(picture, desk) {
-        Ok(()) => Ok(()),
-        Err(fault) => Err(cut(fault)),
-    }
+    write_pnm(picture, desk).map_err(|fault| cut(name, fault))
 }
 
 /// Creates the output of this name and hands the JPEG-LS file of the picture to it, if the options fit.
-fn hand_out_jls<D: Desk>(
+fn hand_out_jls<'a, D: Desk>(
     alloc: Global,
     desk: &mut D,
     options: &Options,
-    name: &str,
+    name: &'a str,
     picture: &Picture<'_>,
-) -> Result<(), Cause>
+) -> Result<(), Refusal<'a>>
     ensures fit { OnOk result (OptionsFit picture.now options.now) }
     ensures written { OnOk result (GrewBy (HandsOut name.now (written_file picture.now options.now)) (D.history desk.old)
         (D.history desk.new)) }
-    ensures stopped { IfErr result (λ cause. GrewBy (StopsAtFile (OptionsFit picture.now options.now)
-        (OptionsFit picture.now options.now → ⊥) true name.now (written_file picture.now options.now) cause)
+    ensures stopped { IfErr result (λ refusal. GrewBy (StopsAtFile (OptionsFit picture.now options.now)
+        (OptionsFit picture.now options.now → ⊥) true (written_file picture.now options.now) refusal)
         (D.history desk.old) (D.history desk.new)) }
+    ensures named { IfErr result (λ refusal. name_of refusal ≡ name.now) }
 {
     if !options.fits(picture) {
-        return Err(Cause::TooLarge);
+        return Err(Refusal::TooLarge(name));
     }
     create(desk, name)?;
-    match write_jls(alloc, picture, options, desk) {
-        Ok(()) => Ok(()),
-        Err(fault) => Err(cut(fault)),
-    }
+    write_jls(alloc, picture, options, desk).map_err(|fault| cut(name, fault))
 }
 
 /// Creates the output of this name and hands the file of the picture to it, if it can be written so.
-fn hand_out<D: Desk>(
+fn hand_out<'a, D: Desk>(
     alloc: Global,
     desk: &mut D,
     format: Format,
-    name: &str,
+    name: &'a str,
     picture: &Picture<'_>,
-) -> Result<(), Cause>
+) -> Result<(), Refusal<'a>>
     ensures fit { OnOk result (FitsFormat format picture.now) }
     ensures written { OnOk result (GrewBy (HandsOut name.now (file format picture.now)) (D.history desk.old) (D.history desk.new)) }
-    ensures stopped { IfErr result (λ cause. GrewBy (StopsAtFile (FitsFormat format picture.now) (IsTooLarge format picture.now)
-        (takes_memory format) name.now (file format picture.now) cause) (D.history desk.old) (D.history desk.new)) }
+    ensures stopped { IfErr result (λ refusal. GrewBy (StopsAtFile (FitsFormat format picture.now) (IsTooLarge format picture.now)
+        (takes_memory format) (file format picture.now) refusal) (D.history desk.old) (D.history desk.new)) }
+    ensures named { IfErr result (λ refusal. name_of refusal ≡ name.now) }
 {
     match format {
         Format::Pnm => hand_out_pnm(desk, name, picture),
@@ -134,26 +137,16 @@ pub fn write<'a, D: Desk>(
     format: Format,
     out: &'a str,
     file: &'a str,
-) -> Outcome<'a>
+) -> Result<Done, Refusal<'a>>
     ensures { GrewBy (WritesFile format out.now file.now result) (D.history desk.old) (D.history desk.new) }
 {
-    let input = match open_and_read(alloc, desk, file) {
-        Ok(input) => input,
-        Err(cause) => return Outcome::Refused(Refusal { name: file, cause }),
-    };
+    let input = open_and_read(alloc, desk, file)?;
     let partial = input.partial();
-    let picture = match Picture::of(partial) {
-        Ok(picture) => picture,
-        Err(fault) => {
-            let cause = unsettled(partial, fault);
-            return Outcome::Refused(Refusal { name: file, cause });
-        }
-    };
-    match hand_out(alloc, desk, format, out, &picture) {
-        Ok(()) => Outcome::Done {
-            settled: true,
-            whole: input.is_whole(),
-        },
-        Err(cause) => Outcome::Refused(Refusal { name: out, cause }),
-    }
+    let picture = Picture::of(partial).map_err(|fault| unsettled(file, partial, fault))?;
+    hand_out(alloc, desk, format, out, &picture)?;
+    let whole = input.is_whole();
+    Ok(Done {
+        settled: true,
+        whole,
+    })
 }

@@ -1,40 +1,54 @@
--- A run of `join` over the two copies, and one of `write` behind it, event by event: the premises of the laws on written joins are met, and
--- the text of the join stands for both copies.
-use Rattle.std.proofs.Common.{◌≡◌, ℕ, ◌<◌, Bool, true, false, List, [], ◌∷◌, ◌++◌, length, Option, Some, None, refl, sym, ap, ◌∙◌, subst, lit<, lit≤, arith, inl, inr}
+-- A run of `join` over the two copies, and one of `write` after it, event by event: the premises of the laws on written joins are met, and
+-- the text of the join stands for both copies. So does a run of `join` over that text.
+use Rattle.std.proofs.Common.{◌≡◌, ℕ, zero, suc, ◌<◌, Bool, true, false, List, [], ◌∷◌, ◌++◌, length, Option, Some, None, refl, sym, ap, ◌∙◌, subst, lit<, lit≤, arith, inl, inr}
 use Rattle.std.specs.Prelude.{All}
+use Rattle.std.specs.List.{Contains}
 use Rattle.std.proofs.lemmas.List.{append-nil}
 use Rattle.std.proofs.lemmas.List.Elements.{All-cons, All-nil}
+use Rattle.jls_values.specs.OrderedSetLaws.{contains-union}
 use Rattle.jls_values.specs.Shape.{PictureShape}
 use Rattle.jls_values.specs.SameShape.{same_shape}
-use Rattle.jls_partial.specs.Partial.{PartialPicture, has_same_shape, union}
+use Rattle.jls_partial.specs.Partial.{PartialPicture, has_same_shape, holds, readings_at, union}
+use Rattle.jls_partial.specs.Parts.{IsPartOf, EachLineIsHeld}
+use Rattle.jls_partial.specs.Reading.{reading_of}
+use Rattle.jls_partial.specs.ReadingOrder.{reading_total}
 use Rattle.jls_partial.specs.PartialLaws.{shape_itself}
 use Rattle.jls_partial.specs.Text.{text, IsTextOf}
 use Rattle.jls_copy.specs.CopyReads.{CopyReads, IsDone}
 use Rattle.jls_copy.specs.ReadCopy.{ReadCopy}
 use Rattle.jls_copy.proofs.OneCourse.{one_course}
 use Rattle.jls_device.specs.Event.{Event, opened, gave, created, took}
-use Rattle.jls_picture.specs.Picture.{WholePicture, picture_of}
+use Rattle.jls_picture.specs.Picture.{WholePicture, line_of, picture_of}
 use Rattle.jls_picture.specs.Pnm.{pnm}
 use Rattle.jls_station.specs.Texts.{is_text}
 use Rattle.jls_station.specs.Given.{Given, given_by_text, given_by_copy, by_text, by_copy}
 use Rattle.jls_station.specs.Inputs.{IsEnough, IsCopyDone}
 use Rattle.jls_commands.specs.AllInputs.{IsTaken}
 use Rattle.jls_commands.specs.Joining.{JoinIsDone}
+use Rattle.jls_commands.specs.Laws.{AreInputsOf, input_bytes}
 use Rattle.jls_station.specs.Reading.{IsRead, AreBytes}
 use Rattle.jls_station.specs.declared.input.ReadStop.TheVariants.{Whole}
-use Rattle.jls_commands.specs.declared.outcome.Outcome.TheVariants.{Done}
+use Rattle.jls_commands.specs.Outcomes.{finished}
 use Rattle.jls_station.proofs.OneInput.{empty_goes_on}
 use Rattle.jls_commands.specs.WritingFiles.{done}
 use Rattle.jls_commands.specs.declared.writing.Format.TheVariants.{Pnm}
-use Rattle.jls_headline.specs.JoinThenWrite.{JoinsDamagedCopies, WritesWhatWasJoined}
+use Rattle.jls_headline.specs.JoinThenWrite.{JoinsDamagedCopies, JoinsForDamagedCopies, WritesWhatWasJoined}
+use Rattle.jls_headline.specs.NoOtherLaws.{SomeInputHasEachLine}
+use Rattle.jls_headline.specs.PictureLines.{picture_reading}
 use Rattle.jls_headline.specs.ReadsAs.{GivesPicture}
-use Rattle.jls_headline.specs.RunLaws.{InputStandsFor}
+use Rattle.jls_headline.specs.RunLaws.{InputStandsFor, InputStandsUnder}
+use Rattle.jls_headline.specs.SourceLaws.{sourced_copy}
+use Rattle.jls_headline.specs.Sources.{HoldsExactlyUnder, began_under, TookInTheEndUnder}
 use Rattle.jls_headline.specs.Stations.{HoldsExactly, began, took_copy, TookInTheEnd}
 use Rattle.jls_headline.proofs.JoinThenWrite.{text_of_copies}
-use Rattle.jls_headline.proofs.Members.{none_in}
+use Rattle.jls_headline.proofs.LostIntervals.{surviving_lines_are_given}
+use Rattle.jls_headline.specs.Survives.{Survives}
+use Rattle.jls_headline.proofs.Held.{is_at_line, or_first, or_second}
+use Rattle.jls_headline.proofs.Members.{in_rest, is_first, none_in}
+use Rattle.jls_headline.proofs.SourcedStations.{copy_holds_under, union_holds_under}
 use Rattle.jls_headline.proofs.StationPictures.{damaged_copies_give_the_picture}
 use Rattle.jls_headline.proofs.Stations.{copy_holds, union_holds}
-use Rattle.jls_headline.proofs.TwoLineExamples.{shape, pic, is_picture, first, second, first_course, second_course, course_with, lost_first, bytes_of_test, shape_read, both_are_damaged, each_line_survives}
+use Rattle.jls_headline.proofs.TwoLineExamples.{shape, pic, is_picture, first, second, first_course, second_course, course_with, lost_first, bytes_of_test, shape_read, both_are_damaged, line_0, line_1, each_line_survives}
 
 -- One input that is a copy ---------------------------------------------------------------------------------------
 
@@ -78,7 +92,7 @@ reading = opened (97 ∷ []) ∷ gave 4096 first ∷ opened (98 ∷ []) ∷ gave
 
 module _ (a b : ReadCopy) (ra : CopyReads first a) (rb : CopyReads second b) where
   -- what is joined
-  abbrev both : PartialPicture
+  abbrev pub both : PartialPicture
   both = union a.partial b.partial
 
   first_shape : a.partial.shape ≡ shape
@@ -102,7 +116,7 @@ module _ (a b : ReadCopy) (ra : CopyReads first a) (rb : CopyReads second b) whe
   gives =
       (damaged_copies_give_the_picture pic is_picture both (first ∷ second ∷ []) took_both (both_are_damaged []) (each_line_survives [])).0
 
-  abbrev joining : List Event
+  abbrev pub joining : List Event
   joining = reading ++ (created (111 ∷ []) ∷ took (text both) ∷ [])
 
   abbrev givens : List Given
@@ -113,7 +127,7 @@ module _ (a b : ReadCopy) (ra : CopyReads first a) (rb : CopyReads second b) whe
       All-cons (λ (g : Given). g.stop ≡ Whole) (given_by_copy None first a Whole) (given_by_copy None second b Whole ∷ []) refl
       (All-cons (λ (g : Given). g.stop ≡ Whole) (given_by_copy None second b Whole) [] refl (All-nil (λ (g : Given). g.stop ≡ Whole)))
 
-  is_done : JoinIsDone None (111 ∷ []) ((97 ∷ []) ∷ (98 ∷ []) ∷ []) both true true joining
+  pub is_done : JoinIsDone None (111 ∷ []) ((97 ∷ []) ∷ (98 ∷ []) ∷ []) both true true joining
   is_done = record {
     reading = reading;
     writing = created (111 ∷ []) ∷ took (text both) ∷ [];
@@ -169,6 +183,67 @@ module _ (a b : ReadCopy) (ra : CopyReads first a) (rb : CopyReads second b) whe
   stands_for_both : InputStandsFor (text both) (first ∷ second ∷ [])
   stands_for_both = inr (both, text_is, holds_both)
 
+  -- under their sources, of which there are none
+  holds_both_under : HoldsExactlyUnder both (sourced_copy None first ∷ sourced_copy None second ∷ [])
+  holds_both_under =
+      union_holds_under a.partial b.partial (sourced_copy None first ∷ []) (sourced_copy None second ∷ [])
+      (copy_holds_under (sourced_copy None first) a (bytes_of_test first refl) ra)
+      (copy_holds_under (sourced_copy None second) b (bytes_of_test second refl) rb) (second_shape ∙ sym first_shape)
+
+  took_both_under : TookInTheEndUnder both (sourced_copy None first ∷ sourced_copy None second ∷ [])
+  took_both_under =
+      ([], began_under both (sourced_copy None first ∷ sourced_copy None second ∷ []) holds_both_under, λ copy c. absurd (none_in copy c))
+
+  stands_under_none : (source : Option ℕ) → InputStandsUnder source (text both) (sourced_copy None first ∷ sourced_copy None second ∷ [])
+  stands_under_none source = inr (both, text_is, holds_both_under)
+
+  -- and it has each line
+  text_has_each_line : SomeInputHasEachLine pic (text both ∷ [])
+  text_has_each_line component line c l =
+      let s = each_line_survives [] component line c l in (
+        text both,
+        is_first (text both) [],
+        inr (both, text_is, first_shape, (holds_both.readings (picture_reading pic component line)).1 (s.0, s.1, surviving_lines_are_given pic s.0 component line s.2)),
+      )
+
+  -- the copies give parts of what was joined, and one of these has each line
+  parts : All (IsPartOf both) (a.partial ∷ b.partial ∷ [])
+  parts =
+      All-cons (IsPartOf both) a.partial (b.partial ∷ []) (record {
+        shape = refl;
+        readings = λ component line samples h. contains-union reading_total a.partial.readings b.partial.readings (reading_of component line samples)
+            ∙ or_first (holds a.partial component line samples) (holds b.partial component line samples) h;
+      }) (All-cons (IsPartOf both) b.partial [] (record {
+        shape = second_shape ∙ sym first_shape;
+        readings = λ component line samples h. contains-union reading_total a.partial.readings b.partial.readings (reading_of component line samples)
+            ∙ or_second (holds a.partial component line samples) (holds b.partial component line samples) h;
+      }) (All-nil (IsPartOf both)))
+
+  has_line : (p : PartialPicture) (copy : List ℕ) (line : ℕ) → HoldsExactly p (copy ∷ []) → Survives pic copy 0 line → readings_at p 0 line ≡ [] → ⊥
+  has_line p copy line holds survives none =
+      let held = (holds.readings (picture_reading pic 0 line)).1 (copy, is_first copy [], surviving_lines_are_given pic copy 0 line survives) in
+      none_in (line_of pic 0 line) (subst (λ (xs : List (List ℕ)). Contains xs (line_of pic 0 line)) none (is_at_line p 0 line (line_of pic 0 line) held))
+
+  each_is_held : EachLineIsHeld both.shape (a.partial ∷ b.partial ∷ [])
+  each_is_held zero c zero l = (
+    a.partial,
+    is_first a.partial (b.partial ∷ []),
+    has_line a.partial first 0 (copy_holds a.partial first a (bytes_of_test first refl) ra (refl, refl)) (line_0 []),
+  )
+  each_is_held zero c (suc zero) l = (
+    b.partial,
+    in_rest b.partial a.partial (b.partial ∷ []) (is_first b.partial []),
+    has_line b.partial second 1 (copy_holds b.partial second b (bytes_of_test second refl) rb (refl, refl)) (line_1 []),
+  )
+  each_is_held zero c (suc (suc line)) l = (let h = ap (λ (s : PictureShape). s.height) first_shape in absurd (omega (arith, h, l)))
+  each_is_held (suc component) c line l = (let h = ap (λ (s : PictureShape). length s.ids) first_shape in absurd (omega (arith, h, c)))
+
+  inputs_give : AreInputsOf None (input_bytes joining) (a.partial ∷ b.partial ∷ [])
+  inputs_give = (
+    (given_by_copy None first a Whole, by_copy None first a Whole refl ra, refl),
+    ((given_by_copy None second b Whole, by_copy None second b Whole refl rb, refl), tt),
+  )
+
   -- a `write` reads it and hands out the file
   module _ (low : AreBytes (text both)) where
     text_read : IsRead IsEnough (gave 4096 (text both) ∷ gave 4096 [] ∷ []) (text both) Whole
@@ -184,24 +259,27 @@ module _ (a b : ReadCopy) (ra : CopyReads first a) (rb : CopyReads second b) whe
       used_up = λ e. absurd cc;
     }
 
-    abbrev handing : List Event
+    abbrev pub text_reading : List Event
+    text_reading = opened (111 ∷ []) ∷ gave 4096 (text both) ∷ gave 4096 [] ∷ []
+
+    text_taken : IsTaken None (111 ∷ []) (given_by_text both) text_reading
+    text_taken = record {
+      reads = gave 4096 (text both) ∷ gave 4096 [] ∷ [];
+      events_are = refl;
+      give = record { bytes = text both; is_read = text_read; gives = by_text None (text both) both text_is };
+    }
+
+    abbrev pub handing : List Event
     handing = created (112 ∷ []) ∷ took (pnm (picture_of both)) ∷ []
 
     some_bytes : 0 < length (pnm (picture_of both))
     some_bytes = subst (λ (p : WholePicture). 0 < length (pnm p)) (sym gives.1) (omega arith)
 
-    writes : WritesWhatWasJoined joining Pnm (Done true true) ((opened (111 ∷ []) ∷ gave 4096 (text both) ∷ gave 4096 [] ∷ []) ++ handing)
+    pub writes : WritesWhatWasJoined joining Pnm (finished true true) (text_reading ++ handing)
     writes = record {
       out = 112 ∷ [];
       name = 111 ∷ [];
-      writes = done Pnm (112 ∷ []) (111 ∷ []) (given_by_text both) true
-          (opened (111 ∷ []) ∷ gave 4096 (text both) ∷ gave 4096 [] ∷ []) handing
-          (record {
-            reads = gave 4096 (text both) ∷ gave 4096 [] ∷ [];
-            events_are = refl;
-            give = record { bytes = text both; is_read = text_read; gives = by_text None (text both) both text_is };
-          })
-          gives.0
+      writes = done Pnm (112 ∷ []) (111 ∷ []) (given_by_text both) true text_reading handing text_taken gives.0
           (record { settled_is = (λ _. gives.0, λ _. refl); whole_is = (λ _. refl, λ _. refl) })
           tt
           (record {
@@ -210,4 +288,50 @@ module _ (a b : ReadCopy) (ra : CopyReads first a) (rb : CopyReads second b) whe
             wrote = record { are_writes = (some_bytes, tt); they_took = append-nil (pnm (picture_of both)) };
           });
       same_bytes = ap (λ (bytes : List ℕ). bytes ∷ []) refl;
+    }
+
+    -- and a `join` reads it alone, and hands out the same text
+    abbrev joined_again : List Event
+    joined_again = text_reading ++ (created (113 ∷ []) ∷ took (text both) ∷ [])
+
+    joins_the_text : JoinsForDamagedCopies pic joined_again
+    joins_the_text = record {
+      is_picture = is_picture;
+      source = None;
+      small = λ number e. absurd cc;
+      out = 113 ∷ [];
+      names = (111 ∷ []) ∷ [];
+      joined = both;
+      settled = true;
+      whole = true;
+      is_done = record {
+        reading = text_reading;
+        writing = created (113 ∷ []) ∷ took (text both) ∷ [];
+        events_are = refl;
+        taken = record {
+          givens = given_by_text both ∷ [];
+          taken = record { in_turn = (text_reading, [], refl, text_taken, refl); one_shape = tt };
+          union_is = refl;
+          whole_is = (
+            λ _. All-cons (λ (g : Given). g.stop ≡ Whole) (given_by_text both) [] refl (All-nil (λ (g : Given). g.stop ≡ Whole)),
+            λ _. refl,
+          );
+        };
+        settled_is = (λ _. gives.0, λ _. refl);
+        handed = record {
+          writes = took (text both) ∷ [];
+          events_are = refl;
+          wrote = record { are_writes = (omega arith, tt); they_took = append-nil (text both) };
+        };
+      };
+      copies = first ∷ second ∷ [];
+      stand = (
+        first ∷ second ∷ [],
+        [],
+        refl,
+        subst (λ (bytes : List ℕ). InputStandsFor bytes (first ∷ second ∷ [])) (sym (append-nil (text both))) stands_for_both,
+        refl,
+      );
+      damaged = both_are_damaged [];
+      each_line = each_line_survives [];
     }

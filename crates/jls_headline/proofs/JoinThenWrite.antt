@@ -1,5 +1,6 @@
 -- What comes of a `write` whose input gives what a `join` of damaged copies handed to its output: the picture, read again.
-use Rattle.std.proofs.Common.{◌≡◌, ℕ, ◌-◌, ◌<◌, ◌≤◌, ◌^◌, ◌||◌, Bool, false, List, [], ◌∷◌, max, Option, Some, None, Ok, refl, sym, ap, ◌∙◌, subst, arith}
+use Rattle.std.proofs.Common.{◌≡◌, ℕ, ◌-◌, ◌<◌, ◌≤◌, ◌^◌, ◌||◌, Bool, false, List, [], ◌∷◌, max, Option, Some, None, Ok, Err, refl, sym, ap, ◌∙◌, subst, arith}
+use Rattle.std.specs.Borrow.{Bor}
 use Rattle.std.specs.Prelude.{nat_lt}
 use Rattle.std.proofs.lemmas.Bool.Decides.{nat_tests}
 use Rattle.std.proofs.lemmas.List.{append-nil}
@@ -22,10 +23,9 @@ use Rattle.jls_picture.specs.WholePictures.{IsPicture}
 use Rattle.jls_commands.specs.AllInputs.{partials, IsTaken, StopsAt, not_there, refused, other_shape, no_memory}
 use Rattle.jls_commands.specs.Outputs as output
 use Rattle.jls_commands.specs.Laws.{input_bytes, output_bytes}
-use Rattle.jls_commands.specs.declared.outcome.Cause.{Cause}
-use Rattle.jls_commands.specs.declared.outcome.Cause.TheVariants.{Unsettled}
-use Rattle.jls_commands.specs.declared.outcome.Outcome.{Outcome}
-use Rattle.jls_commands.specs.declared.outcome.Outcome.TheVariants.{Done, Refused}
+use Rattle.jls_commands.specs.Outcomes.{Outcome, finished}
+use Rattle.jls_commands.specs.declared.outcome.Refusal.{Refusal}
+use Rattle.jls_commands.specs.declared.outcome.Refusal.TheVariants.{Unsettled}
 use Rattle.jls_commands.specs.WritingFiles as writing
 use Rattle.jls_commands.specs.WritingFiles.{file, FitsFormat, options_for, WritesFile, StopsAtFile}
 use Rattle.jls_commands.specs.declared.writing.Format.{Format}
@@ -99,8 +99,8 @@ pub record DidWrite (f : Format) (events : List Event) : Type 0 where
   pub handed : output_bytes events ≡ file f (picture_of g.partial) ∷ []
 
 abbrev pub IsDone : Outcome → Type 0
-IsDone (Done settled whole) = Unit {0}
-IsDone (Refused r) = ⊥
+IsDone (Ok d) = Unit {0}
+IsDone (Err r) = ⊥
 
 pub did_write : (f : Format) (out name : List ℕ) (o : Outcome) (events : List Event) → IsDone o → WritesFile f out name o events
     → DidWrite f events
@@ -118,7 +118,7 @@ did_write _ _ _ _ _ ends (writing.done f out name g whole reading handing taken 
       handed = one.2 ∙ w.2;
     }
 did_write _ _ _ _ _ ends (writing.at_input f out name r reading e stops) = absurd ends
-did_write _ _ _ _ _ ends (writing.unsettled f out name r g fault reading e taken names is) = absurd ends
+did_write _ _ _ _ _ ends (writing.unsettled f out name r n g fault reading e taken names is) = absurd ends
 did_write _ _ _ _ _ ends (writing.at_file f out name r g reading handing e taken settled stops) = absurd ends
 
 -- a file that is written as JPEG-LS of what is this picture reads as it
@@ -200,18 +200,18 @@ module _ (pic : WholePicture) (joining : List Event) (j : GaveThePicture pic joi
       let is : taken.give.bytes ≡ text j.joined = only_of taken.give.bytes (text j.joined) (sym e ∙ same ∙ j.output_is) in
       text_given taken.give.bytes j.joined g (subst (λ bytes. IsTextOf bytes j.joined) (sym is) j.text_is) taken.give.gives
 
-  file_written : (f : Format) (settled whole : Bool) (events : List Event) → WritesWhatWasJoined joining f (Done settled whole) events
+  file_written : (f : Format) (settled whole : Bool) (events : List Event) → WritesWhatWasJoined joining f (finished settled whole) events
       → output_bytes events ≡ file f pic ∷ []
   file_written f settled whole events w =
-      let did = did_write f w.out w.name (Done settled whole) events tt w.writes in
+      let did = did_write f w.out w.name (finished settled whole) events tt w.writes in
       let same = read_again did.name did.g did.reading events did.is_taken did.bytes_are w.same_bytes in
       did.handed ∙ ap (λ x. file f x ∷ []) (ap picture_of same ∙ j.gives.1)
 
   file_read : (line : Bool) (ri : ℕ) → ri < 2 ^ 32 → (settled whole : Bool) (events : List Event)
-      → WritesWhatWasJoined joining (Jls line ri) (Done settled whole) events
+      → WritesWhatWasJoined joining (Jls line ri) (finished settled whole) events
       → (bytes : List ℕ) × (output_bytes events ≡ bytes ∷ []) × ReadsAsOnly bytes pic
   file_read line ri low settled whole events w =
-      let did = did_write (Jls line ri) w.out w.name (Done settled whole) events tt w.writes in
+      let did = did_write (Jls line ri) w.out w.name (finished settled whole) events tt w.writes in
       let same = read_again did.name did.g did.reading events did.is_taken did.bytes_are w.same_bytes in
       let is : picture_of did.g.partial ≡ pic = ap picture_of same ∙ j.gives.1 in
       read_as_the_picture pic j.is_picture line ri low events did is
@@ -236,35 +236,35 @@ written_text_joins_read_as_the_picture pic joining j line ri low settled whole e
 
 -- Refusals -------------------------------------------------------------------------------------------------------
 
-IsUnsettledCause : Cause → Type 0
-IsUnsettledCause c = (id : ℕ) × (line : ℕ) × (disputed : Bool) × (c ≡ Unsettled id line disputed)
+IsUnsettledRefusal : Refusal → Type 0
+IsUnsettledRefusal r = (name : Bor (List ℕ)) × (id : ℕ) × (line : ℕ) × (disputed : Bool) × (r ≡ Unsettled name id line disputed)
 
-not_at_input : (name : List ℕ) (c : Cause) (reading : List Event) → StopsAt None [] name c reading → IsUnsettledCause c → ⊥
-unfolding IsUnsettledCause
-not_at_input _ _ _ (not_there _ _ name) (id, line, disputed, e) = cc
-not_at_input _ _ _ (refused _ _ name f reads h) (id, line, disputed, e) = cc
-not_at_input _ _ _ (other_shape _ _ name g events taken other) (id, line, disputed, e) = cc
-not_at_input _ _ _ (no_memory _ _ name g events taken same) (id, line, disputed, e) = cc
+not_at_input : (r : Refusal) (reading : List Event) → StopsAt None [] r reading → IsUnsettledRefusal r → ⊥
+unfolding IsUnsettledRefusal
+not_at_input _ _ (not_there _ _ n) (name, id, line, disputed, e) = cc
+not_at_input _ _ (refused _ _ n f reads h) (name, id, line, disputed, e) = cc
+not_at_input _ _ (other_shape _ _ n g events taken other) (name, id, line, disputed, e) = cc
+not_at_input _ _ (no_memory _ _ n g events taken same) (name, id, line, disputed, e) = cc
 
-not_at_output : (name bytes : List ℕ) (c : Cause) (events : List Event) → output.StopsAtOutput name bytes c events → IsUnsettledCause c → ⊥
-unfolding IsUnsettledCause
-not_at_output _ _ _ _ (output.not_there name bytes) (id, line, disputed, e) = cc
-not_at_output _ _ _ _ (output.cut name bytes count writes wrote) (id, line, disputed, e) = cc
+not_at_output : (bytes : List ℕ) (r : Refusal) (events : List Event) → output.StopsAtOutput bytes r events → IsUnsettledRefusal r → ⊥
+unfolding IsUnsettledRefusal
+not_at_output _ _ _ (output.not_there n bytes) (name, id, line, disputed, e) = cc
+not_at_output _ _ _ (output.cut n bytes count writes wrote) (name, id, line, disputed, e) = cc
 
-not_at_file : (F L : Type 0) (takes : Bool) (name bytes : List ℕ) (c : Cause) (events : List Event) → StopsAtFile F L takes name bytes c events
-    → IsUnsettledCause c → ⊥
-unfolding IsUnsettledCause
-not_at_file F L takes _ _ _ _ (writing.too_large name bytes unfit) (id, line, disputed, e) = cc
-not_at_file F L takes _ _ _ _ (writing.at_output name bytes c events fits stops) u = not_at_output name bytes c events stops u
-not_at_file F L takes _ _ _ _ (writing.no_memory name bytes count writes fits is below wrote) (id, line, disputed, e) = cc
+not_at_file : (F L : Type 0) (takes : Bool) (bytes : List ℕ) (r : Refusal) (events : List Event) → StopsAtFile F L takes bytes r events
+    → IsUnsettledRefusal r → ⊥
+unfolding IsUnsettledRefusal
+not_at_file F L takes _ _ _ (writing.too_large n bytes unfit) (name, id, line, disputed, e) = cc
+not_at_file F L takes _ _ _ (writing.at_output bytes r events fits stops) u = not_at_output bytes r events stops u
+not_at_file F L takes _ _ _ (writing.no_memory n bytes count writes fits is below wrote) (name, id, line, disputed, e) = cc
 
 none_named : (p : PartialPicture) (fault : PictureFault) → IsSettled p → NamesFirstUnsettled p fault → ⊥
 none_named p (picture_fault.Unsettled component line) settled names =
     names.first_line.unsettled (settled component names.first_line.component_in line names.first_line.line_in)
 
 IsRefusedFor : Outcome → Type 0
-IsRefusedFor (Done settled whole) = ⊥
-IsRefusedFor (Refused r) = IsUnsettledCause r.cause
+IsRefusedFor (Ok d) = ⊥
+IsRefusedFor (Err r) = IsUnsettledRefusal r
 
 refused_as_unsettled : (pic : WholePicture) (joining : List Event) → GaveThePicture pic joining
     → (f : Format) (out name : List ℕ) (o : Outcome) (events : List Event) → WritesFile f out name o events
@@ -272,22 +272,22 @@ refused_as_unsettled : (pic : WholePicture) (joining : List Event) → GaveThePi
 unfolding IsRefusedFor
 refused_as_unsettled pic joining j _ _ _ _ _ (writing.done f out name g whole reading handing taken settled says fits hands) same u = u
 refused_as_unsettled pic joining j _ _ _ _ _ (writing.at_input f out name r reading e stops) same u =
-    not_at_input name r.cause reading stops u
-refused_as_unsettled pic joining j _ _ _ _ _ (writing.unsettled f out name r g fault reading e taken names is) same u =
+    not_at_input r reading stops u
+refused_as_unsettled pic joining j _ _ _ _ _ (writing.unsettled f out name r n g fault reading e taken names is) same u =
     let quiet : ReadsNone [] = refl in
     let one = one_input None name g reading [] taken quiet in
     let bytes = ap input_bytes (sym (append-nil reading)) ∙ one.0 in
     let p = read_again pic joining j name g reading reading taken bytes same in
     none_named g.partial fault (subst IsSettled (sym p) j.gives.0) names
 refused_as_unsettled pic joining j _ _ _ _ _ (writing.at_file f out name r g reading handing e taken settled stops) same u =
-    not_at_file (FitsFormat f (picture_of g.partial)) (writing.IsTooLarge f (picture_of g.partial)) (writing.takes_memory f) out (file f (picture_of g.partial)) r.cause handing stops u
+    not_at_file (FitsFormat f (picture_of g.partial)) (writing.IsTooLarge f (picture_of g.partial)) (writing.takes_memory f) (file f (picture_of g.partial)) r handing stops u
 
 pub written_joins_are_settled : WrittenJoinsAreSettled
-unfolding IsUnsettledCause IsRefusedFor
-written_joins_are_settled pic joining j f r events w id line disputed e =
-    refused_as_unsettled pic joining (gave_of_copies pic joining j) f w.out w.name (Refused r) events w.writes w.same_bytes (id, line, disputed, e)
+unfolding IsUnsettledRefusal IsRefusedFor
+written_joins_are_settled pic joining j f name id line disputed events w =
+    refused_as_unsettled pic joining (gave_of_copies pic joining j) f w.out w.name (Err (Unsettled name id line disputed)) events w.writes w.same_bytes (name, id, line, disputed, refl)
 
 pub written_text_joins_are_settled : WrittenTextJoinsAreSettled
-unfolding IsUnsettledCause IsRefusedFor
-written_text_joins_are_settled pic joining j f r events w id line disputed e =
-    refused_as_unsettled pic joining (gave_of_texts pic joining j) f w.out w.name (Refused r) events w.writes w.same_bytes (id, line, disputed, e)
+unfolding IsUnsettledRefusal IsRefusedFor
+written_text_joins_are_settled pic joining j f name id line disputed events w =
+    refused_as_unsettled pic joining (gave_of_texts pic joining j) f w.out w.name (Err (Unsettled name id line disputed)) events w.writes w.same_bytes (name, id, line, disputed, refl)

@@ -22,9 +22,9 @@ mod SettledInputs
 mod WrittenInputs
 pub mod StationCalls
 pub mod TwoLineExamples
-mod FileExamples
+pub mod FileExamples
 mod PremiseExamples
 mod SameCopyExamples
 mod TenLineExamples
 mod HeadExamples
-mod JoinExamples
+pub mod JoinExamples

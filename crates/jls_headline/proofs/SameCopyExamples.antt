@@ -1,6 +1,8 @@
 -- The same copies: in another order, one of them twice, and one with bytes behind its end.
 use Rattle.std.proofs.Common.{◌≡◌, ℕ, zero, suc, ◌<◌, true, List, [], ◌∷◌, ◌++◌, Some, refl, sym, ap, subst, lit<, arith, inl, inr}
+use Rattle.std.specs.List.{Contains}
 use Rattle.jls_copy.specs.CopyReads.{IsDone}
+use Rattle.jls_commands.specs.Laws.{HaveSameMembers}
 use Rattle.jls_headline.specs.Stations.{IsSameCopy, AreAmong, SameCopies}
 use Rattle.jls_headline.specs.Sources.{SourcedCopy, AreAmongUnder, SameCopiesUnder}
 use Rattle.jls_headline.specs.SourceLaws.{sourced_copy}
@@ -39,6 +41,22 @@ among_back copy (suc (suc (suc k)), l, e) = absurd (omega (arith, l))
 
 same_copies : SameCopies taken also_taken
 same_copies = (among, among_back)
+
+-- The same inputs of two runs of `join` ---------------------------------------------------------------------------
+
+same_inputs : HaveSameMembers (first ∷ second ∷ []) (second ∷ first ∷ first ∷ [])
+same_inputs bytes = (there, back)
+  where
+    there : Contains (first ∷ second ∷ []) bytes → Contains (second ∷ first ∷ first ∷ []) bytes
+    there (zero, l, e) = (1, lit< tt, e)
+    there (suc zero, l, e) = (0, lit< tt, e)
+    there (suc (suc k), l, e) = absurd (omega (arith, l))
+
+    back : Contains (second ∷ first ∷ first ∷ []) bytes → Contains (first ∷ second ∷ []) bytes
+    back (zero, l, e) = (1, lit< tt, e)
+    back (suc zero, l, e) = (0, lit< tt, e)
+    back (suc (suc zero), l, e) = (0, lit< tt, e)
+    back (suc (suc (suc k)), l, e) = absurd (omega (arith, l))
 
 -- Under sources --------------------------------------------------------------------------------------------------
 

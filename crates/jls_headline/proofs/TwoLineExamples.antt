@@ -297,7 +297,7 @@ line_0 more = record {
   there = record { numbers = []; rise = tt; marks = tt; there = inl (((0, lit< tt, refl), (lit≤ tt, lit< tt)), pieces_read.zero_read) };
 }
 
-line_1 : (more : List (List (List ℕ))) → Survives (pic_and more) second 0 1
+pub line_1 : (more : List (List (List ℕ))) → Survives (pic_and more) second 0 1
 line_1 more = record {
   course = course_with (lost_first ∷ []) (0x40 ∷ []) 34;
   is_course = second_course;

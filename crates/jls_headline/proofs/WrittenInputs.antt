@@ -5,7 +5,7 @@ use Rattle.jls_device.specs.Event.{Event}
 use Rattle.jls_picture.specs.Picture.{WholePicture, picture_of}
 use Rattle.jls_picture.specs.WholePictures.{IsPicture}
 use Rattle.jls_commands.specs.Laws.{input_bytes}
-use Rattle.jls_commands.specs.declared.outcome.Outcome.TheVariants.{Done}
+use Rattle.jls_commands.specs.Outcomes.{finished}
 use Rattle.jls_commands.specs.WritingFiles.{file}
 use Rattle.jls_commands.specs.declared.writing.Format.{Format}
 use Rattle.jls_commands.specs.declared.writing.Format.TheVariants.{Jls}
@@ -39,10 +39,10 @@ written_picture f events did pic is each =
 
 pub written_inputs_are_the_picture : WrittenInputsAreThePicture
 written_inputs_are_the_picture f out name settled whole events w pic is each =
-    let did = did_write f out name (Done settled whole) events tt w in
+    let did = did_write f out name (finished settled whole) events tt w in
     did.handed ∙ ap (λ (p : WholePicture). file f p ∷ []) (written_picture f events did pic is each)
 
 pub written_inputs_read_as_the_picture : WrittenInputsReadAsThePicture
 written_inputs_read_as_the_picture line ri out name settled whole events low w pic is each =
-    let did = did_write (Jls line ri) out name (Done settled whole) events tt w in
+    let did = did_write (Jls line ri) out name (finished settled whole) events tt w in
     read_as_the_picture pic is line ri low events did (written_picture (Jls line ri) events did pic is each)

@@ -1,15 +1,14 @@
 -- The headline through the text that a run of `join` hands out: what a run of `write` makes of it.
-use Rattle.std.specs.Prelude.{◌≡◌, ℕ, ◌<◌, ◌^◌, Bool, List, [], ◌∷◌, Option, Some}
+use Rattle.std.specs.Borrow.{Bor}
+use Rattle.std.specs.Prelude.{Err, ◌≡◌, ℕ, ◌<◌, ◌^◌, Bool, List, [], ◌∷◌, Option, Some}
 use Rattle.std.specs.List.{AllByRecursion}
 use Rattle.jls_partial.specs.Partial.{PartialPicture}
 use Rattle.jls_device.specs.Event.{Event}
 use Rattle.jls_picture.specs.Picture.{WholePicture}
 use Rattle.jls_commands.specs.Joining.{JoinIsDone}
 use Rattle.jls_commands.specs.Laws.{input_bytes, output_bytes}
-use Rattle.jls_commands.specs.declared.outcome.Cause.TheVariants.{Unsettled}
-use Rattle.jls_commands.specs.declared.outcome.Refusal.{Refusal}
-use Rattle.jls_commands.specs.declared.outcome.Outcome.{Outcome}
-use Rattle.jls_commands.specs.declared.outcome.Outcome.TheVariants.{Done, Refused}
+use Rattle.jls_commands.specs.Outcomes.{Outcome, finished}
+use Rattle.jls_commands.specs.declared.outcome.Refusal.TheVariants.{Unsettled}
 use Rattle.jls_commands.specs.WritingFiles.{file, WritesFile}
 use Rattle.jls_commands.specs.declared.writing.Format.{Format}
 use Rattle.jls_commands.specs.declared.writing.Format.TheVariants.{Jls}
@@ -62,7 +61,7 @@ pub record WritesWhatWasJoined (joining : List Event) (format : Format) (outcome
 abbrev pub WrittenJoinsAreThePicture : Type 0
 WrittenJoinsAreThePicture =
     (pic : WholePicture) (joining : List Event) → JoinsDamagedCopies pic joining
-    → (format : Format) (settled whole : Bool) (writing : List Event) → WritesWhatWasJoined joining format (Done settled whole) writing
+    → (format : Format) (settled whole : Bool) (writing : List Event) → WritesWhatWasJoined joining format (finished settled whole) writing
     → output_bytes writing ≡ file format pic ∷ []
 
 -- and as JPEG-LS, with any restart interval, what it handed to its output reads as that picture and as no other
@@ -70,33 +69,33 @@ abbrev pub WrittenJoinsReadAsThePicture : Type 0
 WrittenJoinsReadAsThePicture =
     (pic : WholePicture) (joining : List Event) → JoinsDamagedCopies pic joining
     → (line : Bool) (ri : ℕ) → ri < 2 ^ 32 → (settled whole : Bool) (writing : List Event)
-    → WritesWhatWasJoined joining (Jls line ri) (Done settled whole) writing
+    → WritesWhatWasJoined joining (Jls line ri) (finished settled whole) writing
     → (bytes : List ℕ) × (output_bytes writing ≡ bytes ∷ []) × ReadsAsOnly bytes pic
 
 -- No such `write` is refused for a line that is not settled
 abbrev pub WrittenJoinsAreSettled : Type 0
 WrittenJoinsAreSettled =
     (pic : WholePicture) (joining : List Event) → JoinsDamagedCopies pic joining
-    → (format : Format) (r : Refusal) (writing : List Event) → WritesWhatWasJoined joining format (Refused r) writing
-    → (id line : ℕ) (disputed : Bool) → r.cause ≡ Unsettled id line disputed → ⊥
+    → (format : Format) (name : Bor (List ℕ)) (id line : ℕ) (disputed : Bool) (writing : List Event)
+    → WritesWhatWasJoined joining format (Err (Unsettled name id line disputed)) writing → ⊥
 
 -- The same behind a `join` with texts among its inputs -------------------------------------------------------------
 
 abbrev pub WrittenTextJoinsAreThePicture : Type 0
 WrittenTextJoinsAreThePicture =
     (pic : WholePicture) (joining : List Event) → JoinsForDamagedCopies pic joining
-    → (format : Format) (settled whole : Bool) (writing : List Event) → WritesWhatWasJoined joining format (Done settled whole) writing
+    → (format : Format) (settled whole : Bool) (writing : List Event) → WritesWhatWasJoined joining format (finished settled whole) writing
     → output_bytes writing ≡ file format pic ∷ []
 
 abbrev pub WrittenTextJoinsReadAsThePicture : Type 0
 WrittenTextJoinsReadAsThePicture =
     (pic : WholePicture) (joining : List Event) → JoinsForDamagedCopies pic joining
     → (line : Bool) (ri : ℕ) → ri < 2 ^ 32 → (settled whole : Bool) (writing : List Event)
-    → WritesWhatWasJoined joining (Jls line ri) (Done settled whole) writing
+    → WritesWhatWasJoined joining (Jls line ri) (finished settled whole) writing
     → (bytes : List ℕ) × (output_bytes writing ≡ bytes ∷ []) × ReadsAsOnly bytes pic
 
 abbrev pub WrittenTextJoinsAreSettled : Type 0
 WrittenTextJoinsAreSettled =
     (pic : WholePicture) (joining : List Event) → JoinsForDamagedCopies pic joining
-    → (format : Format) (r : Refusal) (writing : List Event) → WritesWhatWasJoined joining format (Refused r) writing
-    → (id line : ℕ) (disputed : Bool) → r.cause ≡ Unsettled id line disputed → ⊥
+    → (format : Format) (name : Bor (List ℕ)) (id line : ℕ) (disputed : Bool) (writing : List Event)
+    → WritesWhatWasJoined joining format (Err (Unsettled name id line disputed)) writing → ⊥

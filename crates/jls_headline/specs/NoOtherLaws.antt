@@ -10,7 +10,7 @@ use Rattle.jls_picture.specs.WholePictures.{IsPicture}
 use Rattle.jls_station.specs.Texts.{IsTextOf}
 use Rattle.jls_commands.specs.Joining.{JoinIsDone}
 use Rattle.jls_commands.specs.Laws.{input_bytes, output_bytes}
-use Rattle.jls_commands.specs.declared.outcome.Outcome.TheVariants.{Done}
+use Rattle.jls_commands.specs.Outcomes.{finished}
 use Rattle.jls_commands.specs.WritingFiles.{file, WritesFile}
 use Rattle.jls_commands.specs.declared.writing.Format.{Format}
 use Rattle.jls_commands.specs.declared.writing.Format.TheVariants.{Jls}
@@ -43,7 +43,7 @@ SettledJoinsAreThePicture =
 abbrev pub WrittenInputsAreThePicture : Type 0
 WrittenInputsAreThePicture =
     (format : Format) (out name : List ℕ) (settled whole : Bool) (events : List Event)
-    → WritesFile format out name (Done settled whole) events
+    → WritesFile format out name (finished settled whole) events
     → (pic : WholePicture) → IsPicture pic → SomeInputHasEachLine pic (input_bytes events)
     → output_bytes events ≡ file format pic ∷ []
 
@@ -51,6 +51,6 @@ WrittenInputsAreThePicture =
 abbrev pub WrittenInputsReadAsThePicture : Type 0
 WrittenInputsReadAsThePicture =
     (line : Bool) (ri : ℕ) (out name : List ℕ) (settled whole : Bool) (events : List Event) → ri < 2 ^ 32
-    → WritesFile (Jls line ri) out name (Done settled whole) events
+    → WritesFile (Jls line ri) out name (finished settled whole) events
     → (pic : WholePicture) → IsPicture pic → SomeInputHasEachLine pic (input_bytes events)
     → (bytes : List ℕ) × (output_bytes events ≡ bytes ∷ []) × ReadsAsOnly bytes pic

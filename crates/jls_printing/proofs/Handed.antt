@@ -1,9 +1,8 @@
 -- A line that is handed out in parts: what flushes and more bytes do to it.
-use Rattle.std.proofs.Common.{◌≡◌, ℕ, ◌+◌, ◌<◌, Bool, true, false, List, [], ◌∷◌, ◌++◌, length, take, get_or, sym, subst, ap, ◌∙◌, append_assoc, refl, inl, inr}
+use Rattle.std.proofs.Common.{◌≡◌, ℕ, ◌+◌, Bool, true, false, List, [], ◌∷◌, ◌++◌, length, sym, subst, ap, ◌∙◌, append_assoc, refl, inl, inr}
 use Rattle.std.specs.Prelude.{codes}
 use Rattle.std.specs.List.{flat_map}
-use Rattle.std.proofs.lemmas.Grind.{flat_map-append}
-use Rattle.std.proofs.lemmas.List.{append-nil, flat_map_more, take_more}
+use Rattle.std.proofs.lemmas.List.{append-nil, flat_map_more}
 use Rattle.jls_device.specs.Event.{History, GrewBy}
 use Rattle.jls_device.specs.Writing.{Wrote, WroteFront, Printed}
 use Rattle.jls_device.proofs.Growing.{grew_as}
@@ -77,15 +76,6 @@ pub handed_as : (line line' bytes : List ℕ) (went : Bool) (before now : Histor
 handed_as line line' bytes went before now e h = subst (λ (l : List ℕ). HandedBut l went bytes before now) e h
 
 -- ---- parts of a line
-
-pub part_more : (parts : List LinePart) (i : ℕ) (part : LinePart) (bytes : List ℕ) (went : Bool) (before now : History)
-    → i < length parts → part ≡ get_or parts i part
-    → HandedBut (flat_map part_bytes (take i parts) ++ part_bytes part) went bytes before now
-    → HandedBut (flat_map part_bytes (take (i + 1) parts)) went bytes before now
-part_more parts i part bytes went before now within is h =
-    let more = ap (flat_map part_bytes) (take_more parts i part within) ∙ flat_map-append part_bytes (take i parts) (get_or parts i part ∷ [])
-    ∙ ap (λ (t : List ℕ). flat_map part_bytes (take i parts) ++ t) (append-nil (part_bytes (get_or parts i part)) ∙ ap part_bytes (sym is)) in
-    subst (λ (l : List ℕ). HandedBut l went bytes before now) (sym more) h
 
 pub line_ends : (parts : List LinePart) → flat_map part_bytes parts ++ codes "\n" ≡ line_of parts
 line_ends [] = refl

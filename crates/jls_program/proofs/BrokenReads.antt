@@ -1,5 +1,5 @@
 -- What stands behind status 4 where nothing failed but reads; and the greatest status.
-use Rattle.std.proofs.Common.{◌≡◌, ◌≤◌, ◌⊎◌, inl, inr, ℕ, Bool, true, false, List, [], ◌∷◌, ◌++◌, length, Option, None, sym, subst, ap, ◌∙◌, refl, lit≤, arith}
+use Rattle.std.proofs.Common.{Ok, Err, ◌≡◌, ◌≤◌, ◌⊎◌, inl, inr, ℕ, Bool, true, false, List, [], ◌∷◌, ◌++◌, length, Option, None, sym, subst, ◌∙◌, refl, lit≤, arith}
 use Rattle.std.specs.Prelude.{◌||◌}
 use Rattle.std.specs.List.{list_any}
 use Rattle.std.proofs.lemmas.List.Folds.{list_any-append}
@@ -13,15 +13,13 @@ use Rattle.jls_commands.specs.Joining as joining
 use Rattle.jls_commands.specs.Joining.{JoinIsDone, Joins}
 use Rattle.jls_commands.specs.Outputs as outputs
 use Rattle.jls_commands.specs.Outputs.{StopsAtOutput}
-use Rattle.jls_commands.specs.Outcomes.{exit_status, exit_status_of_cause}
+use Rattle.jls_commands.specs.Outcomes.{Outcome, exit_status, finished, name_of, status_of_done, status_of_input, status_of_refusal}
 use Rattle.jls_station.specs.Reading.{IsRead}
 use Rattle.jls_station.specs.declared.input.ReadStop.{ReadStop}
 use Rattle.jls_station.specs.declared.input.InputFault.{InputFault}
 use Rattle.jls_station.specs.declared.input.InputFault.TheVariants as fault
-use Rattle.jls_commands.specs.declared.outcome.Cause.{Cause}
-use Rattle.jls_commands.specs.declared.outcome.Cause.TheVariants as cause
-use Rattle.jls_commands.specs.declared.outcome.Outcome.{Outcome}
-use Rattle.jls_commands.specs.declared.outcome.Outcome.TheVariants.{Done, Refused}
+use Rattle.jls_commands.specs.declared.outcome.Refusal.{Refusal}
+use Rattle.jls_commands.specs.declared.outcome.Refusal.TheVariants as refusal
 use Rattle.jls_commands.specs.Telling as telling
 use Rattle.jls_commands.specs.Telling.{Tells, lines}
 use Rattle.jls_commands.specs.WritingFiles as writing
@@ -36,24 +34,30 @@ use Rattle.jls_program.proofs.Finished.{status_of_unsettled}
 
 -- ---- the greatest status
 
-cause_at_most : (c : Cause) → exit_status_of_cause c ≤ 5
-cause_at_most cause.NotOpened = lit≤ tt
-cause_at_most (cause.Input (fault.Text f)) = lit≤ tt
-cause_at_most (cause.Input (fault.NoPicture f offset)) = lit≤ tt
-cause_at_most (cause.Input (fault.Read stop offset)) = lit≤ tt
-cause_at_most (cause.Input fault.OutOfMemory) = lit≤ tt
-cause_at_most cause.ShapeDiffers = lit≤ tt
-cause_at_most (cause.Unsettled id line disputed) = lit≤ tt
-cause_at_most cause.TooLarge = lit≤ tt
-cause_at_most cause.NotCreated = lit≤ tt
-cause_at_most (cause.NotWritten count) = lit≤ tt
-cause_at_most cause.OutOfMemory = lit≤ tt
+input_at_most : (f : InputFault) → status_of_input f ≤ 5
+input_at_most (fault.Text f) = lit≤ tt
+input_at_most (fault.NoPicture f offset) = lit≤ tt
+input_at_most (fault.Read stop offset) = lit≤ tt
+input_at_most fault.OutOfMemory = lit≤ tt
+
+refusal_at_most : (r : Refusal) → status_of_refusal r ≤ 5
+refusal_at_most (refusal.NotOpened name) = lit≤ tt
+refusal_at_most (refusal.Input name f) = input_at_most f
+refusal_at_most (refusal.ShapeDiffers name) = lit≤ tt
+refusal_at_most (refusal.Unsettled name id line disputed) = lit≤ tt
+refusal_at_most (refusal.TooLarge name) = lit≤ tt
+refusal_at_most (refusal.NotCreated name) = lit≤ tt
+refusal_at_most (refusal.NotWritten name count) = lit≤ tt
+refusal_at_most (refusal.OutOfMemory name) = lit≤ tt
+
+done_at_most : (settled whole : Bool) → status_of_done settled whole ≤ 5
+done_at_most settled false = lit≤ tt
+done_at_most true true = lit≤ tt
+done_at_most false true = lit≤ tt
 
 outcome_at_most : (o : Outcome) → exit_status o ≤ 5
-outcome_at_most (Done settled false) = lit≤ tt
-outcome_at_most (Done true true) = lit≤ tt
-outcome_at_most (Done false true) = lit≤ tt
-outcome_at_most (Refused r) = cause_at_most r.cause
+outcome_at_most (Ok d) = done_at_most d.settled d.whole
+outcome_at_most (Err r) = refusal_at_most r
 
 run_at_most : (words : List (List ℕ)) (status : ℕ) (desk report faults : List Event) → Run words status desk report faults → status ≤ 5
 run_at_most words _ _ _ _ (came_of _ asked outcome desk report faults reads came line) = outcome_at_most outcome
@@ -81,14 +85,14 @@ not_cut : (bytes : List ℕ) (count : ℕ) (events : List Event) → WroteFront 
 not_cut bytes count events h fine =
     let last : true ≡ false = (parts_fine h.writes (write_failed ∷ []) (subst NothingElseFailed h.events_are fine)).1 in cc
 
-not_at_output : (name bytes : List ℕ) (c : Cause) (events : List Event) → StopsAtOutput name bytes c events → NothingElseFailed events → ⊥
-not_at_output name bytes _ _ (outputs.not_there _ _) fine = cc
-not_at_output name bytes _ _ (outputs.cut _ _ count writes h) fine = not_cut bytes count writes h fine
+not_at_output : (bytes : List ℕ) (r : Refusal) (events : List Event) → StopsAtOutput bytes r events → NothingElseFailed events → ⊥
+not_at_output bytes _ _ (outputs.not_there _ _) fine = cc
+not_at_output bytes _ _ (outputs.cut _ _ count writes h) fine = not_cut bytes count writes h fine
 
 -- ---- one input
 
 refused_unread : (name bytes : List ℕ) (stop : ReadStop) (f : InputFault) (reads : List Event) → IsRead IsEnough reads bytes stop
-    → IsRefused bytes stop f → exit_status_of_cause (cause.Input f) ≡ 4 → IsUnread name (opened name ∷ reads)
+    → IsRefused bytes stop f → status_of_input f ≡ 4 → IsUnread name (opened name ∷ reads)
 refused_unread name bytes _ _ reads is (no_text _ f t wrong) e = absurd (omega (arith, e))
 refused_unread name bytes stop _ reads is (text_not_read _ _ t not) e =
     record { bytes = bytes; stop = stop; f = fault.Read stop (length bytes); reads = reads; events_are = refl; is_read = is; in_part = not; refused = text_not_read bytes stop t not }
@@ -96,17 +100,17 @@ refused_unread name bytes _ _ reads is (no_picture _ f offset t none) e = absurd
 refused_unread name bytes stop _ reads is (copy_not_read _ _ f offset t not none) e =
     record { bytes = bytes; stop = stop; f = fault.Read stop (length bytes); reads = reads; events_are = refl; is_read = is; in_part = not; refused = copy_not_read bytes stop f offset t not none }
 
-reads_unread : (name : List ℕ) (f : InputFault) (reads : List Event) → ReadsRefuse f reads → exit_status_of_cause (cause.Input f) ≡ 4
+reads_unread : (name : List ℕ) (f : InputFault) (reads : List Event) → ReadsRefuse f reads → status_of_input f ≡ 4
     → IsUnread name (opened name ∷ reads)
 reads_unread name f reads (for_fault _ bytes stop _ is h) e = refused_unread name bytes stop f reads is h e
 reads_unread name _ reads (for_memory _ h) e = absurd (omega (arith, e))
 
-unread_at_input : (source : Option ℕ) (before : List Given) (name : List ℕ) (c : Cause) (events : List Event)
-    → StopsAt source before name c events → exit_status_of_cause c ≡ 4 → NothingElseFailed events → IsUnread name events
-unread_at_input source before name _ _ (not_there _ _ _) e fine = absurd cc
-unread_at_input source before name _ _ (refused _ _ _ f reads h) e fine = reads_unread name f reads h e
-unread_at_input source before name _ _ (other_shape _ _ _ g events h other) e fine = absurd (omega (arith, e))
-unread_at_input source before name _ _ (no_memory _ _ _ g events h other) e fine = absurd (omega (arith, e))
+unread_at_input : (source : Option ℕ) (before : List Given) (r : Refusal) (events : List Event)
+    → StopsAt source before r events → status_of_refusal r ≡ 4 → NothingElseFailed events → IsUnread (name_of r) events
+unread_at_input source before _ _ (not_there _ _ _) e fine = absurd cc
+unread_at_input source before _ _ (refused _ _ n f reads h) e fine = reads_unread n.now f reads h e
+unread_at_input source before _ _ (other_shape _ _ _ g events h other) e fine = absurd (omega (arith, e))
+unread_at_input source before _ _ (no_memory _ _ _ g events h other) e fine = absurd (omega (arith, e))
 
 -- the first input is the only one
 ends_at_first : (name : List ℕ) (events : List Event) → IsUnread name events → EndsAtUnread None (name ∷ []) events
@@ -125,16 +129,13 @@ ends_at_first name events h = record {
 
 -- ---- commands that end with 4
 
-all_not_read : (settled whole : Bool) → exit_status (Done settled whole) ≡ 4 → whole ≡ false
+all_not_read : (settled whole : Bool) → exit_status (finished settled whole) ≡ 4 → whole ≡ false
 all_not_read settled false e = refl
 all_not_read true true e = absurd (omega (arith, e))
 all_not_read false true e = absurd (omega (arith, e))
 
 not_whole : (whole : Bool) → whole ≡ false → whole ≡ true → ⊥
 not_whole whole e f = cc
-
-of_memory : {P : Type 0} (c : Cause) → c ≡ cause.OutOfMemory → exit_status_of_cause c ≡ 4 → P
-of_memory c is e = let k : exit_status_of_cause c ≡ 5 = ap exit_status_of_cause is in absurd (omega (arith, k, e))
 
 join_in_part : (source : Option ℕ) (out : List ℕ) (names : List (List ℕ)) (outcome : Outcome) (events : List Event)
     → Joins source out names outcome events → exit_status outcome ≡ 4 → NothingElseFailed events
@@ -145,19 +146,19 @@ join_in_part source out names _ events (joining.at_input _ _ _ r _ h) e fine =
     let last = (parts_fine h.reading h.last (subst NothingElseFailed h.events_are fine)).1 in
     inr (record {
       before = h.before;
-      name = r.name.now;
+      name = name_of r;
       after = h.after;
       among = h.among;
       givens = h.givens;
       reading = h.reading;
       taken = h.taken;
       last = h.last;
-      unread = unread_at_input source h.givens r.name.now r.cause h.last h.stops e last;
+      unread = unread_at_input source h.givens r h.last h.stops e last;
       events_are = h.events_are;
     })
-join_in_part source out names _ events (joining.no_memory _ _ _ r p whole _ named is h) e fine = of_memory r.cause is e
+join_in_part source out names _ events (joining.no_memory _ _ _ n p whole _ named h) e fine = absurd (omega (arith, e))
 join_in_part source out names _ _ (joining.at_output _ _ _ r p whole reading written named h stops) e fine =
-    absurd (not_at_output out _ r.cause written stops (parts_fine reading written fine).1)
+    absurd (not_at_output _ r written stops (parts_fine reading written fine).1)
 
 tell_in_part : (traced : Bool) (name : List ℕ) (outcome : Outcome) (events reported : List Event)
     → Tells (lines traced) name outcome events reported → exit_status outcome ≡ 4 → NothingElseFailed events → NothingElseFailed reported
@@ -165,16 +166,16 @@ tell_in_part : (traced : Bool) (name : List ℕ) (outcome : Outcome) (events rep
 tell_in_part traced name _ events reported (telling.done _ g settled whole _ _ taken says wrote) e fine quiet =
     inl (record { g = g; taken = taken; in_part = λ is. not_whole whole (all_not_read settled whole e) (says.whole_is.1 is); printed = wrote })
 tell_in_part traced name _ events _ (telling.at_input _ r _ named h) e fine quiet =
-    inr (ends_at_first name events (unread_at_input None [] name r.cause events h e fine), refl)
-tell_in_part traced name _ events _ (telling.no_memory _ r g _ named is taken) e fine quiet = of_memory r.cause is e
-tell_in_part traced name _ events reported (telling.not_printed _ r g count _ _ named is taken wrote) e fine quiet =
+    inr (ends_at_first name events (subst (λ (n : List ℕ). IsUnread n events) named (unread_at_input None [] r events h e fine)), refl)
+tell_in_part traced name _ events _ (telling.no_memory _ n g _ named taken) e fine quiet = absurd (omega (arith, e))
+tell_in_part traced name _ events reported (telling.not_printed _ n g count _ _ named taken wrote) e fine quiet =
     absurd (not_cut (lines traced g) count reported wrote quiet)
 
-file_in_part : {P : Type 0} (F L : Type 0) (takes : Bool) (name bytes : List ℕ) (c : Cause) (events : List Event)
-    → StopsAtFile F L takes name bytes c events → exit_status_of_cause c ≡ 4 → NothingElseFailed events → P
-file_in_part F L takes name bytes _ _ (writing.too_large _ _ large) e fine = absurd (omega (arith, e))
-file_in_part F L takes name bytes c _ (writing.at_output _ _ _ events fit h) e fine = absurd (not_at_output name bytes c events h fine)
-file_in_part F L takes name bytes _ _ (writing.no_memory _ _ count writes fit is lt h) e fine = absurd (omega (arith, e))
+file_in_part : {P : Type 0} (F L : Type 0) (takes : Bool) (bytes : List ℕ) (r : Refusal) (events : List Event)
+    → StopsAtFile F L takes bytes r events → status_of_refusal r ≡ 4 → NothingElseFailed events → P
+file_in_part F L takes bytes _ _ (writing.too_large _ _ large) e fine = absurd (omega (arith, e))
+file_in_part F L takes bytes r _ (writing.at_output _ _ events fit h) e fine = absurd (not_at_output bytes r events h fine)
+file_in_part F L takes bytes _ _ (writing.no_memory _ _ count writes fit is lt h) e fine = absurd (omega (arith, e))
 
 write_in_part : (format : Format) (out name : List ℕ) (outcome : Outcome) (events : List Event)
     → WritesFile format out name outcome events → exit_status outcome ≡ 4 → NothingElseFailed events
@@ -192,11 +193,11 @@ write_in_part format out name _ _ (writing.done _ _ _ g whole reading written ta
       handed = handed;
     })
 write_in_part format out name _ events (writing.at_input _ _ _ r _ named h) e fine =
-    inr (ends_at_first name events (unread_at_input None [] name r.cause events h e fine))
-write_in_part format out name _ events (writing.unsettled _ _ _ r g f _ named taken first because) e fine =
-    let k = status_of_unsettled g.partial f r.cause because in absurd (omega (arith, k, e))
+    inr (ends_at_first name events (subst (λ (n : List ℕ). IsUnread n events) named (unread_at_input None [] r events h e fine)))
+write_in_part format out name _ events (writing.unsettled _ _ _ r n g f _ named taken first because) e fine =
+    let k = status_of_unsettled n g.partial f r because in absurd (omega (arith, k, e))
 write_in_part format out name _ _ (writing.at_file _ _ _ r g reading written named taken settled stops) e fine =
-    file_in_part (FitsFormat format (picture_of g.partial)) (writing.IsTooLarge format (picture_of g.partial)) (writing.takes_memory format) out (writing.file format (picture_of g.partial)) r.cause written stops e (parts_fine reading written fine).1
+    file_in_part (FitsFormat format (picture_of g.partial)) (writing.IsTooLarge format (picture_of g.partial)) (writing.takes_memory format) (writing.file format (picture_of g.partial)) r written stops e (parts_fine reading written fine).1
 
 -- ---- the law
 

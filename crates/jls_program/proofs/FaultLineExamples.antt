@@ -1,6 +1,7 @@
--- Fault lines of worked causes, as they are printed. The offsets of bad texts were counted by hand, each in a change of the text of a picture of
+-- Fault lines of worked refusals, as they are printed. The offsets of bad texts were counted by hand, each in a change of the text of a picture of
 -- 1x2 samples that ends at byte 31.
-use Rattle.std.proofs.Common.{◌≡◌, ◌∷◌, [], true, false, refl, lit<}
+use Rattle.std.proofs.Common.{◌≡◌, ℕ, List, ◌∷◌, [], true, false, refl, lit<}
+use Rattle.std.specs.Borrow.{Bor}
 use Rattle.std.specs.Prelude.{codes, decimal}
 use Rattle.std.specs.Char.{encode_utf8}
 use Rattle.std.specs.Str.{chars}
@@ -9,8 +10,12 @@ use Rattle.jls_marker.specs.declared.fault.MarkerFault.TheVariants.{NoSoi, Ended
 use Rattle.jls_partial.specs.declared.text_fault.TextFault.TheVariants as text_fault
 use Rattle.jls_station.specs.declared.input.InputFault.TheVariants as fault
 use Rattle.jls_station.specs.declared.input.ReadStop.TheVariants.{Failed}
-use Rattle.jls_commands.specs.declared.outcome.Cause.TheVariants as cause
-use Rattle.jls_program.specs.FaultLines.{cause_line, not_replaced_line, unknown_value_line}
+use Rattle.jls_commands.specs.declared.outcome.Refusal.TheVariants as refusal
+use Rattle.jls_program.specs.FaultLines.{not_replaced_line, refusal_line, unknown_value_line}
+
+-- a name
+abbrev named : List ℕ → Bor (List ℕ)
+named name = record { ref_ptr = (0, 0); now = name }
 
 -- the numbers in them
 d0 : decimal 0 ≡ codes "0"
@@ -53,85 +58,85 @@ d60 : decimal 60 ≡ codes "60"
 d60 = decimal-digits_of 60 (lit< tt) (lit< tt)
 
 -- inputs that are not read
-not_opened : cause_line (codes "N") cause.NotOpened ≡ codes "jls-salvage: N: cannot be opened\n"
+not_opened : refusal_line (refusal.NotOpened (named (codes "N"))) ≡ codes "jls-salvage: N: cannot be opened\n"
 unfolding chars encode_utf8
 not_opened = refl
 
-not_read : cause_line (codes "N") (cause.Input (fault.Read Failed 45)) ≡ codes "jls-salvage: N: read failed\n"
+not_read : refusal_line (refusal.Input (named (codes "N")) (fault.Read Failed 45)) ≡ codes "jls-salvage: N: read failed\n"
 unfolding chars encode_utf8
 not_read = refl
 
 -- copies without a picture
-no_soi : cause_line (codes "N") (cause.Input (fault.NoPicture NoSoi 0)) ≡ codes "jls-salvage: N: no picture, fault 18 at 0\n"
+no_soi : refusal_line (refusal.Input (named (codes "N")) (fault.NoPicture NoSoi 0)) ≡ codes "jls-salvage: N: no picture, fault 18 at 0\n"
 unfolding chars encode_utf8
 no_soi = rw (d18, d0) refl
 
-ended : cause_line (codes "N") (cause.Input (fault.NoPicture Ended 33)) ≡ codes "jls-salvage: N: no picture, fault 19 at 33\n"
+ended : refusal_line (refusal.Input (named (codes "N")) (fault.NoPicture Ended 33)) ≡ codes "jls-salvage: N: no picture, fault 19 at 33\n"
 unfolding chars encode_utf8
 ended = rw (d19, d33) refl
 
 -- bad texts: another byte 4, a precision of 1, the last byte cut, line 1 before line 0, no reading, readings that do not ascend, a sample
 -- above the greatest, one byte more
-magic : cause_line (codes "T") (cause.Input (fault.Text (text_fault.Magic 4))) ≡ codes "jls-salvage: T: bad text, magic at 4\n"
+magic : refusal_line (refusal.Input (named (codes "T")) (fault.Text (text_fault.Magic 4))) ≡ codes "jls-salvage: T: bad text, magic at 4\n"
 unfolding chars encode_utf8
 magic = rw d4 refl
 
-bad_shape : cause_line (codes "T") (cause.Input (fault.Text (text_fault.BadShape 5))) ≡ codes "jls-salvage: T: bad text, shape at 5\n"
+bad_shape : refusal_line (refusal.Input (named (codes "T")) (fault.Text (text_fault.BadShape 5))) ≡ codes "jls-salvage: T: bad text, shape at 5\n"
 unfolding chars encode_utf8
 bad_shape = rw d5 refl
 
-truncated : cause_line (codes "T") (cause.Input (fault.Text (text_fault.Truncated 30))) ≡ codes "jls-salvage: T: bad text, truncated at 30\n"
+truncated : refusal_line (refusal.Input (named (codes "T")) (fault.Text (text_fault.Truncated 30))) ≡ codes "jls-salvage: T: bad text, truncated at 30\n"
 unfolding chars encode_utf8
 truncated = rw d30 refl
 
-place : cause_line (codes "T") (cause.Input (fault.Text (text_fault.Place 16))) ≡ codes "jls-salvage: T: bad text, place at 16\n"
+place : refusal_line (refusal.Input (named (codes "T")) (fault.Text (text_fault.Place 16))) ≡ codes "jls-salvage: T: bad text, place at 16\n"
 unfolding chars encode_utf8
 place = rw d16 refl
 
-count : cause_line (codes "T") (cause.Input (fault.Text (text_fault.Count 19))) ≡ codes "jls-salvage: T: bad text, count at 19\n"
+count : refusal_line (refusal.Input (named (codes "T")) (fault.Text (text_fault.Count 19))) ≡ codes "jls-salvage: T: bad text, count at 19\n"
 unfolding chars encode_utf8
 count = rw d19 refl
 
-order : cause_line (codes "T") (cause.Input (fault.Text (text_fault.Order 29))) ≡ codes "jls-salvage: T: bad text, order at 29\n"
+order : refusal_line (refusal.Input (named (codes "T")) (fault.Text (text_fault.Order 29))) ≡ codes "jls-salvage: T: bad text, order at 29\n"
 unfolding chars encode_utf8
 order = rw d29 refl
 
-sample : cause_line (codes "T") (cause.Input (fault.Text (text_fault.Sample 29))) ≡ codes "jls-salvage: T: bad text, sample at 29\n"
+sample : refusal_line (refusal.Input (named (codes "T")) (fault.Text (text_fault.Sample 29))) ≡ codes "jls-salvage: T: bad text, sample at 29\n"
 unfolding chars encode_utf8
 sample = rw d29 refl
 
-trailing : cause_line (codes "T") (cause.Input (fault.Text (text_fault.Trailing 31))) ≡ codes "jls-salvage: T: bad text, trailing at 31\n"
+trailing : refusal_line (refusal.Input (named (codes "T")) (fault.Text (text_fault.Trailing 31))) ≡ codes "jls-salvage: T: bad text, trailing at 31\n"
 unfolding chars encode_utf8
 trailing = rw d31 refl
 
 -- a picture of another shape
-shape_differs : cause_line (codes "U") cause.ShapeDiffers ≡ codes "jls-salvage: U: shape differs\n"
+shape_differs : refusal_line (refusal.ShapeDiffers (named (codes "U"))) ≡ codes "jls-salvage: U: shape differs\n"
 unfolding chars encode_utf8
 shape_differs = refl
 
 -- files that are not written
-disputed : cause_line (codes "OUT") (cause.Unsettled 1 6 true) ≡ codes "jls-salvage: line 6 of component 1 is disputed\n"
+disputed : refusal_line (refusal.Unsettled (named (codes "OUT")) 1 6 true) ≡ codes "jls-salvage: line 6 of component 1 is disputed\n"
 unfolding chars encode_utf8
 disputed = rw (d6, d1) refl
 
-missing : cause_line (codes "OUT") (cause.Unsettled 1 5 false) ≡ codes "jls-salvage: line 5 of component 1 is missing\n"
+missing : refusal_line (refusal.Unsettled (named (codes "OUT")) 1 5 false) ≡ codes "jls-salvage: line 5 of component 1 is missing\n"
 unfolding chars encode_utf8
 missing = rw (d5, d1) refl
 
-too_large : cause_line (codes "OUT") cause.TooLarge ≡ codes "jls-salvage: interval too large, give --ri\n"
+too_large : refusal_line (refusal.TooLarge (named (codes "OUT"))) ≡ codes "jls-salvage: interval too large, give --ri\n"
 unfolding chars encode_utf8
 too_large = refl
 
 -- outputs
-not_created : cause_line (codes "OUT") cause.NotCreated ≡ codes "jls-salvage: OUT: cannot be created\n"
+not_created : refusal_line (refusal.NotCreated (named (codes "OUT"))) ≡ codes "jls-salvage: OUT: cannot be created\n"
 unfolding chars encode_utf8
 not_created = refl
 
-not_written : cause_line (codes "OUT") (cause.NotWritten 60) ≡ codes "jls-salvage: OUT: write failed after 60 bytes\n"
+not_written : refusal_line (refusal.NotWritten (named (codes "OUT")) 60) ≡ codes "jls-salvage: OUT: write failed after 60 bytes\n"
 unfolding chars encode_utf8
 not_written = rw d60 refl
 
-report_not_written : cause_line (codes "-") (cause.NotWritten 0) ≡ codes "jls-salvage: -: write failed after 0 bytes\n"
+report_not_written : refusal_line (refusal.NotWritten (named (codes "-")) 0) ≡ codes "jls-salvage: -: write failed after 0 bytes\n"
 unfolding chars encode_utf8
 report_not_written = rw d0 refl
 
@@ -140,15 +145,15 @@ unfolding chars encode_utf8
 not_replaced = refl
 
 -- want of memory, in whatever was done
-memory : cause_line (codes "OUT") cause.OutOfMemory ≡ codes "jls-salvage: out of memory\n"
+memory : refusal_line (refusal.OutOfMemory (named (codes "OUT"))) ≡ codes "jls-salvage: out of memory\n"
 unfolding chars encode_utf8
 memory = refl
 
-memory_for_input : cause_line (codes "N") (cause.Input fault.OutOfMemory) ≡ codes "jls-salvage: out of memory\n"
+memory_for_input : refusal_line (refusal.Input (named (codes "N")) fault.OutOfMemory) ≡ codes "jls-salvage: out of memory\n"
 unfolding chars encode_utf8
 memory_for_input = refl
 
-memory_for_text : cause_line (codes "T") (cause.Input (fault.Text text_fault.OutOfMemory)) ≡ codes "jls-salvage: out of memory\n"
+memory_for_text : refusal_line (refusal.Input (named (codes "T")) (fault.Text text_fault.OutOfMemory)) ≡ codes "jls-salvage: out of memory\n"
 unfolding chars encode_utf8
 memory_for_text = refl
 
@@ -160,18 +165,18 @@ unknown_mode : unknown_value_line true ≡ codes "jls-salvage: --ilv takes none 
 unknown_mode = refl
 
 -- names with ESC, with LINE FEED, with RIGHT-TO-LEFT OVERRIDE (U+202E) and with a backslash
-escape : cause_line (0x1B ∷ codes "[2J") cause.NotOpened ≡ codes "jls-salvage: \\u{1b}[2J: cannot be opened\n"
+escape : refusal_line (refusal.NotOpened (named (0x1B ∷ codes "[2J"))) ≡ codes "jls-salvage: \\u{1b}[2J: cannot be opened\n"
 unfolding chars encode_utf8
 escape = refl
 
-two_lines : cause_line (codes "a\njls-salvage: b") cause.NotOpened ≡ codes "jls-salvage: a\\u{a}jls-salvage: b: cannot be opened\n"
+two_lines : refusal_line (refusal.NotOpened (named (codes "a\njls-salvage: b"))) ≡ codes "jls-salvage: a\\u{a}jls-salvage: b: cannot be opened\n"
 unfolding chars encode_utf8
 two_lines = refl
 
-override : cause_line (97 ∷ 0xE2 ∷ 0x80 ∷ 0xAE ∷ 98 ∷ []) cause.NotOpened ≡ codes "jls-salvage: a\\u{202e}b: cannot be opened\n"
+override : refusal_line (refusal.NotOpened (named (97 ∷ 0xE2 ∷ 0x80 ∷ 0xAE ∷ 98 ∷ []))) ≡ codes "jls-salvage: a\\u{202e}b: cannot be opened\n"
 unfolding chars encode_utf8
 override = refl
 
-backslash : cause_line (codes "a\\b") cause.NotOpened ≡ codes "jls-salvage: a\\\\b: cannot be opened\n"
+backslash : refusal_line (refusal.NotOpened (named (codes "a\\b"))) ≡ codes "jls-salvage: a\\\\b: cannot be opened\n"
 unfolding chars encode_utf8
 backslash = refl

@@ -1,5 +1,6 @@
 -- Runs that end with 0 or 1, by what the words ask for.
 use Rattle.std.proofs.Common.{◌≡◌, ◌≤◌, ℕ, Bool, true, false, inl, inr, List, [], ◌∷◌, ◌++◌, Option, Some, None, sym, subst, ap, ◌∙◌, refl, arith}
+use Rattle.std.specs.Borrow.{Bor}
 use Rattle.std.specs.Prelude.{◌↔◌, IsTrue}
 use Rattle.std.proofs.lemmas.List.{append-nil}
 use Rattle.clap.specs.Words.{Text}
@@ -13,17 +14,15 @@ use Rattle.jls_commands.specs.Joining as joining
 use Rattle.jls_commands.specs.Joining.{JoinIsDone, Joins}
 use Rattle.jls_commands.specs.Outputs as outputs
 use Rattle.jls_commands.specs.Outputs.{StopsAtOutput}
-use Rattle.jls_commands.specs.Outcomes.{exit_status, exit_status_of_cause}
-use Rattle.jls_commands.specs.declared.outcome.Cause.{Cause}
-use Rattle.jls_commands.specs.declared.outcome.Cause.TheVariants as cause
+use Rattle.jls_commands.specs.Outcomes.{Outcome, exit_status, finished, status_of_input, status_of_refusal}
+use Rattle.jls_commands.specs.declared.outcome.Refusal.{Refusal}
+use Rattle.jls_commands.specs.declared.outcome.Refusal.TheVariants as refusal
 use Rattle.jls_station.specs.declared.input.InputFault.{InputFault}
 use Rattle.jls_station.specs.declared.input.InputFault.TheVariants as fault
-use Rattle.jls_commands.specs.declared.outcome.Outcome.{Outcome}
-use Rattle.jls_commands.specs.declared.outcome.Outcome.TheVariants.{Done}
 use Rattle.jls_commands.specs.Telling as telling
 use Rattle.jls_commands.specs.Telling.{Tells, lines}
 use Rattle.jls_commands.specs.WritingFiles as writing
-use Rattle.jls_commands.specs.WritingFiles.{WritesFile, StopsAtFile, unsettled_cause}
+use Rattle.jls_commands.specs.WritingFiles.{WritesFile, StopsAtFile, unsettled_refusal}
 use Rattle.jls_picture.specs.Unsettled.{NamesFirstUnsettled}
 use Rattle.jls_picture.specs.declared.picture.PictureFault.{PictureFault}
 use Rattle.jls_picture.specs.declared.picture.PictureFault.TheVariants.{Unsettled}
@@ -36,40 +35,34 @@ use Rattle.jls_program.specs.Laws.{JoinRan, DoneJoinsRan, TellRan, DoneChecksRan
 
 -- ---- what stops a command
 
-status_of_input_fault : (f : InputFault) → 3 ≤ exit_status_of_cause (cause.Input f)
+status_of_input_fault : (f : InputFault) → 3 ≤ status_of_input f
 status_of_input_fault (fault.Text f) = omega arith
 status_of_input_fault (fault.NoPicture f offset) = omega arith
 status_of_input_fault (fault.Read stop offset) = omega arith
 status_of_input_fault fault.OutOfMemory = omega arith
 
 -- an input has at least status 3
-status_at_input : (source : Option ℕ) (before : List Given) (name : List ℕ) (c : Cause) (events : List Event)
-    → StopsAt source before name c events → 3 ≤ exit_status_of_cause c
-status_at_input source before name _ _ (not_there _ _ _) = omega arith
-status_at_input source before name _ _ (refused _ _ _ f reads h) = status_of_input_fault f
-status_at_input source before name _ _ (other_shape _ _ _ g events h other) = omega arith
-status_at_input source before name _ _ (no_memory _ _ _ g events h other) = omega arith
+status_at_input : (source : Option ℕ) (before : List Given) (r : Refusal) (events : List Event)
+    → StopsAt source before r events → 3 ≤ status_of_refusal r
+status_at_input source before _ _ (not_there _ _ _) = omega arith
+status_at_input source before _ _ (refused _ _ _ f reads h) = status_of_input_fault f
+status_at_input source before _ _ (other_shape _ _ _ g events h other) = omega arith
+status_at_input source before _ _ (no_memory _ _ _ g events h other) = omega arith
 
 -- and so has an output
-status_at_output : (name bytes : List ℕ) (c : Cause) (events : List Event) → StopsAtOutput name bytes c events → 3 ≤ exit_status_of_cause c
-status_at_output name bytes _ _ (outputs.not_there _ _) = omega arith
-status_at_output name bytes _ _ (outputs.cut _ _ count writes h) = omega arith
+status_at_output : (bytes : List ℕ) (r : Refusal) (events : List Event) → StopsAtOutput bytes r events → 3 ≤ status_of_refusal r
+status_at_output bytes _ _ (outputs.not_there _ _) = omega arith
+status_at_output bytes _ _ (outputs.cut _ _ count writes h) = omega arith
 
 -- a file that does not go out has at least status 2
-status_at_file : (F L : Type 0) (takes : Bool) (name bytes : List ℕ) (c : Cause) (events : List Event)
-    → StopsAtFile F L takes name bytes c events → 2 ≤ exit_status_of_cause c
-status_at_file F L takes name bytes _ _ (writing.too_large _ _ large) = omega arith
-status_at_file F L takes name bytes c _ (writing.at_output _ _ _ events fit h) = let k = status_at_output name bytes c events h in omega (arith, k)
-status_at_file F L takes name bytes _ _ (writing.no_memory _ _ count writes fit is lt h) = omega arith
+status_at_file : (F L : Type 0) (takes : Bool) (bytes : List ℕ) (r : Refusal) (events : List Event)
+    → StopsAtFile F L takes bytes r events → 2 ≤ status_of_refusal r
+status_at_file F L takes bytes _ _ (writing.too_large _ _ large) = omega arith
+status_at_file F L takes bytes r _ (writing.at_output _ _ events fit h) = let k = status_at_output bytes r events h in omega (arith, k)
+status_at_file F L takes bytes _ _ (writing.no_memory _ _ count writes fit is lt h) = omega arith
 
-status_of_memory : (c : Cause) → c ≡ cause.OutOfMemory → 3 ≤ exit_status_of_cause c
-status_of_memory c is = let e : exit_status_of_cause c ≡ 5 = ap exit_status_of_cause is in omega (arith, e)
-
-status_of_cut : (c : Cause) (count : ℕ) → c ≡ cause.NotWritten count → 3 ≤ exit_status_of_cause c
-status_of_cut c count is = let e : exit_status_of_cause c ≡ 4 = ap exit_status_of_cause is in omega (arith, e)
-
-pub status_of_unsettled : (p : PartialPicture) (f : PictureFault) (c : Cause) → c ≡ unsettled_cause p f → exit_status_of_cause c ≡ 1
-status_of_unsettled p (Unsettled component line) c is = ap exit_status_of_cause is
+pub status_of_unsettled : (n : Bor (List ℕ)) (p : PartialPicture) (f : PictureFault) (r : Refusal) → r ≡ unsettled_refusal n p f → status_of_refusal r ≡ 1
+status_of_unsettled n p (Unsettled component line) r is = ap status_of_refusal is
 
 -- ---- no fault line
 
@@ -115,8 +108,8 @@ came_of_run words _ _ report faults (help_cut _ kind help count _ _ r n wrote li
 came_of_run words _ _ _ faults (nothing_begun _ _ line) asked k le = absurd (omega (arith, le))
 came_of_run words _ _ _ faults (nothing_asked _ _ asks line) asked k le = let e : None ≡ Some asked = sym asks.asks ∙ k.asks in absurd cc
 
-done_status : (settled whole : Bool) (p : PartialPicture) → (IsTrue settled ↔ IsSettled p) → exit_status (Done settled whole) ≤ 1
-    → ((exit_status (Done settled whole) ≡ 0) ↔ IsSettled p) × (whole ≡ true)
+done_status : (settled whole : Bool) (p : PartialPicture) → (IsTrue settled ↔ IsSettled p) → exit_status (finished settled whole) ≤ 1
+    → ((exit_status (finished settled whole) ≡ 0) ↔ IsSettled p) × (whole ≡ true)
 done_status true true p s le = ((λ _. s.0 refl, λ _. refl), refl)
 done_status false true p s le = ((λ e. absurd (omega (arith, e)), λ is. absurd (by_settled (s.1 is))), refl)
   where
@@ -139,9 +132,9 @@ join_finished source out names _ events desk desk' (joining.done _ _ _ p settled
       },
       refl,
     )
-join_finished source out names _ events desk desk' (joining.at_input _ _ _ r _ h) e le = let k = status_at_input source h.givens r.name.now r.cause h.last h.stops in absurd (omega (arith, k, le))
-join_finished source out names _ events desk desk' (joining.no_memory _ _ _ r p whole _ named is h) e le = let k = status_of_memory r.cause is in absurd (omega (arith, k, le))
-join_finished source out names _ _ desk desk' (joining.at_output _ _ _ r p whole reading writing named h stops) e le = let k = status_at_output out _ r.cause writing stops in absurd (omega (arith, k, le))
+join_finished source out names _ events desk desk' (joining.at_input _ _ _ r _ h) e le = let k = status_at_input source h.givens r h.last h.stops in absurd (omega (arith, k, le))
+join_finished source out names _ events desk desk' (joining.no_memory _ _ _ n p whole _ named h) e le = absurd (omega (arith, le))
+join_finished source out names _ _ desk desk' (joining.at_output _ _ _ r p whole reading writing named h stops) e le = let k = status_at_output _ r writing stops in absurd (omega (arith, k, le))
 
 tell_finished : (traced : Bool) (name : Text) (outcome : Outcome) (events reported : List Event) (desk desk' report report' : History)
     → Tells (lines traced) name outcome events reported
@@ -159,10 +152,10 @@ tell_finished traced name _ events reported desk desk' report report' (telling.d
       refl,
     )
 tell_finished traced name _ events _ desk desk' report report' (telling.at_input _ r _ named h) e d le =
-    let k = status_at_input None [] name r.cause events h in absurd (omega (arith, k, le))
-tell_finished traced name _ events _ desk desk' report report' (telling.no_memory _ r g _ named is taken) e d le = let k = status_of_memory r.cause is in absurd (omega (arith, k, le))
-tell_finished traced name _ events reported desk desk' report report' (telling.not_printed _ r g count _ _ named is taken wrote) e d le =
-    let k = status_of_cut r.cause count is in absurd (omega (arith, k, le))
+    let k = status_at_input None [] r events h in absurd (omega (arith, k, le))
+tell_finished traced name _ events _ desk desk' report report' (telling.no_memory _ n g _ named taken) e d le = absurd (omega (arith, le))
+tell_finished traced name _ events reported desk desk' report report' (telling.not_printed _ n g count _ _ named taken wrote) e d le =
+    absurd (omega (arith, le))
 
 write_finished : (format : Format) (out name : Text) (outcome : Outcome) (events : List Event) (desk desk' : History)
     → WritesFile format out name outcome events → desk' ≡ desk ++ events → exit_status outcome ≡ 0
@@ -171,11 +164,11 @@ write_finished format out name _ _ desk desk' (writing.done _ _ _ g whole readin
     let s = done_status true whole g.partial says.settled_is (omega (arith, is)) in
     (g, record { reading = reading; writing = written; grew = e; taken = taken; whole = says.whole_is.0 s.1; settled = settled; fits = fit; handed = handed }, refl)
 write_finished format out name _ events desk desk' (writing.at_input _ _ _ r _ named h) e is =
-    let k = status_at_input None [] name r.cause events h in absurd (omega (arith, k, is))
-write_finished format out name _ events desk desk' (writing.unsettled _ _ _ r g f _ named taken first because) e is =
-    let k = status_of_unsettled g.partial f r.cause because in absurd (omega (arith, k, is))
+    let k = status_at_input None [] r events h in absurd (omega (arith, k, is))
+write_finished format out name _ events desk desk' (writing.unsettled _ _ _ r n g f _ named taken first because) e is =
+    let k = status_of_unsettled n g.partial f r because in absurd (omega (arith, k, is))
 write_finished format out name _ _ desk desk' (writing.at_file _ _ _ r g reading written named taken settled stops) e is =
-    let k = status_at_file _ _ _ out _ r.cause written stops in absurd (omega (arith, k, is))
+    let k = status_at_file _ _ _ _ r written stops in absurd (omega (arith, k, is))
 
 not_settled : (p : PartialPicture) (f : PictureFault) → NamesFirstUnsettled p f → IsSettled p → ⊥
 not_settled p (Unsettled component line) first settled =
@@ -189,11 +182,11 @@ write_stopped format out name _ _ desk desk' (writing.done _ _ _ g whole reading
     let zero = s.0.1 settled in
     absurd (omega (arith, is, zero))
 write_stopped format out name _ events desk desk' (writing.at_input _ _ _ r _ named h) e is =
-    let k = status_at_input None [] name r.cause events h in absurd (omega (arith, k, is))
-write_stopped format out name _ events desk desk' (writing.unsettled _ _ _ r g f _ named taken first because) e is =
+    let k = status_at_input None [] r events h in absurd (omega (arith, k, is))
+write_stopped format out name _ events desk desk' (writing.unsettled _ _ _ r n g f _ named taken first because) e is =
     (g, record { events = events; grew = e; they_are = taken }, not_settled g.partial f first)
 write_stopped format out name _ _ desk desk' (writing.at_file _ _ _ r g reading written named taken settled stops) e is =
-    let k = status_at_file _ _ _ out _ r.cause written stops in absurd (omega (arith, k, is))
+    let k = status_at_file _ _ _ _ r written stops in absurd (omega (arith, k, is))
 
 came_as : (format : Format) (out name : Text) (outcome : Outcome) (desk report : List Event)
     → CameOf (written_as format out name) outcome desk report

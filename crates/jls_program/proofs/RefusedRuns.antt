@@ -1,5 +1,5 @@
 -- What stands behind the exit statuses 2 and 3 of a run.
-use Rattle.std.proofs.Common.{◌≡◌, ◌⊎◌, inl, inr, ℕ, Bool, true, false, List, [], ◌∷◌, ◌++◌, Option, None, ap, ◌∙◌, refl, arith}
+use Rattle.std.proofs.Common.{subst, ◌≡◌, ◌⊎◌, inl, inr, ℕ, Bool, true, false, List, [], ◌∷◌, ◌++◌, Option, None, ap, ◌∙◌, refl, arith}
 use Rattle.std.proofs.lemmas.List.{append-nil}
 use Rattle.jls_device.specs.Event.{Event, History, opened}
 use Rattle.jls_station.specs.Given.{Given}
@@ -9,13 +9,11 @@ use Rattle.jls_commands.specs.Joining as joining
 use Rattle.jls_commands.specs.Joining.{Joins}
 use Rattle.jls_commands.specs.Outputs as outputs
 use Rattle.jls_commands.specs.Outputs.{StopsAtOutput}
-use Rattle.jls_commands.specs.Outcomes.{exit_status, exit_status_of_cause}
-use Rattle.jls_commands.specs.declared.outcome.Cause.{Cause}
-use Rattle.jls_commands.specs.declared.outcome.Cause.TheVariants as cause
+use Rattle.jls_commands.specs.Outcomes.{Outcome, exit_status, finished, name_of, status_of_input, status_of_refusal}
+use Rattle.jls_commands.specs.declared.outcome.Refusal.{Refusal}
+use Rattle.jls_commands.specs.declared.outcome.Refusal.TheVariants as refusal
 use Rattle.jls_station.specs.declared.input.InputFault.{InputFault}
 use Rattle.jls_station.specs.declared.input.InputFault.TheVariants as fault
-use Rattle.jls_commands.specs.declared.outcome.Outcome.{Outcome}
-use Rattle.jls_commands.specs.declared.outcome.Outcome.TheVariants.{Done}
 use Rattle.jls_commands.specs.Telling as telling
 use Rattle.jls_commands.specs.Telling.{Tells, lines}
 use Rattle.jls_commands.specs.WritingFiles as writing
@@ -31,24 +29,24 @@ use Rattle.jls_program.proofs.Finished.{status_of_unsettled}
 
 -- ---- neither is done, nor stopped by an output
 
-done_not_2 : (settled whole : Bool) → exit_status (Done settled whole) ≡ 2 → ⊥
+done_not_2 : (settled whole : Bool) → exit_status (finished settled whole) ≡ 2 → ⊥
 done_not_2 settled false e = absurd (omega (arith, e))
 done_not_2 true true e = absurd (omega (arith, e))
 done_not_2 false true e = absurd (omega (arith, e))
 
-done_not_3 : (settled whole : Bool) → exit_status (Done settled whole) ≡ 3 → ⊥
+done_not_3 : (settled whole : Bool) → exit_status (finished settled whole) ≡ 3 → ⊥
 done_not_3 settled false e = absurd (omega (arith, e))
 done_not_3 true true e = absurd (omega (arith, e))
 done_not_3 false true e = absurd (omega (arith, e))
 
-output_is_4 : (name bytes : List ℕ) (c : Cause) (events : List Event) → StopsAtOutput name bytes c events → exit_status_of_cause c ≡ 4
-output_is_4 name bytes _ _ (outputs.not_there _ _) = refl
-output_is_4 name bytes _ _ (outputs.cut _ _ count writes h) = refl
+output_is_4 : (bytes : List ℕ) (r : Refusal) (events : List Event) → StopsAtOutput bytes r events → status_of_refusal r ≡ 4
+output_is_4 bytes _ _ (outputs.not_there _ _) = refl
+output_is_4 bytes _ _ (outputs.cut _ _ count writes h) = refl
 
 -- ---- status 3
 
 unfit_bytes : (source : Option ℕ) (before : List Given) (name : List ℕ) (f : InputFault) (reads : List Event) → ReadsRefuse f reads
-    → exit_status_of_cause (cause.Input f) ≡ 3 → IsUnfit source before name (opened name ∷ reads)
+    → status_of_input f ≡ 3 → IsUnfit source before name (opened name ∷ reads)
 unfit_bytes source before name _ reads (for_fault _ bytes _ _ is (no_text _ f t wrong)) e =
     statuses.no_picture source before name bytes (fault.Text f) reads is (no_text bytes f t wrong)
 unfit_bytes source before name _ reads (for_fault _ bytes stop _ is (text_not_read _ _ t not)) e = absurd (omega (arith, e))
@@ -57,17 +55,17 @@ unfit_bytes source before name _ reads (for_fault _ bytes _ _ is (no_picture _ f
 unfit_bytes source before name _ reads (for_fault _ bytes stop _ is (copy_not_read _ _ f offset t not none)) e = absurd (omega (arith, e))
 unfit_bytes source before name _ reads (for_memory _ h) e = absurd (omega (arith, e))
 
-unfit_input : (source : Option ℕ) (before : List Given) (name : List ℕ) (c : Cause) (events : List Event)
-    → StopsAt source before name c events → exit_status_of_cause c ≡ 3 → IsUnfit source before name events
-unfit_input source before name _ _ (not_there _ _ _) e = absurd (omega (arith, e))
-unfit_input source before name _ _ (refused _ _ _ f reads h) e = unfit_bytes source before name f reads h e
-unfit_input source before name _ events (other_shape _ _ _ g _ h other) e = statuses.other_shape source before name g events h other
-unfit_input source before name _ events (no_memory _ _ _ g _ h other) e = absurd (omega (arith, e))
+unfit_input : (source : Option ℕ) (before : List Given) (r : Refusal) (events : List Event)
+    → StopsAt source before r events → status_of_refusal r ≡ 3 → IsUnfit source before (name_of r) events
+unfit_input source before _ _ (not_there _ _ _) e = absurd (omega (arith, e))
+unfit_input source before _ _ (refused _ _ n f reads h) e = unfit_bytes source before n.now f reads h e
+unfit_input source before _ events (other_shape _ _ n g _ h other) e = statuses.other_shape source before n.now g events h other
+unfit_input source before _ events (no_memory _ _ _ g _ h other) e = absurd (omega (arith, e))
 
 -- the only input is unfit
-ends_at_one : (name : List ℕ) (c : Cause) (events : List Event) → StopsAt None [] name c events → exit_status_of_cause c ≡ 3
+ends_at_one : (name : List ℕ) (r : Refusal) (events : List Event) → name_of r ≡ name → StopsAt None [] r events → status_of_refusal r ≡ 3
     → EndsAtUnfit None (name ∷ []) events
-ends_at_one name c events h e = record {
+ends_at_one name r events named h e = record {
   before = [];
   name = name;
   after = [];
@@ -76,7 +74,7 @@ ends_at_one name c events h e = record {
   reading = [];
   taken = record { in_turn = refl; one_shape = tt };
   last = events;
-  unfit = unfit_input None [] name c events h e;
+  unfit = subst (λ (n : List ℕ). IsUnfit None [] n events) named (unfit_input None [] r events h e);
   events_are = refl;
 }
 
@@ -85,45 +83,45 @@ join_unfit : (source : Option ℕ) (out : List ℕ) (names : List (List ℕ)) (o
 join_unfit source out names _ events (joining.done _ _ _ p settled whole _ h) e = absurd (done_not_3 settled whole e)
 join_unfit source out names _ events (joining.at_input _ _ _ r _ h) e = record {
   before = h.before;
-  name = r.name.now;
+  name = name_of r;
   after = h.after;
   among = h.among;
   givens = h.givens;
   reading = h.reading;
   taken = h.taken;
   last = h.last;
-  unfit = unfit_input source h.givens r.name.now r.cause h.last h.stops e;
+  unfit = unfit_input source h.givens r h.last h.stops e;
   events_are = h.events_are;
 }
-join_unfit source out names _ events (joining.no_memory _ _ _ r p whole _ named is h) e =
-    let k : exit_status_of_cause r.cause ≡ 5 = ap exit_status_of_cause is in absurd (omega (arith, k, e))
+join_unfit source out names _ events (joining.no_memory _ _ _ n p whole _ named h) e =
+    absurd (omega (arith, e))
 join_unfit source out names _ _ (joining.at_output _ _ _ r p whole reading written named h stops) e =
-    let k = output_is_4 out _ r.cause written stops in absurd (omega (arith, k, e))
+    let k = output_is_4 _ r written stops in absurd (omega (arith, k, e))
 
 tell_unfit : (traced : Bool) (name : List ℕ) (outcome : Outcome) (events reported : List Event)
     → Tells (lines traced) name outcome events reported → exit_status outcome ≡ 3 → EndsAtUnfit None (name ∷ []) events
 tell_unfit traced name _ events reported (telling.done _ g settled whole _ _ taken says wrote) e = absurd (done_not_3 settled whole e)
-tell_unfit traced name _ events _ (telling.at_input _ r _ named h) e = ends_at_one name r.cause events h e
-tell_unfit traced name _ events _ (telling.no_memory _ r g _ named is taken) e =
-    let k : exit_status_of_cause r.cause ≡ 5 = ap exit_status_of_cause is in absurd (omega (arith, k, e))
-tell_unfit traced name _ events reported (telling.not_printed _ r g count _ _ named is taken wrote) e =
-    let k : exit_status_of_cause r.cause ≡ 4 = ap exit_status_of_cause is in absurd (omega (arith, k, e))
+tell_unfit traced name _ events _ (telling.at_input _ r _ named h) e = ends_at_one name r events named h e
+tell_unfit traced name _ events _ (telling.no_memory _ n g _ named taken) e =
+    absurd (omega (arith, e))
+tell_unfit traced name _ events reported (telling.not_printed _ n g count _ _ named taken wrote) e =
+    absurd (omega (arith, e))
 
-file_not_3 : (F L : Type 0) (takes : Bool) (name bytes : List ℕ) (c : Cause) (events : List Event) → StopsAtFile F L takes name bytes c events
-    → exit_status_of_cause c ≡ 3 → ⊥
-file_not_3 F L takes name bytes _ _ (writing.too_large _ _ large) e = absurd (omega (arith, e))
-file_not_3 F L takes name bytes c _ (writing.at_output _ _ _ events fit h) e =
-    let k = output_is_4 name bytes c events h in absurd (omega (arith, k, e))
-file_not_3 F L takes name bytes _ _ (writing.no_memory _ _ count writes fit is lt h) e = absurd (omega (arith, e))
+file_not_3 : (F L : Type 0) (takes : Bool) (bytes : List ℕ) (r : Refusal) (events : List Event) → StopsAtFile F L takes bytes r events
+    → status_of_refusal r ≡ 3 → ⊥
+file_not_3 F L takes bytes _ _ (writing.too_large _ _ large) e = absurd (omega (arith, e))
+file_not_3 F L takes bytes r _ (writing.at_output _ _ events fit h) e =
+    let k = output_is_4 bytes r events h in absurd (omega (arith, k, e))
+file_not_3 F L takes bytes _ _ (writing.no_memory _ _ count writes fit is lt h) e = absurd (omega (arith, e))
 
 write_unfit : (format : Format) (out name : List ℕ) (outcome : Outcome) (events : List Event)
     → WritesFile format out name outcome events → exit_status outcome ≡ 3 → EndsAtUnfit None (name ∷ []) events
 write_unfit format out name _ _ (writing.done _ _ _ g whole reading written taken settled says fit handed) e = absurd (done_not_3 true whole e)
-write_unfit format out name _ events (writing.at_input _ _ _ r _ named h) e = ends_at_one name r.cause events h e
-write_unfit format out name _ events (writing.unsettled _ _ _ r g f _ named taken first because) e =
-    let k = status_of_unsettled g.partial f r.cause because in absurd (omega (arith, k, e))
+write_unfit format out name _ events (writing.at_input _ _ _ r _ named h) e = ends_at_one name r events named h e
+write_unfit format out name _ events (writing.unsettled _ _ _ r n g f _ named taken first because) e =
+    let k = status_of_unsettled n g.partial f r because in absurd (omega (arith, k, e))
 write_unfit format out name _ _ (writing.at_file _ _ _ r g reading written named taken settled stops) e =
-    absurd (file_not_3 _ _ _ out _ r.cause written stops e)
+    absurd (file_not_3 _ _ _ _ r written stops e)
 
 came_unfit : (asked : Asked) (outcome : Outcome) (desk report : List Event) → CameOf asked outcome desk report → exit_status outcome ≡ 3
     → EndsAtUnfit (source_of asked) (inputs_of asked) desk
@@ -149,41 +147,41 @@ inputs_behind words status desk desk' report report' faults faults' ran e =
 
 -- ---- status 2
 
-input_not_2 : (source : Option ℕ) (before : List Given) (name : List ℕ) (c : Cause) (events : List Event)
-    → StopsAt source before name c events → exit_status_of_cause c ≡ 2 → ⊥
-input_not_2 source before name _ _ (not_there _ _ _) e = absurd (omega (arith, e))
-input_not_2 source before name _ _ (refused _ _ _ (fault.Text f) reads h) e = absurd (omega (arith, e))
-input_not_2 source before name _ _ (refused _ _ _ (fault.NoPicture f offset) reads h) e = absurd (omega (arith, e))
-input_not_2 source before name _ _ (refused _ _ _ (fault.Read stop offset) reads h) e = absurd (omega (arith, e))
-input_not_2 source before name _ _ (refused _ _ _ fault.OutOfMemory reads h) e = absurd (omega (arith, e))
-input_not_2 source before name _ events (other_shape _ _ _ g _ h other) e = absurd (omega (arith, e))
-input_not_2 source before name _ events (no_memory _ _ _ g _ h other) e = absurd (omega (arith, e))
+input_not_2 : (source : Option ℕ) (before : List Given) (r : Refusal) (events : List Event)
+    → StopsAt source before r events → status_of_refusal r ≡ 2 → ⊥
+input_not_2 source before _ _ (not_there _ _ _) e = absurd (omega (arith, e))
+input_not_2 source before _ _ (refused _ _ _ (fault.Text f) reads h) e = absurd (omega (arith, e))
+input_not_2 source before _ _ (refused _ _ _ (fault.NoPicture f offset) reads h) e = absurd (omega (arith, e))
+input_not_2 source before _ _ (refused _ _ _ (fault.Read stop offset) reads h) e = absurd (omega (arith, e))
+input_not_2 source before _ _ (refused _ _ _ fault.OutOfMemory reads h) e = absurd (omega (arith, e))
+input_not_2 source before _ events (other_shape _ _ _ g _ h other) e = absurd (omega (arith, e))
+input_not_2 source before _ events (no_memory _ _ _ g _ h other) e = absurd (omega (arith, e))
 
 join_not_2 : (source : Option ℕ) (out : List ℕ) (names : List (List ℕ)) (outcome : Outcome) (events : List Event)
     → Joins source out names outcome events → exit_status outcome ≡ 2 → ⊥
 join_not_2 source out names _ events (joining.done _ _ _ p settled whole _ h) e = done_not_2 settled whole e
-join_not_2 source out names _ events (joining.at_input _ _ _ r _ h) e = input_not_2 source h.givens r.name.now r.cause h.last h.stops e
-join_not_2 source out names _ events (joining.no_memory _ _ _ r p whole _ named is h) e =
-    let k : exit_status_of_cause r.cause ≡ 5 = ap exit_status_of_cause is in absurd (omega (arith, k, e))
+join_not_2 source out names _ events (joining.at_input _ _ _ r _ h) e = input_not_2 source h.givens r h.last h.stops e
+join_not_2 source out names _ events (joining.no_memory _ _ _ n p whole _ named h) e =
+    absurd (omega (arith, e))
 join_not_2 source out names _ _ (joining.at_output _ _ _ r p whole reading written named h stops) e =
-    let k = output_is_4 out _ r.cause written stops in absurd (omega (arith, k, e))
+    let k = output_is_4 _ r written stops in absurd (omega (arith, k, e))
 
 tell_not_2 : (traced : Bool) (name : List ℕ) (outcome : Outcome) (events reported : List Event)
     → Tells (lines traced) name outcome events reported → exit_status outcome ≡ 2 → ⊥
 tell_not_2 traced name _ events reported (telling.done _ g settled whole _ _ taken says wrote) e = done_not_2 settled whole e
-tell_not_2 traced name _ events _ (telling.at_input _ r _ named h) e = input_not_2 None [] name r.cause events h e
-tell_not_2 traced name _ events _ (telling.no_memory _ r g _ named is taken) e =
-    let k : exit_status_of_cause r.cause ≡ 5 = ap exit_status_of_cause is in absurd (omega (arith, k, e))
-tell_not_2 traced name _ events reported (telling.not_printed _ r g count _ _ named is taken wrote) e =
-    let k : exit_status_of_cause r.cause ≡ 4 = ap exit_status_of_cause is in absurd (omega (arith, k, e))
+tell_not_2 traced name _ events _ (telling.at_input _ r _ named h) e = input_not_2 None [] r events h e
+tell_not_2 traced name _ events _ (telling.no_memory _ n g _ named taken) e =
+    absurd (omega (arith, e))
+tell_not_2 traced name _ events reported (telling.not_printed _ n g count _ _ named taken wrote) e =
+    absurd (omega (arith, e))
 
 -- the file is not begun, and is too large
-file_with_2 : (F L : Type 0) (takes : Bool) (name bytes : List ℕ) (c : Cause) (events : List Event) → StopsAtFile F L takes name bytes c events
-    → exit_status_of_cause c ≡ 2 → L × (events ≡ [])
-file_with_2 F L takes name bytes _ _ (writing.too_large _ _ large) e = (large, refl)
-file_with_2 F L takes name bytes c _ (writing.at_output _ _ _ events fit h) e =
-    let k = output_is_4 name bytes c events h in absurd (omega (arith, k, e))
-file_with_2 F L takes name bytes _ _ (writing.no_memory _ _ count writes fit is lt h) e = absurd (omega (arith, e))
+file_with_2 : (F L : Type 0) (takes : Bool) (bytes : List ℕ) (r : Refusal) (events : List Event) → StopsAtFile F L takes bytes r events
+    → status_of_refusal r ≡ 2 → L × (events ≡ [])
+file_with_2 F L takes bytes _ _ (writing.too_large _ _ large) e = (large, refl)
+file_with_2 F L takes bytes r _ (writing.at_output _ _ events fit h) e =
+    let k = output_is_4 bytes r events h in absurd (omega (arith, k, e))
+file_with_2 F L takes bytes _ _ (writing.no_memory _ _ count writes fit is lt h) e = absurd (omega (arith, e))
 
 module _ (words : List (List ℕ)) (desk desk' : History) where
   write_with_2 : (format : Format) (out name : List ℕ) (outcome : Outcome) (events : List Event)
@@ -191,13 +189,13 @@ module _ (words : List (List ℕ)) (desk desk' : History) where
       → AskFor words (written_as format out name) → desk' ≡ desk ++ events → AskForTooMuch words desk desk'
   write_with_2 format out name _ _ (writing.done _ _ _ g whole reading written taken settled says fit handed) e asks grew =
       absurd (done_not_2 true whole e)
-  write_with_2 format out name _ events (writing.at_input _ _ _ r _ named h) e asks grew = absurd (input_not_2 None [] name r.cause events h e)
-  write_with_2 format out name _ events (writing.unsettled _ _ _ r g f _ named taken first because) e asks grew =
-      let k = status_of_unsettled g.partial f r.cause because in absurd (omega (arith, k, e))
+  write_with_2 format out name _ events (writing.at_input _ _ _ r _ named h) e asks grew = absurd (input_not_2 None [] r events h e)
+  write_with_2 format out name _ events (writing.unsettled _ _ _ r n g f _ named taken first because) e asks grew =
+      let k = status_of_unsettled n g.partial f r because in absurd (omega (arith, k, e))
   write_with_2 Pnm out name _ _ (writing.at_file _ _ _ r g reading written named taken settled stops) e asks grew =
-      let h = file_with_2 _ _ _ out _ r.cause written stops e in absurd h.0
+      let h = file_with_2 _ _ _ _ r written stops e in absurd h.0
   write_with_2 (Jls line rows) out name _ _ (writing.at_file _ _ _ r g reading written named taken settled stops) e asks grew =
-      let h = file_with_2 _ _ _ out _ r.cause written stops e in
+      let h = file_with_2 _ _ _ _ r written stops e in
       record {
         line = line;
         rows = rows;

@@ -7,9 +7,8 @@ use Rattle.clap.specs.declared.error.kind.ErrorKind.{ErrorKind}
 use Rattle.clap.specs.declared.error.kind.ErrorKind.TheVariants as kind
 use Rattle.jls_device.specs.Event.{Event, History, GrewBy}
 use Rattle.jls_device.specs.Writing.{Wrote, WroteFront, Printed}
-use Rattle.jls_commands.specs.declared.outcome.Cause.TheVariants as cause
 use Rattle.jls_words.specs.Words.{AreRefused, is_help}
-use Rattle.jls_program.specs.FaultLines.{cause_line, out_of_memory_line}
+use Rattle.jls_program.specs.FaultLines.{not_written_line, out_of_memory_line}
 use Rattle.jls_program.specs.Answers.{is_want_of_memory, Answer, ran_out, usage, help, cut, Answered}
 use Rattle.jls_program.specs.Runs.{Run, misused, helped, help_cut, nothing_begun}
 
@@ -25,7 +24,7 @@ module _ (k : ErrorKind) (report report' faults faults' : History) where
   answer_help text n h = record { report_events = h.events; fault_events = []; report_is = h.grew; faults_are = sym (append-nil faults); answer = help k text h.events n h.they_are }
 
   pub answer_cut : (text : List ℕ) (count : ℕ) → is_help k ≡ true → GrewBy (WroteFront text count) report report'
-      → GrewBy (Printed (cause_line (codes "-") (cause.NotWritten count))) faults faults'
+      → GrewBy (Printed (not_written_line (codes "-") count)) faults faults'
       → Answered k 4 report report' faults faults'
   answer_cut text count n h f = record { report_events = h.events; fault_events = f.events; report_is = h.grew; faults_are = f.grew; answer = cut k text count h.events f.events n h.they_are f.they_are }
 

@@ -7,8 +7,7 @@ use Rattle.clap.specs.declared.error.kind.ErrorKind.{ErrorKind}
 use Rattle.clap.specs.declared.error.kind.ErrorKind.TheVariants as kind
 use Rattle.jls_device.specs.Event.{Event, History, GrewBy}
 use Rattle.jls_device.specs.Writing.{Printed}
-use Rattle.jls_commands.specs.Outcomes.{exit_status}
-use Rattle.jls_commands.specs.declared.outcome.Outcome.{Outcome}
+use Rattle.jls_commands.specs.Outcomes.{Outcome, exit_status}
 use Rattle.jls_commands.specs.Histories.{GrewBoth}
 use Rattle.jls_words.specs.Words.{AreRefused}
 use Rattle.jls_words.specs.Asking.{Asked, AskFor, AskForNothing, format_is_known}

@@ -1,5 +1,5 @@
 -- What stands behind the exit statuses 2 to 5 of a run.
-use Rattle.std.proofs.Common.{◌≡◌, ◌≤◌, ◌+◌, ◌⊎◌, inl, inr, ℕ, Bool, true, false, List, [], ◌∷◌, ◌++◌, Option, None, length, filter, sym, subst, ap, ◌∙◌, refl, arith}
+use Rattle.std.proofs.Common.{◌≡◌, ◌≤◌, ◌+◌, ◌⊎◌, inl, inr, ℕ, Bool, true, false, List, [], ◌∷◌, ◌++◌, Option, None, Ok, Err, length, filter, sym, subst, ap, ◌∙◌, refl, arith}
 use Rattle.std.specs.Prelude.{◌||◌, All}
 use Rattle.std.specs.List.{list_any}
 use Rattle.std.proofs.lemmas.List.{append-nil, length-append}
@@ -15,15 +15,13 @@ use Rattle.jls_commands.specs.Joining as joining
 use Rattle.jls_commands.specs.Joining.{Joins}
 use Rattle.jls_commands.specs.Outputs as outputs
 use Rattle.jls_commands.specs.Outputs.{StopsAtOutput}
-use Rattle.jls_commands.specs.Outcomes.{exit_status, exit_status_of_cause}
+use Rattle.jls_commands.specs.Outcomes.{Outcome, exit_status, finished, status_of_done, status_of_input, status_of_refusal}
 use Rattle.jls_station.specs.declared.input.ReadStop.{ReadStop}
 use Rattle.jls_station.specs.declared.input.ReadStop.TheVariants.{Whole, Failed, Turns}
 use Rattle.jls_station.specs.declared.input.InputFault.{InputFault}
 use Rattle.jls_station.specs.declared.input.InputFault.TheVariants as fault
-use Rattle.jls_commands.specs.declared.outcome.Cause.{Cause}
-use Rattle.jls_commands.specs.declared.outcome.Cause.TheVariants as cause
-use Rattle.jls_commands.specs.declared.outcome.Outcome.{Outcome}
-use Rattle.jls_commands.specs.declared.outcome.Outcome.TheVariants.{Done, Refused}
+use Rattle.jls_commands.specs.declared.outcome.Refusal.{Refusal}
+use Rattle.jls_commands.specs.declared.outcome.Refusal.TheVariants as refusal
 use Rattle.jls_commands.specs.Telling as telling
 use Rattle.jls_commands.specs.Telling.{Tells, lines}
 use Rattle.jls_commands.specs.WritingFiles as writing
@@ -31,7 +29,7 @@ use Rattle.jls_commands.specs.WritingFiles.{WritesFile, StopsAtFile}
 use Rattle.jls_commands.specs.declared.writing.Format.{Format}
 use Rattle.jls_commands.specs.declared.writing.Format.TheVariants.{Pnm, Jls}
 use Rattle.jls_words.specs.Asking.{Asked, check, join, show, write_pnm, write_jls}
-use Rattle.jls_program.specs.FaultLines.{cause_line, fault_line, out_of_memory_line}
+use Rattle.jls_program.specs.FaultLines.{fault_line, input_fault_line, out_of_memory_line, refusal_line}
 use Rattle.jls_program.specs.Runs.{CameOf, Run, came_of, misused, helped, help_cut, nothing_begun, nothing_asked}
 use Rattle.jls_program.specs.Statuses.{is_failure, HadFailure, FailuresAreBehindStatus4, RefusedRunsCreateNothing, WantOfMemoryIsTold}
 use Rattle.jls_program.proofs.Finished.{status_of_unsettled}
@@ -104,23 +102,23 @@ module _ (E : List ℕ → Type 0) where
 
 refused_failed : (bytes : List ℕ) (stop : ReadStop) (f : InputFault) (reads : List Event) → IsRead IsEnough reads bytes stop
     → IsRefused bytes stop f
-    → exit_status_of_cause (cause.Input f) ≡ 4 → HadFailure reads
+    → status_of_input f ≡ 4 → HadFailure reads
 refused_failed bytes _ _ reads is (no_text _ f t wrong) e = absurd (omega (arith, e))
 refused_failed bytes stop _ reads is (text_not_read _ _ t not) e = read_in_part IsEnough reads bytes stop is not
 refused_failed bytes _ _ reads is (no_picture _ f offset t none) e = absurd (omega (arith, e))
 refused_failed bytes stop _ reads is (copy_not_read _ _ f offset t not none) e = read_in_part IsEnough reads bytes stop is not
 
-reads_failed : (f : InputFault) (reads : List Event) → ReadsRefuse f reads → exit_status_of_cause (cause.Input f) ≡ 4 → HadFailure reads
+reads_failed : (f : InputFault) (reads : List Event) → ReadsRefuse f reads → status_of_input f ≡ 4 → HadFailure reads
 reads_failed f reads (for_fault _ bytes stop _ is h) e = refused_failed bytes stop f reads is h e
 reads_failed _ reads (for_memory _ h) e = absurd (omega (arith, e))
 
-failed_at_input : (source : Option ℕ) (before : List Given) (name : List ℕ) (c : Cause) (events : List Event)
-    → StopsAt source before name c events
-    → exit_status_of_cause c ≡ 4 → HadFailure events
-failed_at_input source before name _ _ (not_there _ _ _) e = inl refl
-failed_at_input source before name _ _ (refused _ _ _ f reads h) e = failed_right (opened name ∷ []) reads (reads_failed f reads h e)
-failed_at_input source before name _ _ (other_shape _ _ _ g events h other) e = absurd (omega (arith, e))
-failed_at_input source before name _ _ (no_memory _ _ _ g events h other) e = absurd (omega (arith, e))
+failed_at_input : (source : Option ℕ) (before : List Given) (r : Refusal) (events : List Event)
+    → StopsAt source before r events
+    → status_of_refusal r ≡ 4 → HadFailure events
+failed_at_input source before _ _ (not_there _ _ _) e = inl refl
+failed_at_input source before _ _ (refused _ _ n f reads h) e = failed_right (opened n.now ∷ []) reads (reads_failed f reads h e)
+failed_at_input source before _ _ (other_shape _ _ _ g events h other) e = absurd (omega (arith, e))
+failed_at_input source before _ _ (no_memory _ _ _ g events h other) e = absurd (omega (arith, e))
 
 taken_in_part : (source : Option ℕ) (name : List ℕ) (g : Given) (events : List Event) → IsTaken source name g events → (g.stop ≡ Whole → ⊥)
     → HadFailure events
@@ -150,17 +148,17 @@ failed_in_turn source (name ∷ names) (g ∷ givens) events h not =
 
 -- ---- outputs
 
-failed_at_output : (name bytes : List ℕ) (c : Cause) (events : List Event) → StopsAtOutput name bytes c events → HadFailure events
-failed_at_output name bytes _ _ (outputs.not_there _ _) = inl refl
-failed_at_output name bytes _ _ (outputs.cut _ _ count writes h) =
-    failed_right (created name ∷ []) writes (failed_as writes (h.writes ++ write_failed ∷ []) h.events_are (failed_right h.writes (write_failed ∷ []) (inl refl)))
+failed_at_output : (bytes : List ℕ) (r : Refusal) (events : List Event) → StopsAtOutput bytes r events → HadFailure events
+failed_at_output bytes _ _ (outputs.not_there _ _) = inl refl
+failed_at_output bytes _ _ (outputs.cut n _ count writes h) =
+    failed_right (created n.now ∷ []) writes (failed_as writes (h.writes ++ write_failed ∷ []) h.events_are (failed_right h.writes (write_failed ∷ []) (inl refl)))
 
 front_failed : (bytes : List ℕ) (count : ℕ) (events : List Event) → WroteFront bytes count events → HadFailure events
 front_failed bytes count events h = failed_as events (h.writes ++ write_failed ∷ []) h.events_are (failed_right h.writes (write_failed ∷ []) (inl refl))
 
 -- ---- commands that end with 4
 
-not_whole : (settled whole : Bool) → exit_status (Done settled whole) ≡ 4 → whole ≡ true → ⊥
+not_whole : (settled whole : Bool) → exit_status (finished settled whole) ≡ 4 → whole ≡ true → ⊥
 not_whole settled false e is = cc
 not_whole true true e is = absurd (omega (arith, e))
 not_whole false true e is = absurd (omega (arith, e))
@@ -172,37 +170,37 @@ join_failed source out names _ events (joining.done _ _ _ p settled whole _ h) e
     failed_as events (h.reading ++ h.writing) h.events_are
     (failed_left h.reading h.writing (failed_in_turn source names h.taken.givens h.reading h.taken.taken.in_turn (λ all. not_whole settled whole e (h.taken.whole_is.1 all))))
 join_failed source out names _ events (joining.at_input _ _ _ r _ h) e =
-    failed_as events (h.reading ++ h.last) h.events_are (failed_right h.reading h.last (failed_at_input source h.givens r.name.now r.cause h.last h.stops e))
-join_failed source out names _ events (joining.no_memory _ _ _ r p whole _ named is h) e =
-    let k : exit_status_of_cause r.cause ≡ 5 = ap exit_status_of_cause is in absurd (omega (arith, k, e))
-join_failed source out names _ _ (joining.at_output _ _ _ r p whole reading written named h stops) e = failed_right reading written (failed_at_output out _ r.cause written stops)
+    failed_as events (h.reading ++ h.last) h.events_are (failed_right h.reading h.last (failed_at_input source h.givens r h.last h.stops e))
+join_failed source out names _ events (joining.no_memory _ _ _ n p whole _ named h) e =
+    absurd (omega (arith, e))
+join_failed source out names _ _ (joining.at_output _ _ _ r p whole reading written named h stops) e = failed_right reading written (failed_at_output _ r written stops)
 
 tell_failed : (traced : Bool) (name : List ℕ) (outcome : Outcome) (events reported : List Event)
     → Tells (lines traced) name outcome events reported
     → exit_status outcome ≡ 4 → HadFailure events ⊎ HadFailure reported
 tell_failed traced name _ events reported (telling.done _ g settled whole _ _ taken says wrote) e =
     inl (taken_in_part None name g events taken (λ is. not_whole settled whole e (says.whole_is.1 is)))
-tell_failed traced name _ events _ (telling.at_input _ r _ named h) e = inl (failed_at_input None [] name r.cause events h e)
-tell_failed traced name _ events _ (telling.no_memory _ r g _ named is taken) e =
-    let k : exit_status_of_cause r.cause ≡ 5 = ap exit_status_of_cause is in absurd (omega (arith, k, e))
-tell_failed traced name _ events reported (telling.not_printed _ r g count _ _ named is taken wrote) e = inr (front_failed (lines traced g) count reported wrote)
+tell_failed traced name _ events _ (telling.at_input _ r _ named h) e = inl (failed_at_input None [] r events h e)
+tell_failed traced name _ events _ (telling.no_memory _ n g _ named taken) e =
+    absurd (omega (arith, e))
+tell_failed traced name _ events reported (telling.not_printed _ n g count _ _ named taken wrote) e = inr (front_failed (lines traced g) count reported wrote)
 
-file_failed : (F L : Type 0) (takes : Bool) (name bytes : List ℕ) (c : Cause) (events : List Event) → StopsAtFile F L takes name bytes c events
-    → exit_status_of_cause c ≡ 4 → HadFailure events
-file_failed F L takes name bytes _ _ (writing.too_large _ _ large) e = absurd (omega (arith, e))
-file_failed F L takes name bytes c _ (writing.at_output _ _ _ events fit h) e = failed_at_output name bytes c events h
-file_failed F L takes name bytes _ _ (writing.no_memory _ _ count writes fit is lt h) e = absurd (omega (arith, e))
+file_failed : (F L : Type 0) (takes : Bool) (bytes : List ℕ) (r : Refusal) (events : List Event) → StopsAtFile F L takes bytes r events
+    → status_of_refusal r ≡ 4 → HadFailure events
+file_failed F L takes bytes _ _ (writing.too_large _ _ large) e = absurd (omega (arith, e))
+file_failed F L takes bytes r _ (writing.at_output _ _ events fit h) e = failed_at_output bytes r events h
+file_failed F L takes bytes _ _ (writing.no_memory _ _ count writes fit is lt h) e = absurd (omega (arith, e))
 
 write_failed_so : (format : Format) (out name : List ℕ) (outcome : Outcome) (events : List Event)
     → WritesFile format out name outcome events
     → exit_status outcome ≡ 4 → HadFailure events
 write_failed_so format out name _ _ (writing.done _ _ _ g whole reading written taken settled says fit handed) e =
     failed_left reading written (taken_in_part None name g reading taken (λ is. not_whole true whole e (says.whole_is.1 is)))
-write_failed_so format out name _ events (writing.at_input _ _ _ r _ named h) e = failed_at_input None [] name r.cause events h e
-write_failed_so format out name _ events (writing.unsettled _ _ _ r g f _ named taken first because) e =
-    let k = status_of_unsettled g.partial f r.cause because in absurd (omega (arith, k, e))
+write_failed_so format out name _ events (writing.at_input _ _ _ r _ named h) e = failed_at_input None [] r events h e
+write_failed_so format out name _ events (writing.unsettled _ _ _ r n g f _ named taken first because) e =
+    let k = status_of_unsettled n g.partial f r because in absurd (omega (arith, k, e))
 write_failed_so format out name _ _ (writing.at_file _ _ _ r g reading written named taken settled stops) e =
-    failed_right reading written (file_failed _ _ _ out _ r.cause written stops e)
+    failed_right reading written (file_failed _ _ _ _ r written stops e)
 
 came_failed : (asked : Asked) (outcome : Outcome) (desk report : List Event) → CameOf asked outcome desk report → exit_status outcome ≡ 4
     → HadFailure desk ⊎ HadFailure report
@@ -270,12 +268,12 @@ none_taken : (source : Option ℕ) (name : List ℕ) (g : Given) (events : List 
     → list_any is_creation events ≡ false
 none_taken source name g events h = none_as events (opened name ∷ h.reads) h.events_are (none_read IsEnough h.reads h.give.bytes g.stop h.give.is_read)
 
-none_at_input : (source : Option ℕ) (before : List Given) (name : List ℕ) (c : Cause) (events : List Event)
-    → StopsAt source before name c events → list_any is_creation events ≡ false
-none_at_input source before name _ _ (not_there _ _ _) = refl
-none_at_input source before name _ _ (refused _ _ _ f reads h) = none_refused f reads h
-none_at_input source before name _ events (other_shape _ _ _ g _ h other) = none_taken source name g events h
-none_at_input source before name _ events (no_memory _ _ _ g _ h other) = none_taken source name g events h
+none_at_input : (source : Option ℕ) (before : List Given) (r : Refusal) (events : List Event)
+    → StopsAt source before r events → list_any is_creation events ≡ false
+none_at_input source before _ _ (not_there _ _ _) = refl
+none_at_input source before _ _ (refused _ _ _ f reads h) = none_refused f reads h
+none_at_input source before _ events (other_shape _ _ n g _ h other) = none_taken source n.now g events h
+none_at_input source before _ events (no_memory _ _ n g _ h other) = none_taken source n.now g events h
 
 none_in_turn : (source : Option ℕ) (names : List (List ℕ)) (givens : List Given) (events : List Event)
     → TakesInTurn source names givens events → list_any is_creation events ≡ false
@@ -287,14 +285,14 @@ none_in_turn source (name ∷ names) (g ∷ givens) events h =
 
 -- ---- commands that end with 2 or 3
 
-done_else : (settled whole : Bool) → 2 ≤ exit_status (Done settled whole) → exit_status (Done settled whole) ≤ 3 → ⊥
+done_else : (settled whole : Bool) → 2 ≤ exit_status (finished settled whole) → exit_status (finished settled whole) ≤ 3 → ⊥
 done_else settled false ge le = absurd (omega (arith, le))
 done_else true true ge le = absurd (omega (arith, ge))
 done_else false true ge le = absurd (omega (arith, ge))
 
-output_else : (name bytes : List ℕ) (c : Cause) (events : List Event) → StopsAtOutput name bytes c events → exit_status_of_cause c ≤ 3 → ⊥
-output_else name bytes _ _ (outputs.not_there _ _) le = absurd (omega (arith, le))
-output_else name bytes _ _ (outputs.cut _ _ count writes h) le = absurd (omega (arith, le))
+output_else : (bytes : List ℕ) (r : Refusal) (events : List Event) → StopsAtOutput bytes r events → status_of_refusal r ≤ 3 → ⊥
+output_else bytes _ _ (outputs.not_there _ _) le = absurd (omega (arith, le))
+output_else bytes _ _ (outputs.cut _ _ count writes h) le = absurd (omega (arith, le))
 
 join_creates_none : (source : Option ℕ) (out : List ℕ) (names : List (List ℕ)) (outcome : Outcome) (events : List Event)
     → Joins source out names outcome events
@@ -302,34 +300,34 @@ join_creates_none : (source : Option ℕ) (out : List ℕ) (names : List (List �
 join_creates_none source out names _ events (joining.done _ _ _ p settled whole _ h) ge le = absurd (done_else settled whole ge le)
 join_creates_none source out names _ events (joining.at_input _ _ _ r _ h) ge le =
     none_as events (h.reading ++ h.last) h.events_are
-    (none_both h.reading h.last (none_in_turn source h.before h.givens h.reading h.taken.in_turn) (none_at_input source h.givens r.name.now r.cause h.last h.stops))
-join_creates_none source out names _ events (joining.no_memory _ _ _ r p whole _ named is h) ge le = none_in_turn source names h.givens events h.taken.in_turn
-join_creates_none source out names _ _ (joining.at_output _ _ _ r p whole reading written named h stops) ge le = absurd (output_else out _ r.cause written stops le)
+    (none_both h.reading h.last (none_in_turn source h.before h.givens h.reading h.taken.in_turn) (none_at_input source h.givens r h.last h.stops))
+join_creates_none source out names _ events (joining.no_memory _ _ _ n p whole _ named h) ge le = none_in_turn source names h.givens events h.taken.in_turn
+join_creates_none source out names _ _ (joining.at_output _ _ _ r p whole reading written named h stops) ge le = absurd (output_else _ r written stops le)
 
 tell_creates_none : (traced : Bool) (name : List ℕ) (outcome : Outcome) (events reported : List Event)
     → Tells (lines traced) name outcome events reported
     → 2 ≤ exit_status outcome → exit_status outcome ≤ 3 → (list_any is_creation events ≡ false) × (reported ≡ [])
 tell_creates_none traced name _ events reported (telling.done _ g settled whole _ _ taken says wrote) ge le = absurd (done_else settled whole ge le)
-tell_creates_none traced name _ events _ (telling.at_input _ r _ named h) ge le = (none_at_input None [] name r.cause events h, refl)
-tell_creates_none traced name _ events _ (telling.no_memory _ r g _ named is taken) ge le = (none_taken None name g events taken, refl)
-tell_creates_none traced name _ events reported (telling.not_printed _ r g count _ _ named is taken wrote) ge le =
-    let k : exit_status_of_cause r.cause ≡ 4 = ap exit_status_of_cause is in absurd (omega (arith, k, le))
+tell_creates_none traced name _ events _ (telling.at_input _ r _ named h) ge le = (none_at_input None [] r events h, refl)
+tell_creates_none traced name _ events _ (telling.no_memory _ n g _ named taken) ge le = (none_taken None name g events taken, refl)
+tell_creates_none traced name _ events reported (telling.not_printed _ n g count _ _ named taken wrote) ge le =
+    absurd (omega (arith, le))
 
-file_creates_none : (F L : Type 0) (takes : Bool) (name bytes : List ℕ) (c : Cause) (events : List Event)
-    → StopsAtFile F L takes name bytes c events
-    → exit_status_of_cause c ≤ 3 → list_any is_creation events ≡ false
-file_creates_none F L takes name bytes _ _ (writing.too_large _ _ large) le = refl
-file_creates_none F L takes name bytes c _ (writing.at_output _ _ _ events fit h) le = absurd (output_else name bytes c events h le)
-file_creates_none F L takes name bytes _ _ (writing.no_memory _ _ count writes fit is lt h) le = absurd (omega (arith, le))
+file_creates_none : (F L : Type 0) (takes : Bool) (bytes : List ℕ) (r : Refusal) (events : List Event)
+    → StopsAtFile F L takes bytes r events
+    → status_of_refusal r ≤ 3 → list_any is_creation events ≡ false
+file_creates_none F L takes bytes _ _ (writing.too_large _ _ large) le = refl
+file_creates_none F L takes bytes r _ (writing.at_output _ _ events fit h) le = absurd (output_else bytes r events h le)
+file_creates_none F L takes bytes _ _ (writing.no_memory _ _ count writes fit is lt h) le = absurd (omega (arith, le))
 
 write_creates_none : (format : Format) (out name : List ℕ) (outcome : Outcome) (events : List Event)
     → WritesFile format out name outcome events
     → 2 ≤ exit_status outcome → exit_status outcome ≤ 3 → list_any is_creation events ≡ false
 write_creates_none format out name _ _ (writing.done _ _ _ g whole reading written taken settled says fit handed) ge le = absurd (done_else true whole ge le)
-write_creates_none format out name _ events (writing.at_input _ _ _ r _ named h) ge le = none_at_input None [] name r.cause events h
-write_creates_none format out name _ events (writing.unsettled _ _ _ r g f _ named taken first because) ge le = none_taken None name g events taken
+write_creates_none format out name _ events (writing.at_input _ _ _ r _ named h) ge le = none_at_input None [] r events h
+write_creates_none format out name _ events (writing.unsettled _ _ _ r n g f _ named taken first because) ge le = none_taken None name g events taken
 write_creates_none format out name _ _ (writing.at_file _ _ _ r g reading written named taken settled stops) ge le =
-    none_both reading written (none_taken None name g reading taken) (file_creates_none _ _ _ out _ r.cause written stops le)
+    none_both reading written (none_taken None name g reading taken) (file_creates_none _ _ _ _ r written stops le)
 
 came_creates_none : (asked : Asked) (outcome : Outcome) (desk report : List Event) → CameOf asked outcome desk report
     → 2 ≤ exit_status outcome → exit_status outcome ≤ 3
@@ -357,24 +355,30 @@ nothing_created words status desk desk' report report' faults faults' ran ge le 
 
 -- ---- runs that end with 5
 
-line_of_memory : (name : List ℕ) (c : Cause) → exit_status_of_cause c ≡ 5 → cause_line name c ≡ out_of_memory_line
-line_of_memory name cause.NotOpened e = absurd (omega (arith, e))
-line_of_memory name (cause.Input (fault.Text f)) e = absurd (omega (arith, e))
-line_of_memory name (cause.Input (fault.NoPicture f offset)) e = absurd (omega (arith, e))
-line_of_memory name (cause.Input (fault.Read stop offset)) e = absurd (omega (arith, e))
-line_of_memory name (cause.Input fault.OutOfMemory) e = refl
-line_of_memory name cause.ShapeDiffers e = absurd (omega (arith, e))
-line_of_memory name (cause.Unsettled id line disputed) e = absurd (omega (arith, e))
-line_of_memory name cause.TooLarge e = absurd (omega (arith, e))
-line_of_memory name cause.NotCreated e = absurd (omega (arith, e))
-line_of_memory name (cause.NotWritten count) e = absurd (omega (arith, e))
-line_of_memory name cause.OutOfMemory e = refl
+line_of_input : (name : List ℕ) (f : InputFault) → status_of_input f ≡ 5 → input_fault_line name f ≡ out_of_memory_line
+line_of_input name (fault.Text f) e = absurd (omega (arith, e))
+line_of_input name (fault.NoPicture f offset) e = absurd (omega (arith, e))
+line_of_input name (fault.Read stop offset) e = absurd (omega (arith, e))
+line_of_input name fault.OutOfMemory e = refl
+
+line_of_memory : (r : Refusal) → status_of_refusal r ≡ 5 → refusal_line r ≡ out_of_memory_line
+line_of_memory (refusal.NotOpened name) e = absurd (omega (arith, e))
+line_of_memory (refusal.Input name f) e = line_of_input name.now f e
+line_of_memory (refusal.ShapeDiffers name) e = absurd (omega (arith, e))
+line_of_memory (refusal.Unsettled name id line disputed) e = absurd (omega (arith, e))
+line_of_memory (refusal.TooLarge name) e = absurd (omega (arith, e))
+line_of_memory (refusal.NotCreated name) e = absurd (omega (arith, e))
+line_of_memory (refusal.NotWritten name count) e = absurd (omega (arith, e))
+line_of_memory (refusal.OutOfMemory name) e = refl
+
+done_not_5 : (settled whole : Bool) → status_of_done settled whole ≡ 5 → ⊥
+done_not_5 settled false e = absurd (omega (arith, e))
+done_not_5 true true e = absurd (omega (arith, e))
+done_not_5 false true e = absurd (omega (arith, e))
 
 memory_line : (outcome : Outcome) → exit_status outcome ≡ 5 → fault_line outcome ≡ out_of_memory_line
-memory_line (Done settled false) e = absurd (omega (arith, e))
-memory_line (Done true true) e = absurd (omega (arith, e))
-memory_line (Done false true) e = absurd (omega (arith, e))
-memory_line (Refused r) e = line_of_memory r.name.now r.cause e
+memory_line (Ok d) e = absurd (done_not_5 d.settled d.whole e)
+memory_line (Err r) e = line_of_memory r e
 
 run_out_of_memory : (words : List (List ℕ)) (status : ℕ) (desk report faults : List Event) → Run words status desk report faults
     → status ≡ 5 → Printed out_of_memory_line faults

@@ -4,9 +4,8 @@ use Rattle.clap.specs.declared.error.kind.ErrorKind.{ErrorKind}
 use Rattle.clap.specs.declared.error.kind.ErrorKind.TheVariants as kind
 use Rattle.jls_device.specs.Event.{Event, History}
 use Rattle.jls_device.specs.Writing.{Wrote, WroteFront, Printed}
-use Rattle.jls_commands.specs.declared.outcome.Cause.TheVariants as cause
 use Rattle.jls_words.specs.Words.{is_help}
-use Rattle.jls_program.specs.FaultLines.{cause_line, out_of_memory_line}
+use Rattle.jls_program.specs.FaultLines.{not_written_line, out_of_memory_line}
 
 abbrev pub is_want_of_memory : ErrorKind → Bool
 is_want_of_memory kind.OutOfMemory = true
@@ -19,7 +18,7 @@ pub data Answer : ErrorKind → ℕ → List Event → List Event → Type 0 whe
       → is_want_of_memory k ≡ false → is_help k ≡ false → Printed text faults → Answer k 2 [] faults
   help : (k : ErrorKind) (text : List ℕ) (report : List Event) → is_help k ≡ true → Wrote text report → Answer k 0 report []
   cut : (k : ErrorKind) (text : List ℕ) (count : ℕ) (report faults : List Event) → is_help k ≡ true → WroteFront text count report
-      → Printed (cause_line (codes "-") (cause.NotWritten count)) faults → Answer k 4 report faults
+      → Printed (not_written_line (codes "-") count) faults → Answer k 4 report faults
 
 -- the histories of the two outputs grew by the events of such an answer
 pub record Answered (k : ErrorKind) (status : ℕ) (report report' faults faults' : History) : Type 0 where

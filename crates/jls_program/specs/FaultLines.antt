@@ -1,15 +1,14 @@
 -- The line on the fault output. A name stands in it with each control character by its code, and with each backslash twice.
-use Rattle.std.specs.Prelude.{ℕ, Bool, true, false, List, [], ◌++◌, codes, decimal, if◌then◌else◌}
+use Rattle.std.specs.Prelude.{ℕ, Bool, true, false, List, [], ◌++◌, Ok, Err, codes, decimal, if◌then◌else◌}
 use Rattle.jls_printing.specs.Names.{shown_name}
 use Rattle.jls_marker.specs.Faults.{fault_number}
 use Rattle.jls_partial.specs.declared.text_fault.TextFault.{TextFault}
 use Rattle.jls_partial.specs.declared.text_fault.TextFault.TheVariants as text_fault
 use Rattle.jls_station.specs.declared.input.InputFault.{InputFault}
 use Rattle.jls_station.specs.declared.input.InputFault.TheVariants as fault
-use Rattle.jls_commands.specs.declared.outcome.Cause.{Cause}
-use Rattle.jls_commands.specs.declared.outcome.Cause.TheVariants as cause
-use Rattle.jls_commands.specs.declared.outcome.Outcome.{Outcome}
-use Rattle.jls_commands.specs.declared.outcome.Outcome.TheVariants.{Done, Refused}
+use Rattle.jls_commands.specs.Outcomes.{Outcome}
+use Rattle.jls_commands.specs.declared.outcome.Refusal.{Refusal}
+use Rattle.jls_commands.specs.declared.outcome.Refusal.TheVariants as refusal
 
 abbrev pub out_of_memory_line : List ℕ
 out_of_memory_line = codes "jls-salvage: out of memory\n"
@@ -58,16 +57,20 @@ abbrev pub not_written_line : List ℕ → ℕ → List ℕ
 not_written_line name count =
     codes "jls-salvage: " ++ (shown_name name ++ (codes ": write failed after " ++ (decimal count ++ codes " bytes\n")))
 
--- the line of a cause at an input or output of this name
-abbrev pub cause_line : List ℕ → Cause → List ℕ
-cause_line name cause.NotOpened = codes "jls-salvage: " ++ (shown_name name ++ codes ": cannot be opened\n")
-cause_line name (cause.Input f) = input_fault_line name f
-cause_line name cause.ShapeDiffers = codes "jls-salvage: " ++ (shown_name name ++ codes ": shape differs\n")
-cause_line name (cause.Unsettled id line disputed) = unsettled_line id line disputed
-cause_line name cause.TooLarge = codes "jls-salvage: interval too large, give --ri\n"
-cause_line name cause.NotCreated = codes "jls-salvage: " ++ (shown_name name ++ codes ": cannot be created\n")
-cause_line name (cause.NotWritten count) = not_written_line name count
-cause_line name cause.OutOfMemory = out_of_memory_line
+-- the line of an output of this name that was not created
+abbrev pub not_created_line : List ℕ → List ℕ
+not_created_line name = codes "jls-salvage: " ++ (shown_name name ++ codes ": cannot be created\n")
+
+-- the line of a refusal
+abbrev pub refusal_line : Refusal → List ℕ
+refusal_line (refusal.NotOpened name) = codes "jls-salvage: " ++ (shown_name name.now ++ codes ": cannot be opened\n")
+refusal_line (refusal.Input name f) = input_fault_line name.now f
+refusal_line (refusal.ShapeDiffers name) = codes "jls-salvage: " ++ (shown_name name.now ++ codes ": shape differs\n")
+refusal_line (refusal.Unsettled name id line disputed) = unsettled_line id line disputed
+refusal_line (refusal.TooLarge name) = codes "jls-salvage: interval too large, give --ri\n"
+refusal_line (refusal.NotCreated name) = not_created_line name.now
+refusal_line (refusal.NotWritten name count) = not_written_line name.now count
+refusal_line (refusal.OutOfMemory name) = out_of_memory_line
 
 -- the second line of a join that would replace a JPEG file of this name
 abbrev pub not_replaced_line : List ℕ → List ℕ
@@ -75,5 +78,5 @@ not_replaced_line name = codes "jls-salvage: " ++ (shown_name name ++ codes " is
 
 -- none where the command is done
 abbrev pub fault_line : Outcome → List ℕ
-fault_line (Done settled whole) = []
-fault_line (Refused r) = cause_line r.name.now r.cause
+fault_line (Ok d) = []
+fault_line (Err r) = refusal_line r

@@ -5,15 +5,13 @@ use Rattle.clap.specs.declared.error.kind.ErrorKind.{ErrorKind}
 use Rattle.jls_device.specs.Event.{Event, History}
 use Rattle.jls_device.specs.Writing.{Wrote, WroteFront, Printed}
 use Rattle.jls_commands.specs.Joining.{Joins}
-use Rattle.jls_commands.specs.Outcomes.{exit_status}
-use Rattle.jls_commands.specs.declared.outcome.Cause.TheVariants as cause
-use Rattle.jls_commands.specs.declared.outcome.Outcome.{Outcome}
+use Rattle.jls_commands.specs.Outcomes.{Outcome, exit_status}
 use Rattle.jls_commands.specs.Telling.{Tells, lines}
 use Rattle.jls_commands.specs.WritingFiles.{WritesFile}
 use Rattle.jls_commands.specs.declared.writing.Format.TheVariants.{Pnm, Jls}
 use Rattle.jls_words.specs.Words.{AreRefused, is_help}
 use Rattle.jls_words.specs.Asking.{Asked, check, join, show, write_pnm, write_jls, AskFor, AskForNothing, format_is_known}
-use Rattle.jls_program.specs.FaultLines.{cause_line, fault_line, out_of_memory_line, unknown_value_line}
+use Rattle.jls_program.specs.FaultLines.{fault_line, not_written_line, out_of_memory_line, unknown_value_line}
 
 -- what came of what was asked, by the events of the desk and of the report output
 abbrev pub CameOf : Asked → Outcome → List Event → List Event → Type 0
@@ -38,7 +36,7 @@ pub data Run : List Text → ℕ → List Event → List Event → List Event �
   -- and a write failed there
   help_cut : (words : List Text) (k : ErrorKind) (help : List ℕ) (count : ℕ) (report faults : List Event)
       → AreRefused words k → is_help k ≡ true → WroteFront help count report
-      → Printed (cause_line (codes "-") (cause.NotWritten count)) faults
+      → Printed (not_written_line (codes "-") count) faults
       → Run words 4 [] report faults
   -- memory ran out before a command began
   nothing_begun : (words : List Text) (faults : List Event) → Printed out_of_memory_line faults → Run words 5 [] [] faults

@@ -5,10 +5,9 @@ ghost use Rattle.clap.specs.Words.{kind_of};
 ghost use Rattle.jls_words.specs.Words as words;
 ghost use Rattle.jls_program.specs.Answers.{is_want_of_memory, Answered};
 
-use crate::printing::{print_out_of_memory, print_refusal};
+use crate::printing::{print_not_written, print_out_of_memory};
 use clap::Error;
 use clap::error::ErrorKind;
-use jls_commands::{Cause, Refusal};
 use jls_device::{Sink, write_all};
 use jls_printing::print_text;
 use std::alloc::Global;
@@ -56,8 +55,7 @@ pub(crate) fn answer<W: Sink, E: Sink>(
     match write_all(report, text.as_bytes()) {
         Ok(()) => 0,
         Err(count) => {
-            let cause = Cause::NotWritten(count);
-            print_refusal(faults, &Refusal { name: "-", cause });
+            print_not_written(faults, "-", count);
             4
         }
     }

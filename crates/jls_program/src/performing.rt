@@ -4,7 +4,7 @@ ghost use Rattle.jls_commands.specs.Histories.{GrewBoth};
 ghost use Rattle.jls_words.specs.Asking.{asked_of};
 ghost use Rattle.jls_program.specs.Runs.{CameOf};
 
-use jls_commands::{Format, JoinInputs, Outcome, check, join, show, write};
+use jls_commands::{Done, Format, JoinInputs, Refusal, check, join, show, write};
 use jls_device::{Desk, Sink};
 use jls_words::Asked;
 use std::alloc::Global;
@@ -15,7 +15,7 @@ pub(crate) fn perform<'a, D: Desk, W: Sink>(
     desk: &mut D,
     report: &mut W,
     asked: Asked<'_, 'a>,
-) -> Outcome<'a>
+) -> Result<Done, Refusal<'a>>
     ensures { GrewBoth (CameOf (asked_of asked.entry) result) (D.history desk.old) (D.history desk.new)
         (W.history report.old) (W.history report.new) }
 {

@@ -5,10 +5,9 @@ ghost use Rattle.jls_device.specs.Event.{GrewBy};
 ghost use Rattle.jls_marker.specs.Faults.{fault_number};
 ghost use Rattle.jls_device.specs.Writing.{Printed};
 ghost use Rattle.jls_printing.specs.Names.{shown_name};
-ghost use Rattle.jls_commands.specs.declared.outcome.Outcome.TheVariants.{Refused};
-ghost use Rattle.jls_program.specs.FaultLines.{bad_text_line, cause_line, fault_line, input_fault_line, no_picture_line, not_replaced_line, not_written_line, out_of_memory_line, text_fault_line, unknown_value_line, unsettled_line};
+ghost use Rattle.jls_program.specs.FaultLines.{bad_text_line, fault_line, input_fault_line, no_picture_line, not_created_line, not_replaced_line, not_written_line, out_of_memory_line, refusal_line, text_fault_line, unknown_value_line, unsettled_line};
 
-use jls_commands::{Cause, Outcome, Refusal};
+use jls_commands::{Done, Refusal};
 use jls_device::Sink;
 use jls_marker::MarkerFault;
 use jls_partial::TextFault;
@@ -102,7 +101,7 @@ fn print_unsettled<E: Sink>(faults: &mut E, id: u8, line: u16, disputed: bool)
 }
 
 /// Prints the line of an output of which so many bytes went out.
-fn print_not_written<E: Sink>(faults: &mut E, name: &str, count: u64)
+pub(crate) fn print_not_written<E: Sink>(faults: &mut E, name: &str, count: u64)
     ensures { GrewBy (Printed (not_written_line name.now count)) (E.history faults.old) (E.history faults.new) }
 {
     print_line(
@@ -167,7 +166,7 @@ pub(crate) fn print_unknown_value<E: Sink>(faults: &mut E, format_is_known: bool
 
 /// Prints that the output of this name was not created.
 pub fn print_not_created<E: Sink>(faults: &mut E, name: &str)
-    ensures { GrewBy (Printed (cause_line name.now Cause.NotCreated)) (E.history faults.old) (E.history faults.new) }
+    ensures { GrewBy (Printed (not_created_line name.now)) (E.history faults.old) (E.history faults.new) }
 {
     print_about(faults, name, ": cannot be created");
 }
@@ -190,35 +189,33 @@ pub(crate) fn print_out_of_memory<E: Sink>(faults: &mut E)
     print_plain(faults, "out of memory");
 }
 
-/// Prints the line of a cause at an input or output of this name.
-fn print_cause<E: Sink>(faults: &mut E, name: &str, cause: Cause)
-    ensures { GrewBy (Printed (cause_line name.now cause)) (E.history faults.old) (E.history faults.new) }
+/// Prints why a command stopped, as one line.
+fn print_refusal<E: Sink>(faults: &mut E, refusal: Refusal<'_>)
+    ensures { GrewBy (Printed (refusal_line refusal.entry)) (E.history faults.old) (E.history faults.new) }
 {
-    match cause {
-        Cause::NotOpened => print_about(faults, name, ": cannot be opened"),
-        Cause::Input(fault) => print_input_fault(faults, name, fault),
-        Cause::ShapeDiffers => print_about(faults, name, ": shape differs"),
-        Cause::Unsettled { id, line, disputed } => print_unsettled(faults, id, line, disputed),
-        Cause::TooLarge => print_plain(faults, "interval too large, give --ri"),
-        Cause::NotCreated => print_not_created(faults, name),
-        Cause::NotWritten(count) => print_not_written(faults, name, count),
-        Cause::OutOfMemory => print_out_of_memory(faults),
+    match refusal {
+        Refusal::NotOpened(name) => print_about(faults, name, ": cannot be opened"),
+        Refusal::Input(name, fault) => print_input_fault(faults, name, fault),
+        Refusal::ShapeDiffers(name) => print_about(faults, name, ": shape differs"),
+        Refusal::Unsettled {
+            name: _,
+            id,
+            line,
+            disputed,
+        } => print_unsettled(faults, id, line, disputed),
+        Refusal::TooLarge(_) => print_plain(faults, "interval too large, give --ri"),
+        Refusal::NotCreated(name) => print_not_created(faults, name),
+        Refusal::NotWritten(name, count) => print_not_written(faults, name, count),
+        Refusal::OutOfMemory(_) => print_out_of_memory(faults),
     }
 }
 
-/// Prints why a command stopped, as one line.
-pub(crate) fn print_refusal<E: Sink>(faults: &mut E, refusal: &Refusal<'_>)
-    ensures { GrewBy (Printed (cause_line refusal.now.name.now refusal.now.cause)) (E.history faults.old) (E.history faults.new) }
-{
-    print_cause(faults, refusal.name, refusal.cause);
-}
-
 /// Prints the line of what came of a command, if it has one.
-pub(crate) fn print_outcome<E: Sink>(faults: &mut E, outcome: &Outcome<'_>)
+pub(crate) fn print_outcome<E: Sink>(faults: &mut E, outcome: &Result<Done, Refusal<'_>>)
     ensures { GrewBy (Printed (fault_line outcome.now)) (E.history faults.old) (E.history faults.new) }
 {
     match outcome {
-        Outcome::Done { .. } => {}
-        Outcome::Refused(refusal) => print_refusal(faults, refusal),
+        Ok(_) => {}
+        Err(refusal) => print_refusal(faults, *refusal),
     }
 }

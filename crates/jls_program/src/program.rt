@@ -7,6 +7,7 @@ ghost use Rattle.jls_program.specs.Runs.{Ran};
 use crate::answering::answer;
 use crate::performing::perform;
 use crate::printing::{print_outcome, print_unknown_value};
+use jls_commands::exit_status;
 use jls_device::{Desk, Sink};
 use jls_words::{asked_command, knows_format, matches};
 use std::alloc::Global;
@@ -46,5 +47,5 @@ pub fn run<D: Desk, W: Sink, E: Sink>(
     };
     let outcome = perform(alloc, desk, report, asked);
     print_outcome(faults, &outcome);
-    outcome.status()
+    exit_status(outcome)
 }

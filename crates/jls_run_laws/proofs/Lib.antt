@@ -1,1 +1,2 @@
+mod RunExamples
 mod RunToRun

@@ -6,15 +6,14 @@ use Rattle.jls_partial.specs.Partial.{PartialPicture}
 use Rattle.jls_device.specs.Event.{Event, History}
 use Rattle.jls_picture.specs.Picture.{WholePicture}
 use Rattle.jls_commands.specs.Joining.{JoinIsDone}
-use Rattle.jls_commands.specs.Laws.{input_bytes}
-use Rattle.jls_commands.specs.declared.outcome.Outcome.TheVariants.{Done}
+use Rattle.jls_commands.specs.Outcomes.{finished}
 use Rattle.jls_commands.specs.WritingFiles as writing
 use Rattle.jls_commands.specs.declared.writing.Format.{Format}
 use Rattle.jls_commands.specs.declared.writing.Format.TheVariants.{Jls}
 use Rattle.jls_words.specs.Asking.{AskFor, join}
 use Rattle.jls_program.specs.Laws.{DoneJoinsRan, DoneWritesRan}
 use Rattle.jls_headline.specs.JoinThenWrite as headline
-use Rattle.jls_headline.specs.NoOtherLaws.{SomeInputHasEachLine, SettledJoinsAreThePicture, WrittenInputsAreThePicture}
+use Rattle.jls_headline.specs.NoOtherLaws.{SettledJoinsAreThePicture, WrittenInputsAreThePicture}
 use Rattle.jls_headline.specs.RunLaws.{RunsGiveThePicture}
 use Rattle.jls_run_laws.specs.RunToRun.{RanOver, JoinRun, WriteRun, JoinsAndWritesGiveThePicture, JoinsAndWritesReadAsThePicture}
 use Rattle.jls_run_laws.specs.RunToRun.{SettledRunsAreThePicture, WrittenRunsAreThePicture}
@@ -49,7 +48,7 @@ join_did law words status events r source out names asks le =
 record WriteDid (f : Format) (events : List Event) : Type 0 where
   out : Text
   name : Text
-  writes : writing.WritesFile f out name (Done true true) events
+  writes : writing.WritesFile f out name (finished true true) events
 
 write_did : DoneWritesRan → (f : Format) (events : List Event) → WriteRun f events → WriteDid f events
 write_did law f events w =
@@ -60,7 +59,7 @@ write_did law f events w =
     record {
       out = w.out;
       name = w.name;
-      writes = subst (λ (es : List Event). writing.WritesFile f w.out w.name (Done true true) es) same
+      writes = subst (λ (es : List Event). writing.WritesFile f w.out w.name (finished true true) es) same
           (writing.done f w.out w.name did.0 true k.reading k.writing k.taken k.settled
           (record { settled_is = (λ _. k.settled, λ _. refl); whole_is = (λ _. k.whole, λ _. refl) }) k.fits k.handed);
     }

@@ -1,18 +1,27 @@
-use Rattle.std.proofs.Common.{None, []}
+use Rattle.std.proofs.Common.{None, [], rules}
+use Rattle.std.proofs.lemmas.Result.{err_from_is_err_and}
+use Rattle.jls_commands.specs.declared.outcome.Refusal.TheVariants.{Input}
 use Rattle.jls_commands.proofs.InTurn.{opened_and_given, opened_and_refused, not_opened_at_all}
+use Rattle.jls_commands.proofs.Mapped.{error_so, value_so}
 use Rattle.jls_commands.proofs.inputs.open_and_read.Goals as goal
 
-pub returns-in-Err-clause-stopped : goal.returns-in-Err-clause-stopped
-returns-in-Err-clause-stopped g c =
+pub returns-in_err-open-clause-stopped : goal.returns-in_err-open-clause-stopped
+returns-in_err-open-clause-stopped g c =
     let history = g.D.Device.history in
-    not_opened_at_all None (history c.args.desk.now) (history c.open_input.new.self) (history c.open_input.new.self) c.args.name.now [] c.in-Err.ensures.failed
+    let new = history c.open.new.desk in
+    let p = err_from_is_err_and c.from_residual.result c.from_residual.ensures.1 in
+    rw (p.1, p.2) (not_opened_at_all None (history c.args.desk.now) new new c.args.name [] c.in_err-open.field-0.0 c.in_err-open.ensures.refusal c.in_err-open.ensures.not_opened)
 
-pub returns-in-Ok-read_input-clause-taken : goal.returns-in-Ok-read_input-clause-taken
-returns-in-Ok-read_input-clause-taken g c =
+pub returns-clause-taken : goal.returns-clause-taken
+returns-clause-taken g c =
     let history = g.D.Device.history in
-    opened_and_given None (history c.args.desk.now) (history c.open_input.new.self) (history c.read_input.new.device) c.args.name.now c.in-Ok-read_input.read c.in-Ok.ensures.opened c.in-Ok-read_input.ensures.given
+    value_so _ c.read_input.result c.map_err.result _ _
+    (λ given h. opened_and_given None (history c.args.desk.now) (history c.open.new.desk) (history c.read_input.new.device) c.args.name.now given c.in_ok-open.ensures.opened h)
+    c.map_err.ensures.cases c.read_input.ensures.given
 
-pub returns-in-Err-read_input-clause-stopped : goal.returns-in-Err-read_input-clause-stopped
-returns-in-Err-read_input-clause-stopped g c =
+pub returns-clause-stopped : goal.returns-clause-stopped
+returns-clause-stopped g c =
     let history = g.D.Device.history in
-    opened_and_refused None (history c.args.desk.now) (history c.open_input.new.self) (history c.read_input.new.device) c.args.name.now c.in-Err-read_input.fault [] c.in-Ok.ensures.opened c.in-Err-read_input.ensures.refused
+    error_so _ (λ fault. Input c.args.name fault) (λ fault r made. search rules) c.read_input.result c.map_err.result _ _
+    (λ fault h. opened_and_refused None (history c.args.desk.now) (history c.open.new.desk) (history c.read_input.new.device) c.args.name fault [] c.in_ok-open.ensures.opened h)
+    c.map_err.ensures.cases c.read_input.ensures.refused

@@ -33,5 +33,5 @@ returns-in-Ok-write_all g c =
 
 pub returns : goal.returns
 returns g c =
-    answer_cut (kind_of c.args.error.now) (g.W.Device.history c.args.report.now) (g.W.Device.history c.write_all.new.sink) (g.E.Device.history c.args.faults.now) (g.E.Device.history c.print_refusal.new.faults)
-    c.as_bytes.result.now c.in-Err-write_all.count (ap is_help (sym c.kind-kind.ensures) ∙ (sym c.is_help.ensures ∙ c.if-not-is_help.false)) c.in-Err-write_all.ensures.stopped c.print_refusal.ensures
+    answer_cut (kind_of c.args.error.now) (g.W.Device.history c.args.report.now) (g.W.Device.history c.write_all.new.sink) (g.E.Device.history c.args.faults.now) (g.E.Device.history c.print_not_written.new.faults)
+    c.as_bytes.result.now c.in-Err-write_all.count (ap is_help (sym c.kind-kind.ensures) ∙ (sym c.is_help.ensures ∙ c.if-not-is_help.false)) c.in-Err-write_all.ensures.stopped c.print_not_written.ensures

@@ -33,5 +33,5 @@ returns g c =
     let by_words = ap (option_and_then (λ (p : Text × List Row). asked_by p.0 p.1)) c.in-Ok.ensures.rows in
     ran (map string_bytes c.args.words.now) (g.D.Device.history c.args.desk.now) (g.D.Device.history c.perform-outcome.new.desk)
     (g.W.Device.history c.args.report.now) (g.W.Device.history c.perform-outcome.new.report) (g.E.Device.history c.args.faults.now) (g.E.Device.history c.print_outcome.new.faults)
-    c.status.result (asked_of c.in-Some.asked) c.perform-outcome.result c.status.ensures
+    c.exit_status.result (asked_of c.in-Some.asked) c.perform-outcome.result c.exit_status.ensures
     (record { taken = inr c.in-Ok.ensures.no_fault; asks = sym by_words ∙ sym c.in-Some.ensures }) c.perform-outcome.ensures c.print_outcome.ensures

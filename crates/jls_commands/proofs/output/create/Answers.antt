@@ -1,7 +1,0 @@
-use Rattle.std.proofs.Common.{◌∷◌, [], refl}
-use Rattle.jls_device.specs.Event.{not_created}
-use Rattle.jls_commands.proofs.output.create.Goals as goal
-
-pub returns-in-Err-clause-not_created : goal.returns-in-Err-clause-not_created
-returns-in-Err-clause-not_created g c =
-    record { events = not_created c.args.name.now ∷ []; grew = c.in-Err.ensures.failed; they_are = (refl, refl) }

@@ -1,0 +1,57 @@
+-- A run of the program that joins two copies: what the laws on runs ask of one is met.
+use Rattle.std.proofs.Common.{true, List, [], ◌∷◌, None, refl, lit≤, inl}
+use Rattle.std.specs.Prelude.{codes}
+use Rattle.clap.specs.Words.{Text}
+use Rattle.clap.proofs.OnLiterals.{clap_on_literals}
+use Rattle.jls_copy.specs.CopyReads.{CopyReads}
+use Rattle.jls_copy.specs.ReadCopy.{ReadCopy}
+use Rattle.jls_commands.specs.Joining as joining
+use Rattle.jls_commands.specs.Outcomes.{finished}
+use Rattle.jls_words.specs.Asking.{AskFor, join}
+use Rattle.jls_program.specs.Runs.{came_of}
+use Rattle.jls_headline.proofs.JoinExamples as runs
+use Rattle.jls_headline.proofs.TwoLineExamples.{pic, is_picture, first, second, both_are_damaged, each_line_survives}
+use Rattle.jls_run_laws.specs.RunToRun.{JoinRun}
+
+-- `jls-salvage join o a b`
+abbrev join_words : List Text
+join_words = codes "jls-salvage" ∷ codes "join" ∷ codes "o" ∷ codes "a" ∷ codes "b" ∷ []
+
+asks_join : AskFor join_words (join None (111 ∷ []) ((97 ∷ []) ∷ (98 ∷ []) ∷ []))
+unfolding clap_on_literals
+asks_join = record { taken = inl refl; asks = refl }
+
+module _ (a b : ReadCopy) (ra : CopyReads first a) (rb : CopyReads second b) where
+  join_run : JoinRun pic 0 (runs.joining a b ra rb)
+  join_run = record {
+    is_picture = is_picture;
+    words = join_words;
+    ran = record {
+      desk = [];
+      desk' = runs.joining a b ra rb;
+      report = [];
+      report' = [];
+      faults = [];
+      faults' = [];
+      ran = record {
+        desk_events = runs.joining a b ra rb;
+        report_events = [];
+        fault_events = [];
+        desk_is = refl;
+        report_is = refl;
+        faults_are = refl;
+        run = came_of join_words (join None (111 ∷ []) ((97 ∷ []) ∷ (98 ∷ []) ∷ [])) (finished true true) (runs.joining a b ra rb) [] [] asks_join
+            (joining.done None (111 ∷ []) ((97 ∷ []) ∷ (98 ∷ []) ∷ []) (runs.both a b ra rb) true true (runs.joining a b ra rb) (runs.is_done a b ra rb), refl)
+            (inl (record { are_writes = tt; they_took = refl }));
+      };
+      they_are = refl;
+    };
+    source = None;
+    small = λ number e. absurd cc;
+    out = 111 ∷ [];
+    names = (97 ∷ []) ∷ (98 ∷ []) ∷ [];
+    asks = asks_join;
+    ended = lit≤ tt;
+    damaged = both_are_damaged [];
+    each_line = each_line_survives [];
+  }
