@@ -1,14 +1,12 @@
 -- Offsets of borders in the files that choices make.
-use Rattle.std.proofs.Common.{◌≡◌, ℕ, suc, ◌+◌, ◌-◌, ◌<◌, ◌≤◌, List, [], ◌++◌, length, take, Option, Some, None, ap, ◌∙◌, arith, length-append}
-use Rattle.std.specs.Prelude.{get_or, IfSome}
+use Rattle.std.proofs.Common.{◌≡◌, ℕ, suc, ◌+◌, ◌-◌, ◌<◌, ◌≤◌, List, [], length, take, ap, ◌∙◌, arith, length-append}
+use Rattle.std.specs.Prelude.{get_or}
 use Rattle.jls_parts.specs.Parts.{Part, Same, Differ, way}
 use Rattle.jls_splice.specs.Choices.{IsPath, front_of}
 use Rattle.jls_splice.proofs.Fronts.{front_more, front_at_most}
 use Rattle.jls_splice_groups.specs.Borders.{IsBorder, IsBorderOf}
-use Rattle.jls_splice_groups.specs.Groups.{IsGroup}
 use Rattle.jls_group_search.specs.Places.{offset_of}
 use Rattle.jls_splice_groups.specs.declared.border.Border.{Border}
-use Rattle.jls_splice_groups.specs.declared.group.Group.{Group}
 
 pub length_more : (ps : List Part) (cs : List ℕ) (i : ℕ) → IsPath ps cs → i < length cs
     → length (front_of ps (take (i + 1) cs)) ≡ length (front_of ps (take i cs)) + length (way (get_or cs i 0) (get_or ps i (Same [])))
@@ -32,11 +30,3 @@ pub border_fits : (ps : List Part) (cs : List ℕ) (border : Border) (most : ℕ
 border_fits ps cs border most path l is few =
     let m = more_fits ps cs border.part most path l few in
     let w = within_part (get_or ps border.part (Same [])) (get_or cs border.part 0) border.at is.1 in omega (arith, m, w)
-
--- the border that ends a group
-pub end_border : (ps : List Part) (g : Group) → IsGroup ps g → IfSome g.end (λ border. IsBorder ps border)
-end_border ps g is = by g.end is.2
-  where
-    by : (end : Option Border) → IfSome end (λ border. IsBorder ps border × (g.begin.part < border.part)) → IfSome end (λ border. IsBorder ps border)
-    by None h = tt
-    by (Some border) h = h.0

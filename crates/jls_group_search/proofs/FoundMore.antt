@@ -1,5 +1,5 @@
 -- The splices of both searches, in one list.
-use Rattle.std.proofs.Common.{◌≡◌, ℕ, Bool, true, false, List, [], ◌∷◌, ◌++◌, map, length, take, drop, Vec, Global, Option, Some, None, refl, sym, ap, ◌∙◌, subst, arith, inl, inr, ◌⊎◌}
+use Rattle.std.proofs.Common.{◌≡◌, ◌≤◌, ℕ, Bool, true, false, List, [], ◌∷◌, ◌++◌, map, length, take, drop, Vec, Global, Some, None, refl, sym, ap, ◌∙◌, subst, arith, inl, inr, ◌⊎◌}
 use Rattle.std.specs.List.{AllByRecursion}
 use Rattle.std.proofs.lemmas.List.{append-nil, map-append, take-append-drop}
 use Rattle.std.proofs.Math.Seq.{take-append_seam, drop-append_seam, take-length}
@@ -10,7 +10,7 @@ use Rattle.jls_splice.proofs.Paths.{length-map}
 use Rattle.jls_splice_groups.specs.Groups.{CoverParts, IsGroup}
 use Rattle.jls_splice_groups.specs.declared.group.Group.{Group}
 use Rattle.jls_group_search.specs.OfGroups.{IsOfGroup}
-use Rattle.jls_group_search.specs.Found.{IsFound, by_groups_of, choices_by}
+use Rattle.jls_group_search.specs.Found.{AreGroupTries, IsFound, by_groups_of}
 use Rattle.jls_group_search.specs.declared.found.GroupsTold.{GroupsTold}
 
 abbrev items_of : Vec ℕ Global → List ℕ
@@ -32,6 +32,14 @@ module _ (vs more : List (Vec ℕ Global)) (n : ℕ) (at : n ≡ length vs) wher
   back_is =
       ap (λ (k : ℕ). drop k (lists_of (vs ++ more))) (at ∙ sym (count_of vs)) ∙ ap (drop (length (lists_of vs))) (lists_append vs more)
       ∙ drop-append_seam (lists_of vs) (lists_of more)
+
+  -- a search by groups that found those after them
+  pub group_tries : (limit : ℕ) (told : GroupsTold) → told.tries ≤ limit → (told.is_used_up ≡ true → (told.tries ≡ limit) ⊎ (length more ≡ 64))
+      → AreGroupTries limit (by_groups_of (drop n (lists_of (vs ++ more))) told)
+  group_tries limit told within used = record {
+    within = within;
+    used_up = λ u. elim (used u) [ inl all ↦ inl all | inr found ↦ inr (ap length back_is ∙ count_of more ∙ found) ];
+  }
 
 pub all_is : (vs : List (Vec ℕ Global)) (n : ℕ) → n ≡ length vs → take n (lists_of vs) ≡ lists_of vs
 all_is vs n at = ap (λ (k : ℕ). take k (lists_of vs)) (at ∙ sym (count_of vs)) ∙ take-length (lists_of vs)

@@ -1,10 +1,10 @@
 -- Paths that outside of a group take what a copy has, one choice longer and shorter.
-use Rattle.std.proofs.Common.{◌≡◌, ℕ, ◌<◌, List, [], ◌∷◌, ◌++◌, length, refl, sym, subst, arith, ◌⊎◌, inl, inr, length-append}
+use Rattle.std.proofs.Common.{◌≡◌, ℕ, ◌<◌, List, [], ◌∷◌, ◌++◌, length, refl, sym, subst, arith, inl, inr, length-append}
 use Rattle.std.specs.Prelude.{get_or}
 use Rattle.std.proofs.Math.ListN.{get_or-append}
 use Rattle.std.proofs.Math.Seq.{get_or-append_seam}
 use Rattle.jls_parts.specs.Parts.{Part, Same, Differ, way}
-use Rattle.jls_splice.specs.Choices.{IsFirstWay, IsPath}
+use Rattle.jls_splice.specs.Choices.{IsFirstWay}
 use Rattle.jls_splice.proofs.Paths.{order, path_back, path_more}
 use Rattle.jls_splice_groups.specs.Groups.{IsInside}
 use Rattle.jls_group_search.specs.OfGroups.{HasCopy, IsCopyOutside, IsSet}

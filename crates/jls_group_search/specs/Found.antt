@@ -1,5 +1,5 @@
 -- What was found in some copies: by the search of all splices, and by groups where that was cut off or came to nothing.
-use Rattle.std.specs.Prelude.{◌≡◌, ℕ, ◌↔◌, Bool, true, List, [], ◌++◌, length, take, drop, Option, Some, None, IsSome, IfSome, option_map, ◌⊎◌}
+use Rattle.std.specs.Prelude.{◌≡◌, ◌≤◌, ℕ, ◌↔◌, Bool, true, List, [], ◌++◌, length, take, drop, Option, Some, None, IsSome, IfSome, option_map, ◌⊎◌}
 use Rattle.std.specs.List.{AllByRecursion}
 use Rattle.jls_parts.specs.Parts.{Part, AreParts}
 use Rattle.jls_parts.specs.PartsOf.{parts_of}
@@ -10,14 +10,16 @@ use Rattle.jls_splice_groups.specs.declared.group.Group.{Group}
 use Rattle.jls_group_search.specs.declared.found.GroupsTold.{GroupsTold}
 use Rattle.jls_group_search.specs.declared.found.FoundSplices.{FoundSplices}
 
--- what a search by groups came to: how many groups there are, the splices, each as its choices, and whether it was cut off
+-- what a search by groups came to: how many groups there are, how much it tried, the splices, each as its choices, and whether it was cut
+-- off
 pub record ByGroups : Type 0 where
   pub groups : ℕ
+  pub tries : ℕ
   pub choices : List (List ℕ)
   pub is_used_up : Bool
 
--- the parts of the copies; the splices that the search of all came to, each as its choices, and whether it was cut off; and what a search by
--- groups came to, if there was one
+-- the parts of the copies; the splices that the search of all came to, each as its choices, and whether it was cut off; and what a search
+-- by groups came to, if there was one
 pub record Found : Type 0 where
   pub parts : List Part
   pub choices : List (List ℕ)
@@ -31,6 +33,11 @@ pub record IsByGroups (parts : List Part) (b : ByGroups) : Type 0 where
   pub cover : CoverParts parts groups
   pub count_is : b.groups ≡ length groups
   pub each : AllByRecursion (IsOfGroup parts) b.choices
+
+-- a search by groups tried so much at most; and where it was cut off, it tried all of that, or it found 64 splices
+pub record AreGroupTries (limit : ℕ) (b : ByGroups) : Type 0 where
+  pub within : b.tries ≤ limit
+  pub used_up : b.is_used_up ≡ true → (b.tries ≡ limit) ⊎ (length b.choices ≡ 64)
 
 -- a search over these copies found it; groups were searched where the search of all splices was cut off or came to nothing, and only there
 pub record IsFound (copies : List (List ℕ)) (f : Found) : Type 0 where
@@ -51,7 +58,12 @@ splices_in f = files_of f.parts (f.choices ++ choices_by f.by_groups)
 -- As the code has it -----------------------------------------------------------------------------------------------
 
 abbrev pub by_groups_of : List (List ℕ) → GroupsTold → ByGroups
-by_groups_of choices told = record { groups = told.groups; choices = choices; is_used_up = told.is_used_up }
+by_groups_of choices told = record {
+  groups = told.groups;
+  tries = told.tries;
+  choices = choices;
+  is_used_up = told.is_used_up;
+}
 
 abbrev pub found_of : FoundSplices → Found
 found_of s = record {

@@ -1,13 +1,13 @@
 //! What is found in some copies by both searches.
 
-ghost use Rattle.std.specs.Prelude.{◌≡◌, ◌≢◌, ◌<◌, ◌≤◌, ◌⊎◌, true, false, length, IfOk};
+ghost use Rattle.std.specs.Prelude.{◌≡◌, ◌≢◌, ◌<◌, ◌≤◌, ◌⊎◌, true, false, length, IfOk, IfSome};
 ghost use Rattle.std.specs.List.{AllByRecursion};
 ghost use Rattle.jls_parts.specs.Parts.{AreParts};
 ghost use Rattle.jls_parts.specs.PartsOf.{bytes_of, parts_of};
 ghost use Rattle.jls_splice.specs.Choices.{IsWhole};
 ghost use Rattle.jls_splice.specs.Search.{CameTo, files_of, lists_of};
 ghost use Rattle.jls_splice.specs.SearchLaws.{AreShort};
-ghost use Rattle.jls_group_search.specs.Found.{IsFound, found_of, splices_in};
+ghost use Rattle.jls_group_search.specs.Found.{AreGroupTries, IsFound, found_of, splices_in};
 
 use crate::search::{SearchedGroups, search_groups};
 use jls_parts::Part;
@@ -19,6 +19,8 @@ use std::alloc::{AllocError, Global};
 pub struct GroupsTold {
     /// How many groups there are.
     pub groups: usize,
+    /// How many prefixes and files were tried.
+    pub tries: u32,
     /// Whether the search was cut off.
     pub is_used_up: bool,
 }
@@ -48,6 +50,19 @@ fn wants_groups(is_used_up: bool, whole: usize) -> bool
     is_used_up || whole == 0
 }
 
+/// What is told of a search by groups.
+fn told_of(by: &SearchedGroups) -> GroupsTold
+    ensures groups { result.groups ≡ length by.now.groups.items }
+    ensures tries { result.tries ≡ by.now.searched.tries }
+    ensures is_used_up { result.is_used_up ≡ by.now.searched.is_used_up }
+{
+    GroupsTold {
+        groups: by.groups.len(),
+        tries: by.searched.tries,
+        is_used_up: by.searched.is_used_up,
+    }
+}
+
 /// What the search of all splices found, and what groups give where it was cut off or came to nothing. That search has its own tries, so
 /// many at most. `Err` comes where memory is refused.
 pub fn complete_by_groups<'a>(
@@ -61,12 +76,15 @@ pub fn complete_by_groups<'a>(
     requires parts { AreParts (bytes_of copies.now) (parts_of found.parts.items) }
     requires searched { CameTo (parts_of found.parts.items) (lists_of found.searched.splices.items) found.searched.is_used_up }
     ensures found { IfOk result (λ more. IsFound (bytes_of copies.now) (found_of more)) }
+    ensures parts_kept { IfOk result (λ more. more.parts.items ≡ found.entry.parts.items) }
     ensures tries { IfOk result (λ more. more.tries ≡ found.entry.searched.tries) }
     ensures used_up { IfOk result (λ more. more.is_used_up ≡ found.entry.searched.is_used_up) }
     ensures kept { IfOk result (λ more. (found_of more).choices ≡ lists_of found.entry.searched.splices.items) }
-    ensures splices { IfOk result (λ more. files_of (parts_of more.parts.items) (lists_of more.splices.items) ≡ splices_in (found_of more)) }
+    ensures splices { IfOk result
+        (λ more. files_of (parts_of more.parts.items) (lists_of more.splices.items) ≡ splices_in (found_of more)) }
     ensures each { IfOk result (λ more. AllByRecursion (IsWhole (parts_of more.parts.items)) (lists_of more.splices.items)) }
     ensures whole { IfOk result (λ more. more.whole ≤ length more.splices.items) }
+    ensures of_groups { IfOk result (λ more. IfSome (found_of more).by_groups (AreGroupTries limit)) }
 {
     let SearchedCopies { parts, searched } = found;
     let Searched {
@@ -87,21 +105,13 @@ pub fn complete_by_groups<'a>(
         });
     }
     let by = search_groups(alloc, copies, &parts, limit)?;
-    let SearchedGroups {
-        groups,
-        searched: of_groups,
-    } = by;
+    let told = told_of(&by);
+    let SearchedGroups { searched, .. } = by;
     let Searched {
         splices: mut given,
-        is_used_up: is_cut_off,
         ..
-    } = of_groups;
-    let count = groups.len();
+    } = searched;
     splices.append(&mut given)?;
-    let told = GroupsTold {
-        groups: count,
-        is_used_up: is_cut_off,
-    };
     Ok(FoundSplices {
         parts,
         splices,

@@ -5,4 +5,5 @@ mod FaultlessFiles
 mod Searching
 pub mod Walks
 mod Lengths
+mod KeptReaders
 pub mod FoundFiles

@@ -115,3 +115,15 @@ path_at ps [] i h l = absurd (omega (arith, l))
 path_at [] (c ∷ cs) i h l = absurd h
 path_at (p ∷ ps) (c ∷ cs) zero h l = (omega arith, h.0)
 path_at (p ∷ ps) (c ∷ cs) (suc i) h l = let r = path_at ps cs i h.1 (omega (arith, l)) in (omega (arith, r.0), r.1)
+
+-- what stands behind a path stands behind the path and one choice more
+pub behind_longer : (cs : List ℕ) (c : ℕ) (ds : List ℕ) → IsBehind cs ds → IsBehind (cs ++ c ∷ []) ds
+behind_longer [] c ds h = absurd h
+behind_longer (p ∷ cs) c [] h = absurd h
+behind_longer (p ∷ cs) c (d ∷ ds) (inl less) = inl less
+behind_longer (p ∷ cs) c (d ∷ ds) (inr (e, h)) = inr (e, behind_longer cs c ds h)
+
+-- a later choice in the place of the last
+pub next_behind : (cs : List ℕ) (p q : ℕ) → p < q → IsBehind (cs ++ p ∷ []) (cs ++ q ∷ [])
+next_behind [] p q less = inl less
+next_behind (c ∷ cs) p q less = inr (refl, next_behind cs p q less)

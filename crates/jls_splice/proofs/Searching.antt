@@ -9,7 +9,7 @@ use Rattle.jls_parts.specs.Parts.{Part, Same, Differ, way, HasWays, IsSplice}
 use Rattle.jls_splice.specs.Choices.{IsFirstWay, IsPath, IsWhole, front_of}
 use Rattle.jls_splice.specs.Order.{IsToCome, IsBehind}
 use Rattle.jls_splice.specs.Faultless.{IsFaultless, IsDead}
-use Rattle.jls_splice.specs.Search.{HasEachSplice, MakeFiles, files_of, MakesFile, StandsAt, IsOver, GoesOn}
+use Rattle.jls_splice.specs.Search.{HasEachSplice, MakeFiles, files_of, MakesFile, StandsAt, IsOver, GoesOn, IsStep}
 use Rattle.jls_splice.proofs.Paths.{order}
 
 -- Choices of a splice ----------------------------------------------------------------------------------------------
@@ -174,3 +174,10 @@ at_start ps path is kept = record { is_path = is; files = tt; all = λ choices f
 pub on_ok : {A B : Type 0} (r : Result A B) (P : Type 0) → P → IfOk r (λ _. P)
 on_ok (Ok x) P h = h
 on_ok (Err e) P h = tt
+
+-- a path that is passed by
+pub turned_step : (r : Result Bool AllocError) (path next : List ℕ) (found more_found : List (List ℕ))
+    → (more_found ≡ found) ⊎ (more_found ≡ found ++ path ∷ []) → IfOk r (λ more. more ≡ true → IsBehind path next)
+    → IfOk r (λ more. IsStep path found next more_found more)
+turned_step (Ok more) path next found more_found has h = (has, λ t. inr (h t))
+turned_step (Err e) path next found more_found has h = tt

@@ -25,7 +25,8 @@ EndsWell (Header f offset) = ⊥
 -- a piece of the course reads as lines that have the reading, or the head of the piece that the input's end cuts off has it
 abbrev pub Gives : Course → Reading → Type 0
 Gives c r =
-    ((p : FoundPiece) × Contains (pieces c) p × (lines : List (List ℕ)) × IsOutcome p (Lines lines) × Contains (readings_of p (Lines lines)) r)
+    ((p : FoundPiece) × Contains (pieces c) p × (lines : List (List ℕ)) × IsOutcome p (Lines lines)
+    × Contains (readings_of p (Lines lines)) r)
     ⊎ ((p : FoundPiece) × Contains (cut_pieces c) p × (head : List (List ℕ)) × IsHeadAt p.plan p.number p.bytes head
     × Contains (readings_of p (Lines head)) r)
 

@@ -1,13 +1,14 @@
 -- What a search has found, and what it has still to come to.
-use Rattle.std.specs.Prelude.{◌≡◌, ℕ, ◌-◌, ◌^◌, ◌<◌, ◌≤◌, Bool, true, false, List, length, map, max, ◌⊎◌}
+use Rattle.std.specs.Prelude.{◌≡◌, ℕ, ◌+◌, ◌++◌, ◌∷◌, [], ◌-◌, ◌^◌, ◌<◌, ◌≤◌, Bool, true, false, List, length, map, max, Option, Some, None, IfSome, ◌⊎◌}
 use Rattle.std.specs.List.{AllByRecursion, Contains}
 use Rattle.std.specs.declared.vec.Vec.{Vec}
 use Rattle.std.specs.declared.alloc.Global.{Global}
 use Rattle.jls_parts.specs.Parts.{Part, HasWays, IsSplice}
 use Rattle.jls_splice.specs.Choices.{IsPath, IsWhole, front_of}
 use Rattle.jls_splice.specs.Faultless.{IsFaultless}
-use Rattle.jls_splice.specs.Order.{IsToCome, IsBehind}
+use Rattle.jls_splice.specs.Order.{Goes, IsToCome, IsBehind}
 use Rattle.jls_splice.specs.declared.whole_search.WholeSearch.{WholeSearch}
+use Rattle.jls_splice.specs.declared.kept.KeptReader.{KeptReader}
 use Rattle.jls_splice.specs.declared.looking.Sight.{Sight}
 use Rattle.jls_splice.specs.declared.looking.Sight.TheVariants.{Dead, Open, Found}
 
@@ -63,16 +64,55 @@ abbrev pub GoesOn : List Part → List ℕ → List (List ℕ) → Bool → Type
 GoesOn parts path found true = StandsAt parts path found
 GoesOn parts path found false = IsOver parts found
 
--- A search over the parts has come so far: each splice without a fault is one that it found, or is still to come
+-- what is found and tried next behind a path: its file is found, or nothing is; and what is tried next begins with the path, or stands
+-- behind all that do
+abbrev pub IsStep : List ℕ → List (List ℕ) → List ℕ → List (List ℕ) → Bool → Type 0
+IsStep path found next found' more =
+    ((found' ≡ found) ⊎ (found' ≡ found ++ path ∷ [])) × (more ≡ true → Goes path next ⊎ IsBehind path next)
+
+-- a reader that is kept was fed what its choices make
+abbrev pub IsKept : List Part → KeptReader → Type 0
+IsKept parts k = k.reader ≡ Some (front_of parts k.choices.items)
+
+-- A search over the parts has come so far: each splice without a fault is one that it found, or is still to come. The reader that it keeps
+-- was fed what its choices make
 abbrev pub IsSearch : List Part → WholeSearch → Type 0
-IsSearch parts s = GoesOn parts s.path.items (lists_of s.splices.items) s.goes_on × (length (lists_of s.splices.items) ≤ 64)
+IsSearch parts s =
+    GoesOn parts s.path.items (lists_of s.splices.items) s.goes_on × (length (lists_of s.splices.items) ≤ 64) × IfSome s.kept (IsKept parts)
 
 -- it can go on: there is more to try, fewer tries than these were made, and fewer than 64 files were found
 abbrev pub CanGoOn : WholeSearch → ℕ → Type 0
 CanGoOn s limit = (s.goes_on ≡ true) × (s.tries < limit) × (length (lists_of s.splices.items) < 64)
 
+-- One try more: the file of its path was found, or nothing was; and what is tried next begins with the path, or stands behind all that do
+pub record IsTry (parts : List Part) (old new : WholeSearch) : Type 0 where
+  pub goes_on : old.goes_on ≡ true
+  pub stands : IsSearch parts new
+  pub counted : new.tries ≡ old.tries + 1
+  pub step : IsStep old.path.items (lists_of old.splices.items) new.path.items (lists_of new.splices.items) new.goes_on
+
+-- tries, one behind the other, take it from the first to the second
+pub data Tried (parts : List Part) : WholeSearch → WholeSearch → Type 0 where
+  nothing : (s : WholeSearch) → Tried parts s s
+  one_more : (old mid new : WholeSearch) → Tried parts old mid → IsTry parts mid new → Tried parts old new
+
+-- it has tried nothing
+abbrev pub IsBegun : WholeSearch → Type 0
+IsBegun s = (s.tries ≡ 0) × (s.splices.items ≡ []) × (s.goes_on ≡ true)
+
+-- so many tries, from the begin of a search over the parts on, found these
+pub record WereTried (parts : List Part) (tries : ℕ) (found : List (List ℕ)) : Type 0 where
+  pub begun : WholeSearch
+  pub is_begun : IsBegun begun
+  pub stands : IsSearch parts begun
+  pub last : WholeSearch
+  pub tried : Tried parts begun last
+  pub tries_are : last.tries ≡ tries
+  pub found_are : lists_of last.splices.items ≡ found
+
 -- it went on up to so many tries in all: it has forgotten none, and has made one at least, where it could go on
-pub record GoesFrom (old new : WholeSearch) (limit : ℕ) : Type 0 where
+pub record GoesFrom (parts : List Part) (old new : WholeSearch) (limit : ℕ) : Type 0 where
+  pub tried : Tried parts old new
   pub tries : old.tries ≤ new.tries
   pub files : length (lists_of old.splices.items) ≤ length (lists_of new.splices.items)
   pub within : new.tries ≤ max old.tries limit
@@ -83,5 +123,10 @@ pub record GoesFrom (old new : WholeSearch) (limit : ℕ) : Type 0 where
 -- what is seen of a path
 abbrev pub IsSeen : List Part → List ℕ → Sight → Type 0
 IsSeen parts path Dead = (choices : List ℕ) → MakesFile parts choices → IsToCome path choices → IsBehind path choices
-IsSeen parts path Open = length path < length parts
+IsSeen parts path (Open reader) = (length path < length parts) × IfSome reader (λ fed. fed ≡ Some (front_of parts path))
 IsSeen parts path Found = (length path ≡ length parts) × IsFaultless (front_of parts path)
+
+-- what is kept: a reader with the path that it was fed; where there is none, what was kept before
+abbrev pub Keeps : Option KeptReader → Option (Option (List ℕ)) → List ℕ → Option KeptReader → Type 0
+Keeps old None path new = new ≡ old
+Keeps old (Some reader) path new = (k : KeptReader) × (new ≡ Some k) × (k.reader ≡ reader) × (k.choices.items ≡ path)

@@ -1,6 +1,6 @@
 //! Splices and their fronts, fed to a reader of copies.
 
-ghost use Rattle.std.specs.Prelude.{◌≡◌, ℕ, ◌+◌, ◌-◌, ◌^◌, ◌<◌, ◌≤◌, [], length, get_or, OnOk, IfSome};
+ghost use Rattle.std.specs.Prelude.{◌≡◌, ℕ, ◌+◌, ◌-◌, ◌^◌, ◌<◌, ◌≤◌, [], length, get_or, Some, IfOk, OnOk, IfSome};
 ghost use Rattle.std.specs.List.{AllByRecursion};
 ghost use Rattle.jls_copy.specs.ReadCopy.{after};
 ghost use Rattle.jls_parts.specs.PartsOf.{part_of, parts_of};
@@ -9,7 +9,7 @@ ghost use Rattle.jls_splice.specs.Choices.{IsFirstWay, IsPath, front_of};
 
 use jls_copy::CopyReader;
 use jls_parts::Part;
-use std::alloc::AllocError;
+use std::alloc::{AllocError, Global};
 
 /// What a choice takes of a part.
 fn way_of<'a>(part: &Part<'a>, choice: usize) -> &'a [u8]
@@ -57,4 +57,19 @@ pub fn feed_front(
         feed_way(reader, way_at(parts, place, choices[place]))?;
     }
     Ok(())
+}
+
+/// A reader that was fed what the path makes.
+pub fn reader_of(
+    alloc: Global,
+    parts: &[Part<'_>],
+    path: &[usize],
+) -> Result<CopyReader, AllocError>
+    requires path { IsPath (parts_of parts.now) path.now }
+    requires few { length (front_of (parts_of parts.now) path.now) ≤ 2 ^ 63 - 1 }
+    ensures { IfOk result (λ reader. reader ≡ Some (front_of (parts_of parts.now) path.now)) }
+{
+    let mut reader = CopyReader::new(alloc);
+    feed_front(&mut reader, parts, path)?;
+    Ok(reader)
 }

@@ -4,6 +4,7 @@
 mod copies;
 mod faultless;
 mod feeding;
+mod kept;
 mod laws;
 mod lines;
 mod looking;
@@ -13,9 +14,9 @@ mod whole_search;
 
 pub use copies::{SearchedCopies, search_copies};
 pub use faultless::{is_dead, is_faultless, is_read_faultless};
-pub use feeding::{feed_front, way_at};
+pub use feeding::{feed_front, reader_of, way_at};
+pub use kept::KeptReader;
 pub use laws::{parts_can_be_searched, searches_come_to_each_splice};
-pub use looking::reader_of;
 pub use path::next_way_at;
 pub use short::are_short;
 pub use whole_search::{MOST_FOUND, Searched, WholeSearch, search};

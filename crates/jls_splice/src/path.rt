@@ -1,11 +1,11 @@
 //! Paths of the search: a way for each of the first parts.
 
-ghost use Rattle.std.specs.Prelude.{◌≡◌, ℕ, List, ◌<◌, ◌≤◌, ◌↔◌, map, length, get_or, [], true, false, IsTrue, IfOk, IfSome, IfNone, OnOk};
+ghost use Rattle.std.specs.Prelude.{◌≡◌, ℕ, List, ◌<◌, ◌≤◌, ◌↔◌, ◌++◌, map, length, get_or, [], true, false, IsTrue, IfOk, IfSome, IfNone, OnOk};
 ghost use Rattle.std.specs.List.{AllByRecursion};
 ghost use Rattle.jls_parts.specs.PartsOf.{part_of, parts_of};
 ghost use Rattle.jls_parts.specs.Parts.{Same};
 ghost use Rattle.jls_splice.specs.Choices.{IsNew, IsFirstWay, IsPath, IsWhole, HasSomeWay};
-ghost use Rattle.jls_splice.specs.Order.{IsToCome, IsBehind};
+ghost use Rattle.jls_splice.specs.Order.{Goes, IsToCome, IsBehind};
 
 use jls_parts::Part;
 use std::alloc::AllocError;
@@ -45,6 +45,7 @@ fn next_way(part: &Part<'_>, behind: usize) -> Option<usize>
     requires { IsFirstWay (part_of part.now) behind }
     ensures some { IfSome result (λ choice. IsFirstWay (part_of part.now) choice
         × ((other : ℕ) → behind < other → other < choice → ¬ IsFirstWay (part_of part.now) other)) }
+    ensures rises { IfSome result (λ choice. behind < choice) }
     ensures none { IfNone result ((other : ℕ) → behind < other → ¬ IsFirstWay (part_of part.now) other) }
 {
     match part {
@@ -59,6 +60,7 @@ pub fn next_way_at(parts: &[Part<'_>], place: usize, behind: usize) -> Option<us
     requires first { IsFirstWay (get_or (parts_of parts.now) place (Same [])) behind }
     ensures some { IfSome result (λ choice. IsFirstWay (get_or (parts_of parts.now) place (Same [])) choice
         × ((other : ℕ) → behind < other → other < choice → ¬ IsFirstWay (get_or (parts_of parts.now) place (Same [])) other)) }
+    ensures rises { IfSome result (λ choice. behind < choice) }
     ensures none { IfNone result ((other : ℕ) → behind < other → ¬ IsFirstWay (get_or (parts_of parts.now) place (Same [])) other) }
 {
     next_way(&parts[place], behind)
@@ -86,6 +88,7 @@ fn is_same_at(parts: &[Part<'_>], place: usize) -> bool
 pub(crate) fn follow_same(parts: &[Part<'_>], path: &mut Vec<usize>) -> Result<(), AllocError>
     requires { IsPath (parts_of parts.now) path.old.items }
     ensures path { OnOk result (IsPath (parts_of parts.now) path.new.items) }
+    ensures grew { OnOk result ((more : List ℕ) × (path.new.items ≡ path.old.items ++ more)) }
     ensures kept { OnOk result
         ((choices : List ℕ) → IsWhole (parts_of parts.now) choices → IsToCome path.old.items choices → IsToCome path.new.items choices) }
 {
@@ -101,6 +104,7 @@ pub(crate) fn descend(parts: &[Part<'_>], path: &mut Vec<usize>) -> Result<(), A
     requires more { length path.old.items < length parts.now }
     requires some_way { AllByRecursion HasSomeWay (parts_of parts.now) }
     ensures path { OnOk result (IsPath (parts_of parts.now) path.new.items) }
+    ensures grew { OnOk result (Goes path.old.items path.new.items) }
     ensures kept { OnOk result
         ((choices : List ℕ) → IsWhole (parts_of parts.now) choices → IsToCome path.old.items choices → IsToCome path.new.items choices) }
 {
@@ -112,6 +116,7 @@ pub(crate) fn descend(parts: &[Part<'_>], path: &mut Vec<usize>) -> Result<(), A
 pub(crate) fn turn(parts: &[Part<'_>], path: &mut Vec<usize>) -> Result<bool, AllocError>
     requires { IsPath (parts_of parts.now) path.old.items }
     ensures path { IfOk result (λ more. more ≡ true → IsPath (parts_of parts.now) path.new.items) }
+    ensures behind { IfOk result (λ more. more ≡ true → IsBehind path.old.items path.new.items) }
     ensures to_come { IfOk result (λ more. more ≡ true →
         (choices : List ℕ) → IsWhole (parts_of parts.now) choices → IsBehind path.old.items choices → IsToCome path.new.items choices) }
     ensures none { IfOk result (λ more. more ≡ false →

@@ -1,13 +1,15 @@
 //! The whole search.
 
-ghost use Rattle.std.specs.Prelude.{◌≡◌, ◌↔◌, List, ◌+◌, ◌≤◌, ◌⊎◌, ◌∷◌, ◌++◌, [], true, false, length, IsTrue, IfOk, OnOk};
+ghost use Rattle.std.specs.Prelude.{◌≡◌, ◌↔◌, List, ◌+◌, ◌≤◌, ◌⊎◌, ◌∷◌, ◌++◌, [], true, false, length, IsTrue, IfOk, IfSome, OnOk};
 ghost use Rattle.std.specs.List.{AllByRecursion};
 ghost use Rattle.jls_parts.specs.Parts.{Part as SpecPart};
 ghost use Rattle.jls_parts.specs.PartsOf.{parts_of};
 ghost use Rattle.jls_splice.specs.Choices.{HasSomeWay, front_of};
 ghost use Rattle.jls_splice.specs.Faultless.{IsFaultless};
-ghost use Rattle.jls_splice.specs.Search.{IsShort, IsSearch, CanGoOn, GoesFrom, CameTo, HasEachSplice, MakeFiles, files_of, lists_of, StandsAt, GoesOn};
+ghost use Rattle.jls_splice.specs.Search.{IsShort, IsBegun, IsKept, IsSearch, IsStep, CanGoOn, GoesFrom, GoesOn, WereTried, StandsAt};
+ghost use Rattle.jls_splice.specs.Search.{CameTo, HasEachSplice, MakeFiles, files_of, lists_of};
 
+use crate::kept::{KeptReader, keep};
 use crate::looking::{Sight, look};
 use crate::path::{descend, follow_same, turn};
 use jls_parts::Part;
@@ -49,6 +51,7 @@ fn pass_found(
     ensures next { IfOk result (λ more. GoesOn (parts_of parts.now) path.new.items (lists_of found.new.items) more) }
     ensures count { IfOk result (λ more. (length (lists_of found.old.items) ≤ length (lists_of found.new.items))
         × (length (lists_of found.new.items) ≤ length (lists_of found.old.items) + 1)) }
+    ensures step { IfOk result (λ more. IsStep path.old.items (lists_of found.old.items) path.new.items (lists_of found.new.items) more) }
 {
     take_found(alloc, path, found)?;
     turn(parts, path)
@@ -60,17 +63,22 @@ fn try_next(
     parts: &[Part<'_>],
     path: &mut Vec<usize>,
     found: &mut Vec<Vec<usize>>,
+    kept: &mut Option<KeptReader>,
 ) -> Result<bool, AllocError>
     requires some_way { AllByRecursion HasSomeWay (parts_of parts.now) }
     requires short { IsShort (parts_of parts.now) }
     requires stands { StandsAt (parts_of parts.now) path.old.items (lists_of found.old.items) }
+    requires kept { IfSome kept.old (IsKept (parts_of parts.now)) }
     ensures next { IfOk result (λ more. GoesOn (parts_of parts.now) path.new.items (lists_of found.new.items) more) }
     ensures count { IfOk result (λ more. (length (lists_of found.old.items) ≤ length (lists_of found.new.items))
         × (length (lists_of found.new.items) ≤ length (lists_of found.old.items) + 1)) }
+    ensures step { IfOk result (λ more. IsStep path.old.items (lists_of found.old.items) path.new.items (lists_of found.new.items) more) }
+    ensures kept { OnOk result (IfSome kept.new (IsKept (parts_of parts.now))) }
 {
-    let sight = look(alloc, parts, path)?;
+    let sight = look(alloc, parts, kept, path)?;
     match sight {
-        Sight::Open => {
+        Sight::Open(reader) => {
+            keep(alloc, kept, reader, path)?;
             descend(parts, path)?;
             Ok(true)
         }
@@ -92,13 +100,15 @@ pub struct WholeSearch {
     pub goes_on: bool,
     /// What is tried next: a choice for each of the first parts.
     pub path: Vec<usize>,
+    /// The reader of the last path that was left open. Paths that begin so are read from there on, and not from their first byte.
+    pub kept: Option<KeptReader>,
 }
 
 impl WholeSearch {
     /// A search that has tried nothing.
     pub fn begin(alloc: Global, parts: &[Part<'_>]) -> Result<WholeSearch, AllocError>
         ensures stands { IfOk result (λ begun. IsSearch (parts_of parts.now) begun) }
-        ensures untried { IfOk result (λ begun. (begun.tries ≡ 0) × (begun.splices.items ≡ []) × (begun.goes_on ≡ true)) }
+        ensures untried { IfOk result (λ begun. IsBegun begun) }
     {
         let mut path = Vec::new(alloc);
         follow_same(parts, &mut path)?;
@@ -107,6 +117,7 @@ impl WholeSearch {
             tries: 0,
             goes_on: true,
             path,
+            kept: None,
         })
     }
 
@@ -124,11 +135,17 @@ impl WholeSearch {
         requires stands { IsSearch (parts_of parts.now) self.old }
         ensures stands { OnOk result (IsSearch (parts_of parts.now) self.new) }
         ensures stops { OnOk result (CanGoOn self.new limit → ⊥) }
-        ensures went { OnOk result (GoesFrom self.old self.new limit) }
+        ensures went { OnOk result (GoesFrom (parts_of parts.now) self.old self.new limit) }
     {
         while self.can_go_on(limit) {
             self.tries += 1;
-            self.goes_on = try_next(alloc, parts, &mut self.path, &mut self.splices)?;
+            self.goes_on = try_next(
+                alloc,
+                parts,
+                &mut self.path,
+                &mut self.splices,
+                &mut self.kept,
+            )?;
         }
         Ok(())
     }
@@ -163,6 +180,7 @@ pub fn search(alloc: Global, parts: &[Part<'_>], limit: u32) -> Result<Searched,
     ensures used_up { IfOk result
         (λ searched. searched.is_used_up ≡ true → (searched.tries ≡ limit) ⊎ (length searched.splices.items ≡ 64)) }
     ensures few { IfOk result (λ searched. (searched.tries ≤ limit) × (length searched.splices.items ≤ 64)) }
+    ensures tried { IfOk result (λ searched. WereTried (parts_of parts.now) searched.tries (lists_of searched.splices.items)) }
 {
     let mut begun = WholeSearch::begin(alloc, parts)?;
     begun.go_on(alloc, parts, limit)?;

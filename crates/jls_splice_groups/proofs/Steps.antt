@@ -5,7 +5,7 @@ use Rattle.std.specs.List.{AllByRecursion, Contains}
 use Rattle.std.proofs.lemmas.List.Elements.{Contains-append_left, Contains-append_right}
 use Rattle.jls_parts.specs.Parts.{Part, Same, Differ}
 use Rattle.jls_splice_groups.specs.Borders.{IsBorder, IsBorderOf}
-use Rattle.jls_splice_groups.specs.Groups.{Differs, IsGroup, IsInside, IsInSome, CoverParts, IsCovered, closed_groups, IsClosed, IsFound}
+use Rattle.jls_splice_groups.specs.Groups.{Differs, IsGroup, IsInSome, CoverParts, closed_groups, IsClosed, IsFound}
 use Rattle.jls_splice_groups.specs.declared.border.Border.{Border}
 use Rattle.jls_splice_groups.specs.declared.group.Group.{Group}
 use Rattle.jls_splice_groups.specs.declared.find.Found.{Found}

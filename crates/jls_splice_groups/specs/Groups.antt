@@ -41,7 +41,8 @@ IsCovered found place =
 -- the groups of `before`, and the one that is open in it, if one is, with this end
 abbrev pub closed_groups : Found → Option Border → List Group
 closed_groups before end =
-    if before.is_open then before.groups.items ++ (record { head = before.head; begin = before.begin; end = end }) ∷ [] else before.groups.items
+    if before.is_open then before.groups.items ++ (record { head = before.head; begin = before.begin; end = end }) ∷ []
+    else before.groups.items
 
 -- the group that is open, if one is, ends there
 pub record IsClosed (before : Found) (end : Option Border) (after : Found) : Type 0 where

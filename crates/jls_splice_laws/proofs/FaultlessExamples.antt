@@ -1,4 +1,4 @@
--- A file of two lines, two copies of it that are damaged at one place each, and their parts: the file is a splice of them without a fault.
+-- A file of two lines, two copies of it that are damaged at one place each, and their parts: the file is a splice of them without a fault, and undamaged.
 -- Headers alone have one, since no line is read. What doesn't begin with SOI has one, and can be given up.
 use Rattle.std.proofs.Common.{◌≡◌, ℕ, zero, suc, ◌<◌, List, [], ◌∷◌, Some, length, refl, sym, ap, ◌∙◌, subst, lit<, arith, inl, inr}
 use Rattle.std.specs.Prelude.{get_or}
@@ -17,10 +17,12 @@ use Rattle.jls_copy.specs.Course.{by_marker, CopyUnit, segment, scan, Course, Is
 use Rattle.jls_copy.specs.declared.end.End.TheVariants.{Eoi, Header}
 use Rattle.jls_copy.proofs.OneCourse.{one_course}
 use Rattle.jls_headline.proofs.Members.{none_in}
-use Rattle.jls_headline.proofs.TwoLineExamples.{shape, bits_8, frame_payload, scan_payload, pieces_read}
+use Rattle.jls_headline.proofs.FileExamples.{file_reads}
+use Rattle.jls_headline.proofs.TwoLineExamples.{shape, pic, bits_8, frame_payload, scan_payload, pieces_read, bytes_of_test}
 use Rattle.jls_parts.specs.Parts.{Part, Same, Differ, made, AreParts, IsSplice}
 use Rattle.jls_splice.specs.Faultless.{Gives, GivesEachLine, EndsWell, IsFaultless}
 use Rattle.jls_splice_laws.specs.Searches.{done, Searched, along, given_up}
+use Rattle.jls_splice_laws.specs.WholeFiles.{IsWholeFile}
 
 -- one scan, with a restart interval for each line
 abbrev plan : Scan
@@ -135,6 +137,18 @@ file_is_faultless = record {
   ends = tt;
   each = (((0 ∷ []) ∷ [], pieces_read.zero_read), (((255 ∷ []) ∷ [], pieces_read.largest_read), tt));
   whole = each_line;
+}
+
+-- and it is an undamaged file of its picture
+file_is_whole : IsWholeFile pic file
+unfolding file_is_faultless
+file_is_whole = record {
+  bytes = bytes_of_test file refl;
+  reads = file_reads.reads;
+  course = course;
+  is_course = is_course;
+  ends = tt;
+  each = file_is_faultless.each;
 }
 
 -- Headers alone ------------------------------------------------------------------------------------------------------

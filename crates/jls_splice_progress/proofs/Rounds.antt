@@ -3,7 +3,8 @@ use Rattle.std.proofs.Common.{◌≡◌, ℕ, zero, suc, ◌+◌, ◌*◌, ◌<�
 use Rattle.std.specs.Prelude.{min, OnOk, OnErr}
 use Rattle.std.proofs.lemmas.Bool.{cases_lt}
 use Rattle.jls_device.specs.Event.{Event}
-use Rattle.jls_splice.specs.Search.{CanGoOn, GoesFrom, lists_of}
+use Rattle.jls_parts.specs.Parts.{Part}
+use Rattle.jls_splice.specs.Search.{CanGoOn, GoesFrom, Tried, lists_of, nothing, one_more}
 use Rattle.jls_splice.specs.declared.whole_search.WholeSearch.{WholeSearch}
 use Rattle.jls_splice_progress.specs.Telling.{line, nothing_tried, GoesOn, HasTold, IsTold, TellsLine}
 use Rattle.jls_splice_progress.specs.declared.options.SearchOptions.{SearchOptions}
@@ -52,10 +53,10 @@ told_on options old new events more can h g =
     }
 
 -- a search that went on to a pause
-pub went_on : (options : SearchOptions) (old new : WholeSearch) (pause : ℕ) → pause ≡ min (old.tries + 64) options.tries
-    → CanGoOn old options.tries → (CanGoOn new pause → ⊥) → GoesFrom old new pause → (events : List Event)
+pub went_on : (parts : List Part) (options : SearchOptions) (old new : WholeSearch) (pause : ℕ) → pause ≡ min (old.tries + 64) options.tries
+    → CanGoOn old options.tries → (CanGoOn new pause → ⊥) → GoesFrom parts old new pause → (events : List Event)
     → TellsLine options.tells new.tries (length (lists_of new.splices.items)) events → GoesOn options old new events
-went_on options old new pause at can stops went events told =
+went_on parts options old new pause at can stops went events told =
     let below = can.1 in
     let within = went.within in
     let less = went.some (can.0, omega (arith, at, below), can.2) in
@@ -71,3 +72,8 @@ went_on options old new pause at can stops went events told =
           ];
       told = told;
     }
+
+-- tries behind tries
+pub tried_on : (parts : List Part) (a b c : WholeSearch) → Tried parts a b → Tried parts b c → Tried parts a c
+tried_on parts a _ _ t (nothing b) = t
+tried_on parts a _ _ t (one_more b mid c u more) = one_more a mid c (tried_on parts a b mid t u) more

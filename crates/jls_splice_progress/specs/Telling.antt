@@ -2,7 +2,8 @@
 use Rattle.std.specs.Prelude.{◌≡◌, ℕ, ◌+◌, ◌*◌, ◌<◌, ◌≤◌, Bool, true, false, List, [], ◌++◌, length}
 use Rattle.jls_device.specs.Event.{Event}
 use Rattle.jls_device.specs.Writing.{Printed}
-use Rattle.jls_splice.specs.Search.{CanGoOn, lists_of}
+use Rattle.jls_splice.specs.Search.{CanGoOn, IsBegun, IsSearch, Tried, lists_of}
+use Rattle.jls_parts.specs.Parts.{Part}
 use Rattle.jls_splice.specs.declared.whole_search.WholeSearch.{WholeSearch}
 use Rattle.jls_splice_lines.specs.Lines.{progress_line}
 use Rattle.jls_splice_progress.specs.declared.options.SearchOptions.{SearchOptions}
@@ -44,3 +45,7 @@ pub record HasTold (options : SearchOptions) (walk : WholeSearch) (events : List
   pub told : IsTold options.tells walk.tries (length (lists_of walk.splices.items)) events
   pub within : walk.tries ≤ options.tries
   pub paused : CanGoOn walk options.tries → (rounds : ℕ) × (walk.tries ≡ 64 * rounds)
+
+-- tries have taken it here from its begin
+abbrev pub WasBegun : List Part → WholeSearch → Type 0
+WasBegun parts walk = (begun : WholeSearch) × IsBegun begun × IsSearch parts begun × Tried parts begun walk

@@ -7,10 +7,10 @@ ghost use Rattle.jls_device.specs.Writing.{Printed};
 ghost use Rattle.jls_parts.specs.Parts.{AreParts};
 ghost use Rattle.jls_parts.specs.PartsOf.{bytes_of, parts_of};
 ghost use Rattle.jls_splice.specs.Choices.{HasSomeWay};
-ghost use Rattle.jls_splice.specs.Search.{CameTo, CanGoOn, IsSearch, IsShort, lists_of};
+ghost use Rattle.jls_splice.specs.Search.{CameTo, CanGoOn, IsSearch, IsShort, Tried, WereTried, lists_of};
 ghost use Rattle.jls_splice.specs.SearchLaws.{AreShort};
 ghost use Rattle.jls_splice_lines.specs.Lines.{progress_line};
-ghost use Rattle.jls_splice_progress.specs.Telling.{GoesOn, HasTold, IsTold, TellsLine, ToldSome};
+ghost use Rattle.jls_splice_progress.specs.Telling.{GoesOn, HasTold, IsTold, TellsLine, ToldSome, WasBegun};
 
 use crate::options::SearchOptions;
 use jls_device::{Sink, write_all};
@@ -84,6 +84,7 @@ fn go_on<E: Sink>(
     requires can { CanGoOn walk.old options.tries }
     ensures stands { OnOk result (IsSearch (parts_of parts.now) walk.new) }
     ensures fewer { OnOk result (walk.old.tries < walk.new.tries) }
+    ensures tried { OnOk result (Tried (parts_of parts.now) walk.old walk.new) }
     ensures told { OnOk result (GrewBy (GoesOn options walk.old walk.new) (E.history faults.old) (E.history faults.new)) }
     ensures untold { OnErr result (E.history faults.new ≡ E.history faults.old) }
 {
@@ -103,6 +104,7 @@ fn search_parts<E: Sink>(
     requires short { IsShort (parts_of parts.now) }
     ensures stands { IfOk result (λ walk. IsSearch (parts_of parts.now) walk) }
     ensures stops { IfOk result (λ walk. CanGoOn walk options.tries → ⊥) }
+    ensures tried { IfOk result (λ walk. WasBegun (parts_of parts.now) walk) }
     ensures told { IfOk result (λ walk. GrewBy (HasTold options walk) (E.history faults.old) (E.history faults.new)) }
     ensures told_some { OnErr result (GrewBy (ToldSome options.tells) (E.history faults.old) (E.history faults.new)) }
 {
@@ -130,6 +132,8 @@ pub fn search_and_tell<'a, E: Sink>(
     ensures used_up { IfOk result (λ found. found.searched.is_used_up ≡ true
         → (found.searched.tries ≡ options.tries) ⊎ (length (lists_of found.searched.splices.items) ≡ 64)) }
     ensures few { IfOk result (λ found. found.searched.tries ≤ options.tries) }
+    ensures tried { IfOk result (λ found.
+        WereTried (parts_of found.parts.items) found.searched.tries (lists_of found.searched.splices.items)) }
     ensures told { IfOk result (λ found.
         GrewBy (IsTold options.tells found.searched.tries (length (lists_of found.searched.splices.items)))
         (E.history faults.old) (E.history faults.new)) }

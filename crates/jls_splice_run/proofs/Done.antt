@@ -4,14 +4,13 @@ use Rattle.std.specs.Prelude.{◌↔◌, IsTrue}
 use Rattle.std.proofs.lemmas.List.{append-nil}
 use Rattle.jls_device.specs.Event.{Event, History, GrewBy}
 use Rattle.jls_device.proofs.Growing.{grew_twice}
-use Rattle.jls_partial.specs.Status.{IsSettled}
 use Rattle.jls_copy_files.specs.CopyFiles.{AreCopiesRead, CopyBytes}
 use Rattle.jls_splice_words.specs.Asking.{Asked}
 use Rattle.jls_splice_answers.specs.declared.outcome.Outcome.TheVariants.{Done, Refused}
 use Rattle.jls_splice_answers.specs.declared.outcome.Refusal.{Refusal}
 use Rattle.jls_splice_run.specs.Copies.{AreWhole, bytes_read, StopsAtCopies}
 use Rattle.jls_splice_run.specs.Handing.{HandsAll, StopsInHanding, Texts}
-use Rattle.jls_splice_run.specs.Making.{AreTextsOf, CantMake, HoldsMade, IsMade, Made, Tells}
+use Rattle.jls_splice_run.specs.Making.{AreTextsOf, CantMake, HoldsMade, Made}
 use Rattle.jls_splice_run.specs.Runs.{GrewAll, GrewBoth, Splices, at_copies, done, not_handed, not_made, texts, texts_held}
 use Rattle.jls_splice_run.specs.declared.made.Made.{Made as MadeValue}
 

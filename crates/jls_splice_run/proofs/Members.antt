@@ -1,11 +1,12 @@
 -- Members of the lists that the code holds.
-use Rattle.std.proofs.Common.{◌≡◌, ℕ, zero, suc, ◌<◌, ◌||◌, Bool, true, false, List, [], ◌∷◌, length, get_or, Bor, refl, ap, ◌∙◌, arith}
+use Rattle.std.proofs.Common.{◌≡◌, ℕ, zero, suc, ◌<◌, ◌||◌, Bool, true, false, List, [], ◌∷◌, length, get_or, Bor, refl, ap, ◌∙◌, arith, inl, inr}
 use Rattle.std.specs.Str.{bytes_eq}
 use Rattle.jls_copy_files.specs.CopyFiles.{copies_of}
 use Rattle.jls_copy_files.specs.declared.copy.CopyFile.{CopyFile}
 use Rattle.jls_parts.specs.PartsOf.{bytes_of}
 use Rattle.jls_station.specs.declared.input.ReadStop.TheVariants.{Whole}
-use Rattle.jls_splice_run.specs.Copies.{AreWhole, stops_read}
+use Rattle.jls_splicing.specs.Shapes.{IsCopyNamed}
+use Rattle.jls_splice_run.specs.Copies.{AreWhole, bytes_read, stops_read}
 use Rattle.jls_splice_run.specs.Files.{is_copy}
 use Rattle.jls_splice_run.specs.Tasks.{texts_of}
 
@@ -38,3 +39,13 @@ pub name_at : (names : List (Bor (List ℕ))) (i : ℕ) (d : Bor (List ℕ)) →
 name_at [] i d l = absurd (omega (arith, l))
 name_at (n ∷ ns) zero d l = refl
 name_at (n ∷ ns) (suc i) d l = name_at ns i d (omega (arith, l))
+
+-- a copy that is named is one of those that were read
+count_read : (copies : List CopyFile) → length (bytes_read (copies_of copies)) ≡ length copies
+count_read [] = refl
+count_read (c ∷ cs) = ap suc (count_read cs)
+
+pub named_within : (copies : List CopyFile) (read : List (List ℕ)) (copy : ℕ) → read ≡ bytes_read (copies_of copies) → 0 < length copies
+    → IsCopyNamed read copy → copy < length copies
+named_within copies read copy e some (inl other) = omega (arith, other.within, ap length e, count_read copies)
+named_within copies read copy e some (inr (none, zero_is)) = omega (arith, zero_is, some)

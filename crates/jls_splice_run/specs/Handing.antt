@@ -1,5 +1,5 @@
 -- What was made, handed out.
-use Rattle.std.specs.Prelude.{◌≡◌, ℕ, List, [], ◌∷◌, ◌++◌, Option, Some, None, codes}
+use Rattle.std.specs.Prelude.{◌≡◌, ℕ, List, [], ◌∷◌, ◌++◌, Option, Some, codes}
 use Rattle.jls_device.specs.Event.{Event, created, not_created}
 use Rattle.jls_device.specs.Writing.{Wrote, WroteFront}
 use Rattle.jls_commands.specs.Outputs.{HandsOut}

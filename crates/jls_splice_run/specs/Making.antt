@@ -1,5 +1,5 @@
 -- What is made of the copies.
-use Rattle.std.specs.Prelude.{◌≡◌, ◌≤◌, ◌↔◌, ◌⊎◌, ℕ, Bool, true, false, IsTrue, List, [], ◌++◌, Option, Some, None, codes, get_or, length, option_map, if◌then◌else◌}
+use Rattle.std.specs.Prelude.{◌≡◌, ◌≤◌, ◌↔◌, ◌⊎◌, ℕ, Bool, true, false, IsTrue, List, [], ◌++◌, Option, Some, None, IfSome, codes, get_or, length, option_map, if◌then◌else◌}
 use Rattle.std.specs.Str.{bytes_eq}
 use Rattle.jls_device.specs.Event.{Event}
 use Rattle.jls_marker.specs.declared.fault.MarkerFault.{MarkerFault}
@@ -7,7 +7,8 @@ use Rattle.jls_partial.specs.Partial.{PartialPicture, nothing_known}
 use Rattle.jls_partial.specs.Status.{IsSettled}
 use Rattle.jls_partial.specs.Text.{text}
 use Rattle.jls_parts.specs.Parts.{Part}
-use Rattle.jls_group_search.specs.Found.{ByGroups, Found, IsFound, found_of, splices_in}
+use Rattle.jls_splice.specs.Search.{WereTried}
+use Rattle.jls_group_search.specs.Found.{AreGroupTries, ByGroups, Found, IsFound, found_of, splices_in}
 use Rattle.jls_group_search.specs.declared.found.FoundSplices.{FoundSplices}
 use Rattle.jls_report.specs.Report.{report_of}
 use Rattle.jls_report.specs.ReportText.{report_text}
@@ -49,10 +50,13 @@ pub record Made : Type 0 where
   pub picture : PartialPicture
   pub single : Option (List ℕ)
 
--- so many tries were made of those that are allowed; and where they were used up these are all of them, or 64 files were found
+-- so many tries were made of those that are allowed, and came to what was found; and where they were used up these are all of them, or 64
+-- files were found. The search by groups, if there was one, has as many tries of its own
 pub record AreTries (limit : ℕ) (m : Made) : Type 0 where
+  pub tried : WereTried m.found.parts m.tries m.found.choices
   pub within : m.tries ≤ limit
   pub used_up : m.found.is_used_up ≡ true → (m.tries ≡ limit) ⊎ (length m.found.choices ≡ 64)
+  pub of_groups : IfSome m.found.by_groups (AreGroupTries limit)
 
 pub record IsMade (a : Asked) (copies : List (List ℕ)) (m : Made) : Type 0 where
   pub is_found : IsFound copies m.found
@@ -73,8 +77,8 @@ abbrev pub groups_told : Option ByGroups → Option GroupSearch
 groups_told None = None
 groups_told (Some b) = Some (record { groups = b.groups; is_used_up = b.is_used_up })
 
--- the lines of what was found: of its parts, of so many splices that are no copies, of a search that was cut off or was not, of the search by
--- groups, and of a single file that is lacked or is not
+-- the lines of what was found: of its parts, of so many splices that are no copies, of a search that was cut off or was not, of the search
+-- by groups, and of a single file that is lacked or is not
 abbrev pub told_lines : List Part → ℕ → Bool → Option GroupSearch → Bool → List ℕ
 told_lines parts splices is_used_up by_groups lacks =
     differ_lines (differences parts) ++ splices_line splices ++ used_up_line is_used_up ++ groups_line by_groups ++ single_line lacks

@@ -1,14 +1,14 @@
 //! What is made of the copies, in memory.
 
-ghost use Rattle.std.specs.Prelude.{◌≡◌, ◌⊎◌, ◌<◌, ◌≤◌, ◌^◌, ℕ, List, length, true, IfOk, IfErr, IsTrue, OnErr, option_map};
+ghost use Rattle.std.specs.Prelude.{◌≡◌, ◌⊎◌, ◌<◌, ◌≤◌, ◌^◌, ℕ, List, length, true, IfOk, IfErr, IfSome, IsTrue, OnErr, option_map};
 ghost use Rattle.std.specs.List.{AllByRecursion};
 ghost use Rattle.jls_copy_files.specs.CopyFiles.{copies_of};
 ghost use Rattle.jls_device.specs.Event.{GrewBy};
 ghost use Rattle.jls_parts.specs.Parts.{made};
 ghost use Rattle.jls_parts.specs.PartsOf.{bytes_of, parts_of};
 ghost use Rattle.jls_splice.specs.Choices.{IsWhole};
-ghost use Rattle.jls_splice.specs.Search.{IsShort, files_of, lists_of};
-ghost use Rattle.jls_group_search.specs.Found.{IsFound, by_groups_of, found_of, splices_in};
+ghost use Rattle.jls_splice.specs.Search.{IsShort, WereTried, files_of, lists_of};
+ghost use Rattle.jls_group_search.specs.Found.{AreGroupTries, IsFound, by_groups_of, found_of, splices_in};
 ghost use Rattle.jls_splicing.specs.Files as given;
 ghost use Rattle.jls_splice_progress.specs.Telling.{IsTold, ToldSome};
 ghost use Rattle.jls_splice_run.specs.Making.{AreTextsOf, CantMake, HoldsMade, files_taken, lacks_single, made_of};
@@ -55,13 +55,16 @@ fn search<'c, E: Sink>(
 ) -> Result<FoundSplices<'c>, AllocError>
     requires { 0 < length copies.now }
     ensures found { IfOk result (λ found. IsFound (bytes_of copies.now) (found_of found)) }
-    ensures splices { IfOk result (λ found. files_of (parts_of found.parts.items) (lists_of found.splices.items) ≡ splices_in (found_of found)) }
+    ensures splices { IfOk result
+        (λ found. files_of (parts_of found.parts.items) (lists_of found.splices.items) ≡ splices_in (found_of found)) }
     ensures each { IfOk result (λ found. AllByRecursion (IsWhole (parts_of found.parts.items)) (lists_of found.splices.items)) }
     ensures short { IfOk result (λ found. IsShort (parts_of found.parts.items)) }
     ensures small { IfOk result (λ found. length (made 0 (parts_of found.parts.items)) < 2 ^ 64) }
     ensures few { IfOk result (λ found. found.tries ≤ options.tries) }
+    ensures tried { IfOk result (λ found. WereTried (parts_of found.parts.items) found.tries (found_of found).choices) }
     ensures used_up { IfOk result (λ found. found.is_used_up ≡ true
         → (found.tries ≡ options.tries) ⊎ (length (found_of found).choices ≡ 64)) }
+    ensures of_groups { IfOk result (λ found. IfSome (found_of found).by_groups (AreGroupTries options.tries)) }
     ensures told { IfOk result (λ found.
         GrewBy (IsTold options.tells found.tries (length (found_of found).choices)) (E.history faults.old) (E.history faults.new)) }
     ensures told_some { OnErr result (GrewBy (ToldSome options.tells) (E.history faults.old) (E.history faults.new)) }

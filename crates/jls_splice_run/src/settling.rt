@@ -2,15 +2,13 @@
 
 ghost use Rattle.std.specs.Prelude.{◌≡◌, ◌<◌, length, IfOk, IfErr};
 ghost use Rattle.std.specs.List.{AllByRecursion};
-ghost use Rattle.jls_partial.specs.Partial.{nothing_known};
 ghost use Rattle.jls_copy_files.specs.CopyFiles.{copies_of};
 ghost use Rattle.jls_parts.specs.PartsOf.{bytes_of, parts_of};
 ghost use Rattle.jls_splice.specs.Choices.{IsWhole};
 ghost use Rattle.jls_splice.specs.Search.{IsShort, lists_of};
-ghost use Rattle.jls_splicing.specs.Files.{files_taken, splices_found};
-ghost use Rattle.jls_splicing.specs.Stations.{TakesFiles};
+ghost use Rattle.jls_splicing.specs.Files.{splices_found};
 ghost use Rattle.jls_splice_run.specs.Copies.{bytes_read};
-ghost use Rattle.jls_splice_run.specs.Making.{IsPictureOf, IsUnsettled, IsWantOfMemory};
+ghost use Rattle.jls_splice_run.specs.Making.{IsPictureOf, IsUnsettled};
 ghost use Rattle.jls_splice_run.specs.Making as spec;
 ghost use Rattle.jls_splice_run.specs.Tasks.{task_of};
 
@@ -18,9 +16,8 @@ use crate::task::{Task, want_of_memory};
 use jls_copy_files::CopyFile;
 use jls_marker::MarkerFault;
 use jls_splice_answers::{Cause, Refusal};
-use jls_splicing::{Files, ShapeFound, find_shape, take_files};
+use jls_splicing::{Files, Settled, settle_files};
 use jls_station::{ReadStop, Station};
-use jls_values::Shape;
 use std::alloc::Global;
 
 /// Why a run stops over whose files no frame was found, by how the reading of the first copy stopped.
@@ -30,26 +27,6 @@ fn no_picture_cause(stop: ReadStop, fault: MarkerFault, offset: u64) -> Cause
     match stop {
         ReadStop::Whole => Cause::NoPicture(fault, offset),
         ReadStop::Failed | ReadStop::Turns => Cause::NotRead,
-    }
-}
-
-/// The station that takes the files under a shape.
-fn take<'a>(
-    alloc: Global,
-    task: &Task<'_, 'a>,
-    shape: Shape,
-    files: &Files<'_, '_>,
-) -> Result<Station, Refusal<'a>>
-    requires whole { AllByRecursion (IsWhole (parts_of files.now.parts.now)) (lists_of files.now.splices.now) }
-    requires short { IsShort (parts_of files.now.parts.now) }
-    ensures shape { IfOk result (λ station. station.shape ≡ shape) }
-    ensures taken { IfOk result (λ station.
-        TakesFiles (task_of task.now).options.source (files_taken files.now) (nothing_known shape) station) }
-    ensures stopped { IfErr result (λ refusal. IsWantOfMemory (task_of task.now) refusal) }
-{
-    match take_files(alloc, shape, task.options.source, files) {
-        Ok(station) => Ok(station),
-        Err(_) => Err(want_of_memory(task)),
     }
 }
 
@@ -70,17 +47,17 @@ pub(crate) fn settle<'a>(
     ensures stopped { IfErr result (λ refusal.
         IsUnsettled (task_of task.now) (copies_of copies.now) (splices_found files.now) refusal) }
 {
-    let found = match find_shape(alloc, files) {
-        Ok(found) => found,
+    let settled = match settle_files(alloc, task.options.source, files) {
+        Ok(settled) => settled,
         Err(_) => return Err(want_of_memory(task)),
     };
-    match found {
-        ShapeFound::Taken(shape) => take(alloc, task, shape, files),
-        ShapeFound::Differ(copy) => Err(Refusal {
+    match settled {
+        Settled::Held(station) => Ok(station),
+        Settled::Differ(copy) => Err(Refusal {
             name: task.names[copy],
             cause: Cause::ShapeDiffers,
         }),
-        ShapeFound::NoFrame(fault, offset) => Err(Refusal {
+        Settled::NoFrame(fault, offset) => Err(Refusal {
             name: task.names[0],
             cause: no_picture_cause(copies[0].stop, fault, offset),
         }),

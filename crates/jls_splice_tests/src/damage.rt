@@ -25,12 +25,16 @@ fn damage_of(text: &str) -> Option<Damage> {
     })
 }
 
-/// All of them, with blanks between them.
-fn damages_of(alloc: Global, text: &str) -> Result<Vec<Damage>, AllocError> {
+/// All of them, with blanks between them, and each so many bytes further on.
+fn damages_of(alloc: Global, text: &str, further: usize) -> Result<Vec<Damage>, AllocError> {
     let mut damages = Vec::new(alloc);
     for word in text.split_whitespace() {
         if let Some(damage) = damage_of(word) {
-            damages.push(damage)?;
+            damages.push(Damage {
+                from: damage.from.saturating_add(further),
+                behind: damage.behind.saturating_add(further),
+                ..damage
+            })?;
         }
     }
     Ok(damages)
@@ -46,12 +50,17 @@ fn byte_at(damages: &[Damage], offset: usize, byte: u8) -> Option<u8> {
     Some(byte)
 }
 
-/// The copy of a file that is damaged so. A name of another file is a copy of that one.
-pub(crate) fn copy_of(alloc: Global, file: &[u8], text: &str) -> Result<Vec<u8>, AllocError> {
-    if let Some(other) = file_of(text) {
-        return Vec::from_slice(alloc, other);
+/// The copy of a file that is damaged so, each damage so many bytes further on. A name of another file is a copy of that one.
+pub(crate) fn copy_of(
+    alloc: Global,
+    file: &[u8],
+    text: &str,
+    further: usize,
+) -> Result<Vec<u8>, AllocError> {
+    if let Some(other) = file_of(alloc, text)? {
+        return Ok(other);
     }
-    let damages = damages_of(alloc, text)?;
+    let damages = damages_of(alloc, text, further)?;
     let mut copy = Vec::new(alloc);
     for (offset, byte) in file.iter().enumerate() {
         if let Some(byte) = byte_at(&damages, offset, *byte) {
@@ -59,6 +68,13 @@ pub(crate) fn copy_of(alloc: Global, file: &[u8], text: &str) -> Result<Vec<u8>,
         }
     }
     Ok(copy)
+}
+
+/// `COUNT*STEP` at the begin of a text: of how many copies it is, each of which is damaged so many bytes further on than the one before.
+fn repeats_of(text: &str) -> Option<(usize, usize)> {
+    let (word, _) = text.split_once(' ')?;
+    let (count, step) = word.split_once('*')?;
+    Some((count.parse::<usize>().ok()?, step.parse::<usize>().ok()?))
 }
 
 /// The copies of a file, damaged as the parts of a text between ` / ` say.
@@ -69,7 +85,10 @@ pub(crate) fn copies_of(
 ) -> Result<Vec<Vec<u8>>, AllocError> {
     let mut copies = Vec::new(alloc);
     for part in text.split(" / ") {
-        copies.push(copy_of(alloc, file, part)?)?;
+        let (count, step) = repeats_of(part).unwrap_or((1, 0));
+        for number in 0..count {
+            copies.push(copy_of(alloc, file, part, number.saturating_mul(step))?)?;
+        }
     }
     Ok(copies)
 }

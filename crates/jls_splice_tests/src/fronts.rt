@@ -38,8 +38,8 @@ fn reader_of(alloc: Global, bytes: &[u8]) -> Result<CopyReader, Fail> {
 #[test]
 fn judges_fronts(rt: HostRuntime) -> Result<(), Fail> {
     for (name, damage, faultless, dead) in FRONTS {
-        let file = file_of(name).ok_or("no file")?;
-        let front = copy_of(rt.alloc(), file, damage)?;
+        let file = file_of(rt.alloc(), name)?.ok_or("no file")?;
+        let front = copy_of(rt.alloc(), &file, damage, 0)?;
         let is_without_fault = is_faultless(reader_of(rt.alloc(), &front)?)?;
         assert_eq!(rt; is_without_fault, faultless, "{name} {damage}");
         let is_given_up = is_dead(reader_of(rt.alloc(), &front)?)?;
@@ -76,10 +76,10 @@ fn check_search(
 
 #[test]
 fn searches(rt: HostRuntime) -> Result<(), Fail> {
-    let file = file_of("eight").ok_or("no file")?;
+    let file = file_of(rt.alloc(), "eight")?.ok_or("no file")?;
     for (first, second, limit, files, is_used_up) in SEARCHES {
-        let first = copy_of(rt.alloc(), file, first)?;
-        let second = copy_of(rt.alloc(), file, second)?;
+        let first = copy_of(rt.alloc(), &file, first, 0)?;
+        let second = copy_of(rt.alloc(), &file, second, 0)?;
         let row = (limit, files, is_used_up);
         check_search(&rt, rt.alloc(), &[first.as_slice(), second.as_slice()], row)?;
     }

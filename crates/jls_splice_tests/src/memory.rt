@@ -1,4 +1,4 @@
-//! Files in memory: copies, which are numbered from 1 on, and the outputs that were created.
+//! Files in memory: copies, which are numbered from 1 on, and the outputs that were created. No copy is replaced.
 
 use jls_device::Open;
 use std::alloc::Global;
@@ -31,6 +31,11 @@ impl<'a> MemoryFiles<'a> {
         }
     }
 
+    /// Whether an output was created.
+    pub(crate) fn has_output(&self) -> bool {
+        !self.outputs.is_empty()
+    }
+
     /// What the output of this name took, if it was created.
     pub(crate) fn output(&self, name: &str) -> Option<&[u8]> {
         for output in &self.outputs {
@@ -55,21 +60,16 @@ fn copy_named<'a>(copies: &'a [Vec<u8>], name: &str) -> Option<&'a [u8]> {
 
 impl Read for MemoryFiles<'_> {
     fn read(&mut self, into: &mut [u8]) -> io::Result<usize> {
-        let rest = self.rest;
-        let n = rest.len().min(into.len());
-        into[..n].copy_from_slice(&rest[..n]);
-        self.rest = &rest[n..];
-        Ok(n)
+        self.rest.read(into)
     }
 }
 
 impl Write for MemoryFiles<'_> {
     fn write(&mut self, bytes: &[u8]) -> io::Result<usize> {
-        let Some(output) = self.outputs.last_mut() else {
-            return Err(failed());
-        };
-        output.bytes.extend_from_slice(bytes)?;
-        Ok(bytes.len())
+        match self.outputs.last_mut() {
+            Some(output) => output.bytes.write(bytes),
+            None => Err(failed()),
+        }
     }
 
     fn flush(&mut self) -> io::Result<()> {
@@ -84,6 +84,9 @@ impl Open for &mut MemoryFiles<'_> {
     }
 
     fn create_output(&mut self, name: &str) -> io::Result<()> {
+        if copy_named(self.copies, name).is_some() {
+            return Err(failed());
+        }
         let output = Output {
             name: String::from_str(self.alloc, name)?,
             bytes: Vec::new(self.alloc),

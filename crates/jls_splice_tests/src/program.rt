@@ -3,14 +3,16 @@
 use crate::damage::copies_of;
 use crate::files::{file_of, text_of};
 use crate::memory::MemoryFiles;
+use crate::words::words_of;
 use jls_device::Counted;
 use jls_splice_run::run;
 use std::alloc::{AllocError, Global};
 use std::process::Abort;
 use std::test::Fail;
 
-/// What stands in a row behind its name: the file; what is damaged in each copy; the words behind the program's name; the status; the
-/// picture that OUT is to be, or `other` where it is to be none, or `nothing` where it is not created; and a line that is printed.
+/// What stands in a row behind its name: the file; what is damaged in each copy; the words behind the program's name, where `1..65` are the
+/// numbers from 1 to 65; the status; the picture that OUT is to be, or `other` where it is to be none of them, or `nothing` where no output
+/// is created; and a line that is printed, or `nothing`.
 const ROWS: &str = "\
 one place: eight: 100+8=0 / 400+8=0: OUT 1 2: 0 eight: splices 1
 two places: eight: 100+8=0 300+8=0 / 200+8=0 500+8=0: OUT 1 2: 0 eight: splices 1
@@ -35,6 +37,13 @@ no copy begins: eight: 0+999=lost / 0+999=lost: OUT 1 2: 3 nothing: jls-splice: 
 one byte: eight: 1+999=lost / 0+999=lost: OUT 1 2: 3 nothing: jls-splice: 1: no picture, fault 19 at 1
 two bytes: eight: 2+999=lost / 0+999=lost: OUT 1 2: 3 nothing: jls-splice: 1: no picture, fault 19 at 2
 no frame but in the last: eight: 0+999=lost / 0+3=0 / 400+8=0: OUT 1 2 3: 0 eight: splices 1
+65 copies, of which the last is whole: eight: 64*0 100+8=0 / whole: OUT 1..65: 0 eight: splices 0
+65 copies, each damaged elsewhere: eight: 65*10 30+4=0: OUT 1..65: 0 eight: splices 1
+standard output: eight: 100+8=0 / 400+8=0: - 1 2: 0 eight: nothing
+OUT forgotten: eight: whole / 100+8=0 / 400+8=0: 1 2 3: 4 nothing: jls-splice: 1: cannot be created
+a partial picture: eight: whole / text: OUT 1 2: 3 nothing: jls-splice: 2: is a partial picture
+two shapes: eight: whole / restarts: OUT 1 2: 3 nothing: jls-splice: 2: shape differs
+nothing in common, and one has a fault: eight: 300+8=0 / scans: OUT 1 2: 0 scans: splices 0
 not there: eight: whole / whole: OUT 1 3: 4 nothing: jls-splice: 3: cannot be opened
 the mended file: eight: 100+8=0 / 400+8=0: --file NAME OUT 1 2: 0 eight: splices 1
 no mended file: eight: 300+8=0 / 300+8=85: --file NAME OUT 1 2: 1 other: no single file
@@ -86,11 +95,7 @@ struct Ending {
 
 /// Runs the program with the words of a line behind its name.
 fn run_line(alloc: Global, line: &str, files: &mut MemoryFiles<'_>) -> Result<Ending, AllocError> {
-    let mut words = Vec::new(alloc);
-    words.push(String::from_str(alloc, "jls-splice")?)?;
-    for word in line.split_whitespace() {
-        words.push(String::from_str(alloc, word)?)?;
-    }
+    let words = words_of(alloc, line)?;
     let mut report = Vec::new(alloc);
     let mut faults = Vec::new(alloc);
     let status = run(
@@ -115,10 +120,26 @@ fn has_line(text: &[u8], line: &str) -> bool {
     }
 }
 
+/// Whether the line of a row is printed, or nothing is.
+fn is_told(row: Row<'_>, ending: &Ending) -> bool {
+    if row.told == "nothing" {
+        return ending.report.is_empty() && ending.faults.is_empty();
+    }
+    has_line(&ending.report, row.told) || has_line(&ending.faults, row.told)
+}
+
 /// Whether OUT is as the row says.
-fn is_output(alloc: Global, row: Row<'_>, output: Option<&[u8]>) -> Result<bool, AllocError> {
-    let Some(output) = output else {
-        return Ok(row.picture == "nothing");
+fn is_output(alloc: Global, row: Row<'_>, files: &MemoryFiles<'_>) -> Result<bool, AllocError> {
+    if row.picture == "nothing" {
+        return Ok(!files.has_output());
+    }
+    let name = if row.words.starts_with("- ") {
+        "-"
+    } else {
+        "OUT"
+    };
+    let Some(output) = files.output(name) else {
+        return Ok(false);
     };
     match text_of(alloc, row.picture)? {
         Some(text) => Ok(output == text.as_slice()),
@@ -127,28 +148,25 @@ fn is_output(alloc: Global, row: Row<'_>, output: Option<&[u8]>) -> Result<bool,
 }
 
 /// Whether NAME is created where exactly one file has no fault, and is that file then.
-fn is_mended(row: Row<'_>, mended: Option<&[u8]>) -> bool {
-    let Some(mended) = mended else {
-        return row.status != "0" || !row.words.starts_with("--file");
-    };
-    match file_of(row.file) {
-        Some(file) => row.status == "0" && mended == file,
-        None => false,
+fn is_mended(row: Row<'_>, file: &[u8], mended: Option<&[u8]>) -> bool {
+    let is_wanted = row.status == "0" && row.words.starts_with("--file");
+    match mended {
+        Some(mended) => is_wanted && mended == file,
+        None => !is_wanted,
     }
 }
 
 fn check_row(rt: &impl Abort, alloc: Global, text: &str) -> Result<(), Fail> {
     let row = row_of(text).ok_or("no row")?;
-    let file = file_of(row.file).ok_or("no file")?;
-    let copies = copies_of(alloc, file, row.copies)?;
+    let file = file_of(alloc, row.file)?.ok_or("no file")?;
+    let copies = copies_of(alloc, &file, row.copies)?;
     let mut files = MemoryFiles::new(alloc, &copies);
     let ending = run_line(alloc, row.words, &mut files)?;
     assert_eq!(rt; Ok(ending.status), row.status.parse::<u8>(), "{}", row.name);
-    let is_right = is_output(alloc, row, files.output("OUT"))?;
+    let is_right = is_output(alloc, row, &files)?;
     assert!(rt; is_right, "{}", row.name);
-    assert!(rt; is_mended(row, files.output("NAME")), "{}", row.name);
-    let is_told = has_line(&ending.report, row.told) || has_line(&ending.faults, row.told);
-    assert!(rt; is_told, "{}", row.name);
+    assert!(rt; is_mended(row, &file, files.output("NAME")), "{}", row.name);
+    assert!(rt; is_told(row, &ending), "{}", row.name);
     Ok(())
 }
 

@@ -4,12 +4,25 @@ use jls_splice_words::{Asked, Options, asked_splice, matches};
 use std::alloc::{AllocError, Global};
 use std::test::Fail;
 
-/// The words of a command line, behind the program's name.
-fn words_of(alloc: Global, line: &str) -> Result<Vec<String>, AllocError> {
+/// The numbers of `FIRST..LAST`.
+fn numbers_of(word: &str) -> Option<(u32, u32)> {
+    let (first, last) = word.split_once("..")?;
+    Some((first.parse::<u32>().ok()?, last.parse::<u32>().ok()?))
+}
+
+/// The words of a command line, behind the program's name. `FIRST..LAST` stands for the numbers from one to the other.
+pub(crate) fn words_of(alloc: Global, line: &str) -> Result<Vec<String>, AllocError> {
     let mut words = Vec::new(alloc);
     words.push(String::from_str(alloc, "jls-splice")?)?;
     for word in line.split_whitespace() {
-        words.push(String::from_str(alloc, word)?)?;
+        match numbers_of(word) {
+            Some((first, last)) => {
+                for number in first..=last {
+                    words.push(format!(in alloc; "{number}")?)?;
+                }
+            }
+            None => words.push(String::from_str(alloc, word)?)?,
+        }
     }
     Ok(words)
 }

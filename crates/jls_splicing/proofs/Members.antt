@@ -32,14 +32,15 @@ module _ {X : Type 0} where
   all_at P (y ∷ ys) x h (zero, l, e) = subst P e h.0
   all_at P (y ∷ ys) x h (suc k, l, e) = all_at P ys x h.1 (k, omega (arith, l), e)
 
-  -- and of the items up to a place and of that one, up to the next
+  -- and of one more
+  pub all_and_one : (P : X → Type 0) (xs : List X) (x : X) → AllByRecursion P xs → P x → AllByRecursion P (xs ++ x ∷ [])
+  all_and_one P [] x h p = (p, tt)
+  all_and_one P (y ∷ ys) x h p = (h.0, all_and_one P ys x h.1 p)
+
+  -- of the items up to a place and of that one, up to the next
   pub all_one_more : (P : X → Type 0) (xs : List X) (i : ℕ) (d : X) → AllByRecursion P (take i xs) → i < length xs → P (get_or xs i d)
       → AllByRecursion P (take (i + 1) xs)
-  all_one_more P xs i d h l p = rw (take_more xs i d l) (on_more P (take i xs) (get_or xs i d) h p)
-    where
-      on_more : (P : X → Type 0) (xs : List X) (x : X) → AllByRecursion P xs → P x → AllByRecursion P (xs ++ x ∷ [])
-      on_more P [] x h p = (p, tt)
-      on_more P (y ∷ ys) x h p = (h.0, on_more P ys x h.1 p)
+  all_one_more P xs i d h l p = rw (take_more xs i d l) (all_and_one P (take i xs) (get_or xs i d) h p)
 
   -- the images of the items up to the next place
   pub map_one_more : {Y : Type 0} (f : X → Y) (xs : List X) (i : ℕ) (d : X) → i < length xs

@@ -1,4 +1,4 @@
--- What a search over copies found is as files are taken from it: for callers of `find_shape` and `take_files`.
+-- What a search over copies found is as files are taken from it: for callers of `settle_files`.
 use Rattle.std.proofs.Common.{ℕ, ◌<◌, List, [], ◌∷◌, length, Bor, sym, subst}
 use Rattle.std.specs.List.{AllByRecursion}
 use Rattle.jls_parts.proofs.Slices.{count_of_slices}

@@ -1,21 +1,18 @@
 -- The shape of the files taken, from what is seen of them.
-use Rattle.std.proofs.Common.{◌≡◌, ℕ, zero, suc, ◌+◌, ◌<◌, List, [], ◌∷◌, ◌++◌, length, take, Option, Some, None, Vec, Global, Bor, refl, sym, ap, ◌∙◌, subst, append_assoc, arith, inl, inr}
+use Rattle.std.proofs.Common.{◌≡◌, ℕ, zero, suc, ◌<◌, List, [], ◌∷◌, ◌++◌, length, take, Option, Some, None, Bor, refl, sym, ap, ◌∙◌, subst, arith, inl, inr}
 use Rattle.std.specs.Prelude.{get_or, slice_get, unwrap_or, IfSome, IfNone, IsSomeAnd}
 use Rattle.std.specs.List.{AllByRecursion, Contains}
 use Rattle.jls_values.specs.Shape.{PictureShape}
-use Rattle.jls_parts.specs.Parts.{Part}
 use Rattle.jls_parts.specs.PartsOf.{bytes_of}
 use Rattle.jls_parts.proofs.Slices.{count_of_slices}
-use Rattle.jls_splice.specs.Choices.{front_of}
 use Rattle.jls_splice.specs.Faultless.{IsFaultless}
-use Rattle.jls_splice.specs.Search.{files_of, lists_of}
 use Rattle.jls_splicing.specs.Shapes.{HasShape, HasOtherShape, HasNoFrame, IsFirstShape, NoneIsFaultless, IsShapeTaken, IsCopyNamed, IsShapeFound}
 use Rattle.jls_splicing.specs.Seen.{IsSeen, AreSeen, IsNotFaultless, HasItIfFaultless, HasFrame, IsWithoutFrame, HasOtherFrame, IsFirstFrame, IsFirstOtherFrame, SomeFaultlessHasOther, IsNamed, IsOfCopies}
 use Rattle.jls_splicing.specs.declared.seen.Seen.{Seen}
 use Rattle.jls_splicing.specs.declared.seen.Seen.TheVariants.{Faultless, Faulty, NoFrame}
 use Rattle.jls_splicing.specs.declared.shape_found.ShapeFound.{ShapeFound}
 use Rattle.jls_splicing.specs.declared.shape_found.ShapeFound.TheVariants as answer
-use Rattle.jls_splicing.proofs.Members.{is_first, in_rest, none_in, first_or_rest, all_at, map_one_more, splices_one_more}
+use Rattle.jls_splicing.proofs.Members.{is_first, in_rest, none_in, first_or_rest, all_at}
 use Rattle.jls_splicing.proofs.OneFile.{one_shape_of, no_shape, faultless_shape}
 
 -- One file ---------------------------------------------------------------------------------------------------------
@@ -86,24 +83,6 @@ pub front_seen : (files more : List (List ℕ)) (seen : List Seen) → AreSeen (
 front_seen [] more seen are = tt
 front_seen (f ∷ files) more [] are = absurd are
 front_seen (f ∷ files) more (s ∷ seen) are = (are.0, front_seen files more seen are.1)
-
--- loops over copies and over splices
-pub copies_more : (copies : List (Bor (List ℕ))) (i : ℕ) (d : Bor (List ℕ)) (old new : List Seen) (s : Seen) → i < length copies
-    → AreSeen (bytes_of (take i copies)) old → new ≡ old ++ s ∷ [] → IsSeen (get_or copies i d).now s
-    → AreSeen (bytes_of (take (i + 1) copies)) new
-copies_more copies i d old new s l are e is =
-    let F : List (List ℕ) = bytes_of (take i copies) in
-    subst (λ fs. AreSeen fs new) (sym (map_one_more (λ (slice : Bor (List ℕ)). slice.now) copies i d l))
-    (subst (AreSeen (F ++ (get_or copies i d).now ∷ [])) (sym e) (seen_more F old (get_or copies i d).now s are is))
-
-pub splices_more : (ps : List Part) (vs : List (Vec ℕ Global)) (i : ℕ) (v : Vec ℕ Global) → i < length vs → v ≡ get_or vs i v
-    → (files : List (List ℕ)) (old new : List Seen) (s : Seen) → AreSeen (files ++ files_of ps (lists_of (take i vs))) old
-    → new ≡ old ++ s ∷ [] → IsSeen (front_of ps v.items) s → AreSeen (files ++ files_of ps (lists_of (take (i + 1) vs))) new
-splices_more ps vs i v l at files old new s are e is =
-    let F : List (List ℕ) = files_of ps (lists_of (take i vs)) in
-    subst (λ fs. AreSeen fs new)
-    (append_assoc files F (front_of ps v.items ∷ []) ∙ ap (λ fs. files ++ fs) (sym (splices_one_more ps vs i v l at)))
-    (subst (AreSeen ((files ++ F) ++ front_of ps v.items ∷ [])) (sym e) (seen_more (files ++ F) old (front_of ps v.items) s are is))
 
 -- the copies among the files
 pub front_copies : (copies : List (Bor (List ℕ))) (found : List (List ℕ)) (seen : List Seen) → AreSeen (bytes_of copies ++ found) seen

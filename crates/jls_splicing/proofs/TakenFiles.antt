@@ -77,7 +77,7 @@ marked_shape (Some source) p = refl
 
 module _ (source : Option ℕ) (old : PartialPicture) where
   -- a file that gives nothing
-  passed_over : (file : List ℕ) → (HasShape old.shape file → ⊥) → TakesFiles source (file ∷ []) old old
+  pub passed_over : (file : List ℕ) → (HasShape old.shape file → ⊥) → TakesFiles source (file ∷ []) old old
   passed_over file not = record { given = []; give = gives_nothing file [] [] not no_file; union_is = refl }
 
   pub without_frame : (reader : Option (List ℕ)) (f : MarkerFault) (n : ℕ) → IfSome reader (λ file. CopyGivesNone file (NoPicture f n))
@@ -89,19 +89,17 @@ module _ (source : Option ℕ) (old : PartialPicture) where
     shape_is : partial.shape ≡ read.partial.shape
     shape_is = ap (λ (p : PartialPicture). p.shape) is ∙ marked_shape source read.partial
 
-    pub taken_in : (reader : Option (List ℕ)) → IfSome reader (λ file. CopyReads file read) → has_same_shape old partial ≡ true
-        → new ≡ union old partial → IfSome reader (λ file. AreBytes file → TakesFiles source (file ∷ []) old new)
-    taken_in None reads same becomes = tt
-    taken_in (Some file) reads same becomes = λ low. record {
+    pub taken_in : has_same_shape old partial ≡ true → new ≡ union old partial
+        → (file : List ℕ) → AreBytes file → CopyReads file read → TakesFiles source (file ∷ []) old new
+    taken_in same becomes file low reads = record {
       given = marked source read.partial ∷ [];
       give = gives file read [] [] low reads (sym shape_is ∙ sym (one_shape old.shape partial.shape same)) no_file;
       union_is = becomes ∙ ap (union old) is;
     }
 
-    pub other_shape : (reader : Option (List ℕ)) → IfSome reader (λ file. CopyReads file read) → has_same_shape old partial ≡ false
-        → new ≡ old → IfSome reader (λ file. AreBytes file → TakesFiles source (file ∷ []) old new)
-    other_shape None reads differs stays = tt
-    other_shape (Some file) reads differs stays = λ _.
+    pub other_shape : has_same_shape old partial ≡ false → new ≡ old
+        → (file : List ℕ) → AreBytes file → CopyReads file read → TakesFiles source (file ∷ []) old new
+    other_shape differs stays file low reads =
         subst (λ (p : PartialPicture). TakesFiles source (file ∷ []) old p) (sym stays) (passed_over file not)
       where
         not : HasShape old.shape file → ⊥

@@ -1,13 +1,14 @@
 //! One file, taken by a station.
 
-ghost use Rattle.std.specs.Prelude.{◌≡◌, ◌-◌, ◌^◌, ◌≤◌, ◌∷◌, [], length, OnOk, IfSome};
+ghost use Rattle.std.specs.Prelude.{◌≡◌, ◌-◌, ◌^◌, ◌≤◌, ◌∷◌, [], ℕ, List, length, OnOk, IfSome};
+ghost use Rattle.jls_copy.specs.CopyReads.{CopyReads};
 ghost use Rattle.jls_parts.specs.PartsOf.{parts_of};
 ghost use Rattle.jls_splice.specs.Choices.{IsPath, front_of};
 ghost use Rattle.jls_station.specs.Given.{marked};
 ghost use Rattle.jls_station.specs.Reading.{AreBytes};
 ghost use Rattle.jls_splicing.specs.Stations.{TakesFiles};
 
-use jls_copy::{CopyFault, CopyReader};
+use jls_copy::{CopyFault, CopyRead, CopyReader};
 use jls_partial::Partial;
 use jls_parts::Part;
 use jls_splice::feed_front;
@@ -25,24 +26,36 @@ fn put_source(partial: &mut Partial, source: Option<u32>) -> Result<(), AllocErr
     }
 }
 
-/// Takes in what a reader gives of a file, under the source if there is one. A file of another shape, or without a frame, gives nothing.
-fn take_read(
+/// Takes in what was read of a file, under the source if there is one. A file of another shape gives nothing.
+pub(crate) fn take_read(
+    station: &mut Station,
+    source: Option<u32>,
+    read: CopyRead,
+) -> Result<(), AllocError>
+    ensures { OnOk result ((file : List ℕ) → AreBytes file → CopyReads file read
+        → TakesFiles source (file ∷ []) station.old station.new) }
+{
+    let mut partial = read.into_partial();
+    put_source(&mut partial, source)?;
+    match station.take(&partial) {
+        Ok(()) => Ok(()),
+        Err(MergeFault::ShapeDiffers) => Ok(()),
+        Err(MergeFault::OutOfMemory) => Err(AllocError),
+    }
+}
+
+/// Takes in what a reader gives of a file. A file without a frame gives nothing.
+fn take_fed(
     station: &mut Station,
     source: Option<u32>,
     reader: CopyReader,
 ) -> Result<(), AllocError>
     ensures { OnOk result (IfSome reader (λ file. AreBytes file → TakesFiles source (file ∷ []) station.old station.new)) }
 {
-    let mut partial = match reader.finish() {
-        Ok(read) => read.into_partial(),
-        Err(CopyFault::NoPicture(_, _)) => return Ok(()),
-        Err(CopyFault::OutOfMemory) => return Err(AllocError),
-    };
-    put_source(&mut partial, source)?;
-    match station.take(&partial) {
-        Ok(()) => Ok(()),
-        Err(MergeFault::ShapeDiffers) => Ok(()),
-        Err(MergeFault::OutOfMemory) => Err(AllocError),
+    match reader.finish() {
+        Ok(read) => take_read(station, source, read),
+        Err(CopyFault::NoPicture(_, _)) => Ok(()),
+        Err(CopyFault::OutOfMemory) => Err(AllocError),
     }
 }
 
@@ -57,7 +70,7 @@ pub(crate) fn take_copy(
 {
     let mut reader = CopyReader::new(alloc);
     reader.feed(copy)?;
-    take_read(station, source, reader)
+    take_fed(station, source, reader)
 }
 
 /// Takes in what the splice of these choices gives, which is read part by part.
@@ -74,5 +87,5 @@ pub(crate) fn take_splice(
 {
     let mut reader = CopyReader::new(alloc);
     feed_front(&mut reader, parts, choices)?;
-    take_read(station, source, reader)
+    take_fed(station, source, reader)
 }

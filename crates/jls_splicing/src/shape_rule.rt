@@ -1,21 +1,18 @@
 //! The rule of the shape that is taken.
 
-ghost use Rattle.std.specs.Prelude.{◌≡◌, ◌<◌, ◌↔◌, length, IsTrue, IsFalse, IfOk, IfSome, IfNone};
+ghost use Rattle.std.specs.Prelude.{◌≡◌, ◌<◌, ◌↔◌, length, IsTrue, IsFalse, IfSome, IfNone};
 ghost use Rattle.std.specs.List.{AllByRecursion, Contains};
-ghost use Rattle.jls_parts.specs.PartsOf.{bytes_of, parts_of};
-ghost use Rattle.jls_splice.specs.Choices.{IsWhole};
-ghost use Rattle.jls_splice.specs.Search.{IsShort, lists_of};
-ghost use Rattle.jls_splicing.specs.Files.{splices_found};
+ghost use Rattle.jls_parts.specs.PartsOf.{bytes_of};
+ghost use Rattle.jls_splicing.specs.Files.{files_taken, splices_found};
 ghost use Rattle.jls_splicing.specs.Shapes.{IsShapeFound};
-ghost use Rattle.jls_splicing.specs.Seen.{HasItIfFaultless, IsNotFaultless, IsWithoutFrame, IsFirstFrame, HasOtherFrame};
+ghost use Rattle.jls_splicing.specs.Seen.{AreSeen, HasItIfFaultless, IsNotFaultless, IsWithoutFrame, IsFirstFrame, HasOtherFrame};
 ghost use Rattle.jls_splicing.specs.Seen.{SomeFaultlessHasOther, IsFirstOtherFrame, IsNamed, IsOfCopies};
 ghost use Rattle.jls_splicing.specs.declared.seen.Seen.TheVariants.{Faultless};
 
 use crate::files::Files;
-use crate::seen::{Seen, see_files};
+use crate::seen::Seen;
 use crate::shape_found::ShapeFound;
 use jls_values::Shape;
-use std::alloc::{AllocError, Global};
 
 /// The shape of the first file that has no fault.
 fn first_faultless(seen: &[Seen]) -> Option<&Shape>
@@ -108,23 +105,21 @@ fn shape_of_copies(copies: &[Seen]) -> ShapeFound
     }
 }
 
-/// The shape of the files taken. Each file that has no fault, of the copies and of the splices, has it. Where there is no such file it is
-/// that of the first copy with a frame. Each file is decoded once, and no readings are kept. `Err` comes where memory is refused.
-pub fn find_shape(alloc: Global, files: &Files<'_, '_>) -> Result<ShapeFound, AllocError>
+/// The shape of the files taken, by what is seen of each. Each file that has no fault, of the copies and of the splices, has it. Where
+/// there is no such file it is that of the first copy with a frame.
+pub(crate) fn find_shape(seen: &[Seen], files: &Files<'_, '_>) -> ShapeFound
     requires some_copy { 0 < length files.now.copies.now }
-    requires whole { AllByRecursion (IsWhole (parts_of files.now.parts.now)) (lists_of files.now.splices.now) }
-    requires short { IsShort (parts_of files.now.parts.now) }
-    ensures { IfOk result (λ found. IsShapeFound (bytes_of files.now.copies.now) (splices_found files.now) found) }
+    requires seen { AreSeen (files_taken files.now) seen.now }
+    ensures { IsShapeFound (bytes_of files.now.copies.now) (splices_found files.now) result }
 {
-    let seen = see_files(alloc, files)?;
     let copies = &seen[..files.copies.len()];
-    match first_faultless(&seen) {
-        None => Ok(shape_of_copies(copies)),
+    match first_faultless(seen) {
+        None => shape_of_copies(copies),
         Some(shape) => {
-            if agree(&seen, shape) {
-                Ok(ShapeFound::Taken(shape.to_owned()))
+            if agree(seen, shape) {
+                ShapeFound::Taken(shape.to_owned())
             } else {
-                Ok(ShapeFound::Differ(copy_to_name(copies)))
+                ShapeFound::Differ(copy_to_name(copies))
             }
         }
     }

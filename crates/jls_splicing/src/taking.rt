@@ -1,4 +1,4 @@
-//! The station of the files taken.
+//! Files that are taken under a shape that is known.
 
 ghost use Rattle.std.specs.Prelude.{◌≡◌, OnOk, IfOk};
 ghost use Rattle.std.specs.List.{AllByRecursion};
@@ -50,9 +50,8 @@ fn take_splices(
 }
 
 /// A station of this shape that took the copies and then the splices, each under the number of the source if there is one. A file of
-/// another shape, or without a frame, gives nothing. Each file is decoded again: `find_shape` keeps nothing of what it read. A splice is
-/// read part by part, with no memory for its bytes. `Err` comes where memory is refused.
-pub fn take_files(
+/// another shape, or without a frame, gives nothing.
+pub(crate) fn take_files(
     alloc: Global,
     shape: Shape,
     source: Option<u32>,

@@ -1,10 +1,9 @@
 //! Copies of known pictures, each byte of which is true in some copy or in none. CharLS wrote the file of four lines.
 
-use crate::{Files, ShapeFound, find_shape, take_files};
+use crate::{Files, Settled, settle_files};
 use jls_marker::MarkerFault;
 use jls_partial::Partial;
 use jls_splice::{are_short, parts_can_be_searched, search_copies};
-use jls_station::Station;
 use jls_values::Shape;
 use std::alloc::Global;
 use std::test::Fail;
@@ -31,19 +30,8 @@ const ONE_SAMPLE: [u8; 28] = [
     0xDA, 0x00, 0x08, 0x01, 0x01, 0x00, 0x00, 0x00, 0x00, 0x40, 0xFF, 0xD9,
 ];
 
-/// What comes of some copies.
-#[derive(Drop)]
-enum Outcome {
-    /// The station that took them and their splices under source 7.
-    Held(Station),
-    /// Another copy than the first frame's has another shape.
-    Differ(usize),
-    /// The fault of the first copy, and its offset.
-    NoFrame(MarkerFault, u64),
-}
-
-/// What comes of these copies.
-fn outcome_of(alloc: Global, copies: &[&[u8]]) -> Result<Outcome, Fail> {
+/// What comes of these copies and their splices, taken under source 7.
+fn outcome_of(alloc: Global, copies: &[&[u8]]) -> Result<Settled, Fail> {
     if copies.is_empty() || !are_short(copies) {
         return Err(Fail::from("no copy, or too many bytes"));
     }
@@ -54,11 +42,7 @@ fn outcome_of(alloc: Global, copies: &[&[u8]]) -> Result<Outcome, Fail> {
         parts: &found.parts,
         splices: &found.searched.splices,
     };
-    match find_shape(alloc, &files)? {
-        ShapeFound::Taken(shape) => Ok(Outcome::Held(take_files(alloc, shape, Some(7), &files)?)),
-        ShapeFound::Differ(copy) => Ok(Outcome::Differ(copy)),
-        ShapeFound::NoFrame(fault, offset) => Ok(Outcome::NoFrame(fault, offset)),
-    }
+    Ok(settle_files(alloc, Some(7), &files)?)
 }
 
 /// The file of four lines with this byte in place of another.
@@ -87,8 +71,9 @@ fn lines_held(alloc: Global, count: usize) -> Result<Partial, Fail> {
     Ok(partial)
 }
 
-/// What is damaged in two copies, as offset and byte, and how many lines come back: the data of both at two places; a height, and the
-/// data; the first marker, and the data; the data of both at one place; nothing.
+/// What is damaged in two copies, as offset and byte, and how many lines come back: the data of both at two places; a height, so that the
+/// first frame has another shape than the one that is taken, and the data; the first marker, so that the first copy has no frame, and the
+/// data; the data of both at one place; nothing.
 const PAIRS: [([usize; 2], [u8; 2], usize); 5] = [
     ([25, 53], [0x00, 0x00], 4),
     ([8, 53], [0x05, 0x00], 4),
@@ -104,7 +89,7 @@ fn pairs_of_copies(rt: HostRuntime) -> Result<(), Fail> {
         let second = with_byte(rt.alloc(), places[1], bytes[1])?;
         let wanted = lines_held(rt.alloc(), count)?;
         match outcome_of(rt.alloc(), &[first.as_slice(), second.as_slice()])? {
-            Outcome::Held(station) => assert!(rt;
+            Settled::Held(station) => assert!(rt;
                 *station.partial() == wanted,
                 "damage at {}",
                 places[0]
@@ -124,7 +109,7 @@ fn files_without_a_fault_differ_in_shape(rt: HostRuntime) -> Result<(), Fail> {
     ];
     for (copies, named) in cases {
         match outcome_of(rt.alloc(), copies)? {
-            Outcome::Differ(copy) => assert_eq!(rt; copy, named),
+            Settled::Differ(copy) => assert_eq!(rt; copy, named),
             _ => return Err(Fail::from("the shapes are one")),
         }
     }
@@ -140,7 +125,7 @@ fn no_copy_has_a_frame(rt: HostRuntime) -> Result<(), Fail> {
     ];
     for (copies, fault, offset) in cases {
         match outcome_of(rt.alloc(), copies)? {
-            Outcome::NoFrame(told, place) => {
+            Settled::NoFrame(told, place) => {
                 assert_eq!(rt; told, fault);
                 assert_eq!(rt; place, offset);
             }

@@ -26,13 +26,13 @@ pub record HoldsFiles (source : Option ℕ) (shape : PictureShape) (files : List
   pub exactly : HoldsExactlyUnder station (under source taken)
   pub took : TookInTheEnd station taken
 
--- what `take_files` gives does so
+-- what `settle_files` gives does so
 abbrev pub FilesAreHeld : Type 0
 FilesAreHeld =
     (source : Option ℕ) (shape : PictureShape) (files : List (List ℕ)) (station : PartialPicture)
     → TakesFiles source files (nothing_known shape) station → HoldsFiles source shape files station
 
--- copies were searched, with tries enough; `find_shape` gave this shape, and `take_files` this station
+-- copies were searched, with tries enough; `settle_files` gave this station of this shape
 pub record WereSpliced (copies : List (List ℕ)) (parts : List Part) (source : Option ℕ) (station : PartialPicture) : Type 0 where
   pub some_copy : 0 < length copies
   pub are_parts : AreParts copies parts

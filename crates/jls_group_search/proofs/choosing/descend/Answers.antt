@@ -1,4 +1,4 @@
-use Rattle.std.proofs.Common.{◌≡◌, ℕ, ◌<◌, List, [], length, sym, ◌∙◌, subst}
+use Rattle.std.proofs.Common.{ℕ, ◌<◌, List, [], length, sym, ◌∙◌, subst}
 use Rattle.jls_parts.specs.PartsOf.{parts_of}
 use Rattle.jls_parts.specs.Parts.{Part, Same}
 use Rattle.std.specs.Prelude.{get_or}

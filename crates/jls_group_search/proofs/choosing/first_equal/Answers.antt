@@ -1,4 +1,4 @@
-use Rattle.std.proofs.Common.{◌<◌, length, sym, ◌∙◌, arith, below_more}
+use Rattle.std.proofs.Common.{◌<◌, length, ◌∙◌, arith, below_more}
 use Rattle.jls_splice.proofs.Paths.{same_ways, other_ways}
 use Rattle.jls_group_search.proofs.choosing.first_equal.Goals as goal
 

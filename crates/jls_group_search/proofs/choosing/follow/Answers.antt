@@ -1,6 +1,6 @@
-use Rattle.std.proofs.Common.{◌≡◌, ℕ, ◌<◌, List, [], length, sym, ◌∙◌, subst}
+use Rattle.std.proofs.Common.{ℕ, ◌<◌, List, [], length, sym, ◌∙◌, subst}
 use Rattle.jls_parts.specs.PartsOf.{parts_of}
-use Rattle.jls_parts.specs.Parts.{Part, Same, way}
+use Rattle.jls_parts.specs.Parts.{Part, Same}
 use Rattle.std.specs.Prelude.{get_or}
 use Rattle.jls_splice.specs.Choices.{IsFirstWay}
 use Rattle.jls_splice.proofs.Paths.{length-map}

@@ -1,14 +1,14 @@
-use Rattle.std.proofs.Common.{◌≡◌, ℕ, ◌≤◌, true, false, List, ◌++◌, length, take, drop, Some, Vec, Global, ap, sym, ◌∙◌, subst, arith, length-append, ◌⊎◌, inl, inr}
+use Rattle.std.proofs.Common.{◌≡◌, ℕ, true, false, List, length, take, drop, Some, Vec, Global, ap, sym, ◌∙◌, subst, arith, length-append, inl, inr}
 use Rattle.std.specs.List.{AllByRecursion}
 use Rattle.jls_parts.specs.Parts.{AreParts}
 use Rattle.jls_parts.specs.PartsOf.{bytes_of, parts_of}
 use Rattle.jls_splice.specs.Choices.{IsWhole}
 use Rattle.jls_splice.specs.Search.{lists_of}
 use Rattle.jls_splice_groups.specs.Groups.{CoverParts, IsGroup}
-use Rattle.jls_group_search.specs.Found.{IsFound, by_groups_of}
+use Rattle.jls_group_search.specs.Found.{AreGroupTries, IsFound, by_groups_of}
 use Rattle.jls_group_search.specs.OfGroups.{IsOfGroup}
 use Rattle.jls_group_search.specs.declared.found.GroupsTold.{GroupsTold}
-use Rattle.jls_group_search.proofs.FoundMore.{all_is, front_is, found_whole, found_groups, files_whole, files_groups, whole_of_found, whole_of_both}
+use Rattle.jls_group_search.proofs.FoundMore.{all_is, front_is, group_tries, found_whole, found_groups, files_whole, files_groups, whole_of_found, whole_of_both}
 use Rattle.jls_group_search.proofs.found.complete_by_groups.Goals as goal
 
 pub returns-then-not-wants-clause-found : goal.returns-then-not-wants-clause-found
@@ -46,8 +46,8 @@ returns-clause-found c =
     let used = c.args.found.searched.is_used_up in
     let at : n ≡ length vs = c.len-whole.ensures ∙ c.args.found.searched.splices.ok.0 in
     let by = c.in_ok-by.by in
-    let told : GroupsTold = record { groups = c.len-count.result; is_used_up = by.searched.is_used_up } in
-    let count : c.len-count.result ≡ length by.groups.items = c.len-count.ensures ∙ by.groups.ok.0 in
+    let told : GroupsTold = c.told_of-told.result in
+    let count : told.groups ≡ length by.groups.items = c.told_of-told.ensures.groups in
     let needed : used ≡ false → n ≡ 0 =
     λ done. elim (c.wants_groups-wants.ensures.yes c.if-not-wants.false) [ inl e ↦ absurd cc | inr z ↦ z ] in
     let e = c.in_ok-by.ensures in
@@ -62,6 +62,19 @@ returns-clause-found c =
     })) (sym c.in_ok-append.ensures.items)
     (found_groups (bytes_of c.args.copies.now) ps vs n used c.requires.parts c.requires.searched at by.searched.splices.items by.groups.items told
     needed groups cover count each)
+
+pub returns-clause-of_groups : goal.returns-clause-of_groups
+returns-clause-of_groups c =
+    let vs = c.args.found.searched.splices.items in
+    let n = c.len-whole.result in
+    let at : n ≡ length vs = c.len-whole.ensures ∙ c.args.found.searched.splices.ok.0 in
+    let by = c.in_ok-by.by in
+    let told : GroupsTold = c.told_of-told.result in
+    let e = c.in_ok-by.ensures in
+    let t = c.told_of-told.ensures.tries in
+    subst (λ (xs : List (Vec ℕ Global)). AreGroupTries c.args.limit (by_groups_of (drop n (lists_of xs)) told)) (sym c.in_ok-append.ensures.items)
+    (group_tries vs by.searched.splices.items n at c.args.limit told (omega (arith, t, e.few.0))
+    (λ u. elim (e.used_up (sym c.told_of-told.ensures.is_used_up ∙ u)) [ inl all ↦ inl (t ∙ all) | inr found ↦ inr found ]))
 
 pub returns-clause-splices : goal.returns-clause-splices
 returns-clause-splices c =

@@ -1,6 +1,6 @@
-use Rattle.std.proofs.Common.{◌≡◌, ◌<◌, [], List, length, get_or, ap, arith}
+use Rattle.std.proofs.Common.{◌<◌, List, length, ap, arith}
 use Rattle.jls_parts.specs.PartsOf.{parts_of}
-use Rattle.jls_parts.specs.Parts.{Part, Same, way}
+use Rattle.jls_parts.specs.Parts.{Part}
 use Rattle.jls_splice.proofs.Paths.{path_at, length-map}
 use Rattle.jls_group_search.proofs.BorderOffsets.{length_more, more_fits}
 use Rattle.jls_group_search.proofs.offsets.front_length.Goals as goal

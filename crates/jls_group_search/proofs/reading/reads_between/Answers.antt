@@ -1,4 +1,4 @@
-use Rattle.std.proofs.Common.{◌≡◌, ℕ, length, sym, ap, ◌∙◌, subst, arith, rules}
+use Rattle.std.proofs.Common.{◌≡◌, length, ap, subst, arith, rules}
 use Rattle.std.specs.Prelude.{IsTrue}
 use Rattle.jls_copy.specs.ReadCopy.{ReadCopy}
 use Rattle.jls_group_search.specs.ReadsBetween.{Reaches}

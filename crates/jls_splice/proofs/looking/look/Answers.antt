@@ -5,6 +5,7 @@ use Rattle.jls_splice.proofs.looking.look.Goals as goal
 
 pub look_at_front-requires : goal.look_at_front-requires
 look_at_front-requires c = record {
+  kept = c.requires.kept;
   path = c.requires.path;
   few = c.requires.few;
   more = let e = length-map part_of c.args.parts.now in omega (arith, e);
@@ -12,6 +13,7 @@ look_at_front-requires c = record {
 
 pub look_at_file-requires : goal.look_at_file-requires
 look_at_file-requires c = record {
+  kept = c.requires.kept;
   path = c.requires.path;
   few = c.requires.few;
   whole = let e = length-map part_of c.args.parts.now in let l = path_len (parts_of c.args.parts.now) c.args.path.now c.requires.path in omega (arith, e, l);

@@ -10,3 +10,9 @@ returns-then-dead c =
     dead_front (parts_of c.args.parts.now) c.args.path.now c.requires.path
     (of_some c.in_ok-reader.reader (front_of (parts_of c.args.parts.now) c.args.path.now) (λ bytes. IsDead bytes) c.in_ok-reader.ensures
     (c.in_ok-dead.ensures c.if-dead.true))
+
+pub returns-then-goes_on : goal.returns-then-goes_on
+returns-then-goes_on c = (c.requires.more, c.in_ok-reader.ensures)
+
+pub returns : goal.returns
+returns c = (c.requires.more, tt)

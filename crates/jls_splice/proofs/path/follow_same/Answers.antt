@@ -1,4 +1,5 @@
-use Rattle.std.proofs.Common.{◌≡◌, ℕ, ◌<◌, List, [], length, get_or, true, sym, ◌∙◌, subst, rules}
+use Rattle.std.proofs.Common.{◌≡◌, ℕ, ◌<◌, List, [], ◌∷◌, ◌++◌, length, get_or, true, sym, ap, ◌∙◌, subst, append_assoc, rules}
+use Rattle.std.proofs.lemmas.List.{append-nil}
 use Rattle.jls_parts.specs.PartsOf.{parts_of}
 use Rattle.jls_parts.specs.Parts as spec
 use Rattle.jls_splice.specs.Choices.{IsFirstWay, IsPath}
@@ -17,4 +18,18 @@ loop-path-preserved c =
       subst (IsPath ps) (sym c.in_ok-push.ensures.items) (path_more ps path 0 c.loop-path.invariant.0 k first),
       λ choices whole to_come. subst (λ p. IsToCome p choices) (sym c.in_ok-push.ensures.items)
           (to_come_more path choices (c.loop-path.invariant.1 choices whole to_come) (subst (λ n. length path < n) (sym whole.1) k)),
+      (
+        c.loop-path.invariant.2.0 ++ 0 ∷ [],
+        c.in_ok-push.ensures.items ∙ ap (λ p. p ++ 0 ∷ []) c.loop-path.invariant.2.1
+            ∙ append_assoc c.args.path.now.items c.loop-path.invariant.2.0 (0 ∷ []),
+      ),
     )
+
+pub loop-path-init : goal.loop-path-init
+loop-path-init c = (c.requires, λ choices whole to_come. to_come, ([], sym (append-nil c.args.path.now.items)))
+
+pub returns-else-is_same_at-clause-grew : goal.returns-else-is_same_at-clause-grew
+returns-else-is_same_at-clause-grew c = c.loop-path.invariant.2
+
+pub returns-after-loop-path-clause-grew : goal.returns-after-loop-path-clause-grew
+returns-after-loop-path-clause-grew c = c.loop-path.invariant.2

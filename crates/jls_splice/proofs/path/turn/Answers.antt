@@ -3,7 +3,7 @@ use Rattle.jls_parts.specs.PartsOf.{parts_of}
 use Rattle.jls_parts.specs.Parts.{Part, Same}
 use Rattle.jls_splice.specs.Choices.{IsFirstWay, IsPath}
 use Rattle.jls_splice.specs.Order.{IsToCome, IsBehind}
-use Rattle.jls_splice.proofs.Paths.{path_back, path_more, turned, passed, length-map}
+use Rattle.jls_splice.proofs.Paths.{path_back, path_more, turned, passed, behind_longer, next_behind, length-map}
 use Rattle.jls_splice.proofs.path.turn.Goals as goal
 
 pub next_way_at-requires : goal.next_way_at-requires
@@ -42,4 +42,17 @@ loop-choice-preserved c =
           passed ps rest choices c.in-Some.choice
           (subst (λ n. (other : ℕ) → c.in-Some.choice < other → IsFirstWay (get_or ps n (Same [])) other → ⊥) (c.len.ensures ∙ c.pop.new.self.ok.0) c.in_default-next_way_at.ensures.none)
           whole.0 here,
+      λ next behind.
+          c.loop-choice.invariant.2 next (subst (λ p. IsBehind p next) (sym c.in-Some.ensures.items) (behind_longer rest c.in-Some.choice next behind)),
     )
+
+pub loop-choice-init : goal.loop-choice-init
+loop-choice-init c = (c.requires, λ choices whole behind. behind, λ next behind. behind)
+
+pub returns-in-Some-next_way_at-clause-behind : goal.returns-in-Some-next_way_at-clause-behind
+returns-in-Some-next_way_at-clause-behind c = λ _.
+    let rest : List ℕ = c.pop.new.self.items in
+    let next : List ℕ = c.push.new.self.items in
+    c.loop-choice.invariant.2 next (subst (λ p. IsBehind p next) (sym c.in-Some.ensures.items)
+    (subst (IsBehind (rest ++ c.in-Some.choice ∷ [])) (sym c.in_ok-push.ensures.items)
+    (next_behind rest c.in-Some.choice c.in-Some-next_way_at.next c.in-Some-next_way_at.ensures.rises)))

@@ -7,6 +7,7 @@ use Rattle.jls_splice.proofs.path.turn.Given as goal
 abbrev pub invariant-loop-choice : goal.invariant-loop-choice
 invariant-loop-choice l = IsPath (parts_of l.parts) l.path.items
     × ((choices : List ℕ) → IsWhole (parts_of l.parts) choices → IsBehind l.fn.path.items choices → IsBehind l.path.items choices)
+    × ((next : List ℕ) → IsBehind l.path.items next → IsBehind l.fn.path.items next)
 
 abbrev pub decreases-loop-choice : goal.decreases-loop-choice
 decreases-loop-choice l = length l.path.items

@@ -1,10 +1,10 @@
-use Rattle.std.proofs.Common.{◌≡◌, ℕ, ◌+◌, ◌≤◌, List, [], ◌∷◌, ◌++◌, length, sym, ap, ◌∙◌, subst, arith, ◌⊎◌, length-append}
+use Rattle.std.proofs.Common.{◌≡◌, ℕ, ◌+◌, ◌≤◌, List, [], ◌∷◌, ◌++◌, length, sym, ap, ◌∙◌, subst, arith, ◌⊎◌, inr, length-append}
 use Rattle.std.specs.List.{Contains}
 use Rattle.jls_parts.specs.PartsOf.{parts_of}
 use Rattle.jls_parts.specs.Parts.{Part}
 use Rattle.jls_splice.specs.Order.{IsBehind}
 use Rattle.jls_splice.specs.Search.{MakeFiles, lists_of}
-use Rattle.jls_splice.proofs.Searching.{turned_on, found_behind, files_more, on_ok}
+use Rattle.jls_splice.proofs.Searching.{turned_on, turned_step, found_behind, files_more, on_ok}
 use Rattle.jls_splice.proofs.whole_search.pass_found.Goals as goal
 
 pub returns-clause-next : goal.returns-clause-next
@@ -22,3 +22,10 @@ returns-clause-count c =
     let F : List (List ℕ) = lists_of c.args.found.now.items in let M : List (List ℕ) = lists_of c.take_found.new.found.items in
     let e : length M ≡ length F + 1 = ap length c.in_ok-take_found.ensures ∙ length-append F (c.deref.result.now ∷ []) in
     on_ok c.turn.result ((length F ≤ length M) × (length M ≤ length F + 1)) (omega (arith, e), omega (arith, e))
+
+pub returns-clause-step : goal.returns-clause-step
+returns-clause-step c =
+    let path : List ℕ = c.args.path.now.items in
+    let F : List (List ℕ) = lists_of c.args.found.now.items in let M : List (List ℕ) = lists_of c.take_found.new.found.items in
+    let E : M ≡ F ++ path ∷ [] = c.in_ok-take_found.ensures ∙ ap (λ p. F ++ p ∷ []) c.deref.ensures.value in
+    turned_step c.turn.result path c.turn.new.path.items F M (inr E) c.turn.ensures.behind

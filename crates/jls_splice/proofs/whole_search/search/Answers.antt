@@ -34,3 +34,16 @@ returns-clause-few c =
     let few = c.in_ok-go_on.ensures.stands.1 in
     let found = ap (λ (v : Vec (Vec ℕ Global) Global). length v.items) same.splices in
     (omega (arith, went, none, tries), omega (arith, all, few, found))
+
+pub returns-clause-tried : goal.returns-clause-tried
+returns-clause-tried c =
+    let same = c.into_searched.ensures in
+    record {
+      begun = c.in_ok-begun.begun;
+      is_begun = c.in_ok-begun.ensures.untried;
+      stands = c.in_ok-begun.ensures.stands;
+      last = c.go_on.new.self;
+      tried = c.in_ok-go_on.ensures.went.tried;
+      tries_are = sym same.tries;
+      found_are = ap (λ (v : Vec (Vec ℕ Global) Global). lists_of v.items) (sym same.splices);
+    }

@@ -1,7 +1,6 @@
-use Rattle.std.proofs.Common.{◌≡◌, ◌≤◌, length, arith}
+use Rattle.std.proofs.Common.{◌≤◌, length, arith}
 use Rattle.std.proofs.lemmas.List.{length-map}
 use Rattle.jls_parts.specs.PartsOf.{part_of, parts_of}
-use Rattle.jls_splice_groups.specs.Groups.{IsFound}
 use Rattle.jls_splice_groups.proofs.Steps.{found_all, are_groups, groups_cover}
 use Rattle.jls_splice_groups.proofs.find.find_groups.Goals as goal
 

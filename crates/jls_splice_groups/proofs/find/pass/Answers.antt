@@ -1,4 +1,4 @@
-use Rattle.std.proofs.Common.{◌≡◌, [], get_or, true, false, refl}
+use Rattle.std.proofs.Common.{[], get_or, false, refl}
 use Rattle.std.specs.Prelude.{IsTrue}
 use Rattle.jls_parts.specs.Parts.{Same}
 use Rattle.jls_parts.specs.PartsOf.{parts_of}

@@ -2,7 +2,7 @@ use Rattle.std.proofs.Common.{◌<◌, length, arith}
 use Rattle.jls_device.specs.Event.{GrewBy}
 use Rattle.jls_device.proofs.Growing.{grew_as}
 use Rattle.jls_parts.specs.PartsOf.{parts_of}
-use Rattle.jls_splice.specs.Search.{IsSearch, lists_of}
+use Rattle.jls_splice.specs.Search.{IsSearch, Tried, lists_of}
 use Rattle.jls_splice_progress.specs.Telling.{GoesOn, TellsLine}
 use Rattle.jls_splice_progress.proofs.Rounds.{on_ok, on_ok_anyway, went_on}
 use Rattle.jls_splice_progress.proofs.searching.go_on.Goals as goal
@@ -29,5 +29,9 @@ returns-clause-told g c =
     let h' = history c.tell.new.faults in
     on_ok c.tell.result (GrewBy tells h h') (GrewBy (GoesOn options old new) h h')
     (grew_as tells (GoesOn options old new) h h'
-    (λ events told. went_on options old new c.next_pause-pause.result c.next_pause-pause.ensures c.requires.can c.in_ok-go_on.ensures.stops c.in_ok-go_on.ensures.went events told))
+    (λ events told. went_on (parts_of c.args.parts.now) options old new c.next_pause-pause.result c.next_pause-pause.ensures c.requires.can c.in_ok-go_on.ensures.stops c.in_ok-go_on.ensures.went events told))
     c.tell.ensures.told
+
+pub returns-clause-tried : goal.returns-clause-tried
+returns-clause-tried g c =
+    on_ok_anyway c.tell.result (Tried (parts_of c.args.parts.now) c.args.walk.now c.go_on.new.self) c.in_ok-go_on.ensures.went.tried

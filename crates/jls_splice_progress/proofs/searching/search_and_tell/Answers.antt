@@ -5,7 +5,7 @@ use Rattle.jls_device.proofs.Growing.{grew_as, grew_not}
 use Rattle.jls_parts.proofs.Slices.{count_of_slices}
 use Rattle.jls_parts.specs.PartsOf.{bytes_of, parts_of}
 use Rattle.jls_splice.specs.Choices.{HasSomeWay}
-use Rattle.jls_splice.specs.Search.{IsSearch, IsShort, lists_of}
+use Rattle.jls_splice.specs.Search.{IsSearch, IsShort, WereTried, lists_of}
 use Rattle.jls_splice.proofs.Walks.{used_up}
 use Rattle.jls_splice_progress.specs.Telling.{HasTold, IsTold, ToldSome}
 use Rattle.jls_splice_progress.proofs.Rounds.{none_told, on_err_anyway}
@@ -58,3 +58,17 @@ returns-clause-told g c =
     (g.E.Device.history c.args.faults.now) (g.E.Device.history c.search_parts.new.faults)
     (λ events h. subst (λ n. IsTold options.tells n (length (lists_of searched.splices.items)) events) (sym same.tries)
     (subst (λ (v : Vec (Vec ℕ Global) Global). IsTold options.tells walk.tries (length (lists_of v.items)) events) (sym same.splices) h.told)) c.in_ok-walk.ensures.told
+
+pub returns-clause-tried : goal.returns-clause-tried
+returns-clause-tried g c =
+    let same = c.into_searched.ensures in
+    let were = c.in_ok-walk.ensures.tried in
+    subst (λ ps. WereTried (parts_of ps) c.into_searched.result.tries (lists_of c.into_searched.result.splices.items)) c.deref.ensures.value (record {
+      begun = were.0;
+      is_begun = were.1;
+      stands = were.2;
+      last = c.in_ok-walk.walk;
+      tried = were.3;
+      tries_are = sym same.tries;
+      found_are = ap (λ (v : Vec (Vec ℕ Global) Global). lists_of v.items) (sym same.splices);
+    })

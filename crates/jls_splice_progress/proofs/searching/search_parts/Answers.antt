@@ -1,11 +1,12 @@
 use Rattle.std.proofs.Common.{◌≡◌, ℕ, Bool, true, false, List, [], length, refl, sym, ap, ◌∙◌, subst, arith}
 use Rattle.jls_device.specs.Event.{Event, GrewBy}
 use Rattle.jls_device.proofs.Growing.{grew_as, grew_not, grew_on}
-use Rattle.jls_splice.specs.Search.{lists_of}
+use Rattle.jls_parts.specs.PartsOf.{parts_of}
+use Rattle.jls_splice.specs.Search.{lists_of, nothing}
 use Rattle.jls_splice.specs.declared.whole_search.WholeSearch.{WholeSearch}
 use Rattle.jls_splice_progress.specs.Telling.{GoesOn, HasTold, IsTold, ToldSome}
 use Rattle.jls_splice_progress.specs.declared.options.SearchOptions.{SearchOptions}
-use Rattle.jls_splice_progress.proofs.Rounds.{none_told, on_err_anyway, told_on}
+use Rattle.jls_splice_progress.proofs.Rounds.{none_told, on_err_anyway, told_on, tried_on}
 use Rattle.jls_splice_progress.proofs.searching.search_parts.Goals as goal
 
 begun_told : (options : SearchOptions) (walk : WholeSearch) → walk.tries ≡ 0 → length (lists_of walk.splices.items) ≡ 0 → HasTold options walk []
@@ -29,6 +30,7 @@ loop-alloc-init g c =
     let none = c.in_ok-walk.ensures.untried in
     record {
       stands = c.in_ok-walk.ensures.stands;
+      tried = (walk, none, c.in_ok-walk.ensures.stands, nothing walk);
       told = grew_not (HasTold c.args.options walk) (g.E.Device.history c.args.faults.now)
           (begun_told c.args.options walk none.0 (ap (λ xs. length (lists_of xs)) none.1));
     }
@@ -37,8 +39,15 @@ pub loop-alloc-preserved : goal.loop-alloc-preserved
 loop-alloc-preserved g c =
     let history = g.E.Device.history in
     let can = c.can_go_on.ensures.0 c.loop-alloc-test.true in
+    let so_far = c.loop-alloc.invariant.tried in
     record {
       stands = c.in_ok-go_on.ensures.stands;
+      tried = (
+        so_far.0,
+        so_far.1,
+        so_far.2,
+        tried_on (parts_of c.args.parts.now) so_far.0 c.loop-alloc.walk c.go_on.new.walk so_far.3 c.in_ok-go_on.ensures.tried,
+      );
       told = grew_on (HasTold c.args.options c.loop-alloc.walk) (GoesOn c.args.options c.loop-alloc.walk c.go_on.new.walk) (HasTold c.args.options c.go_on.new.walk)
           (history c.args.faults.now) (history c.loop-alloc.faults) (history c.go_on.new.faults)
           (λ a b h k. told_on c.args.options c.loop-alloc.walk c.go_on.new.walk a b can h k) c.loop-alloc.invariant.told c.in_ok-go_on.ensures.told;

@@ -2,7 +2,7 @@ use Rattle.std.proofs.Common.{◌-◌}
 use Rattle.jls_device.specs.Event.{GrewBy}
 use Rattle.jls_parts.specs.PartsOf.{parts_of}
 use Rattle.jls_splice.specs.Search.{IsSearch}
-use Rattle.jls_splice_progress.specs.Telling.{HasTold}
+use Rattle.jls_splice_progress.specs.Telling.{HasTold, WasBegun}
 use Rattle.jls_splice_progress.proofs.searching.search_parts.Given as goal
 
 abbrev pub invariant-loop-alloc : goal.invariant-loop-alloc
@@ -10,6 +10,7 @@ invariant-loop-alloc g l =
     let history = g.E.Device.history in
     record {
       stands : IsSearch (parts_of l.parts) l.walk;
+      tried : WasBegun (parts_of l.parts) l.walk;
       told : GrewBy (HasTold l.options l.walk) (history l.fn.faults) (history l.faults);
     }
 

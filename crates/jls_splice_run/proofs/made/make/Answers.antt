@@ -1,4 +1,4 @@
-use Rattle.std.proofs.Common.{◌≡◌, ℕ, List, [], length, inl, inr, ap, sym, ◌∙◌, subst}
+use Rattle.std.proofs.Common.{◌≡◌, ℕ, List, length, inl, inr, ap, sym, ◌∙◌, subst}
 use Rattle.jls_copy_files.specs.CopyFiles.{CopyBytes, copies_of}
 use Rattle.jls_device.proofs.Growing.{grew_as, grew_not}
 use Rattle.jls_partial.specs.Partial.{PartialPicture}
@@ -71,7 +71,7 @@ returns-in-Ok-texts_of-clause-made g c =
       m,
       record {
         is_found = subst (λ (xs : List (List ℕ)). IsFound xs (found_of found)) searched c.in-Ok-search.ensures.found;
-        are_tries = record { within = c.in-Ok-search.ensures.few; used_up = c.in-Ok-search.ensures.used_up };
+        are_tries = record { tried = c.in-Ok-search.ensures.tried; within = c.in-Ok-search.ensures.few; used_up = c.in-Ok-search.ensures.used_up; of_groups = c.in-Ok-search.ensures.of_groups };
         is_picture = subst (λ (q : PartialPicture). IsPictureOf a.options.source copies (splices_in (found_of found)) q) (sym c.partial.ensures)
             (subst (λ (xs : List (List ℕ)). IsPictureOf a.options.source copies xs c.in-Ok-settle.station) splices c.in-Ok-settle.ensures.settled);
         is_single = subst (λ (xs : List (List ℕ)). IsSingleAsked a.options.file (files_taken xs (found_of found)) m.single) told c.in-Ok-texts_of.ensures.single;

@@ -1,9 +1,9 @@
-use Rattle.std.proofs.Common.{◌≡◌, ℕ, ◌<◌, true, List, length, ap, sym, ◌∙◌, subst, arith, inl, inr}
+use Rattle.std.proofs.Common.{◌≡◌, ℕ, ◌<◌, true, List, length, ap, sym, ◌∙◌, subst, inl, inr}
 use Rattle.jls_device.specs.Event.{GrewBy}
 use Rattle.jls_device.proofs.Growing.{grew_as, grew_not}
 use Rattle.jls_parts.proofs.Slices.{count_of_slices}
 use Rattle.jls_parts.specs.PartsOf.{bytes_of, parts_of}
-use Rattle.jls_splice.specs.Search.{lists_of}
+use Rattle.jls_splice.specs.Search.{WereTried, lists_of}
 use Rattle.jls_splice.specs.SearchLaws.{AreShort}
 use Rattle.jls_group_search.specs.Found.{found_of}
 use Rattle.jls_splice_progress.specs.Telling.{IsTold, ToldSome}
@@ -34,6 +34,15 @@ returns-clause-used_up g c = λ t.
     let e = c.in_ok-more.ensures in
     let used : c.in_ok-found.found.searched.is_used_up ≡ true = sym e.used_up ∙ t in
     elim (c.in_ok-found.ensures.used_up used) [ inl n ↦ inl (e.tries ∙ n) | inr n ↦ inr (ap length e.kept ∙ n) ]
+
+pub returns-clause-tried : goal.returns-clause-tried
+returns-clause-tried g c =
+    let found = c.in_ok-found.found in
+    let more = c.in_ok-more.more in
+    let e = c.in_ok-more.ensures in
+    subst (λ ps. WereTried (parts_of ps) more.tries (found_of more).choices) (sym e.parts_kept)
+    (subst (λ (n : ℕ). WereTried (parts_of found.parts.items) n (found_of more).choices) (sym e.tries)
+    (subst (λ (xs : List (List ℕ)). WereTried (parts_of found.parts.items) found.searched.tries xs) (sym e.kept) c.in_ok-found.ensures.tried))
 
 pub returns-clause-told : goal.returns-clause-told
 returns-clause-told g c =

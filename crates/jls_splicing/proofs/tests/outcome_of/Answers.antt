@@ -7,23 +7,15 @@ use Rattle.jls_splice.specs.Search.{IsShort, lists_of}
 use Rattle.jls_splicing.proofs.SearchedCopies.{whole_of_found, short_of_found}
 use Rattle.jls_splicing.proofs.tests.outcome_of.Goals as goal
 
-pub find_shape-requires-clause-short : goal.find_shape-requires-clause-short
-find_shape-requires-clause-short c =
-    let some : 0 < length c.args.copies.now = search rules in
-    let yes : IsTrue c.are_short.result = search rules in
-    subst (λ ps. IsShort (parts_of ps)) (sym c.deref.ensures.value)
-    (short_of_found c.parts_can_be_searched.ensures c.args.copies.now (parts_of c.in_ok-found.found.parts.items) c.in_ok-found.ensures.parts
-    some (c.are_short.ensures.0 yes))
-
-pub take_files-requires-clause-whole : goal.take_files-requires-clause-whole
-take_files-requires-clause-whole c =
+pub settle_files-requires-clause-whole : goal.settle_files-requires-clause-whole
+settle_files-requires-clause-whole c =
     let found = c.in_ok-found.found in
     subst (λ ps. AllByRecursion (IsWhole (parts_of ps)) (lists_of c.deref-2.result.now)) (sym c.deref.ensures.value)
     (subst (λ (vs : List (Vec ℕ Global)). AllByRecursion (IsWhole (parts_of found.parts.items)) (lists_of vs)) (sym c.deref-2.ensures.value)
     (whole_of_found (parts_of found.parts.items) (lists_of found.searched.splices.items) c.in_ok-found.ensures.searched.files))
 
-pub take_files-requires-clause-short : goal.take_files-requires-clause-short
-take_files-requires-clause-short c =
+pub settle_files-requires-clause-short : goal.settle_files-requires-clause-short
+settle_files-requires-clause-short c =
     let some : 0 < length c.args.copies.now = search rules in
     let yes : IsTrue c.are_short.result = search rules in
     subst (λ ps. IsShort (parts_of ps)) (sym c.deref.ensures.value)

@@ -1,7 +1,7 @@
 use Rattle.std.proofs.Common.{◌≡◌, ℕ, ◌<◌, ◌≤◌, Bool, true, List, length, refl, sym, subst, arith, inl, inr}
 use Rattle.jls_parts.specs.Parts.{Part}
 use Rattle.jls_parts.specs.PartsOf.{parts_of}
-use Rattle.jls_splice.specs.Search.{CanGoOn, GoesOn, StandsAt, lists_of}
+use Rattle.jls_splice.specs.Search.{CanGoOn, GoesOn, StandsAt, lists_of, nothing, one_more}
 use Rattle.jls_splice.specs.declared.whole_search.WholeSearch.{WholeSearch}
 use Rattle.jls_splice.proofs.whole_search.WholeSearch.go_on.Goals as goal
 
@@ -19,6 +19,9 @@ try_next-requires-clause-stands c =
     let s = c.loop-alloc.self in
     stands_at (parts_of c.args.parts.now) s.path.items (lists_of s.splices.items) s.goes_on can.0 c.loop-alloc.invariant.stands.0
 
+pub try_next-requires-clause-kept : goal.try_next-requires-clause-kept
+try_next-requires-clause-kept c = c.loop-alloc.invariant.stands.2
+
 pub loop-alloc-preserved : goal.loop-alloc-preserved
 loop-alloc-preserved c =
     let can = c.can_go_on.ensures.0 c.loop-alloc-test.true in
@@ -31,7 +34,13 @@ loop-alloc-preserved c =
     let files = so_far.files in
     let tries = so_far.tries in
     record {
-      stands = (c.in_ok-self.ensures.next, omega (arith, few, most));
+      stands = (c.in_ok-self.ensures.next, omega (arith, few, most), c.in_ok-self.ensures.kept);
+      tried = one_more c.args.self.now c.loop-alloc.self _ so_far.tried (record {
+        goes_on = can.0;
+        stands = (c.in_ok-self.ensures.next, omega (arith, few, most), c.in_ok-self.ensures.kept);
+        counted = refl;
+        step = c.in_ok-self.ensures.step;
+      });
       tries = omega (arith, tries);
       files = omega (arith, files, least);
       within = omega (arith, below);
@@ -48,6 +57,7 @@ pub returns-clause-went : goal.returns-clause-went
 returns-clause-went c =
     let so_far = c.loop-alloc.invariant in
     record {
+      tried = so_far.tried;
       tries = so_far.tries;
       files = so_far.files;
       within = so_far.within;
@@ -59,3 +69,13 @@ returns-clause-went c =
                 let no = c.loop-alloc-test.false in absurd cc)
           ];
     }
+
+pub loop-alloc-init : goal.loop-alloc-init
+loop-alloc-init c = record {
+  stands = c.requires.stands;
+  tried = nothing c.args.self.now;
+  tries = omega arith;
+  files = omega arith;
+  within = omega arith;
+  some = inr refl;
+}

@@ -1,7 +1,7 @@
 use Rattle.jls_parts.specs.PartsOf.{parts_of}
 use Rattle.jls_splice.specs.Choices.{front_of}
 use Rattle.jls_splice.proofs.Fronts.{room_at_first, fed_first}
-use Rattle.jls_splice.proofs.looking.reader_of.Goals as goal
+use Rattle.jls_splice.proofs.feeding.reader_of.Goals as goal
 
 pub feed_front-requires : goal.feed_front-requires
 feed_front-requires c = record {

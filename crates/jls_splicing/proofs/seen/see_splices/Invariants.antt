@@ -1,9 +1,0 @@
-use Rattle.std.proofs.Common.{ℕ, List, ◌++◌, take}
-use Rattle.jls_parts.specs.PartsOf.{parts_of}
-use Rattle.jls_splice.specs.Search.{files_of, lists_of}
-use Rattle.jls_splicing.specs.Seen.{AreSeen}
-use Rattle.jls_splicing.proofs.seen.see_splices.Given as goal
-
-abbrev pub invariant-loop-choices : goal.invariant-loop-choices
-invariant-loop-choices l = (files : List (List ℕ)) → AreSeen files l.fn.seen.items
-    → AreSeen (files ++ files_of (parts_of l.parts) (lists_of (take l.choices-index l.splices))) l.seen.items
