@@ -17,6 +17,20 @@ struct Interval {
     piece: &'static [u8],
 }
 
+/// Four lines.
+pub const FOUR_LINES: &[&[u16]] = &[
+    &[0, 0, 90, 74],
+    &[68, 50, 43, 205],
+    &[64, 145, 145, 145],
+    &[100, 145, 145, 145],
+];
+
+/// What CharLS writes them as.
+pub const FOUR_LINES_CODE: &[u8] = &[
+    0xC0, 0x00, 0x00, 0x6C, 0x80, 0x20, 0x8E, 0x01, 0xC0, 0x00, 0x00, 0x57, 0x40, 0x00, 0x00, 0x6E,
+    0xE6, 0x00, 0x00, 0x01, 0xBC, 0x18, 0x00, 0x00, 0x05, 0xD8, 0x00, 0x00, 0x91, 0x60,
+];
+
 /// A line of one zero.
 const ZERO: &[u16] = &[0];
 
@@ -31,17 +45,8 @@ const INTERVALS: [Interval; 3] = [
     Interval {
         width: 4,
         rows: 4,
-        lines: &[
-            &[0, 0, 90, 74],
-            &[68, 50, 43, 205],
-            &[64, 145, 145, 145],
-            &[100, 145, 145, 145],
-        ],
-        piece: &[
-            0xC0, 0x00, 0x00, 0x6C, 0x80, 0x20, 0x8E, 0x01, 0xC0, 0x00, 0x00, 0x57, 0x40, 0x00,
-            0x00, 0x6E, 0xE6, 0x00, 0x00, 0x01, 0xBC, 0x18, 0x00, 0x00, 0x05, 0xD8, 0x00, 0x00,
-            0x91, 0x60,
-        ],
+        lines: FOUR_LINES,
+        piece: FOUR_LINES_CODE,
     },
     Interval {
         width: 1,
@@ -157,6 +162,14 @@ fn check_refused(rt: &impl Abort, mut decoder: IntervalDecoder) {
     }
 }
 
+/// Asks a decoder for its lines that took the whole piece.
+fn check_lines(rt: &impl Abort, decoder: IntervalDecoder, interval: &Interval) {
+    match decoder.finish() {
+        Ok(lines) => assert!(rt; are_lines(&lines, interval.lines)),
+        Err(fault) => panic!(rt; "{fault:?}"),
+    }
+}
+
 /// Pushes a piece in slices of this size.
 fn push_slices(
     rt: &impl Abort,
@@ -171,10 +184,7 @@ fn push_slices(
             return Ok(Met::Refused);
         }
     }
-    match decoder.finish() {
-        Ok(lines) => assert!(rt; are_lines(&lines, interval.lines)),
-        Err(fault) => panic!(rt; "{fault:?}"),
-    }
+    check_lines(rt, decoder, interval);
     Ok(Met::Done)
 }
 
@@ -198,10 +208,7 @@ fn push_bytes(rt: &impl Abort, alloc: Global, interval: &Interval) -> Result<Met
             return Ok(Met::Refused);
         }
     }
-    match decoder.finish() {
-        Ok(lines) => assert!(rt; are_lines(&lines, interval.lines)),
-        Err(fault) => panic!(rt; "{fault:?}"),
-    }
+    check_lines(rt, decoder, interval);
     Ok(Met::Done)
 }
 

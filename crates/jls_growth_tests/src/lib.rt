@@ -12,6 +12,8 @@ mod interval;
 #[cfg(test)]
 mod met;
 #[cfg(test)]
+mod pairs;
+#[cfg(test)]
 mod partial;
 #[cfg(test)]
 mod readings;
@@ -20,7 +22,11 @@ mod room;
 #[cfg(test)]
 mod running;
 #[cfg(test)]
+mod searching;
+#[cfg(test)]
 mod sets;
+#[cfg(test)]
+mod splicing;
 #[cfg(test)]
 mod ten;
 #[cfg(test)]

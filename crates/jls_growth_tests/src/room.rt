@@ -46,7 +46,7 @@ impl Write for Room {
 /// An input by its name.
 pub type File<'a> = (&'a str, &'a [u8]);
 
-/// Files in memory: inputs, and room for one output.
+/// Files in memory: inputs, and room for what all outputs take, one behind the other.
 #[derive(Drop)]
 pub struct Files<'a> {
     files: &'a [File<'a>],
@@ -56,7 +56,7 @@ pub struct Files<'a> {
 }
 
 impl<'a> Files<'a> {
-    /// These files, of which none is open, and an output with room for 100,000 bytes.
+    /// These files, of which none is open, and room for 100,000 bytes of outputs.
     pub fn new(alloc: Global, files: &'a [File<'a>]) -> Result<Files<'a>, AllocError> {
         Ok(Files {
             files,
@@ -71,7 +71,7 @@ impl<'a> Files<'a> {
         self.created
     }
 
-    /// What the output took.
+    /// What the outputs took.
     pub fn output(&self) -> &[u8] {
         self.output.held()
     }
@@ -79,11 +79,7 @@ impl<'a> Files<'a> {
 
 impl Read for Files<'_> {
     fn read(&mut self, into: &mut [u8]) -> io::Result<usize> {
-        let rest = self.rest;
-        let n = rest.len().min(into.len());
-        into[..n].copy_from_slice(&rest[..n]);
-        self.rest = &rest[n..];
-        Ok(n)
+        self.rest.read(into)
     }
 }
 

@@ -1,10 +1,9 @@
-//! The program over a desk in memory.
+//! The programs over a desk in memory.
 
 use crate::met::{Met, Stopped, Tally};
 use crate::room::{File, Files, Room};
 use crate::ten::{copy_of, lines_of, samples_of};
 use jls_device::Counted;
-use jls_program::run;
 use std::alloc::{AllocError, Global};
 use std::fmt::Write;
 use std::process::Abort;
@@ -20,12 +19,14 @@ struct Ending {
     faults: Room,
 }
 
-/// What a run with ample memory leaves behind: its status, what OUT has if it is created, and what is printed, if that is known.
+/// What a run with ample memory leaves behind: its status, what all outputs that it creates have, and what is printed, if that is known.
 #[derive(Drop)]
-struct Wanted {
-    status: u8,
-    output: Option<Vec<u8>>,
-    report: Option<String>,
+pub struct Wanted {
+    pub status: u8,
+    pub created: u8,
+    pub output: Vec<u8>,
+    pub report: Option<String>,
+    pub faults: &'static str,
 }
 
 fn words_of(alloc: Global, line: &str) -> Result<Vec<String>, AllocError> {
@@ -36,19 +37,25 @@ fn words_of(alloc: Global, line: &str) -> Result<Vec<String>, AllocError> {
     Ok(words)
 }
 
-/// Runs the program with the words of a line.
+/// Whether the words of a line are those of `jls-splice`.
+fn is_splice(line: &str) -> bool {
+    line.starts_with("jls-splice ")
+}
+
+/// Runs the program that a line begins with, with the words of the line.
 fn run_line(alloc: Global, line: &str, files: &[File<'_>]) -> Result<Ending, AllocError> {
     let words = words_of(alloc, line)?;
     let mut report = Room::of(alloc, 10_000)?;
     let mut faults = Room::of(alloc, 10_000)?;
     let mut files = Files::new(alloc, files)?;
-    let status = run(
-        alloc,
-        &words,
-        &mut Counted::closed(&mut files),
-        &mut Counted::new(&mut report),
-        &mut Counted::new(&mut faults),
-    );
+    let desk = &mut Counted::closed(&mut files);
+    let printed = &mut Counted::new(&mut report);
+    let told = &mut Counted::new(&mut faults);
+    let status = if is_splice(line) {
+        jls_splice_run::run(alloc, &words, desk, printed, told)
+    } else {
+        jls_program::run(alloc, &words, desk, printed, told)
+    };
     Ok(Ending {
         status,
         created: files.created(),
@@ -60,30 +67,45 @@ fn run_line(alloc: Global, line: &str, files: &[File<'_>]) -> Result<Ending, All
 
 /// Whether a run ended as it does with ample memory.
 fn is_done(found: &Ending, wanted: &Wanted) -> bool {
-    let is_written = match &wanted.output {
-        Some(bytes) => found.created == 1 && found.output == *bytes,
-        None => found.created == 0,
-    };
     let is_printed = match &wanted.report {
-        Some(text) => found.report.held() == text.as_bytes() && found.faults.held().is_empty(),
+        Some(text) => {
+            found.report.held() == text.as_bytes()
+                && found.faults.held() == wanted.faults.as_bytes()
+        }
         None => !(found.report.held().is_empty() && found.faults.held().is_empty()),
     };
-    found.status == wanted.status && is_written && is_printed
+    found.status == wanted.status
+        && found.created == wanted.created
+        && found.output == wanted.output
+        && is_printed
+}
+
+/// Whether it is said last that memory ran out, and before that nothing, or what is said with ample memory.
+fn says_refused(faults: &[u8], wanted: &Wanted, line: &str) -> bool {
+    let refusal = if is_splice(line) {
+        "jls-splice: out of memory\n"
+    } else {
+        "jls-salvage: out of memory\n"
+    };
+    match std::str::from_utf8(faults) {
+        Ok(text) => match text.strip_suffix(refusal) {
+            Some(before) => before.is_empty() || before == wanted.faults,
+            None => false,
+        },
+        Err(_) => false,
+    }
 }
 
 /// Whether a run ended for want of memory, and said and left behind nothing else than the first bytes of a file.
 fn is_refused(found: &Ending, wanted: &Wanted, line: &str) -> bool {
-    let is_front = match &wanted.output {
-        Some(bytes) => line.contains(" jls ") && bytes.starts_with(&found.output),
-        None => false,
-    };
-    found.faults.held() == b"jls-salvage: out of memory\n".as_slice()
+    let is_front = line.contains(" jls ") && wanted.output.starts_with(&found.output);
+    says_refused(found.faults.held(), wanted, line)
         && found.report.held().is_empty()
         && (found.created == 0 || is_front)
 }
 
 /// Runs the program, and again where memory ran out.
-fn run_one(
+pub fn run_one(
     rt: &impl Abort,
     alloc: Global,
     line: &str,
@@ -152,10 +174,13 @@ fn output_of(alloc: Global, height: u16, gives: Gives) -> Result<Option<Vec<u8>>
 fn run_on(rt: &impl Abort, alloc: Global, height: u16, row: &Row) -> Result<Met, Stopped> {
     let copy = copy_of(alloc, height)?;
     let text = lines_of(alloc, height)?.to_bytes(alloc)?;
+    let output = output_of(alloc, height, row.gives)?;
     let wanted = Wanted {
         status: row.status,
-        output: output_of(alloc, height, row.gives)?,
+        created: if output.is_some() { 1 } else { 0 },
+        output: output.unwrap_or(Vec::new(alloc)),
         report: report_of(alloc, height, row.gives)?,
+        faults: "",
     };
     let files: [(&str, &[u8]); 2] = [("copy", &copy), ("text", &text)];
     run_one(rt, alloc, row.line, &files, &wanted)
@@ -253,6 +278,8 @@ fn help_and_usage(rt: HostRuntime) {
     let rows = [
         told("jls-salvage --help", 0, Gives::Nothing),
         told("jls-salvage join", 2, Gives::Nothing),
+        told("jls-splice --help", 0, Gives::Nothing),
+        told("jls-splice OUT copy", 2, Gives::Nothing),
     ];
     run_rows(&rt, rt.alloc(), "run with help and usage", &rows);
 }
