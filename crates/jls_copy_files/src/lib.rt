@@ -8,6 +8,3 @@ mod reading;
 pub use copies::read_copies;
 pub use copy::{CopyCause, CopyFile, CopyRefusal, open_and_read_copy};
 pub use reading::read_to_end;
-
-#[cfg(test)]
-mod tests;

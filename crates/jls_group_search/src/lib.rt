@@ -13,6 +13,3 @@ mod trying;
 pub use found::{FoundSplices, GroupsTold, complete_by_groups};
 pub use reading::reads_between;
 pub use search::{SearchedGroups, search_groups};
-
-#[cfg(test)]
-mod tests;

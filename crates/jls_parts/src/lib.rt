@@ -17,6 +17,3 @@ mod zeros;
 pub use find::find_parts;
 pub use laws::{choices_make_splices, copies_are_splices, splices_are_listed};
 pub use part::Part;
-
-#[cfg(test)]
-mod tests;

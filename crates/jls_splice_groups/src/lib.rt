@@ -8,6 +8,3 @@ mod group;
 pub use border::Border;
 pub use find::find_groups;
 pub use group::Group;
-
-#[cfg(test)]
-mod tests;

@@ -8,6 +8,3 @@ mod lines;
 pub use differences::{Difference, differences_of};
 pub use found::{Found, GroupSearch};
 pub use lines::{put_found, put_progress};
-
-#[cfg(test)]
-mod tests;

@@ -14,6 +14,3 @@ mod taking;
 pub use files::Files;
 pub use settling::{Settled, settle_files};
 pub use shape_found::ShapeFound;
-
-#[cfg(test)]
-mod tests;

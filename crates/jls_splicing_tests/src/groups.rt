@@ -1,9 +1,7 @@
 //! Groups of two copies of a file with two restart intervals, worked by hand.
 
-use crate::border::Border;
-use crate::find::find_groups;
-use crate::group::Group;
 use jls_parts::Part;
+use jls_splice_groups::{Border, Group, find_groups};
 use std::alloc::{AllocError, Global};
 use std::test::Fail;
 

@@ -1,9 +1,7 @@
 //! Lines of what was found, worked by hand.
 
-use crate::differences::{Difference, differences_of};
-use crate::found::{Found, GroupSearch};
-use crate::lines::{put_found, put_progress};
 use jls_parts::find_parts;
+use jls_splice_lines::{Difference, Found, GroupSearch, differences_of, put_found, put_progress};
 use std::alloc::{AllocError, Global};
 use std::test::Fail;
 

@@ -1,7 +1,7 @@
 use Rattle.std.proofs.Common.{◌≡◌, ap, ◌∙◌, length, arith}
 use Rattle.jls_parts.specs.Parts.{made}
 use Rattle.jls_parts.specs.PartsOf.{parts_of}
-use Rattle.jls_splice_lines.proofs.tests.differences_between.Goals as goal
+use Rattle.jls_splicing_tests.proofs.lines.differences_between.Goals as goal
 
 pub differences_of-requires : goal.differences_of-requires
 differences_of-requires c =

@@ -1,7 +1,6 @@
 //! Copies of files in memory.
 
-use crate::copies::read_copies;
-use crate::copy::{CopyCause, CopyRefusal};
+use jls_copy_files::{CopyCause, CopyRefusal, read_copies};
 use jls_device::{Counted, Open};
 use jls_station::ReadStop;
 use std::io;

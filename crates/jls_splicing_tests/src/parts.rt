@@ -1,7 +1,6 @@
 //! Which parts are found of copies that are damaged in known places.
 
-use crate::find::find_parts;
-use crate::part::Part;
+use jls_parts::{Part, find_parts};
 use std::alloc::{AllocError, Global};
 use std::test::Fail;
 

@@ -5,7 +5,7 @@ use Rattle.jls_parts.specs.PartsOf.{parts_of}
 use Rattle.jls_splice.specs.Choices.{IsWhole}
 use Rattle.jls_splice.specs.Search.{IsShort, lists_of}
 use Rattle.jls_splicing.proofs.SearchedCopies.{whole_of_found, short_of_found}
-use Rattle.jls_splicing.proofs.tests.outcome_of.Goals as goal
+use Rattle.jls_splicing_tests.proofs.stations.outcome_of.Goals as goal
 
 pub settle_files-requires-clause-whole : goal.settle_files-requires-clause-whole
 settle_files-requires-clause-whole c =

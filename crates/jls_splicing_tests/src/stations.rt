@@ -1,9 +1,9 @@
 //! Copies of known pictures, each byte of which is true in some copy or in none. CharLS wrote the file of four lines.
 
-use crate::{Files, Settled, settle_files};
 use jls_marker::MarkerFault;
 use jls_partial::Partial;
 use jls_splice::{are_short, parts_can_be_searched, search_copies};
+use jls_splicing::{Files, Settled, settle_files};
 use jls_values::Shape;
 use std::alloc::Global;
 use std::test::Fail;

@@ -1,6 +1,6 @@
 //! Splices of two copies of a file with two restart intervals, worked by hand.
 
-use crate::found::complete_by_groups;
+use jls_group_search::complete_by_groups;
 use jls_splice::{are_short, search_copies};
 use std::alloc::{AllocError, Global};
 use std::test::Fail;
