@@ -2,3 +2,4 @@
 pub mod Names
 pub mod Lines
 pub mod Handing
+pub mod FaultLines

@@ -2,8 +2,13 @@
 //! terminal or forge a line.
 #![tactic(auto)]
 
+mod fault;
 mod line;
 mod names;
 mod pending;
 
+pub use fault::{
+    print_about, print_no_picture, print_not_written, print_out_of_memory, print_plain,
+    print_with_number,
+};
 pub use line::{LinePart, print_line, print_text};

@@ -11,8 +11,8 @@ use Rattle.jls_commands.specs.Outcomes.{Outcome, exit_status}
 use Rattle.jls_commands.specs.Histories.{GrewBoth}
 use Rattle.jls_words.specs.Words.{AreRefused}
 use Rattle.jls_words.specs.Asking.{Asked, AskFor, AskForNothing, format_is_known}
-use Rattle.jls_program.specs.FaultLines.{fault_line, unknown_value_line}
-use Rattle.jls_program.specs.Answers.{Answered}
+use Rattle.jls_answers.specs.Answers.{Answered}
+use Rattle.jls_program.specs.FaultLines.{fault_line, program, unknown_value_line}
 use Rattle.jls_program.specs.Runs.{CameOf, Run, came_of, nothing_asked, Ran}
 use Rattle.jls_program.proofs.RefusedWords.{run_of_answer}
 
@@ -29,7 +29,7 @@ desk_alone A desk desk' report h = record {
 
 module _ (words : List Text) (desk desk' report report' faults faults' : History) where
   pub ran_refused : (k : ErrorKind) (status : ℕ) → (k ≡ kind.OutOfMemory) ⊎ AreRefused words k
-      → Answered k status report report' faults faults'
+      → Answered program k status report report' faults faults'
       → Ran words status desk desk report report' faults faults'
   ran_refused k status r a = record {
     desk_events = [];

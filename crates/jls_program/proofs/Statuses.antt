@@ -29,7 +29,8 @@ use Rattle.jls_commands.specs.WritingFiles.{WritesFile, StopsAtFile}
 use Rattle.jls_commands.specs.declared.writing.Format.{Format}
 use Rattle.jls_commands.specs.declared.writing.Format.TheVariants.{Pnm, Jls}
 use Rattle.jls_words.specs.Asking.{Asked, check, join, show, write_pnm, write_jls}
-use Rattle.jls_program.specs.FaultLines.{fault_line, input_fault_line, out_of_memory_line, refusal_line}
+use Rattle.jls_printing.specs.FaultLines.{out_of_memory_line}
+use Rattle.jls_program.specs.FaultLines.{fault_line, input_fault_line, program, refusal_line}
 use Rattle.jls_program.specs.Runs.{CameOf, Run, came_of, misused, helped, help_cut, nothing_begun, nothing_asked}
 use Rattle.jls_program.specs.Statuses.{is_failure, HadFailure, FailuresAreBehindStatus4, RefusedRunsCreateNothing, WantOfMemoryIsTold}
 use Rattle.jls_program.proofs.Finished.{status_of_unsettled}
@@ -355,13 +356,13 @@ nothing_created words status desk desk' report report' faults faults' ran ge le 
 
 -- ---- runs that end with 5
 
-line_of_input : (name : List ℕ) (f : InputFault) → status_of_input f ≡ 5 → input_fault_line name f ≡ out_of_memory_line
+line_of_input : (name : List ℕ) (f : InputFault) → status_of_input f ≡ 5 → input_fault_line name f ≡ out_of_memory_line program
 line_of_input name (fault.Text f) e = absurd (omega (arith, e))
 line_of_input name (fault.NoPicture f offset) e = absurd (omega (arith, e))
 line_of_input name (fault.Read stop offset) e = absurd (omega (arith, e))
 line_of_input name fault.OutOfMemory e = refl
 
-line_of_memory : (r : Refusal) → status_of_refusal r ≡ 5 → refusal_line r ≡ out_of_memory_line
+line_of_memory : (r : Refusal) → status_of_refusal r ≡ 5 → refusal_line r ≡ out_of_memory_line program
 line_of_memory (refusal.NotOpened name) e = absurd (omega (arith, e))
 line_of_memory (refusal.Input name f) e = line_of_input name.now f e
 line_of_memory (refusal.ShapeDiffers name) e = absurd (omega (arith, e))
@@ -376,12 +377,12 @@ done_not_5 settled false e = absurd (omega (arith, e))
 done_not_5 true true e = absurd (omega (arith, e))
 done_not_5 false true e = absurd (omega (arith, e))
 
-memory_line : (outcome : Outcome) → exit_status outcome ≡ 5 → fault_line outcome ≡ out_of_memory_line
+memory_line : (outcome : Outcome) → exit_status outcome ≡ 5 → fault_line outcome ≡ out_of_memory_line program
 memory_line (Ok d) e = absurd (done_not_5 d.settled d.whole e)
 memory_line (Err r) e = line_of_memory r e
 
 run_out_of_memory : (words : List (List ℕ)) (status : ℕ) (desk report faults : List Event) → Run words status desk report faults
-    → status ≡ 5 → Printed out_of_memory_line faults
+    → status ≡ 5 → Printed (out_of_memory_line program) faults
 run_out_of_memory words _ desk report faults (came_of _ asked outcome _ _ _ reads came line) e = subst (λ (l : List ℕ). Printed l faults) (memory_line outcome e) line
 run_out_of_memory words _ _ _ faults (misused _ kind usage _ r n line) e = absurd (omega (arith, e))
 run_out_of_memory words _ _ report _ (helped _ kind help _ r n wrote) e = absurd (omega (arith, e))

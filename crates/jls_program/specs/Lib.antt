@@ -1,5 +1,4 @@
 -- What the contracts of this crate cite.
-pub mod Answers
 pub mod BrokenReads
 pub mod FaultLines
 pub mod Laws

@@ -9,9 +9,11 @@ use Rattle.jls_commands.specs.Outcomes.{Outcome, exit_status}
 use Rattle.jls_commands.specs.Telling.{Tells, lines}
 use Rattle.jls_commands.specs.WritingFiles.{WritesFile}
 use Rattle.jls_commands.specs.declared.writing.Format.TheVariants.{Pnm, Jls}
-use Rattle.jls_words.specs.Words.{AreRefused, is_help}
+use Rattle.jls_printing.specs.FaultLines.{not_written_line, out_of_memory_line}
+use Rattle.jls_answers.specs.Answers.{is_help}
+use Rattle.jls_words.specs.Words.{AreRefused}
 use Rattle.jls_words.specs.Asking.{Asked, check, join, show, write_pnm, write_jls, AskFor, AskForNothing, format_is_known}
-use Rattle.jls_program.specs.FaultLines.{fault_line, not_written_line, out_of_memory_line, unknown_value_line}
+use Rattle.jls_program.specs.FaultLines.{fault_line, program, unknown_value_line}
 
 -- what came of what was asked, by the events of the desk and of the report output
 abbrev pub CameOf : Asked → Outcome → List Event → List Event → Type 0
@@ -36,10 +38,10 @@ pub data Run : List Text → ℕ → List Event → List Event → List Event �
   -- and a write failed there
   help_cut : (words : List Text) (k : ErrorKind) (help : List ℕ) (count : ℕ) (report faults : List Event)
       → AreRefused words k → is_help k ≡ true → WroteFront help count report
-      → Printed (not_written_line (codes "-") count) faults
+      → Printed (not_written_line program (codes "-") count) faults
       → Run words 4 [] report faults
   -- memory ran out before a command began
-  nothing_begun : (words : List Text) (faults : List Event) → Printed out_of_memory_line faults → Run words 5 [] [] faults
+  nothing_begun : (words : List Text) (faults : List Event) → Printed (out_of_memory_line program) faults → Run words 5 [] [] faults
   -- clap takes the words, and they ask for nothing that there is: the line names the option whose value is at fault
   nothing_asked : (words : List Text) (faults : List Event)
       → AskForNothing words → Printed (unknown_value_line (format_is_known words)) faults → Run words 2 [] [] faults

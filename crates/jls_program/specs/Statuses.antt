@@ -15,9 +15,11 @@ use Rattle.jls_station.specs.declared.input.InputFault.{InputFault}
 use Rattle.jls_station.specs.declared.input.ReadStop.TheVariants.{Whole}
 use Rattle.jls_commands.specs.WritingFiles.{IsTooLarge}
 use Rattle.jls_commands.specs.declared.writing.Format.TheVariants.{Jls}
-use Rattle.jls_words.specs.Words.{AreRefused, is_help}
+use Rattle.jls_printing.specs.FaultLines.{out_of_memory_line}
+use Rattle.jls_answers.specs.Answers.{is_help}
+use Rattle.jls_words.specs.Words.{AreRefused}
 use Rattle.jls_words.specs.Asking.{Asked, check, join, show, write_pnm, write_jls, AskFor, AskForNothing}
-use Rattle.jls_program.specs.FaultLines.{out_of_memory_line}
+use Rattle.jls_program.specs.FaultLines.{program}
 use Rattle.jls_program.specs.Runs.{Ran}
 
 -- something was not opened or created, or a read or a write failed
@@ -47,7 +49,7 @@ abbrev pub WantOfMemoryIsTold : Type 0
 WantOfMemoryIsTold =
     (words : List Text) (status : ℕ) (desk desk' report report' faults faults' : History)
     → (ran : Ran words status desk desk' report report' faults faults')
-    → status ≡ 5 → Printed out_of_memory_line ran.fault_events
+    → status ≡ 5 → Printed (out_of_memory_line program) ran.fault_events
 
 -- clap refuses the words, and not to show help or the version
 abbrev pub AreMisused : List Text → Type 0

@@ -1,7 +1,6 @@
 //! The program `jls-salvage` without its main.
 #![tactic(auto)]
 
-mod answering;
 mod laws;
 mod performing;
 mod printing;

@@ -4,72 +4,21 @@ ghost use Rattle.std.specs.Prelude.{◌++◌, codes, decimal};
 ghost use Rattle.jls_device.specs.Event.{GrewBy};
 ghost use Rattle.jls_marker.specs.Faults.{fault_number};
 ghost use Rattle.jls_device.specs.Writing.{Printed};
-ghost use Rattle.jls_printing.specs.Names.{shown_name};
-ghost use Rattle.jls_program.specs.FaultLines.{bad_text_line, fault_line, input_fault_line, no_picture_line, not_created_line, not_replaced_line, not_written_line, out_of_memory_line, refusal_line, text_fault_line, unknown_value_line, unsettled_line};
+ghost use Rattle.jls_printing.specs.FaultLines.{line_with_number, no_picture_line};
+ghost use Rattle.jls_program.specs.FaultLines.{fault_line, input_fault_line, not_created_line, not_replaced_line, program, refusal_line, text_fault_line, unknown_value_line, unsettled_line};
 
 use jls_commands::{Done, Refusal};
 use jls_device::Sink;
 use jls_marker::MarkerFault;
 use jls_partial::TextFault;
-use jls_printing::{LinePart, print_line};
+use jls_printing::{
+    LinePart, print_about, print_line, print_no_picture, print_not_written, print_out_of_memory,
+    print_plain, print_with_number,
+};
 use jls_station::InputFault;
 
-/// How each fault line begins: with the name of the program.
-const PROGRAM: &str = "jls-salvage: ";
-
-/// Prints a line that is about no input or output.
-fn print_plain<E: Sink>(faults: &mut E, text: &'static str)
-    ensures { GrewBy (Printed (codes "jls-salvage: " ++ (text.now ++ codes "\n"))) (E.history faults.old) (E.history faults.new) }
-{
-    print_line(faults, &[LinePart::Text(PROGRAM), LinePart::Text(text)]);
-}
-
-/// Prints a line about the input or output of this name.
-fn print_about<E: Sink>(faults: &mut E, name: &str, text: &'static str)
-    ensures { GrewBy (Printed (codes "jls-salvage: " ++ (shown_name name.now ++ (text.now ++ codes "\n"))))
-        (E.history faults.old) (E.history faults.new) }
-{
-    print_line(
-        faults,
-        &[
-            LinePart::Text(PROGRAM),
-            LinePart::Name(name),
-            LinePart::Text(text),
-        ],
-    );
-}
-
-/// Prints the line of a text with a fault of this kind at this offset.
-fn print_bad_text<E: Sink>(faults: &mut E, name: &str, said: &'static str, offset: u64)
-    ensures { GrewBy (Printed (bad_text_line name.now said.now offset)) (E.history faults.old) (E.history faults.new) }
-{
-    print_line(
-        faults,
-        &[
-            LinePart::Text(PROGRAM),
-            LinePart::Name(name),
-            LinePart::Text(said),
-            LinePart::Number(offset),
-        ],
-    );
-}
-
-/// Prints the line of a copy in which no frame was taken.
-fn print_no_picture<E: Sink>(faults: &mut E, name: &str, fault: MarkerFault, offset: u64)
-    ensures { GrewBy (Printed (no_picture_line name.now (fault_number fault) offset)) (E.history faults.old) (E.history faults.new) }
-{
-    print_line(
-        faults,
-        &[
-            LinePart::Text(PROGRAM),
-            LinePart::Name(name),
-            LinePart::Text(": no picture, fault "),
-            LinePart::Number(u64::from(fault.number())),
-            LinePart::Text(" at "),
-            LinePart::Number(offset),
-        ],
-    );
-}
+/// The name of the program, with which each fault line begins.
+pub(crate) const PROGRAM: &str = "jls-salvage";
 
 /// Prints a line about a line of a picture.
 fn print_about_line<E: Sink>(faults: &mut E, id: u8, line: u16, said: &'static str)
@@ -80,7 +29,7 @@ fn print_about_line<E: Sink>(faults: &mut E, id: u8, line: u16, said: &'static s
         faults,
         &[
             LinePart::Text(PROGRAM),
-            LinePart::Text("line "),
+            LinePart::Text(": line "),
             LinePart::Number(u64::from(line)),
             LinePart::Text(" of component "),
             LinePart::Number(u64::from(id)),
@@ -100,20 +49,19 @@ fn print_unsettled<E: Sink>(faults: &mut E, id: u8, line: u16, disputed: bool)
     }
 }
 
-/// Prints the line of an output of which so many bytes went out.
-pub(crate) fn print_not_written<E: Sink>(faults: &mut E, name: &str, count: u64)
-    ensures { GrewBy (Printed (not_written_line name.now count)) (E.history faults.old) (E.history faults.new) }
+/// Prints the line of a copy in which no frame was taken.
+fn print_no_frame<E: Sink>(faults: &mut E, name: &str, fault: MarkerFault, offset: u64)
+    ensures { GrewBy (Printed (no_picture_line program name.now (fault_number fault) offset)) (E.history faults.old) (E.history faults.new) }
 {
-    print_line(
-        faults,
-        &[
-            LinePart::Text(PROGRAM),
-            LinePart::Name(name),
-            LinePart::Text(": write failed after "),
-            LinePart::Number(count),
-            LinePart::Text(" bytes"),
-        ],
-    );
+    let number = u64::from(fault.number());
+    print_no_picture(faults, PROGRAM, name, number, offset);
+}
+
+/// Prints the line of a text with a fault of this kind at this offset.
+fn print_bad_text<E: Sink>(faults: &mut E, name: &str, said: &'static str, offset: u64)
+    ensures { GrewBy (Printed (line_with_number program name.now said.now offset)) (E.history faults.old) (E.history faults.new) }
+{
+    print_with_number(faults, PROGRAM, name, said, offset);
 }
 
 /// Prints the line of a text that is refused.
@@ -137,7 +85,7 @@ fn print_text_fault<E: Sink>(faults: &mut E, name: &str, fault: TextFault)
         TextFault::Trailing(offset) => {
             print_bad_text(faults, name, ": bad text, trailing at ", offset)
         }
-        TextFault::OutOfMemory => print_out_of_memory(faults),
+        TextFault::OutOfMemory => print_out_of_memory(faults, PROGRAM),
     }
 }
 
@@ -147,9 +95,9 @@ fn print_input_fault<E: Sink>(faults: &mut E, name: &str, fault: InputFault)
 {
     match fault {
         InputFault::Text(fault) => print_text_fault(faults, name, fault),
-        InputFault::NoPicture(fault, offset) => print_no_picture(faults, name, fault, offset),
-        InputFault::Read(_, _) => print_about(faults, name, ": read failed"),
-        InputFault::OutOfMemory => print_out_of_memory(faults),
+        InputFault::NoPicture(fault, offset) => print_no_frame(faults, name, fault, offset),
+        InputFault::Read(_, _) => print_about(faults, PROGRAM, name, ": read failed"),
+        InputFault::OutOfMemory => print_out_of_memory(faults, PROGRAM),
     }
 }
 
@@ -158,9 +106,9 @@ pub(crate) fn print_unknown_value<E: Sink>(faults: &mut E, format_is_known: bool
     ensures { GrewBy (Printed (unknown_value_line format_is_known)) (E.history faults.old) (E.history faults.new) }
 {
     if format_is_known {
-        print_plain(faults, "--ilv takes none or line");
+        print_plain(faults, PROGRAM, "--ilv takes none or line");
     } else {
-        print_plain(faults, "--as takes jls or pnm");
+        print_plain(faults, PROGRAM, "--as takes jls or pnm");
     }
 }
 
@@ -168,7 +116,7 @@ pub(crate) fn print_unknown_value<E: Sink>(faults: &mut E, format_is_known: bool
 pub fn print_not_created<E: Sink>(faults: &mut E, name: &str)
     ensures { GrewBy (Printed (not_created_line name.now)) (E.history faults.old) (E.history faults.new) }
 {
-    print_about(faults, name, ": cannot be created");
+    print_about(faults, PROGRAM, name, ": cannot be created");
 }
 
 /// Prints why a join did not create the output of this name: it would replace a JPEG file.
@@ -177,16 +125,10 @@ pub fn print_not_replaced<E: Sink>(faults: &mut E, name: &str)
 {
     print_about(
         faults,
+        PROGRAM,
         name,
         " is a JPEG file, and join does not replace one",
     );
-}
-
-/// Prints that memory ran out.
-pub(crate) fn print_out_of_memory<E: Sink>(faults: &mut E)
-    ensures { GrewBy (Printed out_of_memory_line) (E.history faults.old) (E.history faults.new) }
-{
-    print_plain(faults, "out of memory");
 }
 
 /// Prints why a command stopped, as one line.
@@ -194,19 +136,19 @@ fn print_refusal<E: Sink>(faults: &mut E, refusal: Refusal<'_>)
     ensures { GrewBy (Printed (refusal_line refusal.entry)) (E.history faults.old) (E.history faults.new) }
 {
     match refusal {
-        Refusal::NotOpened(name) => print_about(faults, name, ": cannot be opened"),
+        Refusal::NotOpened(name) => print_about(faults, PROGRAM, name, ": cannot be opened"),
         Refusal::Input(name, fault) => print_input_fault(faults, name, fault),
-        Refusal::ShapeDiffers(name) => print_about(faults, name, ": shape differs"),
+        Refusal::ShapeDiffers(name) => print_about(faults, PROGRAM, name, ": shape differs"),
         Refusal::Unsettled {
             name: _,
             id,
             line,
             disputed,
         } => print_unsettled(faults, id, line, disputed),
-        Refusal::TooLarge(_) => print_plain(faults, "interval too large, give --ri"),
+        Refusal::TooLarge(_) => print_plain(faults, PROGRAM, "interval too large, give --ri"),
         Refusal::NotCreated(name) => print_not_created(faults, name),
-        Refusal::NotWritten(name, count) => print_not_written(faults, name, count),
-        Refusal::OutOfMemory(_) => print_out_of_memory(faults),
+        Refusal::NotWritten(name, count) => print_not_written(faults, PROGRAM, name, count),
+        Refusal::OutOfMemory(_) => print_out_of_memory(faults, PROGRAM),
     }
 }
 

@@ -4,9 +4,9 @@ ghost use Rattle.std.specs.Prelude.{map};
 ghost use Rattle.std.specs.String.{string_bytes};
 ghost use Rattle.jls_program.specs.Runs.{Ran};
 
-use crate::answering::answer;
 use crate::performing::perform;
-use crate::printing::{print_outcome, print_unknown_value};
+use crate::printing::{PROGRAM, print_outcome, print_unknown_value};
+use jls_answers::answer;
 use jls_commands::exit_status;
 use jls_device::{Desk, Sink};
 use jls_words::{asked_command, knows_format, matches};
@@ -36,7 +36,7 @@ pub fn run<D: Desk, W: Sink, E: Sink>(
 {
     let matches = match matches(alloc, words) {
         Ok(matches) => matches,
-        Err(error) => return answer(alloc, &error, report, faults),
+        Err(error) => return answer(alloc, PROGRAM, &error, report, faults),
     };
     let asked = match asked_command(&matches) {
         Some(asked) => asked,

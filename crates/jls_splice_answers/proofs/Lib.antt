@@ -1,3 +1,2 @@
 mod FaultLineExamples
-pub mod RefusedWords
 mod StatusExamples

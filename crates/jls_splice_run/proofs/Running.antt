@@ -10,15 +10,16 @@ use Rattle.jls_device.specs.Writing.{Printed}
 use Rattle.jls_device.proofs.Growing.{grew_twice}
 use Rattle.jls_splice_words.specs.Asking.{Asked, AskFor, AskForNothing}
 use Rattle.jls_splice_words.specs.Words.{AreRefused}
-use Rattle.jls_splice_answers.specs.Answers.{is_help, is_want_of_memory, Answer, Answered, ran_out, usage, help, cut}
-use Rattle.jls_splice_answers.specs.FaultLines.{fault_line, not_understood_line, out_of_memory_line}
+use Rattle.jls_answers.specs.Answers.{is_help, is_want_of_memory, Answer, Answered, ran_out, usage, help, cut}
+use Rattle.jls_printing.specs.FaultLines.{out_of_memory_line}
+use Rattle.jls_splice_answers.specs.FaultLines.{fault_line, not_understood_line, program}
 use Rattle.jls_splice_answers.specs.Outcomes.{exit_status}
 use Rattle.jls_splice_answers.specs.declared.outcome.Outcome.{Outcome}
 use Rattle.jls_splice_run.specs.Runs.{GrewAll, Performs, Ran, Run, Splices, came_of, no_names, performed, misused, helped, help_cut, nothing_begun, nothing_asked}
 
 -- an answer is a run, where the kind is one of those that clap has for the words
 run_of_answer : (words : List Text) (k : ErrorKind) (status : ℕ) (report faults : List Event)
-    → (k ≡ kind.OutOfMemory) ⊎ AreRefused words k → Answer k status report faults → Run words status [] report faults
+    → (k ≡ kind.OutOfMemory) ⊎ AreRefused words k → Answer program k status report faults → Run words status [] report faults
 run_of_answer words k _ _ faults r (ran_out _ _ line) = nothing_begun faults line
 run_of_answer words k _ _ faults (inr r) (usage _ text _ m n line) = misused k text faults r n line
 run_of_answer words k _ _ faults (inl is) (usage _ text _ m n line) = let e : true ≡ false = sym (ap is_want_of_memory is) ∙ m in absurd cc
@@ -42,7 +43,7 @@ module _ (a : Asked) (desk desk' report report' faults mid faults' : History) wh
         (came_of outcome h.desk_events h.report_events h.fault_events line.events h.they_are line.they_are);
   }
 
-  pub performs_nothing : GrewBy (Printed out_of_memory_line) faults faults' → GrewAll (Performs a 5) desk desk report report faults faults'
+  pub performs_nothing : GrewBy (Printed (out_of_memory_line program)) faults faults' → GrewAll (Performs a 5) desk desk report report faults faults'
   performs_nothing line = record {
     desk_events = [];
     report_events = [];
@@ -55,7 +56,7 @@ module _ (a : Asked) (desk desk' report report' faults mid faults' : History) wh
 
 module _ (words : List Text) (desk desk' report report' faults faults' : History) where
   pub ran_refused : (k : ErrorKind) (status : ℕ) → (k ≡ kind.OutOfMemory) ⊎ AreRefused words k
-      → Answered k status report report' faults faults' → Ran words status desk desk report report' faults faults'
+      → Answered program k status report report' faults faults' → Ran words status desk desk report report' faults faults'
   ran_refused k status r a = record {
     desk_events = [];
     report_events = a.report_events;

@@ -9,10 +9,10 @@ use Rattle.jls_partial.specs.Text.{text}
 use Rattle.jls_copy_files.specs.CopyFiles.{AreCopiesRead, CopyBytes}
 use Rattle.jls_splice_words.specs.Asking.{Asked, AskFor, AskForNothing}
 use Rattle.jls_splice_words.specs.Words.{AreRefused}
-use Rattle.jls_splice_answers.specs.Answers.{is_help}
-use Rattle.jls_splice_answers.specs.FaultLines.{cause_line, fault_line, not_understood_line, out_of_memory_line}
+use Rattle.jls_answers.specs.Answers.{is_help}
+use Rattle.jls_printing.specs.FaultLines.{not_written_line, out_of_memory_line}
+use Rattle.jls_splice_answers.specs.FaultLines.{fault_line, not_understood_line, program}
 use Rattle.jls_splice_answers.specs.Outcomes.{exit_status}
-use Rattle.jls_splice_answers.specs.declared.outcome.Cause.TheVariants as cause
 use Rattle.jls_splice_answers.specs.declared.outcome.Outcome.{Outcome}
 use Rattle.jls_splice_answers.specs.declared.outcome.Outcome.TheVariants.{Done, Refused}
 use Rattle.jls_splice_answers.specs.declared.outcome.Refusal.{Refusal}
@@ -81,7 +81,7 @@ pub data Performs (a : Asked) : ℕ → List Event → List Event → List Event
   came_of : (outcome : Outcome) (desk report faults line : List Event)
       → Splices a outcome desk report faults → Printed (fault_line outcome) line
       → Performs a (exit_status outcome) desk report (faults ++ line)
-  no_names : (faults : List Event) → Printed out_of_memory_line faults → Performs a 5 [] [] faults
+  no_names : (faults : List Event) → Printed (out_of_memory_line program) faults → Performs a 5 [] [] faults
 
 -- a run over these words ends with this status; the events are those of the desk, of the report output and of the fault output
 pub data Run (words : List Text) : ℕ → List Event → List Event → List Event → Type 0 where
@@ -97,10 +97,10 @@ pub data Run (words : List Text) : ℕ → List Event → List Event → List Ev
   -- and a write failed there
   help_cut : (k : ErrorKind) (help : List ℕ) (count : ℕ) (report faults : List Event)
       → AreRefused words k → is_help k ≡ true → WroteFront help count report
-      → Printed (cause_line (codes "-") (cause.NotWritten count)) faults
+      → Printed (not_written_line program (codes "-") count) faults
       → Run words 4 [] report faults
   -- memory ran out as the words were read
-  nothing_begun : (faults : List Event) → Printed out_of_memory_line faults → Run words 5 [] [] faults
+  nothing_begun : (faults : List Event) → Printed (out_of_memory_line program) faults → Run words 5 [] [] faults
   -- clap takes the words, and they ask for nothing that there is
   nothing_asked : (faults : List Event) → AskForNothing words → Printed not_understood_line faults → Run words 2 [] [] faults
 

@@ -7,8 +7,10 @@ ghost use Rattle.jls_splice_run.specs.Runs.{GrewAll, Performs, Ran};
 
 use crate::splicing::splice;
 use crate::task::{Task, names_of};
+use jls_answers::answer;
 use jls_device::{Desk, Sink};
-use jls_splice_answers::{answer, print_not_understood, print_out_of_memory, print_outcome};
+use jls_printing::print_out_of_memory;
+use jls_splice_answers::{PROGRAM, print_not_understood, print_outcome};
 use jls_splice_words::{Asked, asked_splice, matches};
 use std::alloc::Global;
 
@@ -26,7 +28,7 @@ fn perform<D: Desk, W: Sink, E: Sink>(
     let names = match names_of(alloc, asked) {
         Ok(names) => names,
         Err(_) => {
-            print_out_of_memory(faults);
+            print_out_of_memory(faults, PROGRAM);
             return 5;
         }
     };
@@ -63,7 +65,7 @@ pub fn run<D: Desk, W: Sink, E: Sink>(
 {
     let matches = match matches(alloc, words) {
         Ok(matches) => matches,
-        Err(error) => return answer(alloc, &error, report, faults),
+        Err(error) => return answer(alloc, PROGRAM, &error, report, faults),
     };
     match asked_splice(&matches) {
         Some(asked) => perform(alloc, &asked, desk, report, faults),

@@ -4,7 +4,6 @@ use Rattle.clap.specs.Words.{App, Rule, Text, fault_of, IsAmong, new_app, new_ru
 use Rattle.clap.specs.declared.builder.ArgAction.TheVariants.{Append}
 use Rattle.clap.specs.declared.builder.value_parser.ValueParser.TheVariants.{Unsigned}
 use Rattle.clap.specs.declared.error.kind.ErrorKind.{ErrorKind}
-use Rattle.clap.specs.declared.error.kind.ErrorKind.TheVariants as kind
 
 -- one word that has to be there, under this name
 abbrev pub word_rule : Text → Rule
@@ -67,12 +66,6 @@ salvage_app = with_subcommand (with_subcommand (with_subcommand
 -- by clap's own definitions the program takes the words, or there is no fault in them
 abbrev pub AreTaken : List Text → Type 0
 AreTaken words = (takes salvage_app words ≡ true) ⊎ (fault_of salvage_app words ≡ [])
-
--- the kinds that ask for help, or for the version
-abbrev pub is_help : ErrorKind → Bool
-is_help kind.DisplayHelp = true
-is_help kind.DisplayVersion = true
-is_help _ = false
 
 -- clap does not take the words, and this is one of the kinds of fault that its definition finds in them
 pub record AreRefused (words : List Text) (k : ErrorKind) : Type 0 where

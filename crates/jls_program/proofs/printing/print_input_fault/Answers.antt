@@ -13,4 +13,14 @@ returns-in-Text g c =
 pub returns-in-NoPicture : goal.returns-in-NoPicture
 returns-in-NoPicture g c =
     let history = g.E.Device.history in
-    subst (λ (f : InputFault). GrewBy (Printed (input_fault_line c.args.name.now f)) (history c.args.faults.now) (history c.print_no_picture.new.faults)) (sym c.in-NoPicture.is) c.print_no_picture.ensures
+    subst (λ (f : InputFault). GrewBy (Printed (input_fault_line c.args.name.now f)) (history c.args.faults.now) (history c.print_no_frame.new.faults)) (sym c.in-NoPicture.is) c.print_no_frame.ensures
+
+pub returns-in-Read : goal.returns-in-Read
+returns-in-Read g c =
+    let history = g.E.Device.history in
+    subst (λ (f : InputFault). GrewBy (Printed (input_fault_line c.args.name.now f)) (history c.args.faults.now) (history c.print_about.new.faults)) (sym c.in-Read.is) c.print_about.ensures
+
+pub returns-in-OutOfMemory : goal.returns-in-OutOfMemory
+returns-in-OutOfMemory g c =
+    let history = g.E.Device.history in
+    subst (λ (f : InputFault). GrewBy (Printed (input_fault_line c.args.name.now f)) (history c.args.faults.now) (history c.print_out_of_memory.new.faults)) (sym c.in-OutOfMemory.is) c.print_out_of_memory.ensures

@@ -8,7 +8,7 @@ use Rattle.jls_splice_answers.proofs.printing.print_cause.Goals as goal
 pub returns-in-NoPicture : goal.returns-in-NoPicture
 returns-in-NoPicture g c =
     let history = g.E.Device.history in
-    subst (λ (cause : Cause). GrewBy (Printed (cause_line c.args.name.now cause)) (history c.args.faults.now) (history c.print_no_picture.new.faults)) (sym c.in-NoPicture.is) c.print_no_picture.ensures
+    subst (λ (cause : Cause). GrewBy (Printed (cause_line c.args.name.now cause)) (history c.args.faults.now) (history c.print_no_frame.new.faults)) (sym c.in-NoPicture.is) c.print_no_frame.ensures
 
 pub returns-in-NotCreated : goal.returns-in-NotCreated
 returns-in-NotCreated g c =

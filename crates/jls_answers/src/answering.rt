@@ -2,15 +2,13 @@
 
 ghost use Rattle.std.specs.Prelude.{◌≡◌};
 ghost use Rattle.clap.specs.Words.{kind_of};
-ghost use Rattle.jls_splice_answers.specs.Answers.{is_want_of_memory, Answered};
-ghost use Rattle.jls_splice_answers.specs.Answers as spec;
+ghost use Rattle.jls_answers.specs.Answers.{is_want_of_memory, Answered};
+ghost use Rattle.jls_answers.specs.Answers as spec;
 
-use crate::outcome::{Cause, Refusal};
-use crate::printing::{print_out_of_memory, print_refusal};
 use clap::Error;
 use clap::error::ErrorKind;
 use jls_device::{Sink, write_all};
-use jls_printing::print_text;
+use jls_printing::{print_not_written, print_out_of_memory, print_text};
 use std::alloc::Global;
 
 fn is_memory(kind: ErrorKind) -> bool
@@ -32,20 +30,26 @@ fn is_help(kind: ErrorKind) -> bool
 /// - 4: a write to the report output failed;
 /// - 5: memory ran out.
 ///
-/// The texts are clap's, and only tested.
-pub fn answer<W: Sink, E: Sink>(alloc: Global, error: &Error, report: &mut W, faults: &mut E) -> u8
-    ensures { Answered (kind_of error.now) result (W.history report.old) (W.history report.new)
+/// Fault lines of our own begin with the name of the program. The other texts are clap's, and only tested.
+pub fn answer<W: Sink, E: Sink>(
+    alloc: Global,
+    program: &'static str,
+    error: &Error,
+    report: &mut W,
+    faults: &mut E,
+) -> u8
+    ensures { Answered program.now (kind_of error.now) result (W.history report.old) (W.history report.new)
         (E.history faults.old) (E.history faults.new) }
 {
     let kind = error.kind();
     if is_memory(kind) {
-        print_out_of_memory(faults);
+        print_out_of_memory(faults, program);
         return 5;
     }
     let text = match error.to_string(alloc) {
         Ok(text) => text,
         Err(_) => {
-            print_out_of_memory(faults);
+            print_out_of_memory(faults, program);
             return 5;
         }
     };
@@ -56,8 +60,7 @@ pub fn answer<W: Sink, E: Sink>(alloc: Global, error: &Error, report: &mut W, fa
     match write_all(report, text.as_bytes()) {
         Ok(()) => 0,
         Err(count) => {
-            let cause = Cause::NotWritten(count);
-            print_refusal(faults, &Refusal { name: "-", cause });
+            print_not_written(faults, program, "-", count);
             4
         }
     }
