@@ -52,15 +52,15 @@ pub record Made : Type 0 where
 
 -- so many tries were made of those that are allowed, and came to what was found; and where they were used up these are all of them, or 64
 -- files were found. The search by groups, if there was one, has as many tries of its own
-pub record AreTries (limit : ℕ) (m : Made) : Type 0 where
-  pub tried : WereTried m.found.parts m.tries m.found.choices
-  pub within : m.tries ≤ limit
-  pub used_up : m.found.is_used_up ≡ true → (m.tries ≡ limit) ⊎ (length m.found.choices ≡ 64)
-  pub of_groups : IfSome m.found.by_groups (AreGroupTries limit)
+pub record AreTries (limit : ℕ) (f : Found) (tries : ℕ) : Type 0 where
+  pub tried : WereTried f.parts tries f.choices
+  pub within : tries ≤ limit
+  pub used_up : f.is_used_up ≡ true → (tries ≡ limit) ⊎ (length f.choices ≡ 64)
+  pub of_groups : IfSome f.by_groups (AreGroupTries limit)
 
 pub record IsMade (a : Asked) (copies : List (List ℕ)) (m : Made) : Type 0 where
   pub is_found : IsFound copies m.found
-  pub are_tries : AreTries a.options.tries m
+  pub are_tries : AreTries a.options.tries m.found m.tries
   pub is_picture : IsPictureOf a.options.source copies (splices_in m.found) m.picture
   pub is_single : IsSingleAsked a.options.file (files_taken copies m.found) m.single
 
@@ -120,12 +120,13 @@ IsUnsettled a copies splices r =
     IsWantOfMemory a r
     ⊎ ((found : ShapeFound) × IsShapeFound (bytes_read copies) splices found × IsRefusedFor a.copies (stops_read copies) found r)
 
--- why a run stops after it has read the copies, and what it told until then of how far its search was
+-- why a run stops after it has read the copies, and what it told until then of how far its search was: memory runs out; or a search with
+-- the tries that are allowed found splices of which no picture comes
 abbrev pub CantMake : Asked → List CopyBytes → Refusal → List Event → Type 0
 CantMake a copies r events =
     (IsWantOfMemory a r × ToldSome a.options.progress events)
-    ⊎ ((f : Found) × (tries : ℕ) × IsFound (bytes_read copies) f × IsUnsettled a copies (splices_in f) r
-    × IsTold a.options.progress tries (length f.choices) events)
+    ⊎ ((f : Found) × (tries : ℕ) × IsFound (bytes_read copies) f × AreTries a.options.tries f tries
+    × IsUnsettled a copies (splices_in f) r × IsTold a.options.progress tries (length f.choices) events)
 
 -- ---- as the code has it
 

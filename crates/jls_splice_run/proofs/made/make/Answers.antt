@@ -8,7 +8,7 @@ use Rattle.jls_splice_progress.specs.Telling.{IsTold, ToldSome}
 use Rattle.jls_splice_progress.proofs.Rounds.{none_told}
 use Rattle.jls_splice_run.specs.Copies.{bytes_read}
 use Rattle.jls_group_search.specs.Found.{IsFound, found_of, splices_in}
-use Rattle.jls_splice_run.specs.Making.{AreTextsOf, CantMake, HoldsMade, IsPictureOf, IsUnsettled, files_taken, made_of}
+use Rattle.jls_splice_run.specs.Making.{AreTextsOf, AreTries, CantMake, HoldsMade, IsPictureOf, IsUnsettled, files_taken, made_of}
 use Rattle.jls_splice_run.specs.Single.{IsSingleAsked}
 use Rattle.jls_splice_run.specs.Tasks.{task_of}
 use Rattle.jls_splice_run.proofs.made.make.Goals as goal
@@ -38,10 +38,16 @@ returns-in-Err-settle-clause-stopped g c =
     let splices : files_of (parts_of c.deref-3.result.now) (lists_of c.deref-4.result.now) ≡ splices_in (found_of found) =
     (λ i. files_of (parts_of (c.deref-3.ensures.value i)) (lists_of (c.deref-4.ensures.value i))) ∙ c.in-Ok-search.ensures.splices in
     let is_found = subst (λ (xs : List (List ℕ)). IsFound xs (found_of found)) searched c.in-Ok-search.ensures.found in
+    let tries : AreTries a.options.tries (found_of found) found.tries = record {
+      tried = c.in-Ok-search.ensures.tried;
+      within = c.in-Ok-search.ensures.few;
+      used_up = c.in-Ok-search.ensures.used_up;
+      of_groups = c.in-Ok-search.ensures.of_groups;
+    } in
     let unsettled = subst (λ (xs : List (List ℕ)). IsUnsettled a copies xs r) splices c.in-Err-settle.ensures.stopped in
     grew_as (IsTold a.options.progress found.tries (length (found_of found).choices)) (CantMake a copies r)
     (g.E.Device.history c.args.faults.now) (g.E.Device.history c.search.new.faults)
-    (λ events told. inr (found_of found, found.tries, is_found, unsettled, told)) c.in-Ok-search.ensures.told
+    (λ events told. inr (found_of found, found.tries, is_found, tries, unsettled, told)) c.in-Ok-search.ensures.told
 
 pub returns-clause-stopped : goal.returns-clause-stopped
 returns-clause-stopped g c =
