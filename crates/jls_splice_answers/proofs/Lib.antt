@@ -1,3 +1,4 @@
+mod AnswerExamples
 mod FaultLineExamples
 pub mod RefusedWords
 mod StatusExamples
