@@ -1,5 +1,5 @@
--- The statuses with which words are answered that clap refused: 2, or 0 where they ask for help or the version; 4 if that can't be printed, and 5
--- for want of memory.
+-- The statuses with which words are answered that clap refused: 2, or 0 where they ask for help or the version.
+-- It is 4 if that can't be printed, and 5 for want of memory.
 use Rattle.std.proofs.Common.{◌≡◌, ◌⊎◌, ℕ, List, inl, inr, refl}
 use Rattle.clap.specs.declared.error.kind.ErrorKind.TheVariants as kind
 use Rattle.jls_device.specs.Event.{Event}
