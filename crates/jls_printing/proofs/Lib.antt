@@ -1,3 +1,4 @@
 -- Lemmas of this crate.
 pub mod Handed
+mod LineExamples
 mod NameExamples

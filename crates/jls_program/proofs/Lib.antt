@@ -5,3 +5,4 @@ mod RefusedRuns
 pub mod RefusedWords
 pub mod Running
 mod Statuses
+mod WordStatuses

@@ -7,4 +7,5 @@ pub mod Members
 pub mod OfShape
 pub mod OneMore
 pub mod RangeEnds
+mod ReportTextExamples
 pub mod WorkedRows

@@ -1,2 +1,3 @@
+mod AnswerExamples
 mod FaultLineExamples
 mod StatusExamples
