@@ -39,6 +39,7 @@ InputsStand StandsFor [] copies = copies ≡ []
 InputsStand {C} StandsFor (bytes ∷ inputs) copies =
     (mine : List C) × (more : List C) × (copies ≡ mine ++ more) × StandsFor bytes mine × InputsStand StandsFor inputs more
 
+-- these inputs, in turn, stand for these copies
 abbrev pub InputsStandFor : List (List ℕ) → List (List ℕ) → Type 0
 InputsStandFor inputs copies = InputsStand InputStandsFor inputs copies
 
@@ -100,6 +101,7 @@ InputStandsUnder source bytes copies =
     ((is_text bytes ≡ false) × (copies ≡ sourced_copy source bytes ∷ []))
     ⊎ ((p : PartialPicture) × IsTextOf bytes p × HoldsExactlyUnder p copies)
 
+-- these inputs, in turn, stand for these copies under their sources
 abbrev pub InputsStandUnder : Option ℕ → List (List ℕ) → List SourcedCopy → Type 0
 InputsStandUnder source inputs copies = InputsStand (InputStandsUnder source) inputs copies
 
