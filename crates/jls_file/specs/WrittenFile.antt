@@ -77,17 +77,21 @@ restart_marker k = 0xFF ∷ (0xD0 + k % 8) ∷ []
 abbrev pub before_interval : WholePicture → Scan → ℕ → List ℕ
 before_interval pic s k = if k == 0 then bytes_of (scan_segment pic s.components) else restart_marker (k - 1)
 
+-- the code of an interval, behind what stands before it
 abbrev pub marked_interval : WholePicture → Scan → ℕ → List ℕ
 marked_interval pic s k = before_interval pic s k ++ interval_code pic s k
 
+-- the intervals of a scan, in order
 abbrev pub scan_bytes : WholePicture → Scan → List ℕ
 scan_bytes pic s = flat_map (marked_interval pic s) (range_with_len 0 (intervals s))
 
 -- ---- the file
 
+-- SOI, and the segments before the scans
 abbrev pub header_bytes : WholePicture → WriteOptions → List ℕ
 header_bytes pic o = 0xFF ∷ 0xD8 ∷ flat_map bytes_of (header_segments pic o)
 
+-- the scans, in order
 abbrev pub scans_bytes : WholePicture → WriteOptions → List ℕ
 scans_bytes pic o = flat_map (λ components. scan_bytes pic (scan_of pic o components)) (components_of_scans pic o)
 

@@ -26,7 +26,7 @@ use Rattle.jls_headline.proofs.WrittenFiles.{files_read_back}
 use Rattle.jls_headline.proofs.TwoLineExamples.{shape, pic, is_picture, bits_8, first, second, picture_comes_back}
 
 -- a scan of one component with the defaults of 8 bits, and a restart marker behind each row but the last
-abbrev options : WriteOptions
+abbrev pub options : WriteOptions
 options = record { line = false; restart_interval = 1; params = bits_8 }
 
 pub are_parameters : AreCodingParameters bits_8
@@ -43,7 +43,7 @@ are_parameters = record {
   reset_at_most = lit≤ tt;
 }
 
-one_sample : (sample : ℕ) → sample ≤ 255 → All (λ x. x ≤ 255) (sample ∷ [])
+pub one_sample : (sample : ℕ) → sample ≤ 255 → All (λ x. x ≤ 255) (sample ∷ [])
 one_sample sample h zero d l = h
 one_sample sample h (suc k) d l = absurd (omega (arith, l))
 
@@ -53,7 +53,7 @@ samples_fit zero l (suc zero) k = one_sample 255 (lit≤ tt)
 samples_fit zero l (suc (suc line)) k = absurd (omega (arith, k))
 samples_fit (suc component) l line k = absurd (omega (arith, l))
 
-options_fit : OptionsFit pic options
+pub options_fit : OptionsFit pic options
 options_fit = record { precision = refl; samples = samples_fit; interval = lit≤ tt }
 
 -- so the file that is written of the picture reads as it: SOI, SOF55, DRI and SOS; line 0, RST0, line 1; EOI

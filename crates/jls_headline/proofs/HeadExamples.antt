@@ -1,6 +1,20 @@
--- A line that survives in the head of the piece that the input's end cuts off.
-use Rattle.std.proofs.Common.{◌≡◌, ℕ, ◌<◌, List, [], ◌∷◌, Some, refl, lit<, arith, inr}
-use Rattle.jls_values.specs.Shape.{PictureShape}
+-- A line that survives in the head of the piece that the input's end cuts off, and what else that head gives, which is nothing.
+use Rattle.std.proofs.Common.{◌≡◌, ℕ, false, List, [], ◌∷◌, replicate, Some, refl, ap, lit<, lit≤, arith, inr}
+use Rattle.std.specs.Prelude.{get_or}
+use Rattle.jls_values.specs.Params.{least_from}
+use Rattle.jls_bits.specs.Bits.{bits, width_after, bits_read_after, ends_data, is_whole_after}
+use Rattle.jls_bits.specs.Golomb.{golomb}
+use Rattle.jls_context.specs.Mode.{quantized_gradient, is_negative, context}
+use Rattle.jls_context.specs.Errors.{modulo_reduced}
+use Rattle.jls_context.specs.Prediction.{corrected_prediction}
+use Rattle.jls_context.specs.Regular.{golomb_k, updated}
+use Rattle.jls_context.specs.Interruption.{run_updated}
+use Rattle.jls_interval.specs.Events.{events_from, events_after}
+use Rattle.jls_interval.specs.Cells.{cell_before, run_cell_before}
+use Rattle.jls_interval.specs.Runs.{block_columns, full_blocks, blocks, run_index_before}
+use Rattle.jls_interval.specs.Code.{event_bits, bits_of_events, code}
+use Rattle.jls_interval.specs.Reads.{Reads}
+use Rattle.jls_partial.specs.Reading.{reading_of}
 use Rattle.jls_marker.specs.ComponentIndex.{index_of}
 use Rattle.jls_marker.specs.MarkerCodes.{has_segment}
 use Rattle.jls_marker.specs.HeaderState.{HeaderState, no_headers}
@@ -8,9 +22,15 @@ use Rattle.jls_marker.specs.Headers.{headers_after}
 use Rattle.jls_copy.specs.Course.{by_input, CopyUnit, segment, scan, Course, IsCourse, with_soi, with_the_input}
 use Rattle.jls_copy.specs.declared.end.End.TheVariants.{Input}
 use Rattle.jls_picture.specs.Picture.{WholePicture}
+use Rattle.jls_headline.specs.Damaged.{Damaged}
+use Rattle.jls_headline.specs.Gives.{GivesReading}
+use Rattle.jls_headline.specs.PictureLines.{picture_reading}
 use Rattle.jls_headline.specs.Survives.{Survives}
+use Rattle.jls_headline.specs.Trimmed.{front, TrimmedCopy}
+use Rattle.jls_headline.proofs.LostIntervals.{damaged_copies_give_no_other, surviving_lines_are_given}
+use Rattle.jls_headline.proofs.Trims.{trimmed_copies_are_damaged}
 use Rattle.jls_headline.proofs.PremiseExamples.{both_lines, another_head}
-use Rattle.jls_headline.proofs.TwoLineExamples.{shape, frame_payload, scan_payload}
+use Rattle.jls_headline.proofs.TwoLineExamples.{shape, bits_8, frame_payload, scan_payload, bytes_of_test}
 
 -- a column of the samples 1 and 9, in one interval
 abbrev pic : WholePicture
@@ -55,3 +75,40 @@ line_0 = record {
   among = (1, lit< tt, refl);
   there = record { numbers = []; rise = tt; marks = tt; there = inr ((1 ∷ []) ∷ [], another_head, (0, lit< tt, refl)) };
 }
+
+-- so the copy gives it
+line_0_is_given : GivesReading copy (picture_reading pic 0 0)
+line_0_is_given = surviving_lines_are_given pic copy 0 0 line_0
+
+-- The second byte is lost: the copy is a damaged copy of the picture, and gives no other line --------------------
+
+record BothRead : Type 0 where
+  both_read : Reads bits_8 1 1 2 (0x50 ∷ 0x80 ∷ []) ((1 ∷ []) ∷ (9 ∷ []) ∷ [])
+
+both : BothRead
+unfolding least_from bits width_after golomb quantized_gradient is_negative context modulo_reduced corrected_prediction golomb_k updated run_updated events_from events_after cell_before run_cell_before block_columns full_blocks blocks run_index_before event_bits bits_of_events code bits_read_after is_whole_after ends_data
+both = record {
+  both_read = record {
+    unread = replicate 5 false;
+    begins = record { are_bytes = (lit< tt, (lit< tt, tt)); are_lines = record { count_is = refl; each = ((refl, (lit≤ tt, tt)), ((refl, (lit≤ tt, tt)), tt)) }; data_bits = record { whole = refl; read = refl } };
+    at_most_seven = lit≤ tt;
+  };
+}
+
+is_trimmed : TrimmedCopy pic copy
+is_trimmed = (
+  course,
+  is_course,
+  record {
+    framed = refl;
+    units = (tt, (record { numbers = []; rise = tt; pieces_are = record { bytes = 0x50 ∷ 0x80 ∷ []; reads = both.both_read; trimmed = front (0x50 ∷ []) (0x80 ∷ []) } }, tt));
+  },
+)
+
+is_damaged : Damaged pic copy
+is_damaged = trimmed_copies_are_damaged pic copy (bytes_of_test copy refl) is_trimmed
+
+no_other_is_given : GivesReading copy (reading_of 0 1 (7 ∷ [])) → ⊥
+no_other_is_given gives =
+    (let is = damaged_copies_give_no_other pic copy (bytes_of_test copy refl) is_damaged (reading_of 0 1 (7 ∷ [])) gives in
+    let e = ap (λ (xs : List ℕ). get_or xs 0 0) is.2 in omega (arith, e))

@@ -1,6 +1,6 @@
 -- A run of `join` over the two copies, and one of `write` after it, event by event: the premises of the laws on written joins are met, and
 -- the text of the join stands for both copies. So does a run of `join` over that text.
-use Rattle.std.proofs.Common.{◌≡◌, ℕ, zero, suc, ◌<◌, Bool, true, false, List, [], ◌∷◌, ◌++◌, length, Option, Some, None, refl, sym, ap, ◌∙◌, subst, lit<, lit≤, arith, inl, inr}
+use Rattle.std.proofs.Common.{◌≡◌, ℕ, zero, suc, ◌<◌, true, false, List, [], ◌∷◌, ◌++◌, length, Option, None, refl, sym, ap, ◌∙◌, subst, lit<, lit≤, arith, inr}
 use Rattle.std.specs.Prelude.{All}
 use Rattle.std.specs.List.{Contains}
 use Rattle.std.proofs.lemmas.List.{append-nil}
@@ -22,7 +22,7 @@ use Rattle.jls_picture.specs.Picture.{WholePicture, line_of, picture_of}
 use Rattle.jls_picture.specs.Pnm.{pnm}
 use Rattle.jls_station.specs.Texts.{is_text}
 use Rattle.jls_station.specs.Given.{Given, given_by_text, given_by_copy, by_text, by_copy}
-use Rattle.jls_station.specs.Inputs.{IsEnough, IsCopyDone}
+use Rattle.jls_station.specs.Inputs.{IsEnough}
 use Rattle.jls_commands.specs.AllInputs.{IsTaken}
 use Rattle.jls_commands.specs.Joining.{JoinIsDone}
 use Rattle.jls_commands.specs.Laws.{AreInputsOf, input_bytes}
@@ -39,7 +39,7 @@ use Rattle.jls_headline.specs.ReadsAs.{GivesPicture}
 use Rattle.jls_headline.specs.RunLaws.{InputStandsFor, InputStandsUnder}
 use Rattle.jls_headline.specs.SourceLaws.{sourced_copy}
 use Rattle.jls_headline.specs.Sources.{HoldsExactlyUnder, began_under, TookInTheEndUnder}
-use Rattle.jls_headline.specs.Stations.{HoldsExactly, began, took_copy, TookInTheEnd}
+use Rattle.jls_headline.specs.Stations.{HoldsExactly, began, TookInTheEnd}
 use Rattle.jls_headline.proofs.JoinThenWrite.{text_of_copies}
 use Rattle.jls_headline.proofs.LostIntervals.{surviving_lines_are_given}
 use Rattle.jls_headline.specs.Survives.{Survives}

@@ -123,13 +123,13 @@ runs_hold_exactly_under source out names joined settled whole events h copies st
     (inputs_of_join source out names joined settled whole events h) stand h.taken.taken.one_shape h.taken.union_is
 
 pub runs_under_sources_hand_out_the_same : RunsUnderSourcesHandOutTheSame
-runs_under_sources_hand_out_the_same source out names joined settled whole events h source' out' names' joined' settled' whole' events' h' copies others stand stand' shape same =
-    let one = same_under joined joined' copies others
-    (runs_hold_exactly_under source out names joined settled whole events h copies stand)
-    (runs_hold_exactly_under source' out' names' joined' settled' whole' events' h' others stand') shape same.0 same.1 in (
+runs_under_sources_hand_out_the_same run again copies others stand stand' shape same =
+    let one = same_under run.joined again.joined copies others
+    (runs_hold_exactly_under run.source run.out run.names run.joined run.settled run.whole run.events run.is_done copies stand)
+    (runs_hold_exactly_under again.source again.out again.names again.joined again.settled again.whole again.events again.is_done others stand') shape same.0 same.1 in (
       one,
-      output_of_join source out names joined settled whole events h ∙ ap (λ (p : PartialPicture). text p ∷ []) one
-          ∙ sym (output_of_join source' out' names' joined' settled' whole' events' h'),
+      output_of_join run.source run.out run.names run.joined run.settled run.whole run.events run.is_done ∙ ap (λ (p : PartialPicture). text p ∷ []) one
+          ∙ sym (output_of_join again.source again.out again.names again.joined again.settled again.whole again.events again.is_done),
     )
 
 pub runs_with_texts_hold_exactly : RunsWithTextsHoldExactly
@@ -209,26 +209,26 @@ among_under source source' copies others e among copy c =
     )
 
 pub runs_with_texts_say_the_same : RunsWithTextsSayTheSame
-runs_with_texts_say_the_same source out names joined settled whole events h source' out' names' joined' settled' whole' events' h' copies others stand stand' shape same =
-    let one = runs_with_texts_hold_exactly source out names joined settled whole events h copies stand in
-    let other = runs_with_texts_hold_exactly source' out' names' joined' settled' whole' events' h' others stand' in
-    say_the_same joined joined' shape (same_readings joined joined' copies others one other same.0 same.1)
+runs_with_texts_say_the_same run again copies others stand stand' shape same =
+    let one = runs_with_texts_hold_exactly run.source run.out run.names run.joined run.settled run.whole run.events run.is_done copies stand in
+    let other = runs_with_texts_hold_exactly again.source again.out again.names again.joined again.settled again.whole again.events again.is_done others stand' in
+    say_the_same run.joined again.joined shape (same_readings run.joined again.joined copies others one other same.0 same.1)
 
 pub runs_say_the_same : RunsSayTheSame
-runs_say_the_same source out names joined settled whole events h none source' out' names' joined' settled' whole' events' h' none' same =
-    let one = runs_hold_exactly source out names joined settled whole events h none in
-    let other = runs_hold_exactly source' out' names' joined' settled' whole' events' h' none' in
-    let given = inputs_of_join source out names joined settled whole events h in
-    let first = some_input source (partials h.taken.givens) joined (input_bytes events) given h.taken.union_is in
+runs_say_the_same run again none none' same =
+    let one = runs_hold_exactly run.source run.out run.names run.joined run.settled run.whole run.events run.is_done none in
+    let other = runs_hold_exactly again.source again.out again.names again.joined again.settled again.whole again.events again.is_done none' in
+    let given = inputs_of_join run.source run.out run.names run.joined run.settled run.whole run.events run.is_done in
+    let first = some_input run.source (partials run.is_done.taken.givens) run.joined (input_bytes run.events) given run.is_done.taken.union_is in
     let there = same.0 first.0 first.1 in
-    let shape : joined.shape ≡ joined'.shape =
-    one_shape_of there.0 joined.shape joined'.shape
-    (same_copy_has_shape first.0 there.0 joined.shape there.2 (shape_of_input joined (input_bytes events) first.0 one first.1))
-    (shape_of_input joined' (input_bytes events') there.0 other there.1) in
-    let readings = same_readings joined joined' (input_bytes events) (input_bytes events') one other same.0 same.1 in (
-      say_the_same joined joined' shape readings,
-      λ e. ap text (runs_under_sources_hand_out_the_same source out names joined settled whole events h source' out' names' joined' settled' whole' events' h'
-          (map (sourced_copy source) (input_bytes events)) (map (sourced_copy source') (input_bytes events'))
-          (copies_stand_under source (input_bytes events) none) (copies_stand_under source' (input_bytes events') none') shape
-          (among_under source source' (input_bytes events) (input_bytes events') e same.0, among_under source' source (input_bytes events') (input_bytes events) (sym e) same.1)).0,
+    let shape : run.joined.shape ≡ again.joined.shape =
+    one_shape_of there.0 run.joined.shape again.joined.shape
+    (same_copy_has_shape first.0 there.0 run.joined.shape there.2 (shape_of_input run.joined (input_bytes run.events) first.0 one first.1))
+    (shape_of_input again.joined (input_bytes again.events) there.0 other there.1) in
+    let readings = same_readings run.joined again.joined (input_bytes run.events) (input_bytes again.events) one other same.0 same.1 in (
+      say_the_same run.joined again.joined shape readings,
+      λ e. ap text (runs_under_sources_hand_out_the_same run again
+          (map (sourced_copy run.source) (input_bytes run.events)) (map (sourced_copy again.source) (input_bytes again.events))
+          (copies_stand_under run.source (input_bytes run.events) none) (copies_stand_under again.source (input_bytes again.events) none') shape
+          (among_under run.source again.source (input_bytes run.events) (input_bytes again.events) e same.0, among_under again.source run.source (input_bytes again.events) (input_bytes run.events) (sym e) same.1)).0,
     )

@@ -27,4 +27,5 @@ mod PremiseExamples
 mod SameCopyExamples
 mod TenLineExamples
 mod HeadExamples
+mod EitherWayExamples
 pub mod JoinExamples

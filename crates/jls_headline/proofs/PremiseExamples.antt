@@ -49,7 +49,7 @@ use Rattle.jls_headline.proofs.TwoLineExamples.{shape, bits_8, pic_and, pic, fir
 
 -- with a component that its shape doesn't have; the two copies are damaged copies of it too, and each line survives in one of them
 -- (`both_are_damaged`, `each_line_survives`)
-abbrev longer : WholePicture
+abbrev pub longer : WholePicture
 longer = pic_and ([] ∷ [])
 
 -- no station gives it
@@ -62,7 +62,7 @@ longer_is_never_given p g =
     omega (arith, ids, lines, same)
 
 -- and a file that reads as the picture reads as this one too
-same_lines : (component line : ℕ) → component < 1 → line_of longer component line ≡ line_of pic component line
+pub same_lines : (component line : ℕ) → component < 1 → line_of longer component line ≡ line_of pic component line
 same_lines zero line l = refl
 same_lines (suc component) line l = absurd (omega (arith, l))
 
@@ -75,19 +75,19 @@ reads_as_longer file reads = record {
   );
 }
 
-longer_is_another : pic ≡ longer → ⊥
+pub longer_is_another : pic ≡ longer → ⊥
 longer_is_another e = (let n : 1 ≡ 2 = ap (λ (x : WholePicture). length x.lines) e in omega (arith, n))
 
 -- Stations of two shapes -----------------------------------------------------------------------------------------
 
-abbrev taller : PictureShape
+abbrev pub taller : PictureShape
 taller = record { precision = 8; width = 1; height = 3; ids = 1 ∷ [] }
 
 -- both took the same copies, which are none
-new_took_none : (s : PictureShape) → TookInTheEnd (nothing_known s) []
+pub new_took_none : (s : PictureShape) → TookInTheEnd (nothing_known s) []
 new_took_none s = ([], began (nothing_known s) [] (holds_none (nothing_known s) refl), λ copy c. absurd (none_in copy c))
 
-shapes_differ : picture_of (nothing_known shape) ≡ picture_of (nothing_known taller) → ⊥
+pub shapes_differ : picture_of (nothing_known shape) ≡ picture_of (nothing_known taller) → ⊥
 shapes_differ e = (let n : 2 ≡ 3 = ap (λ (p : WholePicture). p.shape.height) e in omega (arith, n))
 
 -- Stations that took other copies, and such as ran out of memory -------------------------------------------------
@@ -104,7 +104,7 @@ first_is_not_none a reads e =
     let none : false ≡ true = sym (contains-empty reading_cmp (picture_reading pic 0 0)) ∙ subst (λ rs. set.contains rs (picture_reading pic 0 0) ≡ true) e held in cc)
 
 -- a station that ran out of memory over the first copy, and didn't take it again, can hold all of it, and took none
-abbrev known : PartialPicture
+abbrev pub known : PartialPicture
 known = nothing_known shape
 
 between : (p q : PartialPicture) → p.shape ≡ q.shape → IsBetween union p (union p q) (union p q)

@@ -1,5 +1,5 @@
 -- The same copies: in another order, one of them twice, and one with bytes behind its end.
-use Rattle.std.proofs.Common.{◌≡◌, ℕ, zero, suc, ◌<◌, true, List, [], ◌∷◌, ◌++◌, Some, refl, sym, ap, subst, lit<, arith, inl, inr}
+use Rattle.std.proofs.Common.{ℕ, zero, suc, true, List, [], ◌∷◌, ◌++◌, Some, refl, sym, ap, subst, lit<, arith, inl, inr}
 use Rattle.std.specs.List.{Contains}
 use Rattle.jls_copy.specs.CopyReads.{IsDone}
 use Rattle.jls_commands.specs.Laws.{HaveSameMembers}
@@ -22,7 +22,7 @@ one_copy = inr (second, [], 1 ∷ 2 ∷ [], is_done, refl, refl)
 back_again : IsSameCopy second_and_more second
 back_again = inr (second, 1 ∷ 2 ∷ [], [], is_done, refl, refl)
 
-abbrev taken : List (List ℕ)
+abbrev pub taken : List (List ℕ)
 taken = first ∷ second ∷ []
 
 abbrev also_taken : List (List ℕ)
@@ -60,7 +60,7 @@ same_inputs bytes = (there, back)
 
 -- Under sources --------------------------------------------------------------------------------------------------
 
-abbrev taken_under : List SourcedCopy
+abbrev pub taken_under : List SourcedCopy
 taken_under = sourced_copy (Some 1) first ∷ sourced_copy (Some 2) second ∷ []
 
 abbrev also_taken_under : List SourcedCopy

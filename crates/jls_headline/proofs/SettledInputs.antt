@@ -1,5 +1,5 @@
 -- What is settled, where some input has each line of a picture.
-use Rattle.std.proofs.Common.{◌≡◌, ℕ, zero, suc, ◌<◌, ◌^◌, true, Bool, List, [], ◌∷◌, length, Option, None, refl, sym, ap, ◌∙◌, subst, arith, inl, inr}
+use Rattle.std.proofs.Common.{◌≡◌, ℕ, zero, suc, ◌<◌, true, List, [], ◌∷◌, length, Option, refl, sym, ap, ◌∙◌, subst, arith, inl, inr}
 use Rattle.std.specs.List.{Contains}
 use Rattle.jls_values.specs.OrderedSet as set
 use Rattle.jls_values.specs.OrderedSetLaws.{contains-union}
@@ -11,7 +11,7 @@ use Rattle.jls_partial.specs.Partial.{PartialPicture, has_same_shape, union, rea
 use Rattle.jls_partial.specs.PartialLaws.{one_shape}
 use Rattle.jls_partial.specs.Status.{IsSettled}
 use Rattle.jls_partial.proofs.TextLaws.{one_text}
-use Rattle.jls_picture.specs.Picture.{WholePicture, line_of, picture_of}
+use Rattle.jls_picture.specs.Picture.{WholePicture, line_of}
 use Rattle.jls_picture.specs.WholePictures.{IsPicture}
 use Rattle.jls_station.specs.Given.{Given, Gives, by_text, by_copy, GivesPartial}
 use Rattle.jls_station.specs.Texts.{is_text, IsTextOf}

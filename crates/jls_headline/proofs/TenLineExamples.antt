@@ -1,5 +1,5 @@
 -- A picture of ten lines, and a copy of it that has lost seven of them with their marks: the numbers of its pieces are 0, 8 and 9.
-use Rattle.std.proofs.Common.{◌≡◌, ℕ, ◌<◌, List, [], ◌∷◌, Some, refl, lit<, lit≤, arith, inl, inr}
+use Rattle.std.proofs.Common.{◌≡◌, ℕ, List, [], ◌∷◌, Some, refl, lit<, lit≤, arith, inl, inr}
 use Rattle.jls_values.specs.Shape.{PictureShape}
 use Rattle.jls_marker.specs.ComponentIndex.{index_of}
 use Rattle.jls_marker.specs.MarkerCodes.{has_segment}

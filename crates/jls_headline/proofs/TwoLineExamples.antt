@@ -86,7 +86,7 @@ abbrev pub bits_8 : CodingParameters
 bits_8 = record { precision = 8; maxval = 255; t1 = 3; t2 = 7; t3 = 21; reset = 64 }
 
 -- one scan, with a restart interval for each line
-abbrev plan : Scan
+abbrev pub plan : Scan
 plan = record { components = 0 ∷ []; params = bits_8; width = 1; height = 2; restart_interval = 1 }
 
 -- SOF55, DRI and SOS
@@ -111,7 +111,7 @@ abbrev pub second : List ℕ
 second = copy_with (0xFF ∷ 0xD0 ∷ 0x40 ∷ [])
 
 -- the third has another line in place of line 0
-abbrev third : List ℕ
+abbrev pub third : List ℕ
 third = copy_with (0x50 ∷ [])
 
 abbrev framed : HeaderState
@@ -180,7 +180,7 @@ second_course =
       ),
     )
 
-third_course : IsCourse third (course_with [] (0x50 ∷ []) 32)
+pub third_course : IsCourse third (course_with [] (0x50 ∷ []) 32)
 unfolding headers_after index_of has_segment
 third_course =
     with_soi 0 _ (units_with [] (0x50 ∷ [])) final (Eoi 32) (
@@ -356,7 +356,7 @@ scan_has_no_line_1 v = of_there v.there
     of_there (inl some) = of_pieces v.numbers v.marks some
     of_there (inr none) = none
 
-line_1_is_lost : Survives pic first 0 1 → ⊥
+pub line_1_is_lost : Survives pic first 0 1 → ⊥
 line_1_is_lost v =
     let same = one_course first v.course (course_with [] (0x80 ∷ []) 32) v.is_course first_course in
     of_units v.unit (subst (λ (c : Course). Contains c.units v.unit) same v.among) v.there
@@ -368,7 +368,7 @@ line_1_is_lost v =
     of_units u (suc (suc (suc n)), l, e) s = absurd (omega (arith, l))
 
 -- a piece that reads as another line gives that line: the third copy is no damaged copy of the picture
-third_gives_another : GivesReading third (reading_of 0 0 (1 ∷ []))
+pub third_gives_another : GivesReading third (reading_of 0 0 (1 ∷ []))
 third_gives_another = (
   course_with [] (0x50 ∷ []) 32,
   third_course,
@@ -379,7 +379,7 @@ third_gives_another = (
   ),
 )
 
-another_is_not_of_it : IsLineOf pic (reading_of 0 0 (1 ∷ [])) → ⊥
+pub another_is_not_of_it : IsLineOf pic (reading_of 0 0 (1 ∷ [])) → ⊥
 another_is_not_of_it is = (let e = ap (λ xs. get_or xs 0 0) is.2 in omega (arith, e))
 
 -- where eight marks in a row are lost the number doesn't come back: the mark before interval 9 gives the number 1

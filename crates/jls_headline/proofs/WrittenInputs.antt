@@ -1,5 +1,5 @@
 -- What comes of a `write` whose input has each line of a picture.
-use Rattle.std.proofs.Common.{◌≡◌, ℕ, List, [], ◌∷◌, Option, None, refl, ap, ◌∙◌, subst, inl, inr}
+use Rattle.std.proofs.Common.{◌≡◌, ℕ, List, [], ◌∷◌, None, refl, ap, ◌∙◌, subst, inl, inr}
 use Rattle.std.specs.List.{Contains}
 use Rattle.jls_device.specs.Event.{Event}
 use Rattle.jls_picture.specs.Picture.{WholePicture, picture_of}

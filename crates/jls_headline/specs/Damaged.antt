@@ -55,6 +55,7 @@ pub record DamagedScan (pic : WholePicture) (s : Scan) (closed : List ClosedPiec
   pub pieces_are : PiecesAre (ReadsAsPictureOrNone pic s) 0 closed last numbers
   pub head : WhereCutOff closing (HasHeadOfPicture pic s (last_number 0 numbers) last)
 
+-- a scan of the copy is damaged so; a marker segment may say anything
 abbrev pub DamagedUnit : WholePicture → CopyUnit → Type 0
 DamagedUnit pic (segment fill code payload) = Unit {0}
 DamagedUnit pic (scan fill code payload s closed last closing) = DamagedScan pic s closed last closing

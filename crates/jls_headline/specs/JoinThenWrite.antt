@@ -81,12 +81,14 @@ WrittenJoinsAreSettled =
 
 -- The same behind a `join` with texts among its inputs -------------------------------------------------------------
 
+-- Where such a `write` is done, it handed the file of that picture to its output
 abbrev pub WrittenTextJoinsAreThePicture : Type 0
 WrittenTextJoinsAreThePicture =
     (pic : WholePicture) (joining : List Event) → JoinsForDamagedCopies pic joining
     → (format : Format) (settled whole : Bool) (writing : List Event) → WritesWhatWasJoined joining format (finished settled whole) writing
     → output_bytes writing ≡ file format pic ∷ []
 
+-- and as JPEG-LS, what it handed to its output reads as that picture and as no other
 abbrev pub WrittenTextJoinsReadAsThePicture : Type 0
 WrittenTextJoinsReadAsThePicture =
     (pic : WholePicture) (joining : List Event) → JoinsForDamagedCopies pic joining
@@ -94,6 +96,7 @@ WrittenTextJoinsReadAsThePicture =
     → WritesWhatWasJoined joining (Jls line ri) (finished settled whole) writing
     → (bytes : List ℕ) × (output_bytes writing ≡ bytes ∷ []) × ReadsAsOnly bytes pic
 
+-- No such `write` is refused for a line that is not settled
 abbrev pub WrittenTextJoinsAreSettled : Type 0
 WrittenTextJoinsAreSettled =
     (pic : WholePicture) (joining : List Event) → JoinsForDamagedCopies pic joining

@@ -39,6 +39,7 @@ InputsStand StandsFor [] copies = copies ≡ []
 InputsStand {C} StandsFor (bytes ∷ inputs) copies =
     (mine : List C) × (more : List C) × (copies ≡ mine ++ more) × StandsFor bytes mine × InputsStand StandsFor inputs more
 
+-- these inputs, in turn, stand for these copies
 abbrev pub InputsStandFor : List (List ℕ) → List (List ℕ) → Type 0
 InputsStandFor inputs copies = InputsStand InputStandsFor inputs copies
 
@@ -49,29 +50,32 @@ RunsWithTextsHoldExactly =
     → JoinIsDone source out names joined settled whole events
     → (copies : List (List ℕ)) → InputsStandFor (input_bytes events) copies → HoldsExactly joined copies
 
+-- a run of `join` that is done, under a source or none: what it joined, whether this is settled and whole, and its reads and writes
+pub record DoneJoin : Type 0 where
+  pub source : Option ℕ
+  pub out : List ℕ
+  pub names : List (List ℕ)
+  pub joined : PartialPicture
+  pub settled : Bool
+  pub whole : Bool
+  pub events : List Event
+  pub is_done : JoinIsDone source out names joined settled whole events
+
 -- Two runs that are done, and whose inputs are copies and no texts, the same ones in any order and with any repeats, join what holds and
 -- says the same. Where both had the same source, or none, it has the same text
 abbrev pub RunsSayTheSame : Type 0
 RunsSayTheSame =
-    (source : Option ℕ) (out : List ℕ) (names : List (List ℕ)) (joined : PartialPicture) (settled whole : Bool) (events : List Event)
-    → JoinIsDone source out names joined settled whole events → AreNoTexts (input_bytes events)
-    → (source' : Option ℕ) (out' : List ℕ) (names' : List (List ℕ)) (joined' : PartialPicture) (settled' whole' : Bool)
-    (events' : List Event)
-    → JoinIsDone source' out' names' joined' settled' whole' events' → AreNoTexts (input_bytes events')
-    → SameCopies (input_bytes events) (input_bytes events')
-    → SayTheSame joined joined' × (source ≡ source' → text joined ≡ text joined')
+    (run again : DoneJoin) → AreNoTexts (input_bytes run.events) → AreNoTexts (input_bytes again.events)
+    → SameCopies (input_bytes run.events) (input_bytes again.events)
+    → SayTheSame run.joined again.joined × (run.source ≡ again.source → text run.joined ≡ text again.joined)
 
 -- So too where texts are among the inputs: two runs of one shape whose inputs stand for the same copies, from whatever sources, join what
 -- holds and says the same
 abbrev pub RunsWithTextsSayTheSame : Type 0
 RunsWithTextsSayTheSame =
-    (source : Option ℕ) (out : List ℕ) (names : List (List ℕ)) (joined : PartialPicture) (settled whole : Bool) (events : List Event)
-    → JoinIsDone source out names joined settled whole events
-    → (source' : Option ℕ) (out' : List ℕ) (names' : List (List ℕ)) (joined' : PartialPicture) (settled' whole' : Bool)
-    (events' : List Event)
-    → JoinIsDone source' out' names' joined' settled' whole' events'
-    → (copies others : List (List ℕ)) → InputsStandFor (input_bytes events) copies → InputsStandFor (input_bytes events') others
-    → joined.shape ≡ joined'.shape → SameCopies copies others → SayTheSame joined joined'
+    (run again : DoneJoin)
+    → (copies others : List (List ℕ)) → InputsStandFor (input_bytes run.events) copies → InputsStandFor (input_bytes again.events) others
+    → run.joined.shape ≡ again.joined.shape → SameCopies copies others → SayTheSame run.joined again.joined
 
 -- Where the inputs of a run that is done are damaged copies of one picture and every line survives in some input, each line of what it
 -- joins is settled, and they are that picture; and the JPEG-LS file that is written of it reads as that picture and no other
@@ -100,6 +104,7 @@ InputStandsUnder source bytes copies =
     ((is_text bytes ≡ false) × (copies ≡ sourced_copy source bytes ∷ []))
     ⊎ ((p : PartialPicture) × IsTextOf bytes p × HoldsExactlyUnder p copies)
 
+-- these inputs, in turn, stand for these copies under their sources
 abbrev pub InputsStandUnder : Option ℕ → List (List ℕ) → List SourcedCopy → Type 0
 InputsStandUnder source inputs copies = InputsStand (InputStandsUnder source) inputs copies
 
@@ -115,11 +120,7 @@ RunsHoldExactlyUnder =
 -- is the same, and hand the same bytes to their outputs
 abbrev pub RunsUnderSourcesHandOutTheSame : Type 0
 RunsUnderSourcesHandOutTheSame =
-    (source : Option ℕ) (out : List ℕ) (names : List (List ℕ)) (joined : PartialPicture) (settled whole : Bool) (events : List Event)
-    → JoinIsDone source out names joined settled whole events
-    → (source' : Option ℕ) (out' : List ℕ) (names' : List (List ℕ)) (joined' : PartialPicture) (settled' whole' : Bool)
-    (events' : List Event)
-    → JoinIsDone source' out' names' joined' settled' whole' events'
-    → (copies others : List SourcedCopy) → InputsStandUnder source (input_bytes events) copies
-    → InputsStandUnder source' (input_bytes events') others → joined.shape ≡ joined'.shape → SameCopiesUnder copies others
-    → (joined ≡ joined') × (output_bytes events ≡ output_bytes events')
+    (run again : DoneJoin)
+    → (copies others : List SourcedCopy) → InputsStandUnder run.source (input_bytes run.events) copies
+    → InputsStandUnder again.source (input_bytes again.events) others → run.joined.shape ≡ again.joined.shape → SameCopiesUnder copies others
+    → (run.joined ≡ again.joined) × (output_bytes run.events ≡ output_bytes again.events)

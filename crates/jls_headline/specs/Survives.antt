@@ -40,6 +40,7 @@ pub record SurvivesInScan (pic : WholePicture) (component line : ℕ) (s : Scan)
   pub there : SomePieceIs (ReadsWithLine pic s component line) 0 closed last numbers
       ⊎ HeadHasLine pic s component line (last_number 0 numbers) last closing
 
+-- the unit is a scan, and the line survives in it
 abbrev pub SurvivesInUnit : WholePicture → ℕ → ℕ → CopyUnit → Type 0
 SurvivesInUnit pic component line (segment fill code payload) = ⊥
 SurvivesInUnit pic component line (scan fill code payload s closed last closing) = SurvivesInScan pic component line s closed last closing

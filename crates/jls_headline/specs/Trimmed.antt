@@ -35,6 +35,7 @@ pub record TrimmedScan (pic : WholePicture) (s : Scan) (closed : List ClosedPiec
   pub rise : RiseByEightAtMost (intervals s) 0 numbers
   pub pieces_are : PiecesAre (IsTrimmed pic s) 0 closed last numbers
 
+-- nothing else happened to a scan of the copy; a marker segment may say anything
 abbrev pub TrimmedUnit : WholePicture → CopyUnit → Type 0
 TrimmedUnit pic (segment fill code payload) = Unit {0}
 TrimmedUnit pic (scan fill code payload s closed last closing) = TrimmedScan pic s closed last
@@ -44,5 +45,6 @@ pub record TrimmedCourse (pic : WholePicture) (c : Course) : Type 0 where
   pub framed : c.headers.frame ≡ Some pic.shape
   pub units : AllByRecursion (TrimmedUnit pic) c.units
 
+-- the bytes are such a copy of the picture
 abbrev pub TrimmedCopy : WholePicture → List ℕ → Type 0
 TrimmedCopy pic copy = (c : Course) × IsCourse copy c × TrimmedCourse pic c

@@ -25,6 +25,7 @@ pam_header shape =
     codes "P7\n" ++ number_line (codes "WIDTH ") shape.width ++ number_line (codes "HEIGHT ") shape.height
     ++ number_line (codes "DEPTH ") (length shape.ids) ++ number_line (codes "MAXVAL ") (largest_sample shape) ++ codes "ENDHDR\n"
 
+-- the header: P5 for one component, P6 for three, and P7 for two and four
 abbrev pub pnm_header : PictureShape → List ℕ
 pnm_header shape =
     if length shape.ids == 1 then plain_header (codes "P5\n") shape
@@ -41,16 +42,20 @@ is_wide shape = nat_le 256 (largest_sample shape)
 abbrev pub sample_bytes : Bool → ℕ → List ℕ
 sample_bytes wide sample = if wide then to_be_bytes w16 sample else sample ∷ []
 
+-- the samples of all components at one column of a line
 abbrev pub pixel_bytes : WholePicture → ℕ → ℕ → List ℕ
 pixel_bytes pic line column =
     flat_map (λ component. sample_bytes (is_wide pic.shape) (get_or (line_of pic component line) column 0))
     (range_with_len 0 (length pic.shape.ids))
 
+-- a line, from its first column to its last
 abbrev pub row_bytes : WholePicture → ℕ → List ℕ
 row_bytes pic line = flat_map (pixel_bytes pic line) (range_with_len 0 pic.shape.width)
 
+-- all lines, from the first to the last
 abbrev pub raster : WholePicture → List ℕ
 raster pic = flat_map (row_bytes pic) (range_with_len 0 pic.shape.height)
 
+-- the file: its header and its raster
 abbrev pub pnm : WholePicture → List ℕ
 pnm pic = pnm_header pic.shape ++ raster pic

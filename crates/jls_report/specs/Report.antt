@@ -30,12 +30,15 @@ entries_at p component line =
     else if is_disputed p component line then Disputed component line (reading_count p component line) ∷ []
     else []
 
+-- the entries of one component, from its first line to its last
 abbrev pub component_entries : PartialPicture → ℕ → List ReportEntry
 component_entries p component = flat_map (entries_at p component) (lines p.shape)
 
+-- the entries of all components, in their order in the frame
 abbrev pub report_entries : PartialPicture → List ReportEntry
 report_entries p = flat_map (component_entries p) (components p.shape)
 
+-- the report on a partial picture
 abbrev pub report_of : PartialPicture → PictureReport
 report_of p = record {
   shape = p.shape;

@@ -1,0 +1,268 @@
+-- Each statement that the headline names holds of something here and of something else doesn't: so none is always true or always false.
+-- Those with an example of each kind beside their copies (`TwoLineExamples`, `HeadExamples`, `PremiseExamples`) are not repeated.
+use Rattle.std.proofs.Common.{◌≡◌, ℕ, zero, suc, ◌<◌, ◌≤◌, true, false, List, [], ◌∷◌, Option, Some, None, refl, sym, ap, subst, ◌∙◌, lit<, lit≤, arith}
+use Rattle.std.specs.Prelude.{get_or, All}
+use Rattle.std.specs.List.{AllByRecursion, Contains}
+use Rattle.jls_values.specs.OrderedSet as set
+use Rattle.jls_values.specs.OrderedSetLaws.{contains-empty}
+use Rattle.jls_values.specs.Shape.{PictureShape}
+use Rattle.jls_interval.proofs.PiecesReadOnce.{reads_once}
+use Rattle.jls_partial.specs.Reading.{Reading, reading_of, reading_cmp}
+use Rattle.jls_partial.specs.Partial.{PartialPicture, without_sources, nothing_known}
+use Rattle.jls_copy.specs.Course.{by_input, by_marker, Course}
+use Rattle.jls_copy.proofs.OneCourse.{one_course}
+use Rattle.jls_picture.specs.Options.{OptionsFit}
+use Rattle.jls_file_law.specs.Covering.{IsLineOf}
+use Rattle.jls_headline.specs.PictureLines.{placed_in_interval, picture_reading}
+use Rattle.jls_headline.specs.Gives.{GivesReading}
+use Rattle.jls_headline.specs.Damaged.{ReadsAsPicture, PiecesAre, last_number, WhereCutOff, Damaged}
+use Rattle.jls_headline.specs.Survives.{SomePieceIs, HasLine, Survives, EachLineSurvives}
+use Rattle.jls_headline.specs.Stations.{ReadingsOf, HasShape, AreCopies, HoldsExactly, HasReadingsOf, began, Took, TookInTheEnd, IsSameCopy, AreAmong, SameCopies}
+use Rattle.jls_headline.specs.ReadsAs.{GivesPicture, ReadsAs, ReadsAsOnly, FilesReadAs}
+use Rattle.jls_headline.specs.HeadlineLaws.{SayTheSame}
+use Rattle.jls_headline.specs.SourceLaws.{sourced_copy}
+use Rattle.jls_headline.specs.Sources.{copies_of, GivesUnder, SourcesOf, HoldsExactlyUnder, TookUnder, AreAmongUnder, TookInTheEndUnder, SameCopiesUnder}
+use Rattle.jls_headline.proofs.Members.{is_first, none_in, all_at}
+use Rattle.jls_headline.proofs.Held.{made_holds}
+use Rattle.jls_headline.proofs.ScansInRange.{same_frame}
+use Rattle.jls_headline.proofs.LostIntervals.{damaged_copies_give_no_other, surviving_lines_are_given}
+use Rattle.jls_headline.proofs.SameCopies.{same_copy_gives}
+use Rattle.jls_headline.proofs.Stations.{took_holds}
+use Rattle.jls_headline.proofs.SourcedStations.{took_holds_under}
+use Rattle.jls_headline.proofs.StationCalls.{holds_none, new_station_took_nothing_under}
+use Rattle.jls_headline.proofs.StationPictures.{damaged_copies_give_the_picture}
+use Rattle.jls_headline.proofs.FileExamples.{options, options_fit, are_parameters}
+use Rattle.jls_headline.proofs.PremiseExamples.{longer, same_lines, longer_is_another, taller, shapes_differ, known}
+use Rattle.jls_headline.proofs.SameCopyExamples.{taken, taken_under}
+use Rattle.jls_headline.proofs.TwoLineExamples.{shape, bits_8, plan, pic, is_picture, first, second, third, first_course, second_course, course_with, lost_first, pieces_read, bytes_of_test, both_are_damaged, line_0, line_1, each_line_survives, third_gives_another, another_is_not_of_it, line_1_is_lost}
+
+-- Values ---------------------------------------------------------------------------------------------------------
+
+last_of_three : last_number 0 (8 ∷ 9 ∷ []) ≡ 9
+last_of_three = refl
+
+line_of_interval_1 : placed_in_interval plan 1 ((255 ∷ []) ∷ []) ≡ reading_of 0 1 (255 ∷ []) ∷ []
+line_of_interval_1 = refl
+
+reading_of_line_1 : picture_reading pic 0 1 ≡ reading_of 0 1 (255 ∷ [])
+reading_of_line_1 = refl
+
+copies_alone : copies_of taken_under ≡ taken
+copies_alone = refl
+
+-- Pieces ---------------------------------------------------------------------------------------------------------
+
+-- a sample 1 in line 0, which the picture doesn't have, and the third copy does
+abbrev one : Reading
+one = reading_of 0 0 (1 ∷ [])
+
+other_lines : ReadsAsPicture pic plan 0 (0x50 ∷ []) → ⊥
+other_lines reads =
+    (let e = ap (λ (lines : List (List ℕ)). get_or (get_or lines 0 []) 0 0) (reads_once bits_8 are_parameters 1 1 1 (lit< tt) (0x50 ∷ []) _ _ pieces_read.one_read reads) in omega (arith, e))
+
+-- a number without a piece
+one_piece_too_few : PiecesAre (λ k bytes. Unit {0}) 0 [] [] (1 ∷ []) → ⊥
+one_piece_too_few none = none
+
+where_cut_off : WhereCutOff (by_input 0) ⊥ → ⊥
+where_cut_off none = none
+
+where_not_cut_off : WhereCutOff by_marker ⊥
+where_not_cut_off = tt
+
+no_piece_is : SomePieceIs (λ k bytes. ⊥) 0 [] [] [] → ⊥
+no_piece_is none = none
+
+interval_0_has_not : HasLine plan 0 1 0 → ⊥
+interval_0_has_not has = omega (arith, has.1.1)
+
+-- Copies ---------------------------------------------------------------------------------------------------------
+
+-- the first copy gives no line but the picture's, and the third does
+first_gives_no_other : GivesReading first one → ⊥
+first_gives_no_other gives =
+    another_is_not_of_it (damaged_copies_give_no_other pic first (bytes_of_test first refl) (both_are_damaged []).0 one gives)
+
+third_is_not_damaged : Damaged pic third → ⊥
+third_is_not_damaged damaged =
+    another_is_not_of_it (damaged_copies_give_no_other pic third (bytes_of_test third refl) damaged one third_gives_another)
+
+one_copy_has_not_each : EachLineSurvives pic (first ∷ []) → ⊥
+one_copy_has_not_each each = of_copy (each 0 1 (lit< tt) (lit< tt)).0 (each 0 1 (lit< tt) (lit< tt)).1 (each 0 1 (lit< tt) (lit< tt)).2
+  where
+    of_copy : (copy : List ℕ) → Contains (first ∷ []) copy → Survives pic copy 0 1 → ⊥
+    of_copy copy (zero, l, e) survives = line_1_is_lost (subst (λ (c : List ℕ). Survives pic c 0 1) (sym e) survives)
+    of_copy copy (suc k, l, e) survives = absurd (omega (arith, l))
+
+third_gives : ReadingsOf (third ∷ []) one
+third_gives = (third, is_first third [], third_gives_another)
+
+none_gives : ReadingsOf [] one → ⊥
+none_gives gives = none_in gives.0 gives.1
+
+first_has_shape : HasShape shape first
+first_has_shape = (course_with [] (0x80 ∷ []) 32, first_course, refl)
+
+first_is_not_taller : HasShape taller first → ⊥
+first_is_not_taller (c, is, framed) =
+    (let same = subst (λ (d : Course). d.headers.frame ≡ Some taller) (one_course first c (course_with [] (0x80 ∷ []) 32) is first_course) framed in
+    let n = ap (λ (s : PictureShape). s.height) (same_frame shape taller same) in omega (arith, n))
+
+are_copies : AreCopies shape (first ∷ [])
+are_copies = ((bytes_of_test first refl, first_has_shape), tt)
+
+are_not_taller : AreCopies taller (first ∷ []) → ⊥
+are_not_taller are = first_is_not_taller are.0.1
+
+is_not_first : IsSameCopy third first → ⊥
+is_not_first same = first_gives_no_other (same_copy_gives third first one same third_gives_another)
+
+not_among_none : AreAmong (third ∷ []) [] → ⊥
+not_among_none among = (let found = among third (is_first third []) in none_in found.0 found.1)
+
+not_the_same : SameCopies (third ∷ []) [] → ⊥
+not_the_same same = not_among_none same.0
+
+-- Stations -------------------------------------------------------------------------------------------------------
+
+holds_no_copies : HoldsExactly known []
+holds_no_copies = holds_none known refl
+
+holds_not_third : HoldsExactly known (third ∷ []) → ⊥
+holds_not_third holds =
+    (let none : false ≡ true = sym (contains-empty reading_cmp one) ∙ (holds.readings one).1 third_gives in cc)
+
+has_its_own : HasReadingsOf known known
+has_its_own = (refl, refl)
+
+has_not_its_shape : HasReadingsOf known (nothing_known taller) → ⊥
+has_not_its_shape has = (let n = ap (λ (s : PictureShape). s.height) has.0 in omega (arith, n))
+
+took_nothing : Took known [] []
+took_nothing = began known [] holds_no_copies
+
+took_not_third_in_the_end : TookInTheEnd known (third ∷ []) → ⊥
+took_not_third_in_the_end took = holds_not_third (took_holds known (third ∷ []) took)
+
+took_not_third : Took known (third ∷ []) [] → ⊥
+took_not_third took = took_not_third_in_the_end ([], took, λ copy c. absurd (none_in copy c))
+
+says_the_same : SayTheSame known known
+says_the_same = record { readings = refl; report = refl; picture = refl; pnm_file = refl; jls_file = λ o. refl; of_same_sources = λ e. refl }
+
+says_another : SayTheSame known (nothing_known taller) → ⊥
+says_another same = shapes_differ same.picture
+
+reads_as_another : ReadsAs third pic → ⊥
+reads_as_another reads = another_is_not_of_it ((reads.readings one).0 third_gives_another)
+
+reads_not_only : ReadsAsOnly third pic → ⊥
+reads_not_only only = reads_as_another only.reads
+
+-- A station that holds the lines of the picture ------------------------------------------------------------------
+
+abbrev lines : List Reading
+lines = picture_reading pic 0 0 ∷ picture_reading pic 0 1 ∷ []
+
+abbrev held : PartialPicture
+held = without_sources shape (set.insert_all {R = reading_cmp} set.empty lines)
+
+abbrev both : List (List ℕ)
+both = first ∷ second ∷ []
+
+given : (r : Reading) → Contains lines r → ReadingsOf both r
+given r (zero, l, e) =
+    (first, (0, lit< tt, refl), subst (λ (x : Reading). GivesReading first x) e (surviving_lines_are_given pic first 0 0 (line_0 [])))
+given r (suc zero, l, e) =
+    (second, (1, lit< tt, refl), subst (λ (x : Reading). GivesReading second x) e (surviving_lines_are_given pic second 0 1 (line_1 [])))
+given r (suc (suc k), l, e) = absurd (omega (arith, l))
+
+listed : (component line : ℕ) (samples : List ℕ) → IsLineOf pic (reading_of component line samples)
+    → Contains lines (reading_of component line samples)
+listed zero zero samples is = (0, lit< tt, ap (reading_of 0 0) (sym is.2))
+listed zero (suc zero) samples is = (1, lit< tt, ap (reading_of 0 1) (sym is.2))
+listed zero (suc (suc line)) samples (c, l, e) = absurd (omega (arith, l))
+listed (suc component) line samples (c, l, e) = absurd (omega (arith, c))
+
+are_bytes : AllByRecursion (λ copy. AllByRecursion (λ b. b < 256) copy) both
+are_bytes = (bytes_of_test first refl, (bytes_of_test second refl, tt))
+
+line_of_picture : (r : Reading) → ReadingsOf both r → IsLineOf pic r
+line_of_picture r (copy, found, gives) =
+    damaged_copies_give_no_other pic copy (all_at (λ (c : List ℕ). AllByRecursion (λ b. b < 256) c) both copy are_bytes found)
+    (all_at (Damaged pic) both copy (both_are_damaged []) found) r gives
+
+holds_both : HoldsExactly held both
+holds_both = record {
+  are_copies = ((bytes_of_test first refl, first_has_shape), ((bytes_of_test second refl, (course_with (lost_first ∷ []) (0x40 ∷ []) 34, second_course, refl)), tt));
+  readings = λ r. (
+    λ h. given r ((made_holds lines r).0 h),
+    λ g. (made_holds lines r).1 (listed r.component r.line r.samples (line_of_picture r g)),
+  );
+}
+
+took_both : TookInTheEnd held both
+took_both = ([], began held both holds_both, λ copy c. absurd (none_in copy c))
+
+gives_the_picture : GivesPicture held pic
+gives_the_picture =
+    (damaged_copies_give_the_picture pic is_picture held both took_both (both_are_damaged []) (each_line_survives [])).0
+
+files_read_as_it : FilesReadAs held pic
+files_read_as_it =
+    (damaged_copies_give_the_picture pic is_picture held both took_both (both_are_damaged []) (each_line_survives [])).1
+
+-- its files read as another picture too, as one that has more lines than its shape: so not as that one alone
+fits_longer : OptionsFit longer options
+fits_longer = record {
+  precision = refl;
+  samples = λ component c line l. subst (All (λ x. x ≤ 255)) (sym (same_lines component line c)) (options_fit.samples component c line l);
+  interval = lit≤ tt;
+}
+
+files_read_not_as_another : FilesReadAs held longer → ⊥
+files_read_not_as_another files =
+    longer_is_another ((files options are_parameters (lit< tt) fits_longer).no_other pic is_picture (files_read_as_it options are_parameters (lit< tt) options_fit).reads)
+
+-- Under sources --------------------------------------------------------------------------------------------------
+
+abbrev number_or_none : Option ℕ → ℕ
+number_or_none None = 0
+number_or_none (Some n) = n
+
+gives_under_1 : GivesUnder (sourced_copy (Some 1) third) one 1
+gives_under_1 = (refl, third_gives_another)
+
+gives_not_under_2 : GivesUnder (sourced_copy (Some 1) third) one 2 → ⊥
+gives_not_under_2 gives = (let n : 1 ≡ 2 = ap number_or_none gives.0 in omega (arith, n))
+
+source_1 : SourcesOf (sourced_copy (Some 1) third ∷ []) one 1
+source_1 = (sourced_copy (Some 1) third, is_first (sourced_copy (Some 1) third) [], gives_under_1)
+
+no_source : SourcesOf [] one 1 → ⊥
+no_source sources = none_in sources.0 sources.1
+
+took_nothing_under : TookUnder known [] []
+took_nothing_under = new_station_took_nothing_under shape
+
+took_nothing_in_the_end_under : TookInTheEndUnder known []
+took_nothing_in_the_end_under = ([], took_nothing_under, λ copy c. absurd (none_in copy c))
+
+holds_none_under : HoldsExactlyUnder known []
+holds_none_under = took_holds_under known [] took_nothing_in_the_end_under
+
+holds_not_third_under : HoldsExactlyUnder known (sourced_copy None third ∷ []) → ⊥
+holds_not_third_under holds = holds_not_third holds.readings
+
+took_not_third_in_the_end_under : TookInTheEndUnder known (sourced_copy None third ∷ []) → ⊥
+took_not_third_in_the_end_under took = holds_not_third_under (took_holds_under known (sourced_copy None third ∷ []) took)
+
+took_not_third_under : TookUnder known (sourced_copy None third ∷ []) [] → ⊥
+took_not_third_under took = took_not_third_in_the_end_under ([], took, λ copy c. absurd (none_in copy c))
+
+not_among_none_under : AreAmongUnder (sourced_copy None third ∷ []) [] → ⊥
+not_among_none_under among =
+    (let found = among (sourced_copy None third) (is_first (sourced_copy None third) []) in none_in found.0 found.1)
+
+not_the_same_under : SameCopiesUnder (sourced_copy None third ∷ []) [] → ⊥
+not_the_same_under same = not_among_none_under same.0
