@@ -123,6 +123,13 @@ behind_longer (p ∷ cs) c [] h = absurd h
 behind_longer (p ∷ cs) c (d ∷ ds) (inl less) = inl less
 behind_longer (p ∷ cs) c (d ∷ ds) (inr (e, h)) = inr (e, behind_longer cs c ds h)
 
+-- what stands behind a path does so with more choices
+pub behind_more : (cs ds more : List ℕ) → IsBehind cs ds → IsBehind cs (ds ++ more)
+behind_more [] ds more h = absurd h
+behind_more (p ∷ cs) [] more h = absurd h
+behind_more (p ∷ cs) (d ∷ ds) more (inl less) = inl less
+behind_more (p ∷ cs) (d ∷ ds) more (inr (e, h)) = inr (e, behind_more cs ds more h)
+
 -- a later choice in the place of the last
 pub next_behind : (cs : List ℕ) (p q : ℕ) → p < q → IsBehind (cs ++ p ∷ []) (cs ++ q ∷ [])
 next_behind [] p q less = inl less

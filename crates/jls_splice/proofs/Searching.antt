@@ -6,7 +6,7 @@ use Rattle.std.specs.declared.alloc.AllocError.{AllocError}
 use Rattle.std.proofs.lemmas.List.Elements.{Contains-append_left, Contains-append_right}
 use Rattle.std.specs.Cmp.Lexicographic.{pointwise, told_text}
 use Rattle.jls_parts.specs.Parts.{Part, Same, Differ, way, HasWays, IsSplice}
-use Rattle.jls_splice.specs.Choices.{IsFirstWay, IsPath, IsWhole, front_of}
+use Rattle.jls_splice.specs.Choices.{IsFirstWay, IsFront, IsPath, IsWhole, front_of}
 use Rattle.jls_splice.specs.Order.{IsToCome, IsBehind}
 use Rattle.jls_splice.specs.Faultless.{IsFaultless, IsDead}
 use Rattle.jls_splice.specs.Search.{HasEachSplice, MakeFiles, files_of, MakesFile, StandsAt, IsOver, GoesOn, IsStep}
@@ -119,9 +119,10 @@ faulty_file ps path l faulty choices file t =
 -- Steps ------------------------------------------------------------------------------------------------------------
 
 module _ (ps : List Part) (path next : List ℕ) (found : List (List ℕ)) (stands : StandsAt ps path found) where
-  pub descended : IsPath ps next → ((choices : List ℕ) → IsWhole ps choices → IsToCome path choices → IsToCome next choices) → StandsAt ps next found
-  descended is kept = record {
+  pub descended : IsPath ps next → IsFront ps next → ((choices : List ℕ) → IsWhole ps choices → IsToCome path choices → IsToCome next choices) → StandsAt ps next found
+  descended is front kept = record {
     is_path = is;
+    front = front;
     files = stands.files;
     all = λ choices file. elim (stands.all choices file) [ inl f ↦ inl f | inr t ↦ inr (kept choices file.whole t) ];
   }
@@ -130,16 +131,18 @@ module _ (ps : List Part) (path next : List ℕ) (found : List (List ℕ)) (stan
   module _ (more_found : List (List ℕ)) (files : MakeFiles ps more_found)
       (found_or_behind : (choices : List ℕ) → MakesFile ps choices → Contains more_found choices ⊎ IsBehind path choices) where
     pub turned_on : (r : Result Bool AllocError) → IfOk r (λ more. more ≡ true → IsPath ps next)
+        → IfOk r (λ more. more ≡ true → IsFront ps next)
         → IfOk r (λ more. more ≡ true → (choices : List ℕ) → IsWhole ps choices → IsBehind path choices → IsToCome next choices)
         → IfOk r (λ more. more ≡ false → (choices : List ℕ) → IsWhole ps choices → IsBehind path choices → ⊥)
         → IfOk r (λ more. GoesOn ps next more_found more)
-    turned_on (Err e) a b c = tt
-    turned_on (Ok true) a b c = record {
+    turned_on (Err e) a f b c = tt
+    turned_on (Ok true) a f b c = record {
       is_path = a refl;
+      front = f refl;
       files = files;
       all = λ choices file. elim (found_or_behind choices file) [ inl f ↦ inl f | inr t ↦ inr (b refl choices file.whole t) ];
     }
-    turned_on (Ok false) a b c = record {
+    turned_on (Ok false) a f b c = record {
       files = files;
       all = λ choices file. elim (found_or_behind choices file) [ inl f ↦ f | inr t ↦ absurd (c refl choices file.whole t) ];
     }
@@ -167,9 +170,9 @@ pub files_more : (ps : List Part) (path : List ℕ) (found : List (List ℕ)) �
 files_more ps path found files is l faultless =
     all_more (λ choices. IsWhole ps choices × IsFaultless (front_of ps choices)) found path files ((is, l), faultless)
 
-pub at_start : (ps : List Part) (path : List ℕ) → IsPath ps path → ((choices : List ℕ) → IsWhole ps choices → IsToCome [] choices → IsToCome path choices)
+pub at_start : (ps : List Part) (path : List ℕ) → IsPath ps path → IsFront ps path → ((choices : List ℕ) → IsWhole ps choices → IsToCome [] choices → IsToCome path choices)
     → StandsAt ps path []
-at_start ps path is kept = record { is_path = is; files = tt; all = λ choices file. inr (kept choices file.whole tt) }
+at_start ps path is front kept = record { is_path = is; front = front; files = tt; all = λ choices file. inr (kept choices file.whole tt) }
 
 pub on_ok : {A B : Type 0} (r : Result A B) (P : Type 0) → P → IfOk r (λ _. P)
 on_ok (Ok x) P h = h

@@ -1,5 +1,5 @@
 -- Choices of ways, part by part, and the bytes that they make.
-use Rattle.std.specs.Prelude.{◌≡◌, ℕ, ◌<◌, List, [], ◌∷◌, ◌++◌, length, get_or}
+use Rattle.std.specs.Prelude.{◌≡◌, ℕ, ◌<◌, List, [], ◌∷◌, ◌++◌, length, get_or, ◌⊎◌}
 use Rattle.jls_parts.specs.Parts.{Part, Same, Differ, way}
 
 -- the bytes that these choices make of the first parts, as many as there are choices
@@ -26,6 +26,15 @@ IsPath (part ∷ parts) (choice ∷ choices) = IsFirstWay part choice × IsPath 
 -- and for each part
 abbrev pub IsWhole : List Part → List ℕ → Type 0
 IsWhole parts choices = IsPath parts choices × (length choices ≡ length parts)
+
+-- the copies differ there
+abbrev pub IsDiffer : Part → Type 0
+IsDiffer (Same bytes) = ⊥
+IsDiffer (Differ ways) = Unit {0}
+
+-- the path ends before a part in which the copies differ, or has a choice for each part
+abbrev pub IsFront : List Part → List ℕ → Type 0
+IsFront parts path = IsDiffer (get_or parts (length path) (Same [])) ⊎ (length path ≡ length parts)
 
 -- some copy has something there, were it nothing
 abbrev pub HasSomeWay : Part → Type 0

@@ -4,7 +4,7 @@ use Rattle.std.specs.List.{AllByRecursion, Contains}
 use Rattle.std.specs.declared.vec.Vec.{Vec}
 use Rattle.std.specs.declared.alloc.Global.{Global}
 use Rattle.jls_parts.specs.Parts.{Part, HasWays, IsSplice}
-use Rattle.jls_splice.specs.Choices.{IsPath, IsWhole, front_of}
+use Rattle.jls_splice.specs.Choices.{IsFront, IsPath, IsWhole, front_of}
 use Rattle.jls_splice.specs.Faultless.{IsFaultless}
 use Rattle.jls_splice.specs.Order.{Goes, IsToCome, IsBehind}
 use Rattle.jls_splice.specs.declared.whole_search.WholeSearch.{WholeSearch}
@@ -48,9 +48,11 @@ pub record MakesFile (parts : List Part) (choices : List ℕ) : Type 0 where
   pub low : AllByRecursion (λ b. b < 256) (front_of parts choices)
   pub faultless : IsFaultless (front_of parts choices)
 
--- a search that stands at a path has found each such choices, or they are to come
+-- A search that stands at a path has found each such choices, or they are to come. The path is a front: it ends where copies differ, or is
+-- whole. So each try is of one front or file
 pub record StandsAt (parts : List Part) (path : List ℕ) (found : List (List ℕ)) : Type 0 where
   pub is_path : IsPath parts path
+  pub front : IsFront parts path
   pub files : MakeFiles parts found
   pub all : (choices : List ℕ) → MakesFile parts choices → Contains found choices ⊎ IsToCome path choices
 

@@ -4,7 +4,7 @@ ghost use Rattle.std.specs.Prelude.{◌≡◌, ℕ, List, ◌<◌, ◌≤◌, �
 ghost use Rattle.std.specs.List.{AllByRecursion};
 ghost use Rattle.jls_parts.specs.PartsOf.{part_of, parts_of};
 ghost use Rattle.jls_parts.specs.Parts.{Same};
-ghost use Rattle.jls_splice.specs.Choices.{IsNew, IsFirstWay, IsPath, IsWhole, HasSomeWay};
+ghost use Rattle.jls_splice.specs.Choices.{IsDiffer, IsFirstWay, IsFront, IsNew, IsPath, IsWhole, HasSomeWay};
 ghost use Rattle.jls_splice.specs.Order.{Goes, IsToCome, IsBehind};
 
 use jls_parts::Part;
@@ -68,7 +68,8 @@ pub fn next_way_at(parts: &[Part<'_>], place: usize, behind: usize) -> Option<us
 
 /// Whether all copies have the part alike.
 fn is_same(part: &Part<'_>) -> bool
-    ensures { result ≡ true → IsFirstWay (part_of part.now) 0 }
+    ensures same { result ≡ true → IsFirstWay (part_of part.now) 0 }
+    ensures differ { result ≡ false → IsDiffer (part_of part.now) }
 {
     match part {
         Part::Same(_) => true,
@@ -79,7 +80,8 @@ fn is_same(part: &Part<'_>) -> bool
 /// The same, of the part at this place.
 fn is_same_at(parts: &[Part<'_>], place: usize) -> bool
     requires { place < length parts.now }
-    ensures { result ≡ true → IsFirstWay (get_or (parts_of parts.now) place (Same [])) 0 }
+    ensures same { result ≡ true → IsFirstWay (get_or (parts_of parts.now) place (Same [])) 0 }
+    ensures differ { result ≡ false → IsDiffer (get_or (parts_of parts.now) place (Same [])) }
 {
     is_same(&parts[place])
 }
@@ -88,6 +90,7 @@ fn is_same_at(parts: &[Part<'_>], place: usize) -> bool
 pub(crate) fn follow_same(parts: &[Part<'_>], path: &mut Vec<usize>) -> Result<(), AllocError>
     requires { IsPath (parts_of parts.now) path.old.items }
     ensures path { OnOk result (IsPath (parts_of parts.now) path.new.items) }
+    ensures front { OnOk result (IsFront (parts_of parts.now) path.new.items) }
     ensures grew { OnOk result ((more : List ℕ) × (path.new.items ≡ path.old.items ++ more)) }
     ensures kept { OnOk result
         ((choices : List ℕ) → IsWhole (parts_of parts.now) choices → IsToCome path.old.items choices → IsToCome path.new.items choices) }
@@ -104,6 +107,7 @@ pub(crate) fn descend(parts: &[Part<'_>], path: &mut Vec<usize>) -> Result<(), A
     requires more { length path.old.items < length parts.now }
     requires some_way { AllByRecursion HasSomeWay (parts_of parts.now) }
     ensures path { OnOk result (IsPath (parts_of parts.now) path.new.items) }
+    ensures front { OnOk result (IsFront (parts_of parts.now) path.new.items) }
     ensures grew { OnOk result (Goes path.old.items path.new.items) }
     ensures kept { OnOk result
         ((choices : List ℕ) → IsWhole (parts_of parts.now) choices → IsToCome path.old.items choices → IsToCome path.new.items choices) }
@@ -112,8 +116,8 @@ pub(crate) fn descend(parts: &[Part<'_>], path: &mut Vec<usize>) -> Result<(), A
     follow_same(parts, path)
 }
 
-/// Gives up all choices that begin with the path, and goes to the next path; `false` where there is none.
-pub(crate) fn turn(parts: &[Part<'_>], path: &mut Vec<usize>) -> Result<bool, AllocError>
+/// Gives up all choices that begin with the path, and takes the next way of the last part that has one; `false` where there is none.
+fn pass(parts: &[Part<'_>], path: &mut Vec<usize>) -> Result<bool, AllocError>
     requires { IsPath (parts_of parts.now) path.old.items }
     ensures path { IfOk result (λ more. more ≡ true → IsPath (parts_of parts.now) path.new.items) }
     ensures behind { IfOk result (λ more. more ≡ true → IsBehind path.old.items path.new.items) }
@@ -127,6 +131,24 @@ pub(crate) fn turn(parts: &[Part<'_>], path: &mut Vec<usize>) -> Result<bool, Al
             path.push(next)?;
             return Ok(true);
         }
+    }
+    Ok(false)
+}
+
+/// Gives up all choices that begin with the path, and goes to the next front; `false` where there is none.
+pub(crate) fn turn(parts: &[Part<'_>], path: &mut Vec<usize>) -> Result<bool, AllocError>
+    requires { IsPath (parts_of parts.now) path.old.items }
+    ensures path { IfOk result (λ more. more ≡ true → IsPath (parts_of parts.now) path.new.items) }
+    ensures front { IfOk result (λ more. more ≡ true → IsFront (parts_of parts.now) path.new.items) }
+    ensures behind { IfOk result (λ more. more ≡ true → IsBehind path.old.items path.new.items) }
+    ensures to_come { IfOk result (λ more. more ≡ true →
+        (choices : List ℕ) → IsWhole (parts_of parts.now) choices → IsBehind path.old.items choices → IsToCome path.new.items choices) }
+    ensures none { IfOk result (λ more. more ≡ false →
+        (choices : List ℕ) → IsWhole (parts_of parts.now) choices → ¬ IsBehind path.old.items choices) }
+{
+    if pass(parts, path)? {
+        follow_same(parts, path)?;
+        return Ok(true);
     }
     Ok(false)
 }

@@ -15,7 +15,7 @@ returns-clause-next c =
     turned_on ps path next F c.requires.stands M
     (subst (MakeFiles ps) (sym E) (files_more ps path F c.requires.stands.files c.requires.stands.is_path c.requires.whole c.requires.faultless))
     (λ choices file. subst (λ fs. Contains fs choices ⊎ IsBehind path choices) (sym E) (found_behind ps path next F c.requires.stands c.requires.whole choices file))
-    c.turn.result c.turn.ensures.path c.turn.ensures.to_come c.turn.ensures.none
+    c.turn.result c.turn.ensures.path c.turn.ensures.front c.turn.ensures.to_come c.turn.ensures.none
 
 pub returns-clause-count : goal.returns-clause-count
 returns-clause-count c =

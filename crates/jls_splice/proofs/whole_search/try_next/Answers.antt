@@ -31,7 +31,7 @@ descend-requires c =
 pub returns-in_ok-descend-in-Open-clause-next : goal.returns-in_ok-descend-in-Open-clause-next
 returns-in_ok-descend-in-Open-clause-next c =
     descended (parts_of c.args.parts.now) c.args.path.now.items c.descend.new.path.items (lists_of c.args.found.now.items) c.requires.stands
-    c.in_ok-descend-in-Open.ensures.path c.in_ok-descend-in-Open.ensures.kept
+    c.in_ok-descend-in-Open.ensures.path c.in_ok-descend-in-Open.ensures.front c.in_ok-descend-in-Open.ensures.kept
 
 pub pass_found-requires : goal.pass_found-requires
 pass_found-requires c =
@@ -47,7 +47,7 @@ returns-in-Dead-clause-next c =
     let F : List (List ℕ) = lists_of c.args.found.now.items in
     turned_on ps path next F c.requires.stands F c.requires.stands.files
     (dead_behind ps path next F c.requires.stands (seen ps path c.deref.result.now c.in_ok-sight.sight Dead c.deref.ensures.value c.in-Dead.is c.in_ok-sight.ensures))
-    c.turn.result c.turn.ensures.path c.turn.ensures.to_come c.turn.ensures.none
+    c.turn.result c.turn.ensures.path c.turn.ensures.front c.turn.ensures.to_come c.turn.ensures.none
 
 pub returns-in-Dead-clause-count : goal.returns-in-Dead-clause-count
 returns-in-Dead-clause-count c =

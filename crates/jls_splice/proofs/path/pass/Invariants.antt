@@ -2,7 +2,7 @@ use Rattle.std.proofs.Common.{length, ℕ, List}
 use Rattle.jls_parts.specs.PartsOf.{parts_of}
 use Rattle.jls_splice.specs.Choices.{IsPath, IsWhole}
 use Rattle.jls_splice.specs.Order.{IsBehind}
-use Rattle.jls_splice.proofs.path.turn.Given as goal
+use Rattle.jls_splice.proofs.path.pass.Given as goal
 
 abbrev pub invariant-loop-choice : goal.invariant-loop-choice
 invariant-loop-choice l = IsPath (parts_of l.parts) l.path.items
