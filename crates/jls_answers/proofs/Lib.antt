@@ -1,1 +1,2 @@
+mod AnswerExamples
 mod RefusedWords

@@ -3,7 +3,8 @@ use Rattle.std.proofs.Common.{◌≡◌, ◌⊎◌, ℕ, true, false, List, inl,
 use Rattle.clap.specs.Words.{IsAmong, Text, fault_of}
 use Rattle.clap.specs.declared.error.kind.ErrorKind.{ErrorKind}
 use Rattle.jls_device.specs.Event.{Event}
-use Rattle.jls_words.specs.Words.{AreRefused, is_help, salvage_app}
+use Rattle.jls_answers.specs.Answers.{is_help}
+use Rattle.jls_words.specs.Words.{AreRefused, salvage_app}
 use Rattle.jls_words.specs.Asking.{AskForNothing}
 use Rattle.jls_program.specs.Runs.{Run, came_of, misused, helped, help_cut, nothing_begun, nothing_asked}
 

@@ -1,3 +1,2 @@
-mod AnswerExamples
 mod FaultLineExamples
 mod StatusExamples
