@@ -50,8 +50,10 @@ fn judges_fronts(rt: HostRuntime) -> Result<(), Fail> {
 
 /// How many files without a fault are found in so many tries of the first file, and whether the tries are used up, where its copies are
 /// damaged at these offsets.
-const SEARCHES: [(&str, &str, u32, usize, bool); 4] = [
+const SEARCHES: [(&str, &str, u32, usize, bool); 6] = [
     ("100+8=0", "400+8=0", 4096, 1, false),
+    ("100+8=0", "400+8=0", 5, 1, false),
+    ("100+8=0", "400+8=0", 4, 1, true),
     ("100+8=0", "400+8=0", 1, 0, true),
     ("whole", "whole", 4096, 1, false),
     ("300+8=0", "300+8=85", 4096, 0, false),
