@@ -8,8 +8,8 @@ use Rattle.jls_splice.specs.declared.whole_search.WholeSearch.{WholeSearch}
 use Rattle.jls_splice_lines.specs.Lines.{progress_line}
 use Rattle.jls_splice_progress.specs.declared.options.SearchOptions.{SearchOptions}
 
--- The lines of a search of so many tries, which found so many files: one behind each 64 tries, and one behind the last, each with how many
--- tries there were and how many files were found by then
+-- The lines of a search of so many tries, which found so many files: one after each 64 tries, and one after the last. Each has how many
+-- tries there were. The last has how many files were found, and those before it no more than the next
 pub data Lines : ℕ → ℕ → List Event → Type 0 where
   nothing_tried : Lines 0 0 []
   line : (rounds found tries files : ℕ) (events more : List Event) → Lines (64 * rounds) found events → 64 * rounds < tries
@@ -20,9 +20,9 @@ abbrev pub IsTold : Bool → ℕ → ℕ → List Event → Type 0
 IsTold true tries files events = Lines tries files events
 IsTold false tries files events = events ≡ []
 
--- and so are those of a search that memory ended
-abbrev pub ToldSome : Bool → List Event → Type 0
-ToldSome tells events = (tries : ℕ) × (files : ℕ) × IsTold tells tries files events
+-- and so are those of a search that memory ended, of so many tries at most
+abbrev pub ToldSome : ℕ → Bool → List Event → Type 0
+ToldSome limit tells events = (tries : ℕ) × (files : ℕ) × (tries ≤ limit) × IsTold tells tries files events
 
 -- Inside the crate -------------------------------------------------------------------------------------------------
 

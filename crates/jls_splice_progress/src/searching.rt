@@ -106,7 +106,7 @@ fn search_parts<E: Sink>(
     ensures stops { IfOk result (λ walk. CanGoOn walk options.tries → ⊥) }
     ensures tried { IfOk result (λ walk. WasBegun (parts_of parts.now) walk) }
     ensures told { IfOk result (λ walk. GrewBy (HasTold options walk) (E.history faults.old) (E.history faults.new)) }
-    ensures told_some { OnErr result (GrewBy (ToldSome options.tells) (E.history faults.old) (E.history faults.new)) }
+    ensures told_some { OnErr result (GrewBy (ToldSome options.tries options.tells) (E.history faults.old) (E.history faults.new)) }
 {
     let mut walk = WholeSearch::begin(alloc, parts)?;
     while walk.can_go_on(options.tries) {
@@ -137,7 +137,7 @@ pub fn search_and_tell<'a, E: Sink>(
     ensures told { IfOk result (λ found.
         GrewBy (IsTold options.tells found.searched.tries (length (lists_of found.searched.splices.items)))
         (E.history faults.old) (E.history faults.new)) }
-    ensures told_some { OnErr result (GrewBy (ToldSome options.tells) (E.history faults.old) (E.history faults.new)) }
+    ensures told_some { OnErr result (GrewBy (ToldSome options.tries options.tells) (E.history faults.old) (E.history faults.new)) }
 {
     parts_can_be_searched();
     let parts = find_parts(alloc, copies)?;

@@ -120,11 +120,11 @@ IsUnsettled a copies splices r =
     IsWantOfMemory a r
     ⊎ ((found : ShapeFound) × IsShapeFound (bytes_read copies) splices found × IsRefusedFor a.copies (stops_read copies) found r)
 
--- why a run stops after it has read the copies, and what it told until then of how far its search was: memory runs out; or a search with
--- the tries that are allowed found splices of which no picture comes
+-- why a run stops after it has read the copies, and what it told until then of how far its search was, which had no more tries than are
+-- allowed: memory runs out; or the search found splices of which no picture comes
 abbrev pub CantMake : Asked → List CopyBytes → Refusal → List Event → Type 0
 CantMake a copies r events =
-    (IsWantOfMemory a r × ToldSome a.options.progress events)
+    (IsWantOfMemory a r × ToldSome a.options.tries a.options.progress events)
     ⊎ ((f : Found) × (tries : ℕ) × IsFound (bytes_read copies) f × AreTries a.options.tries f tries
     × IsUnsettled a copies (splices_in f) r × IsTold a.options.progress tries (length f.choices) events)
 

@@ -67,7 +67,7 @@ fn search<'c, E: Sink>(
     ensures of_groups { IfOk result (λ found. IfSome (found_of found).by_groups (AreGroupTries options.tries)) }
     ensures told { IfOk result (λ found.
         GrewBy (IsTold options.tells found.tries (length (found_of found).choices)) (E.history faults.old) (E.history faults.new)) }
-    ensures told_some { OnErr result (GrewBy (ToldSome options.tells) (E.history faults.old) (E.history faults.new)) }
+    ensures told_some { OnErr result (GrewBy (ToldSome options.tries options.tells) (E.history faults.old) (E.history faults.new)) }
 {
     parts_can_be_searched();
     if !are_short(copies) {

@@ -14,7 +14,7 @@ use Rattle.jls_splice_progress.proofs.searching.search_and_tell.Goals as goal
 pub returns-in_err-parts-clause-told_some : goal.returns-in_err-parts-clause-told_some
 returns-in_err-parts-clause-told_some g c =
     let h = g.E.Device.history c.args.faults.now in
-    on_err_anyway _ (GrewBy (ToldSome c.args.options.tells) h h) (grew_not (ToldSome c.args.options.tells) h (0, 0, none_told c.args.options.tells))
+    on_err_anyway _ (GrewBy (ToldSome c.args.options.tries c.args.options.tells) h h) (grew_not (ToldSome c.args.options.tries c.args.options.tells) h (0, 0, omega arith, none_told c.args.options.tells))
 
 pub search_parts-requires-clause-some_way : goal.search_parts-requires-clause-some_way
 search_parts-requires-clause-some_way g c =

@@ -16,13 +16,13 @@ begun_told options walk e f = record {
   paused = λ can. (0, e);
 }
 
-some_told : (options : SearchOptions) (walk : WholeSearch) (events : List Event) → HasTold options walk events → ToldSome options.tells events
-some_told options walk events h = (walk.tries, length (lists_of walk.splices.items), h.told)
+some_told : (options : SearchOptions) (walk : WholeSearch) (events : List Event) → HasTold options walk events → ToldSome options.tries options.tells events
+some_told options walk events h = (walk.tries, length (lists_of walk.splices.items), h.within, h.told)
 
 pub returns-in_err-walk-clause-told_some : goal.returns-in_err-walk-clause-told_some
 returns-in_err-walk-clause-told_some g c =
     let h = g.E.Device.history c.args.faults.now in
-    on_err_anyway _ (GrewBy (ToldSome c.args.options.tells) h h) (grew_not (ToldSome c.args.options.tells) h (0, 0, none_told c.args.options.tells))
+    on_err_anyway _ (GrewBy (ToldSome c.args.options.tries c.args.options.tells) h h) (grew_not (ToldSome c.args.options.tries c.args.options.tells) h (0, 0, omega arith, none_told c.args.options.tells))
 
 pub loop-alloc-init : goal.loop-alloc-init
 loop-alloc-init g c =
@@ -64,9 +64,9 @@ pub returns-in_err-go_on-clause-told_some : goal.returns-in_err-go_on-clause-tol
 returns-in_err-go_on-clause-told_some g c =
     let history = g.E.Device.history in
     let h = history c.args.faults.now in
-    on_err_anyway _ (GrewBy (ToldSome c.args.options.tells) h (history c.go_on.new.faults))
-    (subst (λ now. GrewBy (ToldSome c.args.options.tells) h now) (sym c.in_err-go_on.ensures.untold)
-    (grew_as (HasTold c.args.options c.loop-alloc.walk) (ToldSome c.args.options.tells) h (history c.loop-alloc.faults)
+    on_err_anyway _ (GrewBy (ToldSome c.args.options.tries c.args.options.tells) h (history c.go_on.new.faults))
+    (subst (λ now. GrewBy (ToldSome c.args.options.tries c.args.options.tells) h now) (sym c.in_err-go_on.ensures.untold)
+    (grew_as (HasTold c.args.options c.loop-alloc.walk) (ToldSome c.args.options.tries c.args.options.tells) h (history c.loop-alloc.faults)
     (some_told c.args.options c.loop-alloc.walk) c.loop-alloc.invariant.told))
 
 pub returns-clause-stops : goal.returns-clause-stops

@@ -1,4 +1,4 @@
-use Rattle.std.proofs.Common.{◌≡◌, ℕ, List, length, inl, inr, ap, sym, ◌∙◌, subst}
+use Rattle.std.proofs.Common.{◌≡◌, ℕ, arith, List, length, inl, inr, ap, sym, ◌∙◌, subst}
 use Rattle.jls_copy_files.specs.CopyFiles.{CopyBytes, copies_of}
 use Rattle.jls_device.proofs.Growing.{grew_as, grew_not}
 use Rattle.jls_partial.specs.Partial.{PartialPicture}
@@ -18,13 +18,13 @@ returns-in-Err-clause-stopped g c =
     let a = task_of c.args.task.now in
     let want = c.want_of_memory.ensures in
     grew_not (CantMake a (copies_of c.args.copies.now) c.want_of_memory.result) (g.E.Device.history c.args.faults.now)
-    (inl ((want.name, want.cause), (0, 0, none_told a.options.progress)))
+    (inl ((want.name, want.cause), (0, 0, omega arith, none_told a.options.progress)))
 
 pub returns-in-Err-search-clause-stopped : goal.returns-in-Err-search-clause-stopped
 returns-in-Err-search-clause-stopped g c =
     let a = task_of c.args.task.now in
     let want = c.want_of_memory-in-Err-search.ensures in
-    grew_as (ToldSome a.options.progress) (CantMake a (copies_of c.args.copies.now) c.want_of_memory-in-Err-search.result)
+    grew_as (ToldSome a.options.tries a.options.progress) (CantMake a (copies_of c.args.copies.now) c.want_of_memory-in-Err-search.result)
     (g.E.Device.history c.args.faults.now) (g.E.Device.history c.search.new.faults)
     (λ events told. inl ((want.name, want.cause), told)) c.in-Err-search.ensures.told_some
 
@@ -57,7 +57,7 @@ returns-clause-stopped g c =
     let files = length (found_of found).choices in
     grew_as (IsTold a.options.progress found.tries files) (CantMake a (copies_of c.args.copies.now) c.want_of_memory-in-Err-texts_of.result)
     (g.E.Device.history c.args.faults.now) (g.E.Device.history c.search.new.faults)
-    (λ events told. inl ((want.name, want.cause), (found.tries, files, told))) c.in-Ok-search.ensures.told
+    (λ events told. inl ((want.name, want.cause), (found.tries, files, c.in-Ok-search.ensures.few, told))) c.in-Ok-search.ensures.told
 
 pub returns-in-Ok-texts_of-clause-made : goal.returns-in-Ok-texts_of-clause-made
 returns-in-Ok-texts_of-clause-made g c =

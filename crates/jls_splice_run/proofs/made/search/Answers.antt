@@ -1,4 +1,4 @@
-use Rattle.std.proofs.Common.{◌≡◌, ℕ, ◌<◌, true, List, length, ap, sym, ◌∙◌, subst, inl, inr}
+use Rattle.std.proofs.Common.{◌≡◌, ℕ, ◌<◌, arith, true, List, length, ap, sym, ◌∙◌, subst, inl, inr}
 use Rattle.jls_device.specs.Event.{GrewBy}
 use Rattle.jls_device.proofs.Growing.{grew_as, grew_not}
 use Rattle.jls_parts.proofs.Slices.{count_of_slices}
@@ -27,7 +27,7 @@ returns-clause-small g c =
 
 pub returns-then-not-are_short-clause-told_some : goal.returns-then-not-are_short-clause-told_some
 returns-then-not-are_short-clause-told_some g c =
-    grew_not (ToldSome c.args.options.tells) (g.E.Device.history c.args.faults.now) (0, 0, none_told c.args.options.tells)
+    grew_not (ToldSome c.args.options.tries c.args.options.tells) (g.E.Device.history c.args.faults.now) (0, 0, omega arith, none_told c.args.options.tells)
 
 pub returns-clause-used_up : goal.returns-clause-used_up
 returns-clause-used_up g c = λ t.
@@ -64,6 +64,8 @@ returns-in_err-more-clause-told_some g c =
     let files = length (lists_of found.searched.splices.items) in
     let before = g.E.Device.history c.args.faults.now in
     let now = g.E.Device.history c.search_and_tell.new.faults in
-    on_err_anyway _ (GrewBy (ToldSome tells) before now)
-    (grew_as (IsTold tells found.searched.tries files) (ToldSome tells) before now (λ events told. (found.searched.tries, files, told))
+    let limit = c.args.options.tries in
+    on_err_anyway _ (GrewBy (ToldSome limit tells) before now)
+    (grew_as (IsTold tells found.searched.tries files) (ToldSome limit tells) before now
+    (λ events told. (found.searched.tries, files, c.in_ok-found.ensures.few, told))
     c.in_ok-found.ensures.told)
