@@ -6,7 +6,7 @@ use Rattle.std.specs.Str.{chars}
 use Rattle.std.proofs.lemmas.Fmt.{decimal_digit, decimal-digits_of}
 use Rattle.jls_marker.specs.declared.fault.MarkerFault.TheVariants.{NoSoi}
 use Rattle.jls_splice_answers.specs.declared.outcome.Cause.TheVariants as cause
-use Rattle.jls_splice_answers.specs.FaultLines.{cause_line, not_replaced_line, not_understood_line}
+use Rattle.jls_splice_answers.specs.FaultLines.{cause_line, named_twice_line, not_replaced_line, not_understood_line}
 
 -- the numbers in them
 d0 : decimal 0 ≡ codes "0"
@@ -55,6 +55,10 @@ report_not_written = rw d0 refl
 not_replaced : not_replaced_line (codes "A.jls") ≡ codes "jls-splice: A.jls is a JPEG file, and jls-splice replaces none\n"
 unfolding chars encode_utf8
 not_replaced = refl
+
+named_twice : named_twice_line (codes "A.jls") ≡ codes "jls-splice: A.jls: is named as OUT and by --file\n"
+unfolding chars encode_utf8
+named_twice = refl
 
 memory : cause_line (codes "OUT") cause.OutOfMemory ≡ codes "jls-splice: out of memory\n"
 unfolding chars encode_utf8

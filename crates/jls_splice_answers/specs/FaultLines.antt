@@ -30,6 +30,10 @@ cause_line name cause.OutOfMemory = out_of_memory_line program
 abbrev pub not_replaced_line : List ℕ → List ℕ
 not_replaced_line name = line_about program name (codes " is a JPEG file, and jls-splice replaces none")
 
+-- the line of words that name both outputs so
+abbrev pub named_twice_line : List ℕ → List ℕ
+named_twice_line name = line_about program name (codes ": is named as OUT and by --file")
+
 -- none where the run is done
 abbrev pub fault_line : Outcome → List ℕ
 fault_line (Done settled whole) = []

@@ -6,5 +6,6 @@ mod printing;
 
 pub use outcome::{Cause, Outcome, Refusal};
 pub use printing::{
-    PROGRAM, print_not_created, print_not_replaced, print_not_understood, print_outcome,
+    PROGRAM, print_named_twice, print_not_created, print_not_replaced, print_not_understood,
+    print_outcome,
 };

@@ -4,7 +4,7 @@ ghost use Rattle.jls_device.specs.Event.{GrewBy};
 ghost use Rattle.jls_device.specs.Writing.{Printed};
 ghost use Rattle.jls_marker.specs.Faults.{fault_number};
 ghost use Rattle.jls_printing.specs.FaultLines.{no_picture_line};
-ghost use Rattle.jls_splice_answers.specs.FaultLines.{cause_line, fault_line, not_replaced_line, not_understood_line, program};
+ghost use Rattle.jls_splice_answers.specs.FaultLines.{cause_line, fault_line, named_twice_line, not_replaced_line, not_understood_line, program};
 
 use crate::outcome::{Cause, Outcome, Refusal};
 use jls_device::Sink;
@@ -33,6 +33,13 @@ pub fn print_not_replaced<E: Sink>(faults: &mut E, name: &str)
         name,
         " is a JPEG file, and jls-splice replaces none",
     );
+}
+
+/// Prints that both outputs have this name.
+pub fn print_named_twice<E: Sink>(faults: &mut E, name: &str)
+    ensures { GrewBy (Printed (named_twice_line name.now)) (E.history faults.old) (E.history faults.new) }
+{
+    print_about(faults, PROGRAM, name, ": is named as OUT and by --file");
 }
 
 /// Prints that the words ask for nothing that there is.

@@ -1,5 +1,5 @@
 -- What a run of the program is.
-use Rattle.std.specs.Prelude.{◌≡◌, ◌↔◌, ℕ, Bool, true, false, IsTrue, List, [], ◌++◌, codes, option_map}
+use Rattle.std.specs.Prelude.{◌≡◌, ◌↔◌, ℕ, Bool, true, false, IsTrue, List, [], ◌++◌, codes, option_map, Some}
 use Rattle.clap.specs.Words.{Text}
 use Rattle.clap.specs.declared.error.kind.ErrorKind.{ErrorKind}
 use Rattle.jls_device.specs.Event.{Event, History}
@@ -11,7 +11,7 @@ use Rattle.jls_splice_words.specs.Asking.{Asked, AskFor, AskForNothing}
 use Rattle.jls_splice_words.specs.Words.{AreRefused}
 use Rattle.jls_answers.specs.Answers.{is_help}
 use Rattle.jls_printing.specs.FaultLines.{not_written_line, out_of_memory_line}
-use Rattle.jls_splice_answers.specs.FaultLines.{fault_line, not_understood_line, program}
+use Rattle.jls_splice_answers.specs.FaultLines.{fault_line, named_twice_line, not_understood_line, program}
 use Rattle.jls_splice_answers.specs.Outcomes.{exit_status}
 use Rattle.jls_splice_answers.specs.declared.outcome.Outcome.{Outcome}
 use Rattle.jls_splice_answers.specs.declared.outcome.Outcome.TheVariants.{Done, Refused}
@@ -83,11 +83,18 @@ pub data Performs (a : Asked) : ℕ → List Event → List Event → List Event
       → Performs a (exit_status outcome) desk report (faults ++ line)
   no_names : (faults : List Event) → Printed (out_of_memory_line program) faults → Performs a 5 [] [] faults
 
+-- the mended file is asked for under the name OUT
+abbrev pub IsFileOut : Asked → Type 0
+IsFileOut a = a.options.file ≡ Some a.out
+
 -- a run over these words ends with this status; the events are those of the desk, of the report output and of the fault output
 pub data Run (words : List Text) : ℕ → List Event → List Event → List Event → Type 0 where
   -- the words ask for something
   performed : (a : Asked) (status : ℕ) (desk report faults : List Event)
-      → AskFor words a → Performs a status desk report faults → Run words status desk report faults
+      → AskFor words a → ¬ IsFileOut a → Performs a status desk report faults → Run words status desk report faults
+  -- and for the mended file under the name OUT
+  named_twice : (a : Asked) (faults : List Event)
+      → AskFor words a → IsFileOut a → Printed (named_twice_line a.out) faults → Run words 2 [] [] faults
   -- clap refuses the words, and not to show help: some text, which may be any, goes to the fault output
   misused : (k : ErrorKind) (usage : List ℕ) (faults : List Event)
       → AreRefused words k → is_help k ≡ false → Printed usage faults → Run words 2 [] [] faults

@@ -6,11 +6,11 @@ ghost use Rattle.jls_splice_words.specs.Asking.{asked_of};
 ghost use Rattle.jls_splice_run.specs.Runs.{GrewAll, Performs, Ran};
 
 use crate::splicing::splice;
-use crate::task::{Task, names_of};
+use crate::task::{Task, is_file_out, names_of};
 use jls_answers::answer;
 use jls_device::{Desk, Sink};
 use jls_printing::print_out_of_memory;
-use jls_splice_answers::{PROGRAM, print_not_understood, print_outcome};
+use jls_splice_answers::{PROGRAM, print_named_twice, print_not_understood, print_outcome};
 use jls_splice_words::{Asked, asked_splice, matches};
 use std::alloc::Global;
 
@@ -46,7 +46,7 @@ fn perform<D: Desk, W: Sink, E: Sink>(
 ///
 /// - 0: done, and each line of OUT is settled; or help or the version was asked for;
 /// - 1: done, with lines that are missing or disputed;
-/// - 2: the words were not understood;
+/// - 2: the words were not understood, or `--file` names OUT;
 /// - 3: a copy is a partial picture, no file taken has a picture, or files without a fault differ in shape;
 /// - 4: a copy can't be opened or read, an output can't be created, or a write failed. The run may be done then, if a copy was not read
 ///   to its end;
@@ -67,11 +67,16 @@ pub fn run<D: Desk, W: Sink, E: Sink>(
         Ok(matches) => matches,
         Err(error) => return answer(alloc, PROGRAM, &error, report, faults),
     };
-    match asked_splice(&matches) {
-        Some(asked) => perform(alloc, &asked, desk, report, faults),
+    let asked = match asked_splice(&matches) {
+        Some(asked) => asked,
         None => {
             print_not_understood(faults);
-            2
+            return 2;
         }
+    };
+    if is_file_out(&asked) {
+        print_named_twice(faults, asked.out);
+        return 2;
     }
+    perform(alloc, &asked, desk, report, faults)
 }

@@ -1,8 +1,9 @@
 //! What a run is to do.
 
-ghost use Rattle.std.specs.Prelude.{◌≡◌, ◌<◌, length, IfOk, map};
+ghost use Rattle.std.specs.Prelude.{◌≡◌, ◌<◌, ◌↔◌, length, IfOk, IsTrue, map};
 ghost use Rattle.jls_splice_answers.specs.declared.outcome.Cause.TheVariants.{OutOfMemory};
 ghost use Rattle.jls_splice_words.specs.Asking.{asked_of};
+ghost use Rattle.jls_splice_run.specs.Runs.{IsFileOut};
 ghost use Rattle.jls_splice_run.specs.Tasks.{texts_of};
 
 use jls_splice_answers::{Cause, Refusal};
@@ -29,6 +30,16 @@ pub(crate) fn names_of<'a>(alloc: Global, asked: &Asked<'_, 'a>) -> Result<Vec<&
         names.push(name)?;
     }
     Ok(names)
+}
+
+/// Whether the mended file is asked for under the name OUT.
+pub(crate) fn is_file_out(asked: &Asked<'_, '_>) -> bool
+    ensures { IsTrue result ↔ IsFileOut (asked_of asked.now) }
+{
+    match asked.options.file {
+        Some(file) => file == asked.out,
+        None => false,
+    }
 }
 
 /// Why a run stops for which memory ran out.

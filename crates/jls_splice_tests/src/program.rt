@@ -46,6 +46,7 @@ two shapes: eight: whole / restarts: OUT 1 2: 3 nothing: jls-splice: 2: shape di
 nothing in common, and one has a fault: eight: 300+8=0 / scans: OUT 1 2: 0 scans: splices 0
 not there: eight: whole / whole: OUT 1 3: 4 nothing: jls-splice: 3: cannot be opened
 the mended file: eight: 100+8=0 / 400+8=0: --file NAME OUT 1 2: 0 eight: splices 1
+the mended file at OUT: eight: 100+8=0 / 400+8=0: --file OUT OUT 1 2: 2 nothing: jls-splice: OUT: is named as OUT and by --file
 no mended file: eight: 300+8=0 / 300+8=85: --file NAME OUT 1 2: 1 other: no single file
 two mended files: eight: whole / other: --file NAME OUT 1 2: 1 other: no single file
 each sixteenth: eight: 40+4=0 120+4=0 200+4=0 280+4=0 360+4=0 440+4=0 520+4=0 600+4=0 / 80+4=0 160+4=0 240+4=0 320+4=0 400+4=0 \

@@ -1,7 +1,7 @@
 use Rattle.std.proofs.Common.{◌∙◌, inr, map, sym, ap}
 use Rattle.std.specs.String.{string_bytes}
 use Rattle.jls_splice_words.specs.Asking.{asked_by, asked_of}
-use Rattle.jls_splice_run.proofs.Running.{ran, ran_nothing, ran_refused}
+use Rattle.jls_splice_run.proofs.Running.{ran, ran_named_twice, ran_nothing, ran_refused}
 use Rattle.jls_splice_run.proofs.program.run.Goals as goal
 
 pub returns-in-Err : goal.returns-in-Err
@@ -12,8 +12,8 @@ returns-in-Err g c =
     ran_refused (map string_bytes c.args.words.now) desk desk (report c.args.report.now) (report c.answer.new.report)
     (faults c.args.faults.now) (faults c.answer.new.faults) _ c.answer.result c.in-Err.ensures.refused c.answer.ensures
 
-pub returns : goal.returns
-returns g c =
+pub returns-in-None : goal.returns-in-None
+returns-in-None g c =
     let desk = g.D.Device.history c.args.desk.now in
     let report = g.W.Device.history c.args.report.now in
     let faults = g.E.Device.history in
@@ -21,12 +21,23 @@ returns g c =
     (record { taken = inr c.in-Ok.ensures.no_fault; asks = sym (ap asked_by c.in-Ok.ensures.rows) ∙ sym c.in-None.ensures })
     c.print_not_understood.ensures
 
-pub returns-in-Some : goal.returns-in-Some
-returns-in-Some g c =
+pub returns-then-is_file_out : goal.returns-then-is_file_out
+returns-then-is_file_out g c =
+    let desk = g.D.Device.history c.args.desk.now in
+    let report = g.W.Device.history c.args.report.now in
+    let faults = g.E.Device.history in
+    ran_named_twice (map string_bytes c.args.words.now) desk desk report report (faults c.args.faults.now) (faults c.print_named_twice.new.faults)
+    (asked_of c.in-Some.asked)
+    (record { taken = inr c.in-Ok.ensures.no_fault; asks = sym (ap asked_by c.in-Ok.ensures.rows) ∙ sym c.in-Some.ensures })
+    (c.is_file_out.ensures.0 c.if-is_file_out.true) c.print_named_twice.ensures
+
+pub returns : goal.returns
+returns g c =
     let desk = g.D.Device.history in
     let report = g.W.Device.history in
     let faults = g.E.Device.history in
     ran (map string_bytes c.args.words.now) (desk c.args.desk.now) (desk c.perform.new.desk) (report c.args.report.now) (report c.perform.new.report)
     (faults c.args.faults.now) (faults c.perform.new.faults) (asked_of c.in-Some.asked) c.perform.result
     (record { taken = inr c.in-Ok.ensures.no_fault; asks = sym (ap asked_by c.in-Ok.ensures.rows) ∙ sym c.in-Some.ensures })
+    (λ same. (let yes = c.is_file_out.ensures.1 same in let no = c.if-is_file_out.false in absurd cc))
     c.perform.ensures
