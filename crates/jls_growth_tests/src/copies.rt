@@ -95,22 +95,33 @@ fn finish(rt: HostRuntime) {
     tally.end(&rt);
 }
 
+/// A station that holds the old readings takes others, and holds both.
+fn take_other(
+    rt: &impl Abort,
+    alloc: Global,
+    old: &Partial,
+    other: &Partial,
+    union: &Partial,
+) -> Result<Met, Stopped> {
+    let mut station = Station::new(alloc, old.shape().to_owned());
+    station.take(old)?;
+    let mut met = Met::Done;
+    if let Err(fault) = station.take(other) {
+        met = Met::Refused;
+        assert_eq!(rt; fault, MergeFault::OutOfMemory);
+        check_between(rt, alloc, old, station.partial(), union)?;
+        assert_eq!(rt; station.take(other), Ok(()));
+    }
+    assert!(rt; *station.partial() == *union);
+    Ok(met)
+}
+
 /// A station takes a picture.
 fn take_one(rt: &impl Abort, alloc: Global, case: &Case<'_>) -> Result<Met, Stopped> {
     let old = case.held().partial(alloc)?;
     let union = case.both().partial(alloc)?;
     let other = case.taken().partial(alloc)?;
-    let mut station = Station::new(alloc, case.held().shape()?);
-    station.take(&old)?;
-    let mut met = Met::Done;
-    if let Err(fault) = station.take(&other) {
-        met = Met::Refused;
-        assert_eq!(rt; fault, MergeFault::OutOfMemory);
-        check_between(rt, alloc, &old, station.partial(), &union)?;
-        assert_eq!(rt; station.take(&other), Ok(()));
-    }
-    assert!(rt; *station.partial() == union);
-    Ok(met)
+    take_other(rt, alloc, &old, &other, &union)
 }
 
 #[test]
@@ -129,25 +140,55 @@ fn marked_lines(alloc: Global, height: u16) -> Result<Partial, Stopped> {
     Ok(lines)
 }
 
+/// The lines under no source, and another reading of the first one.
+fn other_lines(alloc: Global, height: u16) -> Result<Partial, Stopped> {
+    let mut lines = lines_of(alloc, height)?;
+    lines.insert(0, 0, &[200])?;
+    Ok(lines)
+}
+
+/// What a station holds that held these lines, once it has taken the copy under the source 7.
+fn with_marked(alloc: Global, height: u16, old: &Partial) -> Result<Partial, Stopped> {
+    let mut union = marked_lines(alloc, height)?;
+    union.merge(old)?;
+    Ok(union)
+}
+
+/// Takes a copy under the source 7.
+fn take_seven(station: &mut Station, copy: &[u8]) -> Result<(), TakeFault> {
+    match station.take_copy(Some(7), &mut Counted::new(copy)) {
+        Ok(_) => Ok(()),
+        Err(fault) => Err(fault),
+    }
+}
+
+/// A station that holds the old readings takes a copy, and holds both.
+fn take_bytes(
+    rt: &impl Abort,
+    alloc: Global,
+    old: &Partial,
+    copy: &[u8],
+    union: &Partial,
+) -> Result<Met, Stopped> {
+    let mut station = Station::new(alloc, old.shape().to_owned());
+    station.take(old)?;
+    let mut met = Met::Done;
+    if let Err(fault) = take_seven(&mut station, copy) {
+        met = Met::Refused;
+        assert_eq!(rt; fault, TakeFault::OutOfMemory);
+        check_between(rt, alloc, old, station.partial(), union)?;
+        assert_eq!(rt; take_seven(&mut station, copy), Ok(()));
+    }
+    assert!(rt; *station.partial() == *union);
+    Ok(met)
+}
+
 /// A station that holds other readings of the lines takes a copy.
 fn take_copy_of(rt: &impl Abort, alloc: Global, height: u16) -> Result<Met, Stopped> {
     let copy = copy_of(alloc, height)?;
-    let mut old = lines_of(alloc, height)?;
-    old.insert(0, 0, &[200])?;
-    let mut union = marked_lines(alloc, height)?;
-    union.merge(&old)?;
-    let mut station = Station::new(alloc, old.shape().to_owned());
-    station.take(&old)?;
-    let mut met = Met::Done;
-    if let Err(fault) = station.take_copy(Some(7), &mut Counted::new(copy.as_slice())) {
-        met = Met::Refused;
-        assert_eq!(rt; fault, TakeFault::OutOfMemory);
-        check_between(rt, alloc, &old, station.partial(), &union)?;
-        let again = station.take_copy(Some(7), &mut Counted::new(copy.as_slice()));
-        assert!(rt; again.is_ok());
-    }
-    assert!(rt; *station.partial() == union);
-    Ok(met)
+    let old = other_lines(alloc, height)?;
+    let union = with_marked(alloc, height, &old)?;
+    take_bytes(rt, alloc, &old, &copy, &union)
 }
 
 #[test]
