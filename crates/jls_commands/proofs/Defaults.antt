@@ -4,6 +4,7 @@ use Rattle.std.specs.List.{range_with_len}
 use Rattle.std.proofs.lemmas.List.FromFn.{get_or-map-range_with_len}
 use Rattle.jls_values.specs.Params.{CodingParameters}
 use Rattle.jls_values.specs.ParamsOf.{in_force, param_fault, params_in_range, params_of}
+use Rattle.jls_values.specs.PresetParameters.{no_presets}
 use Rattle.jls_values.specs.declared.params.ParamFault.{ParamFault}
 
 abbrev is_none : Option ParamFault → Bool
@@ -12,7 +13,7 @@ is_none (Some f) = false
 
 -- whether no default of a precision is outside its range
 abbrev test : ℕ → Bool
-test p = is_none (param_fault (in_force p 0 0 0 0 0))
+test p = is_none (param_fault (in_force p no_presets))
 
 abbrev all : List Bool → Bool
 all [] = true
@@ -32,11 +33,11 @@ in_range : (p : CodingParameters) (f : Option ParamFault) → is_none f ≡ true
 in_range p None e = refl
 in_range p (Some f) e = absurd cc
 
-pub defaults_are : (p : ℕ) → 2 ≤ p → p ≤ 16 → params_of p 0 0 0 0 0 ≡ Ok (in_force p 0 0 0 0 0)
+pub defaults_are : (p : ℕ) → 2 ≤ p → p ≤ 16 → params_of p no_presets ≡ Ok (in_force p no_presets)
 defaults_are p low high =
     let passes : test p ≡ true =
     sym (get_or-map-range_with_len test 2 15 (p - 2) p true (omega (arith, low, high)) (omega (arith, low, high))) ∙ each (map test (range_with_len 2 15)) (p - 2) tested in
-    in_range (in_force p 0 0 0 0 0) (param_fault (in_force p 0 0 0 0 0)) passes
+    in_range (in_force p no_presets) (param_fault (in_force p no_presets)) passes
 
 -- what is a value is no fault
 pub never_both : (r : Result CodingParameters ParamFault) (p : CodingParameters) (f : ParamFault) → r ≡ Ok p → r ≡ Err f → ⊥

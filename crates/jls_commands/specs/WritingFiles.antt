@@ -9,6 +9,7 @@ use Rattle.jls_picture.specs.Options.{WriteOptions, OptionsFit, components_of_sc
 use Rattle.jls_picture.specs.Pnm.{pnm}
 use Rattle.jls_file.specs.WrittenFile.{written_file}
 use Rattle.jls_values.specs.ParamsOf.{in_force}
+use Rattle.jls_values.specs.PresetParameters.{no_presets}
 use Rattle.jls_picture.specs.Unsettled.{NamesFirstUnsettled}
 use Rattle.jls_picture.specs.declared.picture.PictureFault.{PictureFault}
 use Rattle.jls_picture.specs.declared.picture.PictureFault.TheVariants.{Unsettled}
@@ -33,7 +34,7 @@ abbrev pub options_for : Bool → ℕ → WholePicture → WriteOptions
 options_for line ri picture = record {
   line = line;
   restart_interval = ri;
-  params = in_force picture.shape.precision 0 0 0 0 0;
+  params = in_force picture.shape.precision no_presets;
 }
 
 -- the file of a picture

@@ -34,6 +34,7 @@ pub record QuantizedGradients : Type 0 where
   pub q2 : ℤ
   pub q3 : ℤ
 
+-- those of the neighbours: of Rd - Rb, Rb - Rc and Rc - Ra
 abbrev pub quantized_gradients : CodingParameters → Neighbours → QuantizedGradients
 quantized_gradients p near = record {
   q1 = quantized_gradient p (pos near.rd -ℤ pos near.rb);

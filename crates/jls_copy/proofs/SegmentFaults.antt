@@ -9,7 +9,7 @@ use Rattle.jls_marker.specs.HeaderState.{HeaderState}
 use Rattle.jls_marker.specs.Headers.{begin_tests, scan_in, scan_under, begun, accepted, taking, headers_after}
 use Rattle.jls_marker.specs.Layouts.{FrameHeader, frame_header, ScanHeader, scan_header, preset_parameters, restart_interval}
 use Rattle.jls_marker.specs.MarkerCodes.{sof55, sos, lse, dri, is_skipped, has_segment}
-use Rattle.jls_marker.specs.PresetParameters.{PresetParameters}
+use Rattle.jls_values.specs.PresetParameters.{PresetParameters}
 use Rattle.jls_marker.specs.Scan.{Scan}
 use Rattle.jls_marker.specs.ScanSelection.{ScanSelection}
 use Rattle.jls_marker.specs.Segments.{frame_tests, frame_of, shape_in, scan_tests, scan_of, selection_in, preset_of, lse_of, restart_of, segment_of}

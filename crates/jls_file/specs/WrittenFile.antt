@@ -5,6 +5,7 @@ use Rattle.std.specs.Prelude.{◌++◌, map, length, get_or, Result, Ok, Err}
 use Rattle.std.specs.List.{flat_map, range_with_len}
 use Rattle.jls_values.specs.Params.{CodingParameters}
 use Rattle.jls_values.specs.ParamsOf.{params_of}
+use Rattle.jls_values.specs.PresetParameters.{no_presets}
 use Rattle.jls_values.specs.declared.params.ParamFault.{ParamFault}
 use Rattle.jls_interval.specs.Reads.{packed}
 use Rattle.jls_marker.specs.Scan.{Scan, scan_with, intervals, first_row, row_count}
@@ -27,7 +28,7 @@ are_values_of (Err fault) p = false
 
 -- whether they are the defaults of the precision
 abbrev pub are_defaults : CodingParameters → Bool
-are_defaults p = are_values_of (params_of p.precision 0 0 0 0 0) p
+are_defaults p = are_values_of (params_of p.precision no_presets) p
 
 -- LSE of ID 1 with the values in force, where they aren't all defaults (T.87 C.2.4.1.1)
 abbrev pub preset_segments : CodingParameters → List Segment

@@ -16,10 +16,10 @@ use Rattle.jls_values.specs.declared.params.ParamFault.{ParamFault}
 use Rattle.jls_context.proofs.Sizes.{maxval_small}
 use Rattle.jls_marker.specs.MarkerCodes.{has_segment}
 use Rattle.jls_marker.specs.ComponentIndex.{index_of}
-use Rattle.jls_marker.specs.PresetParameters.{PresetParameters, no_presets}
+use Rattle.jls_values.specs.PresetParameters.{PresetParameters, no_presets}
 use Rattle.jls_marker.specs.ScanSelection.{ScanSelection, IsScanSelection}
 use Rattle.jls_marker.specs.HeaderState.{HeaderState, no_headers}
-use Rattle.jls_marker.specs.Headers.{headers_after, accepted, taking, begun, scan_judged, scan_in, begin_tests, params_judged, params_under}
+use Rattle.jls_marker.specs.Headers.{headers_after, accepted, taking, begun, scan_judged, scan_in, begin_tests}
 use Rattle.jls_marker.specs.Scan.{Scan, scan_with, row_count}
 use Rattle.jls_marker.specs.Written as written
 use Rattle.jls_marker.specs.declared.segment.Segment.{Segment}
@@ -176,8 +176,11 @@ in_range p i =
 kept : (x d : ℕ) → 1 ≤ x → or_default x d ≡ x
 kept x d h = let t : (x == 0) ≡ false = grind (arith, nat_tests, h) in rw t refl
 
+abbrev presets_of : CodingParameters → PresetParameters
+presets_of p = record { maxval = p.maxval; t1 = p.t1; t2 = p.t2; t3 = p.t3; reset = p.reset }
+
 given : (p : CodingParameters) (precision : ℕ) → AreCodingParameters p → p.precision ≡ precision
-    → in_force precision p.maxval p.t1 p.t2 p.t3 p.reset ≡ p
+    → in_force precision (presets_of p) ≡ p
 given p precision i e =
     params_eq _ p (sym e) (kept p.maxval _ i.maxval_at_least) (kept p.t1 _ i.t1_at_least) (kept p.t2 _ (omega (arith, i.t1_at_least, i.t2_at_least)))
     (kept p.t3 _ (omega (arith, i.t1_at_least, i.t2_at_least, i.t3_at_least))) (kept p.reset _ (omega (arith, i.reset_at_least)))
@@ -196,11 +199,8 @@ same_values (Ok d) p h precision =
     let e = and_left _ _ h3 in let f = and_right _ _ h3 in
     ap (λ (q : CodingParameters). Ok q) (params_eq d p (precision d refl) (sym (eqb-true p.maxval d.maxval a)) (sym (eqb-true p.t1 d.t1 b)) (sym (eqb-true p.t2 d.t2 c)) (sym (eqb-true p.t3 d.t3 e)) (sym (eqb-true p.reset d.reset f)))
 
-defaults_precision : (precision : ℕ) (d : CodingParameters) → params_of precision 0 0 0 0 0 ≡ Ok d → d.precision ≡ precision
-defaults_precision precision d e = ap (λ (q : CodingParameters). q.precision) (params_there precision 0 0 0 0 0 d e).0
-
-abbrev presets_of : CodingParameters → PresetParameters
-presets_of p = record { maxval = p.maxval; t1 = p.t1; t2 = p.t2; t3 = p.t3; reset = p.reset }
+defaults_precision : (precision : ℕ) (d : CodingParameters) → params_of precision no_presets ≡ Ok d → d.precision ≡ precision
+defaults_precision precision d e = ap (λ (q : CodingParameters). q.precision) (params_there precision no_presets d e).0
 
 -- what is written of them asks for them
 abbrev written_presets : CodingParameters → Bool → PresetParameters
@@ -208,9 +208,9 @@ written_presets p true = no_presets
 written_presets p false = presets_of p
 
 asks : (shape : PictureShape) (p : CodingParameters) (same : Bool) → AreCodingParameters p → p.precision ≡ shape.precision
-    → are_defaults p ≡ same → params_judged shape (written_presets p same) ≡ Ok p
+    → are_defaults p ≡ same → params_of shape.precision (written_presets p same) ≡ Ok p
 asks shape p true are precision h =
-    ap (λ n. params_of n 0 0 0 0 0) (sym precision) ∙ same_values (params_of p.precision 0 0 0 0 0) p h (λ d e. defaults_precision p.precision d e)
+    ap (λ n. params_of n no_presets) (sym precision) ∙ same_values (params_of p.precision no_presets) p h (λ d e. defaults_precision p.precision d e)
 asks shape p false are precision h = asked _ p are (given p shape.precision are precision)
 
 -- ---- steps
@@ -266,7 +266,7 @@ module _ (pic : WholePicture) (o : WriteOptions) (can : IsWritable pic o) where
         restart_steps (presets_of o.params),
       )
 
-  module _ (pr : PresetParameters) (asks_them : params_judged pic.shape pr ≡ Ok o.params) where
+  module _ (pr : PresetParameters) (asks_them : params_of pic.shape.precision pr ≡ Ok o.params) where
     abbrev now : ℕ → HeaderState
     now i = taken_so pr o.restart_interval i
 
@@ -297,11 +297,11 @@ module _ (pic : WholePicture) (o : WriteOptions) (can : IsWritable pic o) where
         → scan_judged pic.shape pr o.restart_interval i (selection cs) ≡ Ok (scan_of pic o cs)
     judged cs i few are sized =
         let differ = can.whole.shape.ids_differ in
-        let under : params_under pic.shape pr ≡ o.params = sym (params_there pic.shape.precision pr.maxval pr.t1 pr.t2 pr.t3 pr.reset o.params asks_them).0 in
+        let under : in_force pic.shape.precision pr ≡ o.params = sym (params_there pic.shape.precision pr o.params asks_them).0 in
         none_fails (begin_tests pic.shape pr o.restart_interval i (selection cs)) (scan_in pic.shape pr o.restart_interval (selection cs))
         (known pic.shape.ids differ cs are.2, (ap is_ok asks_them, (le-leb _ _ (small_enough cs sized), (lt-ltb i 16 few, tt))))
         ∙ ap (λ (s : Scan). Ok s)
-        (ap (λ (xs : List ℕ). scan_with pic.shape xs (params_under pic.shape pr) o.restart_interval) (components_back pic.shape.ids differ cs are.2)
+        (ap (λ (xs : List ℕ). scan_with pic.shape xs (in_force pic.shape.precision pr) o.restart_interval) (components_back pic.shape.ids differ cs are.2)
         ∙ ap (λ (p : CodingParameters). scan_with pic.shape cs p o.restart_interval) under)
 
     scan_step : (cs : List ℕ) (i : ℕ) → i < 16 → IsScanOf (length pic.shape.ids) cs → has_repeat (ids_at pic.shape.ids cs) ≡ false

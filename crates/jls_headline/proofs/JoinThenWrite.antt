@@ -6,6 +6,7 @@ use Rattle.std.proofs.lemmas.Bool.Decides.{nat_tests}
 use Rattle.std.proofs.lemmas.List.{append-nil}
 use Rattle.jls_values.specs.Params.{CodingParameters, AreCodingParameters}
 use Rattle.jls_values.specs.ParamsOf.{in_force, param_fault, params_in_range}
+use Rattle.jls_values.specs.PresetParameters.{no_presets}
 use Rattle.jls_values.specs.declared.params.ParamFault.{ParamFault}
 use Rattle.jls_partial.specs.Partial.{PartialPicture}
 use Rattle.jls_partial.specs.Status.{IsSettled}
@@ -81,9 +82,9 @@ passed : (p : CodingParameters) (f : Option ParamFault) → params_in_range p f 
 passed p None e = refl
 passed p (Some f) e = absurd cc
 
-defaults_in_range : (p : ℕ) → 2 ≤ p → p ≤ 16 → AreCodingParameters (in_force p 0 0 0 0 0)
+defaults_in_range : (p : ℕ) → 2 ≤ p → p ≤ 16 → AreCodingParameters (in_force p no_presets)
 defaults_in_range p low high =
-    without_fault (in_force p 0 0 0 0 0) (passed (in_force p 0 0 0 0 0) (param_fault (in_force p 0 0 0 0 0)) (defaults_are p low high))
+    without_fault (in_force p no_presets) (passed (in_force p no_presets) (param_fault (in_force p no_presets)) (defaults_are p low high))
 
 -- What a write that is done did ----------------------------------------------------------------------------------
 

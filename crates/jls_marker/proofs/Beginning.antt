@@ -5,11 +5,11 @@ use Rattle.std.specs.List.{list_all, AllByRecursion}
 use Rattle.std.proofs.lemmas.Bool.{and_parts, ltb-true, lt-ltb, le-leb, lt-leb, le-ltb}
 use Rattle.jls_values.specs.Shape.{PictureShape}
 use Rattle.jls_values.specs.Params.{CodingParameters}
-use Rattle.jls_values.specs.ParamsOf.{params_of}
+use Rattle.jls_values.specs.ParamsOf.{in_force, params_of}
 use Rattle.jls_values.specs.declared.params.ParamFault.{ParamFault}
 use Rattle.jls_marker.specs.ComponentIndex.{index_of}
-use Rattle.jls_marker.specs.Headers.{params_judged, params_under, scan_judged, scan_in}
-use Rattle.jls_marker.specs.PresetParameters.{PresetParameters}
+use Rattle.jls_marker.specs.Headers.{scan_judged, scan_in}
+use Rattle.jls_values.specs.PresetParameters.{PresetParameters}
 use Rattle.jls_marker.specs.Scan.{Scan, scan_with, row_count}
 use Rattle.jls_marker.specs.ScanSelection.{ScanSelection}
 use Rattle.jls_marker.proofs.ParamRanges.{params_there}
@@ -41,24 +41,24 @@ pub indices_there : (xs ys frame_ids ids cs : List ℕ) → xs ≡ frame_ids →
 indices_there xs ys frame_ids ids cs p q e = e ∙ ap (λ (x : List ℕ). map (index_of x) ys) p ∙ ap (map (index_of frame_ids)) q
 
 pub params_known : (f : PictureShape) (p : PresetParameters) (n : ℕ) (r : Result CodingParameters ParamFault) → n ≡ f.precision
-    → r ≡ params_of n p.maxval p.t1 p.t2 p.t3 p.reset → params_judged f p ≡ r
-params_known f p n r e h = ap (λ (x : ℕ). params_of x p.maxval p.t1 p.t2 p.t3 p.reset) (sym e) ∙ sym h
+    → r ≡ params_of n p → params_of f.precision p ≡ r
+params_known f p n r e h = ap (λ (x : ℕ). params_of x p) (sym e) ∙ sym h
 
 pub bad_params : (f : PictureShape) (p : PresetParameters) (r n : ℕ) (s : ScanSelection) (e : ParamFault) → are_known f.ids s.ids ≡ true
-    → params_judged f p ≡ Err e
+    → params_of f.precision p ≡ Err e
     → scan_judged f p r n s ≡ Err fault.BadParams
-bad_params f p r n s e known bad = let b : is_ok (params_judged f p) ≡ false = ap is_ok bad in rw (known, b) refl
+bad_params f p r n s e known bad = let b : is_ok (params_of f.precision p) ≡ false = ap is_ok bad in rw (known, b) refl
 
 abbrev pub samples : PictureShape → PresetParameters → ℕ → ScanSelection → ℕ
 samples f p r s = f.width * length s.ids * row_count (scan_in f p r s) 0
 
 pub too_large : (f : PictureShape) (p : PresetParameters) (r n : ℕ) (s : ScanSelection) → are_known f.ids s.ids ≡ true
-    → is_ok (params_judged f p) ≡ true → 2 ^ 28 < samples f p r s
+    → is_ok (params_of f.precision p) ≡ true → 2 ^ 28 < samples f p r s
     → scan_judged f p r n s ≡ Err fault.IntervalTooLarge
 too_large f p r n s known fine large = let e : nat_le (samples f p r s) (2 ^ 28) ≡ false = lt-leb _ _ large in rw (known, fine, e) refl
 
 pub too_many : (f : PictureShape) (p : PresetParameters) (r n : ℕ) (s : ScanSelection) → are_known f.ids s.ids ≡ true
-    → is_ok (params_judged f p) ≡ true → samples f p r s ≤ 2 ^ 28 → 16 ≤ n
+    → is_ok (params_of f.precision p) ≡ true → samples f p r s ≤ 2 ^ 28 → 16 ≤ n
     → scan_judged f p r n s ≡ Err fault.TooManyScans
 too_many f p r n s known fine small many =
     let e : nat_le (samples f p r s) (2 ^ 28) ≡ true = le-leb _ _ small in
@@ -70,12 +70,12 @@ abbrev pub ok_scan : Scan → Result Scan MarkerFault
 ok_scan x = Ok x
 
 pub begins : (f : PictureShape) (p : PresetParameters) (r n : ℕ) (s : ScanSelection) (cs : List ℕ) (params : CodingParameters)
-    → are_known f.ids s.ids ≡ true → cs ≡ map (index_of f.ids) s.ids → params_judged f p ≡ Ok params → samples f p r s ≤ 2 ^ 28 → n < 16
+    → are_known f.ids s.ids ≡ true → cs ≡ map (index_of f.ids) s.ids → params_of f.precision p ≡ Ok params → samples f p r s ≤ 2 ^ 28 → n < 16
     → scan_judged f p r n s ≡ Ok (scan_with f cs params r)
 begins f p r n s cs params known indices there small few =
-    let made = params_there f.precision p.maxval p.t1 p.t2 p.t3 p.reset params there in
-    let fine : is_ok (params_judged f p) ≡ true = ap is_ok there in
+    let made = params_there f.precision p params there in
+    let fine : is_ok (params_of f.precision p) ≡ true = ap is_ok there in
     let e : nat_le (samples f p r s) (2 ^ 28) ≡ true = le-leb _ _ small in
     let g : nat_lt n 16 ≡ true = lt-ltb _ _ few in
     let judged : scan_judged f p r n s ≡ Ok (scan_in f p r s) = rw (known, fine, e, g) refl in
-    judged ∙ ap (λ (x : List ℕ). ok_scan (scan_with f x (params_under f p) r)) (sym indices) ∙ ap (λ (x : CodingParameters). ok_scan (scan_with f cs x r)) (sym made.0)
+    judged ∙ ap (λ (x : List ℕ). ok_scan (scan_with f x (in_force f.precision p) r)) (sym indices) ∙ ap (λ (x : CodingParameters). ok_scan (scan_with f cs x r)) (sym made.0)

@@ -130,7 +130,7 @@ in_range f h s scan is sel e =
     let count : length x.components ≡ length s.ids = length-map s.ids (index_of f.ids) in
     let samples = leb-true _ _ t.0.1.1.0 in
     let whole : IsScan x =
-    scan_is x (params_ok f.precision p.maxval p.t1 p.t2 p.t3 p.reset t.0.1.0) is.width_at_least is.width_below is.height_at_least is.height_below
+    scan_is x (params_ok f.precision p t.0.1.0) is.width_at_least is.width_below is.height_at_least is.height_below
     (let a = sel.ids_at_least in omega (arith, count, a)) (let a = sel.ids_at_most in omega (arith, count, a))
     (bytes_below (length f.ids) x.components is.ids_at_most (indices_below f.ids s.ids t.0.0))
     (subst (λ (n : ℕ). f.width * n * row_count x 0 ≤ 2 ^ 28) (sym count) samples) in

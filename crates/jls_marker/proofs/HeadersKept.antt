@@ -5,7 +5,7 @@ use Rattle.jls_values.specs.Shape.{PictureShape, IsShape}
 use Rattle.jls_marker.specs.HeaderState.{HeaderState, IsHeaderState, no_headers}
 use Rattle.jls_marker.specs.Headers.{headers_after, accepted, begun, scan_under, scan_judged, begin_tests, scan_in, taking}
 use Rattle.jls_marker.specs.Payloads.{IsPayload}
-use Rattle.jls_marker.specs.PresetParameters.{PresetParameters, ArePresetParameters}
+use Rattle.jls_values.specs.PresetParameters.{PresetParameters, ArePresetParameters}
 use Rattle.jls_marker.specs.Scan.{Scan}
 use Rattle.jls_marker.specs.ScanSelection.{ScanSelection}
 use Rattle.jls_marker.specs.SegmentLaws.{AreBytes}

@@ -2,12 +2,12 @@
 use Rattle.std.proofs.Common.{◌≡◌, ℕ, true, List, [], ◌∷◌, Option, Some, None, Result, Ok, refl, sym, ap, ◌∙◌}
 use Rattle.std.specs.Prelude.{is_none, is_ok}
 use Rattle.jls_values.specs.Params.{CodingParameters}
-use Rattle.jls_values.specs.ParamsOf.{params_in_range, param_fault}
+use Rattle.jls_values.specs.ParamsOf.{in_force, params_in_range, param_fault}
 use Rattle.jls_values.specs.Shape.{PictureShape}
 use Rattle.jls_values.specs.declared.params.ParamFault.{ParamFault}
 use Rattle.jls_marker.specs.HeaderLaws.{SetsItsOwn, HasWhatIsInForce}
 use Rattle.jls_marker.specs.HeaderState.{HeaderState}
-use Rattle.jls_marker.specs.Headers.{begin_tests, scan_in, scan_under, scan_judged, accepted, taking, headers_after, params_under}
+use Rattle.jls_marker.specs.Headers.{begin_tests, scan_in, scan_under, scan_judged, accepted, taking, headers_after}
 use Rattle.jls_marker.specs.Scan.{Scan}
 use Rattle.jls_marker.specs.ScanSelection.{ScanSelection}
 use Rattle.jls_marker.specs.Segments.{segment_of}
@@ -82,7 +82,7 @@ has h f s scan e =
     let t = all_pass (begin_tests f h.preset h.restart_interval h.scans s) (scan_in f h.preset h.restart_interval s) scan e in
     record {
       components = ap (λ (x : Scan). x.components) (sym t.1);
-      params = none_broken (params_under f h.preset) (param_fault (params_under f h.preset)) t.0.1.0 ∙ ap (λ (x : Scan). done x.params) t.1;
+      params = none_broken (in_force f.precision h.preset) (param_fault (in_force f.precision h.preset)) t.0.1.0 ∙ ap (λ (x : Scan). done x.params) t.1;
       restart_interval = ap (λ (x : Scan). x.restart_interval) (sym t.1);
     }
 

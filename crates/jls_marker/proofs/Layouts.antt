@@ -7,7 +7,7 @@ use Rattle.std.proofs.Math.Seq.{take-append_seam}
 use Rattle.std.proofs.lemmas.Bool.{eqb-true, eq-eqb, leb-true, le-leb, le-ltb, lt-ltb, cases_lt, and_parts, and_from}
 use Rattle.std.proofs.lemmas.List.{get_or-append-add, get_or-drop, take-append-drop, length-take}
 use Rattle.std.proofs.lemmas.Nat.{be_bytes_2, be_bytes_4, from_be_bytes-to_be_bytes_2, from_be_bytes-to_be_bytes_4}
-use Rattle.jls_marker.specs.PresetParameters.{PresetParameters, ArePresetParameters}
+use Rattle.jls_values.specs.PresetParameters.{PresetParameters, ArePresetParameters}
 use Rattle.jls_marker.specs.Layouts.{FrameComponent, FrameHeader, frame_component_bytes, frame_header_bytes, HasFrameLayout, frame_components, frame_header, ScanComponent, ScanHeader, scan_component_bytes, scan_header_bytes, HasScanLayout, scan_components, scan_header, preset_bytes, HasPresetLayout, preset_parameters, HasRestartLayout, restart_interval}
 use Rattle.jls_marker.specs.MarkerCodes.{lse, dri}
 use Rattle.jls_marker.specs.SegmentLaws.{AreBytes}

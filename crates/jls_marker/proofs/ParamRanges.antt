@@ -3,6 +3,7 @@ use Rattle.std.proofs.Common.{◌≡◌, ℕ, ◌-◌, ◌≤◌, ◌^◌, max, 
 use Rattle.std.specs.Prelude.{nat_lt, is_ok}
 use Rattle.std.proofs.lemmas.Bool.{ltb-false, or_parts}
 use Rattle.jls_values.specs.Params.{CodingParameters, AreCodingParameters}
+use Rattle.jls_values.specs.PresetParameters.{PresetParameters}
 use Rattle.jls_values.specs.ParamsOf.{in_force, is_outside, param_fault, params_in_range, params_of}
 use Rattle.jls_values.specs.declared.params.ParamFault.{ParamFault}
 
@@ -52,14 +53,14 @@ judged_there : (q p : CodingParameters) (o : Option ParamFault) → param_fault 
 judged_there q p None n e = let s : p ≡ q = sym (done_is q p e) in (s, subst AreCodingParameters (sym s) (faultless q n))
 judged_there q p (Some f) n e = absurd cc
 
-pub params_there : (precision a b c d f : ℕ) (p : CodingParameters) → params_of precision a b c d f ≡ Ok p
-    → (p ≡ in_force precision a b c d f) × AreCodingParameters p
-params_there precision a b c d f p e = let q = in_force precision a b c d f in judged_there q p (param_fault q) refl e
+pub params_there : (precision : ℕ) (given : PresetParameters) (p : CodingParameters) → params_of precision given ≡ Ok p
+    → (p ≡ in_force precision given) × AreCodingParameters p
+params_there precision given p e = let q = in_force precision given in judged_there q p (param_fault q) refl e
 
 judged_ok : (q : CodingParameters) (o : Option ParamFault) → param_fault q ≡ o → is_ok (params_in_range q o) ≡ true → AreCodingParameters q
 judged_ok q None n e = faultless q n
 judged_ok q (Some f) n e = absurd cc
 
-pub params_ok : (precision a b c d f : ℕ) → is_ok (params_of precision a b c d f) ≡ true
-    → AreCodingParameters (in_force precision a b c d f)
-params_ok precision a b c d f e = let q = in_force precision a b c d f in judged_ok q (param_fault q) refl e
+pub params_ok : (precision : ℕ) (given : PresetParameters) → is_ok (params_of precision given) ≡ true
+    → AreCodingParameters (in_force precision given)
+params_ok precision given e = let q = in_force precision given in judged_ok q (param_fault q) refl e

@@ -7,7 +7,7 @@ use Rattle.std.proofs.lemmas.List.{length-map}
 use Rattle.jls_values.specs.Shape.{PictureShape, has_repeat}
 use Rattle.jls_values.specs.ShapeOf.{shape_of}
 use Rattle.jls_marker.specs.MarkerCodes.{sof55, sos, lse, dri, is_skipped}
-use Rattle.jls_marker.specs.PresetParameters.{PresetParameters}
+use Rattle.jls_values.specs.PresetParameters.{PresetParameters}
 use Rattle.jls_marker.specs.ScanSelection.{ScanSelection}
 use Rattle.jls_marker.specs.Layouts.{FrameComponent, FrameHeader, HasFrameLayout, frame_component_bytes, frame_header, ScanComponent, ScanHeader, HasScanLayout, scan_component_bytes, scan_header, preset_parameters, restart_interval}
 use Rattle.jls_marker.specs.Payloads.{IsFrameHeaderOf, IsScanHeaderOf, HasLseId, IsPayload}

@@ -5,7 +5,7 @@ use Rattle.jls_marker.specs.ComponentIndex.{index_of}
 use Rattle.jls_marker.specs.HeaderState.{HeaderState, no_headers}
 use Rattle.jls_marker.specs.Headers.{taking}
 use Rattle.jls_marker.specs.MarkerCodes.{has_segment}
-use Rattle.jls_marker.specs.PresetParameters.{PresetParameters, no_presets}
+use Rattle.jls_values.specs.PresetParameters.{PresetParameters, no_presets}
 use Rattle.jls_marker.specs.Scan.{Scan}
 use Rattle.jls_marker.specs.Segments.{segment_of}
 use Rattle.jls_marker.specs.Written.{payload_of}

@@ -1,11 +1,12 @@
 -- The laws of the state of the headers, for the layer that reads a whole copy.
 use Rattle.std.specs.Prelude.{◌≡◌, ℕ, ◌+◌, ◌≤◌, List, map, Option, Some, None, Ok, Err}
 use Rattle.jls_values.specs.Shape.{PictureShape}
+use Rattle.jls_values.specs.ParamsOf.{params_of}
 use Rattle.jls_marker.specs.ComponentIndex.{index_of}
 use Rattle.jls_marker.specs.Scan.{Scan, IsScan, IsScanOf, PartTheLines}
 use Rattle.jls_marker.specs.HeaderState.{HeaderState, IsHeaderState, no_headers}
-use Rattle.jls_marker.specs.Headers.{headers_after, params_judged}
-use Rattle.jls_marker.specs.PresetParameters.{PresetParameters}
+use Rattle.jls_marker.specs.Headers.{headers_after}
+use Rattle.jls_values.specs.PresetParameters.{PresetParameters}
 use Rattle.jls_marker.specs.ScanSelection.{ScanSelection}
 use Rattle.jls_marker.specs.SegmentLaws.{AreBytes}
 use Rattle.jls_marker.specs.Segments.{segment_of}
@@ -91,7 +92,7 @@ SegmentsSetTheirOwn = (h after : HeaderState) (code : ℕ) (payload : List ℕ) 
 -- values in force, and the restart interval in force.
 pub record HasWhatIsInForce (h : HeaderState) (frame : PictureShape) (s : ScanSelection) (scan : Scan) : Type 0 where
   pub components : scan.components ≡ map (index_of frame.ids) s.ids
-  pub params : params_judged frame h.preset ≡ Ok scan.params
+  pub params : params_of frame.precision h.preset ≡ Ok scan.params
   pub restart_interval : scan.restart_interval ≡ h.restart_interval
 
 abbrev pub ScansHaveWhatIsInForce : Type 0

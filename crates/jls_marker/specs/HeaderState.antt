@@ -1,7 +1,7 @@
 -- What the headers so far have set.
 use Rattle.std.specs.Prelude.{◌≡◌, ℕ, ◌≤◌, ◌<◌, ◌^◌, Option, Some, None}
 use Rattle.jls_values.specs.Shape.{PictureShape, IsShape}
-use Rattle.jls_marker.specs.PresetParameters.{PresetParameters, ArePresetParameters, no_presets}
+use Rattle.jls_values.specs.PresetParameters.{PresetParameters, ArePresetParameters, no_presets}
 
 -- the frame, the values of the last LSE of ID 1, those of the last DRI, and how many scans began
 pub record HeaderState : Type 0 where

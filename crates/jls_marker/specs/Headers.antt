@@ -2,12 +2,10 @@
 use Rattle.std.specs.Prelude.{ℕ, ◌+◌, ◌*◌, ◌^◌, Bool, nat_le, nat_lt, List, [], ◌∷◌, map, length, is_ok, is_none, Option, Some, None, Result, Ok, Err}
 use Rattle.std.specs.List.{list_all}
 use Rattle.jls_values.specs.Shape.{PictureShape}
-use Rattle.jls_values.specs.Params.{CodingParameters}
 use Rattle.jls_values.specs.ParamsOf.{in_force, params_of}
-use Rattle.jls_values.specs.declared.params.ParamFault.{ParamFault}
 use Rattle.jls_marker.specs.ComponentIndex.{index_of}
 use Rattle.jls_marker.specs.Faults.{first_failing}
-use Rattle.jls_marker.specs.PresetParameters.{PresetParameters}
+use Rattle.jls_values.specs.PresetParameters.{PresetParameters}
 use Rattle.jls_marker.specs.HeaderState.{HeaderState}
 use Rattle.jls_marker.specs.ScanSelection.{ScanSelection}
 use Rattle.jls_marker.specs.Scan.{Scan, scan_with, row_count}
@@ -17,30 +15,25 @@ use Rattle.jls_marker.specs.declared.fault.MarkerFault.TheVariants as fault
 use Rattle.jls_marker.specs.declared.segment.Segment.{Segment}
 use Rattle.jls_marker.specs.declared.segment.Segment.TheVariants as segment
 
--- the parameters that the values of an LSE put in force at the precision of the frame, and why there are none
-abbrev pub params_under : PictureShape → PresetParameters → CodingParameters
-params_under f p = in_force f.precision p.maxval p.t1 p.t2 p.t3 p.reset
-
-abbrev pub params_judged : PictureShape → PresetParameters → Result CodingParameters ParamFault
-params_judged f p = params_of f.precision p.maxval p.t1 p.t2 p.t3 p.reset
-
--- the scan of these components of the frame
+-- the scan of these components of the frame, with the parameters in force at its precision
 abbrev pub scan_in : PictureShape → PresetParameters → ℕ → ScanSelection → Scan
-scan_in f preset restart_interval s = scan_with f (map (index_of f.ids) s.ids) (params_under f preset) restart_interval
+scan_in f preset restart_interval s = scan_with f (map (index_of f.ids) s.ids) (in_force f.precision preset) restart_interval
 
 -- what is asked of it where so many scans began before, in this order. No interval is longer than the first
 abbrev pub begin_tests : PictureShape → PresetParameters → ℕ → ℕ → ScanSelection → List (Bool × MarkerFault)
 begin_tests f preset restart_interval scans s =
     (list_all (λ id. nat_lt (index_of f.ids id) (length f.ids)) s.ids, fault.UnknownComponent)
-    ∷ (is_ok (params_judged f preset), fault.BadParams)
+    ∷ (is_ok (params_of f.precision preset), fault.BadParams)
     ∷ (nat_le (f.width * length s.ids * row_count (scan_in f preset restart_interval s) 0) (2 ^ 28), fault.IntervalTooLarge)
     ∷ (nat_lt scans 16, fault.TooManyScans)
     ∷ []
 
+-- that scan, or the first of these that fails
 abbrev pub scan_judged : PictureShape → PresetParameters → ℕ → ℕ → ScanSelection → Result Scan MarkerFault
 scan_judged f preset restart_interval scans s = first_failing (begin_tests f preset restart_interval scans s)
     (scan_in f preset restart_interval s)
 
+-- the scan that an SOS begins after these headers, or its fault. There is none before a frame
 abbrev pub scan_under : HeaderState → ScanSelection → Option PictureShape → Result Scan MarkerFault
 scan_under h s None = Err fault.NoFrame
 scan_under h s (Some f) = scan_judged f h.preset h.restart_interval h.scans s
@@ -54,21 +47,12 @@ begun h (Err e) = Err e
 abbrev pub accepted : HeaderState → Segment → Result (HeaderState × Option Scan) MarkerFault
 accepted h (segment.Frame f) = first_failing ((is_none h.frame, fault.SecondFrame) ∷ []) (record h { frame = Some f }, None)
 accepted h (segment.Scan s) = begun h (scan_under h s h.frame)
-accepted h (segment.Preset maxval t1 t2 t3 reset) = Ok (
-  record h {
-    preset = record {
-      maxval = maxval;
-      t1 = t1;
-      t2 = t2;
-      t3 = t3;
-      reset = reset;
-    };
-  },
-  None,
-)
+accepted h (segment.Preset maxval t1 t2 t3 reset) =
+    Ok (record h { preset = record { maxval = maxval; t1 = t1; t2 = t2; t3 = t3; reset = reset } }, None)
 accepted h (segment.Restart n) = Ok (record h { restart_interval = n }, None)
 accepted h (segment.Skipped code) = Ok (h, None)
 
+-- the headers after a segment that was read, or the fault for which it was not
 abbrev pub taking : HeaderState → Result Segment MarkerFault → Result (HeaderState × Option Scan) MarkerFault
 taking h (Ok s) = accepted h s
 taking h (Err e) = Err e

@@ -3,7 +3,7 @@
 use Rattle.std.specs.Prelude.{◌≡◌, ℕ, ◌+◌, ◌-◌, ◌*◌, ◌<◌, ◌^◌, ◌≤◌, ◌&&◌, ◌==◌, nat_le, List, [], ◌∷◌, ◌++◌, length, take, drop, get_or, Option, Some, None, if◌then◌else◌}
 use Rattle.std.specs.List.{flat_map}
 use Rattle.std.specs.Int.{w16, w32, to_be_bytes, from_be_bytes}
-use Rattle.jls_marker.specs.PresetParameters.{PresetParameters, ArePresetParameters}
+use Rattle.jls_values.specs.PresetParameters.{PresetParameters, ArePresetParameters}
 
 -- The frame header (T.81, B.2.2; T.87, C.2.2) --------------------------------------------------------------
 

@@ -5,7 +5,6 @@ pub mod Headers
 pub mod Layouts
 pub mod MarkerCodes
 pub mod Payloads
-pub mod PresetParameters
 pub mod Scan
 pub mod ScanSelection
 pub mod Segments

@@ -7,10 +7,12 @@ use Rattle.jls_marker.specs.Faults.{first_failing}
 use Rattle.jls_marker.specs.declared.fault.MarkerFault.{MarkerFault}
 use Rattle.jls_marker.specs.declared.fault.MarkerFault.TheVariants as fault
 
+-- identifiers, and whether ILV is 1
 pub record ScanSelection : Type 0 where
   pub ids : List ℕ
   pub line : Bool
 
+-- one to four identifiers, which are bytes and differ; several are interleaved by line
 pub record IsScanSelection (s : ScanSelection) : Type 0 where
   pub ids_at_least : 1 ≤ length s.ids
   pub ids_at_most : length s.ids ≤ 4

@@ -5,7 +5,7 @@ use Rattle.jls_values.specs.Shape.{PictureShape, has_repeat}
 use Rattle.jls_values.specs.ShapeOf.{shape_of}
 use Rattle.jls_marker.specs.MarkerCodes.{sof55, sos, lse, dri, is_skipped}
 use Rattle.jls_marker.specs.Faults.{first_failing}
-use Rattle.jls_marker.specs.PresetParameters.{PresetParameters}
+use Rattle.jls_values.specs.PresetParameters.{PresetParameters}
 use Rattle.jls_marker.specs.ScanSelection.{ScanSelection}
 use Rattle.jls_marker.specs.Layouts.{FrameHeader, frame_header, ScanHeader, scan_header, preset_parameters, restart_interval}
 use Rattle.jls_marker.specs.declared.fault.MarkerFault.{MarkerFault}

@@ -4,7 +4,7 @@ use Rattle.std.specs.List.{flat_map}
 use Rattle.std.specs.Int.{w16, w32, to_be_bytes}
 use Rattle.jls_values.specs.Shape.{PictureShape, IsShape}
 use Rattle.jls_marker.specs.MarkerCodes.{sof55, sos, lse, dri}
-use Rattle.jls_marker.specs.PresetParameters.{ArePresetParameters}
+use Rattle.jls_values.specs.PresetParameters.{ArePresetParameters}
 use Rattle.jls_marker.specs.ScanSelection.{ScanSelection, IsScanSelection}
 use Rattle.jls_marker.specs.Layouts.{preset_bytes}
 use Rattle.jls_marker.specs.declared.segment.Segment.{Segment}
@@ -23,9 +23,11 @@ scan_payload s = length s.ids ∷ (flat_map (λ id. id ∷ 0 ∷ []) s.ids ++ (0
 abbrev pub unneeded_bytes : ℕ → ℕ
 unneeded_bytes n = if nat_lt n (2 ^ 16) then 2 else if nat_lt n (2 ^ 24) then 1 else 0
 
+-- DRI: Ri in the bytes that are written
 abbrev pub restart_payload : ℕ → List ℕ
 restart_payload n = drop (unneeded_bytes n) (to_be_bytes w32 n)
 
+-- the payload of a segment
 abbrev pub payload_of : Segment → List ℕ
 payload_of (Frame s) = frame_payload s
 payload_of (Scan s) = scan_payload s
@@ -33,6 +35,7 @@ payload_of (Preset maxval t1 t2 t3 reset) = 1 ∷ preset_bytes (record { maxval 
 payload_of (Restart n) = restart_payload n
 payload_of (Skipped code) = []
 
+-- the code of its marker
 abbrev pub code_of : Segment → ℕ
 code_of (Frame s) = sof55
 code_of (Scan s) = sos

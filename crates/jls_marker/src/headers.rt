@@ -29,7 +29,8 @@ struct PresetValues {
 impl PresetValues {
     /// The parameters that these values put in force.
     fn params(self, precision: u8) -> Result<Params, ParamFault>
-        ensures { result ≡ params_of precision self.maxval self.t1 self.t2 self.t3 self.reset }
+        ensures { result ≡ params_of precision
+            (record { maxval = self.maxval; t1 = self.t1; t2 = self.t2; t3 = self.t3; reset = self.reset }) }
     {
         Params::new(
             precision,

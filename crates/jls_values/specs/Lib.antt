@@ -3,6 +3,7 @@ pub mod OrderedSet
 pub mod OrderedSetLaws
 pub mod Params
 pub mod ParamsOf
+pub mod PresetParameters
 pub mod SameShape
 pub mod Shape
 pub mod ShapeOf

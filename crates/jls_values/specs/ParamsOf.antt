@@ -5,6 +5,7 @@ use Rattle.std.specs.Prelude.{if◌then◌else◌}
 use Rattle.jls_values.specs.declared.params.ParamFault.{ParamFault}
 use Rattle.jls_values.specs.declared.params.ParamFault.TheVariants.{Precision, MaxVal, T1, T2, T3, Reset}
 use Rattle.jls_values.specs.Params.{CodingParameters}
+use Rattle.jls_values.specs.PresetParameters.{PresetParameters}
 
 -- the value that is given, or where it is 0 the default
 abbrev pub or_default : ℕ → ℕ → ℕ
@@ -37,14 +38,14 @@ abbrev pub default_t3 : ℕ → ℕ → ℕ
 default_t3 maxval t2 =
     clamped maxval t2 (if nat_le 128 maxval then 17 * factor maxval + 4 else max 4 (21 / factor maxval))
 
--- the values in force where these are given: each default rests on the values in force before it
-abbrev pub in_force : ℕ → ℕ → ℕ → ℕ → ℕ → ℕ → CodingParameters
-in_force precision given_maxval given_t1 given_t2 given_t3 given_reset =
-    let maxval = or_default given_maxval (2 ^ precision - 1) in
-    let t1 = or_default given_t1 (default_t1 maxval) in
-    let t2 = or_default given_t2 (default_t2 maxval t1) in
-    let t3 = or_default given_t3 (default_t3 maxval t2) in
-    record { precision = precision; maxval = maxval; t1 = t1; t2 = t2; t3 = t3; reset = or_default given_reset 64 }
+-- the values in force at this precision where these are given: each default rests on the values in force before it
+abbrev pub in_force : ℕ → PresetParameters → CodingParameters
+in_force precision given =
+    let maxval = or_default given.maxval (2 ^ precision - 1) in
+    let t1 = or_default given.t1 (default_t1 maxval) in
+    let t2 = or_default given.t2 (default_t2 maxval t1) in
+    let t3 = or_default given.t3 (default_t3 maxval t2) in
+    record { precision = precision; maxval = maxval; t1 = t1; t2 = t2; t3 = t3; reset = or_default given.reset 64 }
 
 -- the first value outside its range, in the order of the record
 abbrev pub param_fault : CodingParameters → Option ParamFault
@@ -62,7 +63,6 @@ abbrev pub params_in_range : CodingParameters → Option ParamFault → Result C
 params_in_range p (Some fault) = Err fault
 params_in_range p None = Ok p
 
--- the parameters in force for these six values, or the first that is outside its range
-abbrev pub params_of : ℕ → ℕ → ℕ → ℕ → ℕ → ℕ → Result CodingParameters ParamFault
-params_of precision maxval t1 t2 t3 reset =
-    let p = in_force precision maxval t1 t2 t3 reset in params_in_range p (param_fault p)
+-- the parameters in force at this precision where these are given, or the first value that is outside its range
+abbrev pub params_of : ℕ → PresetParameters → Result CodingParameters ParamFault
+params_of precision given = let p = in_force precision given in params_in_range p (param_fault p)

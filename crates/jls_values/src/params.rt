@@ -181,7 +181,7 @@ impl Params {
         t3: u16,
         reset: u16,
     ) -> Result<Params, ParamFault>
-        ensures { result ≡ params_of precision maxval t1 t2 t3 reset }
+        ensures { result ≡ params_of precision (record { maxval = maxval; t1 = t1; t2 = t2; t3 = t3; reset = reset }) }
     {
         if precision < 2 || precision > 16 {
             return Err(ParamFault::Precision);

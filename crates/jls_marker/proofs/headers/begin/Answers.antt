@@ -1,7 +1,7 @@
 use Rattle.std.proofs.Common.{◌<◌, ◌≤◌, ◌^◌, ℕ, length, sym, ap, subst, ◌∙◌}
 use Rattle.std.specs.Prelude.{is_ok}
 use Rattle.std.specs.List.{AllByRecursion}
-use Rattle.jls_marker.specs.PresetParameters.{PresetParameters}
+use Rattle.jls_values.specs.PresetParameters.{PresetParameters}
 use Rattle.jls_marker.proofs.Beginning.{known_there, indices_there, indices_below, bytes_below, params_known, bad_params, samples, too_large, too_many, begins, ok_scan}
 use Rattle.jls_marker.proofs.headers.begin.Goals as goal
 

@@ -1,6 +1,7 @@
--- The five values of an LSE segment of ID 1 as they stand there: 0 asks for the default (T.87, C.2.4.1.1).
+-- Preset parameters (T.87, C.2.4.1.1).
 use Rattle.std.specs.Prelude.{ℕ, ◌<◌, ◌^◌}
 
+-- the five values of an LSE segment of ID 1 as they stand there: 0 asks for the default
 pub record PresetParameters : Type 0 where
   pub maxval : ℕ
   pub t1 : ℕ
