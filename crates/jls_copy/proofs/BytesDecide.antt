@@ -8,6 +8,7 @@ use Rattle.jls_interval.specs.Reads.{Reads, IsLong}
 use Rattle.jls_bits.specs.Bits.{bits_read, is_whole}
 use Rattle.jls_interval.proofs.HeadLines.{one_head}
 use Rattle.jls_interval.proofs.PiecesReadOnce.{reads_once, read_not_long}
+use Rattle.jls_interval.specs.Lines.{interval_shape}
 use Rattle.jls_marker.specs.Scan.{Scan, IsScan, row_count}
 use Rattle.jls_marker.specs.declared.fault.MarkerFault.{MarkerFault}
 use Rattle.jls_copy.specs.Numbers.{PieceNumber, Interval, BeyondLast}
@@ -30,12 +31,12 @@ module _ (s : Scan) (ok : IsScan s) (k : ℕ) (bytes : List ℕ) where
   abbrev count : ℕ
   count = row_count s k * length s.components
 
-  one_list : (a b : List (List ℕ)) → Reads s.params s.width (length s.components) count bytes a
-      → Reads s.params s.width (length s.components) count bytes b → a ≡ b
+  one_list : (a b : List (List ℕ)) → Reads (interval_shape s.params s.width (length s.components) count) bytes a
+      → Reads (interval_shape s.params s.width (length s.components) count) bytes b → a ≡ b
   one_list a b h r = reads_once s.params ok.params s.width (length s.components) count (let w = ok.width_at_least in omega arith) bytes a b h r
 
-  not_long : (a : List (List ℕ)) → Reads s.params s.width (length s.components) count bytes a
-      → IsLong s.params s.width (length s.components) count bytes → ⊥
+  not_long : (a : List (List ℕ)) → Reads (interval_shape s.params s.width (length s.components) count) bytes a
+      → IsLong (interval_shape s.params s.width (length s.components) count) bytes → ⊥
   not_long a h l = read_not_long s.params ok.params s.width (length s.components) count (let w = ok.width_at_least in omega arith) bytes a h l
 
   within : (o p : PieceOutcome) → IsOutcomeAt s (Interval k) bytes o → IsOutcomeAt s (Interval k) bytes p → o ≡ p

@@ -7,7 +7,7 @@ use Rattle.std.specs.declared.alloc.Global.{Global}
 use Rattle.jls_values.specs.Shape.{PictureShape}
 use Rattle.jls_values.specs.Params.{CodingParameters, AreCodingParameters}
 use Rattle.jls_bits.specs.Bits.{bits_read}
-use Rattle.jls_interval.specs.Lines.{AreLines}
+use Rattle.jls_interval.specs.Lines.{AreLines, interval_shape}
 use Rattle.jls_interval.specs.Reads.{Reads}
 use Rattle.jls_interval.specs.Heads.{IsHeadOfPiece}
 use Rattle.jls_interval.specs.CutEnds.{CutEndIs}
@@ -32,19 +32,19 @@ use Rattle.jls_copy.proofs.Outcomes.{decoding_with, decoding_is}
 
 -- what `finish_cut` says of a decoder
 abbrev pub CutFinishes : IntervalBytes → CutEnd → Type 0
-CutFinishes d end = IfSome d.bytes (λ bytes. CutEndIs d.parameters d.width d.components (d.rows * d.components) bytes end)
+CutFinishes d end = IfSome d.bytes (λ bytes. CutEndIs (interval_shape d.parameters d.width d.components (d.rows * d.components)) bytes end)
 
 abbrev items : Vec (Vec ℕ Global) Global → List (List ℕ)
 items lines = map (λ line. line.items) lines.items
 
 -- a piece that reads has no head
 no_head : (p : CodingParameters) (w c n : ℕ) (bytes : List ℕ) (lines : List (List ℕ)) → AreCodingParameters p → 0 < w
-    → Reads p w c n bytes lines → IsHeadOfPiece p w c n bytes []
+    → Reads (interval_shape p w c n) bytes lines → IsHeadOfPiece (interval_shape p w c n) bytes []
 no_head p w c n bytes lines ok some r =
     inl (r.begins.data_bits.whole, over_head p ok w c n some (bits_read bytes) lines (min 8 (length r.unread)) (record { unread = r.unread; are_lines = r.begins.are_lines; begins = r.begins.data_bits.read; counted = refl }))
 
 -- the lines of a head are first lines of an interval
-head_lines : (p : CodingParameters) (w c n : ℕ) (bytes : List ℕ) (head : List (List ℕ)) → IsHeadOfPiece p w c n bytes head
+head_lines : (p : CodingParameters) (w c n : ℕ) (bytes : List ℕ) (head : List (List ℕ)) → IsHeadOfPiece (interval_shape p w c n) bytes head
     → (count : ℕ) × (count ≤ n) × AreLines p w count head
 head_lines p w c n bytes head (inl (whole, inl (cut, f))) =
     let l = length-append head f.begins.others in let e = ap length f.begins.lines_are in let k = cut.are_lines.count_is in
@@ -72,7 +72,7 @@ module _ (s : Scan) (k : ℕ) (d : IntervalBytes) (piece : OpenPiece) (is : piec
   whole : piece ≡ Within k (decoding_with s k told_bytes)
   whole = is ∙ ap (Within k) (decoding_is s k d open_is)
 
-  said : (end : CutEnd) → CutFinishes d end → CutEndIs s.params s.width (length s.components) count told_bytes end
+  said : (end : CutEnd) → CutFinishes d end → CutEndIs (interval_shape s.params s.width (length s.components) count) told_bytes end
   said end h = subst (λ x. CutFinishes x end) (decoding_is s k d open_is) h
 
   pub cut_interval : k < intervals s
@@ -98,7 +98,7 @@ module _ (s : Scan) (k : ℕ) (d : IntervalBytes) (piece : OpenPiece) (is : piec
         → new.records.items ≡ old.records.items → new.record_count ≡ old.record_count
         → AddsCut (Some shape) (piece_found index s offset piece ∷ []) old new
     whole_adds lines h p r c =
-        let now : Reads s.params s.width (length s.components) count told_bytes (items lines) = said (Whole lines) h in
+        let now : Reads (interval_shape s.params s.width (length s.components) count) told_bytes (items lines) = said (Whole lines) h in
         let none = no_head s.params s.width (length s.components) count told_bytes (items lines) ok.params (let w = ok.width_at_least in omega arith) now in
         let found = placed s.components (first_row s k) 0 (items lines) in
         rw whole (

@@ -9,6 +9,7 @@ use Rattle.jls_values.specs.Shape.{PictureShape}
 use Rattle.jls_bits.specs.Bits.{is_whole}
 use Rattle.jls_interval.specs.Reads.{ReadsNoMore}
 use Rattle.jls_interval.proofs.NoMore.{unwhole_reads_no_more}
+use Rattle.jls_interval.specs.Lines.{interval_shape}
 use Rattle.jls_marker.specs.HeaderState.{HeaderState}
 use Rattle.jls_marker.specs.Scan.{Scan, row_count}
 use Rattle.jls_copy.specs.Numbers.{PieceNumber, Interval, BeyondLast}
@@ -29,6 +30,7 @@ use Rattle.jls_copy.specs.declared.place.Place.TheVariants.{Start, AtMarker, AtL
 use Rattle.jls_copy.proofs.OneCourse.{one_course}
 use Rattle.jls_copy.proofs.ScansOfCourse.{byte_parts}
 use Rattle.jls_copy.proofs.CourseTold.{course_told}
+use Rattle.jls_copy.specs.IntervalOf.{interval_of}
 
 -- Members ----------------------------------------------------------------------------------------------------------
 
@@ -107,13 +109,13 @@ some_bytes o bytes P e h = subst (λ z. IfSome z P) e h
 
 never_open : (s : Scan) (piece : OpenPiece) → IsOpenPiece s piece → OpenReadsNoMore piece → NeverReads s (number_of piece) (bytes_of piece)
 never_open s (Within k d) is h =
-    let a : ReadsNoMore d.parameters d.width d.components (d.rows * d.components) is.bytes =
-    some_bytes d.bytes is.bytes (λ bytes. ReadsNoMore d.parameters d.width d.components (d.rows * d.components) bytes) is.bytes_are h in
-    let b = subst (λ p. ReadsNoMore p d.width d.components (d.rows * d.components) is.bytes) is.parameters_are a in
-    let e = subst (λ w. ReadsNoMore s.params w d.components (d.rows * d.components) is.bytes) is.width_is b in
-    let f = subst (λ n. ReadsNoMore s.params s.width n (d.rows * n) is.bytes) is.components_are e in
-    let g = subst (λ r. ReadsNoMore s.params s.width (length s.components) (r * length s.components) is.bytes) is.rows_are f in
-    subst (λ b. ReadsNoMore s.params s.width (length s.components) (row_count s k * length s.components) b) (sym (ap told is.bytes_are)) g
+    let a : ReadsNoMore (interval_shape d.parameters d.width d.components (d.rows * d.components)) is.bytes =
+    some_bytes d.bytes is.bytes (λ bytes. ReadsNoMore (interval_shape d.parameters d.width d.components (d.rows * d.components)) bytes) is.bytes_are h in
+    let b = subst (λ p. ReadsNoMore (interval_shape p d.width d.components (d.rows * d.components)) is.bytes) is.parameters_are a in
+    let e = subst (λ w. ReadsNoMore (interval_shape s.params w d.components (d.rows * d.components)) is.bytes) is.width_is b in
+    let f = subst (λ n. ReadsNoMore (interval_shape s.params s.width n (d.rows * n)) is.bytes) is.components_are e in
+    let g = subst (λ r. ReadsNoMore (interval_shape s.params s.width (length s.components) (r * length s.components)) is.bytes) is.rows_are f in
+    subst (λ b. ReadsNoMore (interval_of s k) b) (sym (ap told is.bytes_are)) g
 never_open s (Beyond k) is h = λ more lines reads. reads
 
 pub broken_told : (bytes : List ℕ) → AllByRecursion (λ b. b < 256) bytes → (frame : Option PictureShape) (payload : List ℕ) (p : Place)

@@ -11,6 +11,7 @@ use Rattle.jls_interval.specs.declared.decode_piece.PieceFault.{PieceFault}
 use Rattle.jls_interval.specs.declared.decode_piece.PieceFault.TheVariants as piece_fault
 use Rattle.jls_marker.specs.Scan.{Scan, row_count, first_row}
 use Rattle.jls_interval.specs.IntervalBytes.{IntervalBytes}
+use Rattle.jls_interval.specs.Lines.{interval_shape}
 use Rattle.jls_copy.specs.Pieces.{placed, Lines, Fault}
 use Rattle.jls_copy.specs.Findings.{Adds, with_readings, picture_of, kept_with}
 use Rattle.jls_copy.specs.ReaderState.{piece_found, piece_with, scan_with}
@@ -20,6 +21,7 @@ use Rattle.jls_copy.specs.declared.piece.PieceKind.TheVariants as kind
 use Rattle.jls_copy.specs.declared.piece.OpenPiece.{OpenPiece}
 use Rattle.jls_copy.specs.declared.piece.OpenPiece.TheVariants.{Within, Beyond}
 use Rattle.jls_copy.specs.declared.findings.Findings.{Findings}
+use Rattle.jls_copy.specs.IntervalOf.{interval_of}
 
 pub on_ok3 : {A B P Q R S : Type 0} (r : Result A B) → (P → Q → R → S) → OnOk r P → OnOk r Q → OnOk r R → OnOk r S
 on_ok3 (Ok x) f p q t = f p q t
@@ -39,7 +41,7 @@ decoding_is s k d i = same_decoding d s.params s.width (length s.components) (ro
 
 -- what `finish` says of a decoder
 abbrev pub Finishes : IntervalBytes → Result (Vec (Vec ℕ Global) Global) PieceFault → Type 0
-Finishes d r = MatchOption d.bytes (r ≡ Err piece_fault.OutOfMemory) (λ bytes. OutcomeIs d.parameters d.width d.components (d.rows * d.components) bytes r)
+Finishes d r = MatchOption d.bytes (r ≡ Err piece_fault.OutOfMemory) (λ bytes. OutcomeIs (interval_shape d.parameters d.width d.components (d.rows * d.components)) bytes r)
 
 module _ (shape : PictureShape) (index : ℕ) (s : Scan) (offset k : ℕ) (old new : Findings) where
   pub beyond_adds : (piece : OpenPiece) → piece ≡ Beyond k → new.partial ≡ old.partial
@@ -61,7 +63,7 @@ module _ (shape : PictureShape) (index : ℕ) (s : Scan) (offset k : ℕ) (old n
         → new.records.items ≡ kept_with old.records.items (record { scan = index; interval = k; offset = offset; kind = kind.Long } ∷ []) → new.record_count ≡ old.record_count + 1
         → Adds (Some shape) (piece_found index s offset piece ∷ []) old new
     long_adds h p r c =
-        let now : IsLong s.params s.width (length s.components) (row_count s k * length s.components) told_bytes =
+        let now : IsLong (interval_of s k) told_bytes =
         subst (λ x. Finishes x (Err piece_fault.Long)) (decoding_is s k d open_is) h in
         rw whole (shape, refl, Fault kind.Long, now, record { picture_is = rw p refl; records_are = r; count_is = c })
 
@@ -69,7 +71,7 @@ module _ (shape : PictureShape) (index : ℕ) (s : Scan) (offset k : ℕ) (old n
         → new.records.items ≡ kept_with old.records.items (record { scan = index; interval = k; offset = offset; kind = kind.Broken } ∷ []) → new.record_count ≡ old.record_count + 1
         → Adds (Some shape) (piece_found index s offset piece ∷ []) old new
     broken_adds h p r c =
-        let now : IsBroken s.params s.width (length s.components) (row_count s k * length s.components) told_bytes =
+        let now : IsBroken (interval_of s k) told_bytes =
         subst (λ x. Finishes x (Err piece_fault.Broken)) (decoding_is s k d open_is) h in
         rw whole (shape, refl, Fault kind.Broken, now, record { picture_is = rw p refl; records_are = r; count_is = c })
 
@@ -78,7 +80,7 @@ module _ (shape : PictureShape) (index : ℕ) (s : Scan) (offset k : ℕ) (old n
         → new.records.items ≡ old.records.items → new.record_count ≡ old.record_count
         → Adds (Some shape) (piece_found index s offset piece ∷ []) old new
     lines_add lines h p r c =
-        let now : Reads s.params s.width (length s.components) (row_count s k * length s.components) told_bytes (map (λ line. line.items) lines.items) =
+        let now : Reads (interval_of s k) told_bytes (map (λ line. line.items) lines.items) =
         subst (λ x. Finishes x (Ok lines)) (decoding_is s k d open_is) h in
         rw whole (shape, refl, Lines (map (λ line. line.items) lines.items), now, record { picture_is = rw p refl; records_are = r; count_is = rw add-zero c })
 

@@ -7,6 +7,7 @@ use Rattle.jls_marker.specs.Scan.{Scan, row_count}
 use Rattle.jls_copy.specs.Numbers.{PieceNumber, Interval, BeyondLast}
 use Rattle.jls_copy.specs.Course.{CopyUnit, segment, scan, by_input, by_marker, Course}
 use Rattle.jls_copy.specs.Pieces.{FoundPiece, Lines, readings_of, pieces}
+use Rattle.jls_copy.specs.IntervalOf.{interval_of}
 
 -- whether the input's end closes the last piece of a unit
 abbrev pub is_cut : CopyUnit → Bool
@@ -32,8 +33,7 @@ cut_pieces c = if closed_by_input c.units then last_piece (pieces c) else []
 
 -- the bytes, as the piece of this number of a scan, have this head. A piece beyond the last interval isn't decoded
 abbrev pub IsHeadAt : Scan → PieceNumber → List ℕ → List (List ℕ) → Type 0
-IsHeadAt s (Interval k) bytes head =
-    IsHeadOfPiece s.params s.width (length s.components) (row_count s k * length s.components) bytes head
+IsHeadAt s (Interval k) bytes head = IsHeadOfPiece (interval_of s k) bytes head
 IsHeadAt s (BeyondLast k) bytes head = head ≡ []
 
 -- the head of the piece that the input's end closes, of which there is one at most

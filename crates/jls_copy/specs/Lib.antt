@@ -3,6 +3,8 @@ pub mod Numbers
 pub mod Course
 pub mod CutLaws
 pub mod CourseLaws
+pub mod IntervalOf
+pub mod IntervalOf
 pub mod Pieces
 pub mod CutPieces
 pub mod ReadCopy

@@ -9,6 +9,7 @@ use Rattle.jls_copy.specs.Course.{CopyUnit, segment, scan, segment_unit_bytes, u
 use Rattle.jls_copy.specs.declared.piece.PieceKind.{PieceKind}
 use Rattle.jls_copy.specs.declared.piece.PieceKind.TheVariants as kind
 use Rattle.jls_copy.specs.declared.piece.PieceRecord.{PieceRecord}
+use Rattle.jls_copy.specs.IntervalOf.{interval_of}
 
 -- a piece: of which scan of the copy, counted from 0, and of which components, parameters and rows; its number; the offset of its first
 -- byte; and its bytes
@@ -58,17 +59,11 @@ pub data PieceOutcome : Type 0 where
 
 -- the bytes, as the piece of this number of a scan, have this outcome. A piece beyond the last interval isn't decoded
 abbrev pub IsOutcomeAt : Scan → PieceNumber → List ℕ → PieceOutcome → Type 0
-IsOutcomeAt s (Interval k) bytes (Lines lines) =
-    Reads s.params s.width (length s.components) (row_count s k * length s.components) bytes lines
-IsOutcomeAt s (Interval k) bytes (Fault kind.Long) =
-    IsLong s.params s.width (length s.components) (row_count s k * length s.components) bytes
-IsOutcomeAt s (Interval k) bytes (Fault kind.Broken) =
-    IsBroken s.params s.width (length s.components) (row_count s k * length s.components) bytes
-IsOutcomeAt s (Interval k) bytes (Fault kind.Beyond) = ⊥
-IsOutcomeAt s (BeyondLast k) bytes (Lines lines) = ⊥
-IsOutcomeAt s (BeyondLast k) bytes (Fault kind.Long) = ⊥
-IsOutcomeAt s (BeyondLast k) bytes (Fault kind.Broken) = ⊥
+IsOutcomeAt s (Interval k) bytes (Lines lines) = Reads (interval_of s k) bytes lines
+IsOutcomeAt s (Interval k) bytes (Fault kind.Long) = IsLong (interval_of s k) bytes
+IsOutcomeAt s (Interval k) bytes (Fault kind.Broken) = IsBroken (interval_of s k) bytes
 IsOutcomeAt s (BeyondLast k) bytes (Fault kind.Beyond) = Unit {0}
+IsOutcomeAt _ _ _ _ = ⊥
 
 -- a piece has this outcome
 abbrev pub IsOutcome : FoundPiece → PieceOutcome → Type 0
@@ -88,6 +83,7 @@ outcome_readings s (Interval k) (Lines lines) = placed s.components (first_row s
 outcome_readings s (Interval k) (Fault _) = []
 outcome_readings s (BeyondLast k) o = []
 
+-- the readings of a piece with this outcome
 abbrev pub readings_of : FoundPiece → PieceOutcome → List Reading
 readings_of p o = outcome_readings p.plan p.number o
 
@@ -107,16 +103,14 @@ records_of p (Fault f) = record { scan = p.scan; interval = value_of p.number; o
 abbrev pub AreOutcomes : List FoundPiece → List PieceOutcome → Type 0
 AreOutcomes [] [] = Unit {0}
 AreOutcomes (p ∷ ps) (o ∷ os) = IsOutcome p o × AreOutcomes ps os
-AreOutcomes [] (o ∷ os) = ⊥
-AreOutcomes (p ∷ ps) [] = ⊥
+AreOutcomes _ _ = ⊥
 
--- the readings and the records that they give
+-- the readings that they give
 abbrev pub readings : List FoundPiece → List PieceOutcome → List Reading
-readings [] os = []
-readings (p ∷ ps) [] = []
 readings (p ∷ ps) (o ∷ os) = readings_of p o ++ readings ps os
+readings _ _ = []
 
+-- the records of those that give no lines
 abbrev pub records : List FoundPiece → List PieceOutcome → List PieceRecord
-records [] os = []
-records (p ∷ ps) [] = []
 records (p ∷ ps) (o ∷ os) = records_of p o ++ records ps os
+records _ _ = []

@@ -14,6 +14,7 @@ use Rattle.jls_interval.specs.Cells.{cell_before, run_cell_before}
 use Rattle.jls_interval.specs.Runs.{block_columns, full_blocks, blocks, run_index_before}
 use Rattle.jls_interval.specs.Code.{event_bits, bits_of_events, code}
 use Rattle.jls_interval.specs.Reads.{Reads}
+use Rattle.jls_interval.specs.Lines.{interval_shape}
 use Rattle.jls_partial.specs.Reading.{reading_of}
 use Rattle.jls_marker.specs.ComponentIndex.{index_of}
 use Rattle.jls_marker.specs.MarkerCodes.{has_segment}
@@ -83,7 +84,7 @@ line_0_is_given = surviving_lines_are_given pic copy 0 0 line_0
 -- The second byte is lost: the copy is a damaged copy of the picture, and gives no other line --------------------
 
 record BothRead : Type 0 where
-  both_read : Reads bits_8 1 1 2 (0x50 ∷ 0x80 ∷ []) ((1 ∷ []) ∷ (9 ∷ []) ∷ [])
+  both_read : Reads (interval_shape bits_8 1 1 2) (0x50 ∷ 0x80 ∷ []) ((1 ∷ []) ∷ (9 ∷ []) ∷ [])
 
 both : BothRead
 unfolding least_from bits width_after golomb quantized_gradient is_negative context modulo_reduced corrected_prediction golomb_k updated run_updated events_from events_after cell_before run_cell_before block_columns full_blocks blocks run_index_before event_bits bits_of_events code bits_read_after is_whole_after ends_data

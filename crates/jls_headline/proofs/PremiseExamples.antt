@@ -23,6 +23,7 @@ use Rattle.jls_interval.specs.Heads.{BeginsWithFirst, AreWholeLines}
 use Rattle.jls_interval.specs.Laws.{IsCutCode}
 use Rattle.jls_interval.specs.Reads.{Reads}
 use Rattle.jls_interval.proofs.HeadLines.{read_has_none}
+use Rattle.jls_interval.specs.Lines.{interval_shape}
 use Rattle.jls_values.specs.Shape.{PictureShape}
 use Rattle.jls_partial.specs.Partial.{PartialPicture, nothing_known, has_same_shape, union}
 use Rattle.jls_partial.specs.PartialLaws.{partial_laws, shape_itself}
@@ -132,9 +133,9 @@ abbrev one_and_nine : List (List ℕ)
 one_and_nine = (1 ∷ []) ∷ (9 ∷ []) ∷ []
 
 record CutOff : Type 0 where
-  cut : IsCutCode bits_8 1 1 2 (bits_read (0x50 ∷ []))
+  cut : IsCutCode (interval_shape bits_8 1 1 2) (bits_read (0x50 ∷ []))
   lines_are : cut.lines ≡ one_and_nine
-  begins : BeginsWithFirst bits_8 1 1 (bits_read (0x50 ∷ [])) one_and_nine ((1 ∷ []) ∷ [])
+  begins : BeginsWithFirst (interval_shape bits_8 1 1 2) (bits_read (0x50 ∷ [])) one_and_nine ((1 ∷ []) ∷ [])
   not_both : (unread : List Bool) → bits_read (0x50 ∷ []) ≡ code bits_8 1 1 one_and_nine ++ unread → ⊥
   whole : is_whole (0x50 ∷ []) ≡ true
 
@@ -155,7 +156,7 @@ cut_off = record {
 }
 
 -- of the first lines of these two that the bits begin with, the longest list is the first line
-longest : (first : List (List ℕ)) → BeginsWithFirst bits_8 1 1 (bits_read (0x50 ∷ [])) one_and_nine first → length first ≤ 1
+longest : (first : List (List ℕ)) → BeginsWithFirst (interval_shape bits_8 1 1 2) (bits_read (0x50 ∷ [])) one_and_nine first → length first ≤ 1
 longest [] b = lit≤ tt
 longest (x ∷ []) b = lit≤ tt
 longest (x ∷ y ∷ []) b =
@@ -168,8 +169,8 @@ longest (x ∷ y ∷ z ∷ zs) b = absurd (let n = ap length b.lines_are in omeg
 -- so its head is another line than the picture's
 pub another_head : IsHeadAt both_lines (Interval 0) (0x50 ∷ []) ((1 ∷ []) ∷ [])
 another_head =
-    let own : AreWholeLines bits_8 1 1 (bits_read (0x50 ∷ [])) one_and_nine ((1 ∷ []) ∷ []) = record { begins = cut_off.begins; longest = longest } in
-    inl (cut_off.whole, inl (cut_off.cut, subst (λ lines. AreWholeLines bits_8 1 1 (bits_read (0x50 ∷ [])) lines ((1 ∷ []) ∷ [])) (sym cut_off.lines_are) own))
+    let own : AreWholeLines (interval_shape bits_8 1 1 2) (bits_read (0x50 ∷ [])) one_and_nine ((1 ∷ []) ∷ []) = record { begins = cut_off.begins; longest = longest } in
+    inl (cut_off.whole, inl (cut_off.cut, subst (λ lines. AreWholeLines (interval_shape bits_8 1 1 2) (bits_read (0x50 ∷ [])) lines ((1 ∷ []) ∷ [])) (sym cut_off.lines_are) own))
 
 no_head_of_the_picture : HasHeadOfPicture pic both_lines 0 (0x50 ∷ []) → ⊥
 no_head_of_the_picture h =
@@ -191,7 +192,7 @@ changed = record { components = 0 ∷ []; params = small_samples; width = 1; hei
 
 -- so 0x40, which nothing has damaged, reads as the sample 15
 record ReadBehind : Type 0 where
-  fifteen_read : Reads small_samples 1 1 1 (0x40 ∷ []) ((15 ∷ []) ∷ [])
+  fifteen_read : Reads (interval_shape small_samples 1 1 1) (0x40 ∷ []) ((15 ∷ []) ∷ [])
 
 read_behind : ReadBehind
 unfolding least_from bits width_after golomb quantized_gradient is_negative context modulo_reduced corrected_prediction golomb_k updated run_updated events_from events_after cell_before run_cell_before block_columns full_blocks blocks run_index_before event_bits bits_of_events code bits_read_after is_whole_after ends_data

@@ -6,7 +6,7 @@ use Rattle.jls_bits.specs.Bits.{bits_read, bits_read_after, is_whole}
 use Rattle.jls_bits.specs.Appending.{last_after}
 use Rattle.jls_bits.proofs.Appending.{data_append, whole_front}
 use Rattle.jls_interval.specs.Code.{code}
-use Rattle.jls_interval.specs.Lines.{AreLines}
+use Rattle.jls_interval.specs.Lines.{AreLines, interval_shape}
 use Rattle.jls_interval.specs.Reads.{Reads}
 use Rattle.jls_interval.specs.Laws.{IsCutCode}
 use Rattle.jls_interval.specs.Heads.{BeginsWithFirst, AreWholeLines, IsHead, IsHeadOfPiece}
@@ -42,21 +42,21 @@ own_front (y ∷ ys) zs = ap (λ t. y ∷ t) (own_front ys zs)
 
 module _ (p : CodingParameters) (ok : AreCodingParameters p) (w c n : ℕ) (some : 0 < w) where
   -- bytes, and the same with more behind them, read as the same lines
-  same_front : (bytes more : List ℕ) (xs ys : List (List ℕ)) → Reads p w c n bytes xs → Reads p w c n (bytes ++ more) ys → xs ≡ ys
+  same_front : (bytes more : List ℕ) (xs ys : List (List ℕ)) → Reads (interval_shape p w c n) bytes xs → Reads (interval_shape p w c n) (bytes ++ more) ys → xs ≡ ys
   same_front bytes more xs ys a b =
       let rest : List Bool = bits_read_after (last_after 0 bytes) more in
       let e : code p w c ys ++ b.unread ≡ (code p w c xs ++ a.unread) ++ rest =
       sym b.begins.data_bits.read ∙ data_append 0 bytes more a.begins.data_bits.whole ∙ ap (λ z. z ++ rest) a.begins.data_bits.read in
       sym (codes_apart p w c n ok some ys xs b.unread (a.unread ++ rest) b.begins.are_lines a.begins.are_lines (e ∙ append_assoc (code p w c xs) a.unread rest)).0
 
-  trimmed_reads : (bytes piece : List ℕ) (xs ys : List (List ℕ)) → Trimmed bytes piece → Reads p w c n bytes xs → Reads p w c n piece ys
+  trimmed_reads : (bytes piece : List ℕ) (xs ys : List (List ℕ)) → Trimmed bytes piece → Reads (interval_shape p w c n) bytes xs → Reads (interval_shape p w c n) piece ys
       → ys ≡ xs
   trimmed_reads _ _ xs ys (whole bytes) a b = reads_once p ok w c n some bytes ys xs b a
   trimmed_reads _ _ xs ys (front piece lost) a b = same_front piece lost ys xs b a
   trimmed_reads _ _ xs ys (longer bytes first more) a b = sym (same_front bytes (first ∷ more) xs ys a b)
 
   -- Bits that are a whole code, and perhaps more, lack none of any code
-  none_missing : (given t : List Bool) (xs : List (List ℕ)) → AreLines p w n xs → given ≡ code p w c xs ++ t → IsCutCode p w c n given → ⊥
+  none_missing : (given t : List Bool) (xs : List (List ℕ)) → AreLines p w n xs → given ≡ code p w c xs ++ t → IsCutCode (interval_shape p w c n) given → ⊥
   none_missing given t xs are e cut =
       let more = cut.missing ∷ cut.more_missing in
       let both : code p w c xs ++ (t ++ more) ≡ code p w c cut.lines ++ [] = sym (append_assoc (code p w c xs) t more) ∙ ap (λ z. z ++ more) (sym e) ∙ cut.code_is ∙ sym (append-nil (code p w c cut.lines)) in
@@ -66,8 +66,8 @@ module _ (p : CodingParameters) (ok : AreCodingParameters p) (w c n : ℕ) (some
   Lacks given xs = (missing : Bool) × (more : List Bool) × (given ++ missing ∷ more ≡ code p w c xs)
 
   -- a trimmed piece whose bits are cut in some code lacks a bit of the code of these lines
-  cut_in_own : (bytes piece : List ℕ) (xs : List (List ℕ)) → Trimmed bytes piece → Reads p w c n bytes xs
-      → IsCutCode p w c n (bits_read piece) → Lacks (bits_read piece) xs
+  cut_in_own : (bytes piece : List ℕ) (xs : List (List ℕ)) → Trimmed bytes piece → Reads (interval_shape p w c n) bytes xs
+      → IsCutCode (interval_shape p w c n) (bits_read piece) → Lacks (bits_read piece) xs
   cut_in_own _ _ xs (whole bytes) a cut = absurd (none_missing (bits_read bytes) a.unread xs a.begins.are_lines a.begins.data_bits.read cut)
   cut_in_own _ _ xs (longer bytes first more) a cut =
       let rest = bits_read_after (last_after 0 bytes) (first ∷ more) in
@@ -85,12 +85,12 @@ module _ (p : CodingParameters) (ok : AreCodingParameters p) (w c n : ℕ) (some
       by_length rest (inr t) = (t.1, t.0, sym t.2)
 
   -- and then it is no more than a front, so its bits are all there
-  own_cut : (given : List Bool) (xs : List (List ℕ)) → AreLines p w n xs → Lacks given xs → IsCutCode p w c n given
+  own_cut : (given : List Bool) (xs : List (List ℕ)) → AreLines p w n xs → Lacks given xs → IsCutCode (interval_shape p w c n) given
   own_cut given xs are l = record { lines = xs; are_lines = are; missing = l.0; more_missing = l.1; code_is = l.2 }
 
   -- the first of lines in whose code bits are cut are the first of all such lines
-  first_of_others : (given : List Bool) (a b : IsCutCode p w c n given) (xs : List (List ℕ)) → BeginsWithFirst p w c given b.lines xs
-      → BeginsWithFirst p w c given a.lines xs
+  first_of_others : (given : List Bool) (a b : IsCutCode (interval_shape p w c n) given) (xs : List (List ℕ)) → BeginsWithFirst (interval_shape p w c n) given b.lines xs
+      → BeginsWithFirst (interval_shape p w c n) given a.lines xs
   first_of_others given a b xs f =
       let l = length-append xs f.others in let l1 = ap length f.lines_are in let l2 = b.are_lines.count_is in let l3 = a.are_lines.count_is in
       let t = first_lines (length xs) a.lines (omega (arith, l, l1, l2, l3)) in
@@ -102,8 +102,8 @@ module _ (p : CodingParameters) (ok : AreCodingParameters p) (w c n : ℕ) (some
       record { others = t.1; lines_are = t.2 ∙ ap (λ v. v ++ t.1) (sym same.0); unread = f.unread; given_is = f.given_is }
 
   -- the head of bits that lack a bit of these lines' code is those of them that stand whole
-  whole_lines : (given : List Bool) (xs head : List (List ℕ)) → AreLines p w n xs → Lacks given xs → IsHead p w c n given head
-      → AreWholeLines p w c given xs head
+  whole_lines : (given : List Bool) (xs head : List (List ℕ)) → AreLines p w n xs → Lacks given xs → IsHead (interval_shape p w c n) given head
+      → AreWholeLines (interval_shape p w c n) given xs head
   unfolding own_cut
   whole_lines given xs head are l (inl (cut, f)) = record {
     begins = first_of_others given (own_cut given xs are l) cut head f.begins;
@@ -112,7 +112,7 @@ module _ (p : CodingParameters) (ok : AreCodingParameters p) (w c n : ℕ) (some
   whole_lines given xs head are l (inr (none, e)) = absurd (none (own_cut given xs are l))
 
   -- a trimmed piece that lacks a bit has data bits
-  lacking_is_whole : (bytes piece : List ℕ) (xs : List (List ℕ)) → Trimmed bytes piece → Reads p w c n bytes xs
+  lacking_is_whole : (bytes piece : List ℕ) (xs : List (List ℕ)) → Trimmed bytes piece → Reads (interval_shape p w c n) bytes xs
       → Lacks (bits_read piece) xs → is_whole piece ≡ true
   lacking_is_whole _ _ xs (whole bytes) a l = a.begins.data_bits.whole
   lacking_is_whole _ _ xs (front piece lost) a l = (whole_front 0 piece lost a.begins.data_bits.whole).0
@@ -122,18 +122,18 @@ module _ (p : CodingParameters) (ok : AreCodingParameters p) (w c n : ℕ) (some
       (data_append 0 bytes (first ∷ more) a.begins.data_bits.whole ∙ ap (λ z. z ++ rest) a.begins.data_bits.read ∙ append_assoc (code p w c xs) a.unread rest)
       (own_cut (bits_read (bytes ++ first ∷ more)) xs a.begins.are_lines l))
 
-  module _ (bytes piece : List ℕ) (xs : List (List ℕ)) (trim : Trimmed bytes piece) (a : Reads p w c n bytes xs) where
-    head_there : (head : List (List ℕ)) → IsHeadOfPiece p w c n piece head → Lacks (bits_read piece) xs
-        → AreWholeLines p w c (bits_read piece) xs head
+  module _ (bytes piece : List ℕ) (xs : List (List ℕ)) (trim : Trimmed bytes piece) (a : Reads (interval_shape p w c n) bytes xs) where
+    head_there : (head : List (List ℕ)) → IsHeadOfPiece (interval_shape p w c n) piece head → Lacks (bits_read piece) xs
+        → AreWholeLines (interval_shape p w c n) (bits_read piece) xs head
     head_there head (inl (is, h)) l = whole_lines (bits_read piece) xs head a.begins.are_lines l h
     head_there head (inr (broken, e)) l = (let is = lacking_is_whole bytes piece xs trim a l in absurd cc)
 
-    head_none : (head : List (List ℕ)) → IsHeadOfPiece p w c n piece head → (Lacks (bits_read piece) xs → ⊥) → head ≡ []
+    head_none : (head : List (List ℕ)) → IsHeadOfPiece (interval_shape p w c n) piece head → (Lacks (bits_read piece) xs → ⊥) → head ≡ []
     head_none head (inl (is, inl (cut, f))) lacks_none = absurd (lacks_none (cut_in_own bytes piece xs trim a cut))
     head_none head (inl (is, inr (none, e))) lacks_none = e
     head_none head (inr (broken, e)) lacks_none = e
 
-    head_of_these : (head : List (List ℕ)) → IsHeadOfPiece p w c n piece head → head ≡ take (length head) xs
+    head_of_these : (head : List (List ℕ)) → IsHeadOfPiece (interval_shape p w c n) piece head → head ≡ take (length head) xs
     head_of_these head (inl (is, inl (cut, f))) =
         let lines = whole_lines (bits_read piece) xs head a.begins.are_lines (cut_in_own bytes piece xs trim a cut) (inl (cut, f)) in
         sym (ap (take (length head)) lines.begins.lines_are ∙ own_front head lines.begins.others)

@@ -19,6 +19,7 @@ use Rattle.jls_interval.specs.Cells.{cell_before, run_cell_before}
 use Rattle.jls_interval.specs.Runs.{block_columns, full_blocks, blocks, run_index_before}
 use Rattle.jls_interval.specs.Code.{event_bits, bits_of_events, code}
 use Rattle.jls_interval.specs.Reads.{Reads}
+use Rattle.jls_interval.specs.Lines.{interval_shape}
 use Rattle.jls_partial.specs.Reading.{reading_of}
 use Rattle.jls_partial.specs.Partial.{PartialPicture, union}
 use Rattle.jls_marker.specs.ComponentIndex.{index_of}
@@ -207,9 +208,9 @@ third_course =
 
 pub record PiecesRead : Type 0 where
   -- 0x80 reads as the sample 0, 0x40 as 255, and 0x50 as 1
-  pub zero_read : Reads bits_8 1 1 1 (0x80 ∷ []) ((0 ∷ []) ∷ [])
-  pub largest_read : Reads bits_8 1 1 1 (0x40 ∷ []) ((255 ∷ []) ∷ [])
-  pub one_read : Reads bits_8 1 1 1 (0x50 ∷ []) ((1 ∷ []) ∷ [])
+  pub zero_read : Reads (interval_shape bits_8 1 1 1) (0x80 ∷ []) ((0 ∷ []) ∷ [])
+  pub largest_read : Reads (interval_shape bits_8 1 1 1) (0x40 ∷ []) ((255 ∷ []) ∷ [])
+  pub one_read : Reads (interval_shape bits_8 1 1 1) (0x50 ∷ []) ((1 ∷ []) ∷ [])
 
 pub pieces_read : PiecesRead
 unfolding least_from bits width_after golomb quantized_gradient is_negative context modulo_reduced corrected_prediction golomb_k updated run_updated events_from events_after cell_before run_cell_before block_columns full_blocks blocks run_index_before event_bits bits_of_events code bits_read_after is_whole_after ends_data

@@ -14,6 +14,7 @@ use Rattle.jls_file.specs.WrittenFile.{interval_lines}
 use Rattle.jls_file_law.specs.Covering.{IsLineOf}
 use Rattle.jls_headline.specs.PictureLines.{placed_in_interval, picture_reading}
 use Rattle.jls_copy.specs.CutPieces.{cut_pieces, IsHeadAt}
+use Rattle.jls_copy.specs.IntervalOf.{interval_of}
 use Rattle.jls_headline.specs.Gives.{CourseGives, GivesReading}
 use Rattle.jls_headline.specs.Damaged.{ReadsAsPicture, ReadsAsPictureOrNone, HasHeadOfPicture, PiecesAre, DamagedCourse, Damaged}
 use Rattle.jls_headline.specs.Survives.{Survives}
@@ -77,7 +78,7 @@ abbrev pub TrimmedPiecesHaveHeads : Type 0
 TrimmedPiecesHaveHeads =
     (pic : WholePicture) (s : Scan) (k : ℕ) (piece : List ℕ) → IsScan s → IsTrimmed pic s k piece
     → (head : List (List ℕ)) → IsHeadAt s (Interval k) piece head
-    → (LacksABit pic s k piece → AreWholeLines s.params s.width (length s.components) (bits_read piece) (interval_lines pic s k) head)
+    → (LacksABit pic s k piece → AreWholeLines (interval_of s k) (bits_read piece) (interval_lines pic s k) head)
     × ((LacksABit pic s k piece → ⊥) → head ≡ [])
 
 -- in both cases it is the picture's first lines

@@ -3,6 +3,7 @@ use Rattle.std.proofs.Common.{◌≡◌, ℕ, ◌%◌, ◌<◌, Bool, List, [], 
 use Rattle.std.proofs.lemmas.List.{append-nil}
 use Rattle.jls_values.specs.Params.{CodingParameters, AreCodingParameters}
 use Rattle.jls_context.specs.Variables.{Variables}
+use Rattle.jls_interval.specs.Lines.{interval_shape}
 use Rattle.jls_interval.specs.Events.{Event, above}
 use Rattle.jls_interval.specs.Code.{code}
 use Rattle.jls_interval.specs.Events.{Above}
@@ -26,25 +27,25 @@ use Rattle.jls_interval.proofs.IntervalReading.{items, working, in_range}
 
 module _ (p : CodingParameters) (ok : AreCodingParameters p) (w c n : ℕ) (some : 0 < w) (given : List Bool) where
   -- bits that begin no lines' code, whatever comes
-  pub dead_head : IsDead p w c n given → IsHead p w c n given []
+  pub dead_head : IsDead p w c n given → IsHead (interval_shape p w c n) given []
   dead_head dead = inr (λ cut. dead (cut.missing ∷ cut.more_missing) cut.lines [] cut.are_lines (cut.code_is ∙ sym (append-nil (code p w c cut.lines))), refl)
 
   -- bits behind the last line
-  pub over_head : (lines : List (List ℕ)) (extra : ℕ) → IsOver p w c n given lines extra → IsHead p w c n given []
+  pub over_head : (lines : List (List ℕ)) (extra : ℕ) → IsOver p w c n given lines extra → IsHead (interval_shape p w c n) given []
   over_head lines extra o = inr (λ cut. not_cut cut, refl)
     where
       nothing_is : (xs : List Bool) (y : Bool) (ys : List Bool) → xs ++ y ∷ ys ≡ [] → ⊥
       nothing_is [] y ys h = cc
       nothing_is (x ∷ xs) y ys h = cc
 
-      not_cut : IsCutCode p w c n given → ⊥
+      not_cut : IsCutCode (interval_shape p w c n) given → ⊥
       not_cut cut =
           let more = cut.missing ∷ cut.more_missing in
           let e : code p w c lines ++ (o.unread ++ more) ≡ code p w c cut.lines ++ [] = sym (append_assoc (code p w c lines) o.unread more) ∙ ap (λ z. z ++ more) (sym o.begins) ∙ cut.code_is ∙ sym (append-nil (code p w c cut.lines)) in
           nothing_is o.unread cut.missing cut.more_missing (codes_apart p w c n ok some lines cut.lines (o.unread ++ more) [] o.are_lines cut.are_lines e).1
 
   module _ (lines : List (List ℕ)) (line : List ℕ) (cells : Variables) (run_indices : List ℕ) (hand : Hand) (h : IsWorking p w c n given lines line cells run_indices hand) where
-    pub cut_head : BeginsEvent p w (length lines % c) (above c lines) line h.told h.earlier → IsHead p w c n given lines
+    pub cut_head : BeginsEvent p w (length lines % c) (above c lines) line h.told h.earlier → IsHead (interval_shape p w c n) given lines
     cut_head b = head_is p w c some n given (record {
       whole = h.earlier;
       position = record { lines = lines; line = line; earlier = h.earlier };
@@ -59,14 +60,14 @@ module _ (p : CodingParameters) (ok : AreCodingParameters p) (w c n : ℕ) (some
     })
 
     pub stuck_head : ((more : List Bool) → NoEvent p w (length lines % c) (above c lines) line (h.told ++ more) h.earlier)
-        → IsHead p w c n given []
+        → IsHead (interval_shape p w c n) given []
     stuck_head none =
         dead_head (subst (IsDead p w c n) (append-nil given) (working_refused p ok w c n some given lines line cells run_indices hand h [] (λ more. subst (λ z. NoEvent p w (length lines % c) (above c lines) line (z ++ more) h.earlier) (sym (append-nil h.told)) (none more))))
 
   -- where no lines are to come, or none can
   pub idle_head : (lines : List (List ℕ)) (line : List ℕ) (cells : Variables) (run_indices : List ℕ) (hand : Hand) (s : State)
       → (s ≡ Working → ⊥)
-      → StateIs p w c n given lines line cells run_indices hand s → IsHead p w c n given []
+      → StateIs p w c n given lines line cells run_indices hand s → IsHead (interval_shape p w c n) given []
   idle_head lines line cells run_indices hand Working none h = absurd (none refl)
   idle_head lines line cells run_indices hand (Over extra) none h = over_head lines extra h
   idle_head lines line cells run_indices hand Dead none h = dead_head h
@@ -90,7 +91,7 @@ module _ (p : CodingParameters) (d : IntervalReader) (given : List Bool) (h : Is
   abbrev ri : List ℕ
   ri = d.reader.coder.run_indices
 
-  pub reading_idle : (d.state ≡ Working → ⊥) → IsHead p w n d.count given []
+  pub reading_idle : (d.state ≡ Working → ⊥) → IsHead (interval_shape p w n d.count) given []
   reading_idle none =
       idle_head p (subst AreCodingParameters h.parameters d.reader.coder.in_range) w n d.count h.width_at_least given lines line cells ri d.reader.hand d.state none h.state_is
 
@@ -108,13 +109,13 @@ module _ (p : CodingParameters) (d : IntervalReader) (given : List Bool) (h : Is
     abbrev work : IsWorking p w n d.count given lines line cells ri d.reader.hand
     work = working p d given h is
 
-    pub reading_cut : Yes cells.parameters k up → IsHead p w n d.count given lines
+    pub reading_cut : Yes cells.parameters k up → IsHead (interval_shape p w n d.count) given lines
     reading_cut all =
         let a : Yes p (length lines % n) (above n lines) = subst (λ q. Yes q (length lines % n) (above n lines)) h.parameters (subst (λ z. Yes cells.parameters z (above n lines)) k_is (subst (λ (z : Above). Yes cells.parameters k z) up_is all)) in
         cut_head p (in_range p d given h is) w n d.count h.width_at_least given lines line cells ri d.reader.hand work
         (a work.told work.earlier work.is_after (λ e fits. event_some p w n d.count (record { lines = lines; line = line; earlier = work.earlier }) e work.unfinished (work.few, fits)) work.hand_at)
 
-    pub reading_stuck : No cells.parameters k up → IsHead p w n d.count given []
+    pub reading_stuck : No cells.parameters k up → IsHead (interval_shape p w n d.count) given []
     reading_stuck all =
         let a : No p (length lines % n) (above n lines) = subst (λ q. No q (length lines % n) (above n lines)) h.parameters (subst (λ z. No cells.parameters z (above n lines)) k_is (subst (λ (z : Above). No cells.parameters k z) up_is all)) in
         stuck_head p (in_range p d given h is) w n d.count h.width_at_least given lines line cells ri d.reader.hand work (a work.told work.earlier work.is_after work.hand_at)

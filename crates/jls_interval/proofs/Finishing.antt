@@ -8,6 +8,7 @@ use Rattle.jls_values.specs.Params.{CodingParameters, AreCodingParameters}
 use Rattle.jls_bits.specs.Bits.{bits_read, is_whole, ends_data, bits_read_after}
 use Rattle.jls_bits.proofs.DataBits.{data_end, data_stop, length_more, width_bounds}
 use Rattle.jls_bits.proofs.Appending.{whole_front}
+use Rattle.jls_interval.specs.Lines.{interval_shape}
 use Rattle.jls_interval.specs.Reads.{Reads, IsLong, IsBroken}
 use Rattle.jls_interval.specs.PieceFaults.{NoLines, OutcomeIs}
 use Rattle.jls_interval.specs.Decoding.{IsOver, IsDead, HaveWidth, IsReading, TakesFirst, GivesBack, HasShape}
@@ -42,32 +43,32 @@ data_bits_at_most before (x ∷ xs) =
 
 module _ (p : CodingParameters) (w c n : ℕ) (bytes : List ℕ) where
   -- bytes that have no data bits
-  pub broken_bytes : is_whole bytes ≡ false → IsBroken p w c n bytes
+  pub broken_bytes : is_whole bytes ≡ false → IsBroken (interval_shape p w c n) bytes
   broken_bytes h = record {
     not_read = λ ls r. (let a : true ≡ false = sym r.begins.data_bits.whole ∙ h in cc);
     not_long = λ l. (let a : true ≡ false = sym l.begins.data_bits.whole ∙ h in cc);
   }
 
   -- bits that begin with no lines' code
-  pub broken_bits : NoLines p w c n (bits_read bytes) → IsBroken p w c n bytes
+  pub broken_bits : NoLines p w c n (bits_read bytes) → IsBroken (interval_shape p w c n) bytes
   broken_bits none = record {
     not_read = λ ls r. none ls r.unread r.begins.are_lines r.begins.data_bits.read;
     not_long = λ l. none l.lines l.unread l.begins.are_lines l.begins.data_bits.read;
   }
 
-  pub dead_breaks : IsDead p w c n (bits_read bytes) → IsBroken p w c n bytes
+  pub dead_breaks : IsDead p w c n (bits_read bytes) → IsBroken (interval_shape p w c n) bytes
   dead_breaks d = broken_bits (subst (NoLines p w c n) (append-nil (bits_read bytes)) (d []))
 
   module _ (are_bytes : AllByRecursion (λ x. x < 256) bytes) (whole : is_whole bytes ≡ true) (lines : List (List ℕ)) (extra : ℕ) (o : IsOver p w c n (bits_read bytes) lines extra) where
-    pub over_reads : extra ≤ 7 → Reads p w c n bytes lines
+    pub over_reads : extra ≤ 7 → Reads (interval_shape p w c n) bytes lines
     over_reads l = record { unread = o.unread; begins = record { are_bytes = are_bytes; are_lines = o.are_lines; data_bits = record { whole = whole; read = o.begins } }; at_most_seven = (let e = o.counted in omega arith) }
 
-    pub over_long : 7 < extra → IsLong p w c n bytes
+    pub over_long : 7 < extra → IsLong (interval_shape p w c n) bytes
     over_long l = record { lines = lines; unread = o.unread; begins = record { are_bytes = are_bytes; are_lines = o.are_lines; data_bits = record { whole = whole; read = o.begins } }; more_than_seven = (let e = o.counted in omega arith) }
 
   -- a piece that reads is answered by its lines
   pub outcome_read : AreCodingParameters p → 0 < w → (result : Result (Vec (Vec ℕ Global) Global) PieceFault)
-      → OutcomeIs p w c n bytes result → (lines : List (List ℕ)) → Reads p w c n bytes lines
+      → OutcomeIs (interval_shape p w c n) bytes result → (lines : List (List ℕ)) → Reads (interval_shape p w c n) bytes lines
       → MatchResult result (λ v. map (λ v. v.items) v.items ≡ lines) (λ fault. ⊥)
   outcome_read ok some (Ok v) h lines r = reads_once p ok w c n some bytes (map (λ v. v.items) v.items) lines h r
   outcome_read ok some (Err Long) h lines r = read_not_long p ok w c n some bytes lines r h
@@ -76,8 +77,8 @@ module _ (p : CodingParameters) (w c n : ℕ) (bytes : List ℕ) where
 
 pub read_of : (p : CodingParameters) (w c n : ℕ) → AreCodingParameters p → 0 < w
     → (result : Result (Vec (Vec ℕ Global) Global) PieceFault) (Q : Type 0) (o : Option (List ℕ))
-    → MatchOption o Q (λ bytes. OutcomeIs p w c n bytes result)
-    → IfSome o (λ bytes. (lines : List (List ℕ)) → Reads p w c n bytes lines → MatchResult result (λ v. map (λ v. v.items) v.items ≡ lines) (λ fault. ⊥))
+    → MatchOption o Q (λ bytes. OutcomeIs (interval_shape p w c n) bytes result)
+    → IfSome o (λ bytes. (lines : List (List ℕ)) → Reads (interval_shape p w c n) bytes lines → MatchResult result (λ v. map (λ v. v.items) v.items ≡ lines) (λ fault. ⊥))
 read_of p w c n ok some result Q None h = tt
 read_of p w c n ok some result Q (Some bytes) h = outcome_read p w c n bytes ok some result h
 

@@ -12,6 +12,7 @@ use Rattle.jls_context.specs.Errors.{modulo_reduced}
 use Rattle.jls_context.specs.Prediction.{corrected_prediction}
 use Rattle.jls_context.specs.Regular.{golomb_k, updated}
 use Rattle.jls_context.specs.Interruption.{run_updated}
+use Rattle.jls_interval.specs.Lines.{interval_shape}
 use Rattle.jls_interval.specs.Events.{Event, regular, run_to_end, interrupted_run, events_from, events_after, events}
 use Rattle.jls_interval.specs.Cells.{cell_before, run_cell_before}
 use Rattle.jls_interval.specs.Runs.{block_columns, full_blocks, blocks, run_index_before}
@@ -64,10 +65,10 @@ first_lines = record { one = refl; two = refl; three = refl; all = refl }
 -- Two lines of one column, 1 and 34, cut at many places ---------------------------------------------
 
 abbrev Head : List ℕ → List (List ℕ) → Type 0
-Head piece lines = IsHeadOfPiece bits_8 1 1 2 piece lines
+Head piece lines = IsHeadOfPiece (interval_shape bits_8 1 1 2) piece lines
 
 abbrev Cut : List ℕ → Type 0
-Cut piece = IsCutEvent bits_8 1 1 2 (bits_read piece)
+Cut piece = IsCutEvent (interval_shape bits_8 1 1 2) (bits_read piece)
 
 -- the sample 1 interrupts a run of no column
 abbrev first_event : Event
@@ -101,7 +102,7 @@ cut_second piece sample begun missing more a b e = record {
 -- a code that is refused behind the first event
 none_behind_first : (given begun : List Bool) → given ≡ bits_of_steps (interval_steps bits_8 1 1 2) start (first_event ∷ []) ++ begun
     → RefusesCode 2 32 8 begun
-    → IsCutCode bits_8 1 1 2 given → ⊥
+    → IsCutCode (interval_shape bits_8 1 1 2) given → ⊥
 unfolding least_from quantized_gradient is_negative context modulo_reduced corrected_prediction golomb_k updated cell_before event_bits
 none_behind_first given begun e dead cut =
     let m = interval_steps bits_8 1 1 2 in let left = begun ++ cut.missing ∷ cut.more_missing in
@@ -135,7 +136,7 @@ record Heads : Type 0 where
   -- no code begins with so many zeros
   too_many_zeros : Head (0x50 ∷ 0x00 ∷ 0x00 ∷ 0x00 ∷ 0x00 ∷ []) []
   -- the whole
-  whole : Reads bits_8 1 1 2 (0x50 ∷ 0x00 ∷ 0x0C ∷ []) ((1 ∷ []) ∷ (34 ∷ []) ∷ [])
+  whole : Reads (interval_shape bits_8 1 1 2) (0x50 ∷ 0x00 ∷ 0x0C ∷ []) ((1 ∷ []) ∷ (34 ∷ []) ∷ [])
 
 heads : Heads
 unfolding least_from bits value_of_bits width_after golomb quantized_gradient is_negative context modulo_reduced corrected_prediction golomb_k updated run_updated events_from events_after cell_before run_cell_before block_columns full_blocks blocks run_index_before event_bits bits_of_events code bits_read_after is_whole_after ends_data

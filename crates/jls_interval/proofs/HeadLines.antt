@@ -6,7 +6,7 @@ use Rattle.std.proofs.lemmas.Bool.{cases_lt}
 use Rattle.std.proofs.lemmas.Nat.{mul-le}
 use Rattle.std.proofs.Math.Nat.{suc-mul}
 use Rattle.jls_values.specs.Params.{CodingParameters, AreCodingParameters}
-use Rattle.jls_interval.specs.Lines.{IsLine, AreLines}
+use Rattle.jls_interval.specs.Lines.{IsLine, AreLines, interval_shape}
 use Rattle.jls_interval.specs.Events.{Event, above, line_events, events, events_after}
 use Rattle.jls_interval.specs.Code.{event_bits, bits_of_events, code}
 use Rattle.jls_interval.specs.Stepwise.{StepwiseCode, Leads, bits_of_steps, IsEnd}
@@ -146,7 +146,7 @@ module _ (p : CodingParameters) (w c : ℕ) (some : 0 < w) where
 
   -- The head --------------------------------------------------------------------------------------
 
-  module _ (n : ℕ) (given : List Bool) (cut : IsCutEvent p w c n given) where
+  module _ (n : ℕ) (given : List Bool) (cut : IsCutEvent (interval_shape p w c n) given) where
     abbrev steps : StepwiseCode
     steps = interval_steps p w c n
 
@@ -186,7 +186,7 @@ module _ (p : CodingParameters) (w c : ℕ) (some : 0 < w) where
     bits_all =
         code_is p w c n lines ∙ ap (bits_of_steps steps start) (sym events_are) ∙ bits_join steps cut.whole (e ∷ later.0) start z cut.leads
 
-    cut_code : IsCutCode p w c n given
+    cut_code : IsCutCode (interval_shape p w c n) given
     cut_code =
         let whole = bits_of_steps steps start cut.whole in let rest = bits_of_steps steps (moved w c z e) later.0 in
         record {
@@ -219,7 +219,7 @@ module _ (p : CodingParameters) (w c : ℕ) (some : 0 < w) where
           ]
 
       -- where they are finished before the cut event, their code stands whole
-      before_cut : (x : List Event) → cut.whole ≡ events w c xs ++ x → BeginsWithFirst p w c given lines xs
+      before_cut : (x : List Event) → cut.whole ≡ events w c xs ++ x → BeginsWithFirst (interval_shape p w c n) given lines xs
       before_cut x is = record {
         others = ys;
         lines_are = parts;
@@ -243,7 +243,7 @@ module _ (p : CodingParameters) (w c : ℕ) (some : 0 < w) where
           let on : Leads steps z (e ∷ x) (finish w c xs) = subst (λ v. Leads steps v (e ∷ x) (finish w c xs)) same l.1.1 in
           let g = event_grows n z e open_line on.0 in let r = steps_grow n x (moved w c z e) (finish w c xs) g.1 on.1 in omega (arith, g.0, r.0)
 
-      not_after : (x : List Event) → events w c xs ≡ cut.whole ++ e ∷ x → BeginsWithFirst p w c given lines xs → ⊥
+      not_after : (x : List Event) → events w c xs ≡ cut.whole ++ e ∷ x → BeginsWithFirst (interval_shape p w c n) given lines xs → ⊥
       not_after x is b =
           let whole = bits_of_steps steps start cut.whole in let rest = bits_of_steps steps (moved w c z e) x in
           let a : code p w c xs ≡ whole ++ (event_bits p z.earlier e ++ rest) = code_is p w c n xs ∙ ap (bits_of_steps steps start) is ∙ bits_join steps cut.whole (e ∷ x) start z cut.leads in
@@ -251,14 +251,14 @@ module _ (p : CodingParameters) (w c : ℕ) (some : 0 < w) where
           let l = ap length d in let l1 = length-append (event_bits p z.earlier e ++ rest) b.unread in let l2 = length-append (event_bits p z.earlier e) rest in
           let l3 = ap length cut.bits_are in let l4 = length-append cut.begun (cut.missing ∷ cut.more_missing) in omega (arith, l, l1, l2, l3, l4)
 
-    begins : BeginsWithFirst p w c given lines z.lines
+    begins : BeginsWithFirst (interval_shape p w c n) given lines z.lines
     begins =
         elim (split z.lines extends.0 extends.1) [
           | inl r ↦ before_cut z.lines extends.0 extends.1 r.0 r.1
           | inr r ↦ (let s = size_after z.lines extends.0 extends.1 r.0 r.1 in absurd (omega arith))
         ]
 
-    longest : (xs : List (List ℕ)) → BeginsWithFirst p w c given lines xs → length xs ≤ length z.lines
+    longest : (xs : List (List ℕ)) → BeginsWithFirst (interval_shape p w c n) given lines xs → length xs ≤ length z.lines
     longest xs b =
         elim (split xs b.others b.lines_are) [
           | inl r ↦ elim (cases_lt (length z.lines) (length xs)) [
@@ -268,7 +268,7 @@ module _ (p : CodingParameters) (w c : ℕ) (some : 0 < w) where
           | inr r ↦ absurd (not_after xs b.others b.lines_are r.0 r.1 b)
         ]
 
-    pub head_is : IsHead p w c n given z.lines
+    pub head_is : IsHead (interval_shape p w c n) given z.lines
     unfolding cut_code lines
     head_is = inl (cut_code, record { begins = begins; longest = longest })
 
@@ -282,8 +282,8 @@ take_drop (suc n) (x ∷ xs) h = let r = take_drop n xs (omega arith) in (x ∷ 
 
 module _ (p : CodingParameters) (w c n : ℕ) (ok : AreCodingParameters p) (some : 0 < w) (given : List Bool) where
   -- the lines that stand whole are the first of all lines in whose code the bits are cut
-  first_of_others : (a b : IsCutCode p w c n given) (xs : List (List ℕ)) → BeginsWithFirst p w c given b.lines xs
-      → BeginsWithFirst p w c given a.lines xs
+  first_of_others : (a b : IsCutCode (interval_shape p w c n) given) (xs : List (List ℕ)) → BeginsWithFirst (interval_shape p w c n) given b.lines xs
+      → BeginsWithFirst (interval_shape p w c n) given a.lines xs
   first_of_others a b xs f =
       let l = length-append xs f.others in let l1 = ap length f.lines_are in let l2 = b.are_lines.count_is in let l3 = a.are_lines.count_is in
       let t = take_drop (length xs) a.lines (omega (arith, l, l1, l2, l3)) in
@@ -294,7 +294,7 @@ module _ (p : CodingParameters) (w c n : ℕ) (ok : AreCodingParameters p) (some
       let same = codes_apart p w c (length xs) ok some xs t.0 (f.unread ++ more) parts.0 (front_lines p w n b.lines xs f.others b.are_lines f.lines_are) wide bits_are in
       record { others = t.1; lines_are = t.2 ∙ ap (λ v. v ++ t.1) (sym same.0); unread = f.unread; given_is = f.given_is }
 
-  pub one_head : (xs ys : List (List ℕ)) → IsHead p w c n given xs → IsHead p w c n given ys → xs ≡ ys
+  pub one_head : (xs ys : List (List ℕ)) → IsHead (interval_shape p w c n) given xs → IsHead (interval_shape p w c n) given ys → xs ≡ ys
   one_head xs ys (inl (a, f)) (inl (b, g)) =
       let l = f.longest ys (first_of_others a b ys g.begins) in let k = g.longest xs (first_of_others b a xs f.begins) in
       let e : length ys ≡ length xs = omega arith in
@@ -307,7 +307,7 @@ module _ (p : CodingParameters) (w c n : ℕ) (ok : AreCodingParameters p) (some
 
 -- a piece that reads is no proper prefix of a code
 pub read_has_none : (p : CodingParameters) (w c n : ℕ) → AreCodingParameters p → 0 < w → (piece : List ℕ) (xs head : List (List ℕ))
-    → Reads p w c n piece xs → IsHeadOfPiece p w c n piece head → head ≡ []
+    → Reads (interval_shape p w c n) piece xs → IsHeadOfPiece (interval_shape p w c n) piece head → head ≡ []
 read_has_none p w c n ok some piece xs head r (inl (whole, inl (cut, f))) =
     let more = cut.missing ∷ cut.more_missing in let given = bits_read piece in
     let e : code p w c xs ++ (r.unread ++ more) ≡ code p w c cut.lines ++ [] = sym (append_assoc (code p w c xs) r.unread more) ∙ ap (λ v. v ++ more) (sym r.begins.data_bits.read) ∙ cut.code_is ∙ sym (append-nil (code p w c cut.lines)) in

@@ -11,7 +11,7 @@ use Rattle.jls_bits.proofs.NumberBits.{length-bits, bits_split}
 use Rattle.jls_bits.proofs.DataBits.{width_bounds, data_end, data_more}
 use Rattle.jls_bits.proofs.Appending.{whole_parts, data_append, whole_front, last_append}
 use Rattle.jls_bits.proofs.Padding.{pad_is_pad}
-use Rattle.jls_interval.specs.Lines.{AreLines}
+use Rattle.jls_interval.specs.Lines.{AreLines, interval_shape}
 use Rattle.jls_interval.specs.Code.{code}
 use Rattle.jls_interval.specs.Reads.{Reads, packed}
 
@@ -89,7 +89,7 @@ pad_zeros given (x ∷ xs) is_pad =
     elim (cases_lt 7 is_pad.carries.zeros) [ inl many ↦ (let r = ended x xs in absurd (not_shortest given (x ∷ xs) is_pad many r.front r.last r.is)) | inr few ↦ few ]
 
 pub packed_reads : (p : CodingParameters) (w c n : ℕ) (lines : List (List ℕ)) → AreLines p w n lines
-    → Reads p w c n (packed p w c lines) lines
+    → Reads (interval_shape p w c n) (packed p w c lines) lines
 packed_reads p w c n lines are =
     let h = pad_is_pad (code p w c lines) in
     let few = pad_zeros (code p w c lines) (packed p w c lines) h in let r = length-replicate h.carries.zeros false in

@@ -9,6 +9,7 @@ use Rattle.jls_context.specs.Errors.{modulo_reduced}
 use Rattle.jls_context.specs.Prediction.{corrected_prediction}
 use Rattle.jls_context.specs.Regular.{golomb_k, updated}
 use Rattle.jls_context.specs.Interruption.{run_updated}
+use Rattle.jls_interval.specs.Lines.{interval_shape}
 use Rattle.jls_interval.specs.Events.{run_to_end, interrupted_run, events_from, events_after, events}
 use Rattle.jls_interval.specs.Cells.{cell_before, run_cell_before}
 use Rattle.jls_interval.specs.Runs.{block_columns, full_blocks, blocks, run_index_before}
@@ -68,9 +69,9 @@ record WorkedExamples : Type 0 where
   two_events : events 3 1 ((0 ∷ 0 ∷ 5 ∷ []) ∷ (0 ∷ 0 ∷ 0 ∷ []) ∷ [])
       ≡ interrupted_run 0 2 (record { ra = 0; rb = 0; rc = 0; rd = 0 }) 5 ∷ run_to_end 0 3 ∷ []
   -- 0xC0 reads as the sample 0: seven bits follow its code, and may have any value
-  read_with_seven_bits : Reads bits_8 1 1 1 (0xC0 ∷ []) ((0 ∷ []) ∷ [])
+  read_with_seven_bits : Reads (interval_shape bits_8 1 1 1) (0xC0 ∷ []) ((0 ∷ []) ∷ [])
   -- 0x80 0x00 is too long for it: fifteen bits follow
-  too_long : IsLong bits_8 1 1 1 (0x80 ∷ 0x00 ∷ [])
+  too_long : IsLong (interval_shape bits_8 1 1 1) (0x80 ∷ 0x00 ∷ [])
 
 worked_examples : WorkedExamples
 unfolding least_from bits value_of_bits width_after golomb pad_after quantized_gradient is_negative context modulo_reduced corrected_prediction golomb_k updated run_updated events_from events_after cell_before run_cell_before block_columns full_blocks blocks run_index_before event_bits bits_of_events code bits_read_after is_whole_after ends_data

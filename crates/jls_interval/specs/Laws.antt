@@ -1,7 +1,7 @@
 -- The laws of an interval's code.
 use Rattle.std.specs.Prelude.{◌≡◌, ℕ, ◌/◌, ◌%◌, length, take, get_or, ◌+◌, ◌≤◌, ◌<◌, ◌↔◌, Bool, List, [], ◌∷◌, ◌++◌}
 use Rattle.jls_values.specs.Params.{CodingParameters, AreCodingParameters}
-use Rattle.jls_interval.specs.Lines.{AreLines, neighbours_at}
+use Rattle.jls_interval.specs.Lines.{IntervalShape, AreLines, neighbours_at}
 use Rattle.jls_interval.specs.Events.{Event, AreEvents, neighbours, above, events}
 use Rattle.jls_interval.specs.Runs.{block_columns, full_blocks}
 use Rattle.jls_interval.specs.Code.{event_bits, code}
@@ -64,40 +64,37 @@ CodesAreApart =
 -- a piece reads as at most one list of lines, and then it isn't too long
 abbrev pub PiecesReadOnce : Type 0
 PiecesReadOnce =
-    (p : CodingParameters) (width components count : ℕ) → AreCodingParameters p → 0 < width
-    → (piece : List ℕ) (xs : List (List ℕ)) → Reads p width components count piece xs
-    → ((ys : List (List ℕ)) → Reads p width components count piece ys → xs ≡ ys) × (IsLong p width components count piece → ⊥)
+    (i : IntervalShape) → AreCodingParameters i.params → 0 < i.width → (piece : List ℕ) (xs : List (List ℕ)) → Reads i piece xs
+    → ((ys : List (List ℕ)) → Reads i piece ys → xs ≡ ys) × (IsLong i piece → ⊥)
 
 -- a piece is broken exactly where it doesn't begin with the code of any lines
 abbrev pub BrokenBeginsWithNone : Type 0
 BrokenBeginsWithNone =
-    (p : CodingParameters) (width components count : ℕ) (piece : List ℕ)
-    → IsBroken p width components count piece ↔ ((lines : List (List ℕ)) (unread : List Bool)
-    → BeginsWithCode p width components count piece lines unread → ⊥)
+    (i : IntervalShape) (piece : List ℕ)
+    → IsBroken i piece ↔ ((lines : List (List ℕ)) (unread : List Bool) → BeginsWithCode i piece lines unread → ⊥)
 
 -- bits that are a proper prefix of the code of some lines
-pub record IsCutCode (p : CodingParameters) (width components count : ℕ) (given : List Bool) : Type 0 where
+pub record IsCutCode (i : IntervalShape) (given : List Bool) : Type 0 where
   pub lines : List (List ℕ)
-  pub are_lines : AreLines p width count lines
+  pub are_lines : AreLines i.params i.width i.line_count lines
   pub missing : Bool
   pub more_missing : List Bool
-  pub code_is : given ++ missing ∷ more_missing ≡ code p width components lines
+  pub code_is : given ++ missing ∷ more_missing ≡ code i.params i.width i.components lines
 
 -- bits that are those of whole first events, and then a proper prefix, which may be empty, of the bits of one event that can come next
-pub record IsCutEvent (p : CodingParameters) (width components count : ℕ) (given : List Bool) : Type 0 where
+pub record IsCutEvent (i : IntervalShape) (given : List Bool) : Type 0 where
   pub whole : List Event
   pub position : Position
-  pub leads : Leads (interval_steps p width components count) start whole position
+  pub leads : Leads (interval_steps i.params i.width i.components i.line_count) start whole position
   pub cut : Event
-  pub is_next : IsNext p width components count position cut
+  pub is_next : IsNext i.params i.width i.components i.line_count position cut
   pub begun : List Bool
-  pub given_is : given ≡ bits_of_steps (interval_steps p width components count) start whole ++ begun
+  pub given_is : given ≡ bits_of_steps (interval_steps i.params i.width i.components i.line_count) start whole ++ begun
   pub missing : Bool
   pub more_missing : List Bool
-  pub bits_are : event_bits p position.earlier cut ≡ begun ++ missing ∷ more_missing
+  pub bits_are : event_bits i.params position.earlier cut ≡ begun ++ missing ∷ more_missing
 
 -- the two are the same
 abbrev pub CutsAreExact : Type 0
 CutsAreExact =
-    (p : CodingParameters) (width components count : ℕ) → AreCodingParameters p → 0 < width
-    → (given : List Bool) → IsCutCode p width components count given ↔ IsCutEvent p width components count given
+    (i : IntervalShape) → AreCodingParameters i.params → 0 < i.width → (given : List Bool) → IsCutCode i given ↔ IsCutEvent i given

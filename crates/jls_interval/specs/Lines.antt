@@ -4,6 +4,18 @@ use Rattle.std.specs.List.{AllByRecursion}
 use Rattle.jls_values.specs.Params.{CodingParameters}
 use Rattle.jls_context.specs.declared.mode.Neighbours.{Neighbours}
 
+-- what is agreed on of an interval: the parameters, the columns, the components that take turns, and the lines of all of them
+pub record IntervalShape : Type 0 where
+  pub params : CodingParameters
+  pub width : ℕ
+  pub components : ℕ
+  pub line_count : ℕ
+
+-- the interval of these four
+abbrev pub interval_shape : CodingParameters → ℕ → ℕ → ℕ → IntervalShape
+interval_shape params width components line_count =
+    record { params = params; width = width; components = components; line_count = line_count }
+
 -- a line of this width, its samples at most MAXVAL
 abbrev pub IsLine : CodingParameters → ℕ → List ℕ → Type 0
 IsLine p width line = (length line ≡ width) × AllByRecursion (λ sample. sample ≤ p.maxval) line

@@ -3,25 +3,24 @@ use Rattle.std.specs.Prelude.{◌≡◌, ℕ, Bool, List, ◌++◌, map, Result,
 use Rattle.std.specs.declared.vec.Vec.{Vec}
 use Rattle.std.specs.declared.alloc.Global.{Global}
 use Rattle.jls_values.specs.Params.{CodingParameters}
-use Rattle.jls_interval.specs.Lines.{AreLines}
+use Rattle.jls_interval.specs.Lines.{IntervalShape, AreLines}
 use Rattle.jls_interval.specs.Code.{code}
 use Rattle.jls_interval.specs.Reads.{Reads, IsLong, IsBroken}
 use Rattle.jls_interval.specs.declared.decode_piece.PieceFault.{PieceFault}
 use Rattle.jls_interval.specs.declared.decode_piece.PieceFault.TheVariants.{Long, Broken, OutOfMemory}
 
 -- the fault is the piece's; that memory is refused says nothing of the piece
-abbrev pub FaultIs : PieceFault → CodingParameters → ℕ → ℕ → ℕ → List ℕ → Type 0
-FaultIs Long p width components count piece = IsLong p width components count piece
-FaultIs Broken p width components count piece = IsBroken p width components count piece
-FaultIs OutOfMemory p width components count piece = Unit {0}
+abbrev pub FaultIs : PieceFault → IntervalShape → List ℕ → Type 0
+FaultIs Long i piece = IsLong i piece
+FaultIs Broken i piece = IsBroken i piece
+FaultIs OutOfMemory i piece = Unit {0}
 
 -- what bytes that were all decoded gave: their lines, or why there are none
-abbrev pub OutcomeIs : CodingParameters → ℕ → ℕ → ℕ → List ℕ → Result (Vec (Vec ℕ Global) Global) PieceFault → Type 0
-OutcomeIs p width components count piece (Ok lines) =
-    Reads p width components count piece (map (λ v. v.items) lines.items)
-OutcomeIs p width components count piece (Err Long) = IsLong p width components count piece
-OutcomeIs p width components count piece (Err Broken) = IsBroken p width components count piece
-OutcomeIs p width components count piece (Err OutOfMemory) = ⊥
+abbrev pub OutcomeIs : IntervalShape → List ℕ → Result (Vec (Vec ℕ Global) Global) PieceFault → Type 0
+OutcomeIs i piece (Ok lines) = Reads i piece (map (λ v. v.items) lines.items)
+OutcomeIs i piece (Err Long) = IsLong i piece
+OutcomeIs i piece (Err Broken) = IsBroken i piece
+OutcomeIs i piece (Err OutOfMemory) = ⊥
 
 -- inside the crate: no lines' code stands at the front of the bits
 abbrev pub NoLines : CodingParameters → ℕ → ℕ → ℕ → List Bool → Type 0

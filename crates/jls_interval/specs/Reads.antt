@@ -5,38 +5,36 @@ use Rattle.std.specs.List.{AllByRecursion}
 use Rattle.jls_values.specs.Params.{CodingParameters}
 use Rattle.jls_bits.specs.Bits.{AreDataBits}
 use Rattle.jls_bits.specs.Pad.{pad}
-use Rattle.jls_interval.specs.Lines.{AreLines}
+use Rattle.jls_interval.specs.Lines.{IntervalShape, AreLines}
 use Rattle.jls_interval.specs.Code.{code}
 
 -- the piece is bytes whose data bits are the code of these lines and then some more bits
-pub record BeginsWithCode (p : CodingParameters) (width components count : ℕ) (piece : List ℕ) (lines : List (List ℕ))
-    (unread : List Bool) : Type 0 where
+pub record BeginsWithCode (i : IntervalShape) (piece : List ℕ) (lines : List (List ℕ)) (unread : List Bool) : Type 0 where
   pub are_bytes : AllByRecursion (λ x. x < 256) piece
-  pub are_lines : AreLines p width count lines
-  pub data_bits : AreDataBits piece (code p width components lines ++ unread)
+  pub are_lines : AreLines i.params i.width i.line_count lines
+  pub data_bits : AreDataBits piece (code i.params i.width i.components lines ++ unread)
 
 -- the piece reads as the lines: at most seven bits follow their code
-pub record Reads (p : CodingParameters) (width components count : ℕ) (piece : List ℕ) (lines : List (List ℕ)) : Type 0 where
+pub record Reads (i : IntervalShape) (piece : List ℕ) (lines : List (List ℕ)) : Type 0 where
   pub unread : List Bool
-  pub begins : BeginsWithCode p width components count piece lines unread
+  pub begins : BeginsWithCode i piece lines unread
   pub at_most_seven : length unread ≤ 7
 
 -- the piece is too long: more than seven bits follow the code of some lines
-pub record IsLong (p : CodingParameters) (width components count : ℕ) (piece : List ℕ) : Type 0 where
+pub record IsLong (i : IntervalShape) (piece : List ℕ) : Type 0 where
   pub lines : List (List ℕ)
   pub unread : List Bool
-  pub begins : BeginsWithCode p width components count piece lines unread
+  pub begins : BeginsWithCode i piece lines unread
   pub more_than_seven : 7 < length unread
 
 -- the piece is broken: it neither reads as any lines nor is it too long
-pub record IsBroken (p : CodingParameters) (width components count : ℕ) (piece : List ℕ) : Type 0 where
-  pub not_read : (lines : List (List ℕ)) → Reads p width components count piece lines → ⊥
-  pub not_long : IsLong p width components count piece → ⊥
+pub record IsBroken (i : IntervalShape) (piece : List ℕ) : Type 0 where
+  pub not_read : (lines : List (List ℕ)) → Reads i piece lines → ⊥
+  pub not_long : IsLong i piece → ⊥
 
 -- whatever bytes follow these, they read as no lines
-abbrev pub ReadsNoMore : CodingParameters → ℕ → ℕ → ℕ → List ℕ → Type 0
-ReadsNoMore p width components count bytes =
-    (more : List ℕ) (lines : List (List ℕ)) → Reads p width components count (bytes ++ more) lines → ⊥
+abbrev pub ReadsNoMore : IntervalShape → List ℕ → Type 0
+ReadsNoMore i bytes = (more : List ℕ) (lines : List (List ℕ)) → Reads i (bytes ++ more) lines → ⊥
 
 -- the bytes that lines are written as
 abbrev pub packed : CodingParameters → ℕ → ℕ → List (List ℕ) → List ℕ

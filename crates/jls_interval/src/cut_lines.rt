@@ -2,6 +2,7 @@
 
 ghost use Rattle.std.specs.Prelude.{◌≡◌, true, false, Bool, List, [], map};
 ghost use Rattle.jls_values.specs.Params.{CodingParameters};
+ghost use Rattle.jls_interval.specs.Lines.{interval_shape};
 ghost use Rattle.jls_interval.specs.Decoding.{IsReading};
 ghost use Rattle.jls_interval.specs.Heads.{IsHead};
 
@@ -14,9 +15,9 @@ impl IntervalReader {
     fn is_cut(&self) -> bool
         requires { (p : CodingParameters) × (given : List Bool) × IsReading p given self.now }
         ensures yes { result ≡ true → (p : CodingParameters) (given : List Bool) → IsReading p given self.now
-            → IsHead p self.now.reader.width self.now.components self.now.count given (map (λ v. v.items) self.now.lines.items) }
+            → IsHead (interval_shape p self.now.reader.width self.now.components self.now.count) given (map (λ v. v.items) self.now.lines.items) }
         ensures no { result ≡ false → (p : CodingParameters) (given : List Bool) → IsReading p given self.now
-            → IsHead p self.now.reader.width self.now.components self.now.count given [] }
+            → IsHead (interval_shape p self.now.reader.width self.now.components self.now.count) given [] }
     {
         if !self.is_working() {
             return false;
@@ -29,7 +30,7 @@ impl IntervalReader {
     pub(crate) fn into_head(self) -> Vec<Vec<u16>>
         requires { (p : CodingParameters) × (given : List Bool) × IsReading p given self }
         ensures { (p : CodingParameters) (given : List Bool) → IsReading p given self
-            → IsHead p self.reader.width self.components self.count given (map (λ v. v.items) result.items) }
+            → IsHead (interval_shape p self.reader.width self.components self.count) given (map (λ v. v.items) result.items) }
     {
         let is_cut = self.is_cut();
         let IntervalReader { alloc, lines, .. } = self;

@@ -1,6 +1,7 @@
 //! Reading the lines of an interval whose bytes are all there.
 
 ghost use Rattle.std.specs.Prelude.{◌≡◌, ◌*◌, ◌^◌, ◌≤◌, ℕ, List, map, IfOk, IfErr, MatchResult};
+ghost use Rattle.jls_interval.specs.Lines.{interval_shape};
 ghost use Rattle.jls_interval.specs.Reads.{Reads};
 ghost use Rattle.jls_interval.specs.PieceFaults.{FaultIs};
 
@@ -40,9 +41,9 @@ pub fn decode_interval(
     requires components_at_most { components ≤ 4 }
     requires rows { 1 ≤ rows }
     requires samples { width * components * rows ≤ 2 ^ 28 }
-    ensures lines { IfOk result (λ v. Reads params.now width components (rows * components) piece.now (map (λ v. v.items) v.items)) }
-    ensures fault { IfErr result (λ fault. FaultIs fault params.now width components (rows * components) piece.now) }
-    ensures read { (lines : List (List ℕ)) → Reads params.now width components (rows * components) piece.now lines → MatchResult result
+    ensures lines { IfOk result (λ v. Reads (interval_shape params.now width components (rows * components)) piece.now (map (λ v. v.items) v.items)) }
+    ensures fault { IfErr result (λ fault. FaultIs fault (interval_shape params.now width components (rows * components)) piece.now) }
+    ensures read { (lines : List (List ℕ)) → Reads (interval_shape params.now width components (rows * components)) piece.now lines → MatchResult result
         (λ v. map (λ v. v.items) v.items ≡ lines) (λ fault. fault ≡ PieceFault.OutOfMemory) }
 {
     let mut decoder = IntervalDecoder::new(alloc, params, width, components, rows);

@@ -3,6 +3,7 @@ use Rattle.std.specs.Prelude.{IfSome}
 use Rattle.std.proofs.lemmas.Bool.Decides.{nat_tests}
 use Rattle.jls_values.specs.Params.{CodingParameters}
 use Rattle.jls_bits.specs.Bits.{bits_read}
+use Rattle.jls_interval.specs.Lines.{interval_shape}
 use Rattle.jls_interval.specs.Reads.{ReadsNoMore}
 use Rattle.jls_interval.specs.Decoding.{IsDead, IsOver, StateIs}
 use Rattle.jls_interval.specs.IntervalBytes.{IntervalBytes, bytes_of}
@@ -14,11 +15,11 @@ use Rattle.jls_interval.proofs.interval_decoder.IntervalDecoder.reads_no_more.Go
 said : (p : CodingParameters) (w n rows count : ℕ) (refused : Bool) (bytes : List ℕ) (z : IntervalBytes) → refused ≡ false
     → count ≡ rows * n
     → (let v : IntervalBytes = record { parameters = p; width = w; components = n; rows = rows; bytes = bytes_of refused bytes } in v) ≡ z
-    → ReadsNoMore p w n count bytes
-    → IfSome z.bytes (λ bytes. ReadsNoMore z.parameters z.width z.components (z.rows * z.components) bytes)
+    → ReadsNoMore (interval_shape p w n count) bytes
+    → IfSome z.bytes (λ bytes. ReadsNoMore (interval_shape z.parameters z.width z.components (z.rows * z.components)) bytes)
 said p w n rows count refused bytes z e k view h =
-    subst (λ (z : IntervalBytes). IfSome z.bytes (λ bytes. ReadsNoMore z.parameters z.width z.components (z.rows * z.components) bytes)) view
-    (subst (λ r. IfSome (bytes_of r bytes) (λ b. ReadsNoMore p w n (rows * n) b)) (sym e) (subst (λ m. ReadsNoMore p w n m bytes) k h))
+    subst (λ (z : IntervalBytes). IfSome z.bytes (λ bytes. ReadsNoMore (interval_shape z.parameters z.width z.components (z.rows * z.components)) bytes)) view
+    (subst (λ r. IfSome (bytes_of r bytes) (λ b. ReadsNoMore (interval_shape p w n (rows * n)) b)) (sym e) (subst (λ m. ReadsNoMore (interval_shape p w n m) bytes) k h))
 
 pub returns-then-self-2 : goal.returns-then-self-2
 returns-then-self-2 c = λ _.
