@@ -6,7 +6,7 @@ use Rattle.jls_copy.specs.ScanData.{fill_bytes, ClosedPiece}
 use Rattle.jls_copy.specs.Numbers.{PieceNumber, Interval}
 use Rattle.jls_marker.specs.HeaderState.{HeaderState}
 use Rattle.jls_marker.specs.Scan.{Scan}
-use Rattle.jls_copy.specs.Pieces.{FoundPiece}
+use Rattle.jls_copy.specs.Pieces.{FoundPiece, piece_begun}
 use Rattle.jls_copy.specs.Course.{by_input, by_marker, CopyUnit, segment, scan, segment_unit_bytes, unit_bytes, AreUnits, Ends, for_good, with_the_input, in_a_unit, fill_alone, marker_alone, half_a_length, short_payload, IsCourse, with_soi, with_another_marker, with_no_marker, with_fill_alone}
 use Rattle.jls_copy.specs.Pieces.{pieces_in, pieces_from, unit_pieces, scans_in}
 use Rattle.jls_copy.specs.CutPieces.{is_cut, closed_by_input, last_piece}
@@ -48,7 +48,7 @@ last_behind (p ∷ x ∷ ps) q qs = last_behind (x ∷ ps) q qs
 
 -- scan data has a piece
 some_pieces : (index : ℕ) (s : Scan) (last : ℕ) (number : PieceNumber) (at : ℕ) (closed : List ClosedPiece) (bytes : List ℕ)
-    → (q : FoundPiece) × (qs : List FoundPiece) × (pieces_from index s last number at closed bytes ≡ q ∷ qs)
+    → (q : FoundPiece) × (qs : List FoundPiece) × (pieces_from (piece_begun index s number at) last closed bytes ≡ q ∷ qs)
 some_pieces index s last number at [] bytes = (_, [], refl)
 some_pieces index s last number at (c ∷ closed) bytes = (_, _, refl)
 
@@ -135,10 +135,10 @@ told (InScan o) h payload ps x d =
     let unit : CopyUnit = scan d.fill d.code d.payload o.plan d.closed d.piece (by_input d.held) in
     let all : x ≡ d.before ++ unit_bytes unit = d.whole in
     let size : length x ≡ length d.before + length (unit_bytes unit) = ap length all ∙ length-append d.before (unit_bytes unit) in
-    let last : AlikePieces (d.here ++ found o ∷ []) (pieces_from d.old.scans o.plan 0 (Interval 0) (length d.before + length (segment_unit_bytes d.fill d.code d.payload)) d.closed d.piece) =
+    let last : AlikePieces (d.here ++ found o ∷ []) (pieces_from (piece_begun d.old.scans o.plan (Interval 0) (length d.before + length (segment_unit_bytes d.fill d.code d.payload))) 0 d.closed d.piece) =
     subst (AlikePieces (d.here ++ found o ∷ [])) (sym (d.pieces_are d.piece)) (alike_more d.here d.front (found o) _ d.here_alike (alike_now o h ps x d 0)) in
     let pieces_is : d.earlier ++ (d.here ++ found o ∷ []) ≡ ps ++ found o ∷ [] = rw d.found_are (sym (append_assoc d.earlier d.here (found o ∷ []))) in
-    let all_of : List FoundPiece = pieces_from d.old.scans o.plan 0 (Interval 0) (length d.before + length (segment_unit_bytes d.fill d.code d.payload)) d.closed d.piece in
+    let all_of : List FoundPiece = pieces_from (piece_begun d.old.scans o.plan (Interval 0) (length d.before + length (segment_unit_bytes d.fill d.code d.payload))) 0 d.closed d.piece in
     let here : FoundPiece = record { scan = d.old.scans; plan = o.plan; number = number_of o.piece; offset = o.offset; bytes = d.piece } in
     let cut : AlikePieces (found o ∷ []) (last_piece all_of) = subst (AlikePieces (found o ∷ [])) (sym (ap last_piece (d.pieces_are d.piece) ∙ last_behind d.front here [])) (alike_now o h ps x d 0, tt) in
     subst (λ qs. CourseIs x (Input (length x)) h qs (found o ∷ [])) pieces_is

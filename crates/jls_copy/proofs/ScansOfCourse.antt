@@ -8,7 +8,7 @@ use Rattle.jls_marker.proofs.HeaderSteps.{scans_are_in_range}
 use Rattle.jls_marker.proofs.HeadersKept.{headers_kept, no_headers_kept}
 use Rattle.jls_copy.specs.ScanData.{fill_bytes, ClosedPiece, closed_bytes}
 use Rattle.jls_copy.specs.Numbers.{PieceNumber, number_behind, given_last}
-use Rattle.jls_copy.specs.Pieces.{FoundPiece, pieces_from, pieces_in, pieces}
+use Rattle.jls_copy.specs.Pieces.{FoundPiece, pieces_from, pieces_in, pieces, piece_begun}
 use Rattle.jls_copy.specs.Course.{CopyUnit, segment, scan, segment_unit_bytes, scan_data_bytes, AreUnits, Course, IsCourse, with_soi, with_another_marker, with_no_marker, with_fill_alone}
 use Rattle.jls_copy.specs.declared.end.End.{End}
 
@@ -26,7 +26,7 @@ both_have [] qs h k = k
 both_have (p ∷ ps) qs h k = (h.0, both_have ps qs h.1 k)
 
 pieces_have : (index : ℕ) (s : Scan) (last : ℕ) (number : PieceNumber) (at : ℕ) (closed : List ClosedPiece) (bytes : List ℕ) → IsScan s
-    → AllByRecursion HasScan (pieces_from index s last number at closed bytes)
+    → AllByRecursion HasScan (pieces_from (piece_begun index s number at) last closed bytes)
 pieces_have index s last number at [] bytes ok = (ok, tt)
 pieces_have index s last number at (c ∷ closed) bytes ok =
     let next = number_behind (intervals s) last c.mark in
@@ -45,7 +45,7 @@ units_have h at bytes (segment fill code payload ∷ us) final e index begin is 
 units_have h at bytes (scan fill code payload plan closed last closing ∷ us) final e index begin is low (after, rest, whole, unit, more) =
     let parts = byte_parts (segment_unit_bytes fill code payload ++ scan_data_bytes closed last closing) rest (subst AreBytes whole low) in
     let in_segment = payload_bytes fill code payload (byte_parts (segment_unit_bytes fill code payload) (scan_data_bytes closed last closing) parts.0).0 in
-    both_have (pieces_from index plan 0 _ _ closed last) _
+    both_have (pieces_from (piece_begun index plan _ _) 0 closed last) _
     (pieces_have index plan 0 _ _ closed last (scans_are_in_range h after code payload plan is in_segment unit.1))
     (units_have after (at + length (segment_unit_bytes fill code payload ++ scan_data_bytes closed last closing)) rest us final e (index + 1) (begin + length (segment_unit_bytes fill code payload ++ scan_data_bytes closed last closing)) (headers_kept h after code payload (Some plan) is in_segment unit.1) parts.1 more)
 

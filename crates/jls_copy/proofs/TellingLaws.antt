@@ -7,7 +7,7 @@ use Rattle.jls_marker.specs.Scan.{Scan, intervals}
 use Rattle.jls_marker.specs.declared.fault.MarkerFault.TheVariants as fault
 use Rattle.jls_copy.specs.ScanData.{fill_bytes, ClosedPiece, closed_bytes}
 use Rattle.jls_copy.specs.Numbers.{PieceNumber, Interval, number_behind, given_last}
-use Rattle.jls_copy.specs.Pieces.{FoundPiece, pieces_from, pieces_in, pieces, PieceOutcome, Lines, Fault, AreOutcomes, value_of, records}
+use Rattle.jls_copy.specs.Pieces.{FoundPiece, pieces_from, pieces_in, pieces, PieceOutcome, Lines, Fault, AreOutcomes, value_of, records, piece_begun}
 use Rattle.jls_copy.specs.Course.{CopyUnit, segment, scan, segment_unit_bytes, scan_data_bytes, unit_bytes, dropped_bytes, EndsHere, at_eoi, at_eoi_before_a_frame, at_no_marker, at_unknown_code, at_short_length, at_refused_segment, Ends, for_good, with_the_input, in_a_unit, AreUnits, with_soi, with_another_marker, with_no_marker, with_fill_alone}
 use Rattle.jls_copy.specs.TellingLaws.{StandsAt, PiecesStandAtTheirOffsets, EndStands, eoi, input, eoi_before_a_frame, refused_segment, unknown_marker, no_marker, another_marker, no_marker_first, too_early, EndsStandAtTheirOffsets, AreRecordsOf, of_none, reads, faulty, RecordsAreOfFaultyPieces}
 use Rattle.jls_copy.specs.declared.end.End.{End}
@@ -44,7 +44,7 @@ stands copy front bytes back at b = record { front = front; back = back; copy_is
 pieces_stand : (copy front : List ℕ) (index : ℕ) (s : Scan) (last : ℕ) (number : PieceNumber) (at : ℕ) (closed : List ClosedPiece)
     → (bytes rest : List ℕ)
     → Behind copy front (flat_map closed_bytes closed ++ (bytes ++ rest)) at
-    → AllByRecursion (Stands copy) (pieces_from index s last number at closed bytes)
+    → AllByRecursion (Stands copy) (pieces_from (piece_begun index s number at) last closed bytes)
 pieces_stand copy front index s last number at [] bytes rest b = (stands copy front bytes rest at b, tt)
 pieces_stand copy front index s last number at (c ∷ closed) bytes rest b =
     let next = number_behind (intervals s) last c.mark in
@@ -74,7 +74,7 @@ units_stand copy front h at bytes (scan fill code payload plan closed last closi
     let parted = others copy front bytes (unit_is ++ rest) at whole b in
     let in_data = others copy front _ (head ++ (flat_map closed_bytes closed ++ (last ++ (dropped_bytes closing ++ rest)))) at
     (regrouped head (flat_map closed_bytes closed) last (dropped_bytes closing) rest) parted in
-    both_stand copy (pieces_from index plan 0 (Interval 0) (at + length head) closed last) _
+    both_stand copy (pieces_from (piece_begun index plan (Interval 0) (at + length head)) 0 closed last) _
     (pieces_stand copy (front ++ head) index plan 0 (Interval 0) (at + length head) closed last (dropped_bytes closing ++ rest)
     (behind copy front head _ at in_data))
     (units_stand copy (front ++ unit_is) after (at + length unit_is) rest us final e (index + 1) (behind copy front unit_is rest at parted) more)

@@ -12,7 +12,7 @@ use Rattle.jls_copy.specs.Numbers.{PieceNumber, Interval, BeyondLast, number_beh
 use Rattle.jls_marker.specs.HeaderState.{HeaderState}
 use Rattle.jls_marker.specs.Scan.{Scan, intervals}
 use Rattle.jls_marker.specs.MarkerCodes.{has_segment}
-use Rattle.jls_copy.specs.Pieces.{FoundPiece}
+use Rattle.jls_copy.specs.Pieces.{FoundPiece, piece_begun}
 use Rattle.jls_copy.specs.Course.{by_marker, CopyUnit, scan, segment_unit_bytes, unit_bytes}
 use Rattle.jls_copy.specs.Pieces.{pieces_from}
 use Rattle.jls_copy.specs.ReaderState as state
@@ -72,8 +72,8 @@ alike_more (x ∷ ps) (y ∷ qs) p q h a = (h.0, alike_more ps qs p q h.1 a)
 
 -- one piece more is closed: those before it stay as they are
 pieces_snoc : (index : ℕ) (s : Scan) (given : ℕ) (number : PieceNumber) (at : ℕ) (cs : List ClosedPiece) (c : ClosedPiece) (w : List ℕ)
-    → pieces_from index s given number at (cs ++ c ∷ []) w
-    ≡ pieces_from index s given number at cs c.piece
+    → pieces_from (piece_begun index s number at) given (cs ++ c ∷ []) w
+    ≡ pieces_from (piece_begun index s number at) given cs c.piece
     ++ record { scan = index; plan = s; number = number_behind (intervals s) (given_after (intervals s) given cs) c.mark; offset = at + length (flat_map closed_bytes cs) + length (closed_bytes c); bytes = w } ∷ []
 pieces_snoc index s given number at [] c w = rw add-zero refl
 pieces_snoc index s given number at (x ∷ cs) c w =
@@ -247,7 +247,7 @@ module _ (o : OpenScan) (h : HeaderState) (ps : List FoundPiece) (x : List ℕ) 
   stop_tells payload m count hm ne s c =
       let unit : CopyUnit = scan d.fill d.code d.payload o.plan d.closed d.piece by_marker in
       let y : List ℕ = d.before ++ unit_bytes unit in
-      let alike : AlikePieces (d.here ++ found o ∷ []) (pieces_from d.old.scans o.plan 0 (Interval 0) (length d.before + length (segment_unit_bytes d.fill d.code d.payload)) d.closed d.piece) =
+      let alike : AlikePieces (d.here ++ found o ∷ []) (pieces_from (piece_begun d.old.scans o.plan (Interval 0) (length d.before + length (segment_unit_bytes d.fill d.code d.payload))) 0 d.closed d.piece) =
       subst (AlikePieces (d.here ++ found o ∷ [])) (sym (d.pieces_are d.piece)) (alike_more d.here d.front (found o) _ d.here_alike alike_now) in
       let passed : Passed y h (d.units ++ unit ∷ []) (d.earlier ++ (d.here ++ found o ∷ [])) true =
       passed_scan d.before d.old d.units d.earlier d.behind d.passed d.fill d.code d.payload h y d.known d.size d.follows o.plan d.plan_is d.closed d.piece (d.here ++ found o ∷ []) d.each d.piece_is alike refl in

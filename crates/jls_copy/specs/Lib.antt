@@ -4,7 +4,6 @@ pub mod Course
 pub mod CutLaws
 pub mod CourseLaws
 pub mod IntervalOf
-pub mod IntervalOf
 pub mod Pieces
 pub mod CutPieces
 pub mod ReadCopy

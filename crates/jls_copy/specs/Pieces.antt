@@ -22,19 +22,23 @@ pub record FoundPiece : Type 0 where
 
 -- Where they stand ------------------------------------------------------------------------------------------------
 
--- the pieces of scan data from one on that has this number and this offset, where `last` was given last
-abbrev pub pieces_from : ℕ → Scan → ℕ → PieceNumber → ℕ → List ClosedPiece → List ℕ → List FoundPiece
-pieces_from index plan last number at [] bytes = record { scan = index; plan = plan; number = number; offset = at; bytes = bytes } ∷ []
-pieces_from index plan last number at (c ∷ closed) bytes =
-    let next = number_behind (intervals plan) last c.mark in
-    record { scan = index; plan = plan; number = number; offset = at; bytes = c.piece }
-    ∷ pieces_from index plan (given_last last next) next (at + length (closed_bytes c)) closed bytes
+-- a piece that begins here, and has no byte yet
+abbrev pub piece_begun : ℕ → Scan → PieceNumber → ℕ → FoundPiece
+piece_begun index plan number offset = record { scan = index; plan = plan; number = number; offset = offset; bytes = [] }
+
+-- the pieces of scan data from this one on, which has no byte yet, where `last` was given last
+abbrev pub pieces_from : FoundPiece → ℕ → List ClosedPiece → List ℕ → List FoundPiece
+pieces_from piece last [] bytes = record piece { bytes = bytes } ∷ []
+pieces_from piece last (c ∷ closed) bytes =
+    let next = number_behind (intervals piece.plan) last c.mark in let following = piece.offset + length (closed_bytes c) in
+    record piece { bytes = c.piece }
+    ∷ pieces_from (piece_begun piece.scan piece.plan next following) (given_last last next) closed bytes
 
 -- the pieces of a unit at this offset, where so many scans stand before it
 abbrev pub unit_pieces : ℕ → ℕ → CopyUnit → List FoundPiece
 unit_pieces index at (segment fill code payload) = []
 unit_pieces index at (scan fill code payload plan closed last closing) =
-    pieces_from index plan 0 (Interval 0) (at + length (segment_unit_bytes fill code payload)) closed last
+    pieces_from (piece_begun index plan (Interval 0) (at + length (segment_unit_bytes fill code payload))) 0 closed last
 
 -- how many scans a unit has: none or one
 abbrev pub scans_in : CopyUnit → ℕ

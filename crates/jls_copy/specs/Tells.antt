@@ -9,7 +9,7 @@ use Rattle.jls_marker.specs.HeaderState.{HeaderState, no_headers}
 use Rattle.jls_marker.specs.Scan.{Scan, intervals}
 use Rattle.jls_marker.specs.MarkerCodes.{has_segment}
 use Rattle.jls_marker.specs.Headers.{headers_after}
-use Rattle.jls_copy.specs.Pieces.{FoundPiece}
+use Rattle.jls_copy.specs.Pieces.{FoundPiece, piece_begun}
 use Rattle.jls_copy.specs.Course.{by_marker, CopyUnit, segment, scan, segment_unit_bytes, unit_bytes, EndsHere}
 use Rattle.jls_copy.specs.Pieces.{pieces_from}
 use Rattle.jls_copy.specs.ReaderState.{number_of, bytes_of}
@@ -74,7 +74,7 @@ pub data Passed : List ℕ → HeaderState → List CopyUnit → List FoundPiece
       → (n code : ℕ) (payload : List ℕ) (after : HeaderState) (y : List ℕ) → has_segment code ≡ true → length payload + 2 < 2 ^ 16
       → (behind ≡ true → ends_scan_data code ≡ true) → (s : Scan) → headers_after h code payload ≡ Ok (after, Some s)
       → (closed : List ClosedPiece) (last : List ℕ) (fs : List FoundPiece) → AllByRecursion IsClosedPiece closed → IsPiece last
-      → AlikePieces fs (pieces_from h.scans s 0 (Interval 0) (length x + length (segment_unit_bytes n code payload)) closed last)
+      → AlikePieces fs (pieces_from (piece_begun h.scans s (Interval 0) (length x + length (segment_unit_bytes n code payload))) 0 closed last)
       → y ≡ x ++ unit_bytes (scan n code payload s closed last by_marker)
       → Passed y after (us ++ scan n code payload s closed last by_marker ∷ []) (ps ++ fs) true
 
@@ -93,7 +93,7 @@ pub record AtSegment (marker code : ℕ) (h : HeaderState) (ps : List FoundPiece
 -- the pieces that marks closed, and then the last one with this number at this offset
 abbrev pub ScanPieces : ℕ → Scan → ℕ → List ClosedPiece → List FoundPiece → PieceNumber → ℕ → Type 0
 ScanPieces index s at closed front number offset =
-    (w : List ℕ) → pieces_from index s 0 (Interval 0) at closed w
+    (w : List ℕ) → pieces_from (piece_begun index s (Interval 0) at) 0 closed w
     ≡ front ++ record { scan = index; plan = s; number = number; offset = offset; bytes = w } ∷ []
 
 abbrev pub given_after : ℕ → ℕ → List ClosedPiece → ℕ

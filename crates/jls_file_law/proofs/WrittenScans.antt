@@ -9,7 +9,7 @@ use Rattle.jls_partial.specs.Reading.{Reading}
 use Rattle.jls_marker.specs.Scan.{Scan, intervals}
 use Rattle.jls_copy.specs.ScanData.{ClosedPiece, closed_bytes, IsClosedPiece, IsPiece}
 use Rattle.jls_copy.specs.Numbers.{PieceNumber, Interval, BeyondLast, number_behind, next_number}
-use Rattle.jls_copy.specs.Pieces.{FoundPiece, PieceOutcome, Lines, IsOutcome, readings_of, AreOutcomes, readings, records, pieces_from}
+use Rattle.jls_copy.specs.Pieces.{FoundPiece, PieceOutcome, Lines, IsOutcome, readings_of, AreOutcomes, readings, records, pieces_from, piece_begun}
 use Rattle.jls_picture.specs.Picture.{WholePicture}
 use Rattle.jls_picture.specs.Options.{WriteOptions}
 use Rattle.jls_file.specs.WrittenFile.{interval_lines, interval_code, restart_marker, before_interval, marked_interval, scan_of}
@@ -100,14 +100,14 @@ module _ (pic : WholePicture) (o : WriteOptions) (can : IsWritable pic o) (compo
   piece_gives k at = (k, refl, reads_lines pic o can components inside k, only_lines pic o can components inside k)
 
   pub pieces_give : (k n at : ℕ) → k + n < intervals s
-      → AllByRecursion (GivesLines pic) (pieces_from index s k (Interval k) at (closed_from pic s k n) (last_from pic s k n))
+      → AllByRecursion (GivesLines pic) (pieces_from (piece_begun index s (Interval k) at) k (closed_from pic s k n) (last_from pic s k n))
   pieces_give k zero at h = (piece_gives k at, tt)
   pieces_give k (suc n) at h =
       let e = number_is (intervals s) k (omega (arith, h)) in
       (piece_gives k at, rw e (pieces_give (k + 1) n _ (omega (arith, h))))
 
   pub pieces_lines : (k n at : ℕ) → k + n < intervals s
-      → flat_map (lines_of pic) (pieces_from index s k (Interval k) at (closed_from pic s k n) (last_from pic s k n)) ≡ flat_map (interval_readings pic s) (range_with_len k (suc n))
+      → flat_map (lines_of pic) (pieces_from (piece_begun index s (Interval k) at) k (closed_from pic s k n) (last_from pic s k n)) ≡ flat_map (interval_readings pic s) (range_with_len k (suc n))
   pieces_lines k zero at h = refl
   pieces_lines k (suc n) at h =
       let e = number_is (intervals s) k (omega (arith, h)) in

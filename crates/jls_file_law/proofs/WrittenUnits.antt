@@ -14,7 +14,7 @@ use Rattle.jls_marker.specs.declared.segment.Segment.{Segment}
 use Rattle.jls_marker.proofs.Intervals as marker
 use Rattle.jls_copy.specs.ScanData.{closed_bytes}
 use Rattle.jls_copy.specs.Numbers.{Interval}
-use Rattle.jls_copy.specs.Pieces.{pieces_from, pieces_in}
+use Rattle.jls_copy.specs.Pieces.{pieces_from, pieces_in, piece_begun}
 use Rattle.jls_copy.specs.Course.{CopyUnit, segment, scan, by_marker, segment_unit_bytes, unit_bytes, IsWholeSegment, IsClosing, at_eoi, for_good, AreUnits, with_soi}
 use Rattle.jls_copy.specs.CutPieces.{is_cut, closed_by_input, cut_pieces}
 use Rattle.jls_copy.specs.declared.end.End.{End}
@@ -146,7 +146,7 @@ module _ (pic : WholePicture) (o : WriteOptions) where
   scans_give can (c ∷ scans) are index at =
       let s : Scan = scan_of pic o c in
       let some = some_interval c can.whole.shape.height_at_least in
-      all_append (GivesLines pic) (pieces_from index s 0 (Interval 0) _ (closed_from pic s 0 (intervals s - 1)) (last_from pic s 0 (intervals s - 1))) _
+      all_append (GivesLines pic) (pieces_from (piece_begun index s (Interval 0) _) 0 (closed_from pic s 0 (intervals s - 1)) (last_from pic s 0 (intervals s - 1))) _
       (pieces_give pic o can c are.0.2 index 0 (intervals s - 1) _ (omega (arith, some))) (scans_give can scans are.1 _ _)
 
   scans_lines : (can : IsWritable pic o) (scans : List (List ℕ)) → AllByRecursion (IsScanOf (length pic.shape.ids)) scans → (index at : ℕ)
@@ -156,7 +156,7 @@ module _ (pic : WholePicture) (o : WriteOptions) where
       let s : Scan = scan_of pic o c in
       let some = some_interval c can.whole.shape.height_at_least in
       let all : suc (intervals s - 1) ≡ intervals s = omega (arith, some) in
-      flat_map-append (lines_of pic) (pieces_from index s 0 (Interval 0) _ (closed_from pic s 0 (intervals s - 1)) (last_from pic s 0 (intervals s - 1))) _
+      flat_map-append (lines_of pic) (pieces_from (piece_begun index s (Interval 0) _) 0 (closed_from pic s 0 (intervals s - 1)) (last_from pic s 0 (intervals s - 1))) _
       ∙ ap (λ t. t ++ flat_map (lines_of pic) (pieces_in (index + 1) (at + length (unit_bytes (scan_unit c))) (map scan_unit scans)))
       (pieces_lines pic o can c are.0.2 index 0 (intervals s - 1) _ (omega (arith, some)) ∙ ap (λ n. flat_map (interval_readings pic s) (range_with_len 0 n)) all)
       ∙ ap (λ t. scan_readings pic s ++ t) (scans_lines can scans are.1 _ _)

@@ -10,14 +10,14 @@ use Rattle.jls_copy.specs.ScanData.{ClosedPiece, fill_bytes}
 use Rattle.jls_copy.specs.Numbers.{PieceNumber, Interval}
 use Rattle.jls_copy.specs.Course.{by_input, by_marker, CopyUnit, segment, scan, segment_unit_bytes, scan_data_bytes, unit_bytes, IsUnit, AreUnits, Course, IsCourse, with_soi, with_another_marker, with_no_marker, with_fill_alone}
 use Rattle.jls_copy.specs.CutPieces.{is_cut, closed_by_input, last_piece}
-use Rattle.jls_copy.specs.Pieces.{FoundPiece, pieces_from, unit_pieces, scans_in, pieces_in}
+use Rattle.jls_copy.specs.Pieces.{FoundPiece, pieces_from, unit_pieces, scans_in, pieces_in, piece_begun}
 use Rattle.jls_copy.specs.declared.end.End.{End}
 use Rattle.jls_headline.proofs.Members.{first_or_rest, none_in}
 
 -- The last of pieces -----------------------------------------------------------------------------------------------
 
 some_pieces : (index : ℕ) (s : Scan) (last : ℕ) (number : PieceNumber) (at : ℕ) (closed : List ClosedPiece) (bytes : List ℕ)
-    → (p : FoundPiece) × (ps : List FoundPiece) × (pieces_from index s last number at closed bytes ≡ p ∷ ps)
+    → (p : FoundPiece) × (ps : List FoundPiece) × (pieces_from (piece_begun index s number at) last closed bytes ≡ p ∷ ps)
 some_pieces index s last number at [] bytes = (_, [], refl)
 some_pieces index s last number at (c ∷ closed) bytes = (_, _, refl)
 

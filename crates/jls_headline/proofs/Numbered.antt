@@ -6,7 +6,7 @@ use Rattle.std.proofs.lemmas.Bool.Decides.{nat_tests}
 use Rattle.jls_marker.specs.Scan.{Scan, intervals}
 use Rattle.jls_copy.specs.ScanData.{ClosedPiece, closed_bytes}
 use Rattle.jls_copy.specs.Numbers.{Interval, next_number, number_behind, given_last, RiseByEightAtMost, mark_before}
-use Rattle.jls_copy.specs.Pieces.{FoundPiece, pieces_from}
+use Rattle.jls_copy.specs.Pieces.{FoundPiece, pieces_from, piece_begun}
 use Rattle.jls_copy.specs.CutPieces.{last_piece}
 use Rattle.jls_headline.specs.Damaged.{PiecesAre, last_number}
 use Rattle.jls_headline.specs.Survives.{SomePieceIs}
@@ -31,13 +31,13 @@ found index s at k bytes = record { scan = index; plan = s; number = Interval k;
 -- the first of them, and those behind it
 behind_first : (index at k : ℕ) (s : Scan) (c : ClosedPiece) (closed : List ClosedPiece) (last : List ℕ) (next : ℕ) → k < next
     → next ≤ k + 8 → next < intervals s → c.mark ≡ mark_before next
-    → pieces_from index s k (Interval k) at (c ∷ closed) last ≡ found index s at k c.piece ∷ pieces_from index s next (Interval next) (at + length (closed_bytes c)) closed last
+    → pieces_from (piece_begun index s (Interval k) at) k (c ∷ closed) last ≡ found index s at k c.piece ∷ pieces_from (piece_begun index s (Interval next) (at + length (closed_bytes c))) next closed last
 behind_first index at k s c closed last next above near low e =
-    ap (λ n. found index s at k c.piece ∷ pieces_from index s (given_last k n) n (at + length (closed_bytes c)) closed last) (behind_is (intervals s) k c.mark next above near low e)
+    ap (λ n. found index s at k c.piece ∷ pieces_from (piece_begun index s n (at + length (closed_bytes c))) (given_last k n) closed last) (behind_is (intervals s) k c.mark next above near low e)
 
 come_back : (index at k : ℕ) (s : Scan) (closed : List ClosedPiece) (last numbers : List ℕ)
     → RiseByEightAtMost (intervals s) k numbers → PiecesAre (λ number bytes. Unit {0}) k closed last numbers
-    → map (λ p. p.number) (pieces_from index s k (Interval k) at closed last) ≡ map Interval (k ∷ numbers)
+    → map (λ p. p.number) (pieces_from (piece_begun index s (Interval k) at) k closed last) ≡ map Interval (k ∷ numbers)
 come_back index at k s [] last [] r p = refl
 come_back index at k s [] last (next ∷ numbers) r p = absurd p
 come_back index at k s (c ∷ closed) last [] r p = absurd p
@@ -51,7 +51,7 @@ numbers_come_back index at s closed last numbers r p = come_back index at 0 s cl
 -- what holds of the bytes of each piece under its number holds of each piece that is found
 module _ (P : ℕ → List ℕ → Type 0) (Q : FoundPiece → Type 0) (s : Scan) (index : ℕ) (of : (at k : ℕ) (bytes : List ℕ) → P k bytes → Q (found index s at k bytes)) where
   pub each_found : (at k : ℕ) (closed : List ClosedPiece) (last numbers : List ℕ) → RiseByEightAtMost (intervals s) k numbers
-      → PiecesAre P k closed last numbers → AllByRecursion Q (pieces_from index s k (Interval k) at closed last)
+      → PiecesAre P k closed last numbers → AllByRecursion Q (pieces_from (piece_begun index s (Interval k) at) k closed last)
   each_found at k [] last [] r p = (of at k last p, tt)
   each_found at k [] last (next ∷ numbers) r p = absurd p
   each_found at k (c ∷ closed) last [] r p = absurd p
@@ -62,7 +62,7 @@ module _ (P : ℕ → List ℕ → Type 0) (Q : FoundPiece → Type 0) (s : Scan
   -- and what holds of the last piece
   pub last_found : (at k : ℕ) (closed : List ClosedPiece) (last numbers : List ℕ) → RiseByEightAtMost (intervals s) k numbers
       → PiecesAre (λ number bytes. Unit {0}) k closed last numbers → P (last_number k numbers) last
-      → AllByRecursion Q (last_piece (pieces_from index s k (Interval k) at closed last))
+      → AllByRecursion Q (last_piece (pieces_from (piece_begun index s (Interval k) at) k closed last))
   last_found at k [] last [] r p h = (of at k last h, tt)
   last_found at k [] last (next ∷ numbers) r p h = absurd p
   last_found at k (c ∷ closed) last [] r p h = absurd p
@@ -77,7 +77,7 @@ module _ (P : ℕ → List ℕ → Type 0) (Q : FoundPiece → Type 0) (s : Scan
 pub some_found : (P : ℕ → List ℕ → Type 0) (s : Scan) (index : ℕ) (closed : List ClosedPiece) (at k : ℕ) (last numbers : List ℕ)
     → RiseByEightAtMost (intervals s) k numbers
     → PiecesAre (λ number bytes. Unit {0}) k closed last numbers → SomePieceIs P k closed last numbers
-    → (offset : ℕ) × (number : ℕ) × (bytes : List ℕ) × Contains (pieces_from index s k (Interval k) at closed last) (found index s offset number bytes) × P number bytes
+    → (offset : ℕ) × (number : ℕ) × (bytes : List ℕ) × Contains (pieces_from (piece_begun index s (Interval k) at) k closed last) (found index s offset number bytes) × P number bytes
 some_found P s index [] at k last [] r p h = (at, k, last, is_first (found index s at k last) [], h)
 some_found P s index [] at k last (next ∷ numbers) r p h = absurd p
 some_found P s index (c ∷ closed) at k last [] r p h = absurd p
@@ -88,7 +88,7 @@ some_found P s index (c ∷ closed) at k last (next ∷ numbers) r p (inr h) =
       later.1,
       later.2,
       subst (λ ps. Contains ps (found index s later.0 later.1 later.2)) (sym (behind_first index at k s c closed last next r.0 r.1 r.2 p.1))
-          (in_rest (found index s later.0 later.1 later.2) (found index s at k c.piece) (pieces_from index s next (Interval next) (at + length (closed_bytes c)) closed last) later.3),
+          (in_rest (found index s later.0 later.1 later.2) (found index s at k c.piece) (pieces_from (piece_begun index s (Interval next) (at + length (closed_bytes c))) next closed last) later.3),
       later.4,
     )
 
@@ -96,7 +96,7 @@ some_found P s index (c ∷ closed) at k last (next ∷ numbers) r p (inr h) =
 pub last_is_found : (s : Scan) (index : ℕ) (closed : List ClosedPiece) (at k : ℕ) (last numbers : List ℕ)
     → RiseByEightAtMost (intervals s) k numbers
     → PiecesAre (λ number bytes. Unit {0}) k closed last numbers
-    → (offset : ℕ) × Contains (last_piece (pieces_from index s k (Interval k) at closed last)) (found index s offset (last_number k numbers) last)
+    → (offset : ℕ) × Contains (last_piece (pieces_from (piece_begun index s (Interval k) at) k closed last)) (found index s offset (last_number k numbers) last)
 last_is_found s index [] at k last [] r p = (at, is_first (found index s at k last) [])
 last_is_found s index [] at k last (next ∷ numbers) r p = absurd p
 last_is_found s index (c ∷ closed) at k last [] r p = absurd p

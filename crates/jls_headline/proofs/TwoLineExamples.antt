@@ -30,7 +30,7 @@ use Rattle.jls_marker.specs.Scan.{Scan}
 use Rattle.jls_copy.specs.ScanData.{ClosedPiece}
 use Rattle.jls_copy.specs.Numbers.{Interval, mark_before}
 use Rattle.jls_copy.specs.Course.{by_marker, CopyUnit, segment, scan, Course, IsCourse, with_soi, at_eoi, for_good}
-use Rattle.jls_copy.specs.Pieces.{pieces_from}
+use Rattle.jls_copy.specs.Pieces.{pieces_from, piece_begun}
 use Rattle.jls_copy.specs.declared.end.End.TheVariants.{Eoi}
 use Rattle.jls_copy.specs.CopyReads.{CopyReads}
 use Rattle.jls_copy.specs.ReadCopy.{ReadCopy}
@@ -387,5 +387,5 @@ another_is_not_of_it is = (let e = ap (λ xs. get_or xs 0 0) is.2 in omega (arit
 abbrev ten_lines : Scan
 ten_lines = record { components = 0 ∷ []; params = bits_8; width = 1; height = 10; restart_interval = 1 }
 
-eight_marks_lost : map (λ p. p.number) (pieces_from 0 ten_lines 0 (Interval 0) 0 (record { piece = []; fill = 0; mark = mark_before 9 } ∷ []) []) ≡ Interval 0 ∷ Interval 1 ∷ []
+eight_marks_lost : map (λ p. p.number) (pieces_from (piece_begun 0 ten_lines (Interval 0) 0) 0 (record { piece = []; fill = 0; mark = mark_before 9 } ∷ []) []) ≡ Interval 0 ∷ Interval 1 ∷ []
 eight_marks_lost = refl

@@ -8,7 +8,7 @@ use Rattle.jls_bits.specs.Bits.{bits_read}
 use Rattle.jls_copy.specs.ScanData.{ClosedPiece}
 use Rattle.jls_copy.specs.Numbers.{Interval, RiseByEightAtMost}
 use Rattle.jls_copy.specs.Course.{Course}
-use Rattle.jls_copy.specs.Pieces.{FoundPiece, pieces_from, pieces}
+use Rattle.jls_copy.specs.Pieces.{FoundPiece, pieces_from, pieces, piece_begun}
 use Rattle.jls_picture.specs.Picture.{WholePicture}
 use Rattle.jls_file.specs.WrittenFile.{interval_lines}
 use Rattle.jls_file_law.specs.Covering.{IsLineOf}
@@ -27,7 +27,7 @@ abbrev pub NumbersComeBack : Type 0
 NumbersComeBack =
     (index at : ℕ) (s : Scan) (closed : List ClosedPiece) (last numbers : List ℕ)
     → RiseByEightAtMost (intervals s) 0 numbers → PiecesAre (λ k bytes. Unit {0}) 0 closed last numbers
-    → map (λ p. p.number) (pieces_from index s 0 (Interval 0) at closed last) ≡ map Interval (0 ∷ numbers)
+    → map (λ p. p.number) (pieces_from (piece_begun index s (Interval 0) at) 0 closed last) ≡ map Interval (0 ∷ numbers)
 
 -- Readings -----------------------------------------------------------------------------------------------------
 

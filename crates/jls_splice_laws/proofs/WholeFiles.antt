@@ -12,7 +12,7 @@ use Rattle.jls_marker.specs.Scan.{Scan, IsScan, intervals, row_count}
 use Rattle.jls_copy.specs.ScanData.{ClosedPiece, IsClosedPiece, closed_bytes}
 use Rattle.jls_copy.specs.Numbers.{PieceNumber, Interval, BeyondLast, next_number, number_behind, given_last, RiseByEightAtMost, mark_before}
 use Rattle.jls_copy.specs.Course.{CopyUnit, segment, scan, segment_unit_bytes, unit_bytes, IsUnit, AreUnits, Course, IsCourse, with_soi, with_another_marker, with_no_marker, with_fill_alone}
-use Rattle.jls_copy.specs.Pieces.{FoundPiece, Lines, IsOutcomeAt, outcome_readings, pieces_from, unit_pieces, scans_in, pieces_in, pieces}
+use Rattle.jls_copy.specs.Pieces.{FoundPiece, Lines, IsOutcomeAt, outcome_readings, pieces_from, unit_pieces, scans_in, pieces_in, pieces, piece_begun}
 use Rattle.jls_copy.specs.CutPieces.{closed_by_input, last_piece, IsHeadAt}
 use Rattle.jls_copy.specs.declared.end.End.{End}
 use Rattle.jls_copy.proofs.OneCourse.{one_course}
@@ -61,7 +61,7 @@ module _ (pic : WholePicture) (r : Reading) where
     pub of_picture : (q : Reading) → PieceGives p q → IsLineOf pic q
 
   beyond_is_faulty : (index : ℕ) (s : Scan) (last k at : ℕ) (closed : List ClosedPiece) (bytes : List ℕ)
-      → AllByRecursion IsSound (pieces_from index s last (BeyondLast k) at closed bytes) → ⊥
+      → AllByRecursion IsSound (pieces_from (piece_begun index s (BeyondLast k) at) last closed bytes) → ⊥
   beyond_is_faulty index s last k at [] bytes h = h.0.lines.1
   beyond_is_faulty index s last k at (c ∷ closed) bytes h = h.0.lines.1
 
@@ -81,11 +81,11 @@ module _ (pic : WholePicture) (r : Reading) where
     pub numbers : List ℕ
     pub rise : RiseByEightAtMost (intervals s) k numbers
     pub marks : PiecesAre (λ number bytes. Unit {0}) k closed last numbers
-    pub there : (p : FoundPiece) → Contains (pieces_from index s k (Interval k) at closed last) p → PieceGives p r
+    pub there : (p : FoundPiece) → Contains (pieces_from (piece_begun index s (Interval k) at) k closed last) p → PieceGives p r
         → SomePieceIs (ReadsWithLine pic s r.component r.line) k closed last numbers
 
   abbrev behind : ℕ → Scan → ℕ → ℕ → ClosedPiece → List ClosedPiece → List ℕ → PieceNumber → List FoundPiece
-  behind index s k at c closed last n = pieces_from index s (given_last k n) n (at + length (closed_bytes c)) closed last
+  behind index s k at c closed last n = pieces_from (piece_begun index s n (at + length (closed_bytes c))) (given_last k n) closed last
 
   goes_on : (index : ℕ) (s : Scan) (k at : ℕ) (c : ClosedPiece) (closed : List ClosedPiece) (last : List ℕ) → c.mark < 8
       → IsSound (found index s at k c.piece) → next_number k c.mark < intervals s
@@ -104,7 +104,7 @@ module _ (pic : WholePicture) (r : Reading) where
   }
 
   numbers_of : (index : ℕ) (s : Scan) (k at : ℕ) (closed : List ClosedPiece) (last : List ℕ) → AllByRecursion IsClosedPiece closed
-      → AllByRecursion IsSound (pieces_from index s k (Interval k) at closed last) → Numbered index s k at closed last
+      → AllByRecursion IsSound (pieces_from (piece_begun index s (Interval k) at) k closed last) → Numbered index s k at closed last
   numbers_of index s k at [] last are h = record {
     numbers = [];
     rise = tt;
