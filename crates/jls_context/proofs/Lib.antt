@@ -1,3 +1,4 @@
+pub mod BiasSteps
 pub mod Contexts
 mod ErrorExamples
 mod ExampleScans

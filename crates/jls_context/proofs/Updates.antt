@@ -1,11 +1,13 @@
 -- What an error changes in a cell.
-use Rattle.std.proofs.Common.{◌≡◌, ℕ, ◌+◌, ◌/◌, refl, Bool, true, false, eqb, subst}
+use Rattle.std.proofs.Common.{◌≡◌, ℕ, ◌+◌, ◌/◌, refl, Bool, true, false, eqb, subst, ap, ◌∙◌}
 use Rattle.std.specs.Prelude.{T, ℤ, pos, negsuc, neg_ℤ, ◌+ℤ◌, ◌-ℤ◌, ◌<ℤ◌, ◌≤ℤ◌, int_lt, int_le, unsigned_abs}
 use Rattle.std.specs.Int.{int_div_euclid, int_max, int_min}
 use Rattle.std.specs.Int.Signed.{le_z_yes, lt_z_yes, clash_ℤ}
 use Rattle.std.proofs.lemmas.Bool.{eq-eqb, ne_eqb}
 use Rattle.jls_context.specs.declared.regular.Cell.{Cell}
-use Rattle.jls_context.specs.Regular.{computed_bias, computed_correction, bias_computed, updated}
+use Rattle.jls_context.specs.BiasSteps.{computed_bias, computed_correction}
+use Rattle.jls_context.specs.Regular.{with_error, halved, counted, bias_computed, updated}
+use Rattle.jls_context.proofs.BiasSteps.{cell_is}
 
 holds : (b : Bool) → T b → b ≡ true
 holds true h = refl
@@ -44,7 +46,8 @@ pub updated-grown : (reset : ℕ) (cell : Cell) (e : ℤ) (grown : Cell) → (ce
     → bias_computed grown ≡ updated reset cell e
 unfolding updated
 updated-grown reset cell e grown other m n b c =
-    let test : eqb cell.occurrences reset ≡ false = ne_eqb cell.occurrences reset other in rw (test, m, n, b, c) refl
+    let test : eqb cell.occurrences reset ≡ false = ne_eqb cell.occurrences reset other in
+    ap bias_computed (cell_is grown (counted (with_error cell e)) m n b c) ∙ rw test refl
 
 -- at RESET
 pub updated-aged : (reset : ℕ) (cell : Cell) (e : ℤ) (aged : Cell) → cell.occurrences ≡ reset
@@ -52,4 +55,5 @@ pub updated-aged : (reset : ℕ) (cell : Cell) (e : ℤ) (aged : Cell) → cell.
     → bias_computed aged ≡ updated reset cell e
 unfolding updated
 updated-aged reset cell e aged same m n b c =
-    let test : eqb cell.occurrences reset ≡ true = eq-eqb cell.occurrences reset same in rw (test, m, n, b, c) refl
+    let test : eqb cell.occurrences reset ≡ true = eq-eqb cell.occurrences reset same in
+    ap bias_computed (cell_is aged (counted (halved (with_error cell e))) m n b c) ∙ rw test refl

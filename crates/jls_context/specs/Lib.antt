@@ -1,3 +1,4 @@
+pub mod BiasSteps
 pub mod Bounds
 pub mod Errors
 pub mod Interruption

@@ -51,27 +51,14 @@ halved cell =
 abbrev pub counted : Cell → Cell
 counted cell = record cell { occurrences = cell.occurrences + 1 }
 
--- B brought into -N < B <= 0: N is added to a B of at most -N, and taken from a B above 0; what is still outside becomes the
--- bound that is nearer (A.6.2)
-abbrev pub computed_bias : ℕ → ℤ → ℤ
-computed_bias n b =
-    if int_le b (neg_ℤ (pos n)) then int_max (b +ℤ pos n) (pos 1 -ℤ pos n)
-    else if int_lt (pos 0) b then int_min (b -ℤ pos n) (pos 0)
-    else b
-
--- C one lower where B was below that range and one higher where it was above, but kept from -128 to 127 (A.6.2)
-abbrev pub computed_correction : ℕ → ℤ → ℤ → ℤ
-computed_correction n b c =
-    if int_le b (neg_ℤ (pos n)) then int_max (c -ℤ pos 1) (negsuc 127)
-    else if int_lt (pos 0) b then int_min (c +ℤ pos 1) (pos 127)
-    else c
-
--- the bias computation (A.6.2)
+-- the bias computation (A.6.2). B is brought into -N < B <= 0, by one N, and to the nearer bound if it is still outside. C falls by
+-- one if B was too low and rises by one if B was too high, but stays from -128 to 127
 abbrev pub bias_computed : Cell → Cell
-bias_computed cell = record cell {
-  bias = computed_bias cell.occurrences cell.bias;
-  correction = computed_correction cell.occurrences cell.bias cell.correction;
-}
+bias_computed cell =
+    let n = pos cell.occurrences in let b = cell.bias in let c = cell.correction in
+    if int_le b (neg_ℤ n) then record cell { bias = int_max (b +ℤ n) (pos 1 -ℤ n); correction = int_max (c -ℤ pos 1) (negsuc 127) }
+    else if int_lt (pos 0) b then record cell { bias = int_min (b -ℤ n) (pos 0); correction = int_min (c +ℤ pos 1) (pos 127) }
+    else cell
 
 -- a cell after an error (A.6)
 unfoldable pub updated : ℕ → Cell → ℤ → Cell

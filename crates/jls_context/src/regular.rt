@@ -2,7 +2,8 @@
 
 ghost use Rattle.std.specs.Prelude.{◌≡◌, ℕ, ◌+◌, ◌*◌, ◌^◌, ◌<◌, ◌≤◌, pos, negsuc, neg_ℤ, ◌≤ℤ◌, ◌<ℤ◌};
 ghost use Rattle.jls_values.specs.Params.{AreCodingParameters};
-ghost use Rattle.jls_context.specs.Regular.{initial_cell, regular_k, updated, bias_computed, IsGolombK};
+ghost use Rattle.jls_context.specs.BiasSteps;
+ghost use Rattle.jls_context.specs.Regular.{initial_cell, regular_k, updated, IsGolombK};
 ghost use Rattle.jls_context.specs.Bounds.{IsCell};
 
 use crate::golomb::{golomb_k, is_zero_k};
@@ -36,7 +37,7 @@ fn computed_bias(occurrences: u32, bias: i32) -> i32
     requires few { occurrences ≤ 2 ^ 16 }
     requires bias_at_least { negsuc (2 ^ 18) ≤ℤ bias }
     requires bias_at_most { bias ≤ℤ pos (2 ^ 18) }
-    ensures value { result ≡ Rattle.jls_context.specs.Regular.computed_bias occurrences bias }
+    ensures value { result ≡ BiasSteps.computed_bias occurrences bias }
     ensures above { neg_ℤ (pos occurrences) <ℤ result }
     ensures at_most { result ≤ℤ pos 0 }
 {
@@ -52,7 +53,7 @@ fn computed_correction(occurrences: u32, bias: i32, correction: i32) -> i32
     requires few { occurrences ≤ 2 ^ 16 }
     requires correction_at_least { negsuc 127 ≤ℤ correction }
     requires correction_at_most { correction ≤ℤ pos 127 }
-    ensures value { result ≡ Rattle.jls_context.specs.Regular.computed_correction occurrences bias correction }
+    ensures value { result ≡ BiasSteps.computed_correction occurrences bias correction }
     ensures at_least { negsuc 127 ≤ℤ result }
     ensures at_most { result ≤ℤ pos 127 }
 {
@@ -107,7 +108,10 @@ impl Cell {
         requires bias_at_most { self.bias ≤ℤ pos (2 ^ 18) }
         requires correction_at_least { negsuc 127 ≤ℤ self.correction }
         requires correction_at_most { self.correction ≤ℤ pos 127 }
-        ensures value { result ≡ bias_computed self }
+        ensures value { result ≡ record self {
+          bias = BiasSteps.computed_bias self.occurrences self.bias;
+          correction = BiasSteps.computed_correction self.occurrences self.bias self.correction;
+        } }
         ensures cell { (reset : ℕ) → self.occurrences ≤ reset → self.magnitudes ≤ 2 ^ 15 * (self.occurrences + 1) → IsCell reset result }
     {
         Cell {

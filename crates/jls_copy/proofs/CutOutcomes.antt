@@ -11,7 +11,7 @@ use Rattle.jls_interval.specs.Lines.{AreLines, interval_shape}
 use Rattle.jls_interval.specs.Reads.{Reads}
 use Rattle.jls_interval.specs.Heads.{IsHeadOfPiece}
 use Rattle.jls_interval.specs.CutEnds.{CutEndIs}
-use Rattle.jls_interval.specs.IntervalBytes.{IntervalBytes}
+use Rattle.jls_interval.specs.IntervalBytes.{IntervalBytes, interval_asked}
 use Rattle.jls_interval.specs.declared.cut_end.CutEnd.{CutEnd}
 use Rattle.jls_interval.specs.declared.cut_end.CutEnd.TheVariants.{Whole, Head}
 use Rattle.jls_interval.specs.declared.decode_piece.PieceFault.{PieceFault}
@@ -32,7 +32,7 @@ use Rattle.jls_copy.proofs.Outcomes.{decoding_with, decoding_is}
 
 -- what `finish_cut` says of a decoder
 abbrev pub CutFinishes : IntervalBytes → CutEnd → Type 0
-CutFinishes d end = IfSome d.bytes (λ bytes. CutEndIs (interval_shape d.parameters d.width d.components (d.rows * d.components)) bytes end)
+CutFinishes d end = IfSome d.bytes (λ bytes. CutEndIs (interval_asked d) bytes end)
 
 abbrev items : Vec (Vec ℕ Global) Global → List (List ℕ)
 items lines = map (λ line. line.items) lines.items

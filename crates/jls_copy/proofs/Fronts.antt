@@ -10,6 +10,7 @@ use Rattle.jls_bits.specs.Bits.{is_whole}
 use Rattle.jls_interval.specs.Reads.{ReadsNoMore}
 use Rattle.jls_interval.proofs.NoMore.{unwhole_reads_no_more}
 use Rattle.jls_interval.specs.Lines.{interval_shape}
+use Rattle.jls_interval.specs.IntervalBytes.{interval_asked}
 use Rattle.jls_marker.specs.HeaderState.{HeaderState}
 use Rattle.jls_marker.specs.Scan.{Scan, row_count}
 use Rattle.jls_copy.specs.Numbers.{PieceNumber, Interval, BeyondLast}
@@ -109,8 +110,8 @@ some_bytes o bytes P e h = subst (λ z. IfSome z P) e h
 
 never_open : (s : Scan) (piece : OpenPiece) → IsOpenPiece s piece → OpenReadsNoMore piece → NeverReads s (number_of piece) (bytes_of piece)
 never_open s (Within k d) is h =
-    let a : ReadsNoMore (interval_shape d.parameters d.width d.components (d.rows * d.components)) is.bytes =
-    some_bytes d.bytes is.bytes (λ bytes. ReadsNoMore (interval_shape d.parameters d.width d.components (d.rows * d.components)) bytes) is.bytes_are h in
+    let a : ReadsNoMore (interval_asked d) is.bytes =
+    some_bytes d.bytes is.bytes (λ bytes. ReadsNoMore (interval_asked d) bytes) is.bytes_are h in
     let b = subst (λ p. ReadsNoMore (interval_shape p d.width d.components (d.rows * d.components)) is.bytes) is.parameters_are a in
     let e = subst (λ w. ReadsNoMore (interval_shape s.params w d.components (d.rows * d.components)) is.bytes) is.width_is b in
     let f = subst (λ n. ReadsNoMore (interval_shape s.params s.width n (d.rows * n)) is.bytes) is.components_are e in

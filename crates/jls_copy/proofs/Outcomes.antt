@@ -10,8 +10,7 @@ use Rattle.jls_interval.specs.PieceFaults.{OutcomeIs}
 use Rattle.jls_interval.specs.declared.decode_piece.PieceFault.{PieceFault}
 use Rattle.jls_interval.specs.declared.decode_piece.PieceFault.TheVariants as piece_fault
 use Rattle.jls_marker.specs.Scan.{Scan, row_count, first_row}
-use Rattle.jls_interval.specs.IntervalBytes.{IntervalBytes}
-use Rattle.jls_interval.specs.Lines.{interval_shape}
+use Rattle.jls_interval.specs.IntervalBytes.{IntervalBytes, interval_asked}
 use Rattle.jls_copy.specs.Pieces.{placed, Lines, Fault}
 use Rattle.jls_copy.specs.Findings.{Adds, with_readings, picture_of, kept_with}
 use Rattle.jls_copy.specs.ReaderState.{piece_found, piece_with, scan_with}
@@ -41,7 +40,7 @@ decoding_is s k d i = same_decoding d s.params s.width (length s.components) (ro
 
 -- what `finish` says of a decoder
 abbrev pub Finishes : IntervalBytes → Result (Vec (Vec ℕ Global) Global) PieceFault → Type 0
-Finishes d r = MatchOption d.bytes (r ≡ Err piece_fault.OutOfMemory) (λ bytes. OutcomeIs (interval_shape d.parameters d.width d.components (d.rows * d.components)) bytes r)
+Finishes d r = MatchOption d.bytes (r ≡ Err piece_fault.OutOfMemory) (λ bytes. OutcomeIs (interval_asked d) bytes r)
 
 module _ (shape : PictureShape) (index : ℕ) (s : Scan) (offset k : ℕ) (old new : Findings) where
   pub beyond_adds : (piece : OpenPiece) → piece ≡ Beyond k → new.partial ≡ old.partial

@@ -2,7 +2,7 @@
 use Rattle.std.specs.Prelude.{◌≡◌, ℕ, ◌*◌, ◌<◌, List, ◌++◌, IfSome}
 use Rattle.std.specs.List.{AllByRecursion, Contains}
 use Rattle.jls_interval.specs.Reads.{ReadsNoMore}
-use Rattle.jls_interval.specs.Lines.{interval_shape}
+use Rattle.jls_interval.specs.IntervalBytes.{interval_asked}
 use Rattle.jls_marker.specs.Scan.{Scan}
 use Rattle.jls_copy.specs.Numbers.{PieceNumber}
 use Rattle.jls_copy.specs.Course.{Course, IsCourse}
@@ -35,7 +35,7 @@ FrontsStayBroken =
 
 -- Inside the crate. An open piece reads as no lines, whatever follows
 abbrev pub OpenReadsNoMore : OpenPiece → Type 0
-OpenReadsNoMore (Within k d) = IfSome d.bytes (λ bytes. ReadsNoMore (interval_shape d.parameters d.width d.components (d.rows * d.components)) bytes)
+OpenReadsNoMore (Within k d) = IfSome d.bytes (λ bytes. ReadsNoMore (interval_asked d) bytes)
 OpenReadsNoMore (Beyond k) = Unit {0}
 
 abbrev pub PlaceReadsNoMore : Place → Type 0

@@ -5,7 +5,7 @@ ghost use Rattle.jls_interval.specs.Reads.{ReadsNoMore};
 ghost use Rattle.jls_interval.specs.PieceFaults.{OutcomeIs};
 ghost use Rattle.jls_interval.specs.CutEnds.{CutEndIs};
 ghost use Rattle.jls_interval.specs.declared.decode_piece.PieceFault.TheVariants as PieceFault;
-ghost use Rattle.jls_interval.specs.Lines.{interval_shape};
+ghost use Rattle.jls_interval.specs.IntervalBytes.{interval_asked};
 ghost use Rattle.jls_copy.specs.PieceDecoder.{untold};
 ghost use Rattle.jls_copy.specs.ReaderState.{with_bytes};
 
@@ -116,7 +116,7 @@ impl PieceDecoder {
     /// Whether the piece is faulty whatever bytes follow. `false` says nothing.
     pub(crate) fn reads_no_more(&self) -> bool
         ensures { result ≡ true → IfSome self.now.bytes
-            (λ bytes. ReadsNoMore (interval_shape self.now.parameters self.now.width self.now.components (self.now.rows * self.now.components)) bytes) }
+            (λ bytes. ReadsNoMore (interval_asked self.now) bytes) }
     {
         match &self.made {
             Some(decoder) => decoder.reads_no_more(),
@@ -127,7 +127,7 @@ impl PieceDecoder {
     /// The lines of the piece, or why it has none.
     pub(crate) fn finish(self) -> Result<Vec<Vec<u16>>, PieceFault>
         ensures outcome { MatchOption self.bytes (result ≡ Err PieceFault.OutOfMemory)
-            (λ bytes. OutcomeIs (interval_shape self.parameters self.width self.components (self.rows * self.components)) bytes result) }
+            (λ bytes. OutcomeIs (interval_asked self) bytes result) }
     {
         match self.made {
             Some(decoder) => Box::into_inner(decoder).finish(),
@@ -139,7 +139,7 @@ impl PieceDecoder {
     pub(crate) fn finish_cut(self) -> Result<CutEnd, AllocError>
         ensures refused { IfNone self.bytes (IsErr result) }
         ensures cut_end { IfSome self.bytes (λ bytes. MatchResult result
-            (λ end. CutEndIs (interval_shape self.parameters self.width self.components (self.rows * self.components)) bytes end) (λ _. ⊥)) }
+            (λ end. CutEndIs (interval_asked self) bytes end) (λ _. ⊥)) }
     {
         match self.made {
             Some(decoder) => Box::into_inner(decoder).finish_cut(),

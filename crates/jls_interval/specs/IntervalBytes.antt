@@ -3,6 +3,7 @@ use Rattle.std.specs.Prelude.{◌≡◌, ℕ, ◌*◌, ◌<◌, ◌≤◌, ◌^�
 use Rattle.std.specs.List.{AllByRecursion}
 use Rattle.jls_values.specs.Params.{CodingParameters, AreCodingParameters}
 use Rattle.jls_bits.specs.Bits.{bits_read, is_whole}
+use Rattle.jls_interval.specs.Lines.{IntervalShape, interval_shape}
 use Rattle.jls_interval.specs.Decoding.{IsReading, HaveWidth}
 use Rattle.jls_interval.specs.declared.interval_reader.IntervalReader.{IntervalReader}
 
@@ -13,6 +14,10 @@ pub record IntervalBytes : Type 0 where
   pub components : ℕ
   pub rows : ℕ
   pub bytes : Option (List ℕ)
+
+-- the shape of that interval: in each row a line of each component
+abbrev pub interval_asked : IntervalBytes → IntervalShape
+interval_asked d = interval_shape d.parameters d.width d.components (d.rows * d.components)
 
 -- the bytes, where memory was refused or not
 abbrev pub bytes_of : Bool → List ℕ → Option (List ℕ)

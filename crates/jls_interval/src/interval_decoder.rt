@@ -5,12 +5,11 @@ ghost use Rattle.std.specs.Option.{option_map};
 ghost use Rattle.jls_bits.specs.Bits.{bits_read, is_whole};
 ghost use Rattle.std.specs.List.{AllByRecursion};
 ghost use Rattle.jls_values.specs.Params.{AreCodingParameters, CodingParameters};
-ghost use Rattle.jls_interval.specs.Lines.{interval_shape};
 ghost use Rattle.jls_interval.specs.Reads.{Reads, ReadsNoMore};
 ghost use Rattle.jls_interval.specs.PieceFaults.{OutcomeIs};
 ghost use Rattle.jls_interval.specs.CutEnds.{CutEndIs};
 ghost use Rattle.jls_interval.specs.Decoding.{GivesBack, HasShape, IsReading};
-ghost use Rattle.jls_interval.specs.IntervalBytes.{IsReadingOf, ReadsBefore, HasLengths};
+ghost use Rattle.jls_interval.specs.IntervalBytes.{IsReadingOf, ReadsBefore, HasLengths, interval_asked};
 
 use crate::coder::Coder;
 use crate::cut_end::CutEnd;
@@ -239,7 +238,7 @@ impl IntervalDecoder {
     /// Whether the bytes so far are known to read as no lines, whatever follows. `false` says nothing. No memory is taken.
     pub fn reads_no_more(&self) -> bool
         ensures { result ≡ true → IfSome self.now.bytes
-            (λ bytes. ReadsNoMore (interval_shape self.now.parameters self.now.width self.now.components (self.now.rows * self.now.components)) bytes) }
+            (λ bytes. ReadsNoMore (interval_asked self.now) bytes) }
     {
         if self.refused {
             return false;
@@ -259,7 +258,7 @@ impl IntervalDecoder {
         ensures in_range { AreCodingParameters self.parameters }
         ensures width { 0 < self.width }
         ensures outcome { MatchOption self.bytes (result ≡ Err PieceFault.OutOfMemory)
-            (λ bytes. OutcomeIs (interval_shape self.parameters self.width self.components (self.rows * self.components)) bytes result) }
+            (λ bytes. OutcomeIs (interval_asked self) bytes result) }
     {
         if self.refused {
             return Err(PieceFault::OutOfMemory);
@@ -287,9 +286,9 @@ impl IntervalDecoder {
     /// this profile's choice. A byte of 0x80 or more after 0xFF makes the piece broken, wherever it is (ITU-T T.87, A.1).
     pub fn finish(self) -> Result<Vec<Vec<u16>>, PieceFault>
         ensures outcome { MatchOption self.bytes (result ≡ Err PieceFault.OutOfMemory)
-            (λ bytes. OutcomeIs (interval_shape self.parameters self.width self.components (self.rows * self.components)) bytes result) }
+            (λ bytes. OutcomeIs (interval_asked self) bytes result) }
         ensures read { IfSome self.bytes (λ bytes. (lines : List (List ℕ))
-            → Reads (interval_shape self.parameters self.width self.components (self.rows * self.components)) bytes lines → MatchResult result (λ v. map
+            → Reads (interval_asked self) bytes lines → MatchResult result (λ v. map
             (λ v. v.items) v.items ≡ lines) (λ fault. ⊥)) }
     {
         self.outcome()
@@ -301,7 +300,7 @@ impl IntervalDecoder {
     pub fn finish_cut(self) -> Result<CutEnd, AllocError>
         ensures refused { IfNone self.bytes (IsErr result) }
         ensures cut_end { IfSome self.bytes (λ bytes. MatchResult result
-            (λ end. CutEndIs (interval_shape self.parameters self.width self.components (self.rows * self.components)) bytes end) (λ _. ⊥)) }
+            (λ end. CutEndIs (interval_asked self) bytes end) (λ _. ⊥)) }
     {
         if self.refused {
             return Err(AllocError);

@@ -5,7 +5,7 @@ use Rattle.jls_bits.specs.Bits.{bits_read}
 use Rattle.jls_interval.specs.Lines.{interval_shape}
 use Rattle.jls_interval.specs.CutEnds.{CutEndIs}
 use Rattle.jls_interval.specs.Decoding.{IsWorking, IsOver, IsDead, StateIs}
-use Rattle.jls_interval.specs.IntervalBytes.{IntervalBytes, bytes_of}
+use Rattle.jls_interval.specs.IntervalBytes.{IntervalBytes, bytes_of, interval_asked}
 use Rattle.jls_interval.specs.declared.cut_end.CutEnd.{CutEnd}
 use Rattle.jls_interval.specs.declared.cut_end.CutEnd.TheVariants.{Head}
 use Rattle.jls_interval.specs.declared.decode_piece.PieceFault.TheVariants.{Long, Broken}
@@ -17,11 +17,11 @@ use Rattle.jls_interval.proofs.interval_decoder.IntervalDecoder.finish_cut.Goals
 -- what is seen of the bytes, where no push was refused
 seen : (v : IntervalBytes) (refused : Bool) (q : CodingParameters) (w n rows count : ℕ) (bytes : List ℕ) (end : CutEnd) → refused ≡ false
     → record { parameters = q; width = w; components = n; rows = rows; bytes = bytes_of refused bytes } ≡ v → count ≡ rows * n
-    → CutEndIs (interval_shape q w n count) bytes end → IfSome v.bytes (λ bytes. CutEndIs (interval_shape v.parameters v.width v.components (v.rows * v.components)) bytes end)
+    → CutEndIs (interval_shape q w n count) bytes end → IfSome v.bytes (λ bytes. CutEndIs (interval_asked v) bytes end)
 seen v refused q w n rows count bytes end granted view count_is h =
     let all : CutEndIs (interval_shape q w n (rows * n)) bytes end = subst (λ z. CutEndIs (interval_shape q w n z) bytes end) count_is h in
     let there : IfSome (bytes_of refused bytes) (λ bytes. CutEndIs (interval_shape q w n (rows * n)) bytes end) = subst (λ r. IfSome (bytes_of r bytes) (λ bytes. CutEndIs (interval_shape q w n (rows * n)) bytes end)) (sym granted) all in
-    subst (λ (z : IntervalBytes). IfSome z.bytes (λ bytes. CutEndIs (interval_shape z.parameters z.width z.components (z.rows * z.components)) bytes end)) view there
+    subst (λ (z : IntervalBytes). IfSome z.bytes (λ bytes. CutEndIs (interval_asked z) bytes end)) view there
 
 pub returns-in-Working-clause-cut_end : goal.returns-in-Working-clause-cut_end
 returns-in-Working-clause-cut_end c =

@@ -4,7 +4,7 @@ use Rattle.jls_bits.specs.Bits.{bits_read}
 use Rattle.jls_interval.specs.Lines.{interval_shape}
 use Rattle.jls_interval.specs.Reads.{IsBroken}
 use Rattle.jls_interval.specs.Decoding.{IsWorking, IsDead, StateIs}
-use Rattle.jls_interval.specs.IntervalBytes.{IntervalBytes, bytes_of}
+use Rattle.jls_interval.specs.IntervalBytes.{IntervalBytes, bytes_of, interval_asked}
 use Rattle.jls_interval.specs.declared.decode_piece.PieceFault.{PieceFault}
 use Rattle.jls_interval.specs.declared.decode_piece.PieceFault.TheVariants.{Broken, OutOfMemory}
 use Rattle.jls_interval.proofs.Decoding.{working_ends}
@@ -20,7 +20,7 @@ returns-in-Working-clause-outcome c =
     let Q : Type 0 = ((let r : Result (Vec (Vec ℕ Global) Global) PieceFault = Err Broken in r) ≡ Err OutOfMemory) in
     let all : IsBroken (interval_shape i.params w n (i.rows * n)) bytes = subst (λ z. IsBroken (interval_shape i.params w n z) bytes) v.count_is broken in
     let seen : MatchOption (bytes_of i.refused bytes) Q (λ bytes. IsBroken (interval_shape i.params w n (i.rows * n)) bytes) = subst (λ r. MatchOption (bytes_of r bytes) Q (λ bytes. IsBroken (interval_shape i.params w n (i.rows * n)) bytes)) (sym c.if-self.false) all in
-    subst (λ (z : IntervalBytes). MatchOption z.bytes Q (λ bytes. IsBroken (interval_shape z.parameters z.width z.components (z.rows * z.components)) bytes)) c.self.view_is seen
+    subst (λ (z : IntervalBytes). MatchOption z.bytes Q (λ bytes. IsBroken (interval_asked z) bytes)) c.self.view_is seen
 
 pub returns-in-Dead-clause-outcome : goal.returns-in-Dead-clause-outcome
 returns-in-Dead-clause-outcome c =
@@ -31,4 +31,4 @@ returns-in-Dead-clause-outcome c =
     let Q : Type 0 = ((let r : Result (Vec (Vec ℕ Global) Global) PieceFault = Err Broken in r) ≡ Err OutOfMemory) in
     let all : IsBroken (interval_shape i.params w n (i.rows * n)) bytes = subst (λ z. IsBroken (interval_shape i.params w n z) bytes) v.count_is broken in
     let seen : MatchOption (bytes_of i.refused bytes) Q (λ bytes. IsBroken (interval_shape i.params w n (i.rows * n)) bytes) = subst (λ r. MatchOption (bytes_of r bytes) Q (λ bytes. IsBroken (interval_shape i.params w n (i.rows * n)) bytes)) (sym c.if-self.false) all in
-    subst (λ (z : IntervalBytes). MatchOption z.bytes Q (λ bytes. IsBroken (interval_shape z.parameters z.width z.components (z.rows * z.components)) bytes)) c.self.view_is seen
+    subst (λ (z : IntervalBytes). MatchOption z.bytes Q (λ bytes. IsBroken (interval_asked z) bytes)) c.self.view_is seen

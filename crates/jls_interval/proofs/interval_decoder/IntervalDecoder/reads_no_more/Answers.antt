@@ -6,7 +6,7 @@ use Rattle.jls_bits.specs.Bits.{bits_read}
 use Rattle.jls_interval.specs.Lines.{interval_shape}
 use Rattle.jls_interval.specs.Reads.{ReadsNoMore}
 use Rattle.jls_interval.specs.Decoding.{IsDead, IsOver, StateIs}
-use Rattle.jls_interval.specs.IntervalBytes.{IntervalBytes, bytes_of}
+use Rattle.jls_interval.specs.IntervalBytes.{IntervalBytes, bytes_of, interval_asked}
 use Rattle.jls_interval.specs.declared.line_reader.LineReader.{LineReader}
 use Rattle.jls_interval.specs.declared.interval_reader.State.{State}
 use Rattle.jls_interval.proofs.NoMore.{unwhole_reads_no_more, dead_reads_no_more, over_reads_no_more}
@@ -16,9 +16,9 @@ said : (p : CodingParameters) (w n rows count : ℕ) (refused : Bool) (bytes : L
     → count ≡ rows * n
     → (let v : IntervalBytes = record { parameters = p; width = w; components = n; rows = rows; bytes = bytes_of refused bytes } in v) ≡ z
     → ReadsNoMore (interval_shape p w n count) bytes
-    → IfSome z.bytes (λ bytes. ReadsNoMore (interval_shape z.parameters z.width z.components (z.rows * z.components)) bytes)
+    → IfSome z.bytes (λ bytes. ReadsNoMore (interval_asked z) bytes)
 said p w n rows count refused bytes z e k view h =
-    subst (λ (z : IntervalBytes). IfSome z.bytes (λ bytes. ReadsNoMore (interval_shape z.parameters z.width z.components (z.rows * z.components)) bytes)) view
+    subst (λ (z : IntervalBytes). IfSome z.bytes (λ bytes. ReadsNoMore (interval_asked z) bytes)) view
     (subst (λ r. IfSome (bytes_of r bytes) (λ b. ReadsNoMore (interval_shape p w n (rows * n)) b)) (sym e) (subst (λ m. ReadsNoMore (interval_shape p w n m) bytes) k h))
 
 pub returns-then-self-2 : goal.returns-then-self-2
