@@ -87,6 +87,10 @@ module _ (k : ℕ) (up : Above) (old now next : LineReader) (chunk unread unread
       }
 
 -- nothing taken
+pub taken_none : (k : ℕ) (up : Above) (old : LineReader) (chunk : List Bool) → TakesInLine k up old old chunk chunk
+taken_none k up old chunk = λ c n given lines k_is up_is h.
+    record { taken = []; chunk_is = refl; works = subst (λ z. Works old.coder.cells.parameters c n z lines old) (sym (append-nil given)) h }
+
 pub taken_same : (k : ℕ) (up : Above) (old now : LineReader) (chunk unread unread' : List Bool) (coder' : Coder) → coder' ≡ now.coder
     → unread' ≡ unread → TakesInLine k up old now chunk unread → TakesInLine k up old (record now { coder = coder' }) chunk unread'
 taken_same k up old now chunk unread unread' coder' a b t =

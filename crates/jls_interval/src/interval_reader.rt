@@ -102,25 +102,6 @@ impl IntervalReader {
         }
     }
 
-    /// Takes samples from the front of a chunk, as long as there are at least so many bits. No event has begun, and the last samples of a
-    /// line are not taken.
-    fn push_samples(&mut self, looked_for: u8, chunk: &mut Chunk) -> Result<(), AllocError>
-        requires state { self.old.state ≡ State.Working }
-        requires reading { (p : CodingParameters) × (given : List Bool) × IsReading p given self.old }
-        ensures shape { HasShape self.old self.new }
-        ensures state { self.new.state ≡ self.old.state }
-        ensures bits { OnOk result (TakesFirst self.old chunk.old self.new chunk.new) }
-    {
-        if chunk.len() < looked_for {
-            return Ok(());
-        }
-        if let Hand::Fresh = self.reader.hand {
-            let place = Place::after(&self.lines, self.components);
-            take_samples(&mut self.reader, &place, looked_for, chunk)?;
-        }
-        Ok(())
-    }
-
     /// Gives back the bits of the sample in hand, to be taken once more with those that follow them: none, where no short code has begun.
     pub(crate) fn take_back(&mut self) -> Chunk
         requires { (p : CodingParameters) × (given : List Bool) × IsReading p given self.old }
@@ -172,7 +153,8 @@ impl IntervalReader {
     {
         let fewest = waiting.max(1);
         'events: while self.is_working() {
-            self.push_samples(fewest.min(LOOKED_FOR), chunk)?;
+            let place = Place::after(&self.lines, self.components);
+            take_samples(&mut self.reader, &place, fewest.min(LOOKED_FOR), chunk)?;
             if chunk.len() < fewest {
                 return Ok(());
             }

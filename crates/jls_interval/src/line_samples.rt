@@ -12,6 +12,7 @@ ghost use Rattle.jls_interval.specs.Code.{regular_bits};
 ghost use Rattle.jls_interval.specs.Place.{above_of};
 ghost use Rattle.jls_interval.specs.LineSamples.{FrontIs, TakesInLine};
 
+use crate::code_lengths::CodeLengths;
 use crate::coder::{Coder, RegularMode};
 use crate::line_reader::{Hand, LineReader};
 use crate::place::Place;
@@ -19,29 +20,6 @@ use crate::push_sample::{Sample, sample_of};
 use jls_bits::{Chunk, CodeState};
 use jls_context::{Mode, Neighbours};
 use std::alloc::AllocError;
-
-/// Reads a sample of regular mode whose code is short and stands whole at the front. None where no such code does, or none of a sample.
-#[inline(always)]
-fn read_sample(
-    coder: &Coder,
-    neighbours: Neighbours,
-    mode: RegularMode,
-    chunk: &mut Chunk,
-) -> Option<Sample>
-    requires mode { IsRegularMode coder.now.cells.parameters neighbours mode.context mode.negative }
-    ensures sample { IfSome result (λ s. s.value ≤ coder.now.cells.parameters.maxval) }
-    ensures error { IfSome result
-        (λ s. s.error ≡ regular_error coder.now.cells.parameters (cell_at coder.now.cells mode.context) neighbours s.value) }
-    ensures reduced { IfSome result (λ s. IsError coder.now.cells.parameters s.error) }
-    ensures bits { IfSome result (λ s. chunk.old
-        ≡ regular_bits coder.now.cells.parameters (cell_at coder.now.cells mode.context) neighbours s.value ++ chunk.new) }
-{
-    let k = coder.cells.regular_k(mode.context);
-    match chunk.take_code(k, coder.lengths.limit, coder.lengths.qbpp) {
-        None => None,
-        Some(mapped) => sample_of(coder, neighbours, mode, mapped),
-    }
-}
 
 /// What stands at the front of a chunk, where a sample of regular mode may come.
 #[derive(Clone, Copy)]
@@ -52,19 +30,6 @@ pub(crate) enum Front {
     Begun(CodeState),
     /// Something else, of which nothing was taken.
     Other,
-}
-
-/// The state of a short code that all bits of a chunk begin, in regular mode. None where they are no such bits.
-#[inline(always)]
-fn begun_sample(coder: &Coder, mode: RegularMode, chunk: &Chunk) -> Option<CodeState>
-    requires context { mode.context ≤ 364 }
-    ensures opened { IfSome result (λ code. IsOpen (regular_k (cell_at coder.now.cells mode.context)) (limit coder.now.cells.parameters)
-        (qbpp coder.now.cells.parameters) code) }
-    ensures told { IfSome result
-        (λ code. chunk.now ≡ bits_told (limit coder.now.cells.parameters) (qbpp coder.now.cells.parameters) code) }
-{
-    let k = coder.cells.regular_k(mode.context);
-    CodeState::of_short(k, coder.lengths.limit, coder.lengths.qbpp, chunk)
 }
 
 /// Takes a sample of regular mode whose code is short, where it stands whole at the front, or the first bits of one, where these are all
@@ -91,18 +56,23 @@ fn take_sample(
                 context: cell,
                 negative,
             };
+            let k = coder.cells.regular_k(cell);
+            let CodeLengths { qbpp, limit } = coder.lengths;
             let mut ahead = chunk.fork();
-            match read_sample(coder, neighbours, mode, &mut ahead) {
-                Some(sample) => {
-                    *chunk = ahead;
-                    coder.cells.update_regular(cell, sample.error);
-                    Front::Taken(sample.value)
-                }
-                None => match begun_sample(coder, mode, chunk) {
+            match ahead.take_code(k, limit, qbpp) {
+                None => match CodeState::of_short(k, limit, qbpp, chunk) {
                     None => Front::Other,
                     Some(code) => {
                         *chunk = Chunk::new();
                         Front::Begun(code)
+                    }
+                },
+                Some(mapped) => match sample_of(coder, neighbours, mode, mapped) {
+                    None => Front::Other,
+                    Some(sample) => {
+                        *chunk = ahead;
+                        coder.cells.update_regular(cell, sample.error);
+                        Front::Taken(sample.value)
                     }
                 },
             }
@@ -111,19 +81,21 @@ fn take_sample(
 }
 
 /// Takes samples of regular mode as long as there are at least `looked_for` bits and their codes are short and stand whole at the
-/// front, and the first bits of one behind them. The last two columns of the line are not taken.
+/// front, and the first bits of one behind them: none, where an event has begun. The last two columns of the line are not taken.
 pub(crate) fn take_samples(
     reader: &mut LineReader,
     place: &Place<'_>,
     looked_for: u8,
     chunk: &mut Chunk,
 ) -> Result<(), AllocError>
-    requires hand { reader.old.hand ≡ Hand.Fresh }
     requires columns { length reader.old.line.items < reader.old.width }
     ensures taken { OnOk result (TakesInLine place.now.component (above_of place.now) reader.old reader.new chunk.old chunk.new) }
     ensures width { reader.new.width ≡ reader.old.width }
     ensures parameters { reader.new.coder.cells.parameters ≡ reader.old.coder.cells.parameters }
 {
+    let Hand::Fresh = reader.hand else {
+        return Ok(());
+    };
     let mut column = reader.line.len();
     let mut near = place.neighbours(reader.width, &reader.line, column);
     let mut second = reader.coder.cells.gradient(near.rb, near.rc);

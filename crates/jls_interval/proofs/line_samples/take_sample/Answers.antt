@@ -1,49 +1,65 @@
-use Rattle.std.proofs.Common.{◌≡◌, ℕ, List, Bool, ◌++◌, w32, to_z, of_z, arith, refl, ap, sym, subst, ◌∙◌}
+use Rattle.std.proofs.Common.{◌≡◌, ℕ, List, Bool, true, ◌++◌, w32, to_z, of_z, arith, refl, ap, sym, subst, ◌∙◌}
 use Rattle.std.specs.Prelude.{ℤ}
 use Rattle.std.proofs.lemmas.Int.{ints}
 use Rattle.jls_context.specs.declared.mode.Neighbours.{Neighbours}
 use Rattle.jls_context.specs.Mode.{context}
 use Rattle.jls_values.specs.Params.{limit, qbpp}
 use Rattle.jls_context.specs.Regular.{updated, regular_k}
-use Rattle.jls_bits.specs.CodeState.{IsOpen}
+use Rattle.jls_bits.specs.Golomb.{golomb, has_golomb}
+use Rattle.jls_bits.specs.CodeState.{IsOpen, bits_told}
 use Rattle.jls_bits.specs.declared.code_state.CodeState.{CodeState}
 use Rattle.jls_context.specs.Variables.{Variables, cell_at}
 use Rattle.jls_interval.specs.Code.{regular_bits}
 use Rattle.jls_interval.proofs.AfterEvents.{after_regular, sample_bits}
+use Rattle.jls_interval.proofs.SamplesRead.{along}
 use Rattle.jls_interval.proofs.line_samples.take_sample.Goals as goal
 
-pub read_sample-requires : goal.read_sample-requires
-read_sample-requires c =
+pub sample_of-requires-clause-mode : goal.sample_of-requires-clause-mode
+sample_of-requires-clause-mode c =
     let a : to_z w32 (of_z w32 c.args.first) ≡ c.args.first = omega (arith, ints) in let b : to_z w32 (of_z w32 c.args.second) ≡ c.args.second = omega (arith, ints) in
     let d : to_z w32 (of_z w32 c.gradient-third.result) ≡ c.gradient-third.result = omega (arith, ints) in
-    record { mode = c.in-Regular.ensures c.args.neighbours (record { first = a ∙ c.requires.first; second = b ∙ c.requires.second; third = d ∙ c.gradient-third.ensures.value }) }
+    c.in-Regular.ensures c.args.neighbours (record { first = a ∙ c.requires.first; second = b ∙ c.requires.second; third = d ∙ c.gradient-third.ensures.value })
 
-pub returns-in-Some-clause-front : goal.returns-in-Some-clause-front
-returns-in-Some-clause-front c =
+pub sample_of-requires-clause-code : goal.sample_of-requires-clause-code
+sample_of-requires-clause-code c =
+    let coder = c.args.coder.now in let m : ℕ = c.in-Some.mapped in
+    along (λ k g q. has_golomb k g q m ≡ true) _ _ _ _ _ _ c.regular_k-k.ensures.value coder.lengths_are.limit_is coder.lengths_are.qbpp_is c.in-Some.ensures.some.0
+
+pub update_regular-requires-clause-cell : goal.update_regular-requires-clause-cell
+update_regular-requires-clause-cell c =
+    let a : to_z w32 (of_z w32 c.args.first) ≡ c.args.first = omega (arith, ints) in let b : to_z w32 (of_z w32 c.args.second) ≡ c.args.second = omega (arith, ints) in
+    let d : to_z w32 (of_z w32 c.gradient-third.result) ≡ c.gradient-third.result = omega (arith, ints) in
+    (c.in-Regular.ensures c.args.neighbours (record { first = a ∙ c.requires.first; second = b ∙ c.requires.second; third = d ∙ c.gradient-third.ensures.value })).at_most
+
+pub returns-in-Some-sample_of-clause-front : goal.returns-in-Some-sample_of-clause-front
+returns-in-Some-sample_of-clause-front c =
     let old = c.args.coder.now in let cells : Variables = old.cells in let p = cells.parameters in let near : Neighbours = c.args.neighbours in
     let a : to_z w32 (of_z w32 c.args.first) ≡ c.args.first = omega (arith, ints) in let b : to_z w32 (of_z w32 c.args.second) ≡ c.args.second = omega (arith, ints) in
     let d : to_z w32 (of_z w32 c.gradient-third.result) ≡ c.gradient-third.result = omega (arith, ints) in
     let m = c.in-Regular.ensures near (record { first = a ∙ c.requires.first; second = b ∙ c.requires.second; third = d ∙ c.gradient-third.ensures.value }) in let q : ℕ = c.in-Regular.cell in let q_is : q ≡ context p near = m.context_is in
-    let v : ℕ = c.in-Some.sample.value in let e : ℤ = c.in-Some.sample.error in let s = c.in-Some.ensures in let u = c.update_regular.ensures in
-    let unread : List Bool = c.read_sample.new.chunk in let same : to_z w32 (of_z w32 e) ≡ e = omega (arith, ints) in
+    let v : ℕ = c.in-Some-sample_of.sample.value in let e : ℤ = c.in-Some-sample_of.sample.error in let s = c.in-Some-sample_of.ensures in let u = c.update_regular.ensures in
+    let unread : List Bool = c.take_code.new.self in let same : to_z w32 (of_z w32 e) ≡ e = omega (arith, ints) in let mapped : ℕ = c.in-Some.mapped in
+    let code : c.fork-ahead.result ≡ golomb (regular_k (cell_at cells q)) (limit p) (qbpp p) mapped ++ unread = along (λ k g b. c.fork-ahead.result ≡ golomb k g b mapped ++ unread) _ _ _ _ _ _ c.regular_k-k.ensures.value old.lengths_are.limit_is old.lengths_are.qbpp_is c.in-Some.ensures.some.1 in
     record {
       not_run = m.not_run;
       at_most = s.sample;
       is_after = λ earlier t. after_regular p cells old.run_indices earlier t near q q_is v e c.update_regular.new.self u.parameters s.error (u.updated ∙ ap (λ z. updated p.reset (cell_at cells q) z) same) u.others u.run_cells;
-      bits_are = λ earlier t. sym c.fork-ahead.ensures ∙ s.bits ∙ ap (λ z. z ++ unread) (ap (λ z. regular_bits p (cell_at cells z) near v) q_is ∙ sym (sample_bits p cells old.run_indices earlier t near v));
+      bits_are = λ earlier t. sym c.fork-ahead.ensures ∙ code ∙ ap (λ z. z ++ unread) (sym s.bits ∙ ap (λ z. regular_bits p (cell_at cells z) near v) q_is ∙ sym (sample_bits p cells old.run_indices earlier t near v));
     }
 
-pub returns-in-Some-begun_sample-clause-front : goal.returns-in-Some-begun_sample-clause-front
-returns-in-Some-begun_sample-clause-front c =
-    let cells : Variables = c.args.coder.now.cells in let p = cells.parameters in let near : Neighbours = c.args.neighbours in
+pub returns-in-Some-of_short-clause-front : goal.returns-in-Some-of_short-clause-front
+returns-in-Some-of_short-clause-front c =
+    let old = c.args.coder.now in let cells : Variables = old.cells in let p = cells.parameters in let near : Neighbours = c.args.neighbours in
     let a : to_z w32 (of_z w32 c.args.first) ≡ c.args.first = omega (arith, ints) in let b : to_z w32 (of_z w32 c.args.second) ≡ c.args.second = omega (arith, ints) in
     let d : to_z w32 (of_z w32 c.gradient-third.result) ≡ c.gradient-third.result = omega (arith, ints) in
     let m = c.in-Regular.ensures near (record { first = a ∙ c.requires.first; second = b ∙ c.requires.second; third = d ∙ c.gradient-third.ensures.value }) in
-    let code : CodeState = c.in-Some-begun_sample.code in let s = c.in-Some-begun_sample.ensures in (
+    let code : CodeState = c.in-Some-of_short.code in let s = c.in-Some-of_short.ensures in
+    let opened : IsOpen (regular_k (cell_at cells c.in-Regular.cell)) (limit p) (qbpp p) code = along (λ k g b. IsOpen k g b code) _ _ _ _ _ _ c.regular_k-k.ensures.value old.lengths_are.limit_is old.lengths_are.qbpp_is s.opened in
+    let told : bits_told (limit p) (qbpp p) code ≡ c.args.chunk.now = subst (λ g. bits_told g (qbpp p) code ≡ c.args.chunk.now) old.lengths_are.limit_is (subst (λ b. bits_told old.lengths.limit b code ≡ c.args.chunk.now) old.lengths_are.qbpp_is s.told) in (
       record {
         not_run = m.not_run;
-        opened = subst (λ q. IsOpen (regular_k (cell_at cells q)) (limit p) (qbpp p) code) m.context_is s.opened;
-        told = s.told;
+        opened = subst (λ q. IsOpen (regular_k (cell_at cells q)) (limit p) (qbpp p) code) m.context_is opened;
+        told = sym told;
         all = c.new.ensures;
       },
       refl,

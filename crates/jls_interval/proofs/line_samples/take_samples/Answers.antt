@@ -5,8 +5,12 @@ use Rattle.jls_values.specs.Params.{CodingParameters}
 use Rattle.jls_context.specs.Mode.{IsStep, quantized_gradient}
 use Rattle.jls_interval.specs.Events.{Above, neighbours}
 use Rattle.jls_interval.specs.Place.{above_of}
-use Rattle.jls_interval.proofs.LineSamples.{taken_more, taken_same, begun_same}
+use Rattle.jls_interval.proofs.LineSamples.{taken_more, taken_none, taken_same, begun_same}
 use Rattle.jls_interval.proofs.line_samples.take_samples.Goals as goal
+
+pub returns-in_default : goal.returns-in_default
+returns-in_default c =
+    record { taken = taken_none c.args.place.now.component (above_of c.args.place.now) c.args.reader.now c.args.chunk.now; width = refl; parameters = refl }
 
 pub returns-in-Begun-clause-taken : goal.returns-in-Begun-clause-taken
 returns-in-Begun-clause-taken c =

@@ -1,49 +1,80 @@
-use Rattle.std.proofs.Common.{◌≡◌, true, false, ◌++◌, ◌∙◌, sym, subst, arith}
-use Rattle.jls_interval.specs.Decoding.{TakesFirst, TakesEvent}
-use Rattle.jls_interval.proofs.IntervalReading.{shape_none, shape_then, taking_none, taking_then, taking_more, taking_all, taking_shorter, taking_fewer}
+use Rattle.std.proofs.Common.{◌≡◌, ℕ, ◌%◌, true, false, List, Bool, ◌++◌, Vec, Global, length, refl, ◌∙◌, ap, sym, subst, arith}
+use Rattle.std.proofs.lemmas.List.{length-map}
+use Rattle.jls_interval.specs.Events.{Above, above}
+use Rattle.jls_interval.specs.Place.{above_of}
+use Rattle.jls_interval.specs.Decoding.{HasShape, TakesFirst, TakesEvent}
+use Rattle.jls_interval.specs.LineSamples.{TakesInLine}
+use Rattle.jls_interval.specs.declared.interval_reader.IntervalReader.{IntervalReader}
+use Rattle.jls_interval.specs.declared.interval_reader.State.TheVariants.{Working}
+use Rattle.jls_interval.specs.declared.line_reader.LineReader.{LineReader}
+use Rattle.jls_interval.proofs.IntervalReading.{items, working, samples_taken, shape_none, shape_then, taking_none, taking_then, taking_more, taking_all, taking_shorter, taking_fewer}
 use Rattle.jls_interval.proofs.interval_reader.IntervalReader.push_chunk.Goals as goal
+
+-- samples that were taken into the line in work, of which this is the place
+in_line : (d : IntervalReader) (new : LineReader) (chunk unread : List Bool) (lines : List (Vec ℕ Global)) (k : ℕ) (up : Above) → d.state ≡ Working
+    → lines ≡ d.lines.items → k ≡ length lines % d.components → up ≡ above d.components (items lines)
+    → new.width ≡ d.reader.width → new.coder.cells.parameters ≡ d.reader.coder.cells.parameters → TakesInLine k up d.reader new chunk unread
+    → TakesFirst d chunk (record d { reader = new }) unread
+in_line d new chunk unread lines k up state same k_is up_is wide params t = λ p given h.
+    let n : ℕ = d.components in let maps = length-map d.lines.items (λ (v : Vec ℕ Global). v.items) in
+    samples_taken p d given h state new chunk unread k (k_is ∙ ap (λ z. length z % n) same ∙ ap (λ z. z % n) (sym maps)) up (up_is ∙ ap (λ z. above n (items z)) same) wide params t
 
 pub events-init : goal.events-init
 events-init c = record { shape = shape_none c.args.self.now; taking = taking_none c.args.self.now c.args.chunk.now }
 
-pub push_samples-requires-clause-reading : goal.push_samples-requires-clause-reading
-push_samples-requires-clause-reading c =
-    let h = c.requires in let a = c.events.invariant.taking h.0 h.1 h.2 in (h.0, h.1 ++ a.taken, a.reading)
+pub after-place-requires-clause-at_least : goal.after-place-requires-clause-at_least
+after-place-requires-clause-at_least c = let h = c.requires in (c.events.invariant.taking h.0 h.1 h.2).reading.components_at_least
+
+pub after-place-requires-clause-at_most : goal.after-place-requires-clause-at_most
+after-place-requires-clause-at_most c = let h = c.requires in (c.events.invariant.taking h.0 h.1 h.2).reading.components_at_most
+
+pub take_samples-requires : goal.take_samples-requires
+take_samples-requires c =
+    let h = c.requires in let a = c.events.invariant.taking h.0 h.1 h.2 in
+    record { columns = (working h.0 c.events.self (h.1 ++ a.taken) a.reading (c.is_working.ensures.0 c.events-test.true)).unfinished }
 
 pub push_event-requires-clause-reading : goal.push_event-requires-clause-reading
 push_event-requires-clause-reading c =
-    let h = c.requires in let a = c.events.invariant.taking h.0 h.1 h.2 in
-    let b = c.in_ok-push_samples.ensures.bits h.0 (h.1 ++ a.taken) a.reading in (h.0, (h.1 ++ a.taken) ++ b.taken, b.reading)
+    let h = c.requires in let a = c.events.invariant.taking h.0 h.1 h.2 in let d = c.events.self in let s = c.take_samples in
+    let samples = in_line d s.new.reader c.events.chunk s.new.chunk _ c.after-place.result.component (above_of c.after-place.result) (c.is_working.ensures.0 c.events-test.true) c.deref.ensures.value c.after-place.ensures.component c.after-place.ensures.above s.ensures.width s.ensures.parameters c.in_ok-take_samples.ensures.taken in
+    let b = samples h.0 (h.1 ++ a.taken) a.reading in (h.0, (h.1 ++ a.taken) ++ b.taken, b.reading)
 
 pub returns-then-len-fewest-clause-shape : goal.returns-then-len-fewest-clause-shape
 returns-then-len-fewest-clause-shape c =
-    shape_then c.args.self.now c.events.self c.push_samples.new.self c.events.invariant.shape c.push_samples.ensures.shape
+    let d = c.events.self in let s = c.take_samples in
+    shape_then c.args.self.now d (record d { reader = s.new.reader }) c.events.invariant.shape (record { width = s.ensures.width; components = refl; count = refl })
 
 pub returns-then-len-fewest-clause-bits : goal.returns-then-len-fewest-clause-bits
 returns-then-len-fewest-clause-bits c =
-    taking_then c.args.self.now c.events.self c.push_samples.new.self c.args.chunk.now c.events.chunk c.events.invariant.taking c.push_samples.new.chunk c.in_ok-push_samples.ensures.bits
+    let d = c.events.self in let s = c.take_samples in
+    let samples = in_line d s.new.reader c.events.chunk s.new.chunk _ c.after-place.result.component (above_of c.after-place.result) (c.is_working.ensures.0 c.events-test.true) c.deref.ensures.value c.after-place.ensures.component c.after-place.ensures.above s.ensures.width s.ensures.parameters c.in_ok-take_samples.ensures.taken in
+    taking_then c.args.self.now d (record d { reader = s.new.reader }) c.args.chunk.now c.events.chunk c.events.invariant.taking s.new.chunk samples
 
 pub returns-then-not-goes_on-clause-bits : goal.returns-then-not-goes_on-clause-bits
 returns-then-not-goes_on-clause-bits c =
-    let now = c.push_samples.new.self in let unread = c.push_samples.new.chunk in
-    let first : TakesFirst c.args.self.now c.args.chunk.now now unread = taking_then c.args.self.now c.events.self now c.args.chunk.now c.events.chunk c.events.invariant.taking unread c.in_ok-push_samples.ensures.bits in
+    let d = c.events.self in let s = c.take_samples in let now : IntervalReader = record d { reader = s.new.reader } in let unread : List Bool = s.new.chunk in
+    let samples = in_line d s.new.reader c.events.chunk unread _ c.after-place.result.component (above_of c.after-place.result) (c.is_working.ensures.0 c.events-test.true) c.deref.ensures.value c.after-place.ensures.component c.after-place.ensures.above s.ensures.width s.ensures.parameters c.in_ok-take_samples.ensures.taken in
+    let first : TakesFirst c.args.self.now c.args.chunk.now now unread = taking_then c.args.self.now d now c.args.chunk.now c.events.chunk c.events.invariant.taking unread samples in
     taking_all c.args.self.now now c.push_event.new.self c.args.chunk.now unread first c.new.result c.new.ensures (subst (TakesEvent now c.push_event.new.self unread c.push_event.new.chunk) c.if-not-goes_on.true c.in_ok-goes_on.ensures.bits)
 
 pub events-smaller : goal.events-smaller
 events-smaller c =
-    let h = c.requires in let now = c.push_samples.new.self in let unread = c.push_samples.new.chunk in
-    let first : TakesFirst c.args.self.now c.args.chunk.now now unread = taking_then c.args.self.now c.events.self now c.args.chunk.now c.events.chunk c.events.invariant.taking unread c.in_ok-push_samples.ensures.bits in
+    let h = c.requires in let d = c.events.self in let s = c.take_samples in let now : IntervalReader = record d { reader = s.new.reader } in let unread : List Bool = s.new.chunk in
+    let samples = in_line d s.new.reader c.events.chunk unread _ c.after-place.result.component (above_of c.after-place.result) (c.is_working.ensures.0 c.events-test.true) c.deref.ensures.value c.after-place.ensures.component c.after-place.ensures.above s.ensures.width s.ensures.parameters c.in_ok-take_samples.ensures.taken in
+    let first : TakesFirst c.args.self.now c.args.chunk.now now unread = taking_then c.args.self.now d now c.args.chunk.now c.events.chunk c.events.invariant.taking unread samples in
     let a = c.events.invariant.taking h.0 h.1 h.2 in
-    let fewer = taking_fewer c.events.self now c.events.chunk unread c.in_ok-push_samples.ensures.bits h.0 (h.1 ++ a.taken) a.reading in
+    let fewer = taking_fewer d now c.events.chunk unread samples h.0 (h.1 ++ a.taken) a.reading in
     let shorter = taking_shorter c.args.self.now now c.push_event.new.self c.args.chunk.now unread first c.push_event.new.chunk (subst (TakesEvent now c.push_event.new.self unread c.push_event.new.chunk) c.if-not-goes_on.false c.in_ok-goes_on.ensures.bits) h.0 h.1 h.2 in
     omega arith
 
 pub events-preserved : goal.events-preserved
 events-preserved c =
-    let now = c.push_samples.new.self in let unread = c.push_samples.new.chunk in
-    let first : TakesFirst c.args.self.now c.args.chunk.now now unread = taking_then c.args.self.now c.events.self now c.args.chunk.now c.events.chunk c.events.invariant.taking unread c.in_ok-push_samples.ensures.bits in
+    let d = c.events.self in let s = c.take_samples in let now : IntervalReader = record d { reader = s.new.reader } in let unread : List Bool = s.new.chunk in
+    let samples = in_line d s.new.reader c.events.chunk unread _ c.after-place.result.component (above_of c.after-place.result) (c.is_working.ensures.0 c.events-test.true) c.deref.ensures.value c.after-place.ensures.component c.after-place.ensures.above s.ensures.width s.ensures.parameters c.in_ok-take_samples.ensures.taken in
+    let first : TakesFirst c.args.self.now c.args.chunk.now now unread = taking_then c.args.self.now d now c.args.chunk.now c.events.chunk c.events.invariant.taking unread samples in
+    let same : HasShape d now = record { width = s.ensures.width; components = refl; count = refl } in
     record {
-      shape = shape_then c.args.self.now now c.push_event.new.self (shape_then c.args.self.now c.events.self now c.events.invariant.shape c.push_samples.ensures.shape) c.push_event.ensures.shape;
+      shape = shape_then c.args.self.now now c.push_event.new.self (shape_then c.args.self.now d now c.events.invariant.shape same) c.push_event.ensures.shape;
       taking = taking_more c.args.self.now now c.push_event.new.self c.args.chunk.now unread first c.push_event.new.chunk (subst (TakesEvent now c.push_event.new.self unread c.push_event.new.chunk) c.if-not-goes_on.false c.in_ok-goes_on.ensures.bits);
     }
 
