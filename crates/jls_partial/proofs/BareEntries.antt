@@ -20,12 +20,12 @@ use Rattle.std.proofs.lemmas.List.Folds.{list_any-append}
 use Rattle.jls_values.specs.OrderedSet.{OrderedSet, items, from_list}
 use Rattle.jls_values.specs.OrderedSetLaws.{or_false, or_itself, contains-items, contains-from_list, same_set, items-from_list}
 use Rattle.jls_values.specs.Shape.{PictureShape, IsShape}
-use Rattle.jls_partial.specs.declared.place.Place.{Place}
+use Rattle.jls_partial.specs.declared.line_place.LinePlace.{LinePlace}
 use Rattle.jls_partial.specs.Entries.{BareEntry, at_place, readings_of_entries}
 use Rattle.jls_partial.specs.Held.{IsEntry, AreEntries}
 use Rattle.jls_partial.specs.InsertFaults.{reading_fault}
 use Rattle.jls_partial.specs.Partial.{PartialPicture, readings_at}
-use Rattle.jls_partial.specs.Place.{place, place_cmp, place_of}
+use Rattle.jls_partial.specs.LinePlace.{place, place_cmp, place_of}
 use Rattle.jls_partial.specs.Reading.{Reading, reading_cmp}
 use Rattle.jls_partial.specs.ReadingOrder.{place_total, place_exact, reading_total, reading_exact, eq_reading, same_place}
 use Rattle.jls_partial.specs.Text.{places_held, bare_entries, IsPartial}
@@ -67,16 +67,16 @@ all_members {R = R} o P (k ∷ ks) f = (f k (or_left _ _ (ap is_eq (tied_itself 
 -- ---- entries in order are the entries of their partial
 
 -- where there is a reading, the place is there
-block_places : (t : Place → Bool) (p : Place) (x : List ℕ) (xs : List (List ℕ))
+block_places : (t : LinePlace → Bool) (p : LinePlace) (x : List ℕ) (xs : List (List ℕ))
     → list_any t (map place_of (map (at_place p) (x ∷ xs))) ≡ t p
 block_places t p x [] = or_false (t p)
 block_places t p x (y ∷ ys) = ap (λ b. t p || b) (block_places t p y ys) ∙ or_itself (t p)
 
-some_block : (t : Place → Bool) (p : Place) (xs : List (List ℕ)) → 1 ≤ length xs → list_any t (map place_of (map (at_place p) xs)) ≡ t p
+some_block : (t : LinePlace → Bool) (p : LinePlace) (xs : List (List ℕ)) → 1 ≤ length xs → list_any t (map place_of (map (at_place p) xs)) ≡ t p
 some_block t p [] h = absurd (omega arith)
 some_block t p (x ∷ xs) h = block_places t p x xs
 
-same_places : (shape : PictureShape) (t : Place → Bool) (es : List BareEntry) → AllByRecursion (IsEntry shape) es
+same_places : (shape : PictureShape) (t : LinePlace → Bool) (es : List BareEntry) → AllByRecursion (IsEntry shape) es
     → list_any t (map place_of (readings_of_entries es)) ≡ list_any t (map (λ e. e.0) es)
 same_places shape t [] h = refl
 same_places shape t (e ∷ es) h =
@@ -94,7 +94,7 @@ places_again shape es p kept is =
     (λ q. contains-from_list place_total (map place_of (readings_of_entries es)) q ∙ same_places shape (eq_by_cmp place_cmp q) es kept.each ∙ sym (contains-from_list place_total (map (λ e. e.0) es) q)))
     ∙ items-from_list place_total (map (λ e. e.0) es) kept.sorted
 
-later : (p q : Place) → place_cmp p q ≡ Less → is_at (place_cmp q) p ≡ false
+later : (p q : LinePlace) → place_cmp p q ≡ Less → is_at (place_cmp q) p ≡ false
 later p q h = ap is_eq (place_total.antisymm q p ∙ ap ordering_reverse h)
 
 -- what is found behind an earlier entry is found
@@ -110,12 +110,12 @@ all_found [] h = tt
 all_found (e ∷ es) h =
     (ap (λ b. unwrap_or (cond b (Some e.1) (lookup (is_at (place_cmp e.0)) es)) []) (ap is_eq (tied_itself place_total e.0)), found_behind e es es h.0 (all_found es h.1))
 
-made_again : (f : Place → List (List ℕ)) (es : List BareEntry) → AllByRecursion (λ e. f e.0 ≡ e.1) es
+made_again : (f : LinePlace → List (List ℕ)) (es : List BareEntry) → AllByRecursion (λ e. f e.0 ≡ e.1) es
     → map (λ at. (at, f at)) (map (λ e. e.0) es) ≡ es
 made_again f [] h = refl
 made_again f (e ∷ es) h = λ i. (e.0, h.0 i) ∷ made_again f es h.1 i
 
-all_same : (f g : Place → List (List ℕ)) (es : List BareEntry) → ((at : Place) → f at ≡ g at) → AllByRecursion (λ e. g e.0 ≡ e.1) es
+all_same : (f g : LinePlace → List (List ℕ)) (es : List BareEntry) → ((at : LinePlace) → f at ≡ g at) → AllByRecursion (λ e. g e.0 ≡ e.1) es
     → AllByRecursion (λ e. f e.0 ≡ e.1) es
 all_same f g [] e h = tt
 all_same f g (x ∷ es) e h = (e x.0 ∙ h.0, all_same f g es e h.1)
@@ -123,26 +123,26 @@ all_same f g (x ∷ es) e h = (e x.0 ∙ h.0, all_same f g es e h.1)
 pub bare_again : (shape : PictureShape) (es : List BareEntry) (p : PartialPicture) → AreEntries shape es
     → from_list (readings_of_entries es) ≡ p.readings → bare_entries p ≡ es
 bare_again shape es p kept is =
-    ap (map (λ (at : Place). (at, readings_at p at.component at.line))) (places_again shape es p kept is)
+    ap (map (λ (at : LinePlace). (at, readings_at p at.component at.line))) (places_again shape es p kept is)
     ∙ made_again (λ at. readings_at p at.component at.line) es
     (all_same (λ at. readings_at p at.component at.line) (samples_at es) es (λ at. readings_kept shape es p at.component at.line kept is) (all_found es kept.sorted))
 
 -- ---- the entries of a partial hold its readings
 
-places_of_entries : (f : Place → List (List ℕ)) (ps : List Place) → map (λ (e : BareEntry). e.0) (map (λ (at : Place). (at, f at)) ps) ≡ ps
+places_of_entries : (f : LinePlace → List (List ℕ)) (ps : List LinePlace) → map (λ (e : BareEntry). e.0) (map (λ (at : LinePlace). (at, f at)) ps) ≡ ps
 places_of_entries f [] = refl
-places_of_entries f (p ∷ ps) = ap (λ (t : List Place). p ∷ t) (places_of_entries f ps)
+places_of_entries f (p ∷ ps) = ap (λ (t : List LinePlace). p ∷ t) (places_of_entries f ps)
 
 pub entries_rise : (p : PartialPicture) → IsStrictlySortedBy place_cmp (map (λ e. e.0) (bare_entries p))
 entries_rise p = subst (IsStrictlySortedBy place_cmp) (sym (places_of_entries (λ at. readings_at p at.component at.line) (places_held p))) (items_rise (from_list {R = place_cmp} (map place_of (items p.readings))))
 
 -- what stands at a place that is looked up among made entries
-lookup_made : (f : Place → List (List ℕ)) (q : Place) (ps : List Place)
+lookup_made : (f : LinePlace → List (List ℕ)) (q : LinePlace) (ps : List LinePlace)
     → lookup (is_at (place_cmp q)) (map (λ at. (at, f at)) ps) ≡ cond (list_any (eq_by_cmp place_cmp q) ps) (Some (f q)) None
 lookup_made f q [] = refl
 lookup_made f q (p ∷ ps) =
     elim (eq_by_cmp place_cmp q p) as (λ b. eq_by_cmp place_cmp q p ≡ b → cond b (Some (f p)) (lookup (is_at (place_cmp q)) (map (λ at. (at, f at)) ps)) ≡ cond (b || list_any (eq_by_cmp place_cmp q) ps) (Some (f q)) None) [
-      | true ↦ λ e. ap (λ (z : Place). Some (f z)) (sym (same_place q p e))
+      | true ↦ λ e. ap (λ (z : LinePlace). Some (f z)) (sym (same_place q p e))
       | false ↦ λ e. lookup_made f q ps
     ] refl
 
@@ -247,8 +247,8 @@ fit_there shape c l (x ∷ rs) h =
       | false ↦ λ e. fit_there shape c l rs h.1
     ] refl
 
-each_made : (P : BareEntry → Type 0) (f : Place → List (List ℕ)) (ps : List Place) → AllByRecursion (λ at. P (at, f at)) ps
-    → AllByRecursion P (map (λ (at : Place). (at, f at)) ps)
+each_made : (P : BareEntry → Type 0) (f : LinePlace → List (List ℕ)) (ps : List LinePlace) → AllByRecursion (λ at. P (at, f at)) ps
+    → AllByRecursion P (map (λ (at : LinePlace). (at, f at)) ps)
 each_made P f [] h = tt
 each_made P f (p ∷ ps) h = (h.0, each_made P f ps h.1)
 
@@ -258,14 +258,14 @@ entries_are p is = record {
   each = each_made (IsEntry p.shape) (λ at. readings_at p at.component at.line) (places_held p) (all_members place_total (λ at. IsEntry p.shape (at, readings_at p at.component at.line)) (places_held p) (λ at h. one at (sym (held_place at) ∙ h)));
 }
   where
-    held_place : (q : Place)
+    held_place : (q : LinePlace)
         → list_any (eq_by_cmp place_cmp q) (places_held p) ≡ list_any (eq_by_cmp place_cmp q) (map place_of (items p.readings))
     held_place q = sym (contains-items (from_list {R = place_cmp} (map place_of (items p.readings))) q) ∙ contains-from_list place_total (map place_of (items p.readings)) q
 
     fit : AllByRecursion (λ (r : Reading). reading_fault p.shape r.component r.line r.samples ≡ None) (items p.readings)
     fit = all_members reading_total (λ (r : Reading). reading_fault p.shape r.component r.line r.samples ≡ None) (items p.readings) (λ r h. is.fitting r.component r.line r.samples (contains-items p.readings r ∙ h))
 
-    one : (at : Place) → list_any (eq_by_cmp place_cmp at) (map place_of (items p.readings)) ≡ true
+    one : (at : LinePlace) → list_any (eq_by_cmp place_cmp at) (map place_of (items p.readings)) ≡ true
         → IsEntry p.shape (at, readings_at p at.component at.line)
     one at h = record {
       read = some_there at.component at.line (items p.readings) h;
@@ -296,10 +296,10 @@ line_of_entry shape (at, x ∷ xs) h = line_of_fit shape at.component at.line x 
 -- ---- how many entries there are
 
 -- where a line stands among all lines of four components
-abbrev rank : Place → ℕ
+abbrev rank : LinePlace → ℕ
 rank p = p.component * 2 ^ 16 + p.line
 
-rank_rises : (p q : Place) → p.line < 2 ^ 16 → place_cmp p q ≡ Less → rank p < rank q
+rank_rises : (p q : LinePlace) → p.line < 2 ^ 16 → place_cmp p q ≡ Less → rank p < rank q
 rank_rises p q lt e =
     elim (nat_cmp p.component q.component) as (λ r. nat_cmp p.component q.component ≡ r → ordering_then r (nat_cmp p.line q.line) ≡ Less → rank p < rank q) [
       | Less ↦ λ i h. let c = ranked p.component q.component Less (sym i) in omega (arith, c, lt)
@@ -307,12 +307,12 @@ rank_rises p q lt e =
       | Greater ↦ λ i h. absurd cc
     ] refl e
 
-above_all : (p : Place) (ps : List Place) → p.line < 2 ^ 16 → AllByRecursion (λ q. place_cmp p q ≡ Less) ps
+above_all : (p : LinePlace) (ps : List LinePlace) → p.line < 2 ^ 16 → AllByRecursion (λ q. place_cmp p q ≡ Less) ps
     → AllByRecursion (λ q. rank p + 1 ≤ rank q) ps
 above_all p [] lt h = tt
 above_all p (q ∷ ps) lt h = (let r = rank_rises p q lt h.0 in omega (arith, r), above_all p ps lt h.1)
 
-few_between : (n low : ℕ) (ps : List Place) → low ≤ n → IsStrictlySortedBy place_cmp ps → AllByRecursion (λ p. low ≤ rank p) ps
+few_between : (n low : ℕ) (ps : List LinePlace) → low ≤ n → IsStrictlySortedBy place_cmp ps → AllByRecursion (λ p. low ≤ rank p) ps
     → AllByRecursion (λ p. (p.line < 2 ^ 16) × (rank p < n)) ps → length ps + low ≤ n
 unfolding IsStrictlySortedBy
 few_between n low [] le s h k = omega arith
@@ -321,7 +321,7 @@ few_between n low (p ∷ ps) le s h k =
     let first : low ≤ rank p = h.0 in
     omega (arith, rest, first)
 
-all_low : (ps : List Place) → AllByRecursion (λ p. 0 ≤ rank p) ps
+all_low : (ps : List LinePlace) → AllByRecursion (λ p. 0 ≤ rank p) ps
 all_low [] = tt
 all_low (p ∷ ps) = (omega arith, all_low ps)
 

@@ -4,6 +4,7 @@ use Rattle.std.specs.Prelude.{IfSome, unwrap_or}
 use Rattle.std.specs.declared.cmp.Ordering.{Ordering}
 use Rattle.std.specs.declared.cmp.Ordering.TheVariants.{Less}
 use Rattle.std.specs.Ordering.{nat_cmp, is_eq, eq_by_cmp}
+use Rattle.std.specs.Cmp.{IsTotalOrder}
 use Rattle.std.specs.Cmp.Lexicographic.{slice_cmp}
 use Rattle.jls_values.specs.OrderedSet.{OrderedSet, from_list, contains, insert}
 use Rattle.jls_values.specs.OrderedSetLaws.{same_set, contains-from_list, contains-insert}
@@ -15,12 +16,12 @@ use Rattle.std.proofs.lemmas.Cmp.{tied_itself}
 use Rattle.std.proofs.lemmas.List.Concat.{flat_map-cons}
 use Rattle.std.proofs.lemmas.List.Folds.{list_any-append}
 use Rattle.jls_values.specs.Shape.{PictureShape}
-use Rattle.jls_partial.specs.declared.place.Place.{Place}
+use Rattle.jls_partial.specs.declared.line_place.LinePlace.{LinePlace}
 use Rattle.jls_partial.specs.Entries.{BareEntry, at_place, readings_of_entries}
 use Rattle.jls_partial.specs.Held.{IsEntry, AreEntries}
 use Rattle.jls_partial.specs.InsertFaults.{reading_fault}
 use Rattle.jls_partial.specs.Partial.{PartialPicture, holds}
-use Rattle.jls_partial.specs.Place.{place, place_cmp, place_of}
+use Rattle.jls_partial.specs.LinePlace.{place, place_cmp, place_of}
 use Rattle.jls_partial.specs.Reading.{Reading, reading_cmp}
 use Rattle.jls_partial.specs.ReadingOrder.{place_total, reading_total, reading_exact, eq_reading, same_place, same_samples, same_reading}
 
@@ -29,11 +30,11 @@ abbrev pub S : List ℕ → List ℕ → Ordering
 S = slice_cmp nat_cmp
 
 -- the samples that are kept at a place
-abbrev pub samples_at : List BareEntry → Place → List (List ℕ)
+abbrev pub samples_at : List BareEntry → LinePlace → List (List ℕ)
 samples_at entries at = unwrap_or (lookup (is_at (place_cmp at)) entries) []
 
 -- what the readings at one place are
-any-at_place : (r : Reading) (p : Place) (xs : List (List ℕ))
+any-at_place : (r : Reading) (p : LinePlace) (xs : List (List ℕ))
     → list_any (eq_by_cmp reading_cmp r) (map (at_place p) xs) ≡ (eq_by_cmp place_cmp (place_of r) p && list_any (eq_by_cmp S r.samples) xs)
 any-at_place r p [] = none (eq_by_cmp place_cmp (place_of r) p)
   where
@@ -47,15 +48,42 @@ any-at_place r p (x ∷ xs) =
     both true c d = refl
     both false c d = refl
 
--- a place that is below all others is none of them
-none_later : {X : Type 0} (p : Place) (es : List (Place × X)) → AllByRecursion (λ q. place_cmp p q ≡ Less) (map (λ e. e.0) es)
-    → lookup (is_at (place_cmp p)) es ≡ None
-none_later p [] h = refl
-none_later p (e ∷ es) h = rw h.0 (none_later p es h.1)
+-- ---- what is kept at keys that rise
 
-pub none_kept : {X : Type 0} (q p : Place) (es : List (Place × X)) → is_at (place_cmp q) p ≡ true
+module _ {K : Type 0} {R : K → K → Ordering} (total : IsTotalOrder R) (same : (p q : K) → eq_by_cmp R p q ≡ true → p ≡ q) where
+  -- a key that is below all others is none of them
+  none_later : {X : Type 0} (p : K) (es : List (K × X)) → AllByRecursion (λ q. R p q ≡ Less) (map (λ e. e.0) es) → lookup (is_at (R p)) es ≡ None
+  none_later p [] h = refl
+  none_later p (e ∷ es) h = rw h.0 (none_later p es h.1)
+
+  none_by : {X : Type 0} (q p : K) (es : List (K × X)) → is_at (R q) p ≡ true → AllByRecursion (λ q. R p q ≡ Less) (map (λ e. e.0) es)
+      → lookup (is_at (R q)) es ≡ None
+  none_by q p es e h = subst (λ (z : K). lookup (is_at (R z)) es ≡ None) (sym (same q p e)) (none_later p es h)
+
+  -- what holds at each key
+  pub each_by : {X : Type 0} (P : K × X → Type 0) (es : List (K × X)) → IsStrictlySortedBy R (map (λ e. e.0) es)
+      → ((q : K) → IfSome (lookup (is_at (R q)) es) (λ xs. P (q, xs))) → AllByRecursion P es
+  unfolding IsStrictlySortedBy
+  each_by {X} P [] h f = tt
+  each_by {X} P (e ∷ es) h f = (
+    subst (λ b. IfSome (cond b (Some e.1) (lookup (is_at (R e.0)) es)) (λ xs. P (e.0, xs))) (ap is_eq (tied_itself total e.0)) (f e.0),
+    each_by P es h.1 (λ q. elim (is_at (R q) e.0) as (λ b. is_at (R q) e.0 ≡ b → IfSome (cond b (Some e.1) (lookup (is_at (R q)) es)) (λ xs. P (q, xs)) → IfSome (lookup (is_at (R q)) es) (λ xs. P (q, xs))) [
+      | true ↦ λ t g. subst (λ (o : Option X). IfSome o (λ xs. P (q, xs))) (sym (none_by q e.0 es t h.0)) tt
+      | false ↦ λ t g. g
+    ] refl (f q)),
+  )
+
+  pub lookup_by : {X : Type 0} (P : K × X → Type 0) (es : List (K × X)) (q : K) → AllByRecursion P es → IfSome (lookup (is_at (R q)) es) (λ xs. P (q, xs))
+  lookup_by P [] q h = tt
+  lookup_by P (e ∷ es) q h =
+      elim (is_at (R q) e.0) as (λ b. is_at (R q) e.0 ≡ b → IfSome (cond b (Some e.1) (lookup (is_at (R q)) es)) (λ xs. P (q, xs))) [
+        | true ↦ λ t. subst (λ (z : K). P (z, e.1)) (sym (same q e.0 t)) h.0
+        | false ↦ λ t. lookup_by P es q h.1
+      ] refl
+
+pub none_kept : {X : Type 0} (q p : LinePlace) (es : List (LinePlace × X)) → is_at (place_cmp q) p ≡ true
     → AllByRecursion (λ q. place_cmp p q ≡ Less) (map (λ e. e.0) es) → lookup (is_at (place_cmp q)) es ≡ None
-none_kept q p es e h = subst (λ (z : Place). lookup (is_at (place_cmp z)) es ≡ None) (sym (same_place q p e)) (none_later p es h)
+none_kept q p es e h = none_by place_total same_place q p es e h
 
 -- a reading is in the list of all exactly if it is kept at its place
 pub any-entries : (es : List BareEntry) (r : Reading) → IsStrictlySortedBy place_cmp (map (λ e. e.0) es)
@@ -79,26 +107,13 @@ any-entries (e ∷ es) r h =
     or_false false = refl
 
 -- what holds at each place that is kept
-pub each_from_lookup : {X : Type 0} (P : Place × X → Type 0) (es : List (Place × X)) → IsStrictlySortedBy place_cmp (map (λ e. e.0) es)
-    → ((q : Place) → IfSome (lookup (is_at (place_cmp q)) es) (λ xs. P (q, xs))) → AllByRecursion P es
-unfolding IsStrictlySortedBy
-each_from_lookup {X} P [] h f = tt
-each_from_lookup {X} P (e ∷ es) h f = (
-  subst (λ b. IfSome (cond b (Some e.1) (lookup (is_at (place_cmp e.0)) es)) (λ xs. P (e.0, xs))) (ap is_eq (tied_itself place_total e.0)) (f e.0),
-  each_from_lookup P es h.1 (λ q. elim (is_at (place_cmp q) e.0) as (λ b. is_at (place_cmp q) e.0 ≡ b → IfSome (cond b (Some e.1) (lookup (is_at (place_cmp q)) es)) (λ xs. P (q, xs)) → IfSome (lookup (is_at (place_cmp q)) es) (λ xs. P (q, xs))) [
-    | true ↦ λ t g. subst (λ (o : Option X). IfSome o (λ xs. P (q, xs))) (sym (none_kept q e.0 es t h.0)) tt
-    | false ↦ λ t g. g
-  ] refl (f q)),
-)
+pub each_from_lookup : {X : Type 0} (P : LinePlace × X → Type 0) (es : List (LinePlace × X)) → IsStrictlySortedBy place_cmp (map (λ e. e.0) es)
+    → ((q : LinePlace) → IfSome (lookup (is_at (place_cmp q)) es) (λ xs. P (q, xs))) → AllByRecursion P es
+each_from_lookup P es h f = each_by place_total same_place P es h f
 
-pub lookup_from_each : {X : Type 0} (P : Place × X → Type 0) (es : List (Place × X)) (q : Place) → AllByRecursion P es
+pub lookup_from_each : {X : Type 0} (P : LinePlace × X → Type 0) (es : List (LinePlace × X)) (q : LinePlace) → AllByRecursion P es
     → IfSome (lookup (is_at (place_cmp q)) es) (λ xs. P (q, xs))
-lookup_from_each P [] q h = tt
-lookup_from_each P (e ∷ es) q h =
-    elim (is_at (place_cmp q) e.0) as (λ b. is_at (place_cmp q) e.0 ≡ b → IfSome (cond b (Some e.1) (lookup (is_at (place_cmp q)) es)) (λ xs. P (q, xs))) [
-      | true ↦ λ t. subst (λ (z : Place). P (z, e.1)) (sym (same_place q e.0 t)) h.0
-      | false ↦ λ t. lookup_from_each P es q h.1
-    ] refl
+lookup_from_each P es q h = lookup_by place_total same_place P es q h
 
 pub any_all : (P : List ℕ → Type 0) (x : List ℕ) (xs : List (List ℕ)) → AllByRecursion P xs → list_any (eq_by_cmp S x) xs ≡ true → P x
 any_all P x [] h e = absurd cc
@@ -133,7 +148,7 @@ held_same s r h = same_set reading_total reading_exact _ _ (λ q. contains-inser
         ] refl
 
 -- what is kept at a place can be counted
-pub countable_at : (shape : PictureShape) (es : List BareEntry) (q : Place) → AreEntries shape es → length (samples_at es q) < 2 ^ 64
+pub countable_at : (shape : PictureShape) (es : List BareEntry) (q : LinePlace) → AreEntries shape es → length (samples_at es q) < 2 ^ 64
 countable_at shape es q kept =
     elim (lookup (is_at (place_cmp q)) es) as (λ (o : Option (List (List ℕ))). IfSome o (λ xs. IsEntry shape (q, xs)) → length (unwrap_or o []) < 2 ^ 64) [
       | None ↦ λ k. omega arith

@@ -4,7 +4,7 @@ use Rattle.std.specs.List.{insert}
 use Rattle.std.proofs.lemmas.List.{get_or_append_left}
 use Rattle.std.proofs.lemmas.List.Edits.{insert-append_left}
 use Rattle.jls_values.specs.OrderedSet as sets
-use Rattle.jls_partial.specs.declared.index.Slot.{Slot}
+use Rattle.jls_partial.specs.declared.slots.Slot.{Slot}
 use Rattle.jls_partial.specs.Tree.{with_sources_at}
 
 module _ {X : Type 0} where

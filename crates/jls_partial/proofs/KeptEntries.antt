@@ -12,13 +12,13 @@ use Rattle.std.proofs.lemmas.List.Folds.{list_any-append}
 use Rattle.jls_values.specs.OrderedSet as set
 use Rattle.jls_values.specs.OrderedSetLaws.{same_set, contains-insert_all, contains-from_list, contains-empty}
 use Rattle.jls_values.specs.Shape.{PictureShape}
-use Rattle.jls_partial.specs.declared.place.Place.{Place}
+use Rattle.jls_partial.specs.declared.line_place.LinePlace.{LinePlace}
 use Rattle.jls_partial.specs.Entries.{Entry, BareEntry, bare, at_place, kept_at_place, readings_of_entries, kept_readings, partial_of}
 use Rattle.jls_partial.specs.Held.{AreEntries}
 use Rattle.jls_partial.specs.Marks.{mark_cmp, marks_of, sources_of}
 use Rattle.jls_partial.specs.Packed.{Kept}
 use Rattle.jls_partial.specs.Partial.{PartialPicture, sources_at, AreMarksHeld}
-use Rattle.jls_partial.specs.Place.{place_cmp, place_of}
+use Rattle.jls_partial.specs.LinePlace.{place_cmp, place_of}
 use Rattle.jls_partial.specs.Reading.{Reading, reading_cmp}
 use Rattle.jls_partial.specs.ReadingOrder.{reading_total, reading_exact, marks_total, marks_exact, eq_reading}
 use Rattle.jls_partial.specs.Text.{bare_entries, with_own_sources, entries}
@@ -29,7 +29,7 @@ use Rattle.jls_partial.proofs.ReadBack.{sorted-entries}
 
 -- ---- the readings alone
 
-firsts : (at : Place) (ks : List Kept)
+firsts : (at : LinePlace) (ks : List Kept)
     → map (λ (k : Reading × List ℕ). k.0) (map (kept_at_place at) ks) ≡ map (at_place at) (map (λ (k : Kept). k.0) ks)
 firsts at [] = refl
 firsts at (k ∷ ks) = ap (λ t. at_place at k.0 ∷ t) (firsts at ks)
@@ -68,10 +68,10 @@ holds_mark shape es r s =
     ∙ any_marks reading_cmp r s (kept_readings es)
 
 -- what is kept at a place
-abbrev pub kept_at : List Entry → Place → List Kept
+abbrev pub kept_at : List Entry → LinePlace → List Kept
 kept_at es at = unwrap_or (lookup (is_at (place_cmp at)) es) []
 
-has-at_place : (r : Reading) (g : List ℕ → Bool) (p : Place) (ks : List Kept)
+has-at_place : (r : Reading) (g : List ℕ → Bool) (p : LinePlace) (ks : List Kept)
     → has_item reading_cmp r g (map (kept_at_place p) ks) ≡ (eq_by_cmp place_cmp (place_of r) p && has_item S r.samples g ks)
 has-at_place r g p [] = none (eq_by_cmp place_cmp (place_of r) p)
   where
@@ -117,7 +117,7 @@ all_of P [] ys h = (tt, h)
 all_of P (x ∷ xs) ys h = let r = all_of P xs ys h.1 in ((h.0, r.0), r.1)
 
 module _ (P : Reading × List ℕ → Type 0) where
-  all_there : (at : Place) (ks : List Kept) → AllByRecursion P (map (kept_at_place at) ks) → AllByRecursion (λ k. P (kept_at_place at k)) ks
+  all_there : (at : LinePlace) (ks : List Kept) → AllByRecursion P (map (kept_at_place at) ks) → AllByRecursion (λ k. P (kept_at_place at k)) ks
   all_there at [] h = tt
   all_there at (k ∷ ks) h = (h.0, all_there at ks h.1)
 
@@ -133,7 +133,7 @@ kept_again : (f : List ℕ → List ℕ) (ks : List Kept) → AllByRecursion (λ
 kept_again f [] h = refl
 kept_again f (k ∷ ks) h = λ i. (k.0, h.0 i) ∷ kept_again f ks h.1 i
 
-own_again : (p : PartialPicture) (at : Place) (ks : List Kept) → AllByRecursion (λ k. IsStrictlySortedBy nat_cmp k.1) ks
+own_again : (p : PartialPicture) (at : LinePlace) (ks : List Kept) → AllByRecursion (λ k. IsStrictlySortedBy nat_cmp k.1) ks
     → AllByRecursion (λ k. (s : ℕ) → set.contains p.marks (at_place at k.0, s) ≡ list_any (eq_by_cmp nat_cmp s) k.1) ks
     → AllByRecursion (λ k. sources_at p at.component at.line k.0 ≡ k.1) ks
 own_again p at [] h own = tt

@@ -16,7 +16,7 @@ use Rattle.std.proofs.lemmas.Map.Lookups.{CmpEqualImpliesEq, exact_unsigned}
 use Rattle.jls_values.specs.Join.{IsBelow}
 use Rattle.jls_values.specs.OrderedSet as sets
 use Rattle.jls_values.specs.OrderedSetLaws.{items-from_list, same_set, contains-insert, contains-insert_all, contains-from_list, contains-items, contains-union, contains-empty, insert_all-append}
-use Rattle.jls_partial.specs.declared.index.Slot.{Slot}
+use Rattle.jls_partial.specs.declared.slots.Slot.{Slot}
 use Rattle.jls_partial.specs.declared.insert_fault.InsertFault.{InsertFault}
 use Rattle.jls_partial.specs.InsertFaults.{samples_fault}
 use Rattle.jls_partial.specs.LineSet.{PictureLines, with_lines, line_sources, union_of_lines, has_same_line_shape, AreLineMarksHeld, kept_lines as kept_lines_of}

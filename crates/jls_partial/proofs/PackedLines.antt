@@ -16,7 +16,7 @@ use Rattle.std.proofs.lemmas.Map.Keys.{Less-from_sorted}
 use Rattle.std.proofs.lemmas.Map.Lookups.{CmpEqualImpliesEq}
 use Rattle.jls_values.specs.OrderedSet as set
 use Rattle.jls_values.specs.OrderedSetLaws.{same_set, contains-insert, contains-from_list}
-use Rattle.jls_partial.specs.declared.index.Slot.{Slot}
+use Rattle.jls_partial.specs.declared.slots.Slot.{Slot}
 use Rattle.jls_partial.specs.LineSetLaws.{lines_exact}
 use Rattle.jls_partial.specs.Packed.{Kept, kept_of, lines_of, IsPacked, IsGap}
 

@@ -15,22 +15,23 @@ use Rattle.std.proofs.lemmas.List.Sorted.{searchable_from_sorted}
 use Rattle.std.proofs.lemmas.Map.{none_passes_from_lookup, lookup-insert, lookup-set_value, keys-set_value, length-set_value}
 use Rattle.std.proofs.lemmas.Map.Keys.{Less-from_sorted}
 use Rattle.jls_values.specs.OrderedSetLaws.{contains-from_list}
-use Rattle.jls_partial.specs.declared.index.Index.{Index}
-use Rattle.jls_partial.specs.declared.index.Index.TheVariants.{Empty}
-use Rattle.jls_partial.specs.declared.place.Place.{Place}
+use Rattle.jls_partial.specs.declared.slots.Slots.{Slots}
+use Rattle.jls_partial.specs.declared.slots.Slots.TheVariants.{Empty}
+use Rattle.jls_partial.specs.declared.line_place.LinePlace.{LinePlace}
+use Rattle.jls_partial.specs.declared.line_place.PageNumber.{PageNumber}
 use Rattle.jls_partial.specs.Packed.{IsGap}
 use Rattle.jls_partial.specs.Pages.{Row, page_of, IsPage}
-use Rattle.jls_partial.specs.Place.{place_cmp}
+use Rattle.jls_partial.specs.LinePlace.{place_cmp}
 use Rattle.jls_partial.specs.ReadingOrder.{place_total, place_exact, same_place}
 use Rattle.jls_partial.proofs.PackedLines.{turned_greater, gap-new, sorted-insert, map-insert, all-insert}
 use Rattle.jls_partial.proofs.StoredLines.{Updated}
 
 -- ---- where a search ends
 
-place_at : (rows : List Row) (i : ℕ) (d : Row) (at : Place) → i < length rows → get_or (map (λ r. r.0) rows) i at ≡ (get_or rows i d).0
+place_at : (rows : List Row) (i : ℕ) (d : Row) (at : LinePlace) → i < length rows → get_or (map (λ r. r.0) rows) i at ≡ (get_or rows i d).0
 place_at rows i d at lt = get_or-map (λ (r : Row). r.0) rows i d at lt
 
-module _ (rows : List Row) (sorted : IsStrictlySortedBy place_cmp (map (λ r. r.0) rows)) (at : Place) where
+module _ (rows : List Row) (sorted : IsStrictlySortedBy place_cmp (map (λ r. r.0) rows)) (at : LinePlace) where
   comparisons_rise : IsNonDecreasingBy (λ r. ordering_index (place_cmp r.0 at)) rows
   comparisons_rise = searchable_from_sorted place_total (λ (r : Row). r.0) rows at (λ k d _ lt.
       let here : k < length rows = omega (arith, lt) in
@@ -48,7 +49,7 @@ module _ (rows : List Row) (sorted : IsStrictlySortedBy place_cmp (map (λ r. r.
         tt,
         record {
           within = omega (arith, le, many);
-          below = λ k lt. ap (λ (z : Place). place_cmp z at) (place_at rows k (at, Empty) at (omega (arith, le, lt))) ∙ (parted comparisons_rise).0 k (at, Empty) (omega arith) lt;
+          below = λ k lt. ap (λ (z : LinePlace). place_cmp z at) (place_at rows k (at, Empty) at (omega (arith, le, lt))) ∙ (parted comparisons_rise).0 k (at, Empty) (omega arith) lt;
           above = λ k ge lt.
               let inside : k < length rows = omega (arith, lt, many) in
               ap (place_cmp at) (place_at rows k (at, Empty) at inside)
@@ -58,23 +59,23 @@ module _ (rows : List Row) (sorted : IsStrictlySortedBy place_cmp (map (λ r. r.
 
 -- ---- a row that is there
 
-all_at : (P : Place → Type 0) (ks : List Place) (i : ℕ) (d : Place) → AllByRecursion P ks → i < length ks → P (get_or ks i d)
+all_at : (P : LinePlace → Type 0) (ks : List LinePlace) (i : ℕ) (d : LinePlace) → AllByRecursion P ks → i < length ks → P (get_or ks i d)
 all_at P [] i d h lt = absurd (omega arith)
 all_at P (k ∷ ks) zero d h lt = h.0
 all_at P (k ∷ ks) (suc i) d h lt = all_at P ks i d h.1 (omega arith)
 
-at_itself : (at k : Place) → k ≡ at → is_at (place_cmp at) k ≡ true
+at_itself : (at k : LinePlace) → k ≡ at → is_at (place_cmp at) k ≡ true
 at_itself at k is = ap (is_at (place_cmp at)) is ∙ ap is_eq (tied_itself place_total at)
 
 -- the first row is below the one that is looked for
-later : (at k : Place) (rows : List Row) (i : ℕ) → AllByRecursion (λ y. place_cmp k y ≡ Less) (map (λ r. r.0) rows) → i < length rows
+later : (at k : LinePlace) (rows : List Row) (i : ℕ) → AllByRecursion (λ y. place_cmp k y ≡ Less) (map (λ r. r.0) rows) → i < length rows
     → get_or (map (λ r. r.0) rows) i at ≡ at → is_at (place_cmp at) k ≡ false
 later at k rows i above lt is =
     let many : length (map (λ (r : Row). r.0) rows) ≡ length rows = length-map rows (λ (r : Row). r.0) in
     let below : place_cmp k at ≡ Less = ap (place_cmp k) (sym is) ∙ all_at (λ y. place_cmp k y ≡ Less) (map (λ r. r.0) rows) i at above (omega (arith, lt, many)) in
     ap is_eq (place_total.antisymm at k ∙ ap ordering_reverse below)
 
-pub row_found : (rows : List Row) (at : Place) (i : ℕ) (x : Row) → IsStrictlySortedBy place_cmp (map (λ r. r.0) rows) → i < length rows
+pub row_found : (rows : List Row) (at : LinePlace) (i : ℕ) (x : Row) → IsStrictlySortedBy place_cmp (map (λ r. r.0) rows) → i < length rows
     → get_or (map (λ r. r.0) rows) i at ≡ at → x ≡ get_or rows i x → lookup (is_at (place_cmp at)) rows ≡ Some x.1
 unfolding IsStrictlySortedBy
 row_found [] at i x sorted lt is read = absurd (omega arith)
@@ -85,7 +86,7 @@ row_found (r ∷ rows) at (suc i) x sorted lt is read =
     ∙ row_found rows at i x sorted.1 (omega arith) is read
 
 -- a row that is written over is the value at its place
-pub row_set : (rows : List Row) (at : Place) (i : ℕ) (x : Row) (y : Index) → IsStrictlySortedBy place_cmp (map (λ r. r.0) rows) → i < length rows
+pub row_set : (rows : List Row) (at : LinePlace) (i : ℕ) (x : Row) (y : Slots) → IsStrictlySortedBy place_cmp (map (λ r. r.0) rows) → i < length rows
     → get_or (map (λ r. r.0) rows) i at ≡ at → x ≡ get_or rows i x → set rows i (x.0, y) ≡ set_value (is_at (place_cmp at)) rows y
 unfolding IsStrictlySortedBy
 row_set [] at i x y sorted lt is read = absurd (omega arith)
@@ -96,18 +97,18 @@ row_set (r ∷ rows) at (suc i) x y sorted lt is read =
     ∙ sym (ap (λ b. cond b ((r.0, y) ∷ rows) (r ∷ set_value (is_at (place_cmp at)) rows y)) (later at r.0 rows i sorted.0 (omega arith) is))
 
 -- what is found afterwards
-pub set_updates : (rows : List Row) (at : Place) (y : Index) → IsSome (lookup (is_at (place_cmp at)) rows)
+pub set_updates : (rows : List Row) (at : LinePlace) (y : Slots) → IsSome (lookup (is_at (place_cmp at)) rows)
     → Updated rows at y (set_value (is_at (place_cmp at)) rows y)
 set_updates rows at y some q =
-    lookup-set_value (eq_by_cmp_equiv place_total) (is_at (place_cmp at)) (λ a b e. ap (λ (z : Place). eq_by_cmp place_cmp z b) (same_place at a e)) q y rows some
+    lookup-set_value (eq_by_cmp_equiv place_total) (is_at (place_cmp at)) (λ a b e. ap (λ (z : LinePlace). eq_by_cmp place_cmp z b) (same_place at a e)) q y rows some
 
 -- of a row that is found and written over
-pub record IsWritten (rows : List Row) (at : Place) (x y : Index) (fs : List Row) : Type 0 where
+pub record IsWritten (rows : List Row) (at : LinePlace) (x y : Slots) (fs : List Row) : Type 0 where
   pub found : lookup (is_at (place_cmp at)) rows ≡ Some x
   pub is : fs ≡ set_value (is_at (place_cmp at)) rows y
   pub updated : Updated rows at y fs
 
-pub written : (rows searched : List Row) (at : Place) (i : ℕ) (x : Row) (y : Index) → searched ≡ rows → IsStrictlySortedBy place_cmp (map (λ r. r.0) rows)
+pub written : (rows searched : List Row) (at : LinePlace) (i : ℕ) (x : Row) (y : Slots) → searched ≡ rows → IsStrictlySortedBy place_cmp (map (λ r. r.0) rows)
     → i < length searched → get_or (map (λ r. r.0) searched) i at ≡ at → x ≡ get_or rows i x → IsWritten rows at x.1 y (set rows i (x.0, y))
 written rows searched at i x y same_rows sorted lt is read =
     let below : i < length rows = subst (λ (rs : List Row). i < length rs) same_rows lt in
@@ -116,7 +117,7 @@ written rows searched at i x y same_rows sorted lt is read =
     let here = row_set rows at i x y sorted below same read in
     record { found = found; is = here; updated = subst (Updated rows at y) (sym here) (set_updates rows at y (ap is_some found)) }
 
-own_set : (page : Place) (t : Place → Bool) (rows : List Row) (y : Index) → AllByRecursion (λ r. page_of r.0 ≡ page) rows
+own_set : (page : PageNumber) (t : LinePlace → Bool) (rows : List Row) (y : Slots) → AllByRecursion (λ r. page_of r.0 ≡ page) rows
     → AllByRecursion (λ r. page_of r.0 ≡ page) (set_value t rows y)
 own_set page t [] y h = tt
 own_set page t (r ∷ rows) y h =
@@ -125,7 +126,7 @@ own_set page t (r ∷ rows) y h =
       | false ↦ (h.0, own_set page t rows y h.1)
     ]
 
-pub set_page : (page : Place) (rows : List Row) (t : Place → Bool) (y : Index) → IsPage page rows → IsPage page (set_value t rows y)
+pub set_page : (page : PageNumber) (rows : List Row) (t : LinePlace → Bool) (y : Slots) → IsPage page rows → IsPage page (set_value t rows y)
 set_page page rows t y is = record {
   some = let many = length-set_value t rows y in let before = is.some in omega (arith, many, before);
   sorted = subst (IsStrictlySortedBy place_cmp) (sym (keys-set_value t rows y)) is.sorted;
@@ -134,7 +135,7 @@ set_page page rows t y is = record {
 
 -- ---- a row that is put in
 
-none_any : (t : Place → Bool) (rows : List Row) → list_any t (map (λ r. r.0) rows) ≡ false → lookup t rows ≡ None
+none_any : (t : LinePlace → Bool) (rows : List Row) → list_any t (map (λ r. r.0) rows) ≡ false → lookup t rows ≡ None
 none_any t [] h = refl
 none_any t (r ∷ rows) h =
     elim (t r.0) as (λ b. (b || list_any t (map (λ (r : Row). r.0) rows)) ≡ false → cond b (Some r.1) (lookup t rows) ≡ None) [
@@ -142,17 +143,17 @@ none_any t (r ∷ rows) h =
       | false ↦ λ e. none_any t rows e
     ] h
 
-pub row_missing : (rows : List Row) (at : Place) (i : ℕ) → IsGap place_cmp (map (λ r. r.0) rows) i at → lookup (is_at (place_cmp at)) rows ≡ None
+pub row_missing : (rows : List Row) (at : LinePlace) (i : ℕ) → IsGap place_cmp (map (λ r. r.0) rows) i at → lookup (is_at (place_cmp at)) rows ≡ None
 row_missing rows at i gap =
     none_any (is_at (place_cmp at)) rows
     (sym (contains-from_list place_total (map (λ r. r.0) rows) at) ∙ gap-new place_total place_exact (map (λ r. r.0) rows) i at gap)
 
-pub insert_updates : (rows : List Row) (at : Place) (i : ℕ) (y : Index) → IsGap place_cmp (map (λ r. r.0) rows) i at
+pub insert_updates : (rows : List Row) (at : LinePlace) (i : ℕ) (y : Slots) → IsGap place_cmp (map (λ r. r.0) rows) i at
     → Updated rows at y (insert rows i (at, y))
 insert_updates rows at i y gap q =
     lookup-insert (eq_by_cmp_equiv place_total) at y q rows i (none_passes_from_lookup (is_at (place_cmp at)) rows (row_missing rows at i gap))
 
-pub insert_page : (rows : List Row) (at : Place) (i : ℕ) (y : Index) → IsPage (page_of at) rows → IsGap place_cmp (map (λ r. r.0) rows) i at
+pub insert_page : (rows : List Row) (at : LinePlace) (i : ℕ) (y : Slots) → IsPage (page_of at) rows → IsGap place_cmp (map (λ r. r.0) rows) i at
     → IsPage (page_of at) (insert rows i (at, y))
 insert_page rows at i y is gap =
     let many : length (map (λ (r : Row). r.0) rows) ≡ length rows = length-map rows (λ (r : Row). r.0) in
@@ -167,11 +168,11 @@ insert_page rows at i y is gap =
 
 -- ---- the first row of a page
 
-pub first_page : (at : Place) (y : Index) → IsPage (page_of at) ((at, y) ∷ [])
+pub first_page : (at : LinePlace) (y : Slots) → IsPage (page_of at) ((at, y) ∷ [])
 unfolding IsStrictlySortedBy
 first_page at y = record { some = omega arith; sorted = (tt, tt); own = (refl, tt) }
 
-pub first_updates : (at : Place) (y : Index) → Updated [] at y ((at, y) ∷ [])
+pub first_updates : (at : LinePlace) (y : Slots) → Updated [] at y ((at, y) ∷ [])
 first_updates at y q = ap (λ b. cond b (Some y) None) (turned (place_cmp q at) (place_cmp at q) (place_total.antisymm q at))
   where
     turned : (a b : Ordering) → a ≡ ordering_reverse b → is_eq a ≡ is_eq b

@@ -1,4 +1,4 @@
--- An index in pages: what is found in its rows, that they rise, and what a page that is changed leaves.
+-- Rows in pages: what is found in its rows, that they rise, and what a page that is changed leaves.
 use Rattle.std.proofs.Common.{◌≡◌, ℕ, ◌<◌, ◌/◌, Bool, true, false, cond, List, [], ◌∷◌, ◌++◌, map, Option, Some, None, refl, ap, sym, subst, ◌∙◌, arith}
 use Rattle.std.specs.Prelude.{IfSome, unwrap_or}
 use Rattle.std.specs.declared.alloc.Global.{Global}
@@ -8,22 +8,39 @@ use Rattle.std.specs.BTreeMap.{is_at}
 use Rattle.std.specs.List.{AllByRecursion}
 use Rattle.std.specs.List.Sorted.{IsStrictlySortedBy}
 use Rattle.std.specs.Map.{lookup, set_value}
-use Rattle.std.specs.Ordering.{nat_cmp, is_eq, ordering_then}
-use Rattle.std.specs.Cmp.{nat_cmp_is}
-use Rattle.std.proofs.lemmas.Cmp.{tied_itself, ranked}
+use Rattle.std.specs.declared.cmp.Ordering.{Ordering}
+use Rattle.std.specs.Ordering.{nat_cmp, is_eq, eq_by_cmp, ordering_then}
+use Rattle.std.specs.Cmp.{IsTotalOrder, nat_cmp_is}
+use Rattle.std.proofs.lemmas.Cmp.{tied_itself, ranked, nat_cmp_total, on_total, then_total}
+use Rattle.std.proofs.lemmas.Map.Lookups.{exact_unsigned, exact_pairs}
 use Rattle.std.proofs.lemmas.List.{map-append}
 use Rattle.jls_values.specs.OrderedSetLaws.{sorted-append}
 use Rattle.jls_partial.specs.declared.packed_lines.PackedLines.{PackedLines}
-use Rattle.jls_partial.specs.declared.place.Place.{Place}
+use Rattle.jls_partial.specs.declared.line_place.LinePlace.{LinePlace}
+use Rattle.jls_partial.specs.declared.line_place.PageNumber.{PageNumber}
 use Rattle.jls_partial.specs.Held.{PutsAt, lines_or}
 use Rattle.jls_partial.specs.LineSet.{PictureLines}
 use Rattle.jls_partial.specs.PackedLines.{IsLineSet}
-use Rattle.jls_partial.specs.Pages.{Row, Pages, page_of, rows_of, IsPage, ArePages}
-use Rattle.jls_partial.specs.Place.{place_cmp}
+use Rattle.jls_partial.specs.Pages.{Row, Pages, page_cmp, page_of, rows_of, IsPage, ArePages}
+use Rattle.jls_partial.specs.LinePlace.{place_cmp}
 use Rattle.jls_partial.specs.ReadingOrder.{place_total, same_place}
-use Rattle.jls_partial.specs.Stored.{LineSlots, slots_of_entries, entries_in, AreIndicesOf, Extends, lines_in}
-use Rattle.jls_partial.proofs.Entries.{each_from_lookup, lookup_from_each}
-use Rattle.jls_partial.proofs.StoredLines.{Updated, all_stay, indexed_still, lookup_seen}
+use Rattle.jls_partial.specs.Stored.{LineSlots, slots_of_entries, entries_in, AreRowsOf, Extends, lines_in}
+use Rattle.jls_partial.proofs.Entries.{each_by, lookup_by}
+use Rattle.jls_partial.proofs.StoredLines.{UpdatedBy, all_stay, still_packed, lookup_seen}
+
+-- ---- the order of pages
+
+page_total : IsTotalOrder page_cmp
+page_total = then_total (on_total (λ (p : PageNumber). p.component) nat_cmp_total) (on_total (λ (p : PageNumber). p.number) nat_cmp_total)
+
+same_page : (p q : PageNumber) → eq_by_cmp page_cmp p q ≡ true → p ≡ q
+same_page p q e = ap (λ (x : ℕ × ℕ). record { component = x.0; number = x.1 })
+    (exact_pairs nat_cmp nat_cmp exact_unsigned exact_unsigned (p.component, p.number) (q.component, q.number) (tied (page_cmp p q) e))
+  where
+    tied : (r : Ordering) → is_eq r ≡ true → r ≡ Equal
+    tied Less e = absurd cc
+    tied Equal e = refl
+    tied Greater e = absurd cc
 
 -- ---- lines and their pages
 
@@ -34,7 +51,7 @@ lines_apart m n h =
     sym (nat_cmp_is m n Less lines)
 
 -- lines of pages that rise rise
-pub pages_apart : (a b : Place) → place_cmp (page_of a) (page_of b) ≡ Less → place_cmp a b ≡ Less
+pub pages_apart : (a b : LinePlace) → page_cmp (page_of a) (page_of b) ≡ Less → place_cmp a b ≡ Less
 pages_apart a b =
     elim (nat_cmp a.component b.component) as (λ o. ordering_then o (nat_cmp (a.line / 64) (b.line / 64)) ≡ Less → ordering_then o (nat_cmp a.line b.line) ≡ Less) [
       | Less ↦ λ h. refl
@@ -42,16 +59,16 @@ pages_apart a b =
       | Greater ↦ λ h. absurd cc
     ]
 
-at_itself : (p : Place) → is_at (place_cmp p) p ≡ true
-at_itself p = ap is_eq (tied_itself place_total p)
+page_itself : (p : PageNumber) → is_at (page_cmp p) p ≡ true
+page_itself p = ap is_eq (tied_itself page_total p)
 
 -- a line of another page is another line
-other_line : (at q : Place) → is_at (place_cmp (page_of at)) (page_of q) ≡ false → is_at (place_cmp at) q ≡ false
+other_line : (at q : LinePlace) → is_at (page_cmp (page_of at)) (page_of q) ≡ false → is_at (place_cmp at) q ≡ false
 other_line at q h =
     elim (is_at (place_cmp at) q) as (λ b. is_at (place_cmp at) q ≡ b → b ≡ false) [
       | false ↦ λ e. refl
       | true ↦ λ e.
-          let same : is_at (place_cmp (page_of at)) (page_of q) ≡ true = ap (λ (z : Place). is_at (place_cmp (page_of at)) (page_of z)) (sym (same_place at q e)) ∙ at_itself (page_of at) in
+          let same : is_at (page_cmp (page_of at)) (page_of q) ≡ true = ap (λ (z : LinePlace). is_at (page_cmp (page_of at)) (page_of z)) (sym (same_place at q e)) ∙ page_itself (page_of at) in
           let bad : true ≡ false = sym same ∙ h in
           absurd cc
     ] refl
@@ -63,17 +80,17 @@ items_or None = []
 items_or (Some rows) = rows.items
 
 -- the rows of the page of a line
-abbrev pub rows_at : Pages → Place → List Row
-rows_at ps q = items_or (lookup (is_at (place_cmp (page_of q))) ps)
+abbrev pub rows_at : Pages → LinePlace → List Row
+rows_at ps q = items_or (lookup (is_at (page_cmp (page_of q))) ps)
 
-pub rows_there : (ps : Pages) (at : Place) (v : Vec Row Global) → lookup (is_at (place_cmp (page_of at))) ps ≡ Some v → rows_at ps at ≡ v.items
+pub rows_there : (ps : Pages) (at : LinePlace) (v : Vec Row Global) → lookup (is_at (page_cmp (page_of at))) ps ≡ Some v → rows_at ps at ≡ v.items
 rows_there ps at v found = ap items_or found
 
-pub rows_missing : (ps : Pages) (at : Place) → lookup (is_at (place_cmp (page_of at))) ps ≡ None → rows_at ps at ≡ []
+pub rows_missing : (ps : Pages) (at : LinePlace) → lookup (is_at (page_cmp (page_of at))) ps ≡ None → rows_at ps at ≡ []
 rows_missing ps at missing = ap items_or missing
 
 -- where the first list has nothing, the second is looked up
-none_first : (t : Place → Bool) (xs ys : List Row) → lookup t xs ≡ None → lookup t (xs ++ ys) ≡ lookup t ys
+none_first : (t : LinePlace → Bool) (xs ys : List Row) → lookup t xs ≡ None → lookup t (xs ++ ys) ≡ lookup t ys
 none_first t [] ys h = refl
 none_first t (x ∷ xs) ys h =
     elim (t x.0) as (λ b. cond b (Some x.1) (lookup t xs) ≡ None → cond b (Some x.1) (lookup t (xs ++ ys)) ≡ lookup t ys) [
@@ -82,72 +99,72 @@ none_first t (x ∷ xs) ys h =
     ] h
 
 -- and where the second has nothing, the first alone
-none_second : (t : Place → Bool) (xs ys : List Row) → lookup t ys ≡ None → lookup t (xs ++ ys) ≡ lookup t xs
+none_second : (t : LinePlace → Bool) (xs ys : List Row) → lookup t ys ≡ None → lookup t (xs ++ ys) ≡ lookup t xs
 none_second t [] ys h = h
 none_second t (x ∷ xs) ys h = ap (λ o. cond (t x.0) (Some x.1) o) (none_second t xs ys h)
 
 -- a line has no row in another page
-none_elsewhere : (q page : Place) (rows : List Row) → is_at (place_cmp (page_of q)) page ≡ false → AllByRecursion (λ r. page_of r.0 ≡ page) rows
+none_elsewhere : (q : LinePlace) (page : PageNumber) (rows : List Row) → is_at (page_cmp (page_of q)) page ≡ false → AllByRecursion (λ r. page_of r.0 ≡ page) rows
     → lookup (is_at (place_cmp q)) rows ≡ None
 none_elsewhere q page [] h own = refl
 none_elsewhere q page (r ∷ rows) h own =
-    let apart : is_at (place_cmp q) r.0 ≡ false = other_line q r.0 (ap (is_at (place_cmp (page_of q))) own.0 ∙ h) in
+    let apart : is_at (place_cmp q) r.0 ≡ false = other_line q r.0 (ap (is_at (page_cmp (page_of q))) own.0 ∙ h) in
     ap (λ b. cond b (Some r.1) (lookup (is_at (place_cmp q)) rows)) apart ∙ none_elsewhere q page rows h own.1
 
 -- nor in the pages behind its own
-none_behind : (q page : Place) (ps : Pages) → is_at (place_cmp (page_of q)) page ≡ true
-    → AllByRecursion (λ k. place_cmp page k ≡ Less) (map (λ p. p.0) ps) → AllByRecursion (λ p. IsPage p.0 p.1.items) ps
+none_behind : (q : LinePlace) (page : PageNumber) (ps : Pages) → is_at (page_cmp (page_of q)) page ≡ true
+    → AllByRecursion (λ k. page_cmp page k ≡ Less) (map (λ p. p.0) ps) → AllByRecursion (λ p. IsPage p.0 p.1.items) ps
     → lookup (is_at (place_cmp q)) (rows_of ps) ≡ None
 none_behind q page [] h above each = refl
 none_behind q page (p ∷ ps) h above each =
-    let same : page_of q ≡ page = same_place (page_of q) page h in
-    let apart : is_at (place_cmp (page_of q)) p.0 ≡ false = ap (λ (z : Place). is_at (place_cmp z) p.0) same ∙ ap is_eq above.0 in
+    let same : page_of q ≡ page = same_page (page_of q) page h in
+    let apart : is_at (page_cmp (page_of q)) p.0 ≡ false = ap (λ (z : PageNumber). is_at (page_cmp z) p.0) same ∙ ap is_eq above.0 in
     none_first (is_at (place_cmp q)) p.1.items (rows_of ps) (none_elsewhere q p.0 p.1.items apart each.0.own)
     ∙ none_behind q page ps h above.1 each.1
 
 -- what is found of a line among all rows is found in its page
-found_in_page : (ps : Pages) (q : Place) → IsStrictlySortedBy place_cmp (map (λ p. p.0) ps) → AllByRecursion (λ p. IsPage p.0 p.1.items) ps
+found_in_page : (ps : Pages) (q : LinePlace) → IsStrictlySortedBy page_cmp (map (λ p. p.0) ps) → AllByRecursion (λ p. IsPage p.0 p.1.items) ps
     → lookup (is_at (place_cmp q)) (rows_of ps) ≡ lookup (is_at (place_cmp q)) (rows_at ps q)
 unfolding IsStrictlySortedBy
 found_in_page [] q sorted each = refl
 found_in_page (p ∷ ps) q sorted each =
     let t = is_at (place_cmp q) in
-    elim (is_at (place_cmp (page_of q)) p.0) as (λ b. is_at (place_cmp (page_of q)) p.0 ≡ b → lookup t (p.1.items ++ rows_of ps) ≡ lookup t (items_or (cond b (Some p.1) (lookup (is_at (place_cmp (page_of q))) ps)))) [
+    elim (is_at (page_cmp (page_of q)) p.0) as (λ b. is_at (page_cmp (page_of q)) p.0 ≡ b → lookup t (p.1.items ++ rows_of ps) ≡ lookup t (items_or (cond b (Some p.1) (lookup (is_at (page_cmp (page_of q))) ps)))) [
       | true ↦ λ e. none_second t p.1.items (rows_of ps) (none_behind q p.0 ps e sorted.0 each.1)
       | false ↦ λ e. none_first t p.1.items (rows_of ps) (none_elsewhere q p.0 p.1.items e each.0.own) ∙ found_in_page ps q sorted.1 each.1
     ] refl
 
-pub page_found : (ps : Pages) (q : Place) → ArePages ps → lookup (is_at (place_cmp q)) (rows_of ps) ≡ lookup (is_at (place_cmp q)) (rows_at ps q)
+pub page_found : (ps : Pages) (q : LinePlace) → ArePages ps → lookup (is_at (place_cmp q)) (rows_of ps) ≡ lookup (is_at (place_cmp q)) (rows_at ps q)
 page_found ps q are = found_in_page ps q are.sorted are.each
 
 -- ---- all rows rise
 
-rows_above : (x : Place) (page : Place) (rows : List Row) → place_cmp (page_of x) page ≡ Less → AllByRecursion (λ r. page_of r.0 ≡ page) rows
+rows_above : (x : LinePlace) (page : PageNumber) (rows : List Row) → page_cmp (page_of x) page ≡ Less → AllByRecursion (λ r. page_of r.0 ≡ page) rows
     → AllByRecursion (λ y. place_cmp x y ≡ Less) (map (λ r. r.0) rows)
 rows_above x page [] h own = tt
-rows_above x page (r ∷ rows) h own = (pages_apart x r.0 (ap (place_cmp (page_of x)) own.0 ∙ h), rows_above x page rows h own.1)
+rows_above x page (r ∷ rows) h own = (pages_apart x r.0 (ap (page_cmp (page_of x)) own.0 ∙ h), rows_above x page rows h own.1)
 
 all-append : {X : Type 0} (P : X → Type 0) (xs ys : List X) → AllByRecursion P xs → AllByRecursion P ys → AllByRecursion P (xs ++ ys)
 all-append P [] ys h k = k
 all-append P (x ∷ xs) ys h k = (h.0, all-append P xs ys h.1 k)
 
-pages_above : (x : Place) (ps : Pages) → AllByRecursion (λ k. place_cmp (page_of x) k ≡ Less) (map (λ p. p.0) ps)
+pages_above : (x : LinePlace) (ps : Pages) → AllByRecursion (λ k. page_cmp (page_of x) k ≡ Less) (map (λ p. p.0) ps)
     → AllByRecursion (λ p. IsPage p.0 p.1.items) ps → AllByRecursion (λ y. place_cmp x y ≡ Less) (map (λ r. r.0) (rows_of ps))
 pages_above x [] above each = tt
 pages_above x (p ∷ ps) above each =
     subst (AllByRecursion (λ y. place_cmp x y ≡ Less)) (sym (map-append (λ (r : Row). r.0) p.1.items (rows_of ps)))
     (all-append (λ y. place_cmp x y ≡ Less) (map (λ r. r.0) p.1.items) (map (λ r. r.0) (rows_of ps)) (rows_above x p.0 p.1.items above.0 each.0.own) (pages_above x ps above.1 each.1))
 
-each_above : (page : Place) (rows : List Row) (ps : Pages) → AllByRecursion (λ r. page_of r.0 ≡ page) rows
-    → AllByRecursion (λ k. place_cmp page k ≡ Less) (map (λ p. p.0) ps) → AllByRecursion (λ p. IsPage p.0 p.1.items) ps
+each_above : (page : PageNumber) (rows : List Row) (ps : Pages) → AllByRecursion (λ r. page_of r.0 ≡ page) rows
+    → AllByRecursion (λ k. page_cmp page k ≡ Less) (map (λ p. p.0) ps) → AllByRecursion (λ p. IsPage p.0 p.1.items) ps
     → AllByRecursion (λ x. AllByRecursion (λ y. place_cmp x y ≡ Less) (map (λ r. r.0) (rows_of ps))) (map (λ r. r.0) rows)
 each_above page [] ps own above each = tt
 each_above page (r ∷ rows) ps own above each = (
-  pages_above r.0 ps (subst (λ (z : Place). AllByRecursion (λ k. place_cmp z k ≡ Less) (map (λ p. p.0) ps)) (sym own.0) above) each,
+  pages_above r.0 ps (subst (λ (z : PageNumber). AllByRecursion (λ k. page_cmp z k ≡ Less) (map (λ p. p.0) ps)) (sym own.0) above) each,
   each_above page rows ps own.1 above each,
 )
 
-rows_rise : (ps : Pages) → IsStrictlySortedBy place_cmp (map (λ p. p.0) ps) → AllByRecursion (λ p. IsPage p.0 p.1.items) ps
+rows_rise : (ps : Pages) → IsStrictlySortedBy page_cmp (map (λ p. p.0) ps) → AllByRecursion (λ p. IsPage p.0 p.1.items) ps
     → IsStrictlySortedBy place_cmp (map (λ r. r.0) (rows_of ps))
 unfolding IsStrictlySortedBy
 rows_rise [] sorted each = tt
@@ -160,51 +177,51 @@ all_rise ps are = rows_rise ps are.sorted are.each
 
 -- ---- a page
 
-pub page_here : (ps : Pages) (at : Place) (v : Vec Row Global) → ArePages ps → lookup (is_at (place_cmp (page_of at))) ps ≡ Some v → IsPage (page_of at) v.items
+pub page_here : (ps : Pages) (at : LinePlace) (v : Vec Row Global) → ArePages ps → lookup (is_at (page_cmp (page_of at))) ps ≡ Some v → IsPage (page_of at) v.items
 page_here ps at v are found = subst (λ (o : Option (Vec Row Global)). IfSome o (λ w. IsPage (page_of at) w.items)) found
-    (lookup_from_each (λ p. IsPage p.0 p.1.items) ps (page_of at) are.each)
+    (lookup_by page_total same_page (λ p. IsPage p.0 p.1.items) ps (page_of at) are.each)
 
 -- one page more, or one changed
-pub pages_more : (es fs : Pages) (page : Place) (v : Vec Row Global) → ArePages es → Updated es page v fs
-    → IsStrictlySortedBy place_cmp (map (λ p. p.0) fs) → IsPage page v.items → ArePages fs
+pub pages_more : (es fs : Pages) (page : PageNumber) (v : Vec Row Global) → ArePages es → UpdatedBy page_cmp es page v fs
+    → IsStrictlySortedBy page_cmp (map (λ p. p.0) fs) → IsPage page v.items → ArePages fs
 pages_more es fs page v are u order is = record {
   sorted = order;
-  each = each_from_lookup (λ p. IsPage p.0 p.1.items) fs order (λ q. subst (λ (o : Option (Vec Row Global)). IfSome o (λ w. IsPage q w.items)) (sym (u q))
-      (elim (is_at (place_cmp page) q) as (λ b. is_at (place_cmp page) q ≡ b → IfSome (cond b (Some v) (lookup (is_at (place_cmp q)) es)) (λ w. IsPage q w.items)) [
-        | true ↦ λ e. subst (λ (z : Place). IsPage z v.items) (same_place page q e) is
-        | false ↦ λ e. lookup_from_each (λ p. IsPage p.0 p.1.items) es q are.each
+  each = each_by page_total same_page (λ p. IsPage p.0 p.1.items) fs order (λ q. subst (λ (o : Option (Vec Row Global)). IfSome o (λ w. IsPage q w.items)) (sym (u q))
+      (elim (is_at (page_cmp page) q) as (λ b. is_at (page_cmp page) q ≡ b → IfSome (cond b (Some v) (lookup (is_at (page_cmp q)) es)) (λ w. IsPage q w.items)) [
+        | true ↦ λ e. subst (λ (z : PageNumber). IsPage z v.items) (same_page page q e) is
+        | false ↦ λ e. lookup_by page_total same_page (λ p. IsPage p.0 p.1.items) es q are.each
       ] refl));
 }
 
 -- of a page that is found and written over
-pub record IsPageWritten (es : Pages) (at : Place) (w v : Vec Row Global) (fs : Pages) : Type 0 where
-  pub found : lookup (is_at (place_cmp (page_of at))) es ≡ Some w
-  pub is : fs ≡ set_value (is_at (place_cmp (page_of at))) es v
-  pub updated : Updated es (page_of at) v fs
+pub record IsPageWritten (es : Pages) (at : LinePlace) (w v : Vec Row Global) (fs : Pages) : Type 0 where
+  pub found : lookup (is_at (page_cmp (page_of at))) es ≡ Some w
+  pub is : fs ≡ set_value (is_at (page_cmp (page_of at))) es v
+  pub updated : UpdatedBy page_cmp es (page_of at) v fs
   pub are : ArePages fs
 
-pub page_written : (es fs : Pages) (at page : Place) (w v : Vec Row Global) → page ≡ page_of at → ArePages es
-    → lookup (is_at (place_cmp page)) es ≡ Some w → fs ≡ set_value (is_at (place_cmp page)) es v
-    → Updated es page v fs → IsStrictlySortedBy place_cmp (map (λ p. p.0) fs) → IsPage (page_of at) v.items → IsPageWritten es at w v fs
+pub page_written : (es fs : Pages) (at : LinePlace) (page : PageNumber) (w v : Vec Row Global) → page ≡ page_of at → ArePages es
+    → lookup (is_at (page_cmp page)) es ≡ Some w → fs ≡ set_value (is_at (page_cmp page)) es v
+    → UpdatedBy page_cmp es page v fs → IsStrictlySortedBy page_cmp (map (λ p. p.0) fs) → IsPage (page_of at) v.items → IsPageWritten es at w v fs
 page_written es fs at page w v named are found is u order kept =
-    let updated : Updated es (page_of at) v fs = subst (λ (z : Place). Updated es z v fs) named u in
+    let updated : UpdatedBy page_cmp es (page_of at) v fs = subst (λ (z : PageNumber). UpdatedBy page_cmp es z v fs) named u in
     record {
-      found = ap (λ (z : Place). lookup (is_at (place_cmp z)) es) (sym named) ∙ found;
-      is = is ∙ ap (λ (z : Place). set_value (is_at (place_cmp z)) es v) named;
+      found = ap (λ (z : PageNumber). lookup (is_at (page_cmp z)) es) (sym named) ∙ found;
+      is = is ∙ ap (λ (z : PageNumber). set_value (is_at (page_cmp z)) es v) named;
       updated = updated;
       are = pages_more es fs (page_of at) v are updated order kept;
     }
 
 -- ---- what is kept
 
-pub seen_page : (packed : PackedLines) (ps : Pages) (q : Place) → ArePages ps
+pub seen_page : (packed : PackedLines) (ps : Pages) (q : LinePlace) → ArePages ps
     → lookup (is_at (place_cmp q)) (entries_in packed (rows_of ps)) ≡ lookup (is_at (place_cmp q)) (entries_in packed (rows_at ps q))
 seen_page packed ps q are =
     lookup_seen packed (rows_of ps) q (lookup (is_at (place_cmp q)) (rows_at ps q)) (page_found ps q are)
     ∙ sym (lookup_seen packed (rows_at ps q) q (lookup (is_at (place_cmp q)) (rows_at ps q)) refl)
 
 -- the lines of a place are those of its page
-pub lines_of_page : (packed : PackedLines) (ps : Pages) (at : Place) (none : PictureLines) → ArePages ps
+pub lines_of_page : (packed : PackedLines) (ps : Pages) (at : LinePlace) (none : PictureLines) → ArePages ps
     → lines_or none (entries_in packed (rows_of ps)) at ≡ lines_or none (entries_in packed (rows_at ps at)) at
 lines_of_page packed ps at none are = ap (λ (o : Option PictureLines). unwrap_or o none) (seen_page packed ps at are)
 
@@ -222,31 +239,31 @@ each_page packed [] h = tt
 each_page packed (p ∷ ps) h = let k = parts packed p.1.items (rows_of ps) h in (k.0, each_page packed ps k.1)
 
 -- the rows of a page are of what is packed
-pub page_indexed : (packed : PackedLines) (ps : Pages) (page : Place) (v : Vec Row Global) → AreIndicesOf packed (rows_of ps)
-    → lookup (is_at (place_cmp page)) ps ≡ Some v → AreIndicesOf packed v.items
-page_indexed packed ps page v indexed found = record {
-  precision_at_most = indexed.precision_at_most;
-  width_at_least = indexed.width_at_least;
+pub page_packed : (packed : PackedLines) (ps : Pages) (page : PageNumber) (v : Vec Row Global) → AreRowsOf packed (rows_of ps)
+    → lookup (is_at (page_cmp page)) ps ≡ Some v → AreRowsOf packed v.items
+page_packed packed ps page v rows_packed found = record {
+  precision_at_most = rows_packed.precision_at_most;
+  width_at_least = rows_packed.width_at_least;
   each = subst (λ (o : Option (Vec Row Global)). IfSome o (λ w. AllByRecursion (P packed) (slots_of_entries w.items))) found
-      (lookup_from_each (λ p. AllByRecursion (P packed) (slots_of_entries p.1.items)) ps page (each_page packed ps indexed.each));
+      (lookup_by page_total same_page (λ p. AllByRecursion (P packed) (slots_of_entries p.1.items)) ps page (each_page packed ps rows_packed.each));
 }
 
 -- ---- a page that is changed, or made
 
-module _ (old new : PackedLines) (longer : Extends old new) (es fs : Pages) (at : Place) (v : Vec Row Global) (are : ArePages es) (indexed : AreIndicesOf old (rows_of es)) (are_new : ArePages fs) (u : Updated es (page_of at) v fs) where
+module _ (old new : PackedLines) (longer : Extends old new) (es fs : Pages) (at : LinePlace) (v : Vec Row Global) (are : ArePages es) (rows_packed : AreRowsOf old (rows_of es)) (are_new : ArePages fs) (u : UpdatedBy page_cmp es (page_of at) v fs) where
   -- a line of that page, or of another
-  by_page : (G : Option PictureLines → Type 0) (q : Place) → (page_of at ≡ page_of q → G (lookup (is_at (place_cmp q)) (entries_in new v.items)))
+  by_page : (G : Option PictureLines → Type 0) (q : LinePlace) → (page_of at ≡ page_of q → G (lookup (is_at (place_cmp q)) (entries_in new v.items)))
       → (is_at (place_cmp at) q ≡ false → G (lookup (is_at (place_cmp q)) (entries_in old (rows_of es)))) → G (lookup (is_at (place_cmp q)) (entries_in new (rows_of fs)))
   by_page G q here there =
       subst G (sym (seen_page new fs q are_new ∙ ap (λ (o : Option (Vec Row Global)). lookup (is_at (place_cmp q)) (entries_in new (items_or o))) (u (page_of q))))
-      (elim (is_at (place_cmp (page_of at)) (page_of q)) as (λ b. is_at (place_cmp (page_of at)) (page_of q) ≡ b → G (lookup (is_at (place_cmp q)) (entries_in new (items_or (cond b (Some v) (lookup (is_at (place_cmp (page_of q))) es)))))) [
-        | true ↦ λ e. here (same_place (page_of at) (page_of q) e)
-        | false ↦ λ e. subst G (sym (sym (seen_page new es q are) ∙ ap (lookup (is_at (place_cmp q))) (all_stay old new longer (slots_of_entries (rows_of es)) indexed))) (there (other_line at q e))
+      (elim (is_at (page_cmp (page_of at)) (page_of q)) as (λ b. is_at (page_cmp (page_of at)) (page_of q) ≡ b → G (lookup (is_at (place_cmp q)) (entries_in new (items_or (cond b (Some v) (lookup (is_at (page_cmp (page_of q))) es)))))) [
+        | true ↦ λ e. here (same_page (page_of at) (page_of q) e)
+        | false ↦ λ e. subst G (sym (sym (seen_page new es q are) ∙ ap (lookup (is_at (place_cmp q))) (all_stay old new longer (slots_of_entries (rows_of es)) rows_packed))) (there (other_line at q e))
       ] refl)
 
   -- the rows of the page afterwards
   pub rows_now : rows_at fs at ≡ v.items
-  rows_now = ap items_or (u (page_of at) ∙ ap (λ b. cond b (Some v) (lookup (is_at (place_cmp (page_of at))) es)) (at_itself (page_of at)))
+  rows_now = ap items_or (u (page_of at) ∙ ap (λ b. cond b (Some v) (lookup (is_at (page_cmp (page_of at))) es)) (page_itself (page_of at)))
 
   -- what the place has afterwards
   pub lines_now : (none : PictureLines) → lines_or none (entries_in new (rows_of fs)) at ≡ lines_or none (entries_in new v.items) at
@@ -260,23 +277,23 @@ module _ (old new : PackedLines) (longer : Extends old new) (es fs : Pages) (at 
       (λ same. puts q ∙ (λ i. cond (is_at (place_cmp at) q) (Some (sym (lines_now none) i)) (was q same i)))
       (λ apart. sym (ap (λ b. cond b (Some (lines_or none (entries_in new (rows_of fs)) at)) (lookup (is_at (place_cmp q)) (entries_in old (rows_of es)))) apart))
     where
-      was : (q : Place) → page_of at ≡ page_of q → lookup (is_at (place_cmp q)) (entries_in old (rows_at es at)) ≡ lookup (is_at (place_cmp q)) (entries_in old (rows_of es))
+      was : (q : LinePlace) → page_of at ≡ page_of q → lookup (is_at (place_cmp q)) (entries_in old (rows_at es at)) ≡ lookup (is_at (place_cmp q)) (entries_in old (rows_of es))
       was q same =
-          ap (λ (page : Place). lookup (is_at (place_cmp q)) (entries_in old (items_or (lookup (is_at (place_cmp page)) es)))) same
+          ap (λ (page : PageNumber). lookup (is_at (place_cmp q)) (entries_in old (items_or (lookup (is_at (page_cmp page)) es)))) same
           ∙ sym (seen_page old es q are)
 
   -- and all is of what is packed
-  pub pages_indexed : AreIndicesOf new v.items → AreIndicesOf new (rows_of fs)
-  pages_indexed page =
-      let still = indexed_still old new longer (slots_of_entries (rows_of es)) indexed in
+  pub pages_packed : AreRowsOf new v.items → AreRowsOf new (rows_of fs)
+  pages_packed page =
+      let still = still_packed old new longer (slots_of_entries (rows_of es)) rows_packed in
       record {
         precision_at_most = still.precision_at_most;
         width_at_least = still.width_at_least;
-        each = all_pages fs (each_from_lookup (λ p. AllByRecursion (P new) (slots_of_entries p.1.items)) fs are_new.sorted (λ q.
+        each = all_pages fs (each_by page_total same_page (λ p. AllByRecursion (P new) (slots_of_entries p.1.items)) fs are_new.sorted (λ q.
             subst (λ (o : Option (Vec Row Global)). IfSome o (λ w. AllByRecursion (P new) (slots_of_entries w.items))) (sym (u q))
-            (elim (is_at (place_cmp (page_of at)) q) as (λ b. IfSome (cond b (Some v) (lookup (is_at (place_cmp q)) es)) (λ w. AllByRecursion (P new) (slots_of_entries w.items))) [
+            (elim (is_at (page_cmp (page_of at)) q) as (λ b. IfSome (cond b (Some v) (lookup (is_at (page_cmp q)) es)) (λ w. AllByRecursion (P new) (slots_of_entries w.items))) [
               | true ↦ page.each
-              | false ↦ lookup_from_each (λ p. AllByRecursion (P new) (slots_of_entries p.1.items)) es q (each_page new es still.each)
+              | false ↦ lookup_by page_total same_page (λ p. AllByRecursion (P new) (slots_of_entries p.1.items)) es q (each_page new es still.each)
             ])));
       }
     where
@@ -294,7 +311,7 @@ seen-append : (packed : PackedLines) (xs ys : List Row) → entries_in packed (x
 seen-append packed [] ys = refl
 seen-append packed (x ∷ xs) ys = ap (λ t. (x.0, lines_in packed x.1) ∷ t) (seen-append packed xs ys)
 
-same_seen : (packed : PackedLines) (t : Place → Bool) (ps : Pages) (v : Vec Row Global)
+same_seen : (packed : PackedLines) (t : PageNumber → Bool) (ps : Pages) (v : Vec Row Global)
     → IfSome (lookup t ps) (λ w. entries_in packed v.items ≡ entries_in packed w.items) → entries_in packed (rows_of (set_value t ps v)) ≡ entries_in packed (rows_of ps)
 same_seen packed t [] v h = refl
 same_seen packed t (p ∷ ps) v h =
@@ -304,12 +321,12 @@ same_seen packed t (p ∷ ps) v h =
     ] h
 
 -- such a page changes nothing
-pub page_same : (old new : PackedLines) → Extends old new → (es fs : Pages) (at : Place) (w v : Vec Row Global) → AreIndicesOf old (rows_of es)
-    → lookup (is_at (place_cmp (page_of at))) es ≡ Some w → fs ≡ set_value (is_at (place_cmp (page_of at))) es v
+pub page_same : (old new : PackedLines) → Extends old new → (es fs : Pages) (at : LinePlace) (w v : Vec Row Global) → AreRowsOf old (rows_of es)
+    → lookup (is_at (page_cmp (page_of at))) es ≡ Some w → fs ≡ set_value (is_at (page_cmp (page_of at))) es v
     → entries_in new v.items ≡ entries_in old w.items → entries_in new (rows_of fs) ≡ entries_in old (rows_of es)
-page_same old new longer es fs at w v indexed found is same =
-    let t = is_at (place_cmp (page_of at)) in
-    let before = all_stay old new longer (slots_of_entries w.items) (page_indexed old es (page_of at) w indexed found) in
+page_same old new longer es fs at w v rows_packed found is same =
+    let t = is_at (page_cmp (page_of at)) in
+    let before = all_stay old new longer (slots_of_entries w.items) (page_packed old es (page_of at) w rows_packed found) in
     ap (λ (ps : Pages). entries_in new (rows_of ps)) is
     ∙ same_seen new t es v (subst (λ (o : Option (Vec Row Global)). IfSome o (λ w. entries_in new v.items ≡ entries_in new w.items)) (sym found) (same ∙ sym before))
-    ∙ all_stay old new longer (slots_of_entries (rows_of es)) indexed
+    ∙ all_stay old new longer (slots_of_entries (rows_of es)) rows_packed

@@ -16,23 +16,23 @@ use Rattle.std.proofs.lemmas.List.{map-append}
 use Rattle.std.proofs.lemmas.Cmp.{tied_itself, nat_cmp_total}
 use Rattle.jls_values.specs.OrderedSet.{OrderedSet, from_list, items}
 use Rattle.jls_values.specs.Shape.{PictureShape}
-use Rattle.jls_partial.specs.declared.place.Place.{Place}
+use Rattle.jls_partial.specs.declared.line_place.LinePlace.{LinePlace}
 use Rattle.jls_partial.specs.Entries.{at_place, readings_of_entries, BareEntry}
 use Rattle.jls_partial.specs.Held.{IsEntry, AreEntries}
 use Rattle.jls_partial.specs.Partial.{PartialPicture, readings_at}
-use Rattle.jls_partial.specs.Place.{place_cmp, place_of, place}
+use Rattle.jls_partial.specs.LinePlace.{place_cmp, place_of, place}
 use Rattle.jls_partial.specs.Reading.{Reading, reading_cmp}
 use Rattle.jls_partial.specs.ReadingOrder.{reading_total, same_place}
 use Rattle.jls_partial.proofs.Entries.{S, samples_at}
 use Rattle.jls_values.specs.OrderedSetLaws.{items-from_list, sorted-append}
 
 -- the readings at one place rise as their samples do
-reading_below_block : (p : Place) (x : List ℕ) (xs : List (List ℕ)) → AllByRecursion (λ y. S x y ≡ Less) xs
+reading_below_block : (p : LinePlace) (x : List ℕ) (xs : List (List ℕ)) → AllByRecursion (λ y. S x y ≡ Less) xs
     → AllByRecursion (λ r. reading_cmp (at_place p x) r ≡ Less) (map (at_place p) xs)
 reading_below_block p x [] h = tt
 reading_below_block p x (y ∷ xs) h = (rw (tied_itself nat_cmp_total p.component, tied_itself nat_cmp_total p.line) h.0, reading_below_block p x xs h.1)
 
-sorted-at_place : (p : Place) (xs : List (List ℕ)) → IsStrictlySortedBy S xs → IsStrictlySortedBy reading_cmp (map (at_place p) xs)
+sorted-at_place : (p : LinePlace) (xs : List (List ℕ)) → IsStrictlySortedBy S xs → IsStrictlySortedBy reading_cmp (map (at_place p) xs)
 unfolding IsStrictlySortedBy
 sorted-at_place p [] h = tt
 sorted-at_place p (x ∷ xs) h = (reading_below_block p x xs h.0, sorted-at_place p xs h.1)
@@ -44,7 +44,7 @@ first_less Equal Equal t h = absurd cc
 first_less Equal Greater t h = absurd cc
 first_less Greater s t h = absurd cc
 
-below-at_place : (r : Reading) (p : Place) (xs : List (List ℕ)) → place_cmp (place_of r) p ≡ Less
+below-at_place : (r : Reading) (p : LinePlace) (xs : List (List ℕ)) → place_cmp (place_of r) p ≡ Less
     → AllByRecursion (λ s. reading_cmp r s ≡ Less) (map (at_place p) xs)
 below-at_place r p [] h = tt
 below-at_place r p (x ∷ xs) h = (first_less (nat_cmp r.component p.component) (nat_cmp r.line p.line) (S r.samples x) h, below-at_place r p xs h)
@@ -60,7 +60,7 @@ below-entries r (e ∷ es) h =
     subst (AllByRecursion (λ s. reading_cmp r s ≡ Less)) (sym (flat_map-cons (λ (e : BareEntry). map (at_place e.0) e.1) e es))
     (all-append (λ s. reading_cmp r s ≡ Less) (map (at_place e.0) e.1) (readings_of_entries es) (below-at_place r e.0 e.1 h.0) (below-entries r es h.1))
 
-at_place_below_entries : (p : Place) (xs : List (List ℕ)) (es : List BareEntry)
+at_place_below_entries : (p : LinePlace) (xs : List (List ℕ)) (es : List BareEntry)
     → AllByRecursion (λ q. place_cmp p q ≡ Less) (map (λ e. e.0) es)
     → AllByRecursion (λ r. AllByRecursion (λ s. reading_cmp r s ≡ Less) (readings_of_entries es)) (map (at_place p) xs)
 at_place_below_entries p [] es h = tt
@@ -80,7 +80,7 @@ sorted-entries shape (e ∷ es) h k =
 abbrev pub is_there : ℕ → ℕ → Reading → Bool
 is_there c l r = r.component == c && r.line == l
 
-pub eq_there : (c l : ℕ) (p : Place) → (p.component == c && p.line == l) ≡ is_at (place_cmp (place c l)) p
+pub eq_there : (c l : ℕ) (p : LinePlace) → (p.component == c && p.line == l) ≡ is_at (place_cmp (place c l)) p
 eq_there c l p =
     (λ i. (nat_eq_equiv.symm p.component c ∙ sym (unsigned_tied c p.component)) i && (nat_eq_equiv.symm p.line l ∙ sym (unsigned_tied l p.line)) i)
     ∙ both (nat_cmp c p.component) (nat_cmp l p.line)
@@ -90,12 +90,12 @@ eq_there c l p =
     both Equal s = refl
     both Greater s = refl
 
-there_true : (c l : ℕ) (p : Place) (xs : List (List ℕ)) → (p.component == c && p.line == l) ≡ true
+there_true : (c l : ℕ) (p : LinePlace) (xs : List (List ℕ)) → (p.component == c && p.line == l) ≡ true
     → map (λ r. r.samples) (filter (is_there c l) (map (at_place p) xs)) ≡ xs
 there_true c l p [] h = refl
 there_true c l p (x ∷ xs) h = rw h (ap (λ (t : List (List ℕ)). x ∷ t) (there_true c l p xs h))
 
-there_false : (c l : ℕ) (p : Place) (xs : List (List ℕ)) → (p.component == c && p.line == l) ≡ false
+there_false : (c l : ℕ) (p : LinePlace) (xs : List (List ℕ)) → (p.component == c && p.line == l) ≡ false
     → filter (is_there c l) (map (at_place p) xs) ≡ []
 there_false c l p [] h = refl
 there_false c l p (x ∷ xs) h = rw h (there_false c l p xs h)
@@ -118,7 +118,7 @@ kept_there c l (e ∷ es) h =
     ∙ elim (is_at (place_cmp (place c l)) e.0) as (λ b. is_at (place_cmp (place c l)) e.0 ≡ b →
     (map (λ r. r.samples) (filter (is_there c l) (map (at_place e.0) e.1)) ++ map (λ r. r.samples) (filter (is_there c l) (readings_of_entries es))) ≡ unwrap_or (cond b (Some e.1) (lookup (is_at (place_cmp (place c l))) es)) []) [
       | true ↦ λ t.
-          let later = subst (λ (z : Place). AllByRecursion (λ q. place_cmp z q ≡ Less) (map (λ e. e.0) es)) (sym (same_place (place c l) e.0 t)) h.0 in
+          let later = subst (λ (z : LinePlace). AllByRecursion (λ q. place_cmp z q ≡ Less) (map (λ e. e.0) es)) (sym (same_place (place c l) e.0 t)) h.0 in
           (λ i. there_true c l e.0 e.1 (eq_there c l e.0 ∙ t) i ++ map (λ r. r.samples) (nothing_there c l es later i)) ∙ append-nil e.1
       | false ↦ λ f.
           (λ i. map (λ r. r.samples) (there_false c l e.0 e.1 (eq_there c l e.0 ∙ f) i) ++ kept_there c l es h.1 i)

@@ -9,7 +9,7 @@ use Rattle.jls_values.specs.SameShape.{same_shape}
 use Rattle.jls_values.specs.Shape.{PictureShape}
 use Rattle.jls_partial.specs.LineSet.{PictureLines, kept_lines, line_sources}
 use Rattle.jls_partial.specs.Packed.{Kept}
-use Rattle.jls_partial.specs.declared.place.Place.{Place}
+use Rattle.jls_partial.specs.declared.line_place.LinePlace.{LinePlace}
 use Rattle.jls_partial.specs.PartialLaws.{eqb_itself, itself_list, one_shape}
 use Rattle.jls_partial.proofs.Growth.{kept_next}
 use Rattle.jls_partial.proofs.Store.{lines_named}
@@ -72,15 +72,15 @@ first_items {X} x y xs ys e = ap first_of_all e
     first_of_all (z ∷ zs) = z
 
 -- places by a test
-pub places_from_test : (a b : Place) (test : Bool) → test ≡ (a.component == b.component && a.line == b.line) → test ≡ true → a ≡ b
+pub places_from_test : (a b : LinePlace) (test : Bool) → test ≡ (a.component == b.component && a.line == b.line) → test ≡ true → a ≡ b
 places_from_test a b test is e =
     let p = and_parts (a.component == b.component) (a.line == b.line) (sym is ∙ e) in
     λ i. record { component = eqb-true a.component b.component p.0 i; line = eqb-true a.line b.line p.1 i }
 
-pub places_apart : (a b : Place) (test : Bool) → test ≡ (a.component == b.component && a.line == b.line) → test ≡ false → a ≡ b → ⊥
+pub places_apart : (a b : LinePlace) (test : Bool) → test ≡ (a.component == b.component && a.line == b.line) → test ≡ false → a ≡ b → ⊥
 places_apart a b test is e same =
     let itself : (b.component == b.component && b.line == b.line) ≡ true = rw (eqb_itself b.component, eqb_itself b.line) refl in
-    let bad : true ≡ false = sym itself ∙ ap (λ (z : Place). z.component == b.component && z.line == b.line) (sym same) ∙ sym is ∙ e in
+    let bad : true ≡ false = sym itself ∙ ap (λ (z : LinePlace). z.component == b.component && z.line == b.line) (sym same) ∙ sym is ∙ e in
     absurd cc
 
 -- lists that the test tells apart are not one

@@ -1,4 +1,4 @@
--- How far a search has come down the index.
+-- How far a search has come down a tree of slots.
 use Rattle.std.proofs.Common.{◌≡◌, ℕ, suc, ◌+◌, ◌<◌, ◌≤◌, List, [], ◌∷◌, ◌++◌, length, get_or, take, drop, refl, ap, sym, subst, ◌∙◌, append_assoc, arith}
 use Rattle.std.specs.Cmp.Lexicographic.{slice_cmp}
 use Rattle.std.specs.declared.cmp.Ordering.{Ordering}
@@ -9,7 +9,7 @@ use Rattle.std.specs.Ordering.{nat_cmp}
 use Rattle.std.proofs.Math.Seq.{get_or-append_seam}
 use Rattle.std.proofs.lemmas.Cmp.{nat_list_cmp_total}
 use Rattle.std.proofs.lemmas.List.{append-nil, get_or-append-add, length-append, length-map}
-use Rattle.jls_partial.specs.declared.index.Slot.{Slot}
+use Rattle.jls_partial.specs.declared.slots.Slot.{Slot}
 use Rattle.jls_partial.specs.LineSetLaws.{lines_exact}
 use Rattle.jls_partial.specs.Packed.{lines_of, IsGap}
 use Rattle.jls_partial.proofs.PackedLines.{turned_greater, all_below, all_above, inside_at, line_at}

@@ -16,7 +16,7 @@ use Rattle.std.proofs.lemmas.Map.Lookups.{exact_unsigned}
 use Rattle.jls_values.specs.OrderedSet as set
 use Rattle.jls_values.specs.OrderedSetLaws.{same_set, contains-items, contains-insert, contains-insert_all, contains-empty, items-from_list}
 use Rattle.jls_values.specs.Shape.{PictureShape}
-use Rattle.jls_partial.specs.declared.place.Place.{Place}
+use Rattle.jls_partial.specs.declared.line_place.LinePlace.{LinePlace}
 use Rattle.jls_partial.specs.Entries.{Entry, BareEntry, bare, at_place, readings_of_entries, partial_of}
 use Rattle.jls_partial.specs.Held.{IsEntry, AreEntries, LineEntry, kept_entry, bare_entry, IsLineEntry, IsStore, PutsLine, lines_or, PutsAt}
 use Rattle.jls_partial.specs.InsertFaults.{reading_fault}
@@ -26,7 +26,7 @@ use Rattle.jls_partial.specs.Marks.{mark_cmp, marks_of, sources_of}
 use Rattle.jls_partial.specs.MarkLaws.{contains-sources_of}
 use Rattle.jls_partial.specs.Packed.{Kept}
 use Rattle.jls_partial.specs.Partial.{PartialPicture, holds, readings_at, sources_at, with_all, IsFitting, IsCountable, AreMarksHeld, AreSourcesSmall}
-use Rattle.jls_partial.specs.Place.{place, place_cmp, place_of}
+use Rattle.jls_partial.specs.LinePlace.{place, place_cmp, place_of}
 use Rattle.jls_partial.specs.Reading.{Reading, reading_of, reading_cmp}
 use Rattle.jls_partial.specs.ReadingOrder.{place_total, reading_total, reading_exact, marks_total, marks_exact, eq_reading, same_place, same_samples}
 use Rattle.jls_partial.specs.Text.{entries}
@@ -98,7 +98,7 @@ kept_none : (p w : ℕ) → kept_lines (no_lines p w) ≡ []
 kept_none p w = ap (map (λ x. (x, line_sources (no_lines p w) x))) no_items
 
 module _ {X Y : Type 0} (f : X → Y) where
-  pub lookup-map : (t : Place → Bool) (es : List (Place × X)) → lookup t (map (λ e. (e.0, f e.1)) es) ≡ option_map f (lookup t es)
+  pub lookup-map : (t : LinePlace → Bool) (es : List (LinePlace × X)) → lookup t (map (λ e. (e.0, f e.1)) es) ≡ option_map f (lookup t es)
   lookup-map t [] = refl
   lookup-map t (e ∷ es) =
       elim (t e.0) as (λ b. cond b (Some (f e.1)) (lookup t (map (λ e. (e.0, f e.1)) es)) ≡ option_map f (cond b (Some e.1) (lookup t es))) [
@@ -106,7 +106,7 @@ module _ {X Y : Type 0} (f : X → Y) where
         | false ↦ lookup-map t es
       ]
 
-pub kept_there : (p w : ℕ) (es : List LineEntry) (at : Place) → kept_at (map kept_entry es) at ≡ kept_lines (lines_or (no_lines p w) es at)
+pub kept_there : (p w : ℕ) (es : List LineEntry) (at : LinePlace) → kept_at (map kept_entry es) at ≡ kept_lines (lines_or (no_lines p w) es at)
 kept_there p w es at =
     ap (λ o. unwrap_or o []) (lookup-map kept_lines (is_at (place_cmp at)) es)
     ∙ elim (lookup (is_at (place_cmp at)) es) as (λ (o : Option PictureLines). unwrap_or (option_map kept_lines o) [] ≡ kept_lines (unwrap_or o (no_lines p w))) [
@@ -114,7 +114,7 @@ kept_there p w es at =
       | Some L ↦ refl
     ]
 
-pub samples_there : (p w : ℕ) (es : List LineEntry) (at : Place)
+pub samples_there : (p w : ℕ) (es : List LineEntry) (at : LinePlace)
     → samples_at (map bare (map kept_entry es)) at ≡ set.items (lines_or (no_lines p w) es at).lines
 samples_there p w es at =
     ap (λ bs. samples_at bs at) (bare_kept es)
@@ -125,7 +125,7 @@ samples_there p w es at =
     ]
 
 -- what is known of the lines at a place, also where there are none
-pub record IsAt (shape : PictureShape) (at : Place) (L : PictureLines) : Type 0 where
+pub record IsAt (shape : PictureShape) (at : LinePlace) (L : PictureLines) : Type 0 where
   pub precision : L.precision ≡ shape.precision
   pub width : L.width ≡ shape.width
   pub marks_held : AreLineMarksHeld L
@@ -135,7 +135,7 @@ pub record IsAt (shape : PictureShape) (at : Place) (L : PictureLines) : Type 0 
 pub not_in_empty : {K X : Type 0} (R : K → K → Ordering) (k : K) → set.contains {R = R} set.empty k ≡ true → X
 not_in_empty R k e = let bad : true ≡ false = sym e ∙ contains-empty R k in absurd cc
 
-pub is_there : (shape : PictureShape) (p w : ℕ) (es : List LineEntry) (at : Place) → p ≡ shape.precision → w ≡ shape.width
+pub is_there : (shape : PictureShape) (p w : ℕ) (es : List LineEntry) (at : LinePlace) → p ≡ shape.precision → w ≡ shape.width
     → IsStore shape es → IsAt shape at (lines_or (no_lines p w) es at)
 is_there shape p w es at p_is w_is kept =
     elim (lookup (is_at (place_cmp at)) es) as (λ (o : Option PictureLines). IfSome o (λ L. IsLineEntry shape (at, L)) → IsAt shape at (unwrap_or o (no_lines p w))) [
@@ -172,7 +172,7 @@ module _ (p w : ℕ) (shape : PictureShape) (es : List LineEntry) (kept : IsStor
   seen = partial_of shape (map kept_entry es)
 
   -- the lines at a place
-  abbrev there : Place → PictureLines
+  abbrev there : LinePlace → PictureLines
   there at = lines_or (no_lines p w) es at
 
   keys : (es : List LineEntry) → map (λ (e : Entry). e.0) (map kept_entry es) ≡ map (λ (e : LineEntry). e.0) es
@@ -182,14 +182,14 @@ module _ (p w : ℕ) (shape : PictureShape) (es : List LineEntry) (kept : IsStor
   sorted_kept : IsStrictlySortedBy place_cmp (map (λ (e : Entry). e.0) (map kept_entry es))
   sorted_kept = subst (IsStrictlySortedBy place_cmp) (sym (keys es)) kept.sorted
 
-  held_marks : (at : Place) → AreLineMarksHeld (there at)
+  held_marks : (at : LinePlace) → AreLineMarksHeld (there at)
   held_marks at =
       elim (lookup (is_at (place_cmp at)) es) as (λ (o : Option PictureLines). IfSome o (λ L. IsLineEntry shape (at, L)) → AreLineMarksHeld (unwrap_or o (no_lines p w))) [
         | None ↦ λ k. λ x s e. not_in_empty (mark_cmp S) (x, s) e
         | Some L ↦ λ k. k.marks_held
       ] (lookup_from_each (IsLineEntry shape) es at kept.each)
 
-  small_marks : (at : Place) (x : List ℕ) (s : ℕ) → set.contains (there at).marks (x, s) ≡ true → s < 2 ^ 32
+  small_marks : (at : LinePlace) (x : List ℕ) (s : ℕ) → set.contains (there at).marks (x, s) ≡ true → s < 2 ^ 32
   small_marks at =
       elim (lookup (is_at (place_cmp at)) es) as (λ (o : Option PictureLines). IfSome o (λ L. IsLineEntry shape (at, L)) → (x : List ℕ) (s : ℕ) → set.contains (unwrap_or o (no_lines p w)).marks (x, s) ≡ true → s < 2 ^ 32) [
         | None ↦ λ k. λ x s e. not_in_empty (mark_cmp S) (x, s) e
@@ -291,7 +291,7 @@ small_of (t ∷ ss) s h e =
     tied Equal e = refl
     tied Greater e = absurd cc
 
-module _ (shape : PictureShape) (at : Place) (L0 L : PictureLines) (x ss : List ℕ) (old : IsAt shape at L0) (puts : PutsLine L0 x ss L) (fits : reading_fault shape at.component at.line x ≡ None) (small : AllByRecursion (λ n. n < 2 ^ 32) ss) where
+module _ (shape : PictureShape) (at : LinePlace) (L0 L : PictureLines) (x ss : List ℕ) (old : IsAt shape at L0) (puts : PutsLine L0 x ss L) (fits : reading_fault shape at.component at.line x ≡ None) (small : AllByRecursion (λ n. n < 2 ^ 32) ss) where
   abbrev grown : PictureLines
   grown = with_lines L0 ((x, ss) ∷ [])
 
@@ -330,15 +330,15 @@ module _ (shape : PictureShape) (at : Place) (L0 L : PictureLines) (x ss : List 
       each = each_from_lookup (IsLineEntry shape) fs order (λ q. subst (λ (o : Option PictureLines). IfSome o (λ K. IsLineEntry shape (q, K))) (sym (puts_at q)) (step q));
     }
       where
-        step : (q : Place)
+        step : (q : LinePlace)
             → IfSome (cond (is_at (place_cmp at) q) (Some L) (lookup (is_at (place_cmp q)) es)) (λ K. IsLineEntry shape (q, K))
         step q =
             elim (is_at (place_cmp at) q) as (λ b. is_at (place_cmp at) q ≡ b → IfSome (cond b (Some L) (lookup (is_at (place_cmp q)) es)) (λ K. IsLineEntry shape (q, K))) [
-              | true ↦ λ e. subst (λ (z : Place). IsLineEntry shape (z, L)) (same_place at q e) line_put
+              | true ↦ λ e. subst (λ (z : LinePlace). IsLineEntry shape (z, L)) (same_place at q e) line_put
               | false ↦ λ e. lookup_from_each (IsLineEntry shape) es q kept.each
             ] refl
 
-    turned : (a b : Place) → eq_by_cmp place_cmp a b ≡ eq_by_cmp place_cmp b a
+    turned : (a b : LinePlace) → eq_by_cmp place_cmp a b ≡ eq_by_cmp place_cmp b a
     turned a b = (eq_by_cmp_equiv place_total).symm a b
 
     eq_at : (r : Reading) (b : Bool) → is_at (place_cmp at) (place_of r) ≡ b

@@ -1,6 +1,7 @@
 -- The store of all lines of a picture: what stays where samples are put behind those that it has, and what one line more leaves.
 use Rattle.std.proofs.Common.{◌≡◌, ℕ, ◌+◌, ◌≤◌, ◌<◌, ◌^◌, Bool, true, false, cond, List, [], ◌∷◌, ◌++◌, length, map, Option, Some, None, refl, ap, sym, subst, ◌∙◌, arith}
 use Rattle.std.specs.Prelude.{IfSome, unwrap_or}
+use Rattle.std.specs.declared.cmp.Ordering.{Ordering}
 use Rattle.std.specs.BTreeMap.{is_at}
 use Rattle.std.specs.Cmp.Lexicographic.{slice_cmp}
 use Rattle.std.specs.List.{AllByRecursion}
@@ -12,20 +13,20 @@ use Rattle.std.proofs.lemmas.Cmp.{tied_itself}
 use Rattle.std.proofs.lemmas.List.{append-nil, length-append}
 use Rattle.std.proofs.lemmas.Map.Steps.{set_value_same}
 use Rattle.jls_values.specs.OrderedSet as set
-use Rattle.jls_partial.specs.declared.index.Index.{Index}
-use Rattle.jls_partial.specs.declared.index.Slot.{Slot}
+use Rattle.jls_partial.specs.declared.slots.Slots.{Slots}
+use Rattle.jls_partial.specs.declared.slots.Slot.{Slot}
 use Rattle.jls_partial.specs.declared.packed_lines.PackedLines.{PackedLines}
-use Rattle.jls_partial.specs.declared.place.Place.{Place}
+use Rattle.jls_partial.specs.declared.line_place.LinePlace.{LinePlace}
 use Rattle.jls_partial.specs.Held.{LineEntry, PutsAt, PutsLine, lines_or}
-use Rattle.jls_partial.specs.Index.{slots_of}
+use Rattle.jls_partial.specs.Slots.{slots_of}
 use Rattle.jls_partial.specs.InsertFaults.{samples_fault}
 use Rattle.jls_partial.specs.LineSet.{PictureLines, no_lines, with_lines}
 use Rattle.jls_partial.specs.Marks.{marks_of}
 use Rattle.jls_partial.specs.Packed.{Kept, lines_of, IsGap}
 use Rattle.jls_partial.specs.PackedLines.{seen_lines, IsLineSet}
-use Rattle.jls_partial.specs.Place.{place_cmp}
+use Rattle.jls_partial.specs.LinePlace.{place_cmp}
 use Rattle.jls_partial.specs.ReadingOrder.{place_total}
-use Rattle.jls_partial.specs.Stored.{LineSlots, slots_of_entries, seen_entries, AreIndexed, Extends, lines_in}
+use Rattle.jls_partial.specs.Stored.{LineSlots, slots_of_entries, seen_entries, AreSlotsPacked, Extends, lines_in}
 use Rattle.jls_partial.proofs.Entries.{each_from_lookup, lookup_from_each}
 use Rattle.jls_partial.proofs.LineSets.{none_kept, put_kept, put_seen, with_own, fitting_length, length_kept, marks_held}
 use Rattle.jls_partial.proofs.PackedLines.{lines_stay, kept_lines, inside_more}
@@ -77,36 +78,39 @@ abbrev seen_in : PackedLines → List LineSlots → List LineEntry
 seen_in packed es = seen_entries packed.precision packed.width packed.samples.items es
 
 abbrev are_in : PackedLines → List LineSlots → Type 0
-are_in packed es = AreIndexed packed.precision packed.width packed.samples.items es
+are_in packed es = AreSlotsPacked packed.precision packed.width packed.samples.items es
 
 module _ (old new : PackedLines) (longer : Extends old new) where
   pub all_stay : (es : List LineSlots) → are_in old es → seen_in new es ≡ seen_in old es
-  all_stay es indexed =
+  all_stay es rows_packed =
       (λ i. seen_entries (longer.precision i) (longer.width i) (longer.samples i) es)
-      ∙ entries_stay old.precision old.width old.samples.items longer.more es indexed.each
+      ∙ entries_stay old.precision old.width old.samples.items longer.more es rows_packed.each
 
-  pub indexed_still : (es : List LineSlots) → are_in old es → are_in new es
-  indexed_still es indexed = record {
-    precision_at_most = subst (λ (n : ℕ). n ≤ 16) (sym longer.precision) indexed.precision_at_most;
-    width_at_least = subst (λ (n : ℕ). 1 ≤ n) (sym longer.width) indexed.width_at_least;
+  pub still_packed : (es : List LineSlots) → are_in old es → are_in new es
+  still_packed es rows_packed = record {
+    precision_at_most = subst (λ (n : ℕ). n ≤ 16) (sym longer.precision) rows_packed.precision_at_most;
+    width_at_least = subst (λ (n : ℕ). 1 ≤ n) (sym longer.width) rows_packed.width_at_least;
     each = subst (λ (n : ℕ). AllByRecursion (λ e. IsLineSet n new.width new.samples.items e.1) es) (sym longer.precision)
         (subst (λ (n : ℕ). AllByRecursion (λ e. IsLineSet old.precision n new.samples.items e.1) es) (sym longer.width)
         (subst (λ (xs : List ℕ). AllByRecursion (λ e. IsLineSet old.precision old.width xs e.1) es) (sym longer.samples)
-        (each_stays old.precision old.width old.samples.items longer.more es indexed.each)));
+        (each_stays old.precision old.width old.samples.items longer.more es rows_packed.each)));
   }
 
 -- ---- one line more
 
--- what a place has is changed, and nothing elsewhere
-abbrev pub Updated : {X : Type 0} → List (Place × X) → Place → X → List (Place × X) → Type 0
-Updated es at x fs = (q : Place) → lookup (is_at (place_cmp q)) fs ≡ cond (is_at (place_cmp at) q) (Some x) (lookup (is_at (place_cmp q)) es)
+-- what a key has is changed, and nothing elsewhere
+abbrev pub UpdatedBy : {K X : Type 0} → (K → K → Ordering) → List (K × X) → K → X → List (K × X) → Type 0
+UpdatedBy {K} R es at x fs = (q : K) → lookup (is_at (R q)) fs ≡ cond (is_at (R at) q) (Some x) (lookup (is_at (R q)) es)
+
+abbrev pub Updated : {X : Type 0} → List (LinePlace × X) → LinePlace → X → List (LinePlace × X) → Type 0
+Updated es at x fs = UpdatedBy place_cmp es at x fs
 
 module _ {X Y : Type 0} (f : X → Y) where
-  pub keys-map : (es : List (Place × X)) → map {A = Place × Y} (λ e. e.0) (map (λ e. (e.0, f e.1)) es) ≡ map (λ e. e.0) es
+  pub keys-map : (es : List (LinePlace × X)) → map {A = LinePlace × Y} (λ e. e.0) (map (λ e. (e.0, f e.1)) es) ≡ map (λ e. e.0) es
   keys-map [] = refl
   keys-map (e ∷ es) = ap (λ t. e.0 ∷ t) (keys-map es)
 
-  pub updated-map : (es fs : List (Place × X)) (at : Place) (x : X) → Updated es at x fs
+  pub updated-map : (es fs : List (LinePlace × X)) (at : LinePlace) (x : X) → Updated es at x fs
       → Updated (map (λ e. (e.0, f e.1)) es) at (f x) (map (λ e. (e.0, f e.1)) fs)
   updated-map es fs at x u q =
       lookup-map f (is_at (place_cmp q)) fs ∙ ap (option_map f) (u q)
@@ -115,20 +119,20 @@ module _ {X Y : Type 0} (f : X → Y) where
         | false ↦ sym (lookup-map f (is_at (place_cmp q)) es)
       ]
 
-  pub set_value-map : (t : Place → Bool) (es : List (Place × X)) (x : X)
+  pub set_value-map : (t : LinePlace → Bool) (es : List (LinePlace × X)) (x : X)
       → map (λ e. (e.0, f e.1)) (set_value t es x) ≡ set_value t (map (λ e. (e.0, f e.1)) es) (f x)
   set_value-map t [] x = refl
   set_value-map t (e ∷ es) x =
-      elim (t e.0) as (λ b. map (λ (e : Place × X). (e.0, f e.1)) (cond b ((e.0, x) ∷ es) (e ∷ set_value t es x)) ≡ cond b ((e.0, f x) ∷ map (λ (e : Place × X). (e.0, f e.1)) es) ((e.0, f e.1) ∷ set_value t (map (λ (e : Place × X). (e.0, f e.1)) es) (f x))) [
+      elim (t e.0) as (λ b. map (λ (e : LinePlace × X). (e.0, f e.1)) (cond b ((e.0, x) ∷ es) (e ∷ set_value t es x)) ≡ cond b ((e.0, f x) ∷ map (λ (e : LinePlace × X). (e.0, f e.1)) es) ((e.0, f e.1) ∷ set_value t (map (λ (e : LinePlace × X). (e.0, f e.1)) es) (f x))) [
         | true ↦ refl
         | false ↦ ap (λ t. (e.0, f e.1) ∷ t) (set_value-map t es x)
       ]
 
 -- what a place has afterwards
-pub updated_there : {X : Type 0} (es fs : List (Place × X)) (at : Place) (x : X) → Updated es at x fs → lookup (is_at (place_cmp at)) fs ≡ Some x
+pub updated_there : {X : Type 0} (es fs : List (LinePlace × X)) (at : LinePlace) (x : X) → Updated es at x fs → lookup (is_at (place_cmp at)) fs ≡ Some x
 updated_there es fs at x u = u at ∙ ap (λ b. cond b (Some x) (lookup (is_at (place_cmp at)) es)) (ap is_eq (tied_itself place_total at))
 
-module _ (old new : PackedLines) (longer : Extends old new) (es fs : List LineSlots) (at : Place) (slots : List Slot) (indexed : are_in old es) (u : Updated es at slots fs) where
+module _ (old new : PackedLines) (longer : Extends old new) (es fs : List LineSlots) (at : LinePlace) (slots : List Slot) (rows_packed : are_in old es) (u : Updated es at slots fs) where
   pub there : (none : PictureLines) → lines_or none (seen_in new fs) at ≡ seen_lines new.precision new.width new.samples.items slots
   there none =
       ap (λ (o : Option PictureLines). unwrap_or o none)
@@ -138,12 +142,12 @@ module _ (old new : PackedLines) (longer : Extends old new) (es fs : List LineSl
   pub puts_at : (none : PictureLines) → PutsAt (seen_in old es) at (lines_or none (seen_in new fs) at) (seen_in new fs)
   puts_at none = λ q.
       updated-map (seen_lines new.precision new.width new.samples.items) es fs at slots u q
-      ∙ (λ i. cond (is_at (place_cmp at) q) (Some (sym (there none) i)) (lookup (is_at (place_cmp q)) (all_stay old new longer es indexed i)))
+      ∙ (λ i. cond (is_at (place_cmp at) q) (Some (sym (there none) i)) (lookup (is_at (place_cmp q)) (all_stay old new longer es rows_packed i)))
 
-  pub indexed_more : IsLineSet new.precision new.width new.samples.items slots → IsStrictlySortedBy place_cmp (map (λ e. e.0) fs) → are_in new fs
-  indexed_more kept order =
+  pub more_packed : IsLineSet new.precision new.width new.samples.items slots → IsStrictlySortedBy place_cmp (map (λ e. e.0) fs) → are_in new fs
+  more_packed kept order =
       let P : LineSlots → Type 0 = λ e. IsLineSet new.precision new.width new.samples.items e.1 in
-      let still = indexed_still old new longer es indexed in
+      let still = still_packed old new longer es rows_packed in
       record {
         precision_at_most = still.precision_at_most;
         width_at_least = still.width_at_least;
@@ -154,46 +158,46 @@ module _ (old new : PackedLines) (longer : Extends old new) (es fs : List LineSl
             ]));
       }
 
--- what is seen has the places of the indices
-pub ordered_slots : (es : List (Place × Index)) → IsStrictlySortedBy place_cmp (map (λ e. e.0) es)
+-- what is seen has the places of the rows
+pub ordered_slots : (es : List (LinePlace × Slots)) → IsStrictlySortedBy place_cmp (map (λ e. e.0) es)
     → IsStrictlySortedBy place_cmp (map (λ e. e.0) (slots_of_entries es))
 ordered_slots es order = subst (IsStrictlySortedBy place_cmp) (sym (keys-map slots_of es)) order
 
-pub ordered_seen : (packed : PackedLines) (es : List (Place × Index)) → IsStrictlySortedBy place_cmp (map (λ e. e.0) es)
+pub ordered_seen : (packed : PackedLines) (es : List (LinePlace × Slots)) → IsStrictlySortedBy place_cmp (map (λ e. e.0) es)
     → IsStrictlySortedBy place_cmp (map (λ e. e.0) (seen_in packed (slots_of_entries es)))
 ordered_seen packed es order =
     subst (IsStrictlySortedBy place_cmp) (sym (keys-map (seen_lines packed.precision packed.width packed.samples.items) (slots_of_entries es)))
     (ordered_slots es order)
 
 -- the lines of a place
-pub lookup_seen : (packed : PackedLines) (es : List (Place × Index)) (at : Place) (o : Option Index) → lookup (is_at (place_cmp at)) es ≡ o
-    → lookup (is_at (place_cmp at)) (seen_in packed (slots_of_entries es)) ≡ option_map (λ index. lines_in packed index) o
+pub lookup_seen : (packed : PackedLines) (es : List (LinePlace × Slots)) (at : LinePlace) (o : Option Slots) → lookup (is_at (place_cmp at)) es ≡ o
+    → lookup (is_at (place_cmp at)) (seen_in packed (slots_of_entries es)) ≡ option_map (λ slots. lines_in packed slots) o
 lookup_seen packed es at o found =
     lookup-map (seen_lines packed.precision packed.width packed.samples.items) (is_at (place_cmp at)) (slots_of_entries es)
     ∙ ap (option_map (seen_lines packed.precision packed.width packed.samples.items)) (lookup-map slots_of (is_at (place_cmp at)) es ∙ ap (option_map slots_of) found)
-    ∙ elim o as (λ o. option_map (seen_lines packed.precision packed.width packed.samples.items) (option_map slots_of o) ≡ option_map (λ index. lines_in packed index) o) [
+    ∙ elim o as (λ o. option_map (seen_lines packed.precision packed.width packed.samples.items) (option_map slots_of o) ≡ option_map (λ slots. lines_in packed slots) o) [
       | None ↦ refl
-      | Some index ↦ refl
+      | Some slots ↦ refl
     ]
 
-pub lines_found : (packed : PackedLines) (es : List (Place × Index)) (at : Place) (index : Index) (none : PictureLines)
-    → lookup (is_at (place_cmp at)) es ≡ Some index → lines_or none (seen_in packed (slots_of_entries es)) at ≡ lines_in packed index
-lines_found packed es at index none found = ap (λ (o : Option PictureLines). unwrap_or o none) (lookup_seen packed es at (Some index) found)
+pub lines_found : (packed : PackedLines) (es : List (LinePlace × Slots)) (at : LinePlace) (slots : Slots) (none : PictureLines)
+    → lookup (is_at (place_cmp at)) es ≡ Some slots → lines_or none (seen_in packed (slots_of_entries es)) at ≡ lines_in packed slots
+lines_found packed es at slots none found = ap (λ (o : Option PictureLines). unwrap_or o none) (lookup_seen packed es at (Some slots) found)
 
-pub lines_missing : (packed : PackedLines) (es : List (Place × Index)) (at : Place) (none : PictureLines)
+pub lines_missing : (packed : PackedLines) (es : List (LinePlace × Slots)) (at : LinePlace) (none : PictureLines)
     → lookup (is_at (place_cmp at)) es ≡ None → lines_or none (seen_in packed (slots_of_entries es)) at ≡ none
 lines_missing packed es at none missing = ap (λ (o : Option PictureLines). unwrap_or o none) (lookup_seen packed es at None missing)
 
--- the index of such a place
-pub index_found : (packed : PackedLines) (es : List (Place × Index)) (at : Place) (index : Index) → are_in packed (slots_of_entries es)
-    → lookup (is_at (place_cmp at)) es ≡ Some index → IsLineSet packed.precision packed.width packed.samples.items (slots_of index)
-index_found packed es at index indexed found =
+-- the slots of such a place
+pub slots_found : (packed : PackedLines) (es : List (LinePlace × Slots)) (at : LinePlace) (slots : Slots) → are_in packed (slots_of_entries es)
+    → lookup (is_at (place_cmp at)) es ≡ Some slots → IsLineSet packed.precision packed.width packed.samples.items (slots_of slots)
+slots_found packed es at slots rows_packed found =
     let P : LineSlots → Type 0 = λ e. IsLineSet packed.precision packed.width packed.samples.items e.1 in
     subst (λ (o : Option (List Slot)). IfSome o (λ ss. P (at, ss))) (lookup-map slots_of (is_at (place_cmp at)) es ∙ ap (option_map slots_of) found)
-    (lookup_from_each P (slots_of_entries es) at indexed.each)
+    (lookup_from_each P (slots_of_entries es) at rows_packed.each)
 
--- an index that is seen as the one before changes nothing
-pub entries_same : (es gs : List (Place × Index)) (at : Place) (x y : Index) → lookup (is_at (place_cmp at)) es ≡ Some x
+-- an slots that is seen as the one before changes nothing
+pub entries_same : (es gs : List (LinePlace × Slots)) (at : LinePlace) (x y : Slots) → lookup (is_at (place_cmp at)) es ≡ Some x
     → gs ≡ set_value (is_at (place_cmp at)) es y → slots_of y ≡ slots_of x → slots_of_entries gs ≡ slots_of_entries es
 entries_same es gs at x y found is same =
     let t = is_at (place_cmp at) in

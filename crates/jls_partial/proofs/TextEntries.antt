@@ -11,7 +11,7 @@ use Rattle.std.proofs.lemmas.Bool.{ltb-true, lt-ltb, lt-leb, ne_eqb, and_parts, 
 use Rattle.std.proofs.lemmas.List.{length-map}
 use Rattle.std.proofs.lemmas.List.Concat.{flat_map-cons}
 use Rattle.jls_values.specs.Shape.{PictureShape, IsShape}
-use Rattle.jls_partial.specs.declared.place.Place.{Place}
+use Rattle.jls_partial.specs.declared.line_place.LinePlace.{LinePlace}
 use Rattle.jls_partial.specs.declared.text_fault.TextFault.{TextFault}
 use Rattle.jls_partial.specs.declared.text_fault.TextFault.TheVariants as fault
 use Rattle.jls_partial.specs.InsertFaults.{reading_fault, samples_fault}
@@ -19,7 +19,7 @@ use Rattle.jls_partial.specs.declared.version.Version.{Version}
 use Rattle.jls_partial.specs.Entries.{Entry, bare}
 use Rattle.jls_partial.specs.Held.{IsEntry}
 use Rattle.jls_partial.specs.Packed.{Kept}
-use Rattle.jls_partial.specs.Place.{place, place_cmp}
+use Rattle.jls_partial.specs.LinePlace.{place, place_cmp}
 use Rattle.jls_partial.specs.ReadingOrder.{place_total}
 use Rattle.jls_partial.specs.Text.{reading_text, entry_text}
 use Rattle.jls_partial.specs.TextReading.{◌>>=◌, offset, byte_field, number_field, readings_fields, may_follow, place_fields, count_field, entry_fields, entries_fields}
@@ -29,13 +29,13 @@ use Rattle.jls_partial.proofs.TextReadings.{less_from_lt, sorted_from_rise, rise
 
 -- ---- the place of an entry
 
-abbrev place_text : Place → List ℕ
+abbrev place_text : LinePlace → List ℕ
 place_text at = at.component ∷ to_be_bytes w16 at.line
 
-abbrev followed : ℕ → PictureShape → Option Place → List ℕ → ℕ → ℕ × List ℕ → Result (Place × List ℕ) TextFault
+abbrev followed : ℕ → PictureShape → Option LinePlace → List ℕ → ℕ → ℕ × List ℕ → Result (LinePlace × List ℕ) TextFault
 followed size shape before bytes component line = cond (may_follow shape before (place component line.0)) (Ok (place component line.0, line.1)) (Err (fault.Place (offset size bytes)))
 
-place_takes : (size : ℕ) (shape : PictureShape) (before : Option Place) (bytes : List ℕ) (x : Place × List ℕ) → IsBytes bytes
+place_takes : (size : ℕ) (shape : PictureShape) (before : Option LinePlace) (bytes : List ℕ) (x : LinePlace × List ℕ) → IsBytes bytes
     → place_fields size shape before bytes ≡ Ok x
     → Takes bytes (place_text x.0) x.1 × (may_follow shape before x.0 ≡ true)
 unfolding place_fields
@@ -46,9 +46,9 @@ place_takes size shape before bytes x fits e =
     let t0 = byte_takes size bytes c.0.0 c.0.1 fits c.1 in
     let t1 = number_takes size w16 (2 ^ 16) wide16 c.0.1 l.0.0 l.0.1 t0.0.rest_fits l.1 in
     let both = Takes-then bytes (c.0.0 ∷ []) c.0.1 (to_be_bytes w16 l.0.0) l.0.1 t0.0 t1.0 in
-    subst (λ (y : Place × List ℕ). Takes bytes (place_text y.0) y.1 × (may_follow shape before y.0 ≡ true)) g.1 (both, g.0)
+    subst (λ (y : LinePlace × List ℕ). Takes bytes (place_text y.0) y.1 × (may_follow shape before y.0 ≡ true)) g.1 (both, g.0)
 
-place_again : (size : ℕ) (shape : PictureShape) (before : Option Place) (at : Place) (rest : List ℕ) → at.line < 2 ^ 16
+place_again : (size : ℕ) (shape : PictureShape) (before : Option LinePlace) (at : LinePlace) (rest : List ℕ) → at.line < 2 ^ 16
     → may_follow shape before at ≡ true → place_fields size shape before (place_text at ++ rest) ≡ Ok (at, rest)
 unfolding place_fields
 place_again size shape before at rest lt follows =
@@ -77,7 +77,7 @@ count_again size n rest lt some =
 
 -- ---- an entry
 
-in_picture : (shape : PictureShape) (before : Option Place) (at : Place) → may_follow shape before at ≡ true
+in_picture : (shape : PictureShape) (before : Option LinePlace) (at : LinePlace) → may_follow shape before at ≡ true
     → (at.component < length shape.ids) × (at.line < shape.height)
 in_picture shape None at e =
     let p = and_parts (nat_lt at.component (length shape.ids)) (nat_lt at.line shape.height) e in
@@ -88,14 +88,14 @@ in_picture shape (Some b) at e =
     (ltb-true _ _ p.0, ltb-true _ _ p.1)
 
 -- an entry that is read is of a line of the picture
-pub place_inside : (size : ℕ) (shape : PictureShape) (before : Option Place) (bytes : List ℕ) (x : Place × List ℕ)
+pub place_inside : (size : ℕ) (shape : PictureShape) (before : Option LinePlace) (bytes : List ℕ) (x : LinePlace × List ℕ)
     → place_fields size shape before bytes ≡ Ok x → (x.0.component < length shape.ids) × (x.0.line < shape.height)
 unfolding place_fields
 place_inside size shape before bytes x e =
     let c = bind_ok (byte_field size bytes) (λ component. number_field size w16 component.1 >>= followed size shape before bytes component.0) x e in
     let l = bind_ok (number_field size w16 c.0.1) (followed size shape before bytes c.0.0) x c.2 in
     let g = passed_ok (may_follow shape before (place c.0.0 l.0.0)) (fault.Place (offset size bytes)) (place c.0.0 l.0.0, l.0.1) x l.2 in
-    subst (λ (y : Place × List ℕ). (y.0.component < length shape.ids) × (y.0.line < shape.height)) g.1 (in_picture shape before (place c.0.0 l.0.0) g.0)
+    subst (λ (y : LinePlace × List ℕ). (y.0.component < length shape.ids) × (y.0.line < shape.height)) g.1 (in_picture shape before (place c.0.0 l.0.0) g.0)
 
 pub fits_there : (shape : PictureShape) (c l : ℕ) (xs : List ℕ) → c < length shape.ids → l < shape.height
     → samples_fault shape.precision shape.width xs ≡ None → reading_fault shape c l xs ≡ None
@@ -119,7 +119,7 @@ samples_of_fit shape c l (x ∷ xs) h =
 abbrev pub IsSaidEntry : Version → PictureShape → Entry → Type 0
 IsSaidEntry version shape e = IsEntry shape (bare e) × AllByRecursion (IsSaid version) e.1
 
-entry_takes : (size : ℕ) (version : Version) (shape : PictureShape) (before : Option Place) (bytes : List ℕ) (x : Entry × List ℕ)
+entry_takes : (size : ℕ) (version : Version) (shape : PictureShape) (before : Option LinePlace) (bytes : List ℕ) (x : Entry × List ℕ)
     → IsBytes bytes → entry_fields size version shape before bytes ≡ Ok x
     → Takes bytes (entry_text version x.0) x.1 × (may_follow shape before x.0.0 ≡ true) × IsSaidEntry version shape x.0
 unfolding entry_fields
@@ -151,7 +151,7 @@ entry_takes size version shape before bytes x fits e =
     (subst (λ (k : ℕ). Takes bytes (place_text p.0.0 ++ (to_be_bytes w64 k ++ body)) r.0.1) (sym count) e02) in
     subst (λ (y : Entry × List ℕ). Takes bytes (entry_text version y.0) y.1 × (may_follow shape before y.0.0 ≡ true) × IsSaidEntry version shape y.0) (ok_is made x r.2) (whole, t0.1, (is, t2.4))
 
-entry_again : (size : ℕ) (version : Version) (shape : PictureShape) (before : Option Place) (e : Entry) (rest : List ℕ) → IsShape shape
+entry_again : (size : ℕ) (version : Version) (shape : PictureShape) (before : Option LinePlace) (e : Entry) (rest : List ℕ) → IsShape shape
     → may_follow shape before e.0 ≡ true → IsSaidEntry version shape e
     → entry_fields size version shape before (entry_text version e ++ rest) ≡ Ok (e, rest)
 unfolding entry_fields
@@ -178,17 +178,17 @@ entry_again size version shape before e rest is follows said =
 -- ---- entries
 
 -- each is of a line of the picture, after that of the one before
-abbrev pub Follow : PictureShape → Option Place → List Entry → Type 0
+abbrev pub Follow : PictureShape → Option LinePlace → List Entry → Type 0
 Follow shape before [] = Unit {0}
 Follow shape before (e ∷ es) = (may_follow shape before e.0 ≡ true) × Follow shape (Some e.0) es
 
-after_all : (b p : Place) (es : List Entry) → place_cmp b p ≡ Less
+after_all : (b p : LinePlace) (es : List Entry) → place_cmp b p ≡ Less
     → AllByRecursion (λ q. place_cmp p q ≡ Less) (map (λ (e : Entry). e.0) es)
     → AllByRecursion (λ q. place_cmp b q ≡ Less) (map (λ (e : Entry). e.0) es)
 after_all b p [] lt h = tt
 after_all b p (e ∷ es) lt h = (place_total.trans b p e.0 lt h.0, after_all b p es lt h.1)
 
-sorted_after : (shape : PictureShape) (b : Place) (es : List Entry) → Follow shape (Some b) es
+sorted_after : (shape : PictureShape) (b : LinePlace) (es : List Entry) → Follow shape (Some b) es
     → AllByRecursion (λ q. place_cmp b q ≡ Less) (map (λ (e : Entry). e.0) es) × IsStrictlySortedBy place_cmp (map (λ (e : Entry). e.0) es)
 unfolding IsStrictlySortedBy
 sorted_after shape b [] h = (tt, tt)
@@ -207,7 +207,7 @@ inside_true : (shape : PictureShape) (e : Entry) → IsEntry shape (bare e)
     → (nat_lt e.0.component (length shape.ids) && nat_lt e.0.line shape.height) ≡ true
 inside_true shape e is = let p = line_of_entry shape (bare e) is in and_from _ _ (lt-ltb _ _ p.0) (lt-ltb _ _ p.1)
 
-follow_after : (shape : PictureShape) (b : Place) (es : List Entry)
+follow_after : (shape : PictureShape) (b : LinePlace) (es : List Entry)
     → AllByRecursion (λ q. place_cmp b q ≡ Less) (map (λ (e : Entry). e.0) es) → IsStrictlySortedBy place_cmp (map (λ (e : Entry). e.0) es)
     → AllByRecursion (IsEntry shape) (map bare es) → Follow shape (Some b) es
 unfolding IsStrictlySortedBy
@@ -220,7 +220,7 @@ unfolding IsStrictlySortedBy
 follow_from_sorted shape [] s is = tt
 follow_from_sorted shape (e ∷ es) s is = (inside_true shape e is.0, follow_after shape e.0 es s.0 s.1 is.1)
 
-pub entries_take : (size : ℕ) (version : Version) (shape : PictureShape) (before : Option Place) (n : ℕ) (bytes : List ℕ) (x : List Entry × List ℕ)
+pub entries_take : (size : ℕ) (version : Version) (shape : PictureShape) (before : Option LinePlace) (n : ℕ) (bytes : List ℕ) (x : List Entry × List ℕ)
     → IsBytes bytes → entries_fields size version shape before n bytes ≡ Ok x
     → Takes bytes (flat_map (entry_text version) x.0) x.1 × (length x.0 ≡ n) × Follow shape before x.0 × AllByRecursion (IsSaidEntry version shape) x.0
 unfolding entries_fields
@@ -237,7 +237,7 @@ entries_take size version shape before (suc n) bytes x fits e =
     subst (λ (y : List Entry × List ℕ). Takes bytes (flat_map (entry_text version) y.0) y.1 × (length y.0 ≡ suc n) × Follow shape before y.0 × AllByRecursion (IsSaidEntry version shape) y.0) (ok_is made x b.2)
     (subst (λ (t : List ℕ). Takes bytes t b.0.1) (sym (flat_map-cons (entry_text version) a.0.0 b.0.0)) both, ap suc second.1, (first.1, second.2), (first.2, second.3))
 
-pub entries_read : (size : ℕ) (version : Version) (shape : PictureShape) (before : Option Place) (es : List Entry) (rest : List ℕ)
+pub entries_read : (size : ℕ) (version : Version) (shape : PictureShape) (before : Option LinePlace) (es : List Entry) (rest : List ℕ)
     → IsShape shape → Follow shape before es → AllByRecursion (IsSaidEntry version shape) es
     → entries_fields size version shape before (length es) (flat_map (entry_text version) es ++ rest) ≡ Ok (es, rest)
 unfolding entries_fields

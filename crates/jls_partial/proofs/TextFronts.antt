@@ -4,7 +4,7 @@ use Rattle.std.specs.Prelude.{OnErr}
 use Rattle.std.proofs.lemmas.List.{append-nil}
 use Rattle.std.proofs.lemmas.List.Concat.{flat_map-cons}
 use Rattle.jls_values.specs.Shape.{PictureShape}
-use Rattle.jls_partial.specs.declared.place.Place.{Place}
+use Rattle.jls_partial.specs.declared.line_place.LinePlace.{LinePlace}
 use Rattle.jls_partial.specs.declared.version.Version.{Version}
 use Rattle.jls_partial.specs.Entries.{Entry, kept_at_place, kept_readings}
 use Rattle.jls_partial.specs.Merging.{TakesFront}
@@ -60,7 +60,7 @@ whole_readings size version shape before (suc n) bytes x e =
 
 -- ---- entries
 
-pub entry_front_is : (size : ℕ) (version : Version) (shape : PictureShape) (before : Option Place) (bytes : List ℕ) (at : Place) (count_bytes : List ℕ) (count : ℕ) (rest : List ℕ)
+pub entry_front_is : (size : ℕ) (version : Version) (shape : PictureShape) (before : Option LinePlace) (bytes : List ℕ) (at : LinePlace) (count_bytes : List ℕ) (count : ℕ) (rest : List ℕ)
     → place_fields size shape before bytes ≡ Ok (at, count_bytes) → count_field size count_bytes ≡ Ok (count, rest)
     → entry_front size version shape before bytes ≡ map (kept_at_place at) (readings_front size version shape None count rest)
 unfolding entry_front
@@ -68,7 +68,7 @@ entry_front_is size version shape before bytes at count_bytes count rest p c =
     (λ j. unless_fault (p j) (λ place. unless_fault (count_field size place.1) (λ count. map (kept_at_place place.0) (readings_front size version shape None count.0 count.1))))
     ∙ (λ j. unless_fault (c j) (λ count. map (kept_at_place at) (readings_front size version shape None count.0 count.1)))
 
-whole_entry : (size : ℕ) (version : Version) (shape : PictureShape) (before : Option Place) (bytes : List ℕ) (x : Entry × List ℕ)
+whole_entry : (size : ℕ) (version : Version) (shape : PictureShape) (before : Option LinePlace) (bytes : List ℕ) (x : Entry × List ℕ)
     → entry_fields size version shape before bytes ≡ Ok x → entry_front size version shape before bytes ≡ map (kept_at_place x.0.0) x.0.1
 unfolding entry_front entry_fields
 whole_entry size version shape before bytes x e =
@@ -82,14 +82,14 @@ whole_entry size version shape before bytes x e =
     ∙ ap (λ (y : Entry × List ℕ). map (kept_at_place y.0.0) y.0.1) (ok_is made x r.2)
 
 -- the next entry, and those behind it
-next_front : (size : ℕ) (version : Version) (shape : PictureShape) (before : Option Place) (count i : ℕ) (bytes : List ℕ) → i < count
+next_front : (size : ℕ) (version : Version) (shape : PictureShape) (before : Option LinePlace) (count i : ℕ) (bytes : List ℕ) → i < count
     → entries_front size version shape before (count - i) bytes ≡ entry_front size version shape before bytes ++ unless_fault (entry_fields size version shape before bytes) (λ first. entries_front size version shape (Some first.0.0) (count - (i + 1)) first.1)
 unfolding entries_front
 next_front size version shape before count i bytes lt =
     let n : count - i ≡ suc (count - (i + 1)) = omega arith in
     rw n refl
 
-module _ (size : ℕ) (version : Version) (shape : PictureShape) (before : Option Place) (count i : ℕ) (bytes : List ℕ) (lt : i < count) where
+module _ (size : ℕ) (version : Version) (shape : PictureShape) (before : Option LinePlace) (count i : ℕ) (bytes : List ℕ) (lt : i < count) where
   -- a front of the next entry is taken
   pub entry_cut : (old p q : PartialPicture) (all : List (Reading × List ℕ)) → IsSoFar old p all (entries_front size version shape before (count - i) bytes)
       → TakesFront p q (entry_front size version shape before bytes) → TakesFront old q all
@@ -98,7 +98,7 @@ module _ (size : ℕ) (version : Version) (shape : PictureShape) (before : Optio
       front_so_far old p q all (entry_front size version shape before bytes) left (subst (IsSoFar old p all) (next_front size version shape before count i bytes lt) h) f
 
   -- all of it is
-  pub entry_taken : (old p q : PartialPicture) (at : Place) (after : List ℕ) (all : List (Reading × List ℕ)) → IsSoFar old p all (entries_front size version shape before (count - i) bytes)
+  pub entry_taken : (old p q : PartialPicture) (at : LinePlace) (after : List ℕ) (all : List (Reading × List ℕ)) → IsSoFar old p all (entries_front size version shape before (count - i) bytes)
       → with_entry p (entry_fields size version shape before bytes) ≡ Ok (q, at, after) → IsSoFar old q all (entries_front size version shape (Some at) (count - (i + 1)) after)
   entry_taken old p q at after all h read =
       let given = entry_given p q at after (entry_fields size version shape before bytes) read in
@@ -108,7 +108,7 @@ module _ (size : ℕ) (version : Version) (shape : PictureShape) (before : Optio
       next_front size version shape before count i bytes lt ∙ (λ j. whole_entry size version shape before bytes ((at, given.0), after) given.1 j ++ unless_fault (given.1 j) (λ first. entries_front size version shape (Some first.0.0) (count - (i + 1)) first.1)) in
       more_so_far old p q all ks left (subst (IsSoFar old p all) next h) (sym given.2)
 
-pub whole_entries : (size : ℕ) (version : Version) (shape : PictureShape) (before : Option Place) (n : ℕ) (bytes : List ℕ) (x : List Entry × List ℕ)
+pub whole_entries : (size : ℕ) (version : Version) (shape : PictureShape) (before : Option LinePlace) (n : ℕ) (bytes : List ℕ) (x : List Entry × List ℕ)
     → entries_fields size version shape before n bytes ≡ Ok x → entries_front size version shape before n bytes ≡ kept_readings x.0
 unfolding entries_front entries_fields
 whole_entries size version shape before zero bytes x e = ap (λ (y : List Entry × List ℕ). kept_readings y.0) (ok_is ([], bytes) x e)

@@ -13,7 +13,7 @@ use Rattle.jls_values.specs.OrderedSet as set
 use Rattle.jls_values.specs.OrderedSetLaws.{same_set, contains-empty}
 use Rattle.jls_values.specs.Shape.{PictureShape, IsShape}
 use Rattle.jls_values.specs.SourceList.{IsSourceList}
-use Rattle.jls_partial.specs.declared.place.Place.{Place}
+use Rattle.jls_partial.specs.declared.line_place.LinePlace.{LinePlace}
 use Rattle.jls_partial.specs.declared.text_fault.TextFault.{TextFault}
 use Rattle.jls_partial.specs.declared.text_fault.TextFault.TheVariants as fault
 use Rattle.jls_partial.specs.declared.version.Version.{Version}
@@ -24,7 +24,7 @@ use Rattle.jls_partial.specs.Marks.{mark_cmp, sources_of}
 use Rattle.jls_partial.specs.MarkLaws.{contains-sources_of}
 use Rattle.jls_partial.specs.Packed.{Kept}
 use Rattle.jls_partial.specs.Partial.{PartialPicture, sources_at}
-use Rattle.jls_partial.specs.Place.{place, place_cmp}
+use Rattle.jls_partial.specs.LinePlace.{place, place_cmp}
 use Rattle.jls_partial.specs.Reading.{Reading, reading_cmp}
 use Rattle.jls_partial.specs.ReadingOrder.{marks_total, marks_exact}
 use Rattle.jls_partial.specs.Text.{magic, version_byte, shape_text, entry_text, head_text, text_of, with_own_sources, bare_entries, entries, IsPartial, SaysAll, IsTextOf}
@@ -163,7 +163,7 @@ partial_is version shape es is h =
     all_then [] ys a b = b
     all_then (x ∷ xs) ys a b = (a.0, all_then xs ys a.1 b)
 
-    all_there : (at : Place) (ks : List Kept) → AllByRecursion (IsSaid version) ks → AllByRecursion IsSmall (map (kept_at_place at) ks)
+    all_there : (at : LinePlace) (ks : List Kept) → AllByRecursion (IsSaid version) ks → AllByRecursion IsSmall (map (kept_at_place at) ks)
     all_there at [] h = tt
     all_there at (k ∷ ks) h = (h.0.0.small, all_there at ks h.1)
 
@@ -200,7 +200,7 @@ entries_said version p is says = record {
     none One e r = sources_again reading_cmp p.marks r [] no_order (λ s. ap (λ (m : set.OrderedSet (mark_cmp reading_cmp)). set.contains m (r, s)) e ∙ contains-empty (mark_cmp reading_cmp) (r, s))
     none Two e r = tt
 
-    line : (at : Place) (xs : List (List ℕ)) → AllByRecursion (IsSaid version) (map (λ x. (x, sources_at p at.component at.line x)) xs)
+    line : (at : LinePlace) (xs : List (List ℕ)) → AllByRecursion (IsSaid version) (map (λ x. (x, sources_at p at.component at.line x)) xs)
     line at [] = tt
     line at (x ∷ xs) = ((own (at_place at x), none version says (at_place at x)), line at xs)
 
@@ -221,7 +221,7 @@ says_all One shape es h = same_set marks_total marks_exact (partial_of shape es)
     all_then [] ys a b = b
     all_then (x ∷ xs) ys a b = (a.0, all_then xs ys a.1 b)
 
-    all_there : (at : Place) (ks : List Kept) → AllByRecursion (IsSaid One) ks → AllByRecursion IsUnsaid (map (kept_at_place at) ks)
+    all_there : (at : LinePlace) (ks : List Kept) → AllByRecursion (IsSaid One) ks → AllByRecursion IsUnsaid (map (kept_at_place at) ks)
     all_there at [] h = tt
     all_there at (k ∷ ks) h = (h.0.1, all_there at ks h.1)
 

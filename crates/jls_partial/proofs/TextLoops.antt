@@ -5,7 +5,7 @@ use Rattle.std.proofs.lemmas.List.{append-nil, length-drop}
 use Rattle.std.specs.Int.{w16, from_be_bytes}
 use Rattle.std.proofs.lemmas.List.Concat.{flat_map-cons}
 use Rattle.jls_values.specs.Shape.{PictureShape}
-use Rattle.jls_partial.specs.declared.place.Place.{Place}
+use Rattle.jls_partial.specs.declared.line_place.LinePlace.{LinePlace}
 use Rattle.jls_partial.specs.declared.text_fault.TextFault.{TextFault}
 use Rattle.jls_partial.specs.declared.text_fault.TextFault.TheVariants as fault
 use Rattle.jls_partial.specs.declared.version.Version.{Version}
@@ -156,15 +156,15 @@ kept_fits size version shape before bytes x e =
     subst (λ (y : Kept × List ℕ). samples_fault shape.precision shape.width y.0.0 ≡ None) (ok_is made x b.2) (reading_fits size shape before bytes a.0 a.1)
 
 -- with one reading more
-abbrev pub with_kept : PartialPicture → Place → Kept → PartialPicture
+abbrev pub with_kept : PartialPicture → LinePlace → Kept → PartialPicture
 with_kept p at k = with_all p (kept_at_place at k ∷ [])
 
-regroup_readings : (p : PartialPicture) (at : Place) (k : Kept) (read : Result (List Kept × List ℕ) TextFault)
+regroup_readings : (p : PartialPicture) (at : LinePlace) (k : Kept) (read : Result (List Kept × List ℕ) TextFault)
     → with_readings p at (read >>= λ y. Ok (k ∷ y.0, y.1)) ≡ with_readings (with_kept p at k) at read
 regroup_readings p at k (Ok y) = ap (λ (q : PartialPicture). Ok (q, y.1)) (with_all-append p (kept_at_place at k ∷ []) (map (kept_at_place at) y.0))
 regroup_readings p at k (Err f) = refl
 
-pub readings_go_on : (size : ℕ) (version : Version) (shape : PictureShape) (p : PartialPicture) (at : Place) (before : Option (List ℕ)) (count i : ℕ) (bytes : List ℕ) (k : Kept) (after : List ℕ) (total : Result (PartialPicture × List ℕ) TextFault)
+pub readings_go_on : (size : ℕ) (version : Version) (shape : PictureShape) (p : PartialPicture) (at : LinePlace) (before : Option (List ℕ)) (count i : ℕ) (bytes : List ℕ) (k : Kept) (after : List ℕ) (total : Result (PartialPicture × List ℕ) TextFault)
     → i < count
     → kept_fields size version shape before bytes ≡ Ok (k, after) → with_readings p at (readings_fields size version shape before (count - i) bytes) ≡ total
     → with_readings (with_kept p at k) at (readings_fields size version shape (Some k.0) (count - (i + 1)) after) ≡ total
@@ -175,7 +175,7 @@ readings_go_on size version shape p at before count i bytes k after total lt h s
     rw (n, h) (regroup_readings p at k (readings_fields size version shape (Some k.0) (count - (i + 1)) after)) in
     sym one ∙ so_far
 
-pub readings_end : (e : TextFault) (size : ℕ) (version : Version) (shape : PictureShape) (p : PartialPicture) (at : Place) (before : Option (List ℕ)) (count i : ℕ) (bytes : List ℕ) (total : Result (PartialPicture × List ℕ) TextFault)
+pub readings_end : (e : TextFault) (size : ℕ) (version : Version) (shape : PictureShape) (p : PartialPicture) (at : LinePlace) (before : Option (List ℕ)) (count i : ℕ) (bytes : List ℕ) (total : Result (PartialPicture × List ℕ) TextFault)
     → i < count
     → Fails e (kept_fields size version shape before bytes) → with_readings p at (readings_fields size version shape before (count - i) bytes) ≡ total → Fails e total
 unfolding readings_fields
@@ -185,7 +185,7 @@ readings_end e size version shape p at before count i bytes total lt h so_far =
     let here : Fails e (readings_fields size version shape before (suc (count - (i + 1))) bytes) = fails_then e (kept_fields size version shape before bytes) rest h in
     subst (Fails e) so_far (fails_then e (readings_fields size version shape before (count - i) bytes) (λ x. Ok (with_all p (map (kept_at_place at) x.0), x.1)) (subst (λ (n : ℕ). Fails e (readings_fields size version shape before n bytes)) k here))
 
-pub readings_done : (size : ℕ) (version : Version) (shape : PictureShape) (p : PartialPicture) (at : Place) (before : Option (List ℕ)) (count i : ℕ) (bytes : List ℕ) (total : Result (PartialPicture × List ℕ) TextFault)
+pub readings_done : (size : ℕ) (version : Version) (shape : PictureShape) (p : PartialPicture) (at : LinePlace) (before : Option (List ℕ)) (count i : ℕ) (bytes : List ℕ) (total : Result (PartialPicture × List ℕ) TextFault)
     → count ≤ i
     → with_readings p at (readings_fields size version shape before (count - i) bytes) ≡ total → total ≡ Ok (p, bytes)
 unfolding readings_fields
@@ -207,15 +207,15 @@ regroup_entries p e (Ok y) =
 regroup_entries p e (Err f) = refl
 
 -- what one entry gave, from what reading it into the partial gave
-pub entry_given : (p q : PartialPicture) (at : Place) (after : List ℕ) (read : Result (Entry × List ℕ) TextFault)
+pub entry_given : (p q : PartialPicture) (at : LinePlace) (after : List ℕ) (read : Result (Entry × List ℕ) TextFault)
     → with_entry p read ≡ Ok (q, at, after)
     → (xs : List Kept) × (read ≡ Ok ((at, xs), after)) × (with_all p (map (kept_at_place at) xs) ≡ q)
 entry_given p q at after (Ok ((a, xs), bytes)) e =
-    let parts : ◌≡◌ {A = PartialPicture × Place × List ℕ} (with_all p (map (kept_at_place a) xs), a, bytes) (q, at, after) = cc in
-    (xs, (λ i. Ok (((parts i).1, xs), (parts i).2)), ap (λ (z : Place). with_all p (map (kept_at_place z) xs)) (sym (ap (λ (y : PartialPicture × Place × List ℕ). y.1) parts)) ∙ ap (λ (y : PartialPicture × Place × List ℕ). y.0) parts)
+    let parts : ◌≡◌ {A = PartialPicture × LinePlace × List ℕ} (with_all p (map (kept_at_place a) xs), a, bytes) (q, at, after) = cc in
+    (xs, (λ i. Ok (((parts i).1, xs), (parts i).2)), ap (λ (z : LinePlace). with_all p (map (kept_at_place z) xs)) (sym (ap (λ (y : PartialPicture × LinePlace × List ℕ). y.1) parts)) ∙ ap (λ (y : PartialPicture × LinePlace × List ℕ). y.0) parts)
 entry_given p q at after (Err f) e = absurd cc
 
-entries_step : (size : ℕ) (version : Version) (shape : PictureShape) (p : PartialPicture) (before : Option Place) (count i : ℕ) (bytes : List ℕ) (at : Place) (xs : List Kept) (after : List ℕ)
+entries_step : (size : ℕ) (version : Version) (shape : PictureShape) (p : PartialPicture) (before : Option LinePlace) (count i : ℕ) (bytes : List ℕ) (at : LinePlace) (xs : List Kept) (after : List ℕ)
     → i < count
     → entry_fields size version shape before bytes ≡ Ok ((at, xs), after) → with_entries p (entries_fields size version shape before (count - i) bytes) ≡ with_entries (with_all p (map (kept_at_place at) xs)) (entries_fields size version shape (Some at) (count - (i + 1)) after)
 unfolding entries_fields
@@ -223,7 +223,7 @@ entries_step size version shape p before count i bytes at xs after lt first =
     let k : count - i ≡ suc (count - (i + 1)) = omega arith in
     rw (k, first) (regroup_entries p (at, xs) (entries_fields size version shape (Some at) (count - (i + 1)) after))
 
-pub entries_go_on : (size : ℕ) (version : Version) (shape : PictureShape) (p q : PartialPicture) (before : Option Place) (count i : ℕ) (bytes : List ℕ) (at : Place) (after : List ℕ) (total : Result (PartialPicture × List ℕ) TextFault)
+pub entries_go_on : (size : ℕ) (version : Version) (shape : PictureShape) (p q : PartialPicture) (before : Option LinePlace) (count i : ℕ) (bytes : List ℕ) (at : LinePlace) (after : List ℕ) (total : Result (PartialPicture × List ℕ) TextFault)
     → i < count
     → with_entry p (entry_fields size version shape before bytes) ≡ Ok (q, at, after) → with_entries p (entries_fields size version shape before (count - i) bytes) ≡ total
     → with_entries q (entries_fields size version shape (Some at) (count - (i + 1)) after) ≡ total
@@ -232,7 +232,7 @@ entries_go_on size version shape p q before count i bytes at after total lt h so
     ap (λ (z : PartialPicture). with_entries z (entries_fields size version shape (Some at) (count - (i + 1)) after)) (sym given.2)
     ∙ sym (entries_step size version shape p before count i bytes at given.0 after lt given.1) ∙ so_far
 
-pub entry_keeps_shape : (size : ℕ) (version : Version) (shape : PictureShape) (p q : PartialPicture) (before : Option Place) (bytes : List ℕ) (at : Place) (after : List ℕ)
+pub entry_keeps_shape : (size : ℕ) (version : Version) (shape : PictureShape) (p q : PartialPicture) (before : Option LinePlace) (bytes : List ℕ) (at : LinePlace) (after : List ℕ)
     → with_entry p (entry_fields size version shape before bytes) ≡ Ok (q, at, after) → q.shape ≡ p.shape
 entry_keeps_shape size version shape p q before bytes at after h = let given = entry_given p q at after (entry_fields size version shape before bytes) h in ap (λ (z : PartialPicture). z.shape) (sym given.2)
 
@@ -256,7 +256,7 @@ fault_given (fault.Sample n) (Err d) f h = cc
 fault_given (fault.Trailing n) (Ok x) f h = absurd cc
 fault_given (fault.Trailing n) (Err d) f h = cc
 
-pub entries_end : (e : TextFault) (size : ℕ) (version : Version) (shape : PictureShape) (p : PartialPicture) (before : Option Place) (count i : ℕ) (bytes : List ℕ) (total : Result (PartialPicture × List ℕ) TextFault)
+pub entries_end : (e : TextFault) (size : ℕ) (version : Version) (shape : PictureShape) (p : PartialPicture) (before : Option LinePlace) (count i : ℕ) (bytes : List ℕ) (total : Result (PartialPicture × List ℕ) TextFault)
     → i < count
     → Fails e (with_entry p (entry_fields size version shape before bytes)) → with_entries p (entries_fields size version shape before (count - i) bytes) ≡ total → Fails e total
 unfolding entries_fields
@@ -266,7 +266,7 @@ entries_end e size version shape p before count i bytes total lt h so_far =
     let here : Fails e (entries_fields size version shape before (suc (count - (i + 1))) bytes) = fails_then e (entry_fields size version shape before bytes) rest (fault_given e (entry_fields size version shape before bytes) (λ x. (with_all p (map (kept_at_place x.0.0) x.0.1), x.0.0, x.1)) h) in
     subst (Fails e) so_far (fails_then e (entries_fields size version shape before (count - i) bytes) (λ x. Ok (with_all p (kept_readings x.0), x.1)) (subst (λ (n : ℕ). Fails e (entries_fields size version shape before n bytes)) k here))
 
-pub entries_done : (size : ℕ) (version : Version) (shape : PictureShape) (p : PartialPicture) (before : Option Place) (count i : ℕ) (bytes : List ℕ) (total : Result (PartialPicture × List ℕ) TextFault)
+pub entries_done : (size : ℕ) (version : Version) (shape : PictureShape) (p : PartialPicture) (before : Option LinePlace) (count i : ℕ) (bytes : List ℕ) (total : Result (PartialPicture × List ℕ) TextFault)
     → count ≤ i
     → with_entries p (entries_fields size version shape before (count - i) bytes) ≡ total → total ≡ Ok (p, bytes)
 unfolding entries_fields

@@ -14,7 +14,7 @@ use Rattle.jls_partial.specs.Entries.{at_place}
 use Rattle.jls_partial.specs.InsertFaults.{reading_fault}
 use Rattle.jls_partial.specs.Marking.{line_readings, readings_of_lines, readings_of_components}
 use Rattle.jls_partial.specs.Partial.{PartialPicture}
-use Rattle.jls_partial.specs.Place.{place_cmp, place_of, place}
+use Rattle.jls_partial.specs.LinePlace.{place_cmp, place_of, place}
 use Rattle.jls_partial.specs.Reading.{Reading, reading_cmp, reading_of}
 use Rattle.jls_partial.specs.ReadingOrder.{place_total, same_place, same_reading}
 use Rattle.jls_partial.proofs.ReadBack.{is_there, eq_there}

@@ -2,28 +2,28 @@
 use Rattle.std.specs.Prelude.{ℕ, List, map}
 use Rattle.std.specs.List.{flat_map}
 use Rattle.jls_values.specs.Shape.{PictureShape}
-use Rattle.jls_partial.specs.declared.place.Place.{Place}
+use Rattle.jls_partial.specs.declared.line_place.LinePlace.{LinePlace}
 use Rattle.jls_partial.specs.Packed.{Kept}
 use Rattle.jls_partial.specs.Partial.{PartialPicture, nothing_known, with_all}
 use Rattle.jls_partial.specs.Reading.{Reading, reading_of}
 
 -- the place of a line, and what was read of it: lists of samples, each with its source numbers
 abbrev pub Entry : Type 0
-Entry = Place × List Kept
+Entry = LinePlace × List Kept
 
 -- the same without the source numbers
 abbrev pub BareEntry : Type 0
-BareEntry = Place × List (List ℕ)
+BareEntry = LinePlace × List (List ℕ)
 
 abbrev pub bare : Entry → BareEntry
 bare e = (e.0, map (λ k. k.0) e.1)
 
 -- the reading of these samples at a place
-abbrev pub at_place : Place → List ℕ → Reading
+abbrev pub at_place : LinePlace → List ℕ → Reading
 at_place at samples = reading_of at.component at.line samples
 
 -- the reading of samples with source numbers at a place
-abbrev pub kept_at_place : Place → Kept → Reading × List ℕ
+abbrev pub kept_at_place : LinePlace → Kept → Reading × List ℕ
 kept_at_place at k = (at_place at k.0, k.1)
 
 -- all that the entries hold, entry by entry

@@ -8,11 +8,11 @@ use Rattle.std.specs.Ordering.{nat_cmp}
 use Rattle.std.specs.Prelude.{◌≡◌, ℕ, true, ◌≤◌, ◌<◌, ◌^◌, None, Some, List, [], ◌∷◌, length, map, unwrap_or, slice_get, if◌then◌else◌}
 use Rattle.jls_values.specs.OrderedSet as set
 use Rattle.jls_values.specs.Shape.{PictureShape}
-use Rattle.jls_partial.specs.declared.place.Place.{Place}
+use Rattle.jls_partial.specs.declared.line_place.LinePlace.{LinePlace}
 use Rattle.jls_partial.specs.Entries.{BareEntry, Entry}
 use Rattle.jls_partial.specs.InsertFaults.{reading_fault}
 use Rattle.jls_partial.specs.LineSet.{PictureLines, AreLineMarksHeld, kept_lines, with_lines}
-use Rattle.jls_partial.specs.Place.{place_cmp}
+use Rattle.jls_partial.specs.LinePlace.{place_cmp}
 
 -- one line: it has a reading, its readings rise, they are few enough to be counted, and each fits the shape
 pub record IsEntry (shape : PictureShape) (e : BareEntry) : Type 0 where
@@ -28,7 +28,7 @@ pub record AreEntries (shape : PictureShape) (entries : List BareEntry) : Type 0
 
 -- what is kept of one line
 abbrev pub LineEntry : Type 0
-LineEntry = Place × PictureLines
+LineEntry = LinePlace × PictureLines
 
 -- it as an entry, with the sources of each reading and without them
 abbrev pub kept_entry : LineEntry → Entry
@@ -60,10 +60,10 @@ pub record MarksLine (old : PictureLines) (i source : ℕ) (new : PictureLines) 
   pub puts : (samples : List ℕ) → slice_get (set.items old.lines) i ≡ Some samples → PutsLine old samples (source ∷ []) new
 
 -- the lines at a place, or where there are none these
-abbrev pub lines_or : PictureLines → List LineEntry → Place → PictureLines
+abbrev pub lines_or : PictureLines → List LineEntry → LinePlace → PictureLines
 lines_or none entries at = unwrap_or (lookup (is_at (place_cmp at)) entries) none
 
 -- at one place these lines are kept now, and elsewhere nothing has changed
-abbrev pub PutsAt : List LineEntry → Place → PictureLines → List LineEntry → Type 0
-PutsAt old at lines new = (q : Place) → lookup (is_at (place_cmp q)) new
+abbrev pub PutsAt : List LineEntry → LinePlace → PictureLines → List LineEntry → Type 0
+PutsAt old at lines new = (q : LinePlace) → lookup (is_at (place_cmp q)) new
     ≡ (if is_at (place_cmp at) q then Some lines else lookup (is_at (place_cmp q)) old)

@@ -1,8 +1,8 @@
 pub mod Entries
 pub mod Equality
 pub mod Held
-pub mod Index
 pub mod InsertFaults
+pub mod LinePlace
 pub mod LineSet
 pub mod LineSetLaws
 pub mod Marking
@@ -15,9 +15,9 @@ pub mod Pages
 pub mod Partial
 pub mod Parts
 pub mod PartialLaws
-pub mod Place
 pub mod Reading
 pub mod ReadingOrder
+pub mod Slot
 pub mod Slots
 pub mod Status
 pub mod Stored

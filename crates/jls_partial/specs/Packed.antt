@@ -1,4 +1,4 @@
--- The packed store of lines: the samples of one line after the other, and an index of some of them in ascending order.
+-- The packed store of lines: the samples of one line after the other, and slots of some of them in ascending order.
 use Rattle.std.specs.Cmp.Lexicographic.{slice_cmp}
 use Rattle.std.specs.List.{AllByRecursion}
 use Rattle.std.specs.List.Sorted.{IsStrictlySortedBy}
@@ -7,13 +7,13 @@ use Rattle.std.specs.declared.cmp.Ordering.{Ordering}
 use Rattle.std.specs.declared.cmp.Ordering.TheVariants.{Less}
 use Rattle.std.specs.Prelude.{◌≡◌, ℕ, ◌+◌, ◌<◌, ◌≤◌, List, length, map, take, drop, slice_index_or}
 use Rattle.jls_values.specs.OrderedSet as set
-use Rattle.jls_partial.specs.declared.index.Slot.{Slot}
+use Rattle.jls_partial.specs.declared.slots.Slot.{Slot}
 
 -- a line as it is kept: its samples, and its source numbers in ascending order
 abbrev pub Kept : Type 0
 Kept = List ℕ × List ℕ
 
--- what the index says of the samples
+-- what the slots say of the samples
 abbrev pub kept_of : ℕ → List ℕ → List Slot → List Kept
 kept_of width packed slots = map (λ s. (take width (drop s.start packed), set.items s.sources)) slots
 

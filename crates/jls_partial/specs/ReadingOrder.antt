@@ -7,15 +7,15 @@ use Rattle.std.specs.Cmp.{IsTotalOrder}
 use Rattle.std.specs.Cmp.Lexicographic.{slice_cmp}
 use Rattle.std.proofs.lemmas.Cmp.{nat_cmp_total, nat_list_cmp_total, on_total, then_total}
 use Rattle.std.proofs.lemmas.Map.Lookups.{CmpEqualImpliesEq, exact_unsigned, exact_bytes, exact_pairs}
-use Rattle.jls_partial.specs.declared.place.Place.{Place}
+use Rattle.jls_partial.specs.declared.line_place.LinePlace.{LinePlace}
 use Rattle.jls_partial.specs.MarkLaws.{mark_total, mark_exact}
 use Rattle.jls_partial.specs.Marks.{mark_cmp}
-use Rattle.jls_partial.specs.Place.{place_cmp, place_of}
+use Rattle.jls_partial.specs.LinePlace.{place_cmp, place_of}
 use Rattle.jls_partial.specs.Reading.{Reading, reading_cmp}
 
 -- places are in a total order
 pub place_total : IsTotalOrder place_cmp
-place_total = then_total (on_total (λ (p : Place). p.component) nat_cmp_total) (on_total (λ (p : Place). p.line) nat_cmp_total)
+place_total = then_total (on_total (λ (p : LinePlace). p.component) nat_cmp_total) (on_total (λ (p : LinePlace). p.line) nat_cmp_total)
 
 -- places that tie are one
 pub place_exact : CmpEqualImpliesEq place_cmp
@@ -49,7 +49,7 @@ three Equal Greater t = refl
 three Greater s t = refl
 
 -- two readings are one exactly if they have one place and one list of samples
-pub eq_reading : (r : Reading) (p : Place) (x : List ℕ)
+pub eq_reading : (r : Reading) (p : LinePlace) (x : List ℕ)
     → eq_by_cmp reading_cmp r (record { component = p.component; line = p.line; samples = x })
     ≡ (eq_by_cmp place_cmp (place_of r) p && eq_by_cmp (slice_cmp nat_cmp) r.samples x)
 eq_reading r p x = three (nat_cmp r.component p.component) (nat_cmp r.line p.line) (slice_cmp nat_cmp r.samples x)
@@ -61,7 +61,7 @@ is_equal Equal e = refl
 is_equal Greater e = absurd cc
 
 -- places, sample lists and readings that the test finds tied are one
-pub same_place : (p q : Place) → eq_by_cmp place_cmp p q ≡ true → p ≡ q
+pub same_place : (p q : LinePlace) → eq_by_cmp place_cmp p q ≡ true → p ≡ q
 same_place p q e = place_exact p q (is_equal (place_cmp p q) e)
 
 pub same_samples : (x y : List ℕ) → eq_by_cmp (slice_cmp nat_cmp) x y ≡ true → x ≡ y

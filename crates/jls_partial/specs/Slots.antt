@@ -1,17 +1,24 @@
--- Slots of the index: their sources, and how the checker's logic stores one.
-use Rattle.std.specs.Coded.{Coded, code_by, coded×, coded_ℕ}
-use Rattle.std.specs.Ordering.{nat_cmp}
-use Rattle.std.specs.Prelude.{ℕ, refl, Option, Some, None, Box}
-use Rattle.std.specs.declared.alloc.Global.{Global}
+-- What slots are seen as: the list of them, in order.
+use Rattle.std.specs.Prelude.{ℕ, List, [], ◌∷◌, slice_index_or}
 use Rattle.jls_values.specs.OrderedSet as set
-use Rattle.jls_partial.specs.declared.index.Slot.{Slot}
+use Rattle.jls_partial.specs.declared.slots.Slots.{Slots}
+use Rattle.jls_partial.specs.declared.slots.Slots.TheVariants.{Empty, Lone, Many}
+use Rattle.jls_partial.specs.declared.slots.Slot.{Slot}
 
--- the sources of a line, which has none where there is no set of them
-abbrev pub own_sources : Option (Box (set.OrderedSet nat_cmp) Global) → set.OrderedSet nat_cmp
-own_sources None = set.empty
-own_sources (Some own) = own.value
+abbrev pub slots_of : Slots → List Slot
+slots_of Empty = []
+slots_of (Lone start) = record { start = start; sources = set.empty } ∷ []
+slots_of (Many tree) = tree.value
 
-abbrev pub coded_slot : Coded Slot
-coded_slot = code_by (ℕ × set.OrderedSet nat_cmp)
-    (coded× coded_ℕ (set.code coded_ℕ))
-    (λ s. (s.start, s.sources)) (λ p. record { start = p.0; sources = p.1 }) (λ _. refl)
+-- whether the slot of one more can be put in beside those that are there
+abbrev pub HasRoom : Slots → Type 0
+HasRoom Empty = ⊥
+HasRoom (Lone start) = ⊥
+HasRoom (Many tree) = Unit {0}
+
+-- the slot that has so many others before it
+abbrev pub no_slot : Slot
+no_slot = record { start = 0; sources = set.empty }
+
+abbrev pub slot_at : List Slot → ℕ → Slot
+slot_at slots at = slice_index_or slots at no_slot

@@ -2,23 +2,23 @@
 use Rattle.std.specs.Coded.{Coded, code_by, coded×, coded_ℕ, coded_list}
 use Rattle.std.specs.List.{AllByRecursion}
 use Rattle.std.specs.Prelude.{◌≡◌, ℕ, ◌≤◌, List, ◌++◌, map, refl}
-use Rattle.jls_partial.specs.declared.index.Index.{Index}
-use Rattle.jls_partial.specs.declared.index.Slot.{Slot}
+use Rattle.jls_partial.specs.declared.slots.Slots.{Slots}
+use Rattle.jls_partial.specs.declared.slots.Slot.{Slot}
 use Rattle.jls_partial.specs.declared.packed_lines.PackedLines.{PackedLines}
-use Rattle.jls_partial.specs.declared.place.Place.{Place}
+use Rattle.jls_partial.specs.declared.line_place.LinePlace.{LinePlace}
 use Rattle.jls_values.specs.Shape.{PictureShape}
 use Rattle.jls_partial.specs.Held.{LineEntry, IsStore}
-use Rattle.jls_partial.specs.Index.{slots_of}
+use Rattle.jls_partial.specs.Slots.{slots_of}
 use Rattle.jls_partial.specs.LineSet.{PictureLines, coded_lines}
 use Rattle.jls_partial.specs.PackedLines.{seen_lines, IsLineSet}
 
--- the lines that an index has of what is packed
-abbrev pub lines_in : PackedLines → Index → PictureLines
-lines_in packed index = seen_lines packed.precision packed.width packed.samples.items (slots_of index)
+-- the lines that slots have of what is packed
+abbrev pub lines_in : PackedLines → Slots → PictureLines
+lines_in packed slots = seen_lines packed.precision packed.width packed.samples.items (slots_of slots)
 
--- and whether the index is one of them
-abbrev pub IsIndexOf : PackedLines → Index → Type 0
-IsIndexOf packed index = IsLineSet packed.precision packed.width packed.samples.items (slots_of index)
+-- and whether the slots are of it
+abbrev pub AreSlotsOf : PackedLines → Slots → Type 0
+AreSlotsOf packed slots = IsLineSet packed.precision packed.width packed.samples.items (slots_of slots)
 
 -- the same samples with more of them behind
 pub record Extends (old new : PackedLines) : Type 0 where
@@ -45,26 +45,26 @@ coded_stored = code_by (ℕ × (ℕ × List LineEntry)) (coded× coded_ℕ (code
 
 -- the slots of each line, in the order of the places
 abbrev pub LineSlots : Type 0
-LineSlots = Place × List Slot
+LineSlots = LinePlace × List Slot
 
-abbrev pub slots_of_entries : List (Place × Index) → List LineSlots
+abbrev pub slots_of_entries : List (LinePlace × Slots) → List LineSlots
 slots_of_entries es = map (λ e. (e.0, slots_of e.1)) es
 
 -- what is kept of each line
 abbrev pub seen_entries : ℕ → ℕ → List ℕ → List LineSlots → List LineEntry
 seen_entries precision width packed es = map (λ e. (e.0, seen_lines precision width packed e.1)) es
 
-abbrev pub entries_in : PackedLines → List (Place × Index) → List LineEntry
+abbrev pub entries_in : PackedLines → List (LinePlace × Slots) → List LineEntry
 entries_in packed es = seen_entries packed.precision packed.width packed.samples.items (slots_of_entries es)
 
 -- each line's slots are of what is packed
-pub record AreIndexed (precision width : ℕ) (packed : List ℕ) (es : List LineSlots) : Type 0 where
+pub record AreSlotsPacked (precision width : ℕ) (packed : List ℕ) (es : List LineSlots) : Type 0 where
   pub precision_at_most : precision ≤ 16
   pub width_at_least : 1 ≤ width
   pub each : AllByRecursion (λ e. IsLineSet precision width packed e.1) es
 
-abbrev pub AreIndicesOf : PackedLines → List (Place × Index) → Type 0
-AreIndicesOf packed es = AreIndexed packed.precision packed.width packed.samples.items (slots_of_entries es)
+abbrev pub AreRowsOf : PackedLines → List (LinePlace × Slots) → Type 0
+AreRowsOf packed es = AreSlotsPacked packed.precision packed.width packed.samples.items (slots_of_entries es)
 
 -- a store for a picture of this shape
 pub record IsStoreOf (shape : PictureShape) (store : StoredLines) : Type 0 where

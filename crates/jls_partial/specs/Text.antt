@@ -4,16 +4,16 @@ use Rattle.std.specs.List.{flat_map}
 use Rattle.std.specs.Int.{w16, w32, w64, to_be_bytes}
 use Rattle.jls_values.specs.OrderedSet as set
 use Rattle.jls_values.specs.Shape.{PictureShape, IsShape}
-use Rattle.jls_partial.specs.declared.place.Place.{Place}
+use Rattle.jls_partial.specs.declared.line_place.LinePlace.{LinePlace}
 use Rattle.jls_partial.specs.declared.version.Version.{Version}
 use Rattle.jls_partial.specs.declared.version.Version.TheVariants.{One, Two}
 use Rattle.jls_partial.specs.Entries.{Entry, BareEntry}
 use Rattle.jls_partial.specs.Packed.{Kept}
 use Rattle.jls_partial.specs.Partial.{PartialPicture, readings_at, sources_at, IsFitting, IsCountable, AreMarksHeld, AreSourcesSmall}
-use Rattle.jls_partial.specs.Place.{place_cmp, place_of}
+use Rattle.jls_partial.specs.LinePlace.{place_cmp, place_of}
 
 -- the places that have a reading, each once, in ascending order
-abbrev pub places_held : PartialPicture → List Place
+abbrev pub places_held : PartialPicture → List LinePlace
 places_held p = set.items (set.from_list {R = place_cmp} (map place_of (set.items p.readings)))
 
 -- an entry for each of them, with its sample lists in ascending order

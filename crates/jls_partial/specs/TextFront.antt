@@ -2,7 +2,7 @@
 use Rattle.std.specs.Prelude.{ℕ, zero, suc, List, [], ◌∷◌, ◌++◌, map, Option, Some, None, Result, Ok, Err}
 use Rattle.jls_values.specs.Shape.{PictureShape}
 use Rattle.jls_partial.specs.declared.text_fault.TextFault.{TextFault}
-use Rattle.jls_partial.specs.declared.place.Place.{Place}
+use Rattle.jls_partial.specs.declared.line_place.LinePlace.{LinePlace}
 use Rattle.jls_partial.specs.declared.version.Version.{Version}
 use Rattle.jls_partial.specs.Entries.{kept_at_place}
 use Rattle.jls_partial.specs.Packed.{Kept}
@@ -23,13 +23,13 @@ readings_front size version shape before (suc n) bytes =
     (λ first. first.0 ∷ readings_front size version shape (Some first.0.0) n first.1)
 
 -- the readings of an entry before the first fault
-unfoldable pub entry_front : ℕ → Version → PictureShape → Option Place → List ℕ → List (Reading × List ℕ)
+unfoldable pub entry_front : ℕ → Version → PictureShape → Option LinePlace → List ℕ → List (Reading × List ℕ)
 entry_front size version shape before bytes =
     unless_fault (place_fields size shape before bytes) (λ place. unless_fault (count_field size place.1)
     (λ count. map (kept_at_place place.0) (readings_front size version shape None count.0 count.1)))
 
 -- the readings of n entries before the first fault
-unfoldable pub entries_front : ℕ → Version → PictureShape → Option Place → ℕ → List ℕ → List (Reading × List ℕ)
+unfoldable pub entries_front : ℕ → Version → PictureShape → Option LinePlace → ℕ → List ℕ → List (Reading × List ℕ)
 entries_front size version shape before zero bytes = []
 entries_front size version shape before (suc n) bytes =
     entry_front size version shape before bytes

@@ -10,8 +10,8 @@ use Rattle.jls_values.specs.Shape.{PictureShape}
 use Rattle.jls_values.specs.ShapeOf.{size_fault, shape_of}
 use Rattle.jls_partial.specs.declared.text_fault.TextFault.{TextFault}
 use Rattle.jls_partial.specs.declared.text_fault.TextFault.TheVariants as fault
-use Rattle.jls_partial.specs.declared.place.Place.{Place}
-use Rattle.jls_partial.specs.Place.{place_cmp}
+use Rattle.jls_partial.specs.declared.line_place.LinePlace.{LinePlace}
+use Rattle.jls_partial.specs.LinePlace.{place_cmp}
 use Rattle.jls_partial.specs.Partial.{PartialPicture}
 use Rattle.jls_partial.specs.Entries.{Entry, partial_of}
 use Rattle.jls_partial.specs.Packed.{Kept}
@@ -167,13 +167,13 @@ readings_fields size version shape before (suc n) bytes = do
 -- ---- entries
 
 -- whether an entry of this line may follow the entry before: the picture has the line, and it is after that of the entry before
-abbrev pub may_follow : PictureShape → Option Place → Place → Bool
+abbrev pub may_follow : PictureShape → Option LinePlace → LinePlace → Bool
 may_follow shape None place = nat_lt place.component (length shape.ids) && nat_lt place.line shape.height
 may_follow shape (Some before) place = is_lt (place_cmp before place)
     && (nat_lt place.component (length shape.ids) && nat_lt place.line shape.height)
 
 -- the line of an entry
-unfoldable pub place_fields : ℕ → PictureShape → Option Place → List ℕ → Result (Place × List ℕ) TextFault
+unfoldable pub place_fields : ℕ → PictureShape → Option LinePlace → List ℕ → Result (LinePlace × List ℕ) TextFault
 place_fields size shape before bytes = do
   component ← byte_field size bytes
   line ← number_field size w16 component.1
@@ -188,7 +188,7 @@ count_field size bytes = do
   if count.0 == 0 then Err (fault.Count (offset size bytes)) else Ok count
 
 -- a place, and as many readings as the count says
-unfoldable pub entry_fields : ℕ → Version → PictureShape → Option Place → List ℕ → Result (Entry × List ℕ) TextFault
+unfoldable pub entry_fields : ℕ → Version → PictureShape → Option LinePlace → List ℕ → Result (Entry × List ℕ) TextFault
 entry_fields size version shape before bytes = do
   place ← place_fields size shape before bytes
   count ← count_field size place.1
@@ -196,7 +196,7 @@ entry_fields size version shape before bytes = do
   Ok ((place.0, readings.0), readings.1)
 
 -- n entries, each of a line after that of the one before
-unfoldable pub entries_fields : ℕ → Version → PictureShape → Option Place → ℕ → List ℕ → Result (List Entry × List ℕ) TextFault
+unfoldable pub entries_fields : ℕ → Version → PictureShape → Option LinePlace → ℕ → List ℕ → Result (List Entry × List ℕ) TextFault
 entries_fields size version shape before zero bytes = Ok ([], bytes)
 entries_fields size version shape before (suc n) bytes = do
   first ← entry_fields size version shape before bytes

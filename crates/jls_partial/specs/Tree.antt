@@ -2,8 +2,8 @@
 use Rattle.std.specs.declared.alloc.Global.{Global}
 use Rattle.std.specs.Prelude.{ℕ, zero, suc, Option, Some, None, List, [], ◌∷◌, ◌++◌, Box}
 use Rattle.jls_values.specs.OrderedSet as set
-use Rattle.jls_partial.specs.declared.index.Fork.{Fork}
-use Rattle.jls_partial.specs.declared.index.Slot.{Slot}
+use Rattle.jls_partial.specs.declared.slots.Fork.{Fork}
+use Rattle.jls_partial.specs.declared.slots.Slot.{Slot}
 
 -- the slots of a fork, in order
 abbrev pub fork_slots : Fork → List Slot

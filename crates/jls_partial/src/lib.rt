@@ -2,10 +2,10 @@
 #![tactic(auto)]
 
 mod equality;
-mod index;
 mod insert_fault;
 mod laws;
 mod line_pages;
+mod line_place;
 mod line_set;
 mod line_store;
 mod lines;
@@ -14,7 +14,7 @@ mod merging;
 mod packed;
 mod packed_lines;
 mod partial;
-mod place;
+mod slots;
 mod sources;
 mod status;
 mod text_fault;

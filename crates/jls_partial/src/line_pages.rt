@@ -1,26 +1,26 @@
-//! The index of all lines of a picture, in pages: lines that stand close together have their rows in one list.
+//! The lines of a picture in pages: lines that stand close together have their rows in one list.
 
 ghost use Rattle.jls_partial.specs.Held.{MarksLine, PutsAt, PutsLine, lines_or};
 ghost use Rattle.jls_partial.specs.InsertFaults.{samples_fault};
 ghost use Rattle.jls_partial.specs.LineSet.{no_lines};
 ghost use Rattle.jls_partial.specs.Packed.{IsGap};
-ghost use Rattle.jls_partial.specs.Pages.{ArePages, IsPage, page_of, rows_of};
-ghost use Rattle.jls_partial.specs.Place.{place_cmp};
-ghost use Rattle.jls_partial.specs.Stored.{AreIndicesOf, entries_in, Extends};
+ghost use Rattle.jls_partial.specs.Pages.{ArePages, IsPage, page_cmp, page_of, rows_of};
+ghost use Rattle.jls_partial.specs.LinePlace.{place_cmp};
+ghost use Rattle.jls_partial.specs.Stored.{AreRowsOf, entries_in, Extends};
 ghost use Rattle.jls_values.specs.OrderedSet as set;
 ghost use Rattle.std.specs.BTreeMap.{is_at};
 ghost use Rattle.std.specs.List.Sorted.{IsStrictlySortedBy};
 ghost use Rattle.std.specs.Map.{lookup};
 ghost use Rattle.std.specs.Prelude.{◌≡◌, ◌<◌, [], length, map, true, not, IfOk, IfErr, OnOk, OnErr, IsOk, None, option_copied, slice_index_or};
 
-use crate::index::Index;
+use crate::line_place::{LinePlace, PageNumber};
 use crate::packed_lines::PackedLines;
-use crate::place::Place;
+use crate::slots::Slots;
 use std::alloc::AllocError;
 use std::collections::BTreeMap;
 
 /// Where the row of a line stands among those of its page, or where it belongs.
-fn find_row(rows: &[(Place, Index)], at: Place) -> Result<usize, usize>
+fn find_row(rows: &[(LinePlace, Slots)], at: LinePlace) -> Result<usize, usize>
     requires { IsStrictlySortedBy place_cmp (map (λ r. r.0) rows.now) }
     ensures found { IfOk result (λ i. i < length rows.now) }
     ensures same { IfOk result (λ i. slice_index_or (map (λ r. r.0) rows.now) i at ≡ at) }
@@ -29,12 +29,15 @@ fn find_row(rows: &[(Place, Index)], at: Place) -> Result<usize, usize>
     rows.binary_search_by_key(&at, |row| row.0)
 }
 
-/// The index of a line.
-pub(crate) fn row_at(index: &BTreeMap<Place, Vec<(Place, Index)>>, at: Place) -> Option<&Index>
-    requires { ArePages index.now.entries }
-    ensures { option_copied result ≡ lookup (is_at (place_cmp at)) (rows_of index.now.entries) }
+/// The slots of a line.
+pub(crate) fn row_at(
+    pages: &BTreeMap<PageNumber, Vec<(LinePlace, Slots)>>,
+    at: LinePlace,
+) -> Option<&Slots>
+    requires { ArePages pages.now.entries }
+    ensures { option_copied result ≡ lookup (is_at (place_cmp at)) (rows_of pages.now.entries) }
 {
-    match index.get(&at.page()) {
+    match pages.get(&at.page()) {
         Some(rows) => match find_row(rows, at) {
             Ok(i) => Some(&rows[i].1),
             Err(_) => None,
@@ -46,30 +49,30 @@ pub(crate) fn row_at(index: &BTreeMap<Place, Vec<(Place, Index)>>, at: Place) ->
 /// Takes the first line of a page, with these sources. All growth is made before anything changes.
 fn start_at(
     packed: &mut PackedLines,
-    index: &mut BTreeMap<Place, Vec<(Place, Index)>>,
-    at: Place,
+    pages: &mut BTreeMap<PageNumber, Vec<(LinePlace, Slots)>>,
+    at: LinePlace,
     samples: &[u16],
     sources: &[u32],
 ) -> Result<bool, AllocError>
-    requires pages { ArePages index.old.entries }
-    requires indexed { AreIndicesOf packed.old (rows_of index.old.entries) }
+    requires pages { ArePages pages.old.entries }
+    requires rows_packed { AreRowsOf packed.old (rows_of pages.old.entries) }
     requires fits { samples_fault packed.old.precision packed.old.width samples.now ≡ None }
-    requires none { lookup (is_at (place_cmp (page_of at))) index.old.entries ≡ None }
+    requires none { lookup (is_at (page_cmp (page_of at))) pages.old.entries ≡ None }
     ensures extends { Extends packed.old packed.new }
-    ensures pages { ArePages index.new.entries }
-    ensures indexed { AreIndicesOf packed.new (rows_of index.new.entries) }
-    ensures ok { OnOk result (PutsAt (entries_in packed.old (rows_of index.old.entries)) at
-        (lines_or (no_lines packed.old.precision packed.old.width) (entries_in packed.new (rows_of index.new.entries)) at)
-        (entries_in packed.new (rows_of index.new.entries))) }
+    ensures pages { ArePages pages.new.entries }
+    ensures rows_packed { AreRowsOf packed.new (rows_of pages.new.entries) }
+    ensures ok { OnOk result (PutsAt (entries_in packed.old (rows_of pages.old.entries)) at
+        (lines_or (no_lines packed.old.precision packed.old.width) (entries_in packed.new (rows_of pages.new.entries)) at)
+        (entries_in packed.new (rows_of pages.new.entries))) }
     ensures lines { OnOk result (PutsLine (no_lines packed.old.precision packed.old.width) samples.now sources.now
-        (lines_or (no_lines packed.old.precision packed.old.width) (entries_in packed.new (rows_of index.new.entries)) at)) }
-    ensures err { OnErr result (entries_in packed.new (rows_of index.new.entries) ≡ entries_in packed.old (rows_of index.old.entries)) }
+        (lines_or (no_lines packed.old.precision packed.old.width) (entries_in packed.new (rows_of pages.new.entries)) at)) }
+    ensures err { OnErr result (entries_in packed.new (rows_of pages.new.entries) ≡ entries_in packed.old (rows_of pages.old.entries)) }
     ensures added { IfOk result (λ added. added ≡ true) }
 {
     let new = packed.room_for(sources)?;
     let mut rows = Vec::new(packed.alloc);
     rows.push((at, new))?;
-    index.insert(at.page(), rows)?;
+    pages.insert(at.page(), rows)?;
     packed.append(samples);
     Ok(true)
 }
@@ -78,17 +81,17 @@ fn start_at(
 /// anything changes.
 fn take_row(
     packed: &mut PackedLines,
-    rows: &mut Vec<(Place, Index)>,
-    at: Place,
+    rows: &mut Vec<(LinePlace, Slots)>,
+    at: LinePlace,
     samples: &[u16],
     sources: &[u32],
 ) -> Result<bool, AllocError>
     requires page { IsPage (page_of at) rows.old.items }
-    requires indexed { AreIndicesOf packed.old rows.old.items }
+    requires rows_packed { AreRowsOf packed.old rows.old.items }
     requires fits { samples_fault packed.old.precision packed.old.width samples.now ≡ None }
     ensures extends { Extends packed.old packed.new }
     ensures page { IsPage (page_of at) rows.new.items }
-    ensures indexed { AreIndicesOf packed.new rows.new.items }
+    ensures rows_packed { AreRowsOf packed.new rows.new.items }
     ensures ok { OnOk result (PutsAt (entries_in packed.old rows.old.items) at
         (lines_or (no_lines packed.old.precision packed.old.width) (entries_in packed.new rows.new.items) at)
         (entries_in packed.new rows.new.items)) }
@@ -106,7 +109,7 @@ fn take_row(
         Ok(i) => {
             let own = &mut rows[i].1;
             let added = packed.take(own, samples, sources)?;
-            // The length of an index is a `usize`, and so its lines are countable.
+            // The number of slots is a `usize`, and so its lines are countable.
             prove!(own.len() <= usize::MAX);
             Ok(added)
         }
@@ -122,51 +125,51 @@ fn take_row(
 /// Takes one line of a place that fits, with these sources. True where it is new there.
 pub(crate) fn take_at(
     packed: &mut PackedLines,
-    index: &mut BTreeMap<Place, Vec<(Place, Index)>>,
-    at: Place,
+    pages: &mut BTreeMap<PageNumber, Vec<(LinePlace, Slots)>>,
+    at: LinePlace,
     samples: &[u16],
     sources: &[u32],
 ) -> Result<bool, AllocError>
-    requires pages { ArePages index.old.entries }
-    requires indexed { AreIndicesOf packed.old (rows_of index.old.entries) }
+    requires pages { ArePages pages.old.entries }
+    requires rows_packed { AreRowsOf packed.old (rows_of pages.old.entries) }
     requires fits { samples_fault packed.old.precision packed.old.width samples.now ≡ None }
     ensures extends { Extends packed.old packed.new }
-    ensures pages { ArePages index.new.entries }
-    ensures indexed { AreIndicesOf packed.new (rows_of index.new.entries) }
-    ensures ok { OnOk result (PutsAt (entries_in packed.old (rows_of index.old.entries)) at
-        (lines_or (no_lines packed.old.precision packed.old.width) (entries_in packed.new (rows_of index.new.entries)) at)
-        (entries_in packed.new (rows_of index.new.entries))) }
+    ensures pages { ArePages pages.new.entries }
+    ensures rows_packed { AreRowsOf packed.new (rows_of pages.new.entries) }
+    ensures ok { OnOk result (PutsAt (entries_in packed.old (rows_of pages.old.entries)) at
+        (lines_or (no_lines packed.old.precision packed.old.width) (entries_in packed.new (rows_of pages.new.entries)) at)
+        (entries_in packed.new (rows_of pages.new.entries))) }
     ensures lines { OnOk result (PutsLine
-        (lines_or (no_lines packed.old.precision packed.old.width) (entries_in packed.old (rows_of index.old.entries)) at)
+        (lines_or (no_lines packed.old.precision packed.old.width) (entries_in packed.old (rows_of pages.old.entries)) at)
         samples.now sources.now
-        (lines_or (no_lines packed.old.precision packed.old.width) (entries_in packed.new (rows_of index.new.entries)) at)) }
-    ensures err { OnErr result (entries_in packed.new (rows_of index.new.entries) ≡ entries_in packed.old (rows_of index.old.entries)) }
+        (lines_or (no_lines packed.old.precision packed.old.width) (entries_in packed.new (rows_of pages.new.entries)) at)) }
+    ensures err { OnErr result (entries_in packed.new (rows_of pages.new.entries) ≡ entries_in packed.old (rows_of pages.old.entries)) }
     ensures added { IfOk result (λ added. added ≡ not (set.contains
-        (lines_or (no_lines packed.old.precision packed.old.width) (entries_in packed.old (rows_of index.old.entries)) at).lines
+        (lines_or (no_lines packed.old.precision packed.old.width) (entries_in packed.old (rows_of pages.old.entries)) at).lines
         samples.now)) }
     ensures no_memory { set.contains
-        (lines_or (no_lines packed.old.precision packed.old.width) (entries_in packed.old (rows_of index.old.entries)) at).lines
+        (lines_or (no_lines packed.old.precision packed.old.width) (entries_in packed.old (rows_of pages.old.entries)) at).lines
         samples.now ≡ true → sources.now ≡ [] → IsOk result }
 {
-    match index.get_mut(&at.page()) {
+    match pages.get_mut(&at.page()) {
         Some(rows) => take_row(packed, rows, at, samples, sources),
-        None => start_at(packed, index, at, samples, sources),
+        None => start_at(packed, pages, at, samples, sources),
     }
 }
 
 /// Adds a source to the line of a place of a page that has `i` others below it.
 fn mark_row(
     packed: &PackedLines,
-    rows: &mut Vec<(Place, Index)>,
-    at: Place,
+    rows: &mut Vec<(LinePlace, Slots)>,
+    at: LinePlace,
     i: usize,
     source: u32,
 ) -> Result<(), AllocError>
     requires page { IsPage (page_of at) rows.old.items }
-    requires indexed { AreIndicesOf packed.now rows.old.items }
+    requires rows_packed { AreRowsOf packed.now rows.old.items }
     requires within { i < length (set.items (lines_or (no_lines 0 0) (entries_in packed.now rows.old.items) at).lines) }
     ensures page { IsPage (page_of at) rows.new.items }
-    ensures indexed { AreIndicesOf packed.now rows.new.items }
+    ensures rows_packed { AreRowsOf packed.now rows.new.items }
     ensures ok { OnOk result (PutsAt (entries_in packed.now rows.old.items) at
         (lines_or (no_lines 0 0) (entries_in packed.now rows.new.items) at) (entries_in packed.now rows.new.items)) }
     ensures lines { OnOk result (MarksLine (lines_or (no_lines 0 0) (entries_in packed.now rows.old.items) at) i source
@@ -182,24 +185,24 @@ fn mark_row(
 /// Adds a source to the line of a place that has `i` others below it.
 pub(crate) fn mark_at(
     packed: &PackedLines,
-    index: &mut BTreeMap<Place, Vec<(Place, Index)>>,
-    at: Place,
+    pages: &mut BTreeMap<PageNumber, Vec<(LinePlace, Slots)>>,
+    at: LinePlace,
     i: usize,
     source: u32,
 ) -> Result<(), AllocError>
-    requires pages { ArePages index.old.entries }
-    requires indexed { AreIndicesOf packed.now (rows_of index.old.entries) }
-    requires within { i < length (set.items (lines_or (no_lines 0 0) (entries_in packed.now (rows_of index.old.entries)) at).lines) }
-    ensures pages { ArePages index.new.entries }
-    ensures indexed { AreIndicesOf packed.now (rows_of index.new.entries) }
-    ensures ok { OnOk result (PutsAt (entries_in packed.now (rows_of index.old.entries)) at
-        (lines_or (no_lines 0 0) (entries_in packed.now (rows_of index.new.entries)) at)
-        (entries_in packed.now (rows_of index.new.entries))) }
-    ensures lines { OnOk result (MarksLine (lines_or (no_lines 0 0) (entries_in packed.now (rows_of index.old.entries)) at) i source
-        (lines_or (no_lines 0 0) (entries_in packed.now (rows_of index.new.entries)) at)) }
-    ensures err { OnErr result (entries_in packed.now (rows_of index.new.entries) ≡ entries_in packed.now (rows_of index.old.entries)) }
+    requires pages { ArePages pages.old.entries }
+    requires rows_packed { AreRowsOf packed.now (rows_of pages.old.entries) }
+    requires within { i < length (set.items (lines_or (no_lines 0 0) (entries_in packed.now (rows_of pages.old.entries)) at).lines) }
+    ensures pages { ArePages pages.new.entries }
+    ensures rows_packed { AreRowsOf packed.now (rows_of pages.new.entries) }
+    ensures ok { OnOk result (PutsAt (entries_in packed.now (rows_of pages.old.entries)) at
+        (lines_or (no_lines 0 0) (entries_in packed.now (rows_of pages.new.entries)) at)
+        (entries_in packed.now (rows_of pages.new.entries))) }
+    ensures lines { OnOk result (MarksLine (lines_or (no_lines 0 0) (entries_in packed.now (rows_of pages.old.entries)) at) i source
+        (lines_or (no_lines 0 0) (entries_in packed.now (rows_of pages.new.entries)) at)) }
+    ensures err { OnErr result (entries_in packed.now (rows_of pages.new.entries) ≡ entries_in packed.now (rows_of pages.old.entries)) }
 {
-    match index.get_mut(&at.page()) {
+    match pages.get_mut(&at.page()) {
         Some(rows) => mark_row(packed, rows, at, i, source),
         None => unreachable!(),
     }

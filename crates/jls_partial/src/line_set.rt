@@ -10,10 +10,10 @@ ghost use Rattle.jls_values.specs.declared.merge.MergeFault.TheVariants.{ShapeDi
 ghost use Rattle.std.specs.Prelude.{◌↔◌, false, IsErrOf};
 ghost use Rattle.std.specs.Prelude.{◌≡◌, ◌<◌, ◌≤◌, ◌∷◌, [], length, true, not, IfOk, IfSome, OnOk, OnErr, IsOk, None, Some, slice_get};
 
-use crate::index::Index;
 use crate::insert_fault::{InsertFault, find_samples_fault};
 use crate::lines::Lines;
 use crate::packed_lines::PackedLines;
+use crate::slots::Slots;
 use jls_values::{Merge, MergeFault};
 use std::alloc::{AllocError, Global};
 use std::marker::Model;
@@ -21,11 +21,11 @@ use std::marker::Model;
 /// A set of lines, each as the list of its samples from left to right: all of one width, with samples
 /// of one precision. Each line keeps the set of source numbers under which it was seen.
 ///
-/// All samples stand in one list, and an index of them in ascending order of the lines.
+/// All samples stand in one list, and each line has a slot that says where its own begin.
 #[derive(Drop)]
 pub struct LineSet {
     packed: PackedLines,
-    index: Index,
+    slots: Slots,
 }
 
 impl Model for LineSet {
@@ -35,11 +35,11 @@ impl Model for LineSet {
 
     ghost coded = { coded_lines };
 
-    ghost use Rattle.jls_partial.specs.Stored.{lines_in, IsIndexOf};
+    ghost use Rattle.jls_partial.specs.Stored.{lines_in, AreSlotsOf};
 
-    ghost view = { λ a. lines_in a.packed a.index };
+    ghost view = { λ a. lines_in a.packed a.slots };
 
-    ghost invariant = { λ a. IsIndexOf a.packed a.index };
+    ghost invariant = { λ a. AreSlotsOf a.packed a.slots };
 }
 
 impl LineSet {
@@ -52,7 +52,7 @@ impl LineSet {
     {
         LineSet {
             packed: PackedLines::empty(alloc, precision, width),
-            index: Index::Empty,
+            slots: Slots::Empty,
         }
     }
 
@@ -68,14 +68,14 @@ impl LineSet {
         if let Some(fault) = find_samples_fault(samples, self.packed.precision, self.packed.width) {
             return Err(fault);
         }
-        Ok(self.packed.take(&mut self.index, samples, &[])?)
+        Ok(self.packed.take(&mut self.slots, samples, &[])?)
     }
 
     /// The lines, lent.
     fn lines(&self) -> Lines<'_>
         ensures { result ≡ self.now }
     {
-        Lines::of(&self.packed, &self.index)
+        Lines::of(&self.packed, &self.slots)
     }
 
     /// How many lines are held. Each source is of one of them.
@@ -110,7 +110,7 @@ impl LineSet {
         ensures ok { OnOk result (self.new ≡ with_lines self.old ((samples.now, sources.now) ∷ [])) }
         ensures err { OnErr result (self.new ≡ self.old) }
     {
-        self.packed.take(&mut self.index, samples, sources)?;
+        self.packed.take(&mut self.slots, samples, sources)?;
         Ok(())
     }
 

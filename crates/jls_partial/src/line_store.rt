@@ -3,50 +3,50 @@
 ghost use Rattle.jls_partial.specs.Held.{MarksLine, PutsAt, PutsLine, lines_or};
 ghost use Rattle.jls_partial.specs.InsertFaults.{samples_fault};
 ghost use Rattle.jls_partial.specs.LineSet.{no_lines};
-ghost use Rattle.jls_partial.specs.Place.{place_cmp};
+ghost use Rattle.jls_partial.specs.LinePlace.{place_cmp};
 ghost use Rattle.jls_values.specs.OrderedSet as set;
 ghost use Rattle.std.specs.BTreeMap.{is_at};
 ghost use Rattle.std.specs.List.Sorted.{IsStrictlySortedBy};
 ghost use Rattle.std.specs.Map.{lookup};
 ghost use Rattle.std.specs.Prelude.{◌≡◌, ◌<◌, ◌≤◌, ◌^◌, [], length, map, true, not, IfOk, OnOk, OnErr, IsOk, None};
 
-use crate::index::Index;
 use crate::line_pages::{mark_at, row_at, take_at};
+use crate::line_place::{LinePlace, PageNumber};
 use crate::lines::Lines;
 use crate::packed_lines::PackedLines;
-use crate::place::Place;
+use crate::slots::Slots;
 use std::alloc::{AllocError, Global};
 use std::collections::BTreeMap;
 use std::collections::btree_map::Iter;
 use std::iter::Iterator;
 use std::marker::Model;
 
-/// The readings of all lines of a picture. All samples stand in one list, and each line that has a reading has an index of its own.
+/// The readings of all lines of a picture. All samples stand in one list, and each line that has a reading has slots of its own, in pages.
 #[derive(Drop)]
 pub(crate) struct Store {
     packed: PackedLines,
-    index: BTreeMap<Place, Vec<(Place, Index)>>,
+    pages: BTreeMap<PageNumber, Vec<(LinePlace, Slots)>>,
 }
 
 impl Model for Store {
-    ghost use Rattle.jls_partial.specs.Pages.{IsPagedIndex, rows_of};
+    ghost use Rattle.jls_partial.specs.Pages.{ArePagesOf, rows_of};
     ghost use Rattle.jls_partial.specs.Stored.{StoredLines, coded_stored, stored, entries_in};
 
     ghost Value = { StoredLines };
 
     ghost coded = { coded_stored };
 
-    ghost view = { λ a. stored a.packed (entries_in a.packed (rows_of a.index.entries)) };
+    ghost view = { λ a. stored a.packed (entries_in a.packed (rows_of a.pages.entries)) };
 
-    ghost invariant = { λ a. IsPagedIndex a.packed a.index.entries };
+    ghost invariant = { λ a. ArePagesOf a.packed a.pages.entries };
 }
 
 /// The lines of a store that have a reading, in the order of their places.
 #[derive(Drop)]
 pub(crate) struct Entries<'a> {
     packed: &'a PackedLines,
-    rows: &'a [(Place, Index)],
-    pages: Iter<'a, Place, Vec<(Place, Index)>>,
+    rows: &'a [(LinePlace, Slots)],
+    pages: Iter<'a, PageNumber, Vec<(LinePlace, Slots)>>,
 }
 
 impl<'a> Model for Entries<'a> {
@@ -70,13 +70,13 @@ impl<'a> Iterator for Entries<'a> {
     ghost use Rattle.std.specs.Map.Iter.{TakesFirst};
     ghost use Rattle.std.specs.Prelude.{length};
 
-    type Item = (Place, Lines<'a>);
+    type Item = (LinePlace, Lines<'a>);
 
     ghost next_gives = { TakesFirst (λ e. e) };
 
     ghost remaining = { λ s. at_most (length s) };
 
-    fn next(&mut self) -> Option<(Place, Lines<'a>)> {
+    fn next(&mut self) -> Option<(LinePlace, Lines<'a>)> {
         if self.rows.is_empty() {
             let (_, page) = self.pages.next()?;
             self.rows = page.as_slice();
@@ -112,16 +112,16 @@ impl Store {
     {
         Store {
             packed: PackedLines::empty(alloc, precision, width),
-            index: BTreeMap::new(alloc),
+            pages: BTreeMap::new(alloc),
         }
     }
 
     /// What is kept at a place, lent.
-    pub(crate) fn lines_at(&self, at: Place) -> Option<Lines<'_>>
+    pub(crate) fn lines_at(&self, at: LinePlace) -> Option<Lines<'_>>
         ensures { result ≡ lookup (is_at (place_cmp at)) self.now.entries }
     {
-        match row_at(&self.index, at) {
-            Some(index) => Some(Lines::of(&self.packed, index)),
+        match row_at(&self.pages, at) {
+            Some(slots) => Some(Lines::of(&self.packed, slots)),
             None => None,
         }
     }
@@ -133,14 +133,14 @@ impl Store {
         Entries {
             packed: &self.packed,
             rows: &[],
-            pages: self.index.iter(),
+            pages: self.pages.iter(),
         }
     }
 
     /// Takes one line of a place that fits, with these sources. True where it is new there.
     pub(crate) fn take(
         &mut self,
-        at: Place,
+        at: LinePlace,
         samples: &[u16],
         sources: &[u32],
     ) -> Result<bool, AllocError>
@@ -159,11 +159,11 @@ impl Store {
             (lines_or (no_lines self.old.precision self.old.width) self.old.entries at).lines samples.now ≡ true
             → sources.now ≡ [] → IsOk result }
     {
-        take_at(&mut self.packed, &mut self.index, at, samples, sources)
+        take_at(&mut self.packed, &mut self.pages, at, samples, sources)
     }
 
     /// Adds a source to the line of a place that has `i` others below it.
-    pub(crate) fn mark(&mut self, at: Place, i: usize, source: u32) -> Result<(), AllocError>
+    pub(crate) fn mark(&mut self, at: LinePlace, i: usize, source: u32) -> Result<(), AllocError>
         requires { i < length (set.items (lines_or (no_lines 0 0) self.old.entries at).lines) }
         ensures precision { self.new.precision ≡ self.old.precision }
         ensures width { self.new.width ≡ self.old.width }
@@ -173,6 +173,6 @@ impl Store {
             (lines_or (no_lines 0 0) self.new.entries at)) }
         ensures err { OnErr result (self.new ≡ self.old) }
     {
-        mark_at(&self.packed, &mut self.index, at, i, source)
+        mark_at(&self.packed, &mut self.pages, at, i, source)
     }
 }

@@ -2,20 +2,20 @@
 
 ghost use Rattle.jls_partial.specs.InsertFaults.{samples_fault};
 ghost use Rattle.jls_partial.specs.LineSet.{line_sources, AreLineMarksHeld};
-ghost use Rattle.jls_partial.specs.Stored.{lines_in, IsIndexOf};
+ghost use Rattle.jls_partial.specs.Stored.{lines_in, AreSlotsOf};
 ghost use Rattle.jls_values.specs.OrderedSet as set;
 ghost use Rattle.std.specs.Prelude.{◌≡◌, ◌<◌, length, IfSome, None, Some, slice_get};
 
-use crate::index::Index;
 use crate::packed::samples_at;
 use crate::packed_lines::PackedLines;
+use crate::slots::Slots;
 use std::marker::Model;
 
 /// Lines of one width that a store lends.
 #[derive(Drop)]
 pub(crate) struct Lines<'a> {
     packed: &'a PackedLines,
-    index: &'a Index,
+    slots: &'a Slots,
 }
 
 impl<'a> Model for Lines<'a> {
@@ -25,20 +25,20 @@ impl<'a> Model for Lines<'a> {
 
     ghost coded = { coded_lines };
 
-    ghost use Rattle.jls_partial.specs.Stored.{lines_in, IsIndexOf};
+    ghost use Rattle.jls_partial.specs.Stored.{lines_in, AreSlotsOf};
 
-    ghost view = { λ a. lines_in a.packed.now a.index.now };
+    ghost view = { λ a. lines_in a.packed.now a.slots.now };
 
-    ghost invariant = { λ a. IsIndexOf a.packed.now a.index.now };
+    ghost invariant = { λ a. AreSlotsOf a.packed.now a.slots.now };
 }
 
 impl<'a> Lines<'a> {
-    /// The lines that an index has of what is packed.
-    pub(crate) fn of(packed: &'a PackedLines, index: &'a Index) -> Lines<'a>
-        requires { IsIndexOf packed.now index.now }
-        ensures { result ≡ lines_in packed.now index.now }
+    /// The lines that these slots have of what is packed.
+    pub(crate) fn of(packed: &'a PackedLines, slots: &'a Slots) -> Lines<'a>
+        requires { AreSlotsOf packed.now slots.now }
+        ensures { result ≡ lines_in packed.now slots.now }
     {
-        Lines { packed, index }
+        Lines { packed, slots }
     }
 
     /// How many lines there are. Each source is of one of them.
@@ -46,7 +46,7 @@ impl<'a> Lines<'a> {
         ensures value { result ≡ length (set.items self.now.lines) }
         ensures sources { AreLineMarksHeld self.now }
     {
-        self.index.len()
+        self.slots.len()
     }
 
     /// The line that has `i` others below it, lent from the store.
@@ -55,7 +55,7 @@ impl<'a> Lines<'a> {
         ensures value { slice_get (set.items self.now.lines) i ≡ Some result.now }
         ensures fitting { samples_fault self.now.precision self.now.width result.now ≡ None }
     {
-        samples_at(&self.packed.samples, self.packed.width, self.index.start(i))
+        samples_at(&self.packed.samples, self.packed.width, self.slots.start(i))
     }
 
     /// The source numbers of that line in ascending order, lent from the store.
@@ -63,6 +63,6 @@ impl<'a> Lines<'a> {
         requires { i < length (set.items self.now.lines) }
         ensures { IfSome (slice_get (set.items self.now.lines) i) (λ samples. result.now ≡ line_sources self.now samples) }
     {
-        self.index.sources(i)
+        self.slots.sources(i)
     }
 }

@@ -4,8 +4,8 @@ ghost use Rattle.jls_partial.specs.Marking.{MarksSome, line_readings, readings_o
 ghost use Rattle.jls_partial.specs.Partial.{with_marks, with_source, IsFitting};
 ghost use Rattle.std.specs.Prelude.{◌≡◌, ◌<◌, length, OnOk, OnErr};
 
+use crate::line_place::LinePlace;
 use crate::partial::Partial;
-use crate::place::Place;
 use std::alloc::AllocError;
 
 /// Adds a source to each reading of a line.
@@ -16,7 +16,7 @@ fn mark_line(partial: &mut Partial, component: u8, line: u16, source: u32) -> Re
     ensures err { OnErr result (MarksSome partial.old source partial.new) }
 {
     for i in 0..partial.count(component, line) {
-        partial.mark_reading(Place { component, line }, i, source)?;
+        partial.mark_reading(LinePlace { component, line }, i, source)?;
     }
     Ok(())
 }

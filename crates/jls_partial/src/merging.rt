@@ -10,14 +10,14 @@ ghost use Rattle.jls_values.specs.Join.{IsBetween};
 ghost use Rattle.jls_values.specs.declared.merge.MergeFault.TheVariants.{ShapeDiffers, OutOfMemory};
 ghost use Rattle.std.specs.Prelude.{◌≡◌, ◌↔◌, map, true, false, OnOk, OnErr, IsErrOf};
 
+use crate::line_place::LinePlace;
 use crate::lines::Lines;
 use crate::partial::Partial;
-use crate::place::Place;
 use jls_values::{Merge, MergeFault};
 use std::alloc::AllocError;
 
 /// Takes the readings of one line, with their sources.
-fn merge_line(into: &mut Partial, at: Place, lines: &Lines<'_>) -> Result<(), AllocError>
+fn merge_line(into: &mut Partial, at: LinePlace, lines: &Lines<'_>) -> Result<(), AllocError>
     requires { IsLineEntry into.old.shape (at, lines.now) }
     ensures ok { OnOk result (into.new ≡ with_all into.old (map (kept_at_place at) (kept_lines lines.now))) }
     ensures err { OnErr result (TakesFront into.old into.new (map (kept_at_place at) (kept_lines lines.now))) }

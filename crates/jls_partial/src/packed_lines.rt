@@ -3,18 +3,18 @@
 ghost use Rattle.std.specs.Prelude.{◌≡◌, ◌<◌, ◌≤◌, ◌+◌, ◌++◌, ◌∷◌, [], length, true, not, IfOk, IsOk, OnOk, OnErr};
 ghost use Rattle.std.specs.Prelude.{vec_len, vec_capacity};
 ghost use Rattle.jls_partial.specs.Held.{MarksLine};
-ghost use Rattle.jls_partial.specs.Index.{slots_of};
+ghost use Rattle.jls_partial.specs.Slots.{slots_of};
 ghost use Rattle.jls_partial.specs.InsertFaults.{samples_fault};
 ghost use Rattle.jls_partial.specs.LineSet.{with_lines};
-ghost use Rattle.jls_partial.specs.Stored.{lines_in, IsIndexOf, Extends};
+ghost use Rattle.jls_partial.specs.Stored.{lines_in, AreSlotsOf, Extends};
 ghost use Rattle.jls_values.specs.OrderedSet as set;
 
-use crate::index::{Index, Slot};
 use crate::packed::{find, put};
+use crate::slots::{Slot, Slots};
 use crate::sources::Sources;
 use std::alloc::{AllocError, Global};
 
-/// Samples of lines of one width, one line after the other, with samples of one precision. Which lines these are, indices say.
+/// Samples of lines of one width, one line after the other, with samples of one precision. Which lines these are, slots say.
 #[derive(Drop)]
 pub(crate) struct PackedLines {
     pub precision: u8,
@@ -38,50 +38,50 @@ impl PackedLines {
         }
     }
 
-    /// Takes one line that fits, and adds these sources to its own. True where the line is new to the index.
+    /// Takes one line that fits, and adds these sources to its own. True where no slot has the line yet.
     pub(crate) fn take(
         &mut self,
-        index: &mut Index,
+        slots: &mut Slots,
         samples: &[u16],
         sources: &[u32],
     ) -> Result<bool, AllocError>
-        requires index { IsIndexOf self.old index.old }
+        requires slots { AreSlotsOf self.old slots.old }
         requires fits { samples_fault self.old.precision self.old.width samples.now ≡ None }
         ensures extends { Extends self.old self.new }
-        ensures index { IsIndexOf self.new index.new }
-        ensures ok { OnOk result (lines_in self.new index.new
-            ≡ with_lines (lines_in self.old index.old) ((samples.now, sources.now) ∷ [])) }
+        ensures slots { AreSlotsOf self.new slots.new }
+        ensures ok { OnOk result (lines_in self.new slots.new
+            ≡ with_lines (lines_in self.old slots.old) ((samples.now, sources.now) ∷ [])) }
         ensures err_samples { OnErr result (self.new.samples.items ≡ self.old.samples.items) }
-        ensures err_index { OnErr result (slots_of index.new ≡ slots_of index.old) }
-        ensures added { IfOk result (λ added. added ≡ not (set.contains (lines_in self.old index.old).lines samples.now)) }
-        ensures no_memory { set.contains (lines_in self.old index.old).lines samples.now ≡ true
+        ensures err_slots { OnErr result (slots_of slots.new ≡ slots_of slots.old) }
+        ensures added { IfOk result (λ added. added ≡ not (set.contains (lines_in self.old slots.old).lines samples.now)) }
+        ensures no_memory { set.contains (lines_in self.old slots.old).lines samples.now ≡ true
             → sources.now ≡ [] → IsOk result }
     {
-        match find(index, &self.samples, self.width, samples) {
+        match find(slots, &self.samples, self.width, samples) {
             Ok(at) => {
-                index.add_sources(self.alloc, at, sources)?;
+                slots.add_sources(self.alloc, at, sources)?;
                 Ok(false)
             }
             Err(at) => {
                 let slot = self.next_slot(sources)?;
-                let new = index.room_for(self.alloc, slot)?;
-                put(index, &mut self.samples, at, samples, new)?;
+                let new = slots.room_for(self.alloc, slot)?;
+                put(slots, &mut self.samples, at, samples, new)?;
                 Ok(true)
             }
         }
     }
 
-    /// Adds a source to the line of an index that has `i` others below it.
-    pub(crate) fn mark(&self, index: &mut Index, i: usize, source: u32) -> Result<(), AllocError>
-        requires index { IsIndexOf self.now index.old }
-        requires within { i < length (slots_of index.old) }
-        ensures index { IsIndexOf self.now index.new }
-        ensures ok { OnOk result (MarksLine (lines_in self.now index.old) i source (lines_in self.now index.new)) }
-        ensures err { OnErr result (slots_of index.new ≡ slots_of index.old) }
+    /// Adds a source to the line of these slots that has `i` others below it.
+    pub(crate) fn mark(&self, slots: &mut Slots, i: usize, source: u32) -> Result<(), AllocError>
+        requires slots { AreSlotsOf self.now slots.old }
+        requires within { i < length (slots_of slots.old) }
+        ensures slots { AreSlotsOf self.now slots.new }
+        ensures ok { OnOk result (MarksLine (lines_in self.now slots.old) i source (lines_in self.now slots.new)) }
+        ensures err { OnErr result (slots_of slots.new ≡ slots_of slots.old) }
     {
-        index.add_sources(self.alloc, i, &[source])?;
-        // The length of an index is a `usize`, and so its lines are countable.
-        prove!(index.len() <= usize::MAX);
+        slots.add_sources(self.alloc, i, &[source])?;
+        // The number of slots is a `usize`, and so its lines are countable.
+        prove!(slots.len() <= usize::MAX);
         Ok(())
     }
 
@@ -99,20 +99,20 @@ impl PackedLines {
         })
     }
 
-    /// Makes room for one line more, and gives the index of that line alone, with these sources.
-    pub(crate) fn room_for(&mut self, sources: &[u32]) -> Result<Index, AllocError>
+    /// Makes room for one line more, and gives the slots of that line alone, with these sources.
+    pub(crate) fn room_for(&mut self, sources: &[u32]) -> Result<Slots, AllocError>
         ensures same { self.new.samples.items ≡ self.old.samples.items }
         ensures precision { self.new.precision ≡ self.old.precision }
         ensures width { self.new.width ≡ self.old.width }
-        ensures index { IfOk result (λ index. slots_of index ≡ record {
+        ensures slots { IfOk result (λ slots. slots_of slots ≡ record {
           start = length self.old.samples.items;
           sources = set.insert_all set.empty sources.now;
         } ∷ []) }
         ensures room { OnOk result (vec_len self.new.samples + self.new.width ≤ vec_capacity self.new.samples) }
     {
-        let index = Index::of(self.alloc, self.next_slot(sources)?)?;
+        let slots = Slots::of(self.alloc, self.next_slot(sources)?)?;
         self.samples.reserve(self.width as usize)?;
-        Ok(index)
+        Ok(slots)
     }
 
     /// Puts a line in where there is room for it. This needs no memory.

@@ -13,9 +13,9 @@ ghost use Rattle.std.specs.Prelude.{◌≡◌, ◌<◌, ◌∷◌, [], length, m
 ghost use Rattle.std.specs.Prelude.{slice_get};
 
 use crate::insert_fault::{InsertFault, find_reading_fault};
+use crate::line_place::LinePlace;
 use crate::line_store::{Entries, Store, count};
 use crate::lines::Lines;
-use crate::place::Place;
 use jls_values::Shape;
 use std::alloc::{AllocError, Global};
 use std::marker::Model;
@@ -47,7 +47,7 @@ impl Model for Partial {
 }
 
 /// How many readings are kept at a place.
-fn count_at(store: &Store, at: Place) -> usize
+fn count_at(store: &Store, at: LinePlace) -> usize
     ensures { result ≡ length (set.items (lines_or (no_lines 0 0) store.now.entries at).lines) }
 {
     match store.lines_at(at) {
@@ -57,7 +57,7 @@ fn count_at(store: &Store, at: Place) -> usize
 }
 
 /// What is kept at a place that has a reading.
-fn lines_at(store: &Store, at: Place) -> Lines<'_>
+fn lines_at(store: &Store, at: LinePlace) -> Lines<'_>
     requires { 0 < length (set.items (lines_or (no_lines 0 0) store.now.entries at).lines) }
     ensures { result ≡ lines_or (no_lines 0 0) store.now.entries at }
 {
@@ -101,11 +101,11 @@ impl Partial {
         if let Some(fault) = find_reading_fault(&self.shape, component, line, samples) {
             return Err(fault);
         }
-        Ok(self.keep(Place { component, line }, samples, &[])?)
+        Ok(self.keep(LinePlace { component, line }, samples, &[])?)
     }
 
     /// Takes one reading that fits, and adds these sources to its own. True where it is new.
-    fn keep(&mut self, at: Place, samples: &[u16], sources: &[u32]) -> Result<bool, AllocError>
+    fn keep(&mut self, at: LinePlace, samples: &[u16], sources: &[u32]) -> Result<bool, AllocError>
         requires { reading_fault self.old.shape at.component at.line samples.now ≡ None }
         ensures ok { OnOk result (self.new ≡ with_all self.old ((at_place at samples.now, sources.now) ∷ [])) }
         ensures err { OnErr result (self.new ≡ self.old) }
@@ -118,7 +118,7 @@ impl Partial {
     /// Takes one reading that fits, and adds these sources to its own.
     pub(crate) fn take(
         &mut self,
-        at: Place,
+        at: LinePlace,
         samples: &[u16],
         sources: &[u32],
     ) -> Result<(), AllocError>
@@ -133,7 +133,7 @@ impl Partial {
     /// Adds a source to the reading of a line that has `i` others below it.
     pub(crate) fn mark_reading(
         &mut self,
-        at: Place,
+        at: LinePlace,
         i: usize,
         source: u32,
     ) -> Result<(), AllocError>
@@ -154,7 +154,7 @@ impl Partial {
         requires line_in { line < self.now.shape.height }
         ensures { result ≡ length (readings_at self.now component line) }
     {
-        count_at(&self.store, Place { component, line })
+        count_at(&self.store, LinePlace { component, line })
     }
 
     /// The reading of a line that has `i` others below it, lent from the store. Readings stand in ascending order of their samples,
@@ -166,7 +166,7 @@ impl Partial {
         ensures value { slice_get (readings_at self.now component line) i ≡ Some result.now }
         ensures fitting { reading_fault self.now.shape component line result.now ≡ None }
     {
-        lines_at(&self.store, Place { component, line }).get(i)
+        lines_at(&self.store, LinePlace { component, line }).get(i)
     }
 
     /// The source numbers of that reading in ascending order, lent from the store.
@@ -177,7 +177,7 @@ impl Partial {
         ensures { IfSome (slice_get (readings_at self.now component line) i)
             (λ samples. result.now ≡ sources_at self.now component line samples) }
     {
-        lines_at(&self.store, Place { component, line }).sources(i)
+        lines_at(&self.store, LinePlace { component, line }).sources(i)
     }
 
     /// The lines that have a reading, in the order of their places, each with what is kept of it.

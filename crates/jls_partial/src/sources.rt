@@ -1,7 +1,7 @@
 //! The sources of a line.
 
 ghost use Rattle.std.specs.Prelude.{◌≡◌, ◌↔◌, [], IsOk, IsTrue, OnOk, OnErr};
-ghost use Rattle.jls_partial.specs.Slots.{own_sources};
+ghost use Rattle.jls_partial.specs.Slot.{own_sources};
 ghost use Rattle.jls_values.specs.OrderedSet as set;
 
 use jls_values::SourceSet;
@@ -23,7 +23,7 @@ impl Model for Sources {
 
     ghost coded = { set.code coded_ℕ };
 
-    ghost use Rattle.jls_partial.specs.Slots.{own_sources};
+    ghost use Rattle.jls_partial.specs.Slot.{own_sources};
 
     ghost view = { λ a. own_sources a.own };
 }

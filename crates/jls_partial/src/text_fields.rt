@@ -6,7 +6,7 @@ ghost use Rattle.jls_partial.specs.TextReading.{unless_bad_shape, shape_fields, 
 ghost use Rattle.std.specs.Int.{w16, w32, w64};
 ghost use Rattle.std.specs.Prelude.{◌≡◌};
 
-use crate::place::Place;
+use crate::line_place::LinePlace;
 use crate::text_fault::TextFault;
 use crate::version::Version;
 use jls_values::{Shape, ShapeFault};
@@ -183,7 +183,7 @@ pub(crate) fn read_source(
 }
 
 /// Whether an entry of this place may follow the entry before.
-fn may_follow(shape: &Shape, before: Option<Place>, at: Place) -> bool
+fn may_follow(shape: &Shape, before: Option<LinePlace>, at: LinePlace) -> bool
     ensures { result ≡ Rattle.jls_partial.specs.TextReading.may_follow shape.now before at }
 {
     let inside = (at.component as usize) < shape.ids().len() && at.line < shape.height();
@@ -198,14 +198,14 @@ fn may_follow(shape: &Shape, before: Option<Place>, at: Place) -> bool
 pub(crate) fn read_place<'a>(
     size: u64,
     shape: &Shape,
-    before: Option<Place>,
+    before: Option<LinePlace>,
     bytes: &'a [u8],
-) -> Result<(Place, &'a [u8]), TextFault>
+) -> Result<(LinePlace, &'a [u8]), TextFault>
     ensures { GivesText (λ x. (x.0, x.1.now)) result (place_fields size shape.now before bytes.now) }
 {
     let (component, rest) = read_byte(size, bytes)?;
     let (line, rest) = read_u16(size, rest)?;
-    let at = Place { component, line };
+    let at = LinePlace { component, line };
     if !may_follow(shape, before, at) {
         return Err(TextFault::Place(offset(size, bytes)));
     }

@@ -11,8 +11,8 @@ ghost use Rattle.jls_partial.specs.TextReading.{readings_fields, entry_fields, e
 ghost use Rattle.std.specs.Option.{option_map};
 ghost use Rattle.std.specs.Prelude.{◌≡◌, ◌<◌, length, map, None, Ok, IfOk, OnErr};
 
+use crate::line_place::LinePlace;
 use crate::partial::Partial;
-use crate::place::Place;
 use crate::text_fault::TextFault;
 use crate::text_fields::{
     offset, read_count, read_magic, read_place, read_shape, read_source, read_u32, read_u64,
@@ -121,7 +121,7 @@ fn read_kept<'a>(
 fn read_readings<'a>(
     form: Form,
     partial: &mut Partial,
-    at: Place,
+    at: LinePlace,
     count: u64,
     bytes: &'a [u8],
 ) -> Result<&'a [u8], TextFault>
@@ -148,9 +148,9 @@ fn read_readings<'a>(
 fn read_entry<'a>(
     form: Form,
     partial: &mut Partial,
-    before: Option<Place>,
+    before: Option<LinePlace>,
     bytes: &'a [u8],
-) -> Result<(Place, &'a [u8]), TextFault>
+) -> Result<(LinePlace, &'a [u8]), TextFault>
     ensures read { GivesText (λ x. (partial.new, x.0, x.1.now)) result
         (with_entry partial.old (entry_fields form.size form.version partial.old.shape before bytes.now)) }
     ensures front { OnErr result (TakesFront partial.old partial.new

@@ -7,9 +7,9 @@ ghost use Rattle.std.specs.Int.{w16, w32, w64, to_be_bytes};
 ghost use Rattle.std.specs.List.{flat_map};
 ghost use Rattle.std.specs.Prelude.{◌≡◌, ◌∷◌, ◌++◌, IfOk, OnOk};
 
+use crate::line_place::LinePlace;
 use crate::lines::Lines;
 use crate::partial::Partial;
-use crate::place::Place;
 use jls_values::Shape;
 use std::alloc::{AllocError, Global};
 
@@ -65,7 +65,7 @@ fn put_readings(out: &mut Vec<u8>, lines: &Lines<'_>) -> Result<(), AllocError>
 }
 
 /// Writes the fields of an entry that stand before its readings.
-fn put_entry_head(out: &mut Vec<u8>, at: Place, count: u64) -> Result<(), AllocError>
+fn put_entry_head(out: &mut Vec<u8>, at: LinePlace, count: u64) -> Result<(), AllocError>
     ensures { OnOk result (out.new.items ≡ out.old.items ++ (at.component ∷ to_be_bytes w16 at.line ++ to_be_bytes w64 count)) }
 {
     let [high, low] = at.line.to_be_bytes();
@@ -75,7 +75,7 @@ fn put_entry_head(out: &mut Vec<u8>, at: Place, count: u64) -> Result<(), AllocE
 }
 
 /// Writes the entry of a line.
-fn put_entry(out: &mut Vec<u8>, at: Place, lines: &Lines<'_>) -> Result<(), AllocError>
+fn put_entry(out: &mut Vec<u8>, at: LinePlace, lines: &Lines<'_>) -> Result<(), AllocError>
     ensures { OnOk result (out.new.items ≡ out.old.items ++ entry_text Two (at, kept_lines lines.now)) }
 {
     put_entry_head(out, at, lines.len() as u64)?;

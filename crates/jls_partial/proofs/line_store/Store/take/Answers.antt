@@ -11,7 +11,7 @@ use Rattle.jls_partial.proofs.line_store.Store.take.Goals as goal
 
 pub returns-clause-ordered : goal.returns-clause-ordered
 returns-clause-ordered c =
-    let ps = c.take_at.new.index.entries in
+    let ps = c.take_at.new.pages.entries in
     on_ok_weaker c.take_at.result (λ _. ordered_seen c.take_at.new.packed (rows_of ps) (all_rise ps c.take_at.ensures.pages)) c.take_at.ensures.ok
 
 pub returns-clause-no_memory : goal.returns-clause-no_memory

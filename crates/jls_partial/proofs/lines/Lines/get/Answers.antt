@@ -2,8 +2,8 @@ use Rattle.std.proofs.Common.{◌≡◌, ℕ, ◌+◌, ◌<◌, ◌≤◌, List,
 use Rattle.std.specs.Prelude.{slice_get}
 use Rattle.std.proofs.lemmas.List.{length-map, get_or_default}
 use Rattle.std.proofs.lemmas.Option.{slice_get_read}
-use Rattle.jls_partial.specs.Index.{slots_of, no_slot, slot_at}
-use Rattle.jls_partial.specs.declared.index.Slot.{Slot}
+use Rattle.jls_partial.specs.Slots.{slots_of, no_slot, slot_at}
+use Rattle.jls_partial.specs.declared.slots.Slot.{Slot}
 use Rattle.jls_partial.specs.InsertFaults.{samples_fault}
 use Rattle.jls_partial.specs.LineSet.{PictureLines}
 use Rattle.jls_partial.specs.Packed.{lines_of}
@@ -15,7 +15,7 @@ use Rattle.jls_partial.proofs.lines.Lines.get.Goals as goal
 pub start-requires : goal.start-requires
 start-requires c =
     let packed = c.self.inside.packed.now in
-    let many = length_kept packed.precision packed.width packed.samples.items (slots_of c.self.inside.index.now) c.args.self.now c.self.invariant c.self.view_is in
+    let many = length_kept packed.precision packed.width packed.samples.items (slots_of c.self.inside.slots.now) c.args.self.now c.self.invariant c.self.view_is in
     let below = c.requires in
     omega (arith, many, below)
 
@@ -32,7 +32,7 @@ itself slots i lt = get_or_default slots i no_slot (slot_at slots i) lt
 pub samples_at-requires : goal.samples_at-requires
 samples_at-requires c =
     let packed = c.self.inside.packed.now in
-    let slots = slots_of c.self.inside.index.now in
+    let slots = slots_of c.self.inside.slots.now in
     let many = length_kept packed.precision packed.width packed.samples.items slots c.args.self.now c.self.invariant c.self.view_is in
     let below = c.requires in
     let lt : c.args.i < length slots = omega (arith, many, below) in
@@ -43,7 +43,7 @@ samples_at-requires c =
 pub returns-clause-value : goal.returns-clause-value
 returns-clause-value c =
     let packed = c.self.inside.packed.now in
-    let slots = slots_of c.self.inside.index.now in
+    let slots = slots_of c.self.inside.slots.now in
     let many = length_kept packed.precision packed.width packed.samples.items slots c.args.self.now c.self.invariant c.self.view_is in
     let below = c.requires in
     let lt : c.args.i < length slots = omega (arith, many, below) in
@@ -54,7 +54,7 @@ returns-clause-value c =
 pub returns-clause-fitting : goal.returns-clause-fitting
 returns-clause-fitting c =
     let packed = c.self.inside.packed.now in
-    let slots = slots_of c.self.inside.index.now in
+    let slots = slots_of c.self.inside.slots.now in
     subst (λ (z : PictureLines). samples_fault z.precision z.width c.samples_at.result.now ≡ None) c.self.view_is
     (all-slice_get (λ x. samples_fault packed.precision packed.width x ≡ None) (lines_of packed.width packed.samples.items slots) c.args.i c.samples_at.result.now c.self.invariant.fitting
     (ap (λ (xs : List (List ℕ)). slice_get xs c.args.i) (sym (lines_kept packed.precision packed.width packed.samples.items slots c.args.self.now c.self.invariant c.self.view_is)) ∙ returns-clause-value c))

@@ -3,8 +3,8 @@ use Rattle.std.specs.Prelude.{slice_get, IfSome}
 use Rattle.std.proofs.lemmas.List.{length-map, get_or_default}
 use Rattle.std.proofs.lemmas.Option.{slice_get_read}
 use Rattle.jls_values.specs.OrderedSet as sets
-use Rattle.jls_partial.specs.Index.{slots_of, no_slot, slot_at}
-use Rattle.jls_partial.specs.declared.index.Slot.{Slot}
+use Rattle.jls_partial.specs.Slots.{slots_of, no_slot, slot_at}
+use Rattle.jls_partial.specs.declared.slots.Slot.{Slot}
 use Rattle.jls_partial.specs.LineSet.{line_sources}
 use Rattle.jls_partial.specs.Packed.{lines_of}
 use Rattle.jls_partial.proofs.LineSets.{lines_kept, length_kept, sources_lent}
@@ -13,7 +13,7 @@ use Rattle.jls_partial.proofs.lines.Lines.sources.Goals as goal
 
 pub sources-requires : goal.sources-requires
 sources-requires c =
-    let many = length_kept c.self.inside.packed.now.precision c.self.inside.packed.now.width c.self.inside.packed.now.samples.items (slots_of c.self.inside.index.now) c.args.self.now c.self.invariant c.self.view_is in
+    let many = length_kept c.self.inside.packed.now.precision c.self.inside.packed.now.width c.self.inside.packed.now.samples.items (slots_of c.self.inside.slots.now) c.args.self.now c.self.invariant c.self.view_is in
     let below = c.requires in
     omega (arith, many, below)
 
@@ -21,7 +21,7 @@ pub returns : goal.returns
 returns c =
     let w = c.self.inside.packed.now.width in
     let packed = c.self.inside.packed.now.samples.items in
-    let slots = (slots_of c.self.inside.index.now) in
+    let slots = (slots_of c.self.inside.slots.now) in
     let s = slot_at slots c.args.i in
     let many = length_kept c.self.inside.packed.now.precision w packed slots c.args.self.now c.self.invariant c.self.view_is in
     let below = c.requires in

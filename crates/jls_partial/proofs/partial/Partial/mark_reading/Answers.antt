@@ -6,20 +6,20 @@ use Rattle.std.specs.Ordering.{nat_cmp}
 use Rattle.std.specs.Prelude.{IfSome, slice_get, unwrap_or}
 use Rattle.jls_values.specs.OrderedSet as set
 use Rattle.jls_values.specs.Shape.{PictureShape}
-use Rattle.jls_partial.specs.declared.place.Place.{Place}
+use Rattle.jls_partial.specs.declared.line_place.LinePlace.{LinePlace}
 use Rattle.jls_partial.specs.Entries.{at_place, partial_of}
 use Rattle.jls_partial.specs.Held.{LineEntry, IsStore, kept_entry, lines_or}
 use Rattle.jls_partial.specs.InsertFaults.{reading_fault}
 use Rattle.jls_partial.specs.LineSet.{PictureLines, no_lines}
 use Rattle.jls_partial.specs.Partial.{PartialPicture, readings_at, with_all, with_marks}
-use Rattle.jls_partial.specs.Place.{place_cmp}
+use Rattle.jls_partial.specs.LinePlace.{place_cmp}
 use Rattle.jls_partial.proofs.Marked.{got_held, taken_is_marked}
 use Rattle.jls_partial.proofs.Store.{IsAt, is_there, no_items, readings_at_there, kept_put, seen_put}
 use Rattle.jls_partial.proofs.Views.{got_held as got_there}
 use Rattle.jls_partial.proofs.partial.Partial.mark_reading.Goals as goal
 
 -- where there is a reading, the lines are the same whatever stands for none
-lines_or_some : (n p w : ℕ) (es : List LineEntry) (at : Place) → n < length (set.items (lines_or (no_lines 0 0) es at).lines)
+lines_or_some : (n p w : ℕ) (es : List LineEntry) (at : LinePlace) → n < length (set.items (lines_or (no_lines 0 0) es at).lines)
     → lines_or (no_lines p w) es at ≡ lines_or (no_lines 0 0) es at
 lines_or_some n p w es at some =
     elim (lookup (is_at (place_cmp at)) es) as (λ (o : Option PictureLines). n < length (set.items (unwrap_or o (no_lines 0 0)).lines) → unwrap_or o (no_lines p w) ≡ unwrap_or o (no_lines 0 0)) [
@@ -27,7 +27,7 @@ lines_or_some n p w es at some =
       | Some L ↦ λ _. refl
     ] some
 
-is_read : (shape : PictureShape) (n : ℕ) (es : List LineEntry) (at : Place) → IsStore shape es
+is_read : (shape : PictureShape) (n : ℕ) (es : List LineEntry) (at : LinePlace) → IsStore shape es
     → n < length (set.items (lines_or (no_lines 0 0) es at).lines) → IsAt shape at (lines_or (no_lines 0 0) es at)
 is_read shape n es at kept some =
     subst (IsAt shape at) (lines_or_some n shape.precision shape.width es at some) (is_there shape shape.precision shape.width es at refl refl kept)
@@ -39,7 +39,7 @@ item (x ∷ xs) zero lt = (x, refl)
 item (x ∷ xs) (suc i) lt = item xs i (omega arith)
 
 -- it fits the picture
-fits : (shape : PictureShape) (es : List LineEntry) (at : Place) (i : ℕ) (x : List ℕ) → IsStore shape es
+fits : (shape : PictureShape) (es : List LineEntry) (at : LinePlace) (i : ℕ) (x : List ℕ) → IsStore shape es
     → i < length (set.items (lines_or (no_lines 0 0) es at).lines)
     → slice_get (set.items (lines_or (no_lines 0 0) es at).lines) i ≡ Some x → reading_fault shape at.component at.line x ≡ None
 fits shape es at i x kept lt got = (is_read shape i es at kept lt).fitting x (got_there (lines_or (no_lines 0 0) es at).lines i x got)

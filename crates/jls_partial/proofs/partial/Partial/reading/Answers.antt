@@ -4,7 +4,7 @@ use Rattle.jls_values.specs.OrderedSet as set
 use Rattle.jls_partial.specs.Held.{lines_or}
 use Rattle.jls_partial.specs.LineSet.{PictureLines, no_lines}
 use Rattle.jls_partial.specs.Partial.{holds}
-use Rattle.jls_partial.specs.Place.{place}
+use Rattle.jls_partial.specs.LinePlace.{place}
 use Rattle.jls_partial.proofs.Store.{readings_at_there, holds_there, fitting}
 use Rattle.jls_partial.proofs.Views.{got_held}
 use Rattle.jls_partial.proofs.partial.Partial.reading.Goals as goal

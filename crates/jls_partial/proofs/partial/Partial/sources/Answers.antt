@@ -4,7 +4,7 @@ use Rattle.jls_values.specs.OrderedSet as set
 use Rattle.jls_partial.specs.Held.{lines_or}
 use Rattle.jls_partial.specs.LineSet.{PictureLines, no_lines, line_sources}
 use Rattle.jls_partial.specs.Partial.{sources_at}
-use Rattle.jls_partial.specs.Place.{place}
+use Rattle.jls_partial.specs.LinePlace.{place}
 use Rattle.jls_partial.proofs.Store.{readings_at_there, sources_at_there}
 use Rattle.jls_partial.proofs.partial.Partial.sources.Goals as goal
 

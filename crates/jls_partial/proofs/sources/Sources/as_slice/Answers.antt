@@ -1,5 +1,5 @@
 use Rattle.std.proofs.Common.{ap, sym, ◌∙◌}
-use Rattle.jls_partial.specs.Slots.{own_sources}
+use Rattle.jls_partial.specs.Slot.{own_sources}
 use Rattle.jls_values.specs.OrderedSet as set
 use Rattle.jls_partial.proofs.LineSets.{no_items}
 use Rattle.jls_partial.proofs.sources.Sources.as_slice.Goals as goal

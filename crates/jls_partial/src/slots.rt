@@ -1,8 +1,8 @@
-//! The index of the lines in a store, in ascending order of the lines.
+//! Slots: where the lines of a set begin, and their sources, in ascending order of the lines.
 
 ghost use Rattle.std.specs.List.{insert};
 ghost use Rattle.std.specs.Prelude.{◌≡◌, ◌<◌, ◌≤◌, ◌+◌, ◌^◌, ◌++◌, ◌∷◌, [], length, IfOk, IsOk, OnOk, OnErr, MatchOption};
-ghost use Rattle.jls_partial.specs.Index.{slots_of, slot_at, HasRoom};
+ghost use Rattle.jls_partial.specs.Slots.{slots_of, slot_at, HasRoom};
 ghost use Rattle.jls_partial.specs.Tree.{root_slots, fork_slots, with_sources_at};
 ghost use Rattle.jls_values.specs.OrderedSet as set;
 
@@ -20,7 +20,7 @@ pub(crate) struct Slot {
 
 /// The slots of a store. A single line without sources takes no memory of its own, since most stores stay with one.
 #[derive(Drop)]
-pub(crate) enum Index {
+pub(crate) enum Slots {
     /// No line.
     Empty,
     /// A single line without sources, by where its samples begin.
@@ -52,8 +52,8 @@ pub(crate) struct Fork {
 impl Model for Tree {
     ghost use Rattle.std.specs.Coded.{coded_list};
     ghost use Rattle.std.specs.Prelude.{◌≡◌, List, length};
-    ghost use Rattle.jls_partial.specs.declared.index.Slot.{Slot};
-    ghost use Rattle.jls_partial.specs.Slots.{coded_slot};
+    ghost use Rattle.jls_partial.specs.declared.slots.Slot.{Slot};
+    ghost use Rattle.jls_partial.specs.Slot.{coded_slot};
 
     ghost Value = { List Slot };
 
@@ -72,16 +72,16 @@ impl Model for Tree {
     ghost size_decreases = { λ a h. Prim.grind (arith, length-append) };
 }
 
-impl Index {
+impl Slots {
     /// The slot of a single line.
-    pub(crate) fn of(alloc: Global, slot: Slot) -> Result<Index, AllocError>
-        ensures { IfOk result (λ index. slots_of index ≡ slot ∷ []) }
+    pub(crate) fn of(alloc: Global, slot: Slot) -> Result<Slots, AllocError>
+        ensures { IfOk result (λ slots. slots_of slots ≡ slot ∷ []) }
     {
         if slot.sources.is_empty() {
-            return Ok(Index::Lone(slot.start));
+            return Ok(Slots::Lone(slot.start));
         }
         let tree = Tree::from_root(Fork::single(alloc, slot)?);
-        Ok(Index::Many(Box::new(alloc, tree)?))
+        Ok(Slots::Many(Box::new(alloc, tree)?))
     }
 
     /// How many slots there are.
@@ -90,9 +90,9 @@ impl Index {
         ensures small { length (slots_of self.now) < 2 ^ 64 }
     {
         match self {
-            Index::Empty => 0,
-            Index::Lone(_) => 1,
-            Index::Many(tree) => tree.len(),
+            Slots::Empty => 0,
+            Slots::Lone(_) => 1,
+            Slots::Many(tree) => tree.len(),
         }
     }
 
@@ -102,9 +102,9 @@ impl Index {
         ensures { result ≡ (slot_at (slots_of self.now) at).start }
     {
         match self {
-            Index::Empty => unreachable!(),
-            Index::Lone(start) => *start,
-            Index::Many(tree) => tree.slot(at).start,
+            Slots::Empty => unreachable!(),
+            Slots::Lone(start) => *start,
+            Slots::Many(tree) => tree.slot(at).start,
         }
     }
 
@@ -114,9 +114,9 @@ impl Index {
         ensures { result.now ≡ set.items (slot_at (slots_of self.now) at).sources }
     {
         match self {
-            Index::Empty => unreachable!(),
-            Index::Lone(_) => &[],
-            Index::Many(tree) => tree.slot(at).sources.as_slice(),
+            Slots::Empty => unreachable!(),
+            Slots::Lone(_) => &[],
+            Slots::Many(tree) => tree.slot(at).sources.as_slice(),
         }
     }
 
@@ -133,17 +133,17 @@ impl Index {
         ensures no_memory { sources.now ≡ [] → IsOk result }
     {
         match self {
-            Index::Empty => unreachable!(),
-            Index::Lone(start) => {
+            Slots::Empty => unreachable!(),
+            Slots::Lone(start) => {
                 if sources.is_empty() {
                     return Ok(());
                 }
                 let mut slot = Slot::without_sources(*start);
                 slot.sources.add_all(alloc, sources)?;
-                *self = Index::of(alloc, slot)?;
+                *self = Slots::of(alloc, slot)?;
                 Ok(())
             }
-            Index::Many(tree) => tree.add_sources(alloc, at, sources),
+            Slots::Many(tree) => tree.add_sources(alloc, at, sources),
         }
     }
 
@@ -155,13 +155,13 @@ impl Index {
     {
         let new = Fork::single(alloc, slot)?;
         let tree = match self {
-            Index::Empty => Tree::empty(),
-            Index::Lone(start) => {
+            Slots::Empty => Tree::empty(),
+            Slots::Lone(start) => {
                 Tree::from_root(Fork::single(alloc, Slot::without_sources(*start))?)
             }
-            Index::Many(_) => return Ok(new),
+            Slots::Many(_) => return Ok(new),
         };
-        *self = Index::Many(Box::new(alloc, tree)?);
+        *self = Slots::Many(Box::new(alloc, tree)?);
         Ok(new)
     }
 
@@ -175,8 +175,8 @@ impl Index {
         ensures { slots_of self.new ≡ insert (slots_of self.old) at new.value.slot }
     {
         match self {
-            Index::Empty | Index::Lone(_) => unreachable!(),
-            Index::Many(tree) => tree.insert(at, new),
+            Slots::Empty | Slots::Lone(_) => unreachable!(),
+            Slots::Many(tree) => tree.insert(at, new),
         }
     }
 }
@@ -194,7 +194,7 @@ impl Slot {
 }
 
 impl Fork {
-    /// One slot, with the room that it takes in an index.
+    /// One slot, with the room that it takes among others.
     pub(crate) fn single(alloc: Global, slot: Slot) -> Result<Box<Fork>, AllocError>
         ensures { IfOk result (λ fork. fork.value ≡ record { left = []; slot = slot; right = [] }) }
     {

@@ -1,9 +1,9 @@
 use Rattle.std.proofs.Common.{◌≡◌, ◌<◌, ℕ, zero, suc, List, [], ◌∷◌, length, ap, sym, subst, ◌∙◌, arith}
 use Rattle.jls_values.specs.OrderedSet as set
-use Rattle.jls_partial.specs.declared.index.Slot.{Slot}
-use Rattle.jls_partial.specs.Index.{slots_of, slot_at}
+use Rattle.jls_partial.specs.declared.slots.Slot.{Slot}
+use Rattle.jls_partial.specs.Slots.{slots_of, slot_at}
 use Rattle.jls_partial.proofs.LineSets.{no_items}
-use Rattle.jls_partial.proofs.index.Index.sources.Goals as goal
+use Rattle.jls_partial.proofs.slots.Slots.sources.Goals as goal
 
 -- a line without sources has none
 lone_sources : (start at : ℕ) → at < 1 → [] ≡ set.items (slot_at (record { start = start; sources = set.empty } ∷ []) at).sources
