@@ -1,22 +1,12 @@
-//! Tests of the crates of headers, partial pictures, copies and what is written. They stand apart, so that those crates are proved
-//! once, without them.
+//! Tests of the crate of copies: what whole copies give, and where scan data can be cut, on known values. They stand apart, so that it is
+//! proved once, without them.
 #![tactic(auto)]
 
 #[cfg(test)]
-mod copy;
+mod clones;
 #[cfg(test)]
-mod device;
+mod copies;
 #[cfg(test)]
-mod file;
+mod cuts;
 #[cfg(test)]
-mod limited;
-#[cfg(test)]
-mod lines;
-#[cfg(test)]
-mod marker;
-#[cfg(test)]
-mod partial;
-#[cfg(test)]
-mod picture;
-#[cfg(test)]
-mod report;
+mod known;

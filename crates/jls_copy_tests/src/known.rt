@@ -1,23 +1,23 @@
 //! Copies, and what each gives: worked out by hand from the formats or by another reader, not by this crate.
 
 /// A copy of a picture of four lines.
-pub(crate) const FOUR_LINES: &str =
+pub const FOUR_LINES: &str =
     "FF D8 FF F7 00 0B 08 00 04 00 04 01 01 11 00 FF DA 00 08 01 01 00 00 00 00 C0 00 00 6C 80 20 8E 01 C0 00 00 \
      57 40 00 00 6E E6 00 00 01 BC 18 00 00 05 D8 00 00 91 60 FF D9";
 
 /// A copy of ten lines, each an interval of its own.
-pub(crate) const TEN_LINES: &str =
+pub const TEN_LINES: &str =
     "FF D8 FF F7 00 0B 08 00 0A 00 01 01 01 11 00 FF DD 00 04 00 01 FF DA 00 08 01 01 00 00 00 00 80 FF D0 50 FF \
      D1 70 FF D2 28 FF D3 38 FF D4 14 FF D5 1C FF D6 0A FF D7 0E FF D0 05 FF D9";
 
 /// A copy of a large picture of which there are eight bytes FF 7F.
-pub(crate) const LARGE_PICTURE: &str =
+pub const LARGE_PICTURE: &str =
     "FF D8 FF F7 00 0B 08 10 00 FF FF 01 01 11 00 FF DA 00 08 01 01 00 00 00 00 FF 7F FF 7F FF 7F FF 7F FF 7F FF \
      7F FF 7F FF 7F FF D9";
 
 /// The bytes of a copy, and what it gives: its readings as component, line and samples, then each faulty piece as scan, interval,
 /// offset and kind, their number and the copy's end; or the fault for which it has no picture.
-pub(crate) const COPIES: [(&str, &str); 42] = [
+pub const COPIES: [(&str, &str); 42] = [
     // A picture of four lines.
     (
         FOUR_LINES,
@@ -241,7 +241,7 @@ pub(crate) const COPIES: [(&str, &str); 42] = [
 ];
 
 /// Precision, height and width of a picture of one component, the scan data before EOI, and what the copy gives.
-pub(crate) const INTERVALS: [(&str, &str, &str); 26] = [
+pub const INTERVALS: [(&str, &str, &str); 26] = [
     ("08 00 01 00 01", "80", "0.0=[0] | 0 Eoi(26)"),
     ("08 00 01 00 01", "40", "0.0=[255] | 0 Eoi(26)"),
     ("08 00 01 00 01", "50", "0.0=[1] | 0 Eoi(26)"),

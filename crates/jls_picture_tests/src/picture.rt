@@ -38,8 +38,10 @@ fn check(rt: &impl Abort, alloc: Global, lines: &Lines<'_>, file: &[u8]) -> Resu
             } else {
                 Err(OutputFault::Write(n as u64))
             };
-            assert_eq!(rt; result, wanted);
-            assert_eq!(rt; bytes.as_slice(), &file[..n]);
+            assert!(rt;
+                result == wanted && bytes.as_slice() == &file[..n],
+                "{n} bytes of {file:?}"
+            );
         }
     }
     Ok(())
@@ -145,7 +147,10 @@ fn fits(rt: HostRuntime) -> Result<(), Fail> {
     ] {
         let params = Params::new(precision, maxval, 0, 0, 0, 0)?;
         for (line, ri) in [(false, 0), (true, 1), (true, 65535)] {
-            assert_eq!(rt; Options::new(line, ri, params).fits(&picture), fits);
+            assert!(rt;
+                Options::new(line, ri, params).fits(&picture) == fits,
+                "{precision} {maxval}"
+            );
         }
     }
     Ok(())

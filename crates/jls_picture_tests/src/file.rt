@@ -63,8 +63,11 @@ fn check(rt: &impl Abort, alloc: Global, row: &Row<'_>) -> Result<(), Fail> {
             } else {
                 Err(OutputFault::Write(n as u64))
             };
-            assert_eq!(rt; result, wanted);
-            assert_eq!(rt; sink.held.as_slice(), &row.file[..n]);
+            assert!(rt;
+                result == wanted && sink.held.as_slice() == &row.file[..n],
+                "{n} bytes of {:?}",
+                row.file
+            );
         }
     }
     Ok(())

@@ -1,6 +1,6 @@
 //! Texts whose readings go straight into a partial picture.
 
-use super::{
+use crate::partial::{
     FIVE, MANY_READINGS, NO_READING, OTHER_SHAPE, OTHER_TWO_READINGS, THREE, TWO_READINGS,
 };
 use jls_partial::{MergeTextFault, Partial, TextFault};
@@ -9,7 +9,7 @@ use std::alloc::Global;
 use std::test::Fail;
 
 /// The text of what is held when a text was merged, and merged again.
-pub(super) fn merged(alloc: Global, held: &[u8], text: &[u8]) -> Result<Vec<u8>, Fail> {
+pub fn merged(alloc: Global, held: &[u8], text: &[u8]) -> Result<Vec<u8>, Fail> {
     let mut held = Partial::from_bytes(alloc, held)?;
     held.merge_text(alloc, text)?;
     held.merge_text(alloc, text)?;
@@ -26,16 +26,22 @@ fn every_other(alloc: Global, first: u16) -> Result<Vec<u8>, Fail> {
     Ok(text)
 }
 
+/// The picture that was read as each number.
+fn each_number(alloc: Global) -> Result<Partial, Fail> {
+    let mut partial = Partial::empty(alloc, Shape::new(16, 1, 1, &[1])?);
+    for sample in 0..2048u16 {
+        partial.insert(0, 0, &[sample])?;
+    }
+    Ok(partial)
+}
+
 #[test]
 fn gives_the_union_of_many_readings(rt: HostRuntime) -> Result<(), Fail> {
-    let mut wanted = Partial::empty(rt.alloc(), Shape::new(16, 1, 1, &[1])?);
-    for sample in 0..2048u16 {
-        wanted.insert(0, 0, &[sample])?;
-    }
     let mut held = Partial::empty(rt.alloc(), Shape::new(16, 1, 1, &[1])?);
-    held.merge_text(rt.alloc(), &every_other(rt.alloc(), 1)?)?;
-    held.merge_text(rt.alloc(), &every_other(rt.alloc(), 0)?)?;
-    assert!(rt; held == wanted);
+    for first in [1, 0] {
+        held.merge_text(rt.alloc(), &every_other(rt.alloc(), first)?)?;
+    }
+    assert!(rt; held == each_number(rt.alloc())?);
     Ok(())
 }
 
@@ -44,8 +50,8 @@ fn gives_the_union_of_many_readings(rt: HostRuntime) -> Result<(), Fail> {
 fn refuses_other_shapes(rt: HostRuntime) -> Result<(), Fail> {
     let mut partial = Partial::from_bytes(rt.alloc(), THREE)?;
     let answer = partial.merge_text(rt.alloc(), OTHER_SHAPE);
-    assert_eq!(rt; answer, Err(MergeTextFault::ShapeDiffers));
-    assert_eq!(rt; partial.to_bytes(rt.alloc())?.as_slice(), THREE);
+    assert!(rt; answer == Err(MergeTextFault::ShapeDiffers));
+    assert!(rt; partial.to_bytes(rt.alloc())?.as_slice() == THREE);
     Ok(())
 }
 
@@ -62,8 +68,14 @@ fn refuses_what_is_no_text(rt: HostRuntime) -> Result<(), Fail> {
     ] {
         let mut partial = Partial::from_bytes(rt.alloc(), held)?;
         let fault = MergeTextFault::Text(TextFault::Truncated(offset));
-        assert_eq!(rt; partial.merge_text(rt.alloc(), text), Err(fault));
-        assert_eq!(rt; partial.to_bytes(rt.alloc())?.as_slice(), left);
+        assert!(rt;
+            partial.merge_text(rt.alloc(), text) == Err(fault),
+            "{text:?}"
+        );
+        assert!(rt;
+            partial.to_bytes(rt.alloc())?.as_slice() == left,
+            "{text:?}"
+        );
     }
     Ok(())
 }

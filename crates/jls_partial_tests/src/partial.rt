@@ -1,7 +1,6 @@
-mod merged_texts;
-mod texts;
+//! Partial pictures whose texts were written out by hand: their readings, and the unions of two.
 
-use crate::partial::merged_texts::merged;
+use crate::merged_texts::merged;
 use jls_partial::{InsertFault, LineSet, Partial, Status};
 use jls_values::{Merge, MergeFault, Shape, merge_all};
 use std::alloc::Global;
@@ -9,22 +8,22 @@ use std::process::Abort;
 use std::test::Fail;
 
 /// One line of one sample, of which nothing is known.
-const NO_READING: &[u8] = b"JLSP\x02\x08\0\x01\0\x01\x01\x01\0\0\0\0";
+pub const NO_READING: &[u8] = b"JLSP\x02\x08\0\x01\0\x01\x01\x01\0\0\0\0";
 
 /// The line, which was read as 0.
 const ZERO: &[u8] =
     b"JLSP\x02\x08\0\x01\0\x01\x01\x01\0\0\0\x01\0\0\0\0\0\0\0\0\0\0\x01\0\0\0\0\0\0\0\0\0\0";
 
 /// As 3.
-const THREE: &[u8] =
+pub const THREE: &[u8] =
     b"JLSP\x02\x08\0\x01\0\x01\x01\x01\0\0\0\x01\0\0\0\0\0\0\0\0\0\0\x01\0\x03\0\0\0\0\0\0\0\0";
 
 /// As 5.
-const FIVE: &[u8] =
+pub const FIVE: &[u8] =
     b"JLSP\x02\x08\0\x01\0\x01\x01\x01\0\0\0\x01\0\0\0\0\0\0\0\0\0\0\x01\0\x05\0\0\0\0\0\0\0\0";
 
 /// As 3 and as 5, under no source.
-pub(crate) const TWO_READINGS: &[u8] =
+pub const TWO_READINGS: &[u8] =
     b"JLSP\x02\x08\0\x01\0\x01\x01\x01\0\0\0\x01\0\0\0\0\0\0\0\0\0\0\x02\0\x03\0\0\0\0\0\0\0\0\0\x05\0\0\0\0\0\0\0\0";
 
 /// As 3 under the source 2.
@@ -36,7 +35,7 @@ const SOURCE_7: &[u8] =
     b"JLSP\x02\x08\0\x01\0\x01\x01\x01\0\0\0\x01\0\0\0\0\0\0\0\0\0\0\x01\0\x03\0\0\0\0\0\0\0\x01\0\0\0\x07";
 
 /// As 3 under the sources 2 and 7.
-pub(crate) const TWO_SOURCES: &[u8] =
+pub const TWO_SOURCES: &[u8] =
     b"JLSP\x02\x08\0\x01\0\x01\x01\x01\0\0\0\x01\0\0\0\0\0\0\0\0\0\0\x01\0\x03\0\0\0\0\0\0\0\x02\0\0\0\x02\0\0\0\x07";
 
 /// As 3 under the sources 3, 7 and 9.
@@ -52,11 +51,11 @@ const ONE_SOURCE: &[u8] =
     b"JLSP\x02\x08\0\x01\0\x01\x01\x01\0\0\0\x01\0\0\0\0\0\0\0\0\0\0\x02\0\x03\0\0\0\0\0\0\0\x01\0\0\0\x07\0\x05\0\0\0\0\0\0\0\0";
 
 /// A line of a component with another identifier, which was read as 5.
-const OTHER_SHAPE: &[u8] =
+pub const OTHER_SHAPE: &[u8] =
     b"JLSP\x02\x08\0\x01\0\x01\x01\x02\0\0\0\x01\0\0\0\0\0\0\0\0\0\0\x01\0\x05\0\0\0\0\0\0\0\0";
 
 /// The same line, which was read as 3 and as 5.
-const OTHER_TWO_READINGS: &[u8] =
+pub const OTHER_TWO_READINGS: &[u8] =
     b"JLSP\x02\x08\0\x01\0\x01\x01\x02\0\0\0\x01\0\0\0\0\0\0\0\0\0\0\x02\0\x03\0\0\0\0\0\0\0\0\0\x05\0\0\0\0\0\0\0\0";
 
 /// Two lines of one sample, the second of which was read as 255.
@@ -77,7 +76,8 @@ const IN_BOTH: &[u8] =
       \x01\0\0\0\0\0\0\0\0\0\x01\0\x09\0\0\0\0\0\0\0\0";
 
 /// What stands before 1024 readings of one line of one sample of 16 bits.
-const MANY_READINGS: &[u8] = b"JLSP\x02\x10\0\x01\0\x01\x01\x01\0\0\0\x01\0\0\0\0\0\0\0\0\0\x04\0";
+pub const MANY_READINGS: &[u8] =
+    b"JLSP\x02\x10\0\x01\0\x01\x01\x01\0\0\0\x01\0\0\0\0\0\0\0\0\0\x04\0";
 
 /// What stands before the entries of ten lines of one sample.
 const TEN_LINES: [u8; 16] = [0x4A, 0x4C, 0x53, 0x50, 2, 8, 0, 1, 0, 10, 1, 1, 0, 0, 0, 10];
@@ -112,8 +112,14 @@ fn check_union(
     other: &[u8],
     joined: &[u8],
 ) -> Result<(), Fail> {
-    assert_eq!(rt; join_of(alloc, one, other)?.as_slice(), joined);
-    assert_eq!(rt; merged(alloc, one, other)?.as_slice(), joined);
+    assert!(rt;
+        join_of(alloc, one, other)?.as_slice() == joined,
+        "{joined:?}"
+    );
+    assert!(rt;
+        merged(alloc, one, other)?.as_slice() == joined,
+        "{joined:?}"
+    );
     Ok(())
 }
 
@@ -141,78 +147,101 @@ fn one_picture_or_two(rt: HostRuntime) -> Result<(), Fail> {
         (THREE, SOURCE_7, false),
         (SOURCE_7, SOURCE_7, true),
     ] {
-        assert_eq!(rt; are_equal(rt.alloc(), one, other)?, same);
+        assert!(rt;
+            are_equal(rt.alloc(), one, other)? == same,
+            "{one:?} {other:?}"
+        );
     }
     Ok(())
 }
 
-#[test]
-fn readings_and_sources_of_one_line(rt: HostRuntime) -> Result<(), Fail> {
-    let mut one = Partial::empty(rt.alloc(), Shape::new(8, 1, 1, &[1])?);
+/// A picture of one line of one sample of 8 bits, of which nothing is known.
+fn one_line(alloc: Global) -> Result<Partial, Fail> {
+    Ok(Partial::empty(alloc, Shape::new(8, 1, 1, &[1])?))
+}
+
+/// The line, which was read as 3, and marked twice.
+fn marked_twice(alloc: Global) -> Result<Partial, Fail> {
+    let mut one = one_line(alloc)?;
     one.insert(0, 0, &[3])?;
     one.mark(7)?;
     one.mark(7)?;
-    assert!(rt; !one.insert(0, 0, &[3])?);
-    assert!(rt; one.insert(0, 0, &[5])?);
-    assert_eq!(rt; one.to_bytes(rt.alloc())?.as_slice(), ONE_SOURCE);
-    assert_eq!(rt; one.count(0, 0), 2);
-    assert_eq!(rt; one.reading(0, 0, 0), [3].as_slice());
-    assert_eq!(rt; one.reading(0, 0, 1), [5].as_slice());
-    assert_eq!(rt; one.sources(0, 0, 0), [7].as_slice());
+    Ok(one)
+}
+
+#[test]
+fn readings_and_sources_of_one_line(rt: HostRuntime) -> Result<(), Fail> {
+    let mut one = marked_twice(rt.alloc())?;
+    assert!(rt; one.insert(0, 0, &[3]) == Ok(false));
+    assert!(rt; one.insert(0, 0, &[5]) == Ok(true));
+    assert!(rt; one.to_bytes(rt.alloc())?.as_slice() == ONE_SOURCE);
+    assert!(rt; one.count(0, 0) == 2);
+    assert!(rt; one.reading(0, 0, 0) == [3].as_slice());
+    assert!(rt; one.reading(0, 0, 1) == [5].as_slice());
+    assert!(rt; one.sources(0, 0, 0) == [7].as_slice());
     Ok(())
 }
 
 #[test]
 fn missing_settled_and_disputed(rt: HostRuntime) -> Result<(), Fail> {
-    let mut one = Partial::empty(rt.alloc(), Shape::new(8, 1, 1, &[1])?);
-    assert_eq!(rt;
-        (one.status(0, 0), one.is_settled()),
-        (Status::Missing, false)
-    );
+    let mut one = one_line(rt.alloc())?;
+    assert!(rt; one.status(0, 0) == Status::Missing && !one.is_settled());
     one.insert(0, 0, &[0])?;
-    assert_eq!(rt;
-        (one.status(0, 0), one.is_settled()),
-        (Status::Settled, true)
-    );
+    assert!(rt; one.status(0, 0) == Status::Settled && one.is_settled());
     one.insert(0, 0, &[5])?;
-    assert_eq!(rt;
-        (one.status(0, 0), one.is_settled()),
-        (Status::Disputed, false)
-    );
+    assert!(rt; one.status(0, 0) == Status::Disputed && !one.is_settled());
     Ok(())
+}
+
+/// A picture of ten lines, of which every other one, from this on, was read as its own number.
+fn half(alloc: Global, first: u16) -> Result<Partial, Fail> {
+    let mut partial = Partial::empty(alloc, Shape::new(8, 1, 10, &[1])?);
+    for line in 0..10u16 {
+        if line % 2 == first {
+            partial.insert(0, line, &[line])?;
+        }
+    }
+    Ok(partial)
+}
+
+/// The text of all ten lines.
+fn ten_lines_text(alloc: Global) -> Result<Vec<u8>, Fail> {
+    let mut text = Vec::from_slice(alloc, &TEN_LINES)?;
+    for line in 0..10u8 {
+        text.extend_from_slice(&[
+            0, 0, line, 0, 0, 0, 0, 0, 0, 0, 1, 0, line, 0, 0, 0, 0, 0, 0, 0, 0,
+        ])?;
+    }
+    Ok(text)
 }
 
 #[test]
 fn ten_lines_from_two_halves(rt: HostRuntime) -> Result<(), Fail> {
-    let mut odd = Partial::empty(rt.alloc(), Shape::new(8, 1, 10, &[1])?);
-    let mut even = Partial::empty(rt.alloc(), Shape::new(8, 1, 10, &[1])?);
-    let mut text = Vec::from_slice(rt.alloc(), &TEN_LINES)?;
-    for line in 0..10u8 {
-        if line % 2 == 0 {
-            even.insert(0, line as u16, &[line as u16])?;
-        } else {
-            odd.insert(0, line as u16, &[line as u16])?;
-        }
-        text.extend_from_slice(&[0, 0, line, 0, 0, 0, 0, 0, 0, 0, 1, 0, line])?;
-        text.extend_from_slice(&[0; 8])?;
-    }
-    odd.merge(&even)?;
+    let mut odd = half(rt.alloc(), 1)?;
+    odd.merge(&half(rt.alloc(), 0)?)?;
     assert!(rt; odd.is_settled());
-    assert_eq!(rt; odd.to_bytes(rt.alloc())?, text);
+    assert!(rt; odd.to_bytes(rt.alloc())? == ten_lines_text(rt.alloc())?);
     Ok(())
 }
 
 #[test]
 fn nothing_known_of_one_to_four_components(rt: HostRuntime) -> Result<(), Fail> {
-    let ids = [9u8, 7, 200, 0];
-    for count in 1..5usize {
-        let empty = Partial::empty(rt.alloc(), Shape::new(12, 513, 3, &ids[..count])?);
-        let mut text = Vec::new(rt.alloc());
-        text.extend_from_slice(&[0x4A, 0x4C, 0x53, 0x50, 2, 12, 2, 1, 0, 3, count as u8])?;
-        text.extend_from_slice(&ids[..count])?;
-        text.extend_from_slice(&[0, 0, 0, 0])?;
-        assert!(rt; Partial::from_bytes(rt.alloc(), &text)? == empty);
-        assert_eq!(rt; empty.to_bytes(rt.alloc())?, text);
+    let rows: [(&[u8], &[u8]); 4] = [
+        (&[9], b"JLSP\x02\x0C\x02\x01\0\x03\x01\x09\0\0\0\0"),
+        (&[9, 7], b"JLSP\x02\x0C\x02\x01\0\x03\x02\x09\x07\0\0\0\0"),
+        (
+            &[9, 7, 200],
+            b"JLSP\x02\x0C\x02\x01\0\x03\x03\x09\x07\xC8\0\0\0\0",
+        ),
+        (
+            &[9, 7, 200, 0],
+            b"JLSP\x02\x0C\x02\x01\0\x03\x04\x09\x07\xC8\0\0\0\0\0",
+        ),
+    ];
+    for (ids, text) in rows {
+        let empty = Partial::empty(rt.alloc(), Shape::new(12, 513, 3, ids)?);
+        assert!(rt; empty.to_bytes(rt.alloc())?.as_slice() == text);
+        assert!(rt; Partial::from_bytes(rt.alloc(), text)? == empty);
     }
     Ok(())
 }
@@ -228,9 +257,12 @@ fn refusals_in_order(rt: HostRuntime) -> Result<(), Fail> {
         (0, 1, &[255], Ok(true)),
         (0, 1, &[255], Ok(false)),
     ] {
-        assert_eq!(rt; one.insert(component, line, samples), wanted);
+        assert!(rt;
+            one.insert(component, line, samples) == wanted,
+            "{wanted:?}"
+        );
     }
-    assert_eq!(rt; one.to_bytes(rt.alloc())?.as_slice(), SECOND_LINE);
+    assert!(rt; one.to_bytes(rt.alloc())?.as_slice() == SECOND_LINE);
     Ok(())
 }
 
@@ -238,46 +270,58 @@ fn refusals_in_order(rt: HostRuntime) -> Result<(), Fail> {
 fn shapes_that_differ(rt: HostRuntime) -> Result<(), Fail> {
     let mut one = Partial::from_bytes(rt.alloc(), THREE)?;
     let other = Partial::from_bytes(rt.alloc(), OTHER_SHAPE)?;
-    assert_eq!(rt; one.merge(&other), Err(MergeFault::ShapeDiffers));
-    assert_eq!(rt; one.to_bytes(rt.alloc())?.as_slice(), THREE);
+    assert!(rt; one.merge(&other) == Err(MergeFault::ShapeDiffers));
+    assert!(rt; one.to_bytes(rt.alloc())?.as_slice() == THREE);
     Ok(())
 }
 
-/// The text of a picture of one sample that was read as each even number below 1024, in the order of the multiples of `step`, then
-/// marked, and then read as each odd one.
+/// Reads the line of a picture as each even number below 1024, or as each odd one, in the order of the multiples of `step`.
+fn insert_in_steps(one: &mut Partial, step: u16, odd: u16) -> Result<(), InsertFault> {
+    for number in 0..512u16 {
+        one.insert(0, 0, &[number.wrapping_mul(step) % 512 * 2 + odd % 2])?;
+    }
+    Ok(())
+}
+
+/// The text of a picture of one sample that was read as each even number below 1024, then marked, and then read as each odd one.
 fn read_in_steps(alloc: Global, step: u16) -> Result<Vec<u8>, Fail> {
     let mut one = Partial::empty(alloc, Shape::new(16, 1, 1, &[1])?);
-    for number in 0..512u16 {
-        one.insert(0, 0, &[number.wrapping_mul(step) % 512 * 2])?;
-    }
+    insert_in_steps(&mut one, step, 0)?;
     one.mark(7)?;
-    for number in 0..512u16 {
-        one.insert(0, 0, &[number.wrapping_mul(step) % 512 * 2 + 1])?;
-    }
+    insert_in_steps(&mut one, step, 1)?;
     Ok(one.to_bytes(alloc)?)
+}
+
+/// The text of these readings.
+fn marked_readings(alloc: Global) -> Result<Vec<u8>, Fail> {
+    let mut text = Vec::from_slice(alloc, MANY_READINGS)?;
+    for sample in 0..1024u16 {
+        let sources: &[u8] = if sample % 2 == 0 {
+            &[0, 0, 0, 0, 0, 0, 0, 1, 0, 0, 0, 7]
+        } else {
+            &[0, 0, 0, 0, 0, 0, 0, 0]
+        };
+        text.extend_from_slice(&sample.to_be_bytes())?;
+        text.extend_from_slice(sources)?;
+    }
+    Ok(text)
 }
 
 #[test]
 fn readings_of_one_line_in_any_order(rt: HostRuntime) -> Result<(), Fail> {
-    let mut text = Vec::from_slice(rt.alloc(), MANY_READINGS)?;
-    for sample in 0..1024u16 {
-        text.extend_from_slice(&sample.to_be_bytes())?;
-        text.extend_from_slice(&[0, 0, 0, 0, 0, 0, 0])?;
-        if sample % 2 == 0 {
-            text.extend_from_slice(&[1, 0, 0, 0, 7])?;
-        } else {
-            text.push(0)?;
-        }
-    }
+    let text = marked_readings(rt.alloc())?;
     // Rising, falling, and neither.
     for step in [1, 511, 195] {
-        assert_eq!(rt; read_in_steps(rt.alloc(), step)?, text);
+        assert!(rt;
+            read_in_steps(rt.alloc(), step)? == text,
+            "in steps of {step}"
+        );
     }
     Ok(())
 }
 
 #[test]
-fn lines_of_one_width(rt: HostRuntime) -> Result<(), Fail> {
+fn lines_of_one_width(rt: HostRuntime) {
     let mut lines = LineSet::empty(rt.alloc(), 8, 1);
     for (samples, wanted) in [
         (&[5u16][..], Ok(true)),
@@ -286,32 +330,46 @@ fn lines_of_one_width(rt: HostRuntime) -> Result<(), Fail> {
         (&[256], Err(InsertFault::Sample)),
         (&[256, 0], Err(InsertFault::Width)),
     ] {
-        assert_eq!(rt; lines.add(samples), wanted);
+        assert!(rt; lines.add(samples) == wanted, "{samples:?}");
     }
-    assert_eq!(rt; lines.len(), 2);
-    assert_eq!(rt; lines.get(0), [3].as_slice());
-    assert_eq!(rt; lines.get(1), [5].as_slice());
+    assert!(rt; lines.len() == 2);
+    assert!(rt; lines.get(0) == [3].as_slice());
+    assert!(rt; lines.get(1) == [5].as_slice());
     assert!(rt; lines.sources(1).is_empty());
-    Ok(())
+}
+
+/// The set of one line of one sample.
+fn line_of(alloc: Global, sample: u16) -> Result<LineSet, Fail> {
+    let mut lines = LineSet::empty(alloc, 8, 1);
+    lines.add(&[sample])?;
+    Ok(lines)
+}
+
+/// The set of the line 3, and that of both, which was merged.
+fn three_and_both(alloc: Global) -> Result<[LineSet; 2], Fail> {
+    let three = line_of(alloc, 3)?;
+    let mut both = line_of(alloc, 5)?;
+    both.merge(&three)?;
+    Ok([three, both])
 }
 
 #[test]
 fn line_sets_joined(rt: HostRuntime) -> Result<(), Fail> {
-    let mut three = LineSet::empty(rt.alloc(), 8, 1);
-    three.add(&[3])?;
-    let mut five = LineSet::empty(rt.alloc(), 8, 1);
-    five.add(&[5])?;
-    five.merge(&three)?;
-    let both = [three, five];
+    let sets = three_and_both(rt.alloc())?;
     let mut all = LineSet::empty(rt.alloc(), 8, 1);
-    merge_all(&mut all, &both)?;
-    assert_eq!(rt; all.len(), 2);
-    assert_eq!(rt; all.get(0), [3].as_slice());
-    assert_eq!(rt; all.get(1), [5].as_slice());
-    for (precision, width) in [(8, 2), (9, 1)] {
-        let mut other = LineSet::empty(rt.alloc(), precision, width);
-        assert_eq!(rt; merge_all(&mut other, &both), Err(MergeFault::ShapeDiffers));
-        assert_eq!(rt; other.len(), 0);
-    }
+    merge_all(&mut all, &sets)?;
+    assert!(rt; all.len() == 2);
+    assert!(rt; all.get(0) == [3].as_slice());
+    assert!(rt; all.get(1) == [5].as_slice());
+    check_other_shapes(&rt, rt.alloc(), &sets);
     Ok(())
+}
+
+/// A set of lines of another shape takes none of them.
+fn check_other_shapes(rt: &impl Abort, alloc: Global, sets: &[LineSet]) {
+    for (precision, width) in [(8, 2), (9, 1)] {
+        let mut other = LineSet::empty(alloc, precision, width);
+        assert!(rt; merge_all(&mut other, sets) == Err(MergeFault::ShapeDiffers));
+        assert!(rt; other.len() == 0);
+    }
 }

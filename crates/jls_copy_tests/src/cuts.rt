@@ -34,9 +34,14 @@ fn finds_a_cut_at_every_place_from_every_start(rt: HostRuntime) {
 
 #[test]
 fn finds_short_cuts(rt: HostRuntime) {
-    assert_eq!(rt; next_cut(&[0x12, 0xFF, 0x00, 0xFF, 0xD0], 0), Some(3));
-    assert_eq!(rt; next_cut(&[0x12, 0xFF, 0x00, 0xFF, 0xD0], 4), None);
-    assert_eq!(rt; next_cut(&[0xFF, 0xFF, 0xD0], 0), Some(0));
-    assert_eq!(rt; next_cut(&[0xFF], 0), None);
-    assert_eq!(rt; next_cut(&[], 7), None);
+    let rows: [(&[u8], usize, Option<usize>); 5] = [
+        (&[0x12, 0xFF, 0x00, 0xFF, 0xD0], 0, Some(3)),
+        (&[0x12, 0xFF, 0x00, 0xFF, 0xD0], 4, None),
+        (&[0xFF, 0xFF, 0xD0], 0, Some(0)),
+        (&[0xFF], 0, None),
+        (&[], 7, None),
+    ];
+    for (bytes, start, cut) in rows {
+        assert!(rt; next_cut(bytes, start) == cut, "{bytes:?}");
+    }
 }

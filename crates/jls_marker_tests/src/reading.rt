@@ -25,7 +25,7 @@ fn frames_are_judged_in_order(rt: HostRuntime) {
         (&[8, 0, 10, 0, 1, 1, 1, 0x21, 0], 3),
     ];
     for (payload, number) in rows {
-        assert_eq!(rt; fault_of(0xF7, payload), number);
+        assert!(rt; fault_of(0xF7, payload) == number, "{payload:?}");
     }
 }
 
@@ -50,7 +50,7 @@ fn scans_are_judged_in_order(rt: HostRuntime) {
         (&[1, 1, 0, 0, 0, 1], 9),
     ];
     for (payload, number) in rows {
-        assert_eq!(rt; fault_of(0xDA, payload), number);
+        assert!(rt; fault_of(0xDA, payload) == number, "{payload:?}");
     }
 }
 
@@ -74,8 +74,10 @@ fn other_segments_are_judged_in_order(rt: HostRuntime) {
         (0x00, &[], 14),
     ];
     for (code, payload, number) in rows {
-        assert_eq!(rt; fault_of(code, payload), number);
-        assert_eq!(rt; has_segment(code), number != 14);
+        assert!(rt;
+            fault_of(code, payload) == number && has_segment(code) == (number != 14),
+            "{code:x} {payload:?}"
+        );
     }
 }
 
@@ -102,7 +104,7 @@ fn faults_have_their_numbers(rt: HostRuntime) {
         (MarkerFault::NoMarker, 17),
         (MarkerFault::Ended, 19),
     ] {
-        assert_eq!(rt; fault.number(), number);
+        assert!(rt; fault.number() == number, "{number}");
     }
 }
 
@@ -116,6 +118,6 @@ fn selections_are_refused_in_order(rt: HostRuntime) {
         (&[1, 2, 3, 4], true, None),
     ];
     for (ids, line, fault) in rows {
-        assert_eq!(rt; ScanHead::new(ids, line).err(), fault);
+        assert!(rt; ScanHead::new(ids, line).err() == fault, "{ids:?}");
     }
 }

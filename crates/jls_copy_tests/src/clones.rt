@@ -1,7 +1,7 @@
 //! Readers that are cloned inside of a copy.
 
-use super::copies::{bytes_of, feed_piece, told};
-use super::known::COPIES;
+use crate::copies::{bytes_of, feed_piece, told};
+use crate::known::COPIES;
 use jls_copy::{CopyFault, CopyRead, CopyReader};
 use std::alloc::Global;
 use std::process::Abort;
@@ -52,9 +52,8 @@ fn check_clone(
     let (front, back) = bytes.split_at(place.min(bytes.len()));
     for of_clone in [false, true] {
         let read = told(alloc, read_of_pair(alloc, front, back, of_clone))?;
-        assert_eq!(rt;
-            read.as_str(),
-            wanted,
+        assert!(rt;
+            read.as_str() == wanted,
             "after {place} bytes, the clone: {of_clone}"
         );
     }
@@ -63,7 +62,7 @@ fn check_clone(
 
 #[test]
 fn clones_read_on_by_themselves(rt: HostRuntime) -> Result<(), Fail> {
-    for (text, wanted) in COPIES {
+    for &(text, wanted) in &COPIES {
         let bytes = bytes_of(rt.alloc(), text)?;
         for place in 0..=bytes.len() {
             check_clone(&rt, rt.alloc(), &bytes, place, wanted)?;

@@ -28,7 +28,7 @@ fn restart_intervals_take_the_fewest_bytes(rt: HostRuntime) -> Result<(), Fail> 
     ];
     for (rows, want) in rows {
         let bytes = bytes_of(rt.alloc(), &Segment::Restart(rows))?;
-        assert_eq!(rt; bytes.as_slice(), want);
+        assert!(rt; bytes.as_slice() == want, "{rows}");
     }
     Ok(())
 }
@@ -53,7 +53,7 @@ fn segments_stand_one_behind_the_other(rt: HostRuntime) -> Result<(), Fail> {
         0x00, 0xFF, 0xF8, 0x00, 0x0D, 0x01, 0x00, 0x0F, 0x00, 0x02, 0x00, 0x03, 0x00, 0x04, 0x00,
         0x40, 0xFF, 0xDA, 0x00, 0x0A, 0x02, 0x01, 0x00, 0x02, 0x00, 0x00, 0x01, 0x00,
     ];
-    assert_eq!(rt; bytes.as_slice(), want.as_slice());
+    assert!(rt; bytes.as_slice() == want.as_slice());
     Ok(())
 }
 
@@ -61,16 +61,12 @@ fn segments_stand_one_behind_the_other(rt: HostRuntime) -> Result<(), Fail> {
 fn charls_writes_one_component_alike(rt: HostRuntime) -> Result<(), Fail> {
     let frame = Segment::Frame(Shape::new(8, 4, 2, &[1])?);
     let scan = Segment::Scan(ScanHead::new(&[1], false)?);
-    assert_eq!(rt;
-        bytes_of(rt.alloc(), &frame)?.as_slice(),
-        [0xFF, 0xF7, 0, 0x0B, 8, 0, 2, 0, 4, 1, 1, 0x11, 0].as_slice()
-    );
-    assert_eq!(rt;
-        bytes_of(rt.alloc(), &scan)?.as_slice(),
-        [0xFF, 0xDA, 0, 8, 1, 1, 0, 0, 0, 0].as_slice()
-    );
-    assert!(rt; read_segment(0xF7, &[8, 0, 2, 0, 4, 1, 1, 0x11, 0]) == Ok(frame));
-    assert!(rt; read_segment(0xDA, &[1, 1, 0, 0, 0, 0]) == Ok(scan));
+    let frame_bytes: &[u8] = b"\xFF\xF7\0\x0B\x08\0\x02\0\x04\x01\x01\x11\0";
+    let scan_bytes: &[u8] = b"\xFF\xDA\0\x08\x01\x01\0\0\0\0";
+    assert!(rt; bytes_of(rt.alloc(), &frame)?.as_slice() == frame_bytes);
+    assert!(rt; bytes_of(rt.alloc(), &scan)?.as_slice() == scan_bytes);
+    assert!(rt; read_segment(0xF7, &frame_bytes[4..]) == Ok(frame));
+    assert!(rt; read_segment(0xDA, &scan_bytes[4..]) == Ok(scan));
     Ok(())
 }
 
@@ -80,14 +76,8 @@ fn charls_writes_three_components_alike(rt: HostRuntime) -> Result<(), Fail> {
     let scan = Segment::Scan(ScanHead::new(&[1, 2, 3], true)?);
     let frame_payload = [8, 0, 2, 0, 2, 3, 1, 0x11, 0, 2, 0x11, 0, 3, 0x11, 0];
     let scan_payload = [3, 1, 0, 2, 0, 3, 0, 0, 1, 0];
-    assert_eq!(rt;
-        bytes_of(rt.alloc(), &frame)?.get(4..),
-        Some(frame_payload.as_slice())
-    );
-    assert_eq!(rt;
-        bytes_of(rt.alloc(), &scan)?.get(4..),
-        Some(scan_payload.as_slice())
-    );
+    assert!(rt; bytes_of(rt.alloc(), &frame)?.get(4..) == Some(frame_payload.as_slice()));
+    assert!(rt; bytes_of(rt.alloc(), &scan)?.get(4..) == Some(scan_payload.as_slice()));
     assert!(rt; read_segment(0xF7, &frame_payload) == Ok(frame));
     assert!(rt; read_segment(0xDA, &scan_payload) == Ok(scan));
     Ok(())
@@ -103,10 +93,7 @@ fn charls_writes_preset_parameters_alike(rt: HostRuntime) -> Result<(), Fail> {
         reset: 32,
     };
     let payload = [1, 0x0F, 0xFF, 0, 0x12, 0, 0x43, 1, 0x14, 0, 0x20];
-    assert_eq!(rt;
-        bytes_of(rt.alloc(), &preset)?.get(4..),
-        Some(payload.as_slice())
-    );
+    assert!(rt; bytes_of(rt.alloc(), &preset)?.get(4..) == Some(payload.as_slice()));
     assert!(rt; read_segment(0xF8, &payload) == Ok(preset));
     Ok(())
 }

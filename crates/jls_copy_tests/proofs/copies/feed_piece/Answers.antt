@@ -1,6 +1,6 @@
 use Rattle.std.proofs.Common.{◌≡◌, ℕ, ◌+◌, ◌-◌, ◌≤◌, ◌^◌, List, length, Option, Some, None, arith}
 use Rattle.std.specs.Prelude.{IfSome}
-use Rattle.jls_copy_tests.proofs.copy.copies.feed_piece.Goals as goal
+use Rattle.jls_copy_tests.proofs.copies.feed_piece.Goals as goal
 
 counted : (fed more : ℕ) (o : Option (List ℕ)) → IfSome o (λ bytes. fed ≡ length bytes) → fed ≤ 1000000 → more ≤ 1000000
     → IfSome o (λ bytes. length bytes + more ≤ 2 ^ 63 - 1)

@@ -1,6 +1,6 @@
 //! Whole copies, read in slices of several sizes.
 
-use super::known::{COPIES, FOUR_LINES, INTERVALS, LARGE_PICTURE, TEN_LINES};
+use crate::known::{COPIES, FOUR_LINES, INTERVALS, LARGE_PICTURE, TEN_LINES};
 use jls_copy::{CopyFault, CopyRead, CopyReader, End, PieceKind, PieceRecord};
 use std::alloc::Global;
 use std::fmt::Write;
@@ -8,7 +8,7 @@ use std::process::Abort;
 use std::test::Fail;
 
 /// The bytes that hexadecimal digits spell.
-pub(crate) fn bytes_of(alloc: Global, text: &str) -> Result<Vec<u8>, Fail> {
+pub fn bytes_of(alloc: Global, text: &str) -> Result<Vec<u8>, Fail> {
     let mut bytes = Vec::new(alloc);
     for digits in text.split_whitespace() {
         bytes.push(u8::from_str_radix(digits, 16)?)?;
@@ -17,7 +17,7 @@ pub(crate) fn bytes_of(alloc: Global, text: &str) -> Result<Vec<u8>, Fail> {
 }
 
 /// Feeds a piece, of which no test has so many bytes that they could not be counted.
-pub(crate) fn feed_piece(reader: &mut CopyReader, piece: &[u8]) -> Result<(), CopyFault> {
+pub fn feed_piece(reader: &mut CopyReader, piece: &[u8]) -> Result<(), CopyFault> {
     let fed = reader.fed();
     if fed > 1_000_000 || piece.len() > 1_000_000 {
         return Err(CopyFault::OutOfMemory);
@@ -94,7 +94,7 @@ fn text_of(alloc: Global, read: &CopyRead) -> Result<String, Fail> {
 }
 
 /// What a copy gave, as a text: its readings, the records of its faulty pieces, and its end; or why it gave nothing.
-pub(crate) fn told(alloc: Global, read: Result<CopyRead, CopyFault>) -> Result<String, Fail> {
+pub fn told(alloc: Global, read: Result<CopyRead, CopyFault>) -> Result<String, Fail> {
     match read {
         Ok(read) => text_of(alloc, &read),
         Err(fault) => Ok(format!(in alloc; "{fault:?}")?),
@@ -105,7 +105,10 @@ pub(crate) fn told(alloc: Global, read: Result<CopyRead, CopyFault>) -> Result<S
 fn check_copy(rt: &impl Abort, alloc: Global, bytes: &[u8], wanted: &str) -> Result<(), Fail> {
     for size in SIZES {
         let read = read_in_pieces(alloc, bytes, size);
-        assert_eq!(rt; told(alloc, read)?.as_str(), wanted, "in slices of {size}");
+        assert!(rt;
+            told(alloc, read)?.as_str() == wanted,
+            "in slices of {size}: {wanted}"
+        );
     }
     Ok(())
 }
@@ -122,23 +125,37 @@ fn read_with_fill(alloc: Global, front: &[u8], back: &[u8]) -> Result<CopyRead, 
     reader.finish()
 }
 
+/// Copies, how many of their bytes stand before the fill, and what they give: the fill stands before the frame header, before EOI, and
+/// before a segment whose length is 1.
+const FILLED: [(&str, usize, &str); 3] = [
+    (
+        FOUR_LINES,
+        2,
+        "0.0=[0, 0, 90, 74] 0.1=[68, 50, 43, 205] 0.2=[64, 145, 145, 145] 0.3=[100, 145, 145, 145] | 0 Eoi(100055)",
+    ),
+    (
+        FOUR_LINES,
+        55,
+        "0.0=[0, 0, 90, 74] 0.1=[68, 50, 43, 205] 0.2=[64, 145, 145, 145] 0.3=[100, 145, 145, 145] | 0 Eoi(100055)",
+    ),
+    (
+        "FF D8 FF F7 00 0B 08 00 01 00 01 01 01 11 00 FF E0 00 01",
+        15,
+        "| 0 Header(Length, 100015)",
+    ),
+];
+
 #[test]
 fn many_fill_bytes(rt: HostRuntime) -> Result<(), Fail> {
     let alloc = rt.alloc();
-    // Before the frame header, before EOI, and before a segment whose length is 1: how many bytes stand before the fill, and what the
-    // copy gives.
-    let lines =
-        "0.0=[0, 0, 90, 74] 0.1=[68, 50, 43, 205] 0.2=[64, 145, 145, 145] 0.3=[100, 145, 145, 145] | 0 Eoi(100055)";
-    let short = "FF D8 FF F7 00 0B 08 00 01 00 01 01 01 11 00 FF E0 00 01";
-    for (text, count, wanted) in [
-        (FOUR_LINES, 2usize, lines),
-        (FOUR_LINES, 55, lines),
-        (short, 15, "| 0 Header(Length, 100015)"),
-    ] {
+    for &(text, count, wanted) in &FILLED {
         let bytes = bytes_of(alloc, text)?;
         let (front, back) = bytes.split_at(count.min(bytes.len()));
         let read = read_with_fill(alloc, front, back);
-        assert_eq!(rt; told(alloc, read)?.as_str(), wanted, "behind {count} bytes");
+        assert!(rt;
+            told(alloc, read)?.as_str() == wanted,
+            "behind {count} bytes"
+        );
     }
     Ok(())
 }
@@ -146,7 +163,7 @@ fn many_fill_bytes(rt: HostRuntime) -> Result<(), Fail> {
 #[test]
 fn copies_in_pieces_of_every_size(rt: HostRuntime) -> Result<(), Fail> {
     let alloc = rt.alloc();
-    for (text, wanted) in COPIES {
+    for &(text, wanted) in &COPIES {
         let bytes = bytes_of(alloc, text)?;
         check_copy(&rt, alloc, &bytes, wanted)?;
     }
@@ -156,32 +173,41 @@ fn copies_in_pieces_of_every_size(rt: HostRuntime) -> Result<(), Fail> {
 #[test]
 fn intervals_as_copies(rt: HostRuntime) -> Result<(), Fail> {
     let alloc = rt.alloc();
-    for (frame, data, wanted) in INTERVALS {
-        let text = format!(in alloc;
-            "FF D8 FF F7 00 0B {frame} 01 01 11 00 FF DA 00 08 01 01 00 00 00 00 {data} FF D9"
-        )?;
-        let bytes = bytes_of(alloc, &text)?;
+    for &(frame, data, wanted) in &INTERVALS {
+        let bytes = interval_of(alloc, frame, data)?;
         check_copy(&rt, alloc, &bytes, wanted)?;
     }
     Ok(())
+}
+
+/// The copy of one component with this precision, height and width, and this scan data.
+fn interval_of(alloc: Global, frame: &str, data: &str) -> Result<Vec<u8>, Fail> {
+    let text = format!(in alloc;
+        "FF D8 FF F7 00 0B {frame} 01 01 11 00 FF DA 00 08 01 01 00 00 00 00 {data} FF D9"
+    )?;
+    bytes_of(alloc, &text)
 }
 
 /// The first `end` bytes of the copy of ten lines with a restart interval each.
 #[test]
 fn copies_cut_anywhere(rt: HostRuntime) -> Result<(), Fail> {
     let alloc = rt.alloc();
+    let whole = bytes_of(alloc, TEN_LINES)?;
     for end in 0..=61usize {
-        let mut bytes = bytes_of(alloc, TEN_LINES)?;
-        bytes.truncate(end);
-        let wanted = match end {
-            0..=14 => format!(in alloc; "NoPicture(Ended, {end})")?,
-            15 | 21 => format!(in alloc; "| 0 Input({end})")?,
-            16..=30 => format!(in alloc; "| 0 Header(Ended, {end})")?,
-            _ => lines_and_end(alloc, end)?,
-        };
-        check_copy(&rt, alloc, &bytes, &wanted)?;
+        let bytes = &whole[..end.min(whole.len())];
+        check_copy(&rt, alloc, bytes, &read_of_front(alloc, end)?)?;
     }
     Ok(())
+}
+
+/// What these bytes give.
+fn read_of_front(alloc: Global, end: usize) -> Result<String, Fail> {
+    Ok(match end {
+        0..=14 => format!(in alloc; "NoPicture(Ended, {end})")?,
+        15 | 21 => format!(in alloc; "| 0 Input({end})")?,
+        16..=30 => format!(in alloc; "| 0 Header(Ended, {end})")?,
+        _ => lines_and_end(alloc, end)?,
+    })
 }
 
 /// What these bytes give, of which some are scan data: a line for each interval that is whole, and a record of one that has no byte yet.
@@ -210,10 +236,12 @@ fn a_large_picture_is_cut(rt: HostRuntime) -> Result<(), Fail> {
     let mut bytes = bytes_of(rt.alloc(), LARGE_PICTURE)?;
     bytes.truncate(41);
     let read = read_in_pieces(rt.alloc(), &bytes, 4096)?;
-    assert_eq!(rt; read.piece_count(), 1);
-    assert_eq!(rt; read.ended(), End::Input(41));
+    assert!(rt; read.piece_count() == 1 && read.ended() == End::Input(41));
     for line in 0..4096u16 {
-        assert_eq!(rt; lines_of(&read, line), if line < 45 { 1 } else { 0 });
+        assert!(rt;
+            lines_of(&read, line) == if line < 45 { 1 } else { 0 },
+            "line {line}"
+        );
     }
     Ok(())
 }
@@ -259,8 +287,7 @@ fn many_lines(rt: HostRuntime) -> Result<(), Fail> {
     let bytes = copy_of_lines(rt.alloc(), &[0x80])?;
     let read = read_in_pieces(rt.alloc(), &bytes, 4096)?;
     assert!(rt; read.partial().is_settled());
-    assert_eq!(rt; read.piece_count(), 0);
-    assert_eq!(rt; read.ended(), End::Eoi(15_029));
+    assert!(rt; read.piece_count() == 0 && read.ended() == End::Eoi(15_029));
     Ok(())
 }
 
@@ -274,53 +301,58 @@ fn many_faulty_pieces(rt: HostRuntime) -> Result<(), Fail> {
         offset: 8221,
         kind: PieceKind::Broken,
     };
-    assert_eq!(rt; read.pieces().len(), 4096);
-    assert_eq!(rt; read.pieces().last(), Some(&last));
-    assert_eq!(rt; read.piece_count(), 5000);
-    assert_eq!(rt; read.ended(), End::Eoi(10_029));
+    assert!(rt; read.pieces().len() == 4096);
+    assert!(rt; read.pieces().last() == Some(&last));
+    assert!(rt; read.piece_count() == 5000 && read.ended() == End::Eoi(10_029));
     Ok(())
 }
 
-#[test]
-fn a_long_comment(rt: HostRuntime) -> Result<(), Fail> {
-    let mut bytes = bytes_of(rt.alloc(), "FF D8 FF FE FF FF")?;
+/// A copy of one line of one sample behind a comment of 65,533 bytes.
+fn commented(alloc: Global) -> Result<Vec<u8>, Fail> {
+    let mut bytes = bytes_of(alloc, "FF D8 FF FE FF FF")?;
     for _ in 0..65_533u32 {
         bytes.push(0)?;
     }
     let picture = bytes_of(
-        rt.alloc(),
+        alloc,
         "FF F7 00 0B 08 00 01 00 01 01 01 11 00 FF DA 00 08 01 01 00 00 00 00 80 FF D9",
     )?;
     bytes.extend_from_slice(&picture)?;
+    Ok(bytes)
+}
+
+#[test]
+fn a_long_comment(rt: HostRuntime) -> Result<(), Fail> {
+    let bytes = commented(rt.alloc())?;
     let read = read_in_pieces(rt.alloc(), &bytes, 1000);
-    assert_eq!(rt; told(rt.alloc(), read)?.as_str(), "0.0=[0] | 0 Eoi(65563)");
+    assert!(rt; told(rt.alloc(), read)?.as_str() == "0.0=[0] | 0 Eoi(65563)");
     Ok(())
 }
 
-/// The copy of four lines, of which the input ends behind so many bytes of the scan data: 30 bytes and EOI.
+/// What the copy of four lines gives, of which the input ends behind so many bytes of the scan data: 30 bytes and EOI.
+fn read_of_cut(alloc: Global, left: usize) -> Result<String, Fail> {
+    let lines = match left {
+        0..6 => "",
+        6..17 => "0.0=[0, 0, 90, 74] ",
+        17..26 => "0.0=[0, 0, 90, 74] 0.1=[68, 50, 43, 205] ",
+        26..30 => "0.0=[0, 0, 90, 74] 0.1=[68, 50, 43, 205] 0.2=[64, 145, 145, 145] ",
+        _ =>
+            "0.0=[0, 0, 90, 74] 0.1=[68, 50, 43, 205] 0.2=[64, 145, 145, 145] 0.3=[100, 145, 145, 145] ",
+    };
+    let record = if left < 30 { "0 0 25 Broken; 1" } else { "0" };
+    let end = left.saturating_add(25);
+    Ok(format!(in alloc; "{lines}| {record} Input({end})")?)
+}
+
 #[test]
 fn cut_copies(rt: HostRuntime) -> Result<(), Fail> {
     let alloc = rt.alloc();
+    let whole = bytes_of(alloc, FOUR_LINES)?;
     for left in 0..=31usize {
-        let end = 25 + left;
-        let mut bytes = bytes_of(alloc, FOUR_LINES)?;
-        bytes.truncate(end);
-        let lines = match left {
-            0..6 => "",
-            6..17 => "0.0=[0, 0, 90, 74] ",
-            17..26 => "0.0=[0, 0, 90, 74] 0.1=[68, 50, 43, 205] ",
-            26..30 => "0.0=[0, 0, 90, 74] 0.1=[68, 50, 43, 205] 0.2=[64, 145, 145, 145] ",
-            _ =>
-                "0.0=[0, 0, 90, 74] 0.1=[68, 50, 43, 205] 0.2=[64, 145, 145, 145] 0.3=[100, 145, 145, 145] ",
-        };
-        let record = if left < 30 { "0 0 25 Broken; 1" } else { "0" };
-        let wanted = format!(in alloc; "{lines}| {record} Input({end})")?;
-        let read = read_in_pieces(alloc, &bytes, 5);
-        assert_eq!(rt;
-            told(alloc, read)?.as_str(),
-            wanted.as_str(),
-            "of the first {end} bytes"
-        );
+        let bytes = &whole[..(25 + left).min(whole.len())];
+        let read = told(alloc, read_in_pieces(alloc, bytes, 5))?;
+        let wanted = read_of_cut(alloc, left)?;
+        assert!(rt; read == wanted, "{left} bytes of scan data");
     }
     Ok(())
 }
