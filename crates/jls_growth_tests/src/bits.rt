@@ -1,7 +1,7 @@
 //! Writers of bits.
 
-use crate::met::{Met, Stopped, Tally};
 use jls_bits::{BitWriter, write_golomb};
+use jls_growth::{Met, Stopped, Tally};
 use std::alloc::{AllocError, Global};
 use std::process::Abort;
 
@@ -28,7 +28,7 @@ fn push_single_bits(rt: &impl Abort, alloc: Global, bytes: usize) -> Result<Met,
         for bit in A5 {
             if let Err(AllocError) = writer.push_bit(bit) {
                 met = Met::Refused;
-                assert_eq!(rt; writer.push_bit(bit), Ok(()));
+                assert!(rt; writer.push_bit(bit) == Ok(()));
             }
         }
     }
@@ -42,7 +42,7 @@ fn push_bit(rt: HostRuntime) {
     for bytes in [1, 500] {
         tally.note(&rt, push_single_bits(&rt, rt.alloc(), bytes));
     }
-    tally.end(&rt);
+    assert!(rt; tally.is_single());
 }
 
 /// Writes the byte A5 so many times, 4 at once behind one.
@@ -53,7 +53,7 @@ fn push_four_bytes(rt: &impl Abort, alloc: Global, count: usize) -> Result<Met, 
     for _ in 0..count {
         if let Err(AllocError) = writer.push_bits(0xA5A5_A5A5, 32) {
             met = Met::Refused;
-            assert_eq!(rt; writer.push_bits(0xA5A5_A5A5, 32), Ok(()));
+            assert!(rt; writer.push_bits(0xA5A5_A5A5, 32) == Ok(()));
         }
     }
     let bytes = count.saturating_mul(4).saturating_add(1);
@@ -67,7 +67,7 @@ fn push_bits(rt: HostRuntime) {
     for count in [1, 500] {
         tally.note(&rt, push_four_bytes(&rt, rt.alloc(), count));
     }
-    tally.end(&rt);
+    assert!(rt; tally.is_single());
 }
 
 /// Eight codes of the number 32 at k 2: eight zeros, a one and 00.
@@ -82,7 +82,7 @@ fn push_codes(rt: &impl Abort, alloc: Global, times: usize) -> Result<Met, Stopp
     for _ in 0..times.saturating_mul(8) {
         if let Err(AllocError) = write_golomb(&mut writer, 32, 2, 32, 8) {
             met = Met::Refused;
-            assert_eq!(rt; write_golomb(&mut writer, 32, 2, 32, 8), Ok(()));
+            assert!(rt; write_golomb(&mut writer, 32, 2, 32, 8) == Ok(()));
         }
     }
     assert!(rt; are_repeated(&writer.finish()?, &EIGHT_CODES, times));
@@ -95,7 +95,7 @@ fn golomb(rt: HostRuntime) {
     for times in [1, 100] {
         tally.note(&rt, push_codes(&rt, rt.alloc(), times));
     }
-    tally.end(&rt);
+    assert!(rt; tally.is_single());
 }
 
 /// A writer of so many ones.
@@ -119,7 +119,7 @@ fn finish_ones(rt: &impl Abort, alloc: Global, times: usize) -> Result<Met, Stop
     let bytes = ended?;
     let (front, last) = bytes.split_at(bytes.len().saturating_sub(1));
     assert!(rt; are_repeated(front, &[0xFF, 0x7F], times));
-    assert_eq!(rt; last, [0x80].as_slice());
+    assert!(rt; last == [0x80].as_slice());
     Ok(met)
 }
 
@@ -129,5 +129,5 @@ fn finish(rt: HostRuntime) {
     for times in 0..40 {
         tally.note(&rt, finish_ones(&rt, rt.alloc(), times));
     }
-    tally.end(&rt);
+    assert!(rt; tally.is_single());
 }

@@ -2,11 +2,10 @@
 
 ghost use Rattle.std.specs.Prelude.{◌≡◌};
 
-use crate::met::{Met, Stopped, Tally};
 use crate::readings::{CASES, Case, check_between};
-use crate::ten::{copy_of, lines_of};
 use jls_copy::{CopyFault, CopyReader};
 use jls_device::Counted;
+use jls_growth::{Met, Stopped, Tally, copy_of, lines_of};
 use jls_partial::Partial;
 use jls_station::{InputFault, InputRead, Station, TakeFault, read_input};
 use jls_values::{Merge, MergeFault};
@@ -27,7 +26,7 @@ fn check_refused(rt: &impl Abort, mut reader: CopyReader) {
     assert!(rt; feed_slice(&mut reader, &[0xFF, 0xD9]).is_err());
     match reader.finish() {
         Ok(_) => panic!(rt; "a reader that was refused has read a copy"),
-        Err(fault) => assert_eq!(rt; fault, CopyFault::OutOfMemory),
+        Err(fault) => assert!(rt; fault == CopyFault::OutOfMemory),
     }
 }
 
@@ -55,7 +54,7 @@ fn feed(rt: HostRuntime) {
     for (height, size) in [(1, 1), (10, 4096), (60, 7), (60, 4096)] {
         tally.note(&rt, feed_slices(&rt, rt.alloc(), height, size));
     }
-    tally.end(&rt);
+    assert!(rt; tally.is_single());
 }
 
 /// What a copy without its EOI gives: its last piece is read at the end of the input.
@@ -76,7 +75,7 @@ fn finish_one(rt: &impl Abort, alloc: Global, height: u16) -> Result<Met, Stoppe
     let mut read = read_cut(alloc, copy)?;
     if let Err(fault) = &read {
         met = Met::Refused;
-        assert_eq!(rt; *fault, CopyFault::OutOfMemory);
+        assert!(rt; *fault == CopyFault::OutOfMemory);
         read = read_cut(alloc, copy)?;
     }
     match read {
@@ -92,7 +91,7 @@ fn finish(rt: HostRuntime) {
     for height in [1, 10, 60] {
         tally.note(&rt, finish_one(&rt, rt.alloc(), height));
     }
-    tally.end(&rt);
+    assert!(rt; tally.is_single());
 }
 
 /// A station that holds the old readings takes others, and holds both.
@@ -108,9 +107,9 @@ fn take_other(
     let mut met = Met::Done;
     if let Err(fault) = station.take(other) {
         met = Met::Refused;
-        assert_eq!(rt; fault, MergeFault::OutOfMemory);
+        assert!(rt; fault == MergeFault::OutOfMemory);
         check_between(rt, alloc, old, station.partial(), union)?;
-        assert_eq!(rt; station.take(other), Ok(()));
+        assert!(rt; station.take(other) == Ok(()));
     }
     assert!(rt; *station.partial() == *union);
     Ok(met)
@@ -130,7 +129,7 @@ fn take(rt: HostRuntime) {
     for case in &CASES {
         tally.note(&rt, take_one(&rt, rt.alloc(), case));
     }
-    tally.end(&rt);
+    assert!(rt; tally.is_single());
 }
 
 /// The lines that a copy of so many lines gives, under the source 7.
@@ -175,9 +174,9 @@ fn take_bytes(
     let mut met = Met::Done;
     if let Err(fault) = take_seven(&mut station, copy) {
         met = Met::Refused;
-        assert_eq!(rt; fault, TakeFault::OutOfMemory);
+        assert!(rt; fault == TakeFault::OutOfMemory);
         check_between(rt, alloc, old, station.partial(), union)?;
-        assert_eq!(rt; take_seven(&mut station, copy), Ok(()));
+        assert!(rt; take_seven(&mut station, copy) == Ok(()));
     }
     assert!(rt; *station.partial() == *union);
     Ok(met)
@@ -197,7 +196,7 @@ fn take_copy(rt: HostRuntime) {
     for height in [1, 10, 60] {
         tally.note(&rt, take_copy_of(&rt, rt.alloc(), height));
     }
-    tally.end(&rt);
+    assert!(rt; tally.is_single());
 }
 
 /// What an input gives.
@@ -239,7 +238,7 @@ fn read_input_of_texts(rt: HostRuntime) {
     for case in &CASES {
         tally.note(&rt, read_text(&rt, rt.alloc(), case));
     }
-    tally.end(&rt);
+    assert!(rt; tally.is_single());
 }
 
 /// Reads a copy under the source 7.
@@ -255,5 +254,5 @@ fn read_input_of_copies(rt: HostRuntime) {
     for height in [1, 10, 60] {
         tally.note(&rt, read_copy(&rt, rt.alloc(), height));
     }
-    tally.end(&rt);
+    assert!(rt; tally.is_single());
 }

@@ -2,7 +2,7 @@
 
 ghost use Rattle.std.specs.Prelude.{◌*◌, ◌^◌, ◌≤◌};
 
-use crate::met::{Met, Stopped, Tally};
+use jls_growth::{FOUR_LINES, FOUR_LINES_CODE, Met, Stopped, Tally};
 use jls_interval::{CutEnd, IntervalDecoder, PieceFault, decode_interval, encode_interval, fits};
 use jls_values::Params;
 use std::alloc::{AllocError, Global};
@@ -16,20 +16,6 @@ struct Interval {
     lines: &'static [&'static [u16]],
     piece: &'static [u8],
 }
-
-/// Four lines.
-pub const FOUR_LINES: &[&[u16]] = &[
-    &[0, 0, 90, 74],
-    &[68, 50, 43, 205],
-    &[64, 145, 145, 145],
-    &[100, 145, 145, 145],
-];
-
-/// What CharLS writes them as.
-pub const FOUR_LINES_CODE: &[u8] = &[
-    0xC0, 0x00, 0x00, 0x6C, 0x80, 0x20, 0x8E, 0x01, 0xC0, 0x00, 0x00, 0x57, 0x40, 0x00, 0x00, 0x6E,
-    0xE6, 0x00, 0x00, 0x01, 0xBC, 0x18, 0x00, 0x00, 0x05, 0xD8, 0x00, 0x00, 0x91, 0x60,
-];
 
 /// A line of one zero.
 const ZERO: &[u16] = &[0];
@@ -115,7 +101,7 @@ fn encode_one(rt: &impl Abort, alloc: Global, interval: &Interval) -> Result<Met
         met = Met::Refused;
         bytes = encode_interval(alloc, &params, interval.width, 1, &lines);
     }
-    assert_eq!(rt; bytes?.as_slice(), interval.piece);
+    assert!(rt; bytes?.as_slice() == interval.piece);
     Ok(met)
 }
 
@@ -125,7 +111,7 @@ fn encode(rt: HostRuntime) {
     for interval in &INTERVALS {
         tally.note(&rt, encode_one(&rt, rt.alloc(), interval));
     }
-    tally.end(&rt);
+    assert!(rt; tally.is_single());
 }
 
 fn decode_one(rt: &impl Abort, alloc: Global, interval: &Interval) -> Result<Met, Stopped> {
@@ -133,7 +119,7 @@ fn decode_one(rt: &impl Abort, alloc: Global, interval: &Interval) -> Result<Met
     let mut read = interval.decoded(alloc)?;
     if let Err(fault) = &read {
         met = Met::Refused;
-        assert_eq!(rt; *fault, PieceFault::OutOfMemory);
+        assert!(rt; *fault == PieceFault::OutOfMemory);
         read = interval.decoded(alloc)?;
     }
     match read {
@@ -149,7 +135,7 @@ fn decode(rt: HostRuntime) {
     for interval in &INTERVALS {
         tally.note(&rt, decode_one(&rt, rt.alloc(), interval));
     }
-    tally.end(&rt);
+    assert!(rt; tally.is_single());
 }
 
 /// A decoder that was refused once is refused for good: the answer is out of memory, whatever it is asked.
@@ -158,7 +144,7 @@ fn check_refused(rt: &impl Abort, mut decoder: IntervalDecoder) {
     assert!(rt; decoder.push_all(&[0, 0, 0]).is_err());
     match decoder.finish() {
         Ok(_) => panic!(rt; "a decoder that was refused has lines"),
-        Err(fault) => assert_eq!(rt; fault, PieceFault::OutOfMemory),
+        Err(fault) => assert!(rt; fault == PieceFault::OutOfMemory),
     }
 }
 
@@ -196,7 +182,7 @@ fn push_all(rt: HostRuntime) {
             tally.note(&rt, push_slices(&rt, rt.alloc(), interval, size));
         }
     }
-    tally.end(&rt);
+    assert!(rt; tally.is_single());
 }
 
 /// Pushes a piece byte by byte.
@@ -218,7 +204,7 @@ fn push(rt: HostRuntime) {
     for interval in &INTERVALS {
         tally.note(&rt, push_bytes(&rt, rt.alloc(), interval));
     }
-    tally.end(&rt);
+    assert!(rt; tally.is_single());
 }
 
 /// Pushes a piece byte by byte, and asks for what stands whole where the input ends behind it.
@@ -245,5 +231,5 @@ fn finish_cut(rt: HostRuntime) {
     for interval in &INTERVALS {
         tally.note(&rt, cut_one(&rt, rt.alloc(), interval));
     }
-    tally.end(&rt);
+    assert!(rt; tally.is_single());
 }

@@ -10,24 +10,10 @@ mod copies;
 #[cfg(test)]
 mod interval;
 #[cfg(test)]
-mod met;
-#[cfg(test)]
-mod pairs;
-#[cfg(test)]
 mod partial;
 #[cfg(test)]
 mod readings;
 #[cfg(test)]
-mod room;
-#[cfg(test)]
-mod running;
-#[cfg(test)]
-mod searching;
-#[cfg(test)]
 mod sets;
-#[cfg(test)]
-mod splicing;
-#[cfg(test)]
-mod ten;
 #[cfg(test)]
 mod writing;

@@ -1,7 +1,7 @@
 //! Partial pictures and their texts.
 
-use crate::met::{Met, Stopped, Tally};
 use crate::readings::{CASES, Case, Readings, check_between};
+use jls_growth::{Met, Stopped, Tally};
 use jls_partial::{InsertFault, MergeTextFault, Partial, TextFault};
 use jls_values::{Merge, MergeFault, merge_all};
 use std::alloc::{AllocError, Global};
@@ -20,16 +20,16 @@ fn insert_one(
         Ok(added) => assert!(rt; added),
         Err(fault) => {
             met = Met::Refused;
-            assert_eq!(rt; fault, InsertFault::OutOfMemory);
+            assert!(rt; fault == InsertFault::OutOfMemory);
             assert!(rt;
                 *one == *twin,
                 "an insert that was refused has changed something"
             );
-            assert_eq!(rt; one.insert(0, line, samples), Ok(true));
+            assert!(rt; one.insert(0, line, samples) == Ok(true));
         }
     }
     twin.insert(0, line, samples)?;
-    assert_eq!(rt; one.insert(0, line, samples), Ok(false));
+    assert!(rt; one.insert(0, line, samples) == Ok(false));
     Ok(met)
 }
 
@@ -56,7 +56,7 @@ fn insert(rt: HostRuntime) {
     for case in CASES {
         tally.note(&rt, insert_all(&rt, rt.alloc(), case.both()));
     }
-    tally.end(&rt);
+    assert!(rt; tally.is_single());
 }
 
 /// What was held, what both are together, and what is held now.
@@ -88,9 +88,9 @@ fn merge_one(rt: &impl Abort, alloc: Global, case: &Case<'_>) -> Result<Met, Sto
     let other = case.taken().partial(alloc)?;
     if let Err(fault) = held.now.merge(&other) {
         met = Met::Refused;
-        assert_eq!(rt; fault, MergeFault::OutOfMemory);
+        assert!(rt; fault == MergeFault::OutOfMemory);
         held.check_refused(rt, alloc)?;
-        assert_eq!(rt; held.now.merge(&other), Ok(()));
+        assert!(rt; held.now.merge(&other) == Ok(()));
     }
     assert!(rt; held.now == held.union);
     Ok(met)
@@ -102,7 +102,7 @@ fn merge(rt: HostRuntime) {
     for case in &CASES {
         tally.note(&rt, merge_one(&rt, rt.alloc(), case));
     }
-    tally.end(&rt);
+    assert!(rt; tally.is_single());
 }
 
 /// Merges pictures with the same readings under two sources into one under none.
@@ -116,9 +116,9 @@ fn merge_sources(rt: &impl Abort, alloc: Global, case: &Case<'_>) -> Result<Met,
     ];
     if let Err(fault) = merge_all(&mut held.now, &others) {
         met = Met::Refused;
-        assert_eq!(rt; fault, MergeFault::OutOfMemory);
+        assert!(rt; fault == MergeFault::OutOfMemory);
         held.check_refused(rt, alloc)?;
-        assert_eq!(rt; merge_all(&mut held.now, &others), Ok(()));
+        assert!(rt; merge_all(&mut held.now, &others) == Ok(()));
     }
     assert!(rt; held.now == held.union);
     Ok(met)
@@ -130,7 +130,7 @@ fn merge_all_of_two(rt: HostRuntime) {
     for case in &CASES {
         tally.note(&rt, merge_sources(&rt, rt.alloc(), case));
     }
-    tally.end(&rt);
+    assert!(rt; tally.is_single());
 }
 
 /// Marks each reading with a source.
@@ -141,7 +141,7 @@ fn mark_one(rt: &impl Abort, alloc: Global, case: &Case<'_>) -> Result<Met, Stop
     if let Err(AllocError) = held.now.mark(7) {
         met = Met::Refused;
         held.check_refused(rt, alloc)?;
-        assert_eq!(rt; held.now.mark(7), Ok(()));
+        assert!(rt; held.now.mark(7) == Ok(()));
     }
     assert!(rt; held.now == held.union);
     Ok(met)
@@ -153,7 +153,7 @@ fn mark(rt: HostRuntime) {
     for case in &CASES {
         tally.note(&rt, mark_one(&rt, rt.alloc(), case));
     }
-    tally.end(&rt);
+    assert!(rt; tally.is_single());
 }
 
 /// Merges the text of a picture.
@@ -163,9 +163,9 @@ fn merge_text_of(rt: &impl Abort, alloc: Global, case: &Case<'_>) -> Result<Met,
     let text = case.taken().text(alloc)?;
     if let Err(fault) = held.now.merge_text(alloc, &text) {
         met = Met::Refused;
-        assert_eq!(rt; fault, MergeTextFault::Text(TextFault::OutOfMemory));
+        assert!(rt; fault == MergeTextFault::Text(TextFault::OutOfMemory));
         held.check_refused(rt, alloc)?;
-        assert_eq!(rt; held.now.merge_text(alloc, &text), Ok(()));
+        assert!(rt; held.now.merge_text(alloc, &text) == Ok(()));
     }
     assert!(rt; held.now == held.union);
     Ok(met)
@@ -177,7 +177,7 @@ fn merge_text(rt: HostRuntime) {
     for case in &CASES {
         tally.note(&rt, merge_text_of(&rt, rt.alloc(), case));
     }
-    tally.end(&rt);
+    assert!(rt; tally.is_single());
 }
 
 /// Reads the text of a picture that was put together reading by reading.
@@ -187,11 +187,11 @@ fn read_text(rt: &impl Abort, alloc: Global, case: &Case<'_>) -> Result<Met, Sto
     let mut read = Partial::from_bytes(alloc, &text);
     if let Err(fault) = &read {
         met = Met::Refused;
-        assert_eq!(rt; *fault, TextFault::OutOfMemory);
+        assert!(rt; *fault == TextFault::OutOfMemory);
         read = Partial::from_bytes(alloc, &text);
     }
     let read = read?;
-    assert_eq!(rt; read.to_bytes(alloc)?, text);
+    assert!(rt; read.to_bytes(alloc)? == text);
     Ok(met)
 }
 
@@ -201,7 +201,7 @@ fn from_bytes(rt: HostRuntime) {
     for case in &CASES {
         tally.note(&rt, read_text(&rt, rt.alloc(), case));
     }
-    tally.end(&rt);
+    assert!(rt; tally.is_single());
 }
 
 /// Writes the text of a picture.
@@ -224,5 +224,5 @@ fn to_bytes(rt: HostRuntime) {
     for case in &CASES {
         tally.note(&rt, write_text(&rt, rt.alloc(), case));
     }
-    tally.end(&rt);
+    assert!(rt; tally.is_single());
 }

@@ -1,6 +1,6 @@
 //! Sets of source numbers, and sets of lines.
 
-use crate::met::{Met, Stopped, Tally};
+use jls_growth::{Met, Stopped, Tally};
 use jls_partial::{InsertFault, LineSet};
 use jls_values::{Merge, MergeFault, SourceSet, merge_all};
 use std::alloc::{AllocError, Global};
@@ -43,7 +43,7 @@ fn add_sources(rt: &impl Abort, alloc: Global, count: u32) -> Result<Met, Stoppe
                     "{:?}",
                     set.as_slice()
                 );
-                assert_eq!(rt; set.add(last), Ok(true));
+                assert!(rt; set.add(last) == Ok(true));
             }
         }
     }
@@ -57,7 +57,7 @@ fn source_set_add(rt: HostRuntime) {
     for count in [1, 200] {
         tally.note(&rt, add_sources(&rt, rt.alloc(), count));
     }
-    tally.end(&rt);
+    assert!(rt; tally.is_single());
 }
 
 /// Merges the odd numbers into as many even ones.
@@ -67,9 +67,9 @@ fn merge_sources(rt: &impl Abort, alloc: Global, count: u32) -> Result<Met, Stop
     let odd = sources_from(alloc, 1, count)?;
     if let Err(fault) = set.merge(&odd) {
         met = Met::Refused;
-        assert_eq!(rt; fault, MergeFault::OutOfMemory);
+        assert!(rt; fault == MergeFault::OutOfMemory);
         assert!(rt; are(set.as_slice(), 0, 2, count), "{:?}", set.as_slice());
-        assert_eq!(rt; set.merge(&odd), Ok(()));
+        assert!(rt; set.merge(&odd) == Ok(()));
     }
     assert!(rt;
         are(set.as_slice(), 0, 1, count.wrapping_mul(2)),
@@ -85,7 +85,7 @@ fn source_set_merge(rt: HostRuntime) {
     for count in [1, 200] {
         tally.note(&rt, merge_sources(&rt, rt.alloc(), count));
     }
-    tally.end(&rt);
+    assert!(rt; tally.is_single());
 }
 
 /// A line of this width, of equal samples.
@@ -130,15 +130,15 @@ fn add_lines(rt: &impl Abort, alloc: Global, width: u16, count: u16) -> Result<M
             Ok(added) => assert!(rt; added),
             Err(fault) => {
                 met = Met::Refused;
-                assert_eq!(rt; fault, InsertFault::OutOfMemory);
-                assert_eq!(rt; lines.len(), i as usize);
+                assert!(rt; fault == InsertFault::OutOfMemory);
+                assert!(rt; lines.len() == i as usize);
                 assert!(rt; are_lines(&lines, width, 0, 1));
-                assert_eq!(rt; lines.add(&line), Ok(true));
+                assert!(rt; lines.add(&line) == Ok(true));
             }
         }
-        assert_eq!(rt; lines.add(&line), Ok(false));
+        assert!(rt; lines.add(&line) == Ok(false));
     }
-    assert_eq!(rt; lines.len(), count as usize);
+    assert!(rt; lines.len() == count as usize);
     assert!(rt; are_lines(&lines, width, 0, 1));
     Ok(met)
 }
@@ -152,7 +152,7 @@ fn line_set_add(rt: HostRuntime) {
     for (width, count) in SIZES {
         tally.note(&rt, add_lines(&rt, rt.alloc(), width, count));
     }
-    tally.end(&rt);
+    assert!(rt; tally.is_single());
 }
 
 /// Whether each line of even samples is still held, and there are no others than the other's.
@@ -176,11 +176,11 @@ fn merge_lines(rt: &impl Abort, alloc: Global, width: u16, count: u16) -> Result
     let odd = [lines_from(alloc, width, 1, count)?];
     if let Err(fault) = merge_all(&mut lines, &odd) {
         met = Met::Refused;
-        assert_eq!(rt; fault, MergeFault::OutOfMemory);
+        assert!(rt; fault == MergeFault::OutOfMemory);
         assert!(rt; hold_between(&lines, &even, &odd[0]));
-        assert_eq!(rt; merge_all(&mut lines, &odd), Ok(()));
+        assert!(rt; merge_all(&mut lines, &odd) == Ok(()));
     }
-    assert_eq!(rt; lines.len(), 2 * count as usize);
+    assert!(rt; lines.len() == 2 * count as usize);
     assert!(rt; are_lines(&lines, width, 0, 1));
     Ok(met)
 }
@@ -191,5 +191,5 @@ fn line_set_merge(rt: HostRuntime) {
     for (width, count) in SIZES {
         tally.note(&rt, merge_lines(&rt, rt.alloc(), width, count));
     }
-    tally.end(&rt);
+    assert!(rt; tally.is_single());
 }

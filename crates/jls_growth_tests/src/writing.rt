@@ -1,10 +1,8 @@
 //! What is written of a picture: segments, reports and files.
 
-use crate::met::{Met, Stopped, Tally};
-use crate::room::Room;
-use crate::ten::{copy_of, lines_of};
 use jls_device::Counted;
 use jls_file::write_jls;
+use jls_growth::{Met, Room, Stopped, Tally, copy_of, lines_of};
 use jls_marker::{Segment, write_segment};
 use jls_partial::Partial;
 use jls_picture::{Options, OutputFault, Picture};
@@ -22,16 +20,16 @@ fn write_segments(rt: &impl Abort, alloc: Global, count: usize) -> Result<Met, S
         let before = bytes.len();
         if let Err(AllocError) = write_segment(&mut bytes, &Segment::Restart(5)) {
             met = Met::Refused;
-            assert_eq!(rt; bytes.len(), before);
-            assert_eq!(rt; write_segment(&mut bytes, &Segment::Restart(5)), Ok(()));
+            assert!(rt; bytes.len() == before);
+            assert!(rt; write_segment(&mut bytes, &Segment::Restart(5)) == Ok(()));
         }
     }
     let mut segments = 0usize;
     for segment in bytes.chunks(6) {
-        assert_eq!(rt; segment, [0xFF, 0xDD, 0, 4, 0, 5].as_slice());
+        assert!(rt; segment == [0xFF, 0xDD, 0, 4, 0, 5].as_slice());
         segments = segments.saturating_add(1);
     }
-    assert_eq!(rt; segments, count);
+    assert!(rt; segments == count);
     Ok(met)
 }
 
@@ -41,7 +39,7 @@ fn segments(rt: HostRuntime) {
     for count in [1, 500] {
         tally.note(&rt, write_segments(&rt, rt.alloc(), count));
     }
-    tally.end(&rt);
+    assert!(rt; tally.is_single());
 }
 
 /// Every other line of a picture, from line 1 on, as 3 and as 5: each of these is disputed, and each other one missing.
@@ -82,7 +80,7 @@ fn report_one(rt: &impl Abort, alloc: Global, height: u16) -> Result<Met, Stoppe
         met = Met::Refused;
         report = Report::of(alloc, &partial);
     }
-    assert_eq!(rt; report?.to_text(alloc)?.as_slice(), text.as_bytes());
+    assert!(rt; report?.to_text(alloc)?.as_slice() == text.as_bytes());
     Ok(met)
 }
 
@@ -92,7 +90,7 @@ fn report(rt: HostRuntime) {
     for height in [1, 200] {
         tally.note(&rt, report_one(&rt, rt.alloc(), height));
     }
-    tally.end(&rt);
+    assert!(rt; tally.is_single());
 }
 
 fn print_one(rt: &impl Abort, alloc: Global, height: u16) -> Result<Met, Stopped> {
@@ -104,7 +102,7 @@ fn print_one(rt: &impl Abort, alloc: Global, height: u16) -> Result<Met, Stopped
         met = Met::Refused;
         text = report.to_text(alloc);
     }
-    assert_eq!(rt; text?.as_slice(), wanted.as_bytes());
+    assert!(rt; text?.as_slice() == wanted.as_bytes());
     Ok(met)
 }
 
@@ -114,7 +112,7 @@ fn to_text(rt: HostRuntime) {
     for height in [1, 200] {
         tally.note(&rt, print_one(&rt, rt.alloc(), height));
     }
-    tally.end(&rt);
+    assert!(rt; tally.is_single());
 }
 
 /// What goes out of the file of a picture, with a restart interval for each line, and the count that a refusal tells.
@@ -146,13 +144,13 @@ fn write_file(rt: &impl Abort, alloc: Global, height: u16) -> Result<Met, Stoppe
     let (mut refused, mut room) = written(rt, alloc, &partial)?;
     if let Some(count) = refused {
         met = Met::Refused;
-        assert_eq!(rt; Some(room.held()), file.get(..count as usize));
+        assert!(rt; Some(room.held()) == file.get(..count as usize));
         let again = written(rt, alloc, &partial)?;
         refused = again.0;
         room = again.1;
     }
-    assert_eq!(rt; refused, None);
-    assert_eq!(rt; room.held(), file.as_slice());
+    assert!(rt; refused == None);
+    assert!(rt; room.held() == file.as_slice());
     Ok(met)
 }
 
@@ -162,5 +160,5 @@ fn write_jls_of_lines(rt: HostRuntime) {
     for height in [1, 10, 60] {
         tally.note(&rt, write_file(&rt, rt.alloc(), height));
     }
-    tally.end(&rt);
+    assert!(rt; tally.is_single());
 }

@@ -1,7 +1,6 @@
 //! Files of known lines, and two damaged copies of each.
 
-use crate::interval::FOUR_LINES_CODE;
-use crate::ten::copy_of;
+use jls_growth::{FOUR_LINES_CODE, copy_of};
 use std::alloc::{AllocError, Global};
 
 /// What stands before the scan data of four lines of four samples, in one piece.

@@ -1,9 +1,8 @@
 //! The programs over a desk in memory.
 
-use crate::met::{Met, Stopped, Tally};
-use crate::room::{File, Files, Room};
-use crate::ten::{copy_of, lines_of, samples_of};
+use crate::files::{File, Files};
 use jls_device::Counted;
+use jls_growth::{Met, Room, Stopped, Tally, copy_of, lines_of, samples_of};
 use std::alloc::{AllocError, Global};
 use std::fmt::Write;
 use std::process::Abort;
@@ -224,7 +223,7 @@ fn run_rows(rt: &(impl Abort + Print), alloc: Global, call: &'static str, rows: 
             tally.note(rt, run_on(rt, alloc, height, row));
         }
     }
-    tally.end(rt);
+    assert!(rt; tally.is_single());
 }
 
 #[test]

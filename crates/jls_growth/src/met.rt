@@ -3,7 +3,6 @@
 use jls_partial::{InsertFault, TextFault};
 use jls_values::{MergeFault, ShapeFault};
 use std::alloc::{AllocError, AllocFailed};
-use std::process::Abort;
 
 /// How a call ended for which memory was there, or was refused once.
 #[derive(Clone, Copy)]
@@ -79,8 +78,8 @@ impl Tally {
         let _ = println!(rt; "{word} {call}");
     }
 
-    /// Ends the test: a call that says more than once that memory is wanting says so where none was refused.
-    pub fn end(self, rt: &impl Abort) {
-        assert!(rt; self.refusals <= 1, "{} refusals", self.refusals);
+    /// Whether there was one refusal at most: a call that says more than once that memory is wanting says so where none was refused.
+    pub fn is_single(&self) -> bool {
+        self.refusals <= 1
     }
 }

@@ -1,9 +1,8 @@
 //! Runs of `jls-splice` over two damaged copies.
 
-use crate::interval::FOUR_LINES;
-use crate::met::{Met, Stopped, Tally};
 use crate::pairs::{half_lost_pair, mended_pair};
 use crate::running::{Wanted, run_one};
+use jls_growth::{FOUR_LINES, Met, Stopped, Tally};
 use jls_partial::Partial;
 use jls_values::Shape;
 use std::alloc::Global;
@@ -79,7 +78,7 @@ fn run_over(rt: &impl Abort, alloc: Global, row: &Row) -> Result<Met, Stopped> {
 fn run_row(rt: &(impl Abort + Print), alloc: Global, call: &'static str, row: &Row) {
     let mut tally = Tally::of(call);
     tally.note(rt, run_over(rt, alloc, row));
-    tally.end(rt);
+    assert!(rt; tally.is_single());
 }
 
 #[test]

@@ -1,8 +1,8 @@
 //! Parts of copies, and the searches over their splices.
 
-use crate::met::{Met, Stopped, Tally};
 use crate::pairs::{half_lost_pair, mended_pair};
 use jls_group_search::complete_by_groups;
+use jls_growth::{Met, Stopped, Tally};
 use jls_parts::{Part, find_parts};
 use jls_splice::{are_short, search_copies};
 use std::alloc::{AllocError, Global};
@@ -44,7 +44,7 @@ fn find_one(rt: &impl Abort, alloc: Global) -> Result<Met, Stopped> {
         found = find_parts(alloc, &copies);
     }
     let parts = found?;
-    assert_eq!(rt; parts.len(), PARTS.len());
+    assert!(rt; parts.len() == PARTS.len());
     for (part, lengths) in parts.iter().zip(&PARTS) {
         assert!(rt; is_part(part, lengths), "{lengths:?}");
     }
@@ -55,7 +55,7 @@ fn find_one(rt: &impl Abort, alloc: Global) -> Result<Met, Stopped> {
 fn parts(rt: HostRuntime) {
     let mut tally = Tally::of("find_parts");
     tally.note(&rt, find_one(&rt, rt.alloc()));
-    tally.end(&rt);
+    assert!(rt; tally.is_single());
 }
 
 /// How many splices both searches come to.
@@ -83,7 +83,7 @@ fn search_one(rt: &impl Abort, alloc: Global, is_mended: bool) -> Result<Met, St
         met = Met::Refused;
         found = splices_of(alloc, &copies);
     }
-    assert_eq!(rt; found?, if is_mended { 1 } else { 2 });
+    assert!(rt; found? == (if is_mended { 1 } else { 2 }));
     Ok(met)
 }
 
@@ -93,5 +93,5 @@ fn searches(rt: HostRuntime) {
     for is_mended in [true, false] {
         tally.note(&rt, search_one(&rt, rt.alloc(), is_mended));
     }
-    tally.end(&rt);
+    assert!(rt; tally.is_single());
 }

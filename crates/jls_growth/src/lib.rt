@@ -1,0 +1,13 @@
+//! What the tests of growth share: a tally of refusals, pictures of numbered lines and their files, four lines and how CharLS writes them,
+//! and room that was reserved. No program stands on it.
+#![tactic(auto)]
+
+mod four;
+mod met;
+mod room;
+mod ten;
+
+pub use four::{FOUR_LINES, FOUR_LINES_CODE};
+pub use met::{Met, Stopped, Tally};
+pub use room::Room;
+pub use ten::{copy_of, lines_of, samples_of};
