@@ -18,13 +18,12 @@ use Rattle.jls_values.specs.OrderedSetLaws.{sorted-append}
 use Rattle.jls_partial.specs.declared.packed_lines.PackedLines.{PackedLines}
 use Rattle.jls_partial.specs.declared.line_place.LinePlace.{LinePlace}
 use Rattle.jls_partial.specs.declared.line_place.PageNumber.{PageNumber}
-use Rattle.jls_partial.specs.Held.{PutsAt, lines_or}
-use Rattle.jls_partial.specs.LineSet.{PictureLines}
+use Rattle.jls_partial.specs.LineSet.{PictureLines, no_lines}
 use Rattle.jls_partial.specs.PackedLines.{IsLineSet}
-use Rattle.jls_partial.specs.Pages.{Row, Pages, page_cmp, page_of, rows_of, IsPage, ArePages}
+use Rattle.jls_partial.specs.Pages.{Row, Pages, page_cmp, page_of, pages_seen, rows_of, IsPage, IsPageOf, ArePages, ArePagesOf}
 use Rattle.jls_partial.specs.LinePlace.{place_cmp}
 use Rattle.jls_partial.specs.ReadingOrder.{place_total, same_place}
-use Rattle.jls_partial.specs.Stored.{LineSlots, slots_of_entries, entries_in, AreRowsOf, Extends, lines_in}
+use Rattle.jls_partial.specs.Stored.{LineSlots, StoredLines, slots_of_entries, entries_in, rows_seen, stored_at, AreRowsOf, ChangesAt, Extends, lines_in}
 use Rattle.jls_partial.proofs.Entries.{each_by, lookup_by}
 use Rattle.jls_partial.proofs.StoredLines.{UpdatedBy, all_stay, still_packed, lookup_seen}
 
@@ -221,9 +220,19 @@ seen_page packed ps q are =
     ∙ sym (lookup_seen packed (rows_at ps q) q (lookup (is_at (place_cmp q)) (rows_at ps q)) refl)
 
 -- the lines of a place are those of its page
-pub lines_of_page : (packed : PackedLines) (ps : Pages) (at : LinePlace) (none : PictureLines) → ArePages ps
-    → lines_or none (entries_in packed (rows_of ps)) at ≡ lines_or none (entries_in packed (rows_at ps at)) at
-lines_of_page packed ps at none are = ap (λ (o : Option PictureLines). unwrap_or o none) (seen_page packed ps at are)
+pub lines_of_page : (packed : PackedLines) (ps : Pages) (at : LinePlace) → ArePages ps
+    → stored_at (pages_seen packed ps) at ≡ stored_at (rows_seen packed (rows_at ps at)) at
+lines_of_page packed ps at are = ap (λ (o : Option PictureLines). unwrap_or o (no_lines packed.precision packed.width)) (seen_page packed ps at are)
+
+pub lines_there : (packed : PackedLines) (ps : Pages) (at : LinePlace) (v : Vec Row Global) → ArePages ps → lookup (is_at (page_cmp (page_of at))) ps ≡ Some v
+    → stored_at (pages_seen packed ps) at ≡ stored_at (rows_seen packed v.items) at
+lines_there packed ps at v are found =
+    lines_of_page packed ps at are ∙ ap (λ (rows : List Row). stored_at (rows_seen packed rows) at) (rows_there ps at v found)
+
+pub lines_missed : (packed : PackedLines) (ps : Pages) (at : LinePlace) → ArePages ps → lookup (is_at (page_cmp (page_of at))) ps ≡ None
+    → stored_at (pages_seen packed ps) at ≡ no_lines packed.precision packed.width
+lines_missed packed ps at are missing =
+    lines_of_page packed ps at are ∙ ap (λ (rows : List Row). stored_at (rows_seen packed rows) at) (rows_missing ps at missing)
 
 abbrev P : PackedLines → LineSlots → Type 0
 P packed e = IsLineSet packed.precision packed.width packed.samples.items e.1
@@ -250,7 +259,7 @@ page_packed packed ps page v rows_packed found = record {
 
 -- ---- a page that is changed, or made
 
-module _ (old new : PackedLines) (longer : Extends old new) (es fs : Pages) (at : LinePlace) (v : Vec Row Global) (are : ArePages es) (rows_packed : AreRowsOf old (rows_of es)) (are_new : ArePages fs) (u : UpdatedBy page_cmp es (page_of at) v fs) where
+module _ (old new : PackedLines) (longer : Extends old new) (es fs : Pages) (at : LinePlace) (v : Vec Row Global) (pages : ArePagesOf old es) (are_new : ArePages fs) (u : UpdatedBy page_cmp es (page_of at) v fs) where
   -- a line of that page, or of another
   by_page : (G : Option PictureLines → Type 0) (q : LinePlace) → (page_of at ≡ page_of q → G (lookup (is_at (place_cmp q)) (entries_in new v.items)))
       → (is_at (place_cmp at) q ≡ false → G (lookup (is_at (place_cmp q)) (entries_in old (rows_of es)))) → G (lookup (is_at (place_cmp q)) (entries_in new (rows_of fs)))
@@ -258,43 +267,44 @@ module _ (old new : PackedLines) (longer : Extends old new) (es fs : Pages) (at 
       subst G (sym (seen_page new fs q are_new ∙ ap (λ (o : Option (Vec Row Global)). lookup (is_at (place_cmp q)) (entries_in new (items_or o))) (u (page_of q))))
       (elim (is_at (page_cmp (page_of at)) (page_of q)) as (λ b. is_at (page_cmp (page_of at)) (page_of q) ≡ b → G (lookup (is_at (place_cmp q)) (entries_in new (items_or (cond b (Some v) (lookup (is_at (page_cmp (page_of q))) es)))))) [
         | true ↦ λ e. here (same_page (page_of at) (page_of q) e)
-        | false ↦ λ e. subst G (sym (sym (seen_page new es q are) ∙ ap (lookup (is_at (place_cmp q))) (all_stay old new longer (slots_of_entries (rows_of es)) rows_packed))) (there (other_line at q e))
+        | false ↦ λ e. subst G (sym (sym (seen_page new es q pages.pages) ∙ ap (lookup (is_at (place_cmp q))) (all_stay old new longer (slots_of_entries (rows_of es)) pages.rows_packed))) (there (other_line at q e))
       ] refl)
 
-  -- the rows of the page afterwards
-  pub rows_now : rows_at fs at ≡ v.items
-  rows_now = ap items_or (u (page_of at) ∙ ap (λ b. cond b (Some v) (lookup (is_at (page_cmp (page_of at))) es)) (page_itself (page_of at)))
-
-  -- what the place has afterwards
-  pub lines_now : (none : PictureLines) → lines_or none (entries_in new (rows_of fs)) at ≡ lines_or none (entries_in new v.items) at
-  lines_now none = lines_of_page new fs at none are_new ∙ ap (λ (rows : List Row). lines_or none (entries_in new rows) at) rows_now
-
-  -- what was put into the page was put into the whole
-  pub puts_page : (none : PictureLines) → PutsAt (entries_in old (rows_at es at)) at (lines_or none (entries_in new v.items) at) (entries_in new v.items)
-      → PutsAt (entries_in old (rows_of es)) at (lines_or none (entries_in new (rows_of fs)) at) (entries_in new (rows_of fs))
-  puts_page none puts = λ q.
-      by_page (λ o. o ≡ cond (is_at (place_cmp at) q) (Some (lines_or none (entries_in new (rows_of fs)) at)) (lookup (is_at (place_cmp q)) (entries_in old (rows_of es)))) q
-      (λ same. puts q ∙ (λ i. cond (is_at (place_cmp at) q) (Some (sym (lines_now none) i)) (was q same i)))
-      (λ apart. sym (ap (λ b. cond b (Some (lines_or none (entries_in new (rows_of fs)) at)) (lookup (is_at (place_cmp q)) (entries_in old (rows_of es)))) apart))
+  -- what has changed in the page has changed in the whole
+  pub page_changes : (C : PictureLines → PictureLines → Type 0) → ChangesAt (rows_seen old (rows_at es at)) at C (rows_seen new v.items)
+      → ChangesAt (pages_seen old es) at C (pages_seen new fs)
+  page_changes C h = record {
+    precision = h.precision;
+    width = h.width;
+    lines = h.lines;
+    changed = subst (λ (L : PictureLines). C L h.lines) (sym (lines_of_page old es at pages.pages)) h.changed;
+    puts = λ q.
+        by_page (λ o. o ≡ cond (is_at (place_cmp at) q) (Some h.lines) (lookup (is_at (place_cmp q)) (entries_in old (rows_of es)))) q
+        (λ same. h.puts q ∙ ap (cond (is_at (place_cmp at) q) (Some h.lines)) (was q same))
+        (λ apart. sym (ap (λ b. cond b (Some h.lines) (lookup (is_at (place_cmp q)) (entries_in old (rows_of es)))) apart));
+  }
     where
       was : (q : LinePlace) → page_of at ≡ page_of q → lookup (is_at (place_cmp q)) (entries_in old (rows_at es at)) ≡ lookup (is_at (place_cmp q)) (entries_in old (rows_of es))
       was q same =
           ap (λ (page : PageNumber). lookup (is_at (place_cmp q)) (entries_in old (items_or (lookup (is_at (page_cmp page)) es)))) same
-          ∙ sym (seen_page old es q are)
+          ∙ sym (seen_page old es q pages.pages)
 
   -- and all is of what is packed
-  pub pages_packed : AreRowsOf new v.items → AreRowsOf new (rows_of fs)
+  pub pages_packed : IsPageOf new (page_of at) v.items → ArePagesOf new fs
   pages_packed page =
-      let still = still_packed old new longer (slots_of_entries (rows_of es)) rows_packed in
+      let still = still_packed old new longer (slots_of_entries (rows_of es)) pages.rows_packed in
       record {
-        precision_at_most = still.precision_at_most;
-        width_at_least = still.width_at_least;
-        each = all_pages fs (each_by page_total same_page (λ p. AllByRecursion (P new) (slots_of_entries p.1.items)) fs are_new.sorted (λ q.
-            subst (λ (o : Option (Vec Row Global)). IfSome o (λ w. AllByRecursion (P new) (slots_of_entries w.items))) (sym (u q))
-            (elim (is_at (page_cmp (page_of at)) q) as (λ b. IfSome (cond b (Some v) (lookup (is_at (page_cmp q)) es)) (λ w. AllByRecursion (P new) (slots_of_entries w.items))) [
-              | true ↦ page.each
-              | false ↦ lookup_by page_total same_page (λ p. AllByRecursion (P new) (slots_of_entries p.1.items)) es q (each_page new es still.each)
-            ])));
+        pages = are_new;
+        rows_packed = record {
+          precision_at_most = still.precision_at_most;
+          width_at_least = still.width_at_least;
+          each = all_pages fs (each_by page_total same_page (λ p. AllByRecursion (P new) (slots_of_entries p.1.items)) fs are_new.sorted (λ q.
+              subst (λ (o : Option (Vec Row Global)). IfSome o (λ w. AllByRecursion (P new) (slots_of_entries w.items))) (sym (u q))
+              (elim (is_at (page_cmp (page_of at)) q) as (λ b. IfSome (cond b (Some v) (lookup (is_at (page_cmp q)) es)) (λ w. AllByRecursion (P new) (slots_of_entries w.items))) [
+                | true ↦ page.rows_packed.each
+                | false ↦ lookup_by page_total same_page (λ p. AllByRecursion (P new) (slots_of_entries p.1.items)) es q (each_page new es still.each)
+              ])));
+        };
       }
     where
       joined : (xs ys : List Row) → AllByRecursion (P new) (slots_of_entries xs) → AllByRecursion (P new) (slots_of_entries ys) → AllByRecursion (P new) (slots_of_entries (xs ++ ys))
@@ -323,10 +333,12 @@ same_seen packed t (p ∷ ps) v h =
 -- such a page changes nothing
 pub page_same : (old new : PackedLines) → Extends old new → (es fs : Pages) (at : LinePlace) (w v : Vec Row Global) → AreRowsOf old (rows_of es)
     → lookup (is_at (page_cmp (page_of at))) es ≡ Some w → fs ≡ set_value (is_at (page_cmp (page_of at))) es v
-    → entries_in new v.items ≡ entries_in old w.items → entries_in new (rows_of fs) ≡ entries_in old (rows_of es)
+    → rows_seen new v.items ≡ rows_seen old w.items → pages_seen new fs ≡ pages_seen old es
 page_same old new longer es fs at w v rows_packed found is same =
     let t = is_at (page_cmp (page_of at)) in
     let before = all_stay old new longer (slots_of_entries w.items) (page_packed old es (page_of at) w rows_packed found) in
+    let entries =
     ap (λ (ps : Pages). entries_in new (rows_of ps)) is
-    ∙ same_seen new t es v (subst (λ (o : Option (Vec Row Global)). IfSome o (λ w. entries_in new v.items ≡ entries_in new w.items)) (sym found) (same ∙ sym before))
-    ∙ all_stay old new longer (slots_of_entries (rows_of es)) rows_packed
+    ∙ same_seen new t es v (subst (λ (o : Option (Vec Row Global)). IfSome o (λ w. entries_in new v.items ≡ entries_in new w.items)) (sym found) (ap (λ (s : StoredLines). s.entries) same ∙ sym before))
+    ∙ all_stay old new longer (slots_of_entries (rows_of es)) rows_packed in
+    λ i. record { precision = longer.precision i; width = longer.width i; entries = entries i }

@@ -8,8 +8,7 @@ use Rattle.std.specs.List.{AllByRecursion}
 use Rattle.std.specs.List.Sorted.{IsStrictlySortedBy}
 use Rattle.std.specs.Map.{lookup, set_value}
 use Rattle.std.specs.Option.{option_map}
-use Rattle.std.specs.Ordering.{nat_cmp, is_eq}
-use Rattle.std.proofs.lemmas.Cmp.{tied_itself}
+use Rattle.std.specs.Ordering.{nat_cmp}
 use Rattle.std.proofs.lemmas.List.{append-nil, length-append}
 use Rattle.std.proofs.lemmas.Map.Steps.{set_value_same}
 use Rattle.jls_values.specs.OrderedSet as set
@@ -25,8 +24,7 @@ use Rattle.jls_partial.specs.Marks.{marks_of}
 use Rattle.jls_partial.specs.Packed.{Kept, lines_of, IsGap}
 use Rattle.jls_partial.specs.PackedLines.{seen_lines, IsLineSet}
 use Rattle.jls_partial.specs.LinePlace.{place_cmp}
-use Rattle.jls_partial.specs.ReadingOrder.{place_total}
-use Rattle.jls_partial.specs.Stored.{LineSlots, slots_of_entries, seen_entries, AreSlotsPacked, Extends, lines_in}
+use Rattle.jls_partial.specs.Stored.{LineSlots, slots_of_entries, seen_entries, stored, stored_at, AreSlotsPacked, ChangesAt, Extends, lines_in}
 use Rattle.jls_partial.proofs.Entries.{each_from_lookup, lookup_from_each}
 use Rattle.jls_partial.proofs.LineSets.{none_kept, put_kept, put_seen, with_own, fitting_length, length_kept, marks_held}
 use Rattle.jls_partial.proofs.PackedLines.{lines_stay, kept_lines, inside_more}
@@ -128,21 +126,24 @@ module _ {X Y : Type 0} (f : X → Y) where
         | false ↦ ap (λ t. (e.0, f e.1) ∷ t) (set_value-map t es x)
       ]
 
--- what a place has afterwards
-pub updated_there : {X : Type 0} (es fs : List (LinePlace × X)) (at : LinePlace) (x : X) → Updated es at x fs → lookup (is_at (place_cmp at)) fs ≡ Some x
-updated_there es fs at x u = u at ∙ ap (λ b. cond b (Some x) (lookup (is_at (place_cmp at)) es)) (ap is_eq (tied_itself place_total at))
-
+-- the slots of a place are others now
 module _ (old new : PackedLines) (longer : Extends old new) (es fs : List LineSlots) (at : LinePlace) (slots : List Slot) (rows_packed : are_in old es) (u : Updated es at slots fs) where
-  pub there : (none : PictureLines) → lines_or none (seen_in new fs) at ≡ seen_lines new.precision new.width new.samples.items slots
-  there none =
-      ap (λ (o : Option PictureLines). unwrap_or o none)
-      (updated_there (seen_in new es) (seen_in new fs) at (seen_lines new.precision new.width new.samples.items slots)
-      (updated-map (seen_lines new.precision new.width new.samples.items) es fs at slots u))
-
-  pub puts_at : (none : PictureLines) → PutsAt (seen_in old es) at (lines_or none (seen_in new fs) at) (seen_in new fs)
-  puts_at none = λ q.
+  puts_at : PutsAt (seen_in old es) at (seen_lines new.precision new.width new.samples.items slots) (seen_in new fs)
+  puts_at = λ q.
       updated-map (seen_lines new.precision new.width new.samples.items) es fs at slots u q
-      ∙ (λ i. cond (is_at (place_cmp at) q) (Some (sym (there none) i)) (lookup (is_at (place_cmp q)) (all_stay old new longer es rows_packed i)))
+      ∙ ap (λ (xs : List LineEntry). cond (is_at (place_cmp at) q) (Some (seen_lines new.precision new.width new.samples.items slots)) (lookup (is_at (place_cmp q)) xs))
+      (all_stay old new longer es rows_packed)
+
+  -- so its lines have changed, and nothing elsewhere
+  pub changes_at : (C : PictureLines → PictureLines → Type 0) → C (stored_at (stored old (seen_in old es)) at) (seen_lines new.precision new.width new.samples.items slots)
+      → ChangesAt (stored old (seen_in old es)) at C (stored new (seen_in new fs))
+  changes_at C changed = record {
+    precision = longer.precision;
+    width = longer.width;
+    lines = seen_lines new.precision new.width new.samples.items slots;
+    changed = changed;
+    puts = puts_at;
+  }
 
   pub more_packed : IsLineSet new.precision new.width new.samples.items slots → IsStrictlySortedBy place_cmp (map (λ e. e.0) fs) → are_in new fs
   more_packed kept order =
@@ -206,19 +207,18 @@ entries_same es gs at x y found is same =
 
 -- ---- what is known of the lines of a place
 
-pub puts_line : (L L0 : PictureLines) (x ss : List ℕ) (packed : PackedLines) (slots : List Slot)
-    → L ≡ seen_lines packed.precision packed.width packed.samples.items slots
+pub puts_line : (L0 : PictureLines) (x ss : List ℕ) (packed : PackedLines) (slots : List Slot)
     → IsLineSet packed.precision packed.width packed.samples.items slots → length slots < 2 ^ 64
-    → seen_lines packed.precision packed.width packed.samples.items slots ≡ with_lines L0 ((x, ss) ∷ []) → PutsLine L0 x ss L
-puts_line L L0 x ss packed slots is kept small puts =
+    → seen_lines packed.precision packed.width packed.samples.items slots ≡ with_lines L0 ((x, ss) ∷ [])
+    → PutsLine L0 x ss (seen_lines packed.precision packed.width packed.samples.items slots)
+puts_line L0 x ss packed slots kept small puts =
     let now = seen_lines packed.precision packed.width packed.samples.items slots in
     let many = length_kept packed.precision packed.width packed.samples.items slots now kept (λ _. now) in
-    let fewer : length (set.items now.lines) < 2 ^ 64 = omega (arith, many, small) in
-    subst (PutsLine L0 x ss) (sym is) (record {
+    record {
       new_is = puts;
-      countable = fewer;
+      countable = omega (arith, many, small);
       marks_held = λ y t h. marks_held packed.precision packed.width packed.samples.items slots now (λ _. now) y t h;
-    })
+    }
 
 -- the first line of a place
 module _ (p w : ℕ) (packed x ss : List ℕ) (slots : List Slot) (narrow : p ≤ 16) (wide : 1 ≤ w) (fits : samples_fault p w x ≡ None) (is : slots ≡ record { start = length packed; sources = set.insert_all set.empty ss } ∷ []) where

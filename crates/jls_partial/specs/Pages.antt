@@ -11,7 +11,7 @@ use Rattle.jls_partial.specs.declared.packed_lines.PackedLines.{PackedLines}
 use Rattle.jls_partial.specs.declared.line_place.LinePlace.{LinePlace}
 use Rattle.jls_partial.specs.declared.line_place.PageNumber.{PageNumber}
 use Rattle.jls_partial.specs.LinePlace.{place_cmp}
-use Rattle.jls_partial.specs.Stored.{AreRowsOf}
+use Rattle.jls_partial.specs.Stored.{StoredLines, AreRowsOf, rows_seen}
 
 -- the slots of a line, with its place
 abbrev pub Row : Type 0
@@ -40,6 +40,11 @@ pub record IsPage (page : PageNumber) (rows : List Row) : Type 0 where
   pub sorted : IsStrictlySortedBy place_cmp (map (λ r. r.0) rows)
   pub own : AllByRecursion (λ r. page_of r.0 ≡ page) rows
 
+-- a page, whose rows are of what is packed
+pub record IsPageOf (packed : PackedLines) (number : PageNumber) (rows : List Row) : Type 0 where
+  pub page : IsPage number rows
+  pub rows_packed : AreRowsOf packed rows
+
 -- the pages rise
 pub record ArePages (ps : Pages) : Type 0 where
   pub sorted : IsStrictlySortedBy page_cmp (map (λ p. p.0) ps)
@@ -49,6 +54,10 @@ pub record ArePages (ps : Pages) : Type 0 where
 pub record ArePagesOf (packed : PackedLines) (ps : Pages) : Type 0 where
   pub pages : ArePages ps
   pub rows_packed : AreRowsOf packed (rows_of ps)
+
+-- what they keep of it
+abbrev pub pages_seen : PackedLines → Pages → StoredLines
+pages_seen packed ps = rows_seen packed (rows_of ps)
 
 -- the same of rows and pages that are left
 pub record AreRowsLeft (packed : PackedLines) (rows : List Row) (ps : Pages) : Type 0 where

@@ -1,15 +1,16 @@
 -- What the program's stores are seen as.
 use Rattle.std.specs.Coded.{Coded, code_by, coded×, coded_ℕ, coded_list}
 use Rattle.std.specs.List.{AllByRecursion}
-use Rattle.std.specs.Prelude.{◌≡◌, ℕ, ◌≤◌, List, ◌++◌, map, refl}
+use Rattle.std.specs.Prelude.{◌≡◌, ℕ, Bool, ◌≤◌, List, ◌++◌, map, refl}
+use Rattle.jls_values.specs.OrderedSet as set
 use Rattle.jls_partial.specs.declared.slots.Slots.{Slots}
 use Rattle.jls_partial.specs.declared.slots.Slot.{Slot}
 use Rattle.jls_partial.specs.declared.packed_lines.PackedLines.{PackedLines}
 use Rattle.jls_partial.specs.declared.line_place.LinePlace.{LinePlace}
 use Rattle.jls_values.specs.Shape.{PictureShape}
-use Rattle.jls_partial.specs.Held.{LineEntry, IsStore}
+use Rattle.jls_partial.specs.Held.{LineEntry, IsStore, PutsAt, PutsLine, MarksLine, lines_or}
 use Rattle.jls_partial.specs.Slots.{slots_of}
-use Rattle.jls_partial.specs.LineSet.{PictureLines, coded_lines}
+use Rattle.jls_partial.specs.LineSet.{PictureLines, coded_lines, no_lines}
 use Rattle.jls_partial.specs.PackedLines.{seen_lines, IsLineSet}
 
 -- the lines that slots have of what is packed
@@ -75,3 +76,30 @@ pub record IsStoreOf (shape : PictureShape) (store : StoredLines) : Type 0 where
 -- a store of what is packed, with these entries
 abbrev pub stored : PackedLines → List LineEntry → StoredLines
 stored packed entries = record { precision = packed.precision; width = packed.width; entries = entries }
+
+-- what rows keep of what is packed
+abbrev pub rows_seen : PackedLines → List (LinePlace × Slots) → StoredLines
+rows_seen packed rows = stored packed (entries_in packed rows)
+
+-- the lines that a store has at a place, and whether these samples are one of them
+abbrev pub stored_at : StoredLines → LinePlace → PictureLines
+stored_at store at = lines_or (no_lines store.precision store.width) store.entries at
+
+abbrev pub holds_line : StoredLines → LinePlace → List ℕ → Bool
+holds_line store at samples = set.contains (stored_at store at).lines samples
+
+-- at one place the lines have changed so, and elsewhere nothing has
+pub record ChangesAt (old : StoredLines) (at : LinePlace) (Change : PictureLines → PictureLines → Type 0) (new : StoredLines) : Type 0 where
+  pub precision : new.precision ≡ old.precision
+  pub width : new.width ≡ old.width
+  pub lines : PictureLines
+  pub changed : Change (stored_at old at) lines
+  pub puts : PutsAt old.entries at lines new.entries
+
+-- one line with its sources was put in at a place
+abbrev pub TakesLine : StoredLines → LinePlace → List ℕ → List ℕ → StoredLines → Type 0
+TakesLine old at samples sources new = ChangesAt old at (λ was now. PutsLine was samples sources now) new
+
+-- the line of a place that has i others below it got a source
+abbrev pub AddsSource : StoredLines → LinePlace → ℕ → ℕ → StoredLines → Type 0
+AddsSource old at i source new = ChangesAt old at (λ was now. MarksLine was i source now) new

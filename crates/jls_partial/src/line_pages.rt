@@ -1,17 +1,16 @@
 //! The lines of a picture in pages: lines that stand close together have their rows in one list.
 
-ghost use Rattle.jls_partial.specs.Held.{MarksLine, PutsAt, PutsLine, lines_or};
 ghost use Rattle.jls_partial.specs.InsertFaults.{samples_fault};
-ghost use Rattle.jls_partial.specs.LineSet.{no_lines};
-ghost use Rattle.jls_partial.specs.Packed.{IsGap};
-ghost use Rattle.jls_partial.specs.Pages.{ArePages, IsPage, page_cmp, page_of, rows_of};
 ghost use Rattle.jls_partial.specs.LinePlace.{place_cmp};
-ghost use Rattle.jls_partial.specs.Stored.{AreRowsOf, entries_in, Extends};
+ghost use Rattle.jls_partial.specs.Packed.{IsGap};
+ghost use Rattle.jls_partial.specs.Pages.{ArePages, ArePagesOf, IsPageOf, page_cmp, page_of, pages_seen, rows_of};
+ghost use Rattle.jls_partial.specs.Stored.{AddsSource, Extends, TakesLine, holds_line, stored_at, rows_seen};
 ghost use Rattle.jls_values.specs.OrderedSet as set;
 ghost use Rattle.std.specs.BTreeMap.{is_at};
 ghost use Rattle.std.specs.List.Sorted.{IsStrictlySortedBy};
 ghost use Rattle.std.specs.Map.{lookup};
-ghost use Rattle.std.specs.Prelude.{◌≡◌, ◌<◌, [], length, map, true, not, IfOk, IfErr, OnOk, OnErr, IsOk, None, option_copied, slice_index_or};
+ghost use Rattle.std.specs.Prelude.{◌≡◌, ◌<◌, [], length, map, true, not, IfOk, IfErr, OnOk, OnErr, IsOk, None};
+ghost use Rattle.std.specs.Prelude.{option_copied, slice_index_or};
 
 use crate::line_place::{LinePlace, PageNumber};
 use crate::packed_lines::PackedLines;
@@ -54,19 +53,13 @@ fn start_at(
     samples: &[u16],
     sources: &[u32],
 ) -> Result<bool, AllocError>
-    requires pages { ArePages pages.old.entries }
-    requires rows_packed { AreRowsOf packed.old (rows_of pages.old.entries) }
+    requires pages { ArePagesOf packed.old pages.old.entries }
     requires fits { samples_fault packed.old.precision packed.old.width samples.now ≡ None }
     requires none { lookup (is_at (page_cmp (page_of at))) pages.old.entries ≡ None }
-    ensures extends { Extends packed.old packed.new }
-    ensures pages { ArePages pages.new.entries }
-    ensures rows_packed { AreRowsOf packed.new (rows_of pages.new.entries) }
-    ensures ok { OnOk result (PutsAt (entries_in packed.old (rows_of pages.old.entries)) at
-        (lines_or (no_lines packed.old.precision packed.old.width) (entries_in packed.new (rows_of pages.new.entries)) at)
-        (entries_in packed.new (rows_of pages.new.entries))) }
-    ensures lines { OnOk result (PutsLine (no_lines packed.old.precision packed.old.width) samples.now sources.now
-        (lines_or (no_lines packed.old.precision packed.old.width) (entries_in packed.new (rows_of pages.new.entries)) at)) }
-    ensures err { OnErr result (entries_in packed.new (rows_of pages.new.entries) ≡ entries_in packed.old (rows_of pages.old.entries)) }
+    ensures pages { ArePagesOf packed.new pages.new.entries }
+    ensures ok { OnOk result (TakesLine (pages_seen packed.old pages.old.entries) at samples.now sources.now
+        (pages_seen packed.new pages.new.entries)) }
+    ensures err { OnErr result (pages_seen packed.new pages.new.entries ≡ pages_seen packed.old pages.old.entries) }
     ensures added { IfOk result (λ added. added ≡ true) }
 {
     let new = packed.room_for(sources)?;
@@ -86,24 +79,15 @@ fn take_row(
     samples: &[u16],
     sources: &[u32],
 ) -> Result<bool, AllocError>
-    requires page { IsPage (page_of at) rows.old.items }
-    requires rows_packed { AreRowsOf packed.old rows.old.items }
+    requires page { IsPageOf packed.old (page_of at) rows.old.items }
     requires fits { samples_fault packed.old.precision packed.old.width samples.now ≡ None }
     ensures extends { Extends packed.old packed.new }
-    ensures page { IsPage (page_of at) rows.new.items }
-    ensures rows_packed { AreRowsOf packed.new rows.new.items }
-    ensures ok { OnOk result (PutsAt (entries_in packed.old rows.old.items) at
-        (lines_or (no_lines packed.old.precision packed.old.width) (entries_in packed.new rows.new.items) at)
-        (entries_in packed.new rows.new.items)) }
-    ensures lines { OnOk result (PutsLine
-        (lines_or (no_lines packed.old.precision packed.old.width) (entries_in packed.old rows.old.items) at) samples.now sources.now
-        (lines_or (no_lines packed.old.precision packed.old.width) (entries_in packed.new rows.new.items) at)) }
-    ensures err { OnErr result (entries_in packed.new rows.new.items ≡ entries_in packed.old rows.old.items) }
-    ensures added { IfOk result (λ added. added ≡ not (set.contains
-        (lines_or (no_lines packed.old.precision packed.old.width) (entries_in packed.old rows.old.items) at).lines samples.now)) }
-    ensures no_memory { set.contains
-        (lines_or (no_lines packed.old.precision packed.old.width) (entries_in packed.old rows.old.items) at).lines samples.now ≡ true
-        → sources.now ≡ [] → IsOk result }
+    ensures page { IsPageOf packed.new (page_of at) rows.new.items }
+    ensures ok { OnOk result (TakesLine (rows_seen packed.old rows.old.items) at samples.now sources.now
+        (rows_seen packed.new rows.new.items)) }
+    ensures err { OnErr result (rows_seen packed.new rows.new.items ≡ rows_seen packed.old rows.old.items) }
+    ensures added { IfOk result (λ added. added ≡ not (holds_line (rows_seen packed.old rows.old.items) at samples.now)) }
+    ensures no_memory { holds_line (rows_seen packed.old rows.old.items) at samples.now ≡ true → sources.now ≡ [] → IsOk result }
 {
     match find_row(rows, at) {
         Ok(i) => {
@@ -130,26 +114,14 @@ pub(crate) fn take_at(
     samples: &[u16],
     sources: &[u32],
 ) -> Result<bool, AllocError>
-    requires pages { ArePages pages.old.entries }
-    requires rows_packed { AreRowsOf packed.old (rows_of pages.old.entries) }
+    requires pages { ArePagesOf packed.old pages.old.entries }
     requires fits { samples_fault packed.old.precision packed.old.width samples.now ≡ None }
-    ensures extends { Extends packed.old packed.new }
-    ensures pages { ArePages pages.new.entries }
-    ensures rows_packed { AreRowsOf packed.new (rows_of pages.new.entries) }
-    ensures ok { OnOk result (PutsAt (entries_in packed.old (rows_of pages.old.entries)) at
-        (lines_or (no_lines packed.old.precision packed.old.width) (entries_in packed.new (rows_of pages.new.entries)) at)
-        (entries_in packed.new (rows_of pages.new.entries))) }
-    ensures lines { OnOk result (PutsLine
-        (lines_or (no_lines packed.old.precision packed.old.width) (entries_in packed.old (rows_of pages.old.entries)) at)
-        samples.now sources.now
-        (lines_or (no_lines packed.old.precision packed.old.width) (entries_in packed.new (rows_of pages.new.entries)) at)) }
-    ensures err { OnErr result (entries_in packed.new (rows_of pages.new.entries) ≡ entries_in packed.old (rows_of pages.old.entries)) }
-    ensures added { IfOk result (λ added. added ≡ not (set.contains
-        (lines_or (no_lines packed.old.precision packed.old.width) (entries_in packed.old (rows_of pages.old.entries)) at).lines
-        samples.now)) }
-    ensures no_memory { set.contains
-        (lines_or (no_lines packed.old.precision packed.old.width) (entries_in packed.old (rows_of pages.old.entries)) at).lines
-        samples.now ≡ true → sources.now ≡ [] → IsOk result }
+    ensures pages { ArePagesOf packed.new pages.new.entries }
+    ensures ok { OnOk result (TakesLine (pages_seen packed.old pages.old.entries) at samples.now sources.now
+        (pages_seen packed.new pages.new.entries)) }
+    ensures err { OnErr result (pages_seen packed.new pages.new.entries ≡ pages_seen packed.old pages.old.entries) }
+    ensures added { IfOk result (λ added. added ≡ not (holds_line (pages_seen packed.old pages.old.entries) at samples.now)) }
+    ensures no_memory { holds_line (pages_seen packed.old pages.old.entries) at samples.now ≡ true → sources.now ≡ [] → IsOk result }
 {
     match pages.get_mut(&at.page()) {
         Some(rows) => take_row(packed, rows, at, samples, sources),
@@ -165,16 +137,11 @@ fn mark_row(
     i: usize,
     source: u32,
 ) -> Result<(), AllocError>
-    requires page { IsPage (page_of at) rows.old.items }
-    requires rows_packed { AreRowsOf packed.now rows.old.items }
-    requires within { i < length (set.items (lines_or (no_lines 0 0) (entries_in packed.now rows.old.items) at).lines) }
-    ensures page { IsPage (page_of at) rows.new.items }
-    ensures rows_packed { AreRowsOf packed.now rows.new.items }
-    ensures ok { OnOk result (PutsAt (entries_in packed.now rows.old.items) at
-        (lines_or (no_lines 0 0) (entries_in packed.now rows.new.items) at) (entries_in packed.now rows.new.items)) }
-    ensures lines { OnOk result (MarksLine (lines_or (no_lines 0 0) (entries_in packed.now rows.old.items) at) i source
-        (lines_or (no_lines 0 0) (entries_in packed.now rows.new.items) at)) }
-    ensures err { OnErr result (entries_in packed.now rows.new.items ≡ entries_in packed.now rows.old.items) }
+    requires page { IsPageOf packed.now (page_of at) rows.old.items }
+    requires within { i < length (set.items (stored_at (rows_seen packed.now rows.old.items) at).lines) }
+    ensures page { IsPageOf packed.now (page_of at) rows.new.items }
+    ensures ok { OnOk result (AddsSource (rows_seen packed.now rows.old.items) at i source (rows_seen packed.now rows.new.items)) }
+    ensures err { OnErr result (rows_seen packed.now rows.new.items ≡ rows_seen packed.now rows.old.items) }
 {
     match find_row(rows, at) {
         Ok(k) => packed.mark(&mut rows[k].1, i, source),
@@ -190,17 +157,11 @@ pub(crate) fn mark_at(
     i: usize,
     source: u32,
 ) -> Result<(), AllocError>
-    requires pages { ArePages pages.old.entries }
-    requires rows_packed { AreRowsOf packed.now (rows_of pages.old.entries) }
-    requires within { i < length (set.items (lines_or (no_lines 0 0) (entries_in packed.now (rows_of pages.old.entries)) at).lines) }
-    ensures pages { ArePages pages.new.entries }
-    ensures rows_packed { AreRowsOf packed.now (rows_of pages.new.entries) }
-    ensures ok { OnOk result (PutsAt (entries_in packed.now (rows_of pages.old.entries)) at
-        (lines_or (no_lines 0 0) (entries_in packed.now (rows_of pages.new.entries)) at)
-        (entries_in packed.now (rows_of pages.new.entries))) }
-    ensures lines { OnOk result (MarksLine (lines_or (no_lines 0 0) (entries_in packed.now (rows_of pages.old.entries)) at) i source
-        (lines_or (no_lines 0 0) (entries_in packed.now (rows_of pages.new.entries)) at)) }
-    ensures err { OnErr result (entries_in packed.now (rows_of pages.new.entries) ≡ entries_in packed.now (rows_of pages.old.entries)) }
+    requires pages { ArePagesOf packed.now pages.old.entries }
+    requires within { i < length (set.items (stored_at (pages_seen packed.now pages.old.entries) at).lines) }
+    ensures pages { ArePagesOf packed.now pages.new.entries }
+    ensures ok { OnOk result (AddsSource (pages_seen packed.now pages.old.entries) at i source (pages_seen packed.now pages.new.entries)) }
+    ensures err { OnErr result (pages_seen packed.now pages.new.entries ≡ pages_seen packed.now pages.old.entries) }
 {
     match pages.get_mut(&at.page()) {
         Some(rows) => mark_row(packed, rows, at, i, source),

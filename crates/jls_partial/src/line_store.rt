@@ -1,9 +1,8 @@
 //! What is kept of all lines of a picture, in one packed store.
 
-ghost use Rattle.jls_partial.specs.Held.{MarksLine, PutsAt, PutsLine, lines_or};
 ghost use Rattle.jls_partial.specs.InsertFaults.{samples_fault};
-ghost use Rattle.jls_partial.specs.LineSet.{no_lines};
 ghost use Rattle.jls_partial.specs.LinePlace.{place_cmp};
+ghost use Rattle.jls_partial.specs.Stored.{AddsSource, TakesLine, holds_line, stored_at};
 ghost use Rattle.jls_values.specs.OrderedSet as set;
 ghost use Rattle.std.specs.BTreeMap.{is_at};
 ghost use Rattle.std.specs.List.Sorted.{IsStrictlySortedBy};
@@ -29,14 +28,14 @@ pub(crate) struct Store {
 }
 
 impl Model for Store {
-    ghost use Rattle.jls_partial.specs.Pages.{ArePagesOf, rows_of};
-    ghost use Rattle.jls_partial.specs.Stored.{StoredLines, coded_stored, stored, entries_in};
+    ghost use Rattle.jls_partial.specs.Pages.{ArePagesOf, pages_seen};
+    ghost use Rattle.jls_partial.specs.Stored.{StoredLines, coded_stored};
 
     ghost Value = { StoredLines };
 
     ghost coded = { coded_stored };
 
-    ghost view = { λ a. stored a.packed (entries_in a.packed (rows_of a.pages.entries)) };
+    ghost view = { λ a. pages_seen a.packed a.pages.entries };
 
     ghost invariant = { λ a. ArePagesOf a.packed a.pages.entries };
 }
@@ -145,32 +144,20 @@ impl Store {
         sources: &[u32],
     ) -> Result<bool, AllocError>
         requires { samples_fault self.old.precision self.old.width samples.now ≡ None }
-        ensures precision { self.new.precision ≡ self.old.precision }
-        ensures width { self.new.width ≡ self.old.width }
         ensures ordered { OnOk result (IsStrictlySortedBy place_cmp (map (λ e. e.0) self.new.entries)) }
-        ensures ok { OnOk result (PutsAt self.old.entries at
-            (lines_or (no_lines self.old.precision self.old.width) self.new.entries at) self.new.entries) }
-        ensures lines { OnOk result (PutsLine (lines_or (no_lines self.old.precision self.old.width) self.old.entries at)
-            samples.now sources.now (lines_or (no_lines self.old.precision self.old.width) self.new.entries at)) }
+        ensures ok { OnOk result (TakesLine self.old at samples.now sources.now self.new) }
         ensures err { OnErr result (self.new ≡ self.old) }
-        ensures added { IfOk result (λ added. added ≡ not (set.contains
-            (lines_or (no_lines self.old.precision self.old.width) self.old.entries at).lines samples.now)) }
-        ensures no_memory { set.contains
-            (lines_or (no_lines self.old.precision self.old.width) self.old.entries at).lines samples.now ≡ true
-            → sources.now ≡ [] → IsOk result }
+        ensures added { IfOk result (λ added. added ≡ not (holds_line self.old at samples.now)) }
+        ensures no_memory { holds_line self.old at samples.now ≡ true → sources.now ≡ [] → IsOk result }
     {
         take_at(&mut self.packed, &mut self.pages, at, samples, sources)
     }
 
     /// Adds a source to the line of a place that has `i` others below it.
     pub(crate) fn mark(&mut self, at: LinePlace, i: usize, source: u32) -> Result<(), AllocError>
-        requires { i < length (set.items (lines_or (no_lines 0 0) self.old.entries at).lines) }
-        ensures precision { self.new.precision ≡ self.old.precision }
-        ensures width { self.new.width ≡ self.old.width }
+        requires { i < length (set.items (stored_at self.old at).lines) }
         ensures ordered { OnOk result (IsStrictlySortedBy place_cmp (map (λ e. e.0) self.new.entries)) }
-        ensures ok { OnOk result (PutsAt self.old.entries at (lines_or (no_lines 0 0) self.new.entries at) self.new.entries) }
-        ensures lines { OnOk result (MarksLine (lines_or (no_lines 0 0) self.old.entries at) i source
-            (lines_or (no_lines 0 0) self.new.entries at)) }
+        ensures ok { OnOk result (AddsSource self.old at i source self.new) }
         ensures err { OnErr result (self.new ≡ self.old) }
     {
         mark_at(&self.packed, &mut self.pages, at, i, source)

@@ -1,11 +1,11 @@
 //! A partial picture over its store. What stands here is all that knows how readings are kept.
 
 ghost use Rattle.jls_partial.specs.Entries.{at_place, partial_of};
-ghost use Rattle.jls_partial.specs.Held.{IsLineEntry, lines_or, kept_entry};
+ghost use Rattle.jls_partial.specs.Held.{IsLineEntry, kept_entry};
 ghost use Rattle.jls_partial.specs.InsertFaults.{reading_fault, Refuses};
-ghost use Rattle.jls_partial.specs.LineSet.{no_lines};
 ghost use Rattle.jls_partial.specs.Partial.{nothing_known, holds, with_reading, with_all, with_marks, readings_at, sources_at, IsFitting};
 ghost use Rattle.jls_partial.specs.Partial.{IsCountable, AreMarksHeld, AreSourcesSmall};
+ghost use Rattle.jls_partial.specs.Stored.{stored_at};
 ghost use Rattle.jls_partial.specs.Text.{entries};
 ghost use Rattle.jls_values.specs.OrderedSet as set;
 ghost use Rattle.std.specs.List.{AllByRecursion};
@@ -48,7 +48,7 @@ impl Model for Partial {
 
 /// How many readings are kept at a place.
 fn count_at(store: &Store, at: LinePlace) -> usize
-    ensures { result ≡ length (set.items (lines_or (no_lines 0 0) store.now.entries at).lines) }
+    ensures { result ≡ length (set.items (stored_at store.now at).lines) }
 {
     match store.lines_at(at) {
         Some(lines) => lines.len(),
@@ -58,8 +58,8 @@ fn count_at(store: &Store, at: LinePlace) -> usize
 
 /// What is kept at a place that has a reading.
 fn lines_at(store: &Store, at: LinePlace) -> Lines<'_>
-    requires { 0 < length (set.items (lines_or (no_lines 0 0) store.now.entries at).lines) }
-    ensures { result ≡ lines_or (no_lines 0 0) store.now.entries at }
+    requires { 0 < length (set.items (stored_at store.now at).lines) }
+    ensures { result ≡ stored_at store.now at }
 {
     match store.lines_at(at) {
         Some(lines) => lines,

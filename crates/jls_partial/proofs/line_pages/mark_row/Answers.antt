@@ -2,25 +2,25 @@ use Rattle.std.proofs.Common.{◌≡◌, ◌<◌, List, length, set, map, ap, sy
 use Rattle.std.specs.BTreeMap.{is_at}
 use Rattle.std.proofs.lemmas.Result.{on_ok_weaker, on_err_weaker}
 use Rattle.jls_values.specs.OrderedSet as sets
-use Rattle.jls_partial.specs.Held.{MarksLine, lines_or}
+use Rattle.jls_partial.specs.Held.{MarksLine}
 use Rattle.jls_partial.specs.Slots.{slots_of}
 use Rattle.jls_partial.specs.LineSet.{PictureLines, no_lines}
 use Rattle.jls_partial.specs.Packed.{IsGap}
 use Rattle.jls_partial.specs.Pages.{Row, page_of, IsPage}
 use Rattle.jls_partial.specs.LinePlace.{place_cmp}
-use Rattle.jls_partial.specs.Stored.{LineSlots, slots_of_entries, seen_entries, entries_in, lines_in}
+use Rattle.jls_partial.specs.Stored.{LineSlots, slots_of_entries, seen_entries, stored, stored_at, rows_seen, lines_in}
 use Rattle.jls_partial.proofs.LineSets.{length_kept}
 use Rattle.jls_partial.proofs.PageRows.{written, set_page, row_missing}
 use Rattle.jls_partial.proofs.Store.{no_items}
-use Rattle.jls_partial.proofs.StoredLines.{updated-map, there, puts_at, more_packed, lines_found, lines_missing, slots_found, entries_same, ordered_slots, itself}
+use Rattle.jls_partial.proofs.StoredLines.{updated-map, changes_at, more_packed, lines_found, lines_missing, slots_found, entries_same, ordered_slots, itself}
 use Rattle.jls_partial.proofs.line_pages.mark_row.Goals as goal
 
 pub mark-requires-clause-slots : goal.mark-requires-clause-slots
 mark-requires-clause-slots c =
     let rows = c.args.rows.now.items in
     let x = c.index_mut.result.now in
-    let w = written rows c.deref.result.now c.args.at c.in-Ok.k x x.1 c.deref.ensures.value c.requires.page.sorted c.in-Ok.ensures.found c.in-Ok.ensures.same c.index_mut.ensures.value in
-    slots_found c.args.packed.now rows c.args.at x.1 c.requires.rows_packed w.found
+    let w = written rows c.deref.result.now c.args.at c.in-Ok.k x x.1 c.deref.ensures.value c.requires.page.page.sorted c.in-Ok.ensures.found c.in-Ok.ensures.same c.index_mut.ensures.value in
+    slots_found c.args.packed.now rows c.args.at x.1 c.requires.page.rows_packed w.found
 
 pub mark-requires-clause-within : goal.mark-requires-clause-within
 mark-requires-clause-within c =
@@ -28,8 +28,8 @@ mark-requires-clause-within c =
     let rows = c.args.rows.now.items in
     let x = c.index_mut.result.now in
     let here = lines_in packed x.1 in
-    let w = written rows c.deref.result.now c.args.at c.in-Ok.k x x.1 c.deref.ensures.value c.requires.page.sorted c.in-Ok.ensures.found c.in-Ok.ensures.same c.index_mut.ensures.value in
-    let found = lines_found packed rows c.args.at x.1 (no_lines 0 0) w.found in
+    let w = written rows c.deref.result.now c.args.at c.in-Ok.k x x.1 c.deref.ensures.value c.requires.page.page.sorted c.in-Ok.ensures.found c.in-Ok.ensures.same c.index_mut.ensures.value in
+    let found = lines_found packed rows c.args.at x.1 (no_lines c.args.packed.now.precision c.args.packed.now.width) w.found in
     let below : c.args.i < length (sets.items here.lines) = subst (λ (L : PictureLines). c.args.i < length (sets.items L.lines)) found c.requires.within in
     let many = length_kept packed.precision packed.width packed.samples.items (slots_of x.1) here (mark-requires-clause-slots c) (λ _. here) in
     omega (arith, below, many)
@@ -41,8 +41,8 @@ unreachable-requires c =
     let at = c.args.at in
     let below = c.requires.within in
     let gap : IsGap place_cmp (map (λ (r : Row). r.0) rows) c.in-Err.field-0 at = subst (λ (rs : List Row). IsGap place_cmp (map (λ (r : Row). r.0) rs) c.in-Err.field-0 at) c.deref.ensures.value c.in-Err.ensures.gap in
-    let none : length (sets.items (lines_or (no_lines 0 0) (entries_in packed rows) at).lines) ≡ 0 =
-    ap (λ (L : PictureLines). length (sets.items L.lines)) (lines_missing packed rows at (no_lines 0 0) (row_missing rows at c.in-Err.field-0 gap)) ∙ ap length no_items in
+    let none : length (sets.items (stored_at (rows_seen packed rows) at).lines) ≡ 0 =
+    ap (λ (L : PictureLines). length (sets.items L.lines)) (lines_missing packed rows at (no_lines c.args.packed.now.precision c.args.packed.now.width) (row_missing rows at c.in-Err.field-0 gap)) ∙ ap length no_items in
     absurd (omega (arith, none, below))
 
 pub returns-clause-page : goal.returns-clause-page
@@ -53,20 +53,13 @@ returns-clause-page c =
     let x = c.index_mut.result.now in
     let y = c.mark.new.slots in
     let fs = set rows c.in-Ok.k (x.0, y) in
-    let w = written rows c.deref.result.now at c.in-Ok.k x y c.deref.ensures.value c.requires.page.sorted c.in-Ok.ensures.found c.in-Ok.ensures.same c.index_mut.ensures.value in
-    subst (IsPage (page_of at)) (sym w.is) (set_page (page_of at) rows (is_at (place_cmp at)) y c.requires.page)
-
-pub returns-clause-rows_packed : goal.returns-clause-rows_packed
-returns-clause-rows_packed c =
-    let packed = c.args.packed.now in
-    let rows = c.args.rows.now.items in
-    let at = c.args.at in
-    let x = c.index_mut.result.now in
-    let y = c.mark.new.slots in
-    let fs = set rows c.in-Ok.k (x.0, y) in
-    let w = written rows c.deref.result.now at c.in-Ok.k x y c.deref.ensures.value c.requires.page.sorted c.in-Ok.ensures.found c.in-Ok.ensures.same c.index_mut.ensures.value in
-    more_packed packed packed (itself packed) (slots_of_entries rows) (slots_of_entries fs) at (slots_of y) c.requires.rows_packed (updated-map slots_of rows fs at y w.updated) c.mark.ensures.slots
-    (ordered_slots fs (returns-clause-page c).sorted)
+    let w = written rows c.deref.result.now at c.in-Ok.k x y c.deref.ensures.value c.requires.page.page.sorted c.in-Ok.ensures.found c.in-Ok.ensures.same c.index_mut.ensures.value in
+    let page = subst (IsPage (page_of at)) (sym w.is) (set_page (page_of at) rows (is_at (place_cmp at)) y c.requires.page.page) in
+    record {
+      page = page;
+      rows_packed = more_packed packed packed (itself packed) (slots_of_entries rows) (slots_of_entries fs) at (slots_of y) c.requires.page.rows_packed (updated-map slots_of rows fs at y w.updated) c.mark.ensures.slots
+          (ordered_slots fs page.sorted);
+    }
 
 pub returns-clause-ok : goal.returns-clause-ok
 returns-clause-ok c =
@@ -76,25 +69,12 @@ returns-clause-ok c =
     let x = c.index_mut.result.now in
     let y = c.mark.new.slots in
     let fs = set rows c.in-Ok.k (x.0, y) in
-    let w = written rows c.deref.result.now at c.in-Ok.k x y c.deref.ensures.value c.requires.page.sorted c.in-Ok.ensures.found c.in-Ok.ensures.same c.index_mut.ensures.value in
+    let w = written rows c.deref.result.now at c.in-Ok.k x y c.deref.ensures.value c.requires.page.page.sorted c.in-Ok.ensures.found c.in-Ok.ensures.same c.index_mut.ensures.value in
+    let found = lines_found packed rows at x.1 (no_lines packed.precision packed.width) w.found in
     on_ok_weaker c.mark.result
-    (λ _. puts_at packed packed (itself packed) (slots_of_entries rows) (slots_of_entries fs) at (slots_of y) c.requires.rows_packed (updated-map slots_of rows fs at y w.updated) (no_lines 0 0))
-    c.mark.ensures.ok
-
-pub returns-clause-lines : goal.returns-clause-lines
-returns-clause-lines c =
-    let packed = c.args.packed.now in
-    let rows = c.args.rows.now.items in
-    let at = c.args.at in
-    let x = c.index_mut.result.now in
-    let y = c.mark.new.slots in
-    let fs = set rows c.in-Ok.k (x.0, y) in
-    let w = written rows c.deref.result.now at c.in-Ok.k x y c.deref.ensures.value c.requires.page.sorted c.in-Ok.ensures.found c.in-Ok.ensures.same c.index_mut.ensures.value in
-    let found = lines_found packed rows at x.1 (no_lines 0 0) w.found in
-    let is = there packed packed (itself packed) (slots_of_entries rows) (slots_of_entries fs) at (slots_of y) c.requires.rows_packed (updated-map slots_of rows fs at y w.updated) (no_lines 0 0) in
-    on_ok_weaker c.mark.result
-    (λ marks. subst (λ (L : PictureLines). MarksLine L c.args.i c.args.source (lines_or (no_lines 0 0) (entries_in packed fs) at)) (sym found)
-    (subst (λ (L : PictureLines). MarksLine (lines_in packed x.1) c.args.i c.args.source L) (sym is) marks))
+    (λ marks. changes_at packed packed (itself packed) (slots_of_entries rows) (slots_of_entries fs) at (slots_of y) c.requires.page.rows_packed (updated-map slots_of rows fs at y w.updated)
+    (λ was now. MarksLine was c.args.i c.args.source now)
+    (subst (λ (L : PictureLines). MarksLine L c.args.i c.args.source (lines_in packed y)) (sym found) marks))
     c.mark.ensures.ok
 
 pub returns-clause-err : goal.returns-clause-err
@@ -105,7 +85,7 @@ returns-clause-err c =
     let x = c.index_mut.result.now in
     let y = c.mark.new.slots in
     let fs = set rows c.in-Ok.k (x.0, y) in
-    let w = written rows c.deref.result.now at c.in-Ok.k x y c.deref.ensures.value c.requires.page.sorted c.in-Ok.ensures.found c.in-Ok.ensures.same c.index_mut.ensures.value in
+    let w = written rows c.deref.result.now at c.in-Ok.k x y c.deref.ensures.value c.requires.page.page.sorted c.in-Ok.ensures.found c.in-Ok.ensures.same c.index_mut.ensures.value in
     on_err_weaker c.mark.result
-    (λ same. ap (λ (ss : List LineSlots). seen_entries packed.precision packed.width packed.samples.items ss) (entries_same rows fs at x.1 y w.found w.is same))
+    (λ same. ap (λ (ss : List LineSlots). stored packed (seen_entries packed.precision packed.width packed.samples.items ss)) (entries_same rows fs at x.1 y w.found w.is same))
     c.mark.ensures.err

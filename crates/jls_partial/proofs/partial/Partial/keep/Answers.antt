@@ -1,10 +1,9 @@
 use Rattle.std.proofs.Common.{◌≡◌, ◌∙◌, ◌∷◌, [], ℕ, List, refl, not, true, false, length, ap, sym, subst, None, arith}
 use Rattle.std.specs.Prelude.{nat_le}
 use Rattle.jls_partial.specs.Entries.{at_place}
-use Rattle.jls_partial.specs.Held.{lines_or}
 use Rattle.jls_partial.specs.InsertFaults.{reading_fault, samples_fault}
-use Rattle.jls_partial.specs.LineSet.{no_lines}
 use Rattle.jls_partial.specs.Partial.{PartialPicture, with_all}
+use Rattle.jls_partial.specs.Stored.{stored_at}
 use Rattle.jls_values.specs.Shape.{PictureShape}
 use Rattle.jls_partial.proofs.BareEntries.{first_none}
 use Rattle.jls_partial.proofs.Store.{is_there, all_small, kept_put, seen_put, holds_there}
@@ -32,15 +31,15 @@ invariant_of-self-2 c =
     let store = c.self.inside.store in
     let es = store.entries in
     let fs = c.take.new.self.entries in
-    let none = no_lines store.precision store.width in
+    let now = c.in_ok-take.ensures.ok in
     let at = c.args.at in
     let fits = subst (λ (s : PictureShape). reading_fault s at.component at.line c.args.samples.now ≡ None) (sym (ap (λ p. p.shape) c.self.view_is)) c.requires in
     let there = is_there shape store.precision store.width es at c.self.invariant.precision c.self.invariant.width c.self.invariant.kept in
     let small = all_small c.args.sources.now (λ i. omega (arith, c.type_inv.sources i)) in
     record {
-      precision = c.take.ensures.precision ∙ c.self.invariant.precision;
-      width = c.take.ensures.width ∙ c.self.invariant.width;
-      kept = kept_put shape at (lines_or none es at) (lines_or none fs at) c.args.samples.now c.args.sources.now there c.in_ok-take.ensures.lines fits small store.precision store.width es fs c.self.invariant.kept c.in_ok-take.ensures.ordered c.in_ok-take.ensures.ok;
+      precision = now.precision ∙ c.self.invariant.precision;
+      width = now.width ∙ c.self.invariant.width;
+      kept = kept_put shape at (stored_at store at) now.lines c.args.samples.now c.args.sources.now there now.changed fits small store.precision store.width es fs c.self.invariant.kept c.in_ok-take.ensures.ordered now.puts;
     }
 
 pub returns-clause-ok : goal.returns-clause-ok
@@ -49,12 +48,12 @@ returns-clause-ok c =
     let store = c.self.inside.store in
     let es = store.entries in
     let fs = c.take.new.self.entries in
-    let none = no_lines store.precision store.width in
+    let now = c.in_ok-take.ensures.ok in
     let at = c.args.at in
     let fits = subst (λ (s : PictureShape). reading_fault s at.component at.line c.args.samples.now ≡ None) (sym (ap (λ p. p.shape) c.self.view_is)) c.requires in
     let there = is_there shape store.precision store.width es at c.self.invariant.precision c.self.invariant.width c.self.invariant.kept in
     let small = all_small c.args.sources.now (λ i. omega (arith, c.type_inv.sources i)) in
-    seen_put shape at (lines_or none es at) (lines_or none fs at) c.args.samples.now c.args.sources.now there c.in_ok-take.ensures.lines fits small store.precision store.width es fs c.self.invariant.kept c.in_ok-take.ensures.ordered c.in_ok-take.ensures.ok refl
+    seen_put shape at (stored_at store at) now.lines c.args.samples.now c.args.sources.now there now.changed fits small store.precision store.width es fs c.self.invariant.kept c.in_ok-take.ensures.ordered now.puts refl
     ∙ ap (λ (p : PartialPicture). with_all p ((at_place at c.args.samples.now, c.args.sources.now) ∷ [])) c.self.view_is
 
 pub returns-clause-added : goal.returns-clause-added

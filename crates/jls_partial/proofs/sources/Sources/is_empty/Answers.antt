@@ -1,4 +1,3 @@
-use Rattle.std.proofs.Common.{◌≡◌, ◌∙◌, ap, sym}
 use Rattle.jls_partial.proofs.LineSets.{none_where_no_items}
 use Rattle.jls_partial.proofs.sources.Sources.is_empty.Goals as goal
 
