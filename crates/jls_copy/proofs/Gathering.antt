@@ -1,5 +1,5 @@
 -- One byte more, over what a reader holds.
-use Rattle.std.proofs.Common.{◌≡◌, ℕ, zero, suc, get_or, ◌+◌, ◌-◌, ◌^◌, ◌<◌, ◌≤◌, Bool, true, false, List, [], ◌∷◌, ◌++◌, take, length, Option, Some, None, refl, sym, ap, ◌∙◌, subst, append_assoc, arith, add-zero, length-append, ◌⊎◌, inl, inr}
+use Rattle.std.proofs.Common.{◌≡◌, ℕ, zero, suc, get_or, ◌+◌, ◌-◌, ◌^◌, ◌<◌, ◌≤◌, Bool, true, false, List, [], ◌∷◌, ◌++◌, take, drop, length, Option, Some, None, refl, sym, ap, ◌∙◌, subst, append_assoc, arith, length-append, ◌⊎◌, inl, inr}
 use Rattle.std.proofs.lemmas.List.{append-nil, take_all, take-append-le, length-take, length-take-le}
 use Rattle.std.proofs.lemmas.Bool.{cases_lt}
 use Rattle.std.proofs.lemmas.Bool.Decides.{nat_tests}
@@ -17,18 +17,16 @@ use Rattle.jls_values.specs.OrderedSet as set
 use Rattle.jls_values.specs.OrderedSetLaws.{insert_all-append}
 use Rattle.jls_values.specs.Shape.{PictureShape}
 use Rattle.jls_partial.specs.Partial.{PartialPicture, without_sources}
-use Rattle.jls_marker.specs.HeaderState.{HeaderState, no_headers}
+use Rattle.jls_marker.specs.HeaderState.{HeaderState}
 use Rattle.jls_marker.specs.Scan.{Scan}
 use Rattle.jls_marker.specs.Headers.{headers_after}
 use Rattle.jls_copy.specs.Pieces.{FoundPiece, PieceOutcome, Lines, Fault, IsOutcome, readings_of, records_of}
 use Rattle.jls_copy.specs.Findings.{Adds, HoldsShape, with_readings, picture_of, kept_with}
 use Rattle.jls_copy.specs.Gathers.{Gathers}
 use Rattle.jls_copy.specs.Pieces.{AreOutcomes, readings, records}
-use Rattle.jls_copy.specs.ReaderState.{ReaderState, Step, Reading, reading, reading_with, reading_from, after_byte, step_from, closed_at, segment_taken}
+use Rattle.jls_copy.specs.ReaderState.{ReaderState, Step, Reading, reading, reading_with, reading_from, step_from, closed_at, segment_taken}
 use Rattle.jls_copy.specs.Machine.{state_of, Takes}
 use Rattle.jls_copy.specs.Reader.{IsReading}
-use Rattle.jls_copy.specs.ReadCopy.{after}
-use Rattle.jls_copy.specs.Sound.{IsPlace}
 use Rattle.jls_copy.specs.declared.machine.Machine.{Machine}
 use Rattle.jls_copy.specs.declared.findings.Findings.{Findings}
 use Rattle.jls_copy.specs.declared.piece.PieceRecord.{PieceRecord}
@@ -259,13 +257,21 @@ reading_on m n bytes xs count h t small low =
       header_bytes = t.header_bytes;
     }
 
--- bytes fed in two slices
-pub after_then : (fed : Option (List ℕ)) (xs ys : List ℕ) → after (after fed xs) ys ≡ after fed (xs ++ ys)
-after_then None xs ys = refl
-after_then (Some bytes) xs ys = ap Some (append_assoc bytes xs ys)
+all_behind : (at : ℕ) (xs : List ℕ) → AllByRecursion (λ x. x < 256) xs → AllByRecursion (λ x. x < 256) (drop at xs)
+all_behind zero xs low = low
+all_behind (suc at) [] low = tt
+all_behind (suc at) (x ∷ xs) low = all_behind at xs low.1
 
--- the first bytes of a slice
-pub all_bytes : (n : ℕ) (xs : List ℕ) → ((k : ℕ) → get_or xs k 0 < 256) → AllByRecursion (λ x. x < 256) (take n xs)
-all_bytes zero xs each = tt
-all_bytes (suc n) [] each = tt
-all_bytes (suc n) (x ∷ xs) each = (each 0, all_bytes n xs (λ k. each (suc k)))
+all_front : (n : ℕ) (xs : List ℕ) → AllByRecursion (λ x. x < 256) xs → AllByRecursion (λ x. x < 256) (take n xs)
+all_front zero xs low = tt
+all_front (suc n) [] low = tt
+all_front (suc n) (x ∷ xs) low = (low.0, all_front n xs low.1)
+
+-- bytes from the middle of a slice
+pub bytes_between : (n m at : ℕ) (xs : List ℕ) → ((k : ℕ) → get_or xs k 0 < 256) → AllByRecursion (λ x. x < 256) (take n (take m (drop at xs)))
+bytes_between n m at xs each =
+    all_front n (take m (drop at xs)) (all_front m (drop at xs) (all_behind at xs (all xs each)))
+  where
+    all : (xs : List ℕ) → ((k : ℕ) → get_or xs k 0 < 256) → AllByRecursion (λ x. x < 256) xs
+    all [] each = tt
+    all (x ∷ xs) each = (each 0, all xs (λ k. each (suc k)))

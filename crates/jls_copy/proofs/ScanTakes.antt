@@ -1,11 +1,15 @@
 -- What a scan takes, from how it changes.
-use Rattle.std.proofs.Common.{◌≡◌, ℕ, ◌+◌, ◌<◌, ◌≤◌, Bool, true, false, cond, List, [], ◌∷◌, ◌++◌, take, length, get_or, refl, sym, ap, ◌∙◌, subst, arith}
+use Rattle.std.proofs.Common.{◌≡◌, ℕ, ◌<◌, ◌≤◌, Bool, true, false, cond, List, [], ◌∷◌, take, length, get_or, refl, sym, ap, ◌∙◌, subst, arith}
 use Rattle.std.specs.Prelude.{◌==◌}
 use Rattle.std.proofs.lemmas.List.{append-nil}
-use Rattle.jls_copy.specs.ReaderState.{class_of, closed_by, piece_with, scan_with}
+use Rattle.jls_interval.specs.IntervalBytes.{IntervalBytes}
+use Rattle.jls_copy.specs.ReaderState.{class_of, closed_by, piece_with, scan_with, with_bytes}
 use Rattle.jls_copy.specs.Sound.{IsOfFrame}
 use Rattle.jls_copy.specs.Stretch.{IsStretch, LeadsTo, TakesData}
+use Rattle.jls_copy.specs.declared.piece.OpenPiece.{OpenPiece}
+use Rattle.jls_copy.specs.declared.piece.OpenPiece.TheVariants.{Within, Beyond}
 use Rattle.jls_copy.specs.declared.place.Place.TheVariants.{InScan}
+use Rattle.jls_copy.specs.declared.scan.ByteClass.{ByteClass}
 use Rattle.jls_copy.specs.declared.scan.ByteClass.TheVariants.{Fill, Data}
 use Rattle.jls_copy.specs.declared.scan.Held.{Held}
 use Rattle.jls_copy.specs.declared.scan.Held.TheVariants.{Nothing, One, More}
@@ -50,3 +54,17 @@ takes_data old new bytes some is told = record {
     subst (IsOfFrame frame) (sym (ap (λ (scan : OpenScan). scan.plan) told)) h.1,
   );
 }
+
+-- behind FF bytes it is all one how many there are
+pub class_one : (held : Held) (b : ℕ) (class : ByteClass) → (held ≡ Nothing → ⊥) → class ≡ class_of One b → class_of held b ≡ class
+class_one Nothing b class some is = absurd (some refl)
+class_one One b class some is = sym is
+class_one More b class some is = sym is
+
+-- a piece that was told more
+pub within_told : (piece : OpenPiece) (k : ℕ) (d d' : IntervalBytes) (more : List ℕ) → piece ≡ Within k d → d' ≡ with_bytes d more
+    → Within k d' ≡ piece_with piece more
+within_told piece k d d' more is told = ap (Within k) told ∙ ap (λ (p : OpenPiece). piece_with p more) (sym is)
+
+pub beyond_told : (piece : OpenPiece) (k : ℕ) (more : List ℕ) → piece ≡ Beyond k → piece ≡ piece_with piece more
+beyond_told piece k more is = is ∙ ap (λ (p : OpenPiece). piece_with p more) (sym is)

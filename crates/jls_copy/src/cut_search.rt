@@ -1,10 +1,10 @@
 //! Where scan data can be cut.
 
-ghost use Rattle.std.specs.Prelude.{ℕ, ◌≤◌, ◌<◌, IfSome, IfNone, take, length};
+ghost use Rattle.std.specs.Prelude.{◌≡◌, ℕ, ◌≤◌, ◌<◌, IfSome, IfNone, take, length, slice_index};
 ghost use Rattle.jls_copy.specs.Stretch.{IsStretch};
 ghost use Rattle.jls_copy.specs.ScanData.{IsCutPlace};
 
-use crate::lanes::next_ff;
+use crate::ff_search::next_ff;
 
 /// The first place, not before `from`, of a byte 0xFF that a byte of 0x80 or more follows; `None` where there is none. Stuffed
 /// data bits hold no such pair (T.87 A.1), so a marker can only stand there, though not each such pair cuts
@@ -32,6 +32,7 @@ pub fn next_cut(bytes: &[u8], from: usize) -> Option<usize>
 fn uncut_len(bytes: &[u8]) -> usize
     ensures within { result ≤ length bytes.now }
     ensures uncut { (place : ℕ) → place < result → ¬ IsCutPlace bytes.now place }
+    ensures cut { result < length bytes.now → IsCutPlace bytes.now result }
 {
     match next_cut(bytes, 0) {
         Some(place) => place,
@@ -40,10 +41,11 @@ fn uncut_len(bytes: &[u8]) -> usize
 }
 
 /// How many bytes at the front can be told to a piece at once: those before the first place of `next_cut`, but for a byte 0xFF that
-/// ends them, as the byte behind it is not known yet.
+/// ends them, as the byte behind it is not known yet. If there are none, the first byte is 0xFF.
 pub(crate) fn stretch_len(bytes: &[u8]) -> usize
     ensures within { result ≤ length bytes.now }
     ensures stretch { IsStretch (take result bytes.now) }
+    ensures ff { result ≡ 0 → 0 < length bytes.now → slice_index bytes.now 0 ≡ 0xFF }
 {
     let end = uncut_len(bytes);
     if end > 0 && bytes[end - 1] == 0xFF {

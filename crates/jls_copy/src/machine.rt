@@ -148,7 +148,7 @@ impl Machine {
                 self.place = Place::Done(End::Header(MarkerFault::NoFrame, marker));
             }
         } else if has_segment(byte) {
-            self.place = Place::AtLength(marker, byte);
+            self.place = Place::AtLength { marker, code: byte };
         } else {
             self.place = Place::Done(End::Header(MarkerFault::UnknownMarker, marker));
         }
@@ -243,7 +243,7 @@ impl Machine {
         } else if size == 2 {
             self.take_segment(marker, code, self.count);
         } else {
-            self.place = Place::InPayload(marker, code, size);
+            self.place = Place::InPayload { marker, code, size };
         }
     }
 
@@ -287,17 +287,18 @@ impl Machine {
                 let fill = *fill;
                 self.take_at_marker(fill, bytes)
             }
-            Place::AtLength(marker, code) => {
-                self.place = Place::InLength(*marker, *code, bytes[0]);
+            Place::AtLength { marker, code } => {
+                let (marker, code, high) = (*marker, *code, bytes[0]);
+                self.place = Place::InLength { marker, code, high };
                 Ok(1)
             }
-            Place::InLength(marker, code, high) => {
+            Place::InLength { marker, code, high } => {
                 let (marker, code, high) = (*marker, *code, *high);
                 let size = u16::from_be_bytes([high, bytes[0]]);
                 self.length_known(marker, code, size);
                 Ok(1)
             }
-            Place::InPayload(marker, code, size) => {
+            Place::InPayload { marker, code, size } => {
                 let (marker, code, size) = (*marker, *code, *size);
                 self.take_in_payload(marker, code, size, bytes)
             }
@@ -332,7 +333,7 @@ impl Machine {
                 self.count,
             )),
             Place::AtMarker(false) => Ok(End::Input(self.count)),
-            Place::AtLength(_, _) | Place::InLength(_, _, _) | Place::InPayload(_, _, _) => {
+            Place::AtLength { .. } | Place::InLength { .. } | Place::InPayload { .. } => {
                 Ok(End::Header(MarkerFault::Ended, self.count))
             }
             Place::InScan(scan) => {

@@ -173,28 +173,6 @@ impl CopyReader {
         self.machine.count
     }
 
-    /// Takes the first of these bytes, or as many as can be taken at once, and says how many.
-    fn feed_some(&mut self, bytes: &[u8]) -> Result<usize, AllocError>
-        requires some { 0 < length bytes.now }
-        requires few { IfSome self.old (λ before. length before + length bytes.now ≤ 2 ^ 63 - 1) }
-        ensures some { IfOk result (λ count. 0 < count) }
-        ensures within { IfOk result (λ count. count ≤ length bytes.now) }
-        ensures ok { IfOk result (λ count. self.new ≡ after self.old (take count bytes.now)) }
-        ensures err { OnErr result (self.new ≡ None) }
-        ensures not_refused { IsOk result → IsSome self.old }
-    {
-        if self.failed {
-            return Err(AllocError);
-        }
-        let Ok(count) = self.machine.take(bytes) else {
-            self.failed = true;
-            return Err(AllocError);
-        };
-        self.machine.count += count as u64;
-        self.bytes.note_all(&bytes[..count]);
-        Ok(count)
-    }
-
     /// Takes the next slice of the copy, which may be empty. All slices together may have 2^63 - 1 bytes at most. Bytes after the
     /// copy's end are counted, and otherwise ignored. The only refusal is out of memory. After it every further `feed` is refused too,
     /// and `finish` answers `OutOfMemory`.
@@ -209,7 +187,14 @@ impl CopyReader {
         }
         let mut at = 0;
         while at < slice.len() {
-            at += self.feed_some(&slice[at..])?;
+            let rest = &slice[at..];
+            let Ok(count) = self.machine.take(rest) else {
+                self.failed = true;
+                return Err(AllocError);
+            };
+            self.machine.count += count as u64;
+            self.bytes.note_all(&rest[..count]);
+            at += count;
         }
         Ok(())
     }

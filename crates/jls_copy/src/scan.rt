@@ -1,10 +1,11 @@
 //! Scan data, byte after byte.
 
-ghost use Rattle.std.specs.Prelude.{◌≡◌, ◌+◌, ◌-◌, ◌^◌, ◌<◌, ◌≤◌, OnOk, IfOk, length};
+ghost use Rattle.std.specs.Prelude.{◌≡◌, ◌+◌, ◌-◌, ◌^◌, ◌<◌, ◌≤◌, ◌∷◌, [], ◌++◌, IfOk, length, slice_index};
 ghost use Rattle.jls_copy.specs.Numbers.{next_number as number_rule, number_behind};
 ghost use Rattle.jls_copy.specs.ScanData.{is_restart_code as restart_code, ends_scan_data as end_code};
 ghost use Rattle.jls_copy.specs.ReaderState as state;
 ghost use Rattle.jls_copy.specs.declared.scan.ByteClass.TheVariants.{Mark};
+ghost use Rattle.jls_copy.specs.declared.scan.Held.TheVariants.{Nothing, One};
 ghost use Rattle.jls_copy.specs.Sound.{IsOpenScan};
 ghost use Rattle.jls_copy.specs.Stretch.{TakesStep};
 ghost use Rattle.jls_marker.specs.Scan.{intervals};
@@ -77,34 +78,19 @@ fn ends_scan_data(code: u8) -> bool
         || (code >= APP0 && code <= APP15)
 }
 
-/// What a byte of scan data does behind these held bytes.
-fn class_of(held: Held, byte: u8) -> ByteClass
-    ensures class { result ≡ state.class_of held byte }
+/// What a byte of scan data does behind FF bytes.
+fn class_behind(byte: u8) -> ByteClass
+    ensures class { result ≡ state.class_of One byte }
     ensures mark { result ≡ Mark → (0xD0 ≤ byte) × (byte ≤ 0xD7) }
 {
     if byte == 0xff {
-        return ByteClass::Fill;
-    }
-    match held {
-        Held::Nothing => ByteClass::Data,
-        Held::One | Held::More => {
-            if is_restart_code(byte) {
-                ByteClass::Mark
-            } else if ends_scan_data(byte) {
-                ByteClass::Stop
-            } else {
-                ByteClass::Data
-            }
-        }
-    }
-}
-
-fn one_more(held: Held) -> Held
-    ensures { result ≡ state.one_more held }
-{
-    match held {
-        Held::Nothing => Held::One,
-        Held::One | Held::More => Held::More,
+        ByteClass::Fill
+    } else if is_restart_code(byte) {
+        ByteClass::Mark
+    } else if ends_scan_data(byte) {
+        ByteClass::Stop
+    } else {
+        ByteClass::Data
     }
 }
 
@@ -150,34 +136,29 @@ impl OpenScan {
         })
     }
 
-    /// One FF byte more that may be fill.
-    fn hold(&mut self)
-        ensures { self.new ≡ record self.old { held = state.one_more self.old.held } }
+    /// Takes the first of these bytes behind FF bytes. If it is data, the piece is told these FF bytes with it, which is `told`.
+    fn take_behind(&mut self, bytes: &[u8], told: &[u8]) -> Result<ScanStep, AllocError>
+        requires some { 0 < length bytes.now }
+        requires held { self.old.held ≡ Nothing → ⊥ }
+        requires told { told.now ≡ state.held_bytes self.old.held ++ slice_index bytes.now 0 ∷ [] }
+        ensures { IfOk result (λ step. TakesStep self.old bytes.now self.new step) }
     {
-        self.held = one_more(self.held);
-    }
-
-    /// Tells the piece the next bytes.
-    fn tell_all(&mut self, bytes: &[u8]) -> Result<(), AllocError>
-        ensures { OnOk result (self.new ≡ record self.old { piece = state.piece_with self.old.piece bytes.now }) }
-    {
-        match &mut self.piece {
-            OpenPiece::Within(_, decoder) => decoder.push_all(bytes),
-            OpenPiece::Beyond(_) => Ok(()),
+        match class_behind(bytes[0]) {
+            ByteClass::Fill => {
+                self.held = Held::More;
+                Ok(ScanStep::Data(1))
+            }
+            ByteClass::Data => {
+                self.held = Held::Nothing;
+                match &mut self.piece {
+                    OpenPiece::Within(_, decoder) => decoder.push_all(told)?,
+                    OpenPiece::Beyond(_) => {}
+                }
+                Ok(ScanStep::Data(1))
+            }
+            ByteClass::Mark => Ok(ScanStep::Restart(bytes[0] - RST0)),
+            ByteClass::Stop => Ok(ScanStep::End),
         }
-    }
-
-    /// Tells the piece what was held and one byte more.
-    fn tell(&mut self, byte: u8) -> Result<(), AllocError>
-        ensures { OnOk result (self.new ≡ state.scan_with self.old byte) }
-    {
-        match self.held {
-            Held::Nothing => self.tell_all(&[byte])?,
-            Held::One => self.tell_all(&[0xff, byte])?,
-            Held::More => self.tell_all(&[0xff, 0xff, byte])?,
-        }
-        self.held = Held::Nothing;
-        Ok(())
     }
 
     /// Takes the first of these bytes, or as many as the piece can be told at once, and says what came of them. The code of a marker is
@@ -186,25 +167,21 @@ impl OpenScan {
         requires { 0 < length bytes.now }
         ensures { IfOk result (λ step. TakesStep self.old bytes.now self.new step) }
     {
-        if let Held::Nothing = self.held {
-            let count = stretch_len(bytes);
-            if count > 0 {
-                self.tell_all(&bytes[..count])?;
-                return Ok(ScanStep::Data(count));
+        match self.held {
+            Held::Nothing => {
+                let count = stretch_len(bytes);
+                if count == 0 {
+                    self.held = Held::One;
+                    return Ok(ScanStep::Data(1));
+                }
+                match &mut self.piece {
+                    OpenPiece::Within(_, decoder) => decoder.push_all(&bytes[..count])?,
+                    OpenPiece::Beyond(_) => {}
+                }
+                Ok(ScanStep::Data(count))
             }
-        }
-        let byte = bytes[0];
-        match class_of(self.held, byte) {
-            ByteClass::Fill => {
-                self.hold();
-                Ok(ScanStep::Data(1))
-            }
-            ByteClass::Data => {
-                self.tell(byte)?;
-                Ok(ScanStep::Data(1))
-            }
-            ByteClass::Mark => Ok(ScanStep::Restart(byte - RST0)),
-            ByteClass::Stop => Ok(ScanStep::End),
+            Held::One => self.take_behind(bytes, &[0xff, bytes[0]]),
+            Held::More => self.take_behind(bytes, &[0xff, 0xff, bytes[0]]),
         }
     }
 

@@ -1,7 +1,7 @@
 use Rattle.std.proofs.Common.{◌≡◌, ℕ, ◌+◌, ◌<◌, ◌≤◌, eqb, length, get_or, arith, inl, inr}
 use Rattle.std.proofs.lemmas.Bool.{cases_lt, eqb-true, eqb-false}
 use Rattle.std.proofs.lemmas.Simd.{run_in_chunk_fails, run_in_chunk_stops}
-use Rattle.jls_copy.proofs.lanes.next_ff.Goals as goal
+use Rattle.jls_copy.proofs.ff_search.next_ff.Goals as goal
 
 pub returns-then-before-lt-LANES-clause-passed : goal.returns-then-before-lt-LANES-clause-passed
 returns-then-before-lt-LANES-clause-passed c = λ k from below is_ff. elim (cases_lt k c.loop-at.at) [

@@ -2,7 +2,7 @@ use Rattle.std.proofs.Common.{eqb, sym, ap, ◌∙◌, arith, w8}
 use lib.Count.{count_trailing_zeros}
 use lib.Lanes.{chunk}
 use Rattle.std.proofs.lemmas.Simd.{length-chunk, bitmask_splat, leading_from_mask_l, trailing_mask_l}
-use Rattle.jls_copy.proofs.lanes.count_before_ff.Goals as goal
+use Rattle.jls_copy.proofs.ff_search.count_before_ff.Goals as goal
 
 pub returns-then-hits-eq0 : goal.returns-then-hits-eq0
 returns-then-hits-eq0 c =
