@@ -1,6 +1,6 @@
 //! The commands `check` and `show`.
 
-ghost use Rattle.std.specs.Prelude.{◌≡◌, ◌++◌, [], true, false, IfOk, OnOk, if◌then◌else◌};
+ghost use Rattle.std.specs.Prelude.{◌≡◌, ◌++◌, [], IfOk, OnOk, if◌then◌else◌};
 ghost use Rattle.jls_commands.specs.Histories.{GrewBoth};
 ghost use Rattle.jls_commands.specs.Telling.{lines, report_lines, Tells};
 ghost use Rattle.jls_commands.specs.Tracing.{trace_lines};
@@ -54,8 +54,9 @@ fn lines_of(alloc: Global, input: &InputRead, traced: bool) -> Result<Vec<u8>, A
     Ok(out)
 }
 
-/// Reads one input and prints its trace, if that is asked for, and its report to the report output.
-fn tell<'a, D: Desk, W: Sink>(
+/// The commands `check` and `show`: reads one input and prints its report to the report output. `check` prints the trace of a copy before
+/// it, and so it is `traced`.
+pub fn tell<'a, D: Desk, W: Sink>(
     alloc: Global,
     desk: &mut D,
     report: &mut W,
@@ -74,30 +75,4 @@ fn tell<'a, D: Desk, W: Sink>(
         }),
         Err(count) => Err(Refusal::NotWritten("-", count)),
     }
-}
-
-/// The command `check`: reads one input and prints its trace, if it is a copy, and its report to the report output.
-pub fn check<'a, D: Desk, W: Sink>(
-    alloc: Global,
-    desk: &mut D,
-    report: &mut W,
-    file: &'a str,
-) -> Result<Done, Refusal<'a>>
-    ensures { GrewBoth (Tells (lines true) file.now result) (D.history desk.old) (D.history desk.new)
-        (W.history report.old) (W.history report.new) }
-{
-    tell(alloc, desk, report, true, file)
-}
-
-/// The command `show`: reads one input and prints its report to the report output.
-pub fn show<'a, D: Desk, W: Sink>(
-    alloc: Global,
-    desk: &mut D,
-    report: &mut W,
-    file: &'a str,
-) -> Result<Done, Refusal<'a>>
-    ensures { GrewBoth (Tells (lines false) file.now result) (D.history desk.old) (D.history desk.new)
-        (W.history report.old) (W.history report.new) }
-{
-    tell(alloc, desk, report, false, file)
 }

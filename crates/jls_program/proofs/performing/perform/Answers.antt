@@ -23,15 +23,15 @@ pub returns-in-Check : goal.returns-in-Check
 returns-in-Check g c =
     let desk = g.D.Device.history in
     let report = g.W.Device.history in
-    subst (λ (a : Asked). GrewBoth (CameOf (asked_of a) c.check.result) (desk c.args.desk.now) (desk c.check.new.desk) (report c.args.report.now) (report c.check.new.report))
-    (sym c.in-Check.is) c.check.ensures
+    subst (λ (a : Asked). GrewBoth (CameOf (asked_of a) c.tell.result) (desk c.args.desk.now) (desk c.tell.new.desk) (report c.args.report.now) (report c.tell.new.report))
+    (sym c.in-Check.is) c.tell.ensures
 
 pub returns-in-Show : goal.returns-in-Show
 returns-in-Show g c =
     let desk = g.D.Device.history in
     let report = g.W.Device.history in
-    subst (λ (a : Asked). GrewBoth (CameOf (asked_of a) c.show.result) (desk c.args.desk.now) (desk c.show.new.desk) (report c.args.report.now) (report c.show.new.report))
-    (sym c.in-Show.is) c.show.ensures
+    subst (λ (a : Asked). GrewBoth (CameOf (asked_of a) c.tell-in-Show.result) (desk c.args.desk.now) (desk c.tell-in-Show.new.desk) (report c.args.report.now) (report c.tell-in-Show.new.report))
+    (sym c.in-Show.is) c.tell-in-Show.ensures
 
 pub returns-in-WritePnm : goal.returns-in-WritePnm
 returns-in-WritePnm g c =
