@@ -13,14 +13,14 @@ fn eight_bits(rt: &impl Abort, reset: u16) -> Result<Cells, ParamFault>
     ensures { IfOk result (λ cells. cells.parameters.maxval ≡ 255) }
 {
     let params = Params::new(8, 0, 0, 0, 0, reset)?;
-    assert_eq!(rt; params.maxval(), 255);
+    assert!(rt; params.maxval() == 255);
     Ok(Cells::new(&params))
 }
 
 #[test]
 fn modes(rt: HostRuntime) -> Result<(), Fail> {
     let cells = eight_bits(&rt, 0)?;
-    assert_eq!(rt; cells.mode(0, 0, 0, 0), Mode::Run);
+    assert!(rt; cells.mode(0, 0, 0, 0) == Mode::Run);
     for ([ra, rb, rc, rd], cell, negative) in [
         ([90, 0, 0, 0], 4, true),
         ([68, 0, 0, 90], 320, false),
@@ -38,7 +38,10 @@ fn modes(rt: HostRuntime) -> Result<(), Fail> {
         ([100, 100, 100, 79], 324, true),
     ] {
         let mode = Mode::Regular { cell, negative };
-        assert_eq!(rt; cells.mode(ra, rb, rc, rd), mode, "at {ra} {rb} {rc} {rd}");
+        assert!(rt;
+            cells.mode(ra, rb, rc, rd) == mode,
+            "at {ra} {rb} {rc} {rd}"
+        );
     }
     Ok(())
 }
@@ -46,9 +49,9 @@ fn modes(rt: HostRuntime) -> Result<(), Fail> {
 #[test]
 fn predictions_follow_the_correction(rt: HostRuntime) -> Result<(), Fail> {
     let mut cells = eight_bits(&rt, 0)?;
-    assert_eq!(rt; cells.regular_k(320), 2);
+    assert!(rt; cells.regular_k(320) == 2);
     cells.update_regular(320, -18);
-    assert_eq!(rt; cells.regular_k(320), 4);
+    assert!(rt; cells.regular_k(320) == 4);
     // C is -1.
     for (negative, [ra, rb, rc], predicted) in [
         (false, [68, 0, 0], 67),
@@ -59,9 +62,8 @@ fn predictions_follow_the_correction(rt: HostRuntime) -> Result<(), Fail> {
         (false, [0, 0, 0], 0),
         (true, [255, 255, 255], 255),
     ] {
-        assert_eq!(rt;
-            cells.predict(320, negative, ra, rb, rc),
-            predicted,
+        assert!(rt;
+            cells.predict(320, negative, ra, rb, rc) == predicted,
             "at {ra} {rb} {rc}"
         );
     }
@@ -79,10 +81,10 @@ fn errors_modulo_range(rt: HostRuntime) -> Result<(), Fail> {
         (-128, -128),
         (-129, 127),
     ] {
-        assert_eq!(rt; cells.reduce(difference), error, "at {difference}");
+        assert!(rt; cells.reduce(difference) == error, "at {difference}");
     }
-    assert_eq!(rt; cells.restore(250, false, 10), 4);
-    assert_eq!(rt; cells.restore(4, true, 10), 250);
+    assert!(rt; cells.restore(250, false, 10) == 4);
+    assert!(rt; cells.restore(4, true, 10) == 250);
     Ok(())
 }
 
@@ -90,10 +92,10 @@ fn errors_modulo_range(rt: HostRuntime) -> Result<(), Fail> {
 fn errors_of_numbers(rt: HostRuntime) -> Result<(), Fail> {
     let cells = eight_bits(&rt, 0)?;
     for (mapped, error) in [(35, Some(-18)), (255, Some(-128)), (256, None)] {
-        assert_eq!(rt; cells.regular_error(1, mapped), error, "at {mapped}");
+        assert!(rt; cells.regular_error(1, mapped) == error, "at {mapped}");
     }
     for (mapped, error) in [(0, Some(-1)), (1, Some(1)), (254, Some(-128)), (255, None)] {
-        assert_eq!(rt; cells.run_error(true, mapped), error, "at {mapped}");
+        assert!(rt; cells.run_error(true, mapped) == error, "at {mapped}");
     }
     Ok(())
 }
@@ -110,10 +112,10 @@ fn codes(cells: &Cells, error: i32) -> [(u8, u32); 2]
 #[test]
 fn codes_of_16_bits(rt: HostRuntime) -> Result<(), Fail> {
     let params = Params::new(16, 0, 0, 0, 0, 65535)?;
-    assert_eq!(rt; params.maxval(), 65535);
+    assert!(rt; params.maxval() == 65535);
     let cells = Cells::new(&params);
-    assert_eq!(rt; codes(&cells, -32768), [(10, 65535), (10, 65535)]);
-    assert_eq!(rt; codes(&cells, 32767), [(10, 65534), (10, 65534)]);
+    assert!(rt; codes(&cells, -32768) == [(10, 65535), (10, 65535)]);
+    assert!(rt; codes(&cells, 32767) == [(10, 65534), (10, 65534)]);
     Ok(())
 }
 
@@ -157,10 +159,8 @@ fn interruptions_at_k_0(rt: HostRuntime) -> Result<(), Fail> {
         interrupt_often(&mut cells, same, -1, minus);
         interrupt_often(&mut cells, same, 1, plus);
         interrupt_often(&mut cells, false, 0, none);
-        assert_eq!(rt; cells.run_k(same), 0, "RItype 1: {same}, Nn is {minus}");
-        assert_eq!(rt;
-            numbers(&cells, same),
-            wanted,
+        assert!(rt;
+            cells.run_k(same) == 0 && numbers(&cells, same) == wanted,
             "RItype 1: {same}, Nn is {minus}"
         );
     }

@@ -1,5 +1,7 @@
 //! Data bits read and written, with the stuffed bits at each place.
 
+ghost use Rattle.std.specs.Prelude.{◌^◌, ◌≤◌, ◌<◌};
+
 use jls_bits::*;
 use std::alloc::{AllocError, Global};
 use std::test::Fail;
@@ -40,9 +42,11 @@ fn bytes_give_their_data_bits(rt: HostRuntime) -> Result<(), Fail> {
     ];
     for (bytes, text, whole) in table {
         let reader = BitReader::over(bytes);
-        assert_eq!(rt; reader.left(), text.len() as u128, "{bytes:?}");
-        assert_eq!(rt; reader.is_whole(), whole, "{bytes:?}");
-        assert_eq!(rt; bits_text(alloc, bytes)?.as_slice(), text);
+        assert!(rt;
+            reader.left() == text.len() as u128 && reader.is_whole() == whole,
+            "{bytes:?}"
+        );
+        assert!(rt; bits_text(alloc, bytes)?.as_slice() == text, "{bytes:?}");
     }
     Ok(())
 }
@@ -51,13 +55,13 @@ fn bytes_give_their_data_bits(rt: HostRuntime) -> Result<(), Fail> {
 fn reading_counts_down(rt: HostRuntime) {
     let mut reader = BitReader::over(&[0xFF, 0x7F, 0xFF, 0x80]);
     for read in 0..23u8 {
-        assert_eq!(rt; reader.left(), (23 - read) as u128);
-        assert!(rt; !reader.is_whole());
-        assert_eq!(rt; reader.read_bit(), Some(true));
+        assert!(rt; reader.left() == (23 - read) as u128 && !reader.is_whole());
+        assert!(rt; reader.read_bit() == Some(true));
     }
-    assert_eq!(rt; reader.left(), 0);
-    assert_eq!(rt; reader.read_bit(), None);
-    assert_eq!(rt; reader.read_bit(), None);
+    assert!(rt; reader.left() == 0);
+    for _ in 0..2 {
+        assert!(rt; reader.read_bit() == None);
+    }
     assert!(rt; !reader.is_whole());
 }
 
@@ -84,42 +88,49 @@ fn bits_are_padded_with_zeros(rt: HostRuntime) -> Result<(), Fail> {
         (23, &[0xFF, 0x7F, 0xFF, 0x00]),
     ];
     for (count, bytes) in table {
-        assert_eq!(rt; ones(alloc, count)?.as_slice(), bytes, "{count} ones");
+        assert!(rt; ones(alloc, count)?.as_slice() == bytes, "{count} ones");
     }
     Ok(())
 }
 
-#[test]
-fn numbers_are_pushed_with_their_top_bit_first(rt: HostRuntime) -> Result<(), Fail> {
-    let mut writer = BitWriter::new(rt.alloc());
-    writer.push_bits(255, 8)?;
-    assert_eq!(rt; writer.finish()?.as_slice(), [0xFF, 0x00].as_slice());
+/// What is written of one number alone.
+fn alone(alloc: Global, number: u32, count: u8) -> Result<Vec<u8>, AllocError>
+    requires count { count ≤ 32 }
+    requires number { number < 2 ^ count }
+{
+    let mut writer = BitWriter::new(alloc);
+    writer.push_bits(number, count)?;
+    writer.finish()
+}
 
-    let mut writer = BitWriter::new(rt.alloc());
+/// What is written of a number behind one of no bit.
+fn behind_nothing(alloc: Global) -> Result<Vec<u8>, AllocError> {
+    let mut writer = BitWriter::new(alloc);
     writer.push_bits(0, 0)?;
     writer.push_bits(0x8000_0001, 32)?;
-    assert_eq!(rt;
-        writer.finish()?.as_slice(),
-        [0x80, 0x00, 0x00, 0x01].as_slice()
-    );
+    writer.finish()
+}
 
-    let mut writer = BitWriter::new(rt.alloc());
-    writer.push_bits(0xFFFF_FFFF, 32)?;
-    assert_eq!(rt;
-        writer.finish()?.as_slice(),
-        [0xFF, 0x7F, 0xFF, 0x7F, 0xC0].as_slice()
-    );
-
-    let mut writer = BitWriter::new(rt.alloc());
-    writer.push_bits(0, 32)?;
-    assert_eq!(rt; writer.finish()?.as_slice(), [0, 0, 0, 0].as_slice());
-
-    let mut writer = BitWriter::new(rt.alloc());
+/// What is written of numbers of several lengths, one behind the other.
+fn several(alloc: Global) -> Result<Vec<u8>, AllocError> {
+    let mut writer = BitWriter::new(alloc);
     writer.push_bits(5, 3)?;
     writer.push_bit(false)?;
     writer.push_bits(0x1FF, 9)?;
     writer.push_bits(0x7F, 7)?;
-    assert_eq!(rt; writer.finish()?.as_slice(), [0xAF, 0xFF, 0x78].as_slice());
+    writer.finish()
+}
+
+#[test]
+fn numbers_are_pushed_with_their_top_bit_first(rt: HostRuntime) -> Result<(), Fail> {
+    let alloc = rt.alloc();
+    assert!(rt; alone(alloc, 255, 8)?.as_slice() == [0xFF, 0x00].as_slice());
+    assert!(rt; alone(alloc, 0, 32)?.as_slice() == [0, 0, 0, 0].as_slice());
+    let ones = alone(alloc, 0xFFFF_FFFF, 32)?;
+    assert!(rt; ones.as_slice() == [0xFF, 0x7F, 0xFF, 0x7F, 0xC0].as_slice());
+    let ends = [0x80, 0x00, 0x00, 0x01];
+    assert!(rt; behind_nothing(alloc)?.as_slice() == ends.as_slice());
+    assert!(rt; several(alloc)?.as_slice() == [0xAF, 0xFF, 0x78].as_slice());
     Ok(())
 }
 
@@ -131,11 +142,9 @@ fn more_than_64_kib_are_written_and_read(rt: HostRuntime) -> Result<(), Fail> {
     }
     let bytes = writer.finish()?;
     // 42,666 pairs of bytes have 15 ones each, and ten ones are left.
-    assert_eq!(rt; bytes.len(), 85_334);
-    assert_eq!(rt; bytes.last().copied(), Some(0x60));
+    assert!(rt; bytes.len() == 85_334 && bytes.last() == Some(&0x60));
     let reader = BitReader::over(&bytes);
-    assert!(rt; reader.is_whole());
-    assert_eq!(rt; reader.left(), 640_005);
+    assert!(rt; reader.is_whole() && reader.left() == 640_005);
     Ok(())
 }
 
@@ -152,6 +161,6 @@ fn bytes_are_unstuffed_one_after_another(rt: HostRuntime) {
         (0x00, None),
     ];
     for (byte, bits) in table {
-        assert_eq!(rt; unstuffer.push(byte), bits, "{byte:x}");
+        assert!(rt; unstuffer.push(byte) == bits, "{byte:x}");
     }
 }

@@ -4,22 +4,37 @@ use super::damaged::PIECE;
 use super::size::Size;
 use jls_interval::*;
 use jls_values::Params;
-use std::alloc::{AllocError, Global};
+use std::alloc::Global;
 use std::test::Fail;
 
-/// What the bytes of an interval give where the input ends behind them.
-fn cut(alloc: Global, params: &Params, size: &Size, piece: &[u8]) -> Result<CutEnd, AllocError> {
-    let mut decoder = size.decoder(alloc, params);
+/// What the bytes of an interval of 8 bits give where the input ends behind them.
+fn cut(alloc: Global, size: &Size, piece: &[u8]) -> Result<CutEnd, Fail> {
+    let params = Params::new(8, 0, 0, 0, 0, 0)?;
+    let mut decoder = size.decoder(alloc, &params);
     decoder.push_all(piece)?;
-    decoder.finish_cut()
+    Ok(decoder.finish_cut()?)
+}
+
+/// Whether they give these lines and this fault.
+fn has_head(
+    alloc: Global,
+    size: &Size,
+    piece: &[u8],
+    lines: &[&[u16]],
+    fault: PieceFault,
+) -> Result<bool, Fail> {
+    let mut head = Vec::new(alloc);
+    for line in lines {
+        head.push(line.to_vec(alloc)?)?;
+    }
+    Ok(cut(alloc, size, piece)? == CutEnd::Head(head, fault))
 }
 
 /// The first bytes of the piece: line 0 has 45 bits, the first two lines have 130, the first three 206, all 235.
 #[test]
 fn prefixes(rt: HostRuntime) -> Result<(), Fail> {
-    let alloc = rt.alloc();
-    let params = Params::new(8, 0, 0, 0, 0, 0)?;
-    let lines: [[u16; 4]; 3] = [[0, 0, 90, 74], [68, 50, 43, 205], [64, 145, 145, 145]];
+    let size = Size::new(4, 1, 4);
+    let lines: [&[u16]; 3] = [&[0, 0, 90, 74], &[68, 50, 43, 205], &[64, 145, 145, 145]];
     for n in 0..PIECE.len() {
         let count = match n {
             0..6 => 0,
@@ -27,14 +42,9 @@ fn prefixes(rt: HostRuntime) -> Result<(), Fail> {
             17..26 => 2,
             _ => 3,
         };
-        let mut head = Vec::new(alloc);
-        for line in &lines[..count] {
-            head.push(line.to_vec(alloc)?)?;
-        }
-        let end = cut(alloc, &params, &Size::new(4, 1, 4), &PIECE[..n]);
-        assert_eq!(rt;
-            end,
-            Ok(CutEnd::Head(head, PieceFault::Broken)),
+        let (piece, lines) = (&PIECE[..n], &lines[..count]);
+        assert!(rt;
+            has_head(rt.alloc(), &size, piece, lines, PieceFault::Broken)?,
             "of the first {n} bytes"
         );
     }
@@ -46,25 +56,18 @@ fn prefixes(rt: HostRuntime) -> Result<(), Fail> {
 /// at most 16, which has a short code; behind so many zeros that no code begins with them.
 #[test]
 fn cut_codes(rt: HostRuntime) -> Result<(), Fail> {
-    let alloc = rt.alloc();
-    let params = Params::new(8, 0, 0, 0, 0, 0)?;
-    let pieces: [(&[u8], bool); 6] = [
-        (&[], false),
-        (&[0x50], true),
-        (&[0x50, 0x00], true),
-        (&[0x50, 0x00, 0x00, 0x15], true),
-        (&[0x50, 0x00, 0x00, 0x10], false),
-        (&[0x50, 0x00, 0x00, 0x00, 0x00], false),
+    let size = Size::new(1, 1, 2);
+    let pieces: [(&[u8], &[&[u16]]); 6] = [
+        (&[], &[]),
+        (&[0x50], &[&[1]]),
+        (&[0x50, 0x00], &[&[1]]),
+        (&[0x50, 0x00, 0x00, 0x15], &[&[1]]),
+        (&[0x50, 0x00, 0x00, 0x10], &[]),
+        (&[0x50, 0x00, 0x00, 0x00, 0x00], &[]),
     ];
-    for (piece, is_cut) in pieces {
-        let mut head = Vec::new(alloc);
-        if is_cut {
-            head.push(vec![in alloc; 1]?)?;
-        }
-        let end = cut(alloc, &params, &Size::new(1, 1, 2), piece);
-        assert_eq!(rt;
-            end,
-            Ok(CutEnd::Head(head, PieceFault::Broken)),
+    for (piece, lines) in pieces {
+        assert!(rt;
+            has_head(rt.alloc(), &size, piece, lines, PieceFault::Broken)?,
             "of {piece:?}"
         );
     }
@@ -75,17 +78,14 @@ fn cut_codes(rt: HostRuntime) -> Result<(), Fail> {
 #[test]
 fn whole_and_faulty(rt: HostRuntime) -> Result<(), Fail> {
     let alloc = rt.alloc();
-    let params = Params::new(8, 0, 0, 0, 0, 0)?;
+    let size = Size::new(1, 1, 2);
     let lines = vec![in alloc; vec![in alloc; 1]?, vec![in alloc; 34]?]?;
-    let whole = cut(alloc, &params, &Size::new(1, 1, 2), &[0x50, 0x00, 0x0C]);
-    assert_eq!(rt; whole, Ok(CutEnd::Whole(lines)));
-    let faulty: [(&[u8], PieceFault); 2] = [
-        (&[0x50, 0x00, 0x0C, 0x00], PieceFault::Long),
+    assert!(rt; cut(alloc, &size, &[0x50, 0x00, 0x0C])? == CutEnd::Whole(lines));
+    for (piece, fault) in [
+        (&[0x50, 0x00, 0x0C, 0x00][..], PieceFault::Long),
         (&[0x50, 0xFF, 0x80], PieceFault::Broken),
-    ];
-    for (piece, fault) in faulty {
-        let end = cut(alloc, &params, &Size::new(1, 1, 2), piece);
-        assert_eq!(rt; end, Ok(CutEnd::Head(Vec::new(alloc), fault)));
+    ] {
+        assert!(rt; has_head(alloc, &size, piece, &[], fault)?, "of {piece:?}");
     }
     Ok(())
 }

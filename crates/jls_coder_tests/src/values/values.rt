@@ -6,10 +6,8 @@ use std::test::Fail;
 #[test]
 fn a_shape_keeps_its_values(rt: HostRuntime) -> Result<(), Fail> {
     let shape = Shape::new(8, 12, 10, &[1, 2, 9])?;
-    assert_eq!(rt; shape.precision(), 8);
-    assert_eq!(rt; shape.width(), 12);
-    assert_eq!(rt; shape.height(), 10);
-    assert_eq!(rt; shape.ids(), [1, 2, 9].as_slice());
+    assert!(rt; shape.precision() == 8 && shape.width() == 12 && shape.height() == 10);
+    assert!(rt; shape.ids() == [1, 2, 9].as_slice());
     assert!(rt; equal_shapes_are_one(&shape, &shape.to_owned()));
     let other = Shape::new(8, 12, 10, &[1, 9, 2])?;
     assert!(rt; !equal_shapes_are_one(&shape, &other));
@@ -29,9 +27,12 @@ fn shapes_are_refused_in_order(rt: HostRuntime) {
         (16, 1, 1, &[7, 1, 0], None),
     ];
     for (precision, width, height, ids, fault) in table {
-        assert_eq!(rt; Shape::new(precision, width, height, ids).err(), fault);
+        assert!(rt;
+            Shape::new(precision, width, height, ids).err() == fault,
+            "{fault:?}"
+        );
     }
-    assert_eq!(rt; Shape::size_fault(16, 1, 1, 5), Some(ShapeFault::Count));
+    assert!(rt; Shape::size_fault(16, 1, 1, 5) == Some(ShapeFault::Count));
 }
 
 /// MAXVAL, T1, T2, T3 and RESET in force.
@@ -68,7 +69,7 @@ fn defaults_follow_the_precision_and_the_values_given(rt: HostRuntime) -> Result
     ];
     for (precision, [maxval, t1, t2, t3, reset], wanted) in table {
         let params = Params::new(precision, maxval, t1, t2, t3, reset)?;
-        assert_eq!(rt; values(&params), wanted);
+        assert!(rt; values(&params) == wanted, "{wanted:?}");
     }
     Ok(())
 }
@@ -86,7 +87,7 @@ fn params_are_refused_in_order(rt: HostRuntime) {
     ];
     for (precision, [maxval, t1, t2, t3, reset], fault) in table {
         let params = Params::new(precision, maxval, t1, t2, t3, reset);
-        assert_eq!(rt; params.err(), Some(fault));
+        assert!(rt; params.err() == Some(fault), "{fault:?}");
     }
 }
 
@@ -98,9 +99,8 @@ fn lengths_follow_maxval(rt: HostRuntime) -> Result<(), Fail> {
         (16, 0, 65536, 16, 64),
     ] {
         let params = Params::new(precision, maxval, 0, 0, 0, 0)?;
-        assert_eq!(rt; params.precision(), precision);
-        let lengths = (params.range(), params.qbpp(), params.limit());
-        assert_eq!(rt; lengths, (range, qbpp, limit));
+        assert!(rt; params.precision() == precision && params.range() == range);
+        assert!(rt; params.qbpp() == qbpp && params.limit() == limit);
     }
     Ok(())
 }
