@@ -52,12 +52,14 @@ fn reads_one_input(rt: HostRuntime) -> Result<(), Fail> {
         Ok(read) => read,
         Err(_) => return Err(Fail::from("refused")),
     };
-    assert!(rt; read.copy().is_none());
-    assert_eq!(rt; read.stop(), ReadStop::Whole);
-    assert_eq!(rt; read.into_partial().to_bytes(alloc)?.as_slice(), DISPUTED);
+    assert!(rt; read.copy().is_none() && read.stop() == ReadStop::Whole);
+    assert!(rt; read.into_partial().to_bytes(alloc)?.as_slice() == DISPUTED);
     for count in [0, 1, 20] {
         let stopped = InputFault::Read(ReadStop::Failed, count as u64);
-        assert_eq!(rt; refusal_of(alloc, &DISPUTED[..count]), Some(stopped));
+        assert!(rt;
+            refusal_of(alloc, &DISPUTED[..count]) == Some(stopped),
+            "at {count}"
+        );
     }
     Ok(())
 }
@@ -69,18 +71,26 @@ fn partial_of(alloc: Global, text: &[u8]) -> Result<Partial, Fail> {
     }
 }
 
+/// A station for the picture of a text.
+fn station_for(alloc: Global, text: &[u8]) -> Result<Station, Fail> {
+    Ok(Station::new(alloc, partial_of(alloc, text)?.shape().to_owned()))
+}
+
 #[test]
 fn takes_what_fits(rt: HostRuntime) -> Result<(), Fail> {
     let alloc = rt.alloc();
-    let disputed = partial_of(alloc, DISPUTED)?;
-    let mut station = Station::new(alloc, disputed.shape().to_owned());
-    assert_eq!(rt; station.partial().to_bytes(alloc)?.as_slice(), BARE);
-    assert_eq!(rt; station.take(&disputed), Ok(()));
-    assert_eq!(rt; station.take(&partial_of(alloc, SETTLED)?), Ok(()));
-    assert_eq!(rt;
-        station.take(&partial_of(alloc, OTHER)?),
-        Err(MergeFault::ShapeDiffers)
-    );
-    assert_eq!(rt; station.partial().to_bytes(alloc)?.as_slice(), BOTH);
+    let mut station = station_for(alloc, DISPUTED)?;
+    assert!(rt; station.partial().to_bytes(alloc)?.as_slice() == BARE);
+    for (text, wanted) in [
+        (DISPUTED, Ok(())),
+        (SETTLED, Ok(())),
+        (OTHER, Err(MergeFault::ShapeDiffers)),
+    ] {
+        assert!(rt;
+            station.take(&partial_of(alloc, text)?) == wanted,
+            "{text:?}"
+        );
+    }
+    assert!(rt; station.partial().to_bytes(alloc)?.as_slice() == BOTH);
     Ok(())
 }

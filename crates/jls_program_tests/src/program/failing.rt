@@ -18,12 +18,9 @@ fn stops_where_a_read_fails(rt: HostRuntime) -> Result<(), Fail> {
             ..GOOD
         };
         let found = run_words(rt.alloc(), "join OUT T", manners)?;
-        assert_eq!(rt; found.status, 4);
-        assert_eq!(rt;
-            found.faults.as_slice(),
-            b"jls-salvage: T: read failed\n".as_slice()
-        );
-        assert!(rt; found.output.is_none());
+        let line = b"jls-salvage: T: read failed\n".as_slice();
+        assert!(rt; found.status == 4 && found.output.is_none(), "at {n}");
+        assert!(rt; found.faults.as_slice() == line, "at {n}");
     }
     Ok(())
 }
@@ -78,30 +75,60 @@ fn text_of_front(alloc: Global, lines: usize) -> Result<Vec<u8>, Fail>
     Ok(text)
 }
 
+/// Devices whose reads fail behind so many bytes.
+fn failing_at(count: usize) -> Manners {
+    Manners {
+        reads_fail_at: Some(count),
+        ..GOOD
+    }
+}
+
+/// The line on the fault output if no picture was read.
+const UNREAD: &[u8] = b"jls-salvage: whole: read failed\n";
+
+/// `check` says what was read of a copy whose reads fail behind so many bytes.
+fn check_checked(rt: &impl Abort, alloc: Global, count: usize) -> Result<(), Fail> {
+    let found = run_words(alloc, "check whole", failing_at(count))?;
+    assert!(rt; found.status == 4, "at {count}");
+    if count < 15 {
+        assert!(rt;
+            found.faults.as_slice() == UNREAD && found.report.is_empty(),
+            "at {count}"
+        );
+    } else {
+        let report = report_of_front(alloc, count, true)?;
+        assert!(rt;
+            found.report.as_slice() == report.as_bytes() && found.faults.is_empty(),
+            "at {count}"
+        );
+    }
+    Ok(())
+}
+
+/// `join` keeps it.
+fn check_joined(rt: &impl Abort, alloc: Global, count: usize) -> Result<(), Fail> {
+    let found = run_words(alloc, "join OUT whole", failing_at(count))?;
+    assert!(rt; found.status == 4, "at {count}");
+    if count < 15 {
+        assert!(rt;
+            found.faults.as_slice() == UNREAD && found.output.is_none(),
+            "at {count}"
+        );
+    } else {
+        let text = text_of_front(alloc, lines_in(count))?;
+        assert!(rt;
+            found.output == Some(text) && found.faults.is_empty(),
+            "at {count}"
+        );
+    }
+    Ok(())
+}
+
 #[test]
 fn keeps_what_was_read_of_a_copy(rt: HostRuntime) -> Result<(), Fail> {
-    let alloc = rt.alloc();
     for count in 0..61usize {
-        let manners = Manners {
-            reads_fail_at: Some(count),
-            ..GOOD
-        };
-        let checked = run_words(alloc, "check whole", manners)?;
-        let joined = run_words(alloc, "join OUT whole", manners)?;
-        assert_eq!(rt; (checked.status, joined.status), (4, 4), "at {count}");
-        if count < 15 {
-            let line = b"jls-salvage: whole: read failed\n".as_slice();
-            assert_eq!(rt; checked.faults.as_slice(), line, "at {count}");
-            assert_eq!(rt; joined.faults.as_slice(), line, "at {count}");
-            assert!(rt; checked.report.is_empty() && joined.output.is_none());
-        } else {
-            let report = report_of_front(alloc, count, true)?;
-            let text = text_of_front(alloc, lines_in(count))?;
-            let output = joined.output.ok_or("no output")?;
-            assert_eq!(rt; checked.report.as_slice(), report.as_bytes(), "at {count}");
-            assert_eq!(rt; output.as_slice(), text.as_slice(), "at {count}");
-            assert!(rt; checked.faults.is_empty() && joined.faults.is_empty());
-        }
+        check_checked(&rt, rt.alloc(), count)?;
+        check_joined(&rt, rt.alloc(), count)?;
     }
     Ok(())
 }
@@ -122,10 +149,12 @@ pub(super) fn check_write_failure(
     let found = run_words(alloc, words, manners)?;
     let count = taken.len();
     let line = format!(in alloc; "jls-salvage: OUT: write failed after {count} bytes\n")?;
-    assert_eq!(rt; found.status, 4);
-    assert_eq!(rt; found.faults.as_slice(), line.as_bytes());
+    assert!(rt;
+        found.status == 4 && found.faults.as_slice() == line.as_bytes(),
+        "{words}"
+    );
     let output = found.output.ok_or("no output")?;
-    assert_eq!(rt; output.as_slice(), taken);
+    assert!(rt; output.as_slice() == taken, "{words}");
     Ok(())
 }
 
@@ -150,11 +179,7 @@ fn names_an_output_that_cannot_be_created(rt: HostRuntime) -> Result<(), Fail> {
         ..GOOD
     };
     let found = run_words(rt.alloc(), "join OUT T", manners)?;
-    assert_eq!(rt; found.status, 4);
-    assert_eq!(rt;
-        found.faults.as_slice(),
-        b"jls-salvage: OUT: cannot be created\n".as_slice()
-    );
-    assert!(rt; found.output.is_none());
+    assert!(rt; found.status == 4 && found.output.is_none());
+    assert!(rt; found.faults.as_slice() == b"jls-salvage: OUT: cannot be created\n".as_slice());
     Ok(())
 }

@@ -95,7 +95,7 @@ fn check_row(rt: &impl Abort, alloc: Global, row: &str, manners: Manners) -> Res
         is_refused(alloc, &found, told)?
     };
     assert!(rt; is_right, "{row}");
-    assert_eq!(rt; Ok(found.status), status.parse::<u8>(), "{row}");
+    assert!(rt; Ok(found.status) == status.parse::<u8>(), "{row}");
     Ok(())
 }
 

@@ -172,8 +172,10 @@ const REFUSED: [(&str, u8, &str); 13] = [
 fn check_shown(rt: &impl Abort, alloc: Global, manners: Manners) -> Result<(), Fail> {
     for &(words, status, report) in &SHOWN {
         let found = run_words(alloc, words, manners)?;
-        assert_eq!(rt; found.status, status, "{words}");
-        assert_eq!(rt; found.report.as_slice(), report.as_bytes(), "{words}");
+        assert!(rt;
+            found.status == status && found.report.as_slice() == report.as_bytes(),
+            "{words}"
+        );
         assert!(rt;
             found.faults.is_empty() && found.created.is_empty(),
             "{words}"
@@ -185,13 +187,12 @@ fn check_shown(rt: &impl Abort, alloc: Global, manners: Manners) -> Result<(), F
 fn check_written(rt: &impl Abort, alloc: Global, manners: Manners) -> Result<(), Fail> {
     for &(words, file) in &WRITTEN {
         let found = run_words(alloc, words, manners)?;
-        assert_eq!(rt; found.status, 0, "{words}");
-        let output = found.output.ok_or("no output")?;
-        assert_eq!(rt; output.as_slice(), file, "{words}");
         assert!(rt;
-            found.faults.is_empty() && found.report.is_empty(),
+            found.status == 0 && found.faults.is_empty() && found.report.is_empty(),
             "{words}"
         );
+        let output = found.output.ok_or("no output")?;
+        assert!(rt; output.as_slice() == file, "{words}");
     }
     Ok(())
 }
@@ -248,8 +249,7 @@ fn counts_the_pieces_that_are_not_kept(rt: HostRuntime) -> Result<(), Fail> {
             &mut desk,
             &mut Counted::new(&mut report),
         )?;
-        assert_eq!(rt; status, 1);
-        assert!(rt; report.as_slice() == wanted.as_bytes() && faults.is_empty());
+        assert!(rt; status == 1 && report.as_slice() == wanted.as_bytes() && faults.is_empty());
     }
     Ok(())
 }
@@ -266,8 +266,10 @@ fn refuses(rt: HostRuntime) -> Result<(), Fail> {
     for &(words, status, line) in &REFUSED {
         let found = run_words(alloc, words, GOOD)?;
         let printed = format!(in alloc; "jls-salvage: {line}\n")?;
-        assert_eq!(rt; found.status, status, "{words}");
-        assert_eq!(rt; found.faults.as_slice(), printed.as_bytes(), "{words}");
+        assert!(rt;
+            found.status == status && found.faults.as_slice() == printed.as_bytes(),
+            "{words}"
+        );
         assert!(rt;
             found.created.is_empty() && found.report.is_empty(),
             "{words}"

@@ -8,6 +8,7 @@ use std::alloc::Global;
 use std::fmt::Write;
 use std::io;
 use std::io::Read;
+use std::process::Abort;
 use std::test::Fail;
 
 /// A copy of ten lines of one sample, 0 to 9, each in an interval of its own.
@@ -63,7 +64,7 @@ const COPIES: [(&str, &str, &str); 8] = [
 ];
 
 /// A stream that gives so many of its bytes a read at most, and fails behind the last one if it is broken.
-#[derive(Drop)]
+#[derive(Clone, Copy)]
 struct Slices<'a> {
     bytes: &'a [u8],
     most: usize,
@@ -141,33 +142,37 @@ fn taken_so(alloc: Global, height: u16, slices: Slices<'_>) -> Result<String, Fa
     }
 }
 
+/// What is read of a source, and taken of it, is this.
+fn check_slices(
+    rt: &impl Abort,
+    alloc: Global,
+    slices: Slices<'_>,
+    wanted: &str,
+) -> Result<(), Fail> {
+    let most = slices.most;
+    assert!(rt;
+        read_so(alloc, slices)?.as_str() == wanted,
+        "{wanted} in reads of {most}"
+    );
+    assert!(rt;
+        taken_so(alloc, 10, slices)?.as_str() == wanted,
+        "{wanted} in reads of {most}"
+    );
+    Ok(())
+}
+
 #[test]
 fn copies_in_reads_of_every_size(rt: HostRuntime) -> Result<(), Fail> {
-    let alloc = rt.alloc();
-    for (text, ending, failing) in COPIES {
-        let bytes = bytes_of(alloc, text)?;
+    for &(text, ending, failing) in &COPIES {
+        let bytes = bytes_of(rt.alloc(), text)?;
         for (broken, wanted) in [(false, ending), (true, failing)] {
             for most in [1usize, 7, 4096] {
-                let bytes = &bytes;
-                let read = read_so(
-                    alloc,
-                    Slices {
-                        bytes,
-                        most,
-                        broken,
-                    },
-                )?;
-                assert_eq!(rt; read.as_str(), wanted, "of {text} in reads of {most}");
-                let taken = taken_so(
-                    alloc,
-                    10,
-                    Slices {
-                        bytes,
-                        most,
-                        broken,
-                    },
-                )?;
-                assert_eq!(rt; taken.as_str(), wanted, "of {text} in reads of {most}");
+                let slices = Slices {
+                    bytes: &bytes,
+                    most,
+                    broken,
+                };
+                check_slices(&rt, rt.alloc(), slices, wanted)?;
             }
         }
     }
@@ -183,6 +188,6 @@ fn a_copy_of_another_shape(rt: HostRuntime) -> Result<(), Fail> {
         most: 7,
         broken: false,
     };
-    assert_eq!(rt; taken_so(alloc, 9, slices)?.as_str(), "ShapeDiffers");
+    assert!(rt; taken_so(alloc, 9, slices)?.as_str() == "ShapeDiffers");
     Ok(())
 }
