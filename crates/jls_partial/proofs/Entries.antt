@@ -3,8 +3,7 @@ use Rattle.std.proofs.Common.{◌≡◌, ℕ, ◌<◌, ◌^◌, Bool, true, fals
 use Rattle.std.specs.Prelude.{IfSome, unwrap_or}
 use Rattle.std.specs.declared.cmp.Ordering.{Ordering}
 use Rattle.std.specs.declared.cmp.Ordering.TheVariants.{Less}
-use Rattle.std.specs.Ordering.{nat_cmp, is_eq, eq_by_cmp}
-use Rattle.std.specs.Cmp.{IsTotalOrder}
+use Rattle.std.specs.Ordering.{nat_cmp, eq_by_cmp}
 use Rattle.std.specs.Cmp.Lexicographic.{slice_cmp}
 use Rattle.jls_values.specs.OrderedSet.{OrderedSet, from_list, contains, insert}
 use Rattle.jls_values.specs.OrderedSetLaws.{same_set, contains-from_list, contains-insert}
@@ -12,7 +11,6 @@ use Rattle.std.specs.List.{list_any, AllByRecursion}
 use Rattle.std.specs.List.Sorted.{IsStrictlySortedBy}
 use Rattle.std.specs.BTreeMap.{is_at}
 use Rattle.std.specs.Map.{lookup}
-use Rattle.std.proofs.lemmas.Cmp.{tied_itself}
 use Rattle.std.proofs.lemmas.List.Concat.{flat_map-cons}
 use Rattle.std.proofs.lemmas.List.Folds.{list_any-append}
 use Rattle.jls_values.specs.Shape.{PictureShape}
@@ -23,6 +21,7 @@ use Rattle.jls_partial.specs.InsertFaults.{reading_fault}
 use Rattle.jls_partial.specs.Partial.{PartialPicture, holds}
 use Rattle.jls_partial.specs.LinePlace.{place, place_cmp, place_of}
 use Rattle.jls_partial.specs.Reading.{Reading, reading_cmp}
+use Rattle.jls_partial.proofs.KeyedLists.{none_by, each_by, lookup_by}
 use Rattle.jls_partial.specs.ReadingOrder.{place_total, reading_total, reading_exact, eq_reading, same_place, same_samples, same_reading}
 
 -- the order of sample lists
@@ -47,39 +46,6 @@ any-at_place r p (x ∷ xs) =
     both : (b c d : Bool) → ((b && c) || (b && d)) ≡ (b && (c || d))
     both true c d = refl
     both false c d = refl
-
--- ---- what is kept at keys that rise
-
-module _ {K : Type 0} {R : K → K → Ordering} (total : IsTotalOrder R) (same : (p q : K) → eq_by_cmp R p q ≡ true → p ≡ q) where
-  -- a key that is below all others is none of them
-  none_later : {X : Type 0} (p : K) (es : List (K × X)) → AllByRecursion (λ q. R p q ≡ Less) (map (λ e. e.0) es) → lookup (is_at (R p)) es ≡ None
-  none_later p [] h = refl
-  none_later p (e ∷ es) h = rw h.0 (none_later p es h.1)
-
-  none_by : {X : Type 0} (q p : K) (es : List (K × X)) → is_at (R q) p ≡ true → AllByRecursion (λ q. R p q ≡ Less) (map (λ e. e.0) es)
-      → lookup (is_at (R q)) es ≡ None
-  none_by q p es e h = subst (λ (z : K). lookup (is_at (R z)) es ≡ None) (sym (same q p e)) (none_later p es h)
-
-  -- what holds at each key
-  pub each_by : {X : Type 0} (P : K × X → Type 0) (es : List (K × X)) → IsStrictlySortedBy R (map (λ e. e.0) es)
-      → ((q : K) → IfSome (lookup (is_at (R q)) es) (λ xs. P (q, xs))) → AllByRecursion P es
-  unfolding IsStrictlySortedBy
-  each_by {X} P [] h f = tt
-  each_by {X} P (e ∷ es) h f = (
-    subst (λ b. IfSome (cond b (Some e.1) (lookup (is_at (R e.0)) es)) (λ xs. P (e.0, xs))) (ap is_eq (tied_itself total e.0)) (f e.0),
-    each_by P es h.1 (λ q. elim (is_at (R q) e.0) as (λ b. is_at (R q) e.0 ≡ b → IfSome (cond b (Some e.1) (lookup (is_at (R q)) es)) (λ xs. P (q, xs)) → IfSome (lookup (is_at (R q)) es) (λ xs. P (q, xs))) [
-      | true ↦ λ t g. subst (λ (o : Option X). IfSome o (λ xs. P (q, xs))) (sym (none_by q e.0 es t h.0)) tt
-      | false ↦ λ t g. g
-    ] refl (f q)),
-  )
-
-  pub lookup_by : {X : Type 0} (P : K × X → Type 0) (es : List (K × X)) (q : K) → AllByRecursion P es → IfSome (lookup (is_at (R q)) es) (λ xs. P (q, xs))
-  lookup_by P [] q h = tt
-  lookup_by P (e ∷ es) q h =
-      elim (is_at (R q) e.0) as (λ b. is_at (R q) e.0 ≡ b → IfSome (cond b (Some e.1) (lookup (is_at (R q)) es)) (λ xs. P (q, xs))) [
-        | true ↦ λ t. subst (λ (z : K). P (z, e.1)) (sym (same q e.0 t)) h.0
-        | false ↦ λ t. lookup_by P es q h.1
-      ] refl
 
 pub none_kept : {X : Type 0} (q p : LinePlace) (es : List (LinePlace × X)) → is_at (place_cmp q) p ≡ true
     → AllByRecursion (λ q. place_cmp p q ≡ Less) (map (λ e. e.0) es) → lookup (is_at (place_cmp q)) es ≡ None

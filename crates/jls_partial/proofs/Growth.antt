@@ -8,7 +8,8 @@ use Rattle.jls_values.specs.OrderedSet as set
 use Rattle.jls_values.specs.Shape.{PictureShape}
 use Rattle.jls_values.specs.OrderedSetLaws.{same_set, contains-insert_all, contains-union, insert_all-append}
 use Rattle.jls_partial.specs.Entries.{Entry, kept_at_place, kept_readings, partial_of}
-use Rattle.jls_partial.specs.Held.{LineEntry, kept_entry}
+use Rattle.jls_partial.specs.Held.{kept_entry}
+use Rattle.jls_partial.specs.LineEntries.{LineEntry}
 use Rattle.jls_partial.specs.LineSet.{PictureLines, kept_lines, line_sources}
 use Rattle.jls_partial.specs.Marks.{marks_of}
 use Rattle.jls_partial.specs.Merging.{TakesFront}

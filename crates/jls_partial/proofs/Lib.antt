@@ -3,6 +3,7 @@ pub mod Entries
 pub mod Forks
 pub mod Growth
 pub mod KeptEntries
+pub mod KeyedLists
 pub mod LineMarks
 pub mod LineSets
 pub mod MarkSets

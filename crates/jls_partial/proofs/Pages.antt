@@ -24,7 +24,7 @@ use Rattle.jls_partial.specs.Pages.{Row, Pages, page_cmp, page_of, pages_seen, r
 use Rattle.jls_partial.specs.LinePlace.{place_cmp}
 use Rattle.jls_partial.specs.ReadingOrder.{place_total, same_place}
 use Rattle.jls_partial.specs.Stored.{LineSlots, StoredLines, slots_of_entries, entries_in, rows_seen, stored_at, AreRowsOf, ChangesAt, Extends, lines_in}
-use Rattle.jls_partial.proofs.Entries.{each_by, lookup_by}
+use Rattle.jls_partial.proofs.KeyedLists.{each_by, lookup_by}
 use Rattle.jls_partial.proofs.StoredLines.{UpdatedBy, all_stay, still_packed, lookup_seen}
 
 -- ---- the order of pages

@@ -18,7 +18,8 @@ use Rattle.jls_values.specs.OrderedSetLaws.{same_set, contains-items, contains-i
 use Rattle.jls_values.specs.Shape.{PictureShape}
 use Rattle.jls_partial.specs.declared.line_place.LinePlace.{LinePlace}
 use Rattle.jls_partial.specs.Entries.{Entry, BareEntry, bare, at_place, readings_of_entries, partial_of}
-use Rattle.jls_partial.specs.Held.{IsEntry, AreEntries, LineEntry, kept_entry, bare_entry, IsLineEntry, IsStore, PutsLine, lines_or, PutsAt}
+use Rattle.jls_partial.specs.Held.{IsEntry, AreEntries, kept_entry, bare_entry, IsLineEntry, IsStore}
+use Rattle.jls_partial.specs.LineEntries.{LineEntry, PutsLine, lines_or, PutsAt}
 use Rattle.jls_partial.specs.InsertFaults.{reading_fault}
 use Rattle.jls_partial.specs.LineSet.{PictureLines, AreLineMarksHeld, no_lines, kept_lines, line_sources, with_lines}
 use Rattle.jls_partial.specs.LineSetLaws.{lines_total, lines_exact, line_marks_total}
@@ -32,6 +33,7 @@ use Rattle.jls_partial.specs.ReadingOrder.{place_total, reading_total, reading_e
 use Rattle.jls_partial.specs.Text.{entries}
 use Rattle.jls_partial.proofs.BareEntries.{items_rise, all_members}
 use Rattle.jls_partial.proofs.Entries.{S, samples_at, each_from_lookup, lookup_from_each, holds_kept, fits_kept, countable_at, any_all}
+use Rattle.jls_partial.proofs.KeyedLists.{lookup-map}
 use Rattle.jls_partial.proofs.KeptEntries.{SourcesRise, kept_at, readings_are, holds_reading, holds_mark, has-entries, entries_again}
 use Rattle.jls_partial.proofs.MarkSets.{has_item, has_mark, any_items, any_marks, has_given}
 use Rattle.jls_partial.proofs.ReadBack.{readings_kept}
@@ -96,15 +98,6 @@ no_items = items-from_list lines_total [] tt
 
 kept_none : (p w : ℕ) → kept_lines (no_lines p w) ≡ []
 kept_none p w = ap (map (λ x. (x, line_sources (no_lines p w) x))) no_items
-
-module _ {X Y : Type 0} (f : X → Y) where
-  pub lookup-map : (t : LinePlace → Bool) (es : List (LinePlace × X)) → lookup t (map (λ e. (e.0, f e.1)) es) ≡ option_map f (lookup t es)
-  lookup-map t [] = refl
-  lookup-map t (e ∷ es) =
-      elim (t e.0) as (λ b. cond b (Some (f e.1)) (lookup t (map (λ e. (e.0, f e.1)) es)) ≡ option_map f (cond b (Some e.1) (lookup t es))) [
-        | true ↦ refl
-        | false ↦ lookup-map t es
-      ]
 
 pub kept_there : (p w : ℕ) (es : List LineEntry) (at : LinePlace) → kept_at (map kept_entry es) at ≡ kept_lines (lines_or (no_lines p w) es at)
 kept_there p w es at =

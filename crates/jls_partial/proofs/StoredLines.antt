@@ -16,7 +16,7 @@ use Rattle.jls_partial.specs.declared.slots.Slots.{Slots}
 use Rattle.jls_partial.specs.declared.slots.Slot.{Slot}
 use Rattle.jls_partial.specs.declared.packed_lines.PackedLines.{PackedLines}
 use Rattle.jls_partial.specs.declared.line_place.LinePlace.{LinePlace}
-use Rattle.jls_partial.specs.Held.{LineEntry, PutsAt, PutsLine, lines_or}
+use Rattle.jls_partial.specs.LineEntries.{LineEntry, PutsAt, PutsLine, lines_or}
 use Rattle.jls_partial.specs.Slots.{slots_of}
 use Rattle.jls_partial.specs.InsertFaults.{samples_fault}
 use Rattle.jls_partial.specs.LineSet.{PictureLines, no_lines, with_lines}
@@ -24,11 +24,11 @@ use Rattle.jls_partial.specs.Marks.{marks_of}
 use Rattle.jls_partial.specs.Packed.{Kept, lines_of, IsGap}
 use Rattle.jls_partial.specs.PackedLines.{seen_lines, IsLineSet}
 use Rattle.jls_partial.specs.LinePlace.{place_cmp}
+use Rattle.jls_partial.specs.ReadingOrder.{place_total, same_place}
 use Rattle.jls_partial.specs.Stored.{LineSlots, slots_of_entries, seen_entries, stored, stored_at, AreSlotsPacked, ChangesAt, Extends, lines_in}
-use Rattle.jls_partial.proofs.Entries.{each_from_lookup, lookup_from_each}
+use Rattle.jls_partial.proofs.KeyedLists.{lookup-map, each_by, lookup_by}
 use Rattle.jls_partial.proofs.LineSets.{none_kept, put_kept, put_seen, with_own, fitting_length, length_kept, marks_held}
 use Rattle.jls_partial.proofs.PackedLines.{lines_stay, kept_lines, inside_more}
-use Rattle.jls_partial.proofs.Store.{lookup-map}
 
 -- ---- more samples behind those that are there
 
@@ -152,10 +152,10 @@ module _ (old new : PackedLines) (longer : Extends old new) (es fs : List LineSl
       record {
         precision_at_most = still.precision_at_most;
         width_at_least = still.width_at_least;
-        each = each_from_lookup P fs order (λ q. subst (λ (o : Option (List Slot)). IfSome o (λ ss. P (q, ss))) (sym (u q))
+        each = each_by place_total same_place P fs order (λ q. subst (λ (o : Option (List Slot)). IfSome o (λ ss. P (q, ss))) (sym (u q))
             (elim (is_at (place_cmp at) q) as (λ b. IfSome (cond b (Some slots) (lookup (is_at (place_cmp q)) es)) (λ ss. P (q, ss))) [
               | true ↦ kept
-              | false ↦ lookup_from_each P es q still.each
+              | false ↦ lookup_by place_total same_place P es q still.each
             ]));
       }
 
@@ -195,7 +195,7 @@ pub slots_found : (packed : PackedLines) (es : List (LinePlace × Slots)) (at : 
 slots_found packed es at slots rows_packed found =
     let P : LineSlots → Type 0 = λ e. IsLineSet packed.precision packed.width packed.samples.items e.1 in
     subst (λ (o : Option (List Slot)). IfSome o (λ ss. P (at, ss))) (lookup-map slots_of (is_at (place_cmp at)) es ∙ ap (option_map slots_of) found)
-    (lookup_from_each P (slots_of_entries es) at rows_packed.each)
+    (lookup_by place_total same_place P (slots_of_entries es) at rows_packed.each)
 
 -- an slots that is seen as the one before changes nothing
 pub entries_same : (es gs : List (LinePlace × Slots)) (at : LinePlace) (x y : Slots) → lookup (is_at (place_cmp at)) es ≡ Some x

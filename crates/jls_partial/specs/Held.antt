@@ -1,18 +1,17 @@
--- What the program's store keeps for a partial picture: a set of lines for each place that has a reading, in the order of the places.
-use Rattle.std.specs.BTreeMap.{is_at}
+-- What a store keeps for a partial picture: a set of lines for each place that has a reading, in the order of the places.
 use Rattle.std.specs.Cmp.Lexicographic.{slice_cmp}
 use Rattle.std.specs.List.{AllByRecursion}
 use Rattle.std.specs.List.Sorted.{IsStrictlySortedBy}
-use Rattle.std.specs.Map.{lookup}
 use Rattle.std.specs.Ordering.{nat_cmp}
-use Rattle.std.specs.Prelude.{◌≡◌, ℕ, true, ◌≤◌, ◌<◌, ◌^◌, None, Some, List, [], ◌∷◌, length, map, unwrap_or, slice_get, if◌then◌else◌}
+use Rattle.std.specs.Prelude.{◌≡◌, ℕ, true, ◌≤◌, ◌<◌, ◌^◌, None, List, length, map}
 use Rattle.jls_values.specs.OrderedSet as set
 use Rattle.jls_values.specs.Shape.{PictureShape}
-use Rattle.jls_partial.specs.declared.line_place.LinePlace.{LinePlace}
 use Rattle.jls_partial.specs.Entries.{BareEntry, Entry}
 use Rattle.jls_partial.specs.InsertFaults.{reading_fault}
-use Rattle.jls_partial.specs.LineSet.{PictureLines, AreLineMarksHeld, kept_lines, with_lines}
+use Rattle.jls_partial.specs.LineEntries.{LineEntry}
 use Rattle.jls_partial.specs.LinePlace.{place_cmp}
+use Rattle.jls_partial.specs.LineSet.{AreLineMarksHeld, kept_lines}
+use Rattle.jls_partial.specs.Stored.{StoredLines}
 
 -- one line: it has a reading, its readings rise, they are few enough to be counted, and each fits the shape
 pub record IsEntry (shape : PictureShape) (e : BareEntry) : Type 0 where
@@ -26,11 +25,7 @@ pub record AreEntries (shape : PictureShape) (entries : List BareEntry) : Type 0
   pub sorted : IsStrictlySortedBy place_cmp (map (λ e. e.0) entries)
   pub each : AllByRecursion (IsEntry shape) entries
 
--- what is kept of one line
-abbrev pub LineEntry : Type 0
-LineEntry = LinePlace × PictureLines
-
--- it as an entry, with the sources of each reading and without them
+-- what is kept of one line as an entry, with the sources of each reading and without them
 abbrev pub kept_entry : LineEntry → Entry
 kept_entry e = (e.0, kept_lines e.1)
 
@@ -49,21 +44,8 @@ pub record IsStore (shape : PictureShape) (entries : List LineEntry) : Type 0 wh
   pub sorted : IsStrictlySortedBy place_cmp (map (λ e. e.0) entries)
   pub each : AllByRecursion (IsLineEntry shape) entries
 
--- one line with its sources was put in; there are few enough lines to be counted, and each source is of one of them
-pub record PutsLine (old : PictureLines) (samples sources : List ℕ) (new : PictureLines) : Type 0 where
-  pub new_is : new ≡ with_lines old ((samples, sources) ∷ [])
-  pub countable : length (set.items new.lines) < 2 ^ 64
-  pub marks_held : AreLineMarksHeld new
-
--- the line that has i others below it got a source
-pub record MarksLine (old : PictureLines) (i source : ℕ) (new : PictureLines) : Type 0 where
-  pub puts : (samples : List ℕ) → slice_get (set.items old.lines) i ≡ Some samples → PutsLine old samples (source ∷ []) new
-
--- the lines at a place, or where there are none these
-abbrev pub lines_or : PictureLines → List LineEntry → LinePlace → PictureLines
-lines_or none entries at = unwrap_or (lookup (is_at (place_cmp at)) entries) none
-
--- at one place these lines are kept now, and elsewhere nothing has changed
-abbrev pub PutsAt : List LineEntry → LinePlace → PictureLines → List LineEntry → Type 0
-PutsAt old at lines new = (q : LinePlace) → lookup (is_at (place_cmp q)) new
-    ≡ (if is_at (place_cmp at) q then Some lines else lookup (is_at (place_cmp q)) old)
+-- a store for a picture of this shape
+pub record IsStoreOf (shape : PictureShape) (store : StoredLines) : Type 0 where
+  pub precision : store.precision ≡ shape.precision
+  pub width : store.width ≡ shape.width
+  pub kept : IsStore shape store.entries

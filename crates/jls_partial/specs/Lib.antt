@@ -2,6 +2,7 @@ pub mod Entries
 pub mod Equality
 pub mod Held
 pub mod InsertFaults
+pub mod LineEntries
 pub mod LinePlace
 pub mod LineSet
 pub mod LineSetLaws

@@ -7,8 +7,7 @@ use Rattle.jls_partial.specs.declared.slots.Slots.{Slots}
 use Rattle.jls_partial.specs.declared.slots.Slot.{Slot}
 use Rattle.jls_partial.specs.declared.packed_lines.PackedLines.{PackedLines}
 use Rattle.jls_partial.specs.declared.line_place.LinePlace.{LinePlace}
-use Rattle.jls_values.specs.Shape.{PictureShape}
-use Rattle.jls_partial.specs.Held.{LineEntry, IsStore, PutsAt, PutsLine, MarksLine, lines_or}
+use Rattle.jls_partial.specs.LineEntries.{LineEntry, PutsAt, PutsLine, MarksLine, lines_or}
 use Rattle.jls_partial.specs.Slots.{slots_of}
 use Rattle.jls_partial.specs.LineSet.{PictureLines, coded_lines, no_lines}
 use Rattle.jls_partial.specs.PackedLines.{seen_lines, IsLineSet}
@@ -66,12 +65,6 @@ pub record AreSlotsPacked (precision width : ℕ) (packed : List ℕ) (es : List
 
 abbrev pub AreRowsOf : PackedLines → List (LinePlace × Slots) → Type 0
 AreRowsOf packed es = AreSlotsPacked packed.precision packed.width packed.samples.items (slots_of_entries es)
-
--- a store for a picture of this shape
-pub record IsStoreOf (shape : PictureShape) (store : StoredLines) : Type 0 where
-  pub precision : store.precision ≡ shape.precision
-  pub width : store.width ≡ shape.width
-  pub kept : IsStore shape store.entries
 
 -- a store of what is packed, with these entries
 abbrev pub stored : PackedLines → List LineEntry → StoredLines

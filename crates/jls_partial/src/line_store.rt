@@ -49,7 +49,7 @@ pub(crate) struct Entries<'a> {
 }
 
 impl<'a> Model for Entries<'a> {
-    ghost use Rattle.jls_partial.specs.Held.{LineEntry};
+    ghost use Rattle.jls_partial.specs.LineEntries.{LineEntry};
     ghost use Rattle.jls_partial.specs.Pages.{AreRowsLeft, rows_of};
     ghost use Rattle.jls_partial.specs.Stored.{coded_line_entry, entries_in};
     ghost use Rattle.std.specs.Coded.{coded_list};

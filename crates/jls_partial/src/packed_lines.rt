@@ -2,7 +2,7 @@
 
 ghost use Rattle.std.specs.Prelude.{◌≡◌, ◌<◌, ◌≤◌, ◌+◌, ◌++◌, ◌∷◌, [], length, true, not, IfOk, IsOk, OnOk, OnErr};
 ghost use Rattle.std.specs.Prelude.{vec_len, vec_capacity};
-ghost use Rattle.jls_partial.specs.Held.{MarksLine};
+ghost use Rattle.jls_partial.specs.LineEntries.{MarksLine};
 ghost use Rattle.jls_partial.specs.Slots.{slots_of};
 ghost use Rattle.jls_partial.specs.InsertFaults.{samples_fault};
 ghost use Rattle.jls_partial.specs.LineSet.{with_lines};

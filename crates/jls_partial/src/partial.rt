@@ -37,8 +37,7 @@ impl Model for Partial {
     ghost coded = { coded_partial };
 
     ghost use Rattle.jls_partial.specs.Entries.{partial_of};
-    ghost use Rattle.jls_partial.specs.Held.{kept_entry};
-    ghost use Rattle.jls_partial.specs.Stored.{IsStoreOf};
+    ghost use Rattle.jls_partial.specs.Held.{IsStoreOf, kept_entry};
     ghost use Rattle.std.specs.Prelude.{map};
 
     ghost view = { λ a. partial_of a.shape (map kept_entry a.store.entries) };

@@ -1,6 +1,7 @@
 use Rattle.std.proofs.Common.{map, ap}
 use Rattle.jls_partial.specs.Entries.{Entry}
-use Rattle.jls_partial.specs.Held.{LineEntry, kept_entry}
+use Rattle.jls_partial.specs.Held.{kept_entry}
+use Rattle.jls_partial.specs.LineEntries.{LineEntry}
 use Rattle.jls_partial.specs.Text.{entries}
 use Rattle.jls_partial.proofs.SameEntries.{one_done, same_next, along_end, places_from_test, places_apart}
 use Rattle.jls_partial.proofs.equality.same_entries.Goals as goal

@@ -2,7 +2,7 @@ use Rattle.std.proofs.Common.{◌≡◌, ◌<◌, List, length, set, map, ap, sy
 use Rattle.std.specs.BTreeMap.{is_at}
 use Rattle.std.proofs.lemmas.Result.{on_ok_weaker, on_err_weaker}
 use Rattle.jls_values.specs.OrderedSet as sets
-use Rattle.jls_partial.specs.Held.{MarksLine}
+use Rattle.jls_partial.specs.LineEntries.{MarksLine}
 use Rattle.jls_partial.specs.Slots.{slots_of}
 use Rattle.jls_partial.specs.LineSet.{PictureLines, no_lines}
 use Rattle.jls_partial.specs.Packed.{IsGap}

@@ -1,7 +1,7 @@
 use Rattle.std.proofs.Common.{◌≡◌, ◌++◌, ◌<◌, ◌^◌, ℕ, List, [], ◌∷◌, length, ap, sym, subst, ◌∙◌, arith}
 use Rattle.jls_partial.specs.declared.slots.Slot.{Slot}
 use Rattle.jls_partial.specs.declared.line_place.PageNumber.{PageNumber}
-use Rattle.jls_partial.specs.Held.{PutsLine}
+use Rattle.jls_partial.specs.LineEntries.{PutsLine}
 use Rattle.jls_partial.specs.Slots.{slots_of}
 use Rattle.jls_partial.specs.LineSet.{no_lines}
 use Rattle.jls_partial.specs.PackedLines.{seen_lines, IsLineSet}

@@ -10,7 +10,7 @@ use Rattle.std.proofs.lemmas.Result.{on_ok_weaker, on_err_weaker}
 use Rattle.jls_values.specs.OrderedSetLaws.{contains-empty}
 use Rattle.jls_values.specs.OrderedSet as set
 use Rattle.jls_partial.specs.declared.line_place.PageNumber.{PageNumber}
-use Rattle.jls_partial.specs.Held.{PutsLine}
+use Rattle.jls_partial.specs.LineEntries.{PutsLine}
 use Rattle.jls_partial.specs.LineSet.{PictureLines}
 use Rattle.jls_partial.specs.Pages.{Row, page_cmp, page_of, pages_seen}
 use Rattle.jls_partial.specs.Stored.{TakesLine, holds_line, rows_seen}

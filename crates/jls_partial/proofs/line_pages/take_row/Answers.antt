@@ -6,7 +6,7 @@ use Rattle.jls_values.specs.OrderedSetLaws.{contains-empty}
 use Rattle.std.proofs.lemmas.Result.{err_from_is_err_and}
 use Rattle.jls_values.specs.OrderedSet as sets
 use Rattle.jls_partial.specs.declared.slots.Slot.{Slot}
-use Rattle.jls_partial.specs.Held.{PutsLine}
+use Rattle.jls_partial.specs.LineEntries.{PutsLine}
 use Rattle.jls_partial.specs.Slots.{slots_of}
 use Rattle.jls_partial.specs.LineSet.{PictureLines, no_lines, with_lines}
 use Rattle.jls_partial.specs.Packed.{IsGap}

@@ -2,7 +2,8 @@ use Rattle.std.proofs.Common.{◌≡◌, ◌∙◌, ◌∷◌, ◌++◌, List, �
 use Rattle.std.specs.List.{AllByRecursion}
 use Rattle.std.proofs.lemmas.Result.{err_from_is_err_and}
 use Rattle.jls_partial.specs.Entries.{kept_at_place, kept_readings}
-use Rattle.jls_partial.specs.Held.{LineEntry, IsLineEntry, kept_entry}
+use Rattle.jls_partial.specs.Held.{IsLineEntry, kept_entry}
+use Rattle.jls_partial.specs.LineEntries.{LineEntry}
 use Rattle.jls_partial.specs.LineSet.{kept_lines}
 use Rattle.jls_partial.specs.Partial.{PartialPicture}
 use Rattle.jls_partial.specs.Reading.{Reading}

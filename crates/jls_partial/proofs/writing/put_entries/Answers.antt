@@ -2,7 +2,8 @@ use Rattle.std.proofs.Common.{◌∙◌, ◌++◌, List, ℕ, map, ap, sym, appe
 use Rattle.std.specs.List.{flat_map}
 use Rattle.std.proofs.lemmas.List.{append-nil}
 use Rattle.std.proofs.lemmas.List.Concat.{flat_map-cons}
-use Rattle.jls_partial.specs.Held.{LineEntry, kept_entry}
+use Rattle.jls_partial.specs.Held.{kept_entry}
+use Rattle.jls_partial.specs.LineEntries.{LineEntry}
 use Rattle.jls_partial.specs.Text.{entry_text}
 use Rattle.jls_partial.specs.declared.version.Version.TheVariants.{Two}
 use Rattle.jls_partial.proofs.writing.put_entries.Goals as goal

@@ -1,5 +1,5 @@
 use Rattle.std.proofs.Common.{sym, subst}
-use Rattle.jls_partial.specs.Stored.{IsStoreOf}
+use Rattle.jls_partial.specs.Held.{IsStoreOf}
 use Rattle.jls_partial.proofs.Store.{none_stored}
 use Rattle.jls_partial.proofs.partial.Partial.empty.Goals as goal
 

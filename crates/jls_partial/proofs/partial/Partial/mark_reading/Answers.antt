@@ -4,10 +4,10 @@ use Rattle.jls_values.specs.OrderedSet as set
 use Rattle.jls_values.specs.Shape.{PictureShape}
 use Rattle.jls_partial.specs.declared.line_place.LinePlace.{LinePlace}
 use Rattle.jls_partial.specs.Entries.{at_place, partial_of}
-use Rattle.jls_partial.specs.Held.{kept_entry}
+use Rattle.jls_partial.specs.Held.{IsStoreOf, kept_entry}
 use Rattle.jls_partial.specs.InsertFaults.{reading_fault}
 use Rattle.jls_partial.specs.Partial.{PartialPicture, readings_at, with_all, with_marks}
-use Rattle.jls_partial.specs.Stored.{StoredLines, IsStoreOf, stored_at}
+use Rattle.jls_partial.specs.Stored.{StoredLines, stored_at}
 use Rattle.jls_partial.proofs.Marked.{got_held, taken_is_marked}
 use Rattle.jls_partial.proofs.Store.{IsAt, is_there, readings_at_there, kept_put, seen_put}
 use Rattle.jls_partial.proofs.Views.{got_held as got_there}
