@@ -3,7 +3,6 @@ pub mod Held
 pub mod InTurn
 pub mod InputBytes
 pub mod JoinSteps
-pub mod Mapped
 pub mod NextInputs
 mod StatusExamples
 pub mod Told

@@ -1,3 +1,4 @@
 pub mod CopyEnds
 pub mod CopySteps
+pub mod Mapped
 pub mod OneInput

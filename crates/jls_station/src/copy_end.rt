@@ -53,10 +53,9 @@ pub(crate) fn read_of_copy(
     ensures refused { IfErr result (λ fault. IfSome reader (λ bytes. IsCopyRefused bytes stop fault)) }
 {
     let count = reader.fed();
-    let read = match reader.finish() {
-        Ok(read) => read,
-        Err(fault) => return Err(copy_fault(fault, stop, count)),
-    };
+    let read = reader
+        .finish()
+        .map_err(|fault| copy_fault(fault, stop, count))?;
     let piece_count = read.piece_count();
     let ended = read.ended();
     let (mut partial, pieces) = read.into_parts();
@@ -67,8 +66,6 @@ pub(crate) fn read_of_copy(
         count,
         stop,
     };
-    match put_source(&mut partial, source) {
-        Ok(()) => Ok(CopyGiven { partial, report }),
-        Err(_) => Err(InputFault::OutOfMemory),
-    }
+    put_source(&mut partial, source)?;
+    Ok(CopyGiven { partial, report })
 }

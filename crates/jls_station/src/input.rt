@@ -9,6 +9,7 @@ ghost use Rattle.jls_station.specs.Inputs.{IsEnough, IsCopyDone, ReadsGive, Read
 ghost use Rattle.jls_station.specs.InputFaults.{input_fault_of};
 ghost use Rattle.jls_station.specs.Reading.{IsRead, ReadSoFar};
 ghost use Rattle.jls_station.specs.Texts.{is_text, IsTextOf};
+ghost use Rattle.jls_station.specs.declared.input.InputFault.TheVariants.{OutOfMemory};
 ghost use Rattle.jls_station.specs.declared.input.ReadStop.TheVariants.{Whole};
 
 use crate::copy_end::{CopyGiven, read_of_copy};
@@ -18,7 +19,7 @@ use jls_copy::{CopyReader, copies_have_one_course};
 use jls_device::Source;
 use jls_marker::MarkerFault;
 use jls_partial::{Partial, TextFault};
-use std::alloc::Global;
+use std::alloc::{AllocError, Global};
 use std::marker::Model;
 
 /// How the reading of an input stopped.
@@ -43,6 +44,14 @@ pub enum InputFault {
     Read(ReadStop, u64),
     /// Memory ran out for it.
     OutOfMemory,
+}
+
+impl From<AllocError> for InputFault {
+    ghost from_gives = { λ _ fault. fault ≡ OutOfMemory };
+
+    fn from(_error: AllocError) -> InputFault {
+        InputFault::OutOfMemory
+    }
 }
 
 /// What was read of an input. Clauses see it as what the input gave.
@@ -153,14 +162,8 @@ fn read_text<S: Source>(device: &mut S, first: &[u8], text: &mut Vec<u8>) -> Res
         → OnOk result (IfSome before (λ bytes. bytes ≡ text.new.items)) }
 {
     text.clear();
-    match text.extend_from_slice(first) {
-        Ok(()) => {}
-        Err(_) => return Err(InputFault::OutOfMemory),
-    }
-    let stop = match read_text_on(device, text) {
-        Ok(stop) => stop,
-        Err(_) => return Err(InputFault::OutOfMemory),
-    };
+    text.extend_from_slice(first)?;
+    let stop = read_text_on(device, text)?;
     match stop {
         ReadStop::Whole => Ok(()),
         stop => Err(InputFault::Read(stop, text.len() as u64)),
@@ -184,14 +187,8 @@ fn read_copy<S: Source>(
     ensures copy { IfOk result (λ given. given.copy ≡ None → ⊥) }
 {
     let mut reader = CopyReader::new(alloc);
-    match reader.feed(first) {
-        Ok(()) => {}
-        Err(_) => return Err(InputFault::OutOfMemory),
-    }
-    let stop = match read_copy_on(device, &mut reader, 1) {
-        Ok(stop) => stop,
-        Err(_) => return Err(InputFault::OutOfMemory),
-    };
+    reader.feed(first)?;
+    let stop = read_copy_on(device, &mut reader, 1)?;
     let given = read_of_copy(source, reader, stop)?;
     let CopyGiven { partial, report } = given;
     Ok(InputRead::of_copy(partial, report))
@@ -220,10 +217,9 @@ pub fn read_form<S: Source>(
 {
     copies_have_one_course();
     let mut chunk = [0u8; 4096];
-    let count = match device.read_some(&mut chunk) {
-        Ok(count) => count,
-        Err(_) => return Err(InputFault::Read(ReadStop::Failed, 0)),
-    };
+    let count = device
+        .read_some(&mut chunk)
+        .map_err(|_| InputFault::Read(ReadStop::Failed, 0))?;
     if count == 0 {
         return Err(InputFault::NoPicture(MarkerFault::Ended, 0));
     }
@@ -254,12 +250,12 @@ pub fn read_input<S: Source>(
     ensures known { IfOk result (λ given. given.copy ≡ None → IfSome (S.remaining device.old) (λ bytes. IsTextOf bytes given.partial)) }
 {
     let mut text = Vec::new(alloc);
-    match read_form(alloc, source, device, &mut text) {
-        Ok(InputForm::Text) => match Partial::from_bytes(alloc, &text) {
-            Ok(partial) => Ok(InputRead::of_text(partial)),
-            Err(fault) => Err(input_fault(fault)),
-        },
-        Ok(InputForm::Copy(read)) => Ok(read),
-        Err(fault) => Err(fault),
+    let form = read_form(alloc, source, device, &mut text)?;
+    match form {
+        InputForm::Text => {
+            let partial = Partial::from_bytes(alloc, &text).map_err(input_fault)?;
+            Ok(InputRead::of_text(partial))
+        }
+        InputForm::Copy(read) => Ok(read),
     }
 }

@@ -52,14 +52,8 @@ fn read_from_start<S: Source>(
     ensures refused { IfErr result (λ fault. GrewBy (CopyStops fault) (S.history device.old) (S.history device.new)) }
 {
     let mut reader = CopyReader::new(alloc);
-    let stop = match read_copy_on(device, &mut reader, 0) {
-        Ok(stop) => stop,
-        Err(_) => return Err(TakeFault::OutOfMemory),
-    };
-    match read_of_copy(source, reader, stop) {
-        Ok(given) => Ok(given),
-        Err(fault) => Err(take_fault(fault)),
-    }
+    let stop = read_copy_on(device, &mut reader, 0).map_err(|_| TakeFault::OutOfMemory)?;
+    read_of_copy(source, reader, stop).map_err(take_fault)
 }
 
 impl Station {

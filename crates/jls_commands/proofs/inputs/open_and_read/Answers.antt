@@ -2,7 +2,7 @@ use Rattle.std.proofs.Common.{None, [], rules}
 use Rattle.std.proofs.lemmas.Result.{err_from_is_err_and}
 use Rattle.jls_commands.specs.declared.outcome.Refusal.TheVariants.{Input}
 use Rattle.jls_commands.proofs.InTurn.{opened_and_given, opened_and_refused, not_opened_at_all}
-use Rattle.jls_commands.proofs.Mapped.{error_so, value_so}
+use Rattle.jls_station.proofs.Mapped.{error_so, value_so}
 use Rattle.jls_commands.proofs.inputs.open_and_read.Goals as goal
 
 pub returns-in_err-open-clause-stopped : goal.returns-in_err-open-clause-stopped

@@ -6,7 +6,7 @@ use Rattle.jls_partial.specs.Text.{text}
 use Rattle.jls_commands.specs.AllInputs.{names_of, TakesUnion}
 use Rattle.jls_commands.specs.declared.outcome.Refusal.TheVariants.{OutOfMemory}
 use Rattle.jls_commands.proofs.JoinSteps.{ends_at_input, ends_for_memory, is_done, ends_at_output}
-use Rattle.jls_commands.proofs.Mapped.{error_at, value_at}
+use Rattle.jls_station.proofs.Mapped.{error_at, value_at}
 use Rattle.jls_commands.proofs.joining.join.Goals as goal
 
 pub returns-in_err-taken : goal.returns-in_err-taken

@@ -2,7 +2,7 @@ use Rattle.std.proofs.Common.{rules}
 use Rattle.std.proofs.lemmas.Result.{err_from_is_err_and}
 use Rattle.jls_commands.specs.declared.outcome.Refusal.TheVariants.{NotWritten}
 use Rattle.jls_commands.proofs.JoinSteps.{created_and_cut, not_created_at_all}
-use Rattle.jls_commands.proofs.Mapped.{error_so}
+use Rattle.jls_station.proofs.Mapped.{error_so}
 use Rattle.jls_commands.proofs.output.write_output.Goals as goal
 
 pub returns-in_err-create-clause-stopped : goal.returns-in_err-create-clause-stopped

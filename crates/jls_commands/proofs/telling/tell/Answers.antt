@@ -5,7 +5,7 @@ use Rattle.jls_partial.specs.Partial.{PartialPicture}
 use Rattle.jls_partial.specs.Status.{IsSettled}
 use Rattle.jls_commands.specs.Telling.{lines}
 use Rattle.jls_commands.specs.declared.outcome.Refusal.TheVariants.{OutOfMemory}
-use Rattle.jls_commands.proofs.Mapped.{error_at, value_at}
+use Rattle.jls_station.proofs.Mapped.{error_at, value_at}
 use Rattle.jls_commands.proofs.Told.{told_at_input, told_for_memory, told, told_in_part}
 use Rattle.jls_commands.proofs.telling.tell.Goals as goal
 

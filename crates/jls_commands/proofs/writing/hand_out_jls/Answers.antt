@@ -4,7 +4,7 @@ use Rattle.jls_file.specs.WrittenFile.{written_file}
 use Rattle.jls_picture.specs.Options.{OptionsFit}
 use Rattle.jls_commands.specs.WritingFiles.{cut_refusal}
 use Rattle.jls_commands.proofs.JoinSteps.{not_created_at_all}
-use Rattle.jls_commands.proofs.Mapped.{error_so}
+use Rattle.jls_station.proofs.Mapped.{error_so}
 use Rattle.jls_commands.proofs.Written.{cut_in_file, stops_before, stopped_by_output}
 use Rattle.jls_commands.proofs.writing.hand_out_jls.Goals as goal
 

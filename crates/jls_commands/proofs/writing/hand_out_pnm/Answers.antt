@@ -3,7 +3,7 @@ use Rattle.std.proofs.lemmas.Result.{err_from_is_err_and}
 use Rattle.jls_picture.specs.Pnm.{pnm}
 use Rattle.jls_commands.specs.WritingFiles.{cut_refusal}
 use Rattle.jls_commands.proofs.JoinSteps.{not_created_at_all}
-use Rattle.jls_commands.proofs.Mapped.{error_so}
+use Rattle.jls_station.proofs.Mapped.{error_so}
 use Rattle.jls_commands.proofs.Written.{cut_after}
 use Rattle.jls_commands.proofs.writing.hand_out_pnm.Goals as goal
 

@@ -7,7 +7,7 @@ use Rattle.jls_partial.specs.Status.{IsSettled}
 use Rattle.jls_picture.specs.Picture.{WholePicture, picture_of}
 use Rattle.jls_picture.specs.Unsettled.{NamesFirstUnsettled}
 use Rattle.jls_commands.specs.WritingFiles.{file, FitsFormat, IsTooLarge, takes_memory, StopsAtFile, unsettled_refusal}
-use Rattle.jls_commands.proofs.Mapped.{error_at, value_at}
+use Rattle.jls_station.proofs.Mapped.{error_at, value_at}
 use Rattle.jls_commands.proofs.Written.{stops_at_input, stops_unsettled, is_written, stops_at_file}
 use Rattle.jls_commands.proofs.writing.write.Goals as goal
 

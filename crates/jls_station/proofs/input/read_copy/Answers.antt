@@ -6,31 +6,33 @@ use Rattle.jls_station.proofs.CopyEnds.{copy_gives, copy_refused}
 use Rattle.jls_station.proofs.OneInput.{out_of_memory_in_part, part_of_input, read_in_part}
 use Rattle.jls_station.proofs.input.read_copy.Goals as goal
 
-pub returns-in-Err-clause-refused : goal.returns-in-Err-clause-refused
-returns-in-Err-clause-refused g c before h =
+pub returns-in_err-feed-clause-refused : goal.returns-in_err-feed-clause-refused
+returns-in_err-feed-clause-refused g c before h =
     let now = g.S.Device.history c.args.device.now in
-    out_of_memory_in_part before now (part_of_input before now (read_in_part IsCopyDone 1 before now now c.args.first.now h (omega arith)))
+    let p = err_from_is_err_and c.from_residual.result c.from_residual.ensures.1 in
+    rw (p.1, p.2) (out_of_memory_in_part before now (part_of_input before now (read_in_part IsCopyDone 1 before now now c.args.first.now h (omega arith))))
 
-pub returns-in-Err-read_copy_on-clause-refused : goal.returns-in-Err-read_copy_on-clause-refused
-returns-in-Err-read_copy_on-clause-refused g c before h =
+pub returns-in_err-stop-clause-refused : goal.returns-in_err-stop-clause-refused
+returns-in_err-stop-clause-refused g c before h =
     let now = g.S.Device.history c.read_copy_on.new.device in
-    let fed : c.feed.new.self ≡ Some c.args.first.now = c.in-Ok.ensures.ok ∙ ap (λ (o : Option (List ℕ)). after o c.args.first.now) c.new-reader.ensures in
-    out_of_memory_in_part before now (part_of_input before now (c.in-Err-read_copy_on.ensures.refused before c.args.first.now fed h))
+    let fed : c.feed.new.self ≡ Some c.args.first.now = c.in_ok-feed.ensures.ok ∙ ap (λ (o : Option (List ℕ)). after o c.args.first.now) c.new-reader.ensures in
+    let p = err_from_is_err_and c.from_residual-in_err-stop.result c.from_residual-in_err-stop.ensures.1 in
+    rw (p.1, p.2) (out_of_memory_in_part before now (part_of_input before now (c.in_err-stop.ensures.refused before c.args.first.now fed h)))
 
 pub returns-clause-given : goal.returns-clause-given
 returns-clause-given g c before h =
     let first = c.args.first.now in
-    let fed : c.feed.new.self ≡ Some first = c.in-Ok.ensures.ok ∙ ap (λ (o : Option (List ℕ)). after o first) c.new-reader.ensures in
-    let e = c.in-Ok-read_copy_on.ensures in
+    let fed : c.feed.new.self ≡ Some first = c.in_ok-feed.ensures.ok ∙ ap (λ (o : Option (List ℕ)). after o first) c.new-reader.ensures in
+    let e = c.in_ok-stop.ensures in
     let given = c.in_ok-given.given in
-    copy_gives c.args.source first c.in-Ok-read_copy_on.stop before (g.S.Device.history c.read_copy_on.new.device) c.requires.no_text c.read_copy_on.new.reader given.partial given.report c.of_copy.result c.of_copy.ensures
+    copy_gives c.args.source first c.in_ok-stop.stop before (g.S.Device.history c.read_copy_on.new.device) c.requires.no_text c.read_copy_on.new.reader given.partial given.report c.of_copy.result c.of_copy.ensures
     (e.begins first fed c.requires.some) (e.read before first fed h) c.in_ok-given.ensures.given
 
 pub returns-in_err-given-clause-refused : goal.returns-in_err-given-clause-refused
 returns-in_err-given-clause-refused g c before h =
     let first = c.args.first.now in
-    let fed : c.feed.new.self ≡ Some first = c.in-Ok.ensures.ok ∙ ap (λ (o : Option (List ℕ)). after o first) c.new-reader.ensures in
-    let e = c.in-Ok-read_copy_on.ensures in
-    let p = err_from_is_err_and c.from_residual.result c.from_residual.ensures.1 in
-    rw (p.1, p.2) (copy_refused c.args.source first c.in-Ok-read_copy_on.stop before (g.S.Device.history c.read_copy_on.new.device) c.requires.no_text c.read_copy_on.new.reader c.in_err-given.field-0.0
+    let fed : c.feed.new.self ≡ Some first = c.in_ok-feed.ensures.ok ∙ ap (λ (o : Option (List ℕ)). after o first) c.new-reader.ensures in
+    let e = c.in_ok-stop.ensures in
+    let p = err_from_is_err_and c.from_residual-in_err-given.result c.from_residual-in_err-given.ensures.1 in
+    rw (p.1, p.2) (copy_refused c.args.source first c.in_ok-stop.stop before (g.S.Device.history c.read_copy_on.new.device) c.requires.no_text c.read_copy_on.new.reader c.in_err-given.field-0.0
     (e.begins first fed c.requires.some) (e.read before first fed h) c.in_err-given.ensures.refused)

@@ -1,30 +1,36 @@
 use Rattle.std.proofs.Common.{rules, ◌≡◌, ◌<◌, ℕ, List, [], ap, refl, sym, subst, arith, length, take}
 use Rattle.std.proofs.lemmas.List.{length-take}
-use Rattle.std.proofs.lemmas.Result.{err_from_is_err_and}
+use Rattle.std.proofs.lemmas.Result.{IfErr-at_err, IfOk-at_ok, err_from_is_err_and}
 use Rattle.jls_marker.specs.declared.fault.MarkerFault.TheVariants as marker
 use Rattle.jls_device.specs.Event.{GrewBy}
 use Rattle.jls_station.specs.Inputs.{IsEnough, IsCopyDone, no_picture, copy_not_read}
 use Rattle.jls_station.specs.Reading.{AreBytes, ReadSoFar}
 use Rattle.jls_station.specs.declared.input.ReadStop.TheVariants.{Whole, Failed}
 use Rattle.jls_station.specs.declared.input.InputFault.TheVariants as fault
+use Rattle.jls_station.proofs.Mapped.{error_at, value_at}
 use Rattle.jls_station.proofs.OneInput.{nothing_read, one_read_more, read_to_end, read_to_failure, refused_for, empty_gives_none, empty_goes_on}
 use Rattle.jls_station.proofs.input.read_form.Goals as goal
 
-pub returns-in-Err-clause-refused : goal.returns-in-Err-clause-refused
-returns-in-Err-clause-refused g c =
+pub returns-in_err-count-clause-refused : goal.returns-in_err-count-clause-refused
+returns-in_err-count-clause-refused g c =
     let old = g.S.Device.history c.args.device.now in
     let new = g.S.Device.history c.read_some.new.self in
-    refused_for old new [] Failed
-    (read_to_failure IsEnough 0 old old new [] (nothing_read IsEnough 0 old old old []) c.in-Err.ensures.failed (λ e. empty_goes_on c.copies_have_one_course.ensures e.1) (omega arith))
-    (fault.Read Failed 0) (copy_not_read [] Failed marker.Ended 0 refl (λ t. absurd cc) empty_gives_none)
+    let made = error_at _ (λ _. fault.Read Failed 0) (λ e r made. search rules) c.read_some.result c.map_err.result c.in_err-count.field-0.0 c.map_err.ensures.cases c.in_err-count.was in
+    let failed = IfErr-at_err _ made.2 c.read_some.ensures.failed in
+    let p = err_from_is_err_and c.from_residual.result c.from_residual.ensures.1 in
+    rw (p.1, p.2, made.1) (refused_for old new [] Failed
+    (read_to_failure IsEnough 0 old old new [] (nothing_read IsEnough 0 old old old []) failed (λ e. empty_goes_on c.copies_have_one_course.ensures e.1) (omega arith))
+    (fault.Read Failed 0) (copy_not_read [] Failed marker.Ended 0 refl (λ t. absurd cc) empty_gives_none))
 
 pub returns-then-count-eq0-clause-refused : goal.returns-then-count-eq0-clause-refused
 returns-then-count-eq0-clause-refused g c =
     let old = g.S.Device.history c.args.device.now in
     let new = g.S.Device.history c.read_some.new.self in
+    let was = value_at _ c.read_some.result c.map_err.result c.in_ok-count.count c.map_err.ensures.cases c.in_ok-count.was in
+    let read = IfOk-at_ok _ was c.read_some.ensures.read in
     let room : length c.read_some.new.into ≡ 4096 = search rules in
     refused_for old new [] Whole
-    (read_to_end IsEnough 0 old old new [] 4096 (take c.in-Ok.count c.read_some.new.into) (nothing_read IsEnough 0 old old old []) (rw room at c.in-Ok.ensures.read)
+    (read_to_end IsEnough 0 old old new [] 4096 (take c.in_ok-count.count c.read_some.new.into) (nothing_read IsEnough 0 old old old []) (rw room at read)
     (ap (λ (k : ℕ). take k c.read_some.new.into) c.if-count-eq0.true) (λ e. empty_goes_on c.copies_have_one_course.ensures e.1) (omega arith) (omega arith) (omega arith))
     (fault.NoPicture marker.Ended 0) (no_picture [] marker.Ended 0 refl empty_gives_none)
 
@@ -32,37 +38,46 @@ pub returns-in_ok-read_text-clause-form : goal.returns-in_ok-read_text-clause-fo
 returns-in_ok-read_text-clause-form g c =
     let old = g.S.Device.history c.args.device.now in
     let mid = g.S.Device.history c.read_some.new.self in
-    let given = take c.in-Ok.count c.read_some.new.into in
+    let given = take c.in_ok-count.count c.read_some.new.into in
+    let was = value_at _ c.read_some.result c.map_err.result c.in_ok-count.count c.map_err.ensures.cases c.in_ok-count.was in
+    let read = IfOk-at_ok _ was c.read_some.ensures.read in
+    let within = IfOk-at_ok _ was c.read_some.ensures.within in
     let room : length c.read_some.new.into ≡ 4096 = search rules in
-    let some : 0 < length given = omega (arith, length-take c.in-Ok.count c.read_some.new.into, c.in-Ok.ensures.within, c.if-count-eq0.false) in
+    let some : 0 < length given = omega (arith, length-take c.in_ok-count.count c.read_some.new.into, within, c.if-count-eq0.false) in
     let so_far = subst (λ (t : List ℕ). GrewBy (ReadSoFar IsEnough 1 t) old mid) (sym c.front-first.ensures.front)
-    (one_read_more IsEnough 0 old old mid [] 4096 given (nothing_read IsEnough 0 old old old []) (rw room at c.in-Ok.ensures.read)
+    (one_read_more IsEnough 0 old old mid [] 4096 given (nothing_read IsEnough 0 old old old []) (rw room at read)
     (λ e. empty_goes_on c.copies_have_one_course.ensures e.1) (omega arith) some (subst AreBytes c.front-first.ensures.front c.front-first.ensures.bytes)) in
-    let read = c.in_ok-read_text.ensures.read old so_far in
-    record { events = read.events; grew = read.grew; they_are = (read.they_are, c.in_ok-read_text.ensures.text) }
+    let all = c.in_ok-read_text.ensures.read old so_far in
+    record { events = all.events; grew = all.grew; they_are = (all.they_are, c.in_ok-read_text.ensures.text) }
 
 pub returns-in_err-read_text-clause-refused : goal.returns-in_err-read_text-clause-refused
 returns-in_err-read_text-clause-refused g c =
     let old = g.S.Device.history c.args.device.now in
     let mid = g.S.Device.history c.read_some.new.self in
-    let given = take c.in-Ok.count c.read_some.new.into in
+    let given = take c.in_ok-count.count c.read_some.new.into in
+    let was = value_at _ c.read_some.result c.map_err.result c.in_ok-count.count c.map_err.ensures.cases c.in_ok-count.was in
+    let read = IfOk-at_ok _ was c.read_some.ensures.read in
+    let within = IfOk-at_ok _ was c.read_some.ensures.within in
     let room : length c.read_some.new.into ≡ 4096 = search rules in
-    let some : 0 < length given = omega (arith, length-take c.in-Ok.count c.read_some.new.into, c.in-Ok.ensures.within, c.if-count-eq0.false) in
+    let some : 0 < length given = omega (arith, length-take c.in_ok-count.count c.read_some.new.into, within, c.if-count-eq0.false) in
     let so_far = subst (λ (t : List ℕ). GrewBy (ReadSoFar IsEnough 1 t) old mid) (sym c.front-first.ensures.front)
-    (one_read_more IsEnough 0 old old mid [] 4096 given (nothing_read IsEnough 0 old old old []) (rw room at c.in-Ok.ensures.read)
+    (one_read_more IsEnough 0 old old mid [] 4096 given (nothing_read IsEnough 0 old old old []) (rw room at read)
     (λ e. empty_goes_on c.copies_have_one_course.ensures e.1) (omega arith) some (subst AreBytes c.front-first.ensures.front c.front-first.ensures.bytes)) in
-    let p = err_from_is_err_and c.from_residual.result c.from_residual.ensures.1 in
+    let p = err_from_is_err_and c.from_residual-in_err-read_text.result c.from_residual-in_err-read_text.ensures.1 in
     rw (p.1, p.2) (c.in_err-read_text.ensures.refused old so_far)
 
 pub returns-in_ok-read-clause-form : goal.returns-in_ok-read-clause-form
 returns-in_ok-read-clause-form g c =
     let old = g.S.Device.history c.args.device.now in
     let mid = g.S.Device.history c.read_some.new.self in
-    let given = take c.in-Ok.count c.read_some.new.into in
+    let given = take c.in_ok-count.count c.read_some.new.into in
+    let was = value_at _ c.read_some.result c.map_err.result c.in_ok-count.count c.map_err.ensures.cases c.in_ok-count.was in
+    let read = IfOk-at_ok _ was c.read_some.ensures.read in
+    let within = IfOk-at_ok _ was c.read_some.ensures.within in
     let room : length c.read_some.new.into ≡ 4096 = search rules in
-    let some : 0 < length given = omega (arith, length-take c.in-Ok.count c.read_some.new.into, c.in-Ok.ensures.within, c.if-count-eq0.false) in
+    let some : 0 < length given = omega (arith, length-take c.in_ok-count.count c.read_some.new.into, within, c.if-count-eq0.false) in
     let so_far = subst (λ (t : List ℕ). GrewBy (ReadSoFar IsCopyDone 1 t) old mid) (sym c.front-first.ensures.front)
-    (one_read_more IsCopyDone 0 old old mid [] 4096 given (nothing_read IsCopyDone 0 old old old []) (rw room at c.in-Ok.ensures.read)
+    (one_read_more IsCopyDone 0 old old mid [] 4096 given (nothing_read IsCopyDone 0 old old old []) (rw room at read)
     (empty_goes_on c.copies_have_one_course.ensures) (omega arith) some (subst AreBytes c.front-first.ensures.front c.front-first.ensures.bytes)) in
     c.in_ok-read.ensures.given old so_far
 
@@ -70,11 +85,14 @@ pub returns-in_err-read-clause-refused : goal.returns-in_err-read-clause-refused
 returns-in_err-read-clause-refused g c =
     let old = g.S.Device.history c.args.device.now in
     let mid = g.S.Device.history c.read_some.new.self in
-    let given = take c.in-Ok.count c.read_some.new.into in
+    let given = take c.in_ok-count.count c.read_some.new.into in
+    let was = value_at _ c.read_some.result c.map_err.result c.in_ok-count.count c.map_err.ensures.cases c.in_ok-count.was in
+    let read = IfOk-at_ok _ was c.read_some.ensures.read in
+    let within = IfOk-at_ok _ was c.read_some.ensures.within in
     let room : length c.read_some.new.into ≡ 4096 = search rules in
-    let some : 0 < length given = omega (arith, length-take c.in-Ok.count c.read_some.new.into, c.in-Ok.ensures.within, c.if-count-eq0.false) in
+    let some : 0 < length given = omega (arith, length-take c.in_ok-count.count c.read_some.new.into, within, c.if-count-eq0.false) in
     let so_far = subst (λ (t : List ℕ). GrewBy (ReadSoFar IsCopyDone 1 t) old mid) (sym c.front-first.ensures.front)
-    (one_read_more IsCopyDone 0 old old mid [] 4096 given (nothing_read IsCopyDone 0 old old old []) (rw room at c.in-Ok.ensures.read)
+    (one_read_more IsCopyDone 0 old old mid [] 4096 given (nothing_read IsCopyDone 0 old old old []) (rw room at read)
     (empty_goes_on c.copies_have_one_course.ensures) (omega arith) some (subst AreBytes c.front-first.ensures.front c.front-first.ensures.bytes)) in
     let p = err_from_is_err_and c.from_residual-in_err-read.result c.from_residual-in_err-read.ensures.1 in
     rw (p.1, p.2) (c.in_err-read.ensures.refused old so_far)

@@ -1,36 +1,47 @@
-use Rattle.std.proofs.Common.{[]}
+use Rattle.std.proofs.Common.{rules, []}
+use Rattle.std.proofs.lemmas.Result.{IfErr-at_err, IfOk-at_ok, err_from_is_err_and}
 use Rattle.jls_device.proofs.Growing.{grew_as}
 use Rattle.jls_station.specs.Inputs.{IsCopyDone}
 use Rattle.jls_station.specs.Reading.{IsReadInPart}
 use Rattle.jls_station.specs.TakingCopies.{CopyStops, between_reads}
 use Rattle.jls_station.specs.declared.take_copy.TakeFault.TheVariants as take
 use Rattle.jls_station.proofs.CopyEnds.{is_taken, whole_copy_gives, whole_copy_stops}
+use Rattle.jls_station.proofs.Mapped.{error_as, error_at, value_at, value_so}
 use Rattle.jls_station.proofs.OneInput.{nothing_read}
 use Rattle.jls_station.proofs.take_copy.read_from_start.Goals as goal
 
-pub returns-in-Err-clause-refused : goal.returns-in-Err-clause-refused
-returns-in-Err-clause-refused g c =
+pub returns-in_err-stop-clause-refused : goal.returns-in_err-stop-clause-refused
+returns-in_err-stop-clause-refused g c =
     let old = g.S.Device.history c.args.device.now in
     let new = g.S.Device.history c.read_copy_on.new.device in
-    grew_as (IsReadInPart IsCopyDone) (CopyStops take.OutOfMemory) old new (λ reads h. between_reads reads h)
-    (c.in-Err.ensures.refused old [] c.new-reader.ensures (nothing_read IsCopyDone 0 old old old []))
+    let made = error_at _ (λ _. take.OutOfMemory) (λ e r made. search rules) c.read_copy_on.result c.map_err.result c.in_err-stop.field-0.0 c.map_err.ensures.cases c.in_err-stop.was in
+    let in_part = IfErr-at_err _ made.2 (c.read_copy_on.ensures.refused old [] c.new-reader.ensures (nothing_read IsCopyDone 0 old old old [])) in
+    let p = err_from_is_err_and c.from_residual.result c.from_residual.ensures.1 in
+    rw (p.1, p.2, made.1) (grew_as (IsReadInPart IsCopyDone) (CopyStops take.OutOfMemory) old new (λ reads h. between_reads reads h) in_part)
 
-pub returns-in-Ok-read_of_copy-clause-given : goal.returns-in-Ok-read_of_copy-clause-given
-returns-in-Ok-read_of_copy-clause-given g c =
+pub map_err-requires-2 : goal.map_err-requires-2
+map_err-requires-2 g c = λ fault is.
+    let old = g.S.Device.history c.args.device.now in
+    let was = value_at _ c.read_copy_on.result c.map_err.result c.in_ok-stop.stop c.map_err.ensures.cases c.in_ok-stop.was in
+    let read = IfOk-at_ok _ was (c.read_copy_on.ensures.read old [] c.new-reader.ensures (nothing_read IsCopyDone 0 old old old [])) in
+    is_taken _ c.read_copy_on.new.reader c.in_ok-stop.stop fault read (IfErr-at_err _ is c.read_of_copy.ensures.refused)
+
+pub returns-clause-given : goal.returns-clause-given
+returns-clause-given g c =
     let old = g.S.Device.history c.args.device.now in
     let new = g.S.Device.history c.read_copy_on.new.device in
-    whole_copy_gives c.args.source c.in-Ok.stop old new c.read_copy_on.new.reader c.in-Ok-read_of_copy.given.partial c.in-Ok-read_of_copy.given.report
-    (c.in-Ok.ensures.read old [] c.new-reader.ensures (nothing_read IsCopyDone 0 old old old [])) c.in-Ok-read_of_copy.ensures.given
+    let was = value_at _ c.read_copy_on.result c.map_err.result c.in_ok-stop.stop c.map_err.ensures.cases c.in_ok-stop.was in
+    let read = IfOk-at_ok _ was (c.read_copy_on.ensures.read old [] c.new-reader.ensures (nothing_read IsCopyDone 0 old old old [])) in
+    value_so _ c.read_of_copy.result c.map_err-2.result _ _
+    (λ given h. whole_copy_gives c.args.source c.in_ok-stop.stop old new c.read_copy_on.new.reader given.partial given.report read h)
+    c.map_err-2.ensures.cases c.read_of_copy.ensures.given
 
-pub returns-in-Err-read_of_copy-clause-refused : goal.returns-in-Err-read_of_copy-clause-refused
-returns-in-Err-read_of_copy-clause-refused g c =
+pub returns-clause-refused : goal.returns-clause-refused
+returns-clause-refused g c =
     let old = g.S.Device.history c.args.device.now in
     let new = g.S.Device.history c.read_copy_on.new.device in
-    whole_copy_stops c.args.source c.in-Ok.stop old new c.read_copy_on.new.reader c.in-Err-read_of_copy.fault c.take_fault.result
-    (c.in-Ok.ensures.read old [] c.new-reader.ensures (nothing_read IsCopyDone 0 old old old [])) c.in-Err-read_of_copy.ensures.refused c.take_fault.ensures
-
-pub take_fault-requires : goal.take_fault-requires
-take_fault-requires g c =
-    let old = g.S.Device.history c.args.device.now in
-    is_taken _ c.read_copy_on.new.reader c.in-Ok.stop c.in-Err-read_of_copy.fault
-    (c.in-Ok.ensures.read old [] c.new-reader.ensures (nothing_read IsCopyDone 0 old old old [])) c.in-Err-read_of_copy.ensures.refused
+    let was = value_at _ c.read_copy_on.result c.map_err.result c.in_ok-stop.stop c.map_err.ensures.cases c.in_ok-stop.was in
+    let read = IfOk-at_ok _ was (c.read_copy_on.ensures.read old [] c.new-reader.ensures (nothing_read IsCopyDone 0 old old old [])) in
+    error_as _ c.read_of_copy.result c.map_err-2.result _ _
+    (λ fault taken made h. whole_copy_stops c.args.source c.in_ok-stop.stop old new c.read_copy_on.new.reader fault taken read h (search rules))
+    c.map_err-2.ensures.cases c.read_of_copy.ensures.refused

@@ -20,6 +20,13 @@ module _ {T E D : Type 0} (made : E → D → Type 0) where
   value_at (Err e) s x is at = absurd (subst (λ (t : Result T D). IsErrAnd t (made e)) at is)
 
   -- the error that is made, if there is one
+  pub error_as : (r : Result T E) (s : Result T D) (P : E → Type 0) (Q : D → Type 0) → ((e : E) (d : D) → made e d → P e → Q d) → Mapped r s
+      → IfErr r P → IfErr s Q
+  error_as (Ok x) s P Q so is p = subst (λ (t : Result T D). IfErr t Q) (sym is) tt
+  error_as (Err e) (Ok x) P Q so is p = absurd is
+  error_as (Err e) (Err d) P Q so is p = so e d is p
+
+  -- the same, where each error makes one
   module _ (f : E → D) (means : (e : E) (d : D) → made e d → d ≡ f e) where
     pub error_so : (r : Result T E) (s : Result T D) (P : E → Type 0) (Q : D → Type 0) → ((e : E) → P e → Q (f e)) → Mapped r s → IfErr r P
         → IfErr s Q
