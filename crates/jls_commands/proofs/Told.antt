@@ -11,11 +11,11 @@ use Rattle.jls_commands.specs.Outcomes.{finished, name_of}
 use Rattle.jls_commands.specs.declared.outcome.Refusal.{Refusal}
 use Rattle.jls_commands.specs.declared.outcome.Refusal.TheVariants as refusal
 use Rattle.jls_commands.specs.Histories.{GrewBoth}
-use Rattle.jls_commands.specs.Telling.{Says, Tells, done, at_input, no_memory, not_printed}
+use Rattle.jls_commands.specs.Reporting.{Says, PrintsReport, done, at_input, no_memory, not_printed}
 
 module _ (lines : Given → List ℕ) (name : List ℕ) (desk desk' report report' : History) where
   pub told_at_input : (r : Refusal) → name_of r ≡ name → GrewBy (StopsAt None [] r) desk desk'
-      → GrewBoth (Tells lines name (Err r)) desk desk' report report
+      → GrewBoth (PrintsReport lines name (Err r)) desk desk' report report
   told_at_input r named h = record {
     desk_events = h.events;
     report_events = [];
@@ -26,7 +26,7 @@ module _ (lines : Given → List ℕ) (name : List ℕ) (desk desk' report repor
 
   module _ (g : Given) (taken : GrewBy (IsTaken None name g) desk desk') where
     pub told_for_memory : (file : Bor (List ℕ)) → file.now ≡ name
-        → GrewBoth (Tells lines name (Err (refusal.OutOfMemory file))) desk desk' report report
+        → GrewBoth (PrintsReport lines name (Err (refusal.OutOfMemory file))) desk desk' report report
     told_for_memory file named = record {
       desk_events = taken.events;
       report_events = [];
@@ -36,7 +36,7 @@ module _ (lines : Given → List ℕ) (name : List ℕ) (desk desk' report repor
     }
 
     pub told : (settled whole : Bool) (printed : List ℕ) → printed ≡ lines g → Says g settled whole → GrewBy (Wrote printed) report report'
-        → GrewBoth (Tells lines name (finished settled whole)) desk desk' report report'
+        → GrewBoth (PrintsReport lines name (finished settled whole)) desk desk' report report'
     told settled whole printed is says h = record {
       desk_events = taken.events;
       report_events = h.events;
@@ -46,7 +46,7 @@ module _ (lines : Given → List ℕ) (name : List ℕ) (desk desk' report repor
     }
 
     pub told_in_part : (out : Bor (List ℕ)) (count : ℕ) (printed : List ℕ) → printed ≡ lines g → out.now ≡ codes "-"
-        → GrewBy (WroteFront printed count) report report' → GrewBoth (Tells lines name (Err (refusal.NotWritten out count))) desk desk' report report'
+        → GrewBy (WroteFront printed count) report report' → GrewBoth (PrintsReport lines name (Err (refusal.NotWritten out count))) desk desk' report report'
     told_in_part out count printed is named h = record {
       desk_events = taken.events;
       report_events = h.events;

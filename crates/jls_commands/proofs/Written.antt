@@ -25,7 +25,7 @@ use Rattle.jls_commands.specs.declared.outcome.Refusal.{Refusal}
 use Rattle.jls_commands.specs.declared.outcome.Refusal.TheVariants as refusal
 use Rattle.jls_commands.proofs.InTurn.{grew_behind}
 use Rattle.jls_commands.proofs.JoinSteps.{created_and_cut}
-use Rattle.jls_commands.specs.Telling.{Says}
+use Rattle.jls_commands.specs.Reporting.{Says}
 use Rattle.jls_commands.specs.WritingFiles.{cut_refusal, file, FitsFormat, IsTooLarge, options_for, takes_memory, StopsAtFile, too_large, at_output, no_memory, unsettled_refusal, WritesFile, done, at_input, unsettled, at_file}
 use Rattle.jls_commands.specs.declared.writing.Format.{Format}
 use Rattle.jls_commands.specs.declared.writing.Format.TheVariants.{Pnm, Jls}

@@ -5,6 +5,6 @@ pub mod Joining
 pub mod Laws
 pub mod Outcomes
 pub mod Outputs
-pub mod Telling
+pub mod Reporting
 pub mod Tracing
 pub mod WritingFiles

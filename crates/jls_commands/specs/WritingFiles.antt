@@ -23,7 +23,7 @@ use Rattle.jls_commands.specs.Outputs.{HandsOut, StopsAtOutput}
 use Rattle.jls_commands.specs.Outcomes.{Outcome, finished, name_of}
 use Rattle.jls_commands.specs.declared.outcome.Refusal.{Refusal}
 use Rattle.jls_commands.specs.declared.outcome.Refusal.TheVariants as refusal
-use Rattle.jls_commands.specs.Telling.{Says}
+use Rattle.jls_commands.specs.Reporting.{Says}
 use Rattle.jls_commands.specs.declared.writing.Format.{Format}
 use Rattle.jls_commands.specs.declared.writing.Format.TheVariants.{Pnm, Jls}
 

@@ -6,7 +6,7 @@ mod joining;
 mod laws;
 mod outcome;
 mod output;
-mod telling;
+mod reporting;
 mod tracing;
 mod writing;
 
@@ -14,5 +14,5 @@ pub use inputs::JoinInputs;
 pub use joining::join;
 pub use laws::{same_inputs_same_output, surviving_lines_give_the_picture};
 pub use outcome::{Done, Refusal, exit_status};
-pub use telling::tell;
+pub use reporting::print_report;
 pub use writing::{Format, write};

@@ -20,8 +20,8 @@ use Rattle.jls_station.specs.declared.input.InputFault.{InputFault}
 use Rattle.jls_station.specs.declared.input.InputFault.TheVariants as fault
 use Rattle.jls_commands.specs.declared.outcome.Refusal.{Refusal}
 use Rattle.jls_commands.specs.declared.outcome.Refusal.TheVariants as refusal
-use Rattle.jls_commands.specs.Telling as telling
-use Rattle.jls_commands.specs.Telling.{Tells, lines}
+use Rattle.jls_commands.specs.Reporting as reporting
+use Rattle.jls_commands.specs.Reporting.{PrintsReport, lines}
 use Rattle.jls_commands.specs.WritingFiles as writing
 use Rattle.jls_commands.specs.WritingFiles.{WritesFile, StopsAtFile, FitsFormat}
 use Rattle.jls_commands.specs.declared.writing.Format.{Format}
@@ -161,14 +161,14 @@ join_in_part source out names _ _ (joining.at_output _ _ _ r p whole reading wri
     absurd (not_at_output _ r written stops (parts_fine reading written fine).1)
 
 tell_in_part : (traced : Bool) (name : List ℕ) (outcome : Outcome) (events reported : List Event)
-    → Tells (lines traced) name outcome events reported → exit_status outcome ≡ 4 → NothingElseFailed events → NothingElseFailed reported
+    → PrintsReport (lines traced) name outcome events reported → exit_status outcome ≡ 4 → NothingElseFailed events → NothingElseFailed reported
     → TellsInPart traced name events reported ⊎ (EndsAtUnread None (name ∷ []) events × (reported ≡ []))
-tell_in_part traced name _ events reported (telling.done _ g settled whole _ _ taken says wrote) e fine quiet =
+tell_in_part traced name _ events reported (reporting.done _ g settled whole _ _ taken says wrote) e fine quiet =
     inl (record { g = g; taken = taken; in_part = λ is. not_whole whole (all_not_read settled whole e) (says.whole_is.1 is); printed = wrote })
-tell_in_part traced name _ events _ (telling.at_input _ r _ named h) e fine quiet =
+tell_in_part traced name _ events _ (reporting.at_input _ r _ named h) e fine quiet =
     inr (ends_at_first name events (subst (λ (n : List ℕ). IsUnread n events) named (unread_at_input None [] r events h e fine)), refl)
-tell_in_part traced name _ events _ (telling.no_memory _ n g _ named taken) e fine quiet = absurd (omega (arith, e))
-tell_in_part traced name _ events reported (telling.not_printed _ n g count _ _ named taken wrote) e fine quiet =
+tell_in_part traced name _ events _ (reporting.no_memory _ n g _ named taken) e fine quiet = absurd (omega (arith, e))
+tell_in_part traced name _ events reported (reporting.not_printed _ n g count _ _ named taken wrote) e fine quiet =
     absurd (not_cut (lines traced g) count reported wrote quiet)
 
 file_in_part : {P : Type 0} (F L : Type 0) (takes : Bool) (bytes : List ℕ) (r : Refusal) (events : List Event)

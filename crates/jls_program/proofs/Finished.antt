@@ -19,8 +19,8 @@ use Rattle.jls_commands.specs.declared.outcome.Refusal.{Refusal}
 use Rattle.jls_commands.specs.declared.outcome.Refusal.TheVariants as refusal
 use Rattle.jls_station.specs.declared.input.InputFault.{InputFault}
 use Rattle.jls_station.specs.declared.input.InputFault.TheVariants as fault
-use Rattle.jls_commands.specs.Telling as telling
-use Rattle.jls_commands.specs.Telling.{Tells, lines}
+use Rattle.jls_commands.specs.Reporting as reporting
+use Rattle.jls_commands.specs.Reporting.{PrintsReport, lines}
 use Rattle.jls_commands.specs.WritingFiles as writing
 use Rattle.jls_commands.specs.WritingFiles.{WritesFile, StopsAtFile, unsettled_refusal}
 use Rattle.jls_picture.specs.Unsettled.{NamesFirstUnsettled}
@@ -137,10 +137,10 @@ join_finished source out names _ events desk desk' (joining.no_memory _ _ _ n p 
 join_finished source out names _ _ desk desk' (joining.at_output _ _ _ r p whole reading writing named h stops) e le = let k = status_at_output _ r writing stops in absurd (omega (arith, k, le))
 
 tell_finished : (traced : Bool) (name : Text) (outcome : Outcome) (events reported : List Event) (desk desk' report report' : History)
-    → Tells (lines traced) name outcome events reported
+    → PrintsReport (lines traced) name outcome events reported
     → desk' ≡ desk ++ events → report' ≡ report ++ reported → exit_status outcome ≤ 1
     → (g : Given) × TellRan traced name g (exit_status outcome) desk desk' report report' × (fault_line outcome ≡ [])
-tell_finished traced name _ events reported desk desk' report report' (telling.done _ g settled whole _ _ taken says wrote) e d le =
+tell_finished traced name _ events reported desk desk' report report' (reporting.done _ g settled whole _ _ taken says wrote) e d le =
     let s = done_status settled whole g.partial says.settled_is le in (
       g,
       record {
@@ -151,10 +151,10 @@ tell_finished traced name _ events reported desk desk' report report' (telling.d
       },
       refl,
     )
-tell_finished traced name _ events _ desk desk' report report' (telling.at_input _ r _ named h) e d le =
+tell_finished traced name _ events _ desk desk' report report' (reporting.at_input _ r _ named h) e d le =
     let k = status_at_input None [] r events h in absurd (omega (arith, k, le))
-tell_finished traced name _ events _ desk desk' report report' (telling.no_memory _ n g _ named taken) e d le = absurd (omega (arith, le))
-tell_finished traced name _ events reported desk desk' report report' (telling.not_printed _ n g count _ _ named taken wrote) e d le =
+tell_finished traced name _ events _ desk desk' report report' (reporting.no_memory _ n g _ named taken) e d le = absurd (omega (arith, le))
+tell_finished traced name _ events reported desk desk' report report' (reporting.not_printed _ n g count _ _ named taken wrote) e d le =
     absurd (omega (arith, le))
 
 write_finished : (format : Format) (out name : Text) (outcome : Outcome) (events : List Event) (desk desk' : History)

@@ -14,8 +14,8 @@ use Rattle.jls_commands.specs.declared.outcome.Refusal.{Refusal}
 use Rattle.jls_commands.specs.declared.outcome.Refusal.TheVariants as refusal
 use Rattle.jls_station.specs.declared.input.InputFault.{InputFault}
 use Rattle.jls_station.specs.declared.input.InputFault.TheVariants as fault
-use Rattle.jls_commands.specs.Telling as telling
-use Rattle.jls_commands.specs.Telling.{Tells, lines}
+use Rattle.jls_commands.specs.Reporting as reporting
+use Rattle.jls_commands.specs.Reporting.{PrintsReport, lines}
 use Rattle.jls_commands.specs.WritingFiles as writing
 use Rattle.jls_commands.specs.WritingFiles.{WritesFile, StopsAtFile}
 use Rattle.jls_commands.specs.declared.writing.Format.{Format}
@@ -99,12 +99,12 @@ join_unfit source out names _ _ (joining.at_output _ _ _ r p whole reading writt
     let k = output_is_4 _ r written stops in absurd (omega (arith, k, e))
 
 tell_unfit : (traced : Bool) (name : List ℕ) (outcome : Outcome) (events reported : List Event)
-    → Tells (lines traced) name outcome events reported → exit_status outcome ≡ 3 → EndsAtUnfit None (name ∷ []) events
-tell_unfit traced name _ events reported (telling.done _ g settled whole _ _ taken says wrote) e = absurd (done_not_3 settled whole e)
-tell_unfit traced name _ events _ (telling.at_input _ r _ named h) e = ends_at_one name r events named h e
-tell_unfit traced name _ events _ (telling.no_memory _ n g _ named taken) e =
+    → PrintsReport (lines traced) name outcome events reported → exit_status outcome ≡ 3 → EndsAtUnfit None (name ∷ []) events
+tell_unfit traced name _ events reported (reporting.done _ g settled whole _ _ taken says wrote) e = absurd (done_not_3 settled whole e)
+tell_unfit traced name _ events _ (reporting.at_input _ r _ named h) e = ends_at_one name r events named h e
+tell_unfit traced name _ events _ (reporting.no_memory _ n g _ named taken) e =
     absurd (omega (arith, e))
-tell_unfit traced name _ events reported (telling.not_printed _ n g count _ _ named taken wrote) e =
+tell_unfit traced name _ events reported (reporting.not_printed _ n g count _ _ named taken wrote) e =
     absurd (omega (arith, e))
 
 file_not_3 : (F L : Type 0) (takes : Bool) (bytes : List ℕ) (r : Refusal) (events : List Event) → StopsAtFile F L takes bytes r events
@@ -167,12 +167,12 @@ join_not_2 source out names _ _ (joining.at_output _ _ _ r p whole reading writt
     let k = output_is_4 _ r written stops in absurd (omega (arith, k, e))
 
 tell_not_2 : (traced : Bool) (name : List ℕ) (outcome : Outcome) (events reported : List Event)
-    → Tells (lines traced) name outcome events reported → exit_status outcome ≡ 2 → ⊥
-tell_not_2 traced name _ events reported (telling.done _ g settled whole _ _ taken says wrote) e = done_not_2 settled whole e
-tell_not_2 traced name _ events _ (telling.at_input _ r _ named h) e = input_not_2 None [] r events h e
-tell_not_2 traced name _ events _ (telling.no_memory _ n g _ named taken) e =
+    → PrintsReport (lines traced) name outcome events reported → exit_status outcome ≡ 2 → ⊥
+tell_not_2 traced name _ events reported (reporting.done _ g settled whole _ _ taken says wrote) e = done_not_2 settled whole e
+tell_not_2 traced name _ events _ (reporting.at_input _ r _ named h) e = input_not_2 None [] r events h e
+tell_not_2 traced name _ events _ (reporting.no_memory _ n g _ named taken) e =
     absurd (omega (arith, e))
-tell_not_2 traced name _ events reported (telling.not_printed _ n g count _ _ named taken wrote) e =
+tell_not_2 traced name _ events reported (reporting.not_printed _ n g count _ _ named taken wrote) e =
     absurd (omega (arith, e))
 
 -- the file is not begun, and is too large

@@ -22,8 +22,8 @@ use Rattle.jls_station.specs.declared.input.InputFault.{InputFault}
 use Rattle.jls_station.specs.declared.input.InputFault.TheVariants as fault
 use Rattle.jls_commands.specs.declared.outcome.Refusal.{Refusal}
 use Rattle.jls_commands.specs.declared.outcome.Refusal.TheVariants as refusal
-use Rattle.jls_commands.specs.Telling as telling
-use Rattle.jls_commands.specs.Telling.{Tells, lines}
+use Rattle.jls_commands.specs.Reporting as reporting
+use Rattle.jls_commands.specs.Reporting.{PrintsReport, lines}
 use Rattle.jls_commands.specs.WritingFiles as writing
 use Rattle.jls_commands.specs.WritingFiles.{WritesFile, StopsAtFile}
 use Rattle.jls_commands.specs.declared.writing.Format.{Format}
@@ -177,14 +177,14 @@ join_failed source out names _ events (joining.no_memory _ _ _ n p whole _ named
 join_failed source out names _ _ (joining.at_output _ _ _ r p whole reading written named h stops) e = failed_right reading written (failed_at_output _ r written stops)
 
 tell_failed : (traced : Bool) (name : List ℕ) (outcome : Outcome) (events reported : List Event)
-    → Tells (lines traced) name outcome events reported
+    → PrintsReport (lines traced) name outcome events reported
     → exit_status outcome ≡ 4 → HadFailure events ⊎ HadFailure reported
-tell_failed traced name _ events reported (telling.done _ g settled whole _ _ taken says wrote) e =
+tell_failed traced name _ events reported (reporting.done _ g settled whole _ _ taken says wrote) e =
     inl (taken_in_part None name g events taken (λ is. not_whole settled whole e (says.whole_is.1 is)))
-tell_failed traced name _ events _ (telling.at_input _ r _ named h) e = inl (failed_at_input None [] r events h e)
-tell_failed traced name _ events _ (telling.no_memory _ n g _ named taken) e =
+tell_failed traced name _ events _ (reporting.at_input _ r _ named h) e = inl (failed_at_input None [] r events h e)
+tell_failed traced name _ events _ (reporting.no_memory _ n g _ named taken) e =
     absurd (omega (arith, e))
-tell_failed traced name _ events reported (telling.not_printed _ n g count _ _ named taken wrote) e = inr (front_failed (lines traced g) count reported wrote)
+tell_failed traced name _ events reported (reporting.not_printed _ n g count _ _ named taken wrote) e = inr (front_failed (lines traced g) count reported wrote)
 
 file_failed : (F L : Type 0) (takes : Bool) (bytes : List ℕ) (r : Refusal) (events : List Event) → StopsAtFile F L takes bytes r events
     → status_of_refusal r ≡ 4 → HadFailure events
@@ -306,12 +306,12 @@ join_creates_none source out names _ events (joining.no_memory _ _ _ n p whole _
 join_creates_none source out names _ _ (joining.at_output _ _ _ r p whole reading written named h stops) ge le = absurd (output_else _ r written stops le)
 
 tell_creates_none : (traced : Bool) (name : List ℕ) (outcome : Outcome) (events reported : List Event)
-    → Tells (lines traced) name outcome events reported
+    → PrintsReport (lines traced) name outcome events reported
     → 2 ≤ exit_status outcome → exit_status outcome ≤ 3 → (list_any is_creation events ≡ false) × (reported ≡ [])
-tell_creates_none traced name _ events reported (telling.done _ g settled whole _ _ taken says wrote) ge le = absurd (done_else settled whole ge le)
-tell_creates_none traced name _ events _ (telling.at_input _ r _ named h) ge le = (none_at_input None [] r events h, refl)
-tell_creates_none traced name _ events _ (telling.no_memory _ n g _ named taken) ge le = (none_taken None name g events taken, refl)
-tell_creates_none traced name _ events reported (telling.not_printed _ n g count _ _ named taken wrote) ge le =
+tell_creates_none traced name _ events reported (reporting.done _ g settled whole _ _ taken says wrote) ge le = absurd (done_else settled whole ge le)
+tell_creates_none traced name _ events _ (reporting.at_input _ r _ named h) ge le = (none_at_input None [] r events h, refl)
+tell_creates_none traced name _ events _ (reporting.no_memory _ n g _ named taken) ge le = (none_taken None name g events taken, refl)
+tell_creates_none traced name _ events reported (reporting.not_printed _ n g count _ _ named taken wrote) ge le =
     absurd (omega (arith, le))
 
 file_creates_none : (F L : Type 0) (takes : Bool) (bytes : List ℕ) (r : Refusal) (events : List Event)

@@ -11,7 +11,7 @@ use Rattle.jls_commands.specs.AllInputs.{IsTaken}
 use Rattle.jls_commands.specs.Joining.{JoinIsDone}
 use Rattle.jls_commands.specs.Outputs.{HandsOut}
 use Rattle.jls_station.specs.declared.input.ReadStop.TheVariants.{Whole}
-use Rattle.jls_commands.specs.Telling.{lines}
+use Rattle.jls_commands.specs.Reporting.{lines}
 use Rattle.jls_commands.specs.WritingFiles.{file, FitsFormat}
 use Rattle.jls_commands.specs.declared.writing.Format.{Format}
 use Rattle.jls_commands.specs.declared.writing.Format.TheVariants.{Pnm, Jls}

@@ -6,7 +6,7 @@ use Rattle.jls_device.specs.Event.{Event, History}
 use Rattle.jls_device.specs.Writing.{Wrote, WroteFront, Printed}
 use Rattle.jls_commands.specs.Joining.{Joins}
 use Rattle.jls_commands.specs.Outcomes.{Outcome, exit_status}
-use Rattle.jls_commands.specs.Telling.{Tells, lines}
+use Rattle.jls_commands.specs.Reporting.{PrintsReport, lines}
 use Rattle.jls_commands.specs.WritingFiles.{WritesFile}
 use Rattle.jls_commands.specs.declared.writing.Format.TheVariants.{Pnm, Jls}
 use Rattle.jls_printing.specs.FaultLines.{not_written_line, out_of_memory_line}
@@ -17,9 +17,9 @@ use Rattle.jls_program.specs.FaultLines.{fault_line, program, unknown_value_line
 
 -- what came of what was asked, by the events of the desk and of the report output
 abbrev pub CameOf : Asked → Outcome → List Event → List Event → Type 0
-CameOf (check name) outcome desk report = Tells (lines true) name outcome desk report
+CameOf (check name) outcome desk report = PrintsReport (lines true) name outcome desk report
 CameOf (join source out names) outcome desk report = Joins source out names outcome desk × (report ≡ [])
-CameOf (show name) outcome desk report = Tells (lines false) name outcome desk report
+CameOf (show name) outcome desk report = PrintsReport (lines false) name outcome desk report
 CameOf (write_pnm out name) outcome desk report = WritesFile Pnm out name outcome desk × (report ≡ [])
 CameOf (write_jls line ri out name) outcome desk report = WritesFile (Jls line ri) out name outcome desk × (report ≡ [])
 

@@ -4,7 +4,7 @@ ghost use Rattle.jls_commands.specs.Histories.{GrewBoth};
 ghost use Rattle.jls_words.specs.Asking.{asked_of};
 ghost use Rattle.jls_program.specs.Runs.{CameOf};
 
-use jls_commands::{Done, Format, JoinInputs, Refusal, join, tell, write};
+use jls_commands::{Done, Format, JoinInputs, Refusal, join, print_report, write};
 use jls_device::{Desk, Sink};
 use jls_words::Asked;
 use std::alloc::Global;
@@ -20,7 +20,7 @@ pub(crate) fn perform<'a, D: Desk, W: Sink>(
         (W.history report.old) (W.history report.new) }
 {
     match asked {
-        Asked::Check { file } => tell(alloc, desk, report, true, file),
+        Asked::Check { file } => print_report(alloc, desk, report, true, file),
         Asked::Join {
             source,
             out,
@@ -34,7 +34,7 @@ pub(crate) fn perform<'a, D: Desk, W: Sink>(
             };
             join(alloc, desk, out, inputs)
         }
-        Asked::Show { file } => tell(alloc, desk, report, false, file),
+        Asked::Show { file } => print_report(alloc, desk, report, false, file),
         Asked::WritePnm { out, file } => write(alloc, desk, Format::Pnm, out, file),
         Asked::WriteJls {
             line,

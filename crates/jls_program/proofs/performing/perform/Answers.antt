@@ -23,15 +23,15 @@ pub returns-in-Check : goal.returns-in-Check
 returns-in-Check g c =
     let desk = g.D.Device.history in
     let report = g.W.Device.history in
-    subst (λ (a : Asked). GrewBoth (CameOf (asked_of a) c.tell.result) (desk c.args.desk.now) (desk c.tell.new.desk) (report c.args.report.now) (report c.tell.new.report))
-    (sym c.in-Check.is) c.tell.ensures
+    subst (λ (a : Asked). GrewBoth (CameOf (asked_of a) c.print_report.result) (desk c.args.desk.now) (desk c.print_report.new.desk) (report c.args.report.now) (report c.print_report.new.report))
+    (sym c.in-Check.is) c.print_report.ensures
 
 pub returns-in-Show : goal.returns-in-Show
 returns-in-Show g c =
     let desk = g.D.Device.history in
     let report = g.W.Device.history in
-    subst (λ (a : Asked). GrewBoth (CameOf (asked_of a) c.tell-in-Show.result) (desk c.args.desk.now) (desk c.tell-in-Show.new.desk) (report c.args.report.now) (report c.tell-in-Show.new.report))
-    (sym c.in-Show.is) c.tell-in-Show.ensures
+    subst (λ (a : Asked). GrewBoth (CameOf (asked_of a) c.print_report-in-Show.result) (desk c.args.desk.now) (desk c.print_report-in-Show.new.desk) (report c.args.report.now) (report c.print_report-in-Show.new.report))
+    (sym c.in-Show.is) c.print_report-in-Show.ensures
 
 pub returns-in-WritePnm : goal.returns-in-WritePnm
 returns-in-WritePnm g c =

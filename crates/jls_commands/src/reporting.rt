@@ -2,7 +2,7 @@
 
 ghost use Rattle.std.specs.Prelude.{◌≡◌, ◌++◌, [], IfOk, OnOk, if◌then◌else◌};
 ghost use Rattle.jls_commands.specs.Histories.{GrewBoth};
-ghost use Rattle.jls_commands.specs.Telling.{lines, report_lines, Tells};
+ghost use Rattle.jls_commands.specs.Reporting.{lines, report_lines, PrintsReport};
 ghost use Rattle.jls_commands.specs.Tracing.{trace_lines};
 
 use crate::inputs::open_and_read;
@@ -56,14 +56,14 @@ fn lines_of(alloc: Global, input: &InputRead, traced: bool) -> Result<Vec<u8>, A
 
 /// The commands `check` and `show`: reads one input and prints its report to the report output. `check` prints the trace of a copy before
 /// it, and so it is `traced`.
-pub fn tell<'a, D: Desk, W: Sink>(
+pub fn print_report<'a, D: Desk, W: Sink>(
     alloc: Global,
     desk: &mut D,
     report: &mut W,
     traced: bool,
     file: &'a str,
 ) -> Result<Done, Refusal<'a>>
-    ensures { GrewBoth (Tells (lines traced) file.now result) (D.history desk.old) (D.history desk.new)
+    ensures { GrewBoth (PrintsReport (lines traced) file.now result) (D.history desk.old) (D.history desk.new)
         (W.history report.old) (W.history report.new) }
 {
     let input = open_and_read(alloc, desk, file)?;

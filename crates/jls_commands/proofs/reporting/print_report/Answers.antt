@@ -3,11 +3,11 @@ use Rattle.std.proofs.lemmas.Result.{IfOk-at_ok, err_from_is_err_and}
 use Rattle.std.specs.Prelude.{◌↔◌, IsTrue}
 use Rattle.jls_partial.specs.Partial.{PartialPicture}
 use Rattle.jls_partial.specs.Status.{IsSettled}
-use Rattle.jls_commands.specs.Telling.{lines}
+use Rattle.jls_commands.specs.Reporting.{lines}
 use Rattle.jls_commands.specs.declared.outcome.Refusal.TheVariants.{OutOfMemory}
 use Rattle.jls_station.proofs.Mapped.{error_at, value_at}
 use Rattle.jls_commands.proofs.Told.{told_at_input, told_for_memory, told, told_in_part}
-use Rattle.jls_commands.proofs.telling.tell.Goals as goal
+use Rattle.jls_commands.proofs.reporting.print_report.Goals as goal
 
 pub returns-in_err-input : goal.returns-in_err-input
 returns-in_err-input g c =

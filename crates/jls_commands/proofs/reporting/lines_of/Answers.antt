@@ -1,6 +1,6 @@
 use Rattle.std.proofs.Common.{◌≡◌, ◌++◌, ◌∙◌, ap}
-use Rattle.jls_commands.specs.Telling.{report_lines}
-use Rattle.jls_commands.proofs.telling.lines_of.Goals as goal
+use Rattle.jls_commands.specs.Reporting.{report_lines}
+use Rattle.jls_commands.proofs.reporting.lines_of.Goals as goal
 
 pub returns : goal.returns
 returns c =

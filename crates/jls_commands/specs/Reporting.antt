@@ -31,14 +31,14 @@ pub record Says (g : Given) (settled whole : Bool) : Type 0 where
 -- What comes of a command that takes one input of this name and prints these lines of what it gave, by the events of the desk
 -- and of the report output: it is done; the input stops it; memory runs out for the lines, when the input was taken; or a
 -- write fails, and then the refusal names the report output
-pub data Tells (lines : Given → List ℕ) : List ℕ → Outcome → List Event → List Event → Type 0 where
+pub data PrintsReport (lines : Given → List ℕ) : List ℕ → Outcome → List Event → List Event → Type 0 where
   done : (name : List ℕ) (g : Given) (settled whole : Bool) (reading writing : List Event)
       → IsTaken None name g reading → Says g settled whole → Wrote (lines g) writing
-      → Tells lines name (finished settled whole) reading writing
+      → PrintsReport lines name (finished settled whole) reading writing
   at_input : (name : List ℕ) (r : Refusal) (reading : List Event)
-      → name_of r ≡ name → StopsAt None [] r reading → Tells lines name (Err r) reading []
+      → name_of r ≡ name → StopsAt None [] r reading → PrintsReport lines name (Err r) reading []
   no_memory : (name : List ℕ) (file : Bor (List ℕ)) (g : Given) (reading : List Event)
-      → file.now ≡ name → IsTaken None name g reading → Tells lines name (Err (refusal.OutOfMemory file)) reading []
+      → file.now ≡ name → IsTaken None name g reading → PrintsReport lines name (Err (refusal.OutOfMemory file)) reading []
   not_printed : (name : List ℕ) (out : Bor (List ℕ)) (g : Given) (count : ℕ) (reading writing : List Event)
       → out.now ≡ codes "-" → IsTaken None name g reading → WroteFront (lines g) count writing
-      → Tells lines name (Err (refusal.NotWritten out count)) reading writing
+      → PrintsReport lines name (Err (refusal.NotWritten out count)) reading writing
