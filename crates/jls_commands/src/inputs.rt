@@ -65,10 +65,13 @@ fn join_text<'a>(
     ensures named { IfErr result (λ refusal. name_of refusal ≡ name.now) }
 {
     match held {
-        None => match Partial::from_bytes(alloc, text) {
-            Ok(partial) => Ok(Station::holding(alloc, partial)),
-            Err(fault) => Err(Refusal::Input(name, input_fault(fault))),
-        },
+        None => {
+            let partial = Partial::from_bytes(alloc, text).map_err(|fault| Refusal::Input(
+                name,
+                input_fault(fault),
+            ))?;
+            Ok(Station::holding(alloc, partial))
+        }
         Some(mut station) => match station.take_text(text) {
             Ok(()) => Ok(station),
             Err(MergeTextFault::Text(fault)) => Err(Refusal::Input(name, input_fault(fault))),
@@ -122,20 +125,22 @@ fn take_input<'a, D: Desk>(
     ensures source { room.new.source ≡ room.old.source }
 {
     open(desk, name)?;
-    match read_form(room.alloc, room.source, desk, &mut room.text) {
-        Ok(InputForm::Text) => {
+    let form = read_form(room.alloc, room.source, desk, &mut room.text).map_err(
+        |fault| Refusal::Input(name, fault),
+    )?;
+    match form {
+        InputForm::Text => {
             let station = join_text(room.alloc, held, &room.text, name)?;
             Ok(Taken {
                 station,
                 whole: true,
             })
         }
-        Ok(InputForm::Copy(read)) => {
+        InputForm::Copy(read) => {
             let whole = read.is_whole();
             let station = join_copy(room.alloc, held, read, name)?;
             Ok(Taken { station, whole })
         }
-        Err(fault) => Err(Refusal::Input(name, fault)),
     }
 }
 
