@@ -6,7 +6,6 @@ use Rattle.std.specs.Prelude.{◌==◌}
 use Rattle.jls_marker.specs.HeaderState.{HeaderState}
 use Rattle.jls_copy.specs.Pieces.{FoundPiece}
 use Rattle.jls_copy.specs.ReaderState.{Reading, ReaderState, Step, reading_from, reading_with, with_segment}
-use Rattle.jls_copy.specs.declared.place.Place.{Place}
 use Rattle.jls_copy.specs.declared.place.Place.TheVariants.{InPayload}
 
 -- a state after so many bytes

@@ -6,7 +6,7 @@ use Rattle.std.proofs.lemmas.Bool.Decides.{nat_tests}
 use Rattle.jls_marker.specs.HeaderState.{HeaderState}
 use Rattle.jls_marker.specs.MarkerCodes.{has_segment}
 use Rattle.jls_copy.specs.Pieces.{FoundPiece}
-use Rattle.jls_copy.specs.ReaderState.{Reading, ReaderState, Step, reading_from, reading_with, with_segment, length_known}
+use Rattle.jls_copy.specs.ReaderState.{Reading, ReaderState, reading_from, reading_with, with_segment}
 use Rattle.jls_copy.specs.Stretch.{Leads}
 use Rattle.jls_copy.specs.Machine.{IsWholeSegment}
 use Rattle.jls_copy.specs.declared.place.Place.{Place}

@@ -1,9 +1,9 @@
 -- The piece of scan data that the input's end closes, and the lines that stand whole in it: its head. That these lines count as
 -- readings is this profile's choice.
-use Rattle.std.specs.Prelude.{◌≡◌, ℕ, ◌*◌, Bool, true, false, List, [], ◌∷◌, length, if◌then◌else◌}
+use Rattle.std.specs.Prelude.{◌≡◌, ℕ, Bool, true, false, List, [], ◌∷◌, if◌then◌else◌}
 use Rattle.jls_interval.specs.Heads.{IsHeadOfPiece}
 use Rattle.jls_partial.specs.Reading.{Reading}
-use Rattle.jls_marker.specs.Scan.{Scan, row_count}
+use Rattle.jls_marker.specs.Scan.{Scan}
 use Rattle.jls_copy.specs.Numbers.{PieceNumber, Interval, BeyondLast}
 use Rattle.jls_copy.specs.Course.{CopyUnit, segment, scan, by_input, by_marker, Course}
 use Rattle.jls_copy.specs.Pieces.{FoundPiece, Lines, readings_of, pieces}

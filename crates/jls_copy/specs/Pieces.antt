@@ -1,8 +1,8 @@
 -- The pieces of a copy's scan data, each under its number, and what each gives.
-use Rattle.std.specs.Prelude.{ℕ, ◌+◌, ◌*◌, ◌==◌, List, [], ◌∷◌, ◌++◌, length, get_or, if◌then◌else◌}
+use Rattle.std.specs.Prelude.{ℕ, ◌+◌, ◌==◌, List, [], ◌∷◌, ◌++◌, length, get_or, if◌then◌else◌}
 use Rattle.jls_interval.specs.Reads.{Reads, IsLong, IsBroken}
 use Rattle.jls_partial.specs.Reading.{Reading, reading_of}
-use Rattle.jls_marker.specs.Scan.{Scan, intervals, first_row, row_count}
+use Rattle.jls_marker.specs.Scan.{Scan, intervals, first_row}
 use Rattle.jls_copy.specs.ScanData.{ClosedPiece, closed_bytes}
 use Rattle.jls_copy.specs.Numbers.{PieceNumber, Interval, BeyondLast, number_behind, given_last}
 use Rattle.jls_copy.specs.Course.{CopyUnit, segment, scan, segment_unit_bytes, unit_bytes, Course}

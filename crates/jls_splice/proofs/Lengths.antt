@@ -3,9 +3,8 @@ use Rattle.std.proofs.Common.{◌≡◌, ℕ, zero, suc, ◌+◌, ◌<◌, ◌�
 use Rattle.std.specs.Prelude.{get_or}
 use Rattle.std.specs.List.{AllByRecursion, sum_by}
 use Rattle.std.proofs.lemmas.List.Sums.{sum_by-cons}
-use Rattle.jls_parts.specs.Parts.{Part, Same, Differ, way, made, HasWays, AreParts}
+use Rattle.jls_parts.specs.Parts.{Part, Same, Differ, way, made, HasWays}
 use Rattle.jls_splice.specs.Choices.{IsPath, HasSomeWay, front_of}
-use Rattle.jls_splice.specs.Search.{IsShort}
 use Rattle.jls_splice.specs.SearchLaws.{PartsCanBeSearched}
 
 -- Sums -------------------------------------------------------------------------------------------------------------

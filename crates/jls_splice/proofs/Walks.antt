@@ -1,5 +1,5 @@
 -- What a search that stopped has come to.
-use Rattle.std.proofs.Common.{◌≡◌, ℕ, ◌<◌, ◌≤◌, Bool, true, false, List, length, sym, ◌∙◌, subst, arith, ◌⊎◌, inl, inr}
+use Rattle.std.proofs.Common.{◌≡◌, ℕ, ◌<◌, ◌≤◌, Bool, true, false, List, length, ◌∙◌, arith, ◌⊎◌, inl, inr}
 use Rattle.std.proofs.lemmas.Bool.{cases_lt}
 use Rattle.jls_parts.specs.Parts.{Part}
 use Rattle.jls_splice.specs.Search.{CameTo, CanGoOn, GoesOn, IsSearch, lists_of}

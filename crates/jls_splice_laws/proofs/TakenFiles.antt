@@ -11,7 +11,7 @@ use Rattle.jls_splice.specs.Faultless.{IsFaultless}
 use Rattle.jls_splice.specs.Search.{HasEachSplice, files_of}
 use Rattle.jls_splice.specs.SearchLaws.{SearchesComeToEachSplice}
 use Rattle.jls_splice_laws.specs.SpliceLaws.{FaultlessSplicesAreTaken, SearchedFilesAreTaken, SearchedSplicesGiveNoOther, SplicesGiveNoOther, WholeSplicesGiveNoOther}
-use Rattle.jls_splice_laws.specs.Taken.{FilesTaken, AllTaken, SearchTaken, AreOfShape, none_left, taken, passed_over}
+use Rattle.jls_splice_laws.specs.Taken.{FilesTaken, SearchTaken, AreOfShape, none_left, taken, passed_over}
 use Rattle.jls_splice_laws.proofs.WholeFiles.{whole_files_are_faultless, whole_files_survive}
 
 -- a file of the shape is among those that are taken

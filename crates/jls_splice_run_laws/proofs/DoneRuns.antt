@@ -15,9 +15,9 @@ use Rattle.jls_splice_words.specs.Asking.{Asked}
 use Rattle.jls_splice_answers.specs.Outcomes.{exit_status, exit_status_of_cause}
 use Rattle.jls_splice_answers.specs.declared.outcome.Cause.{Cause}
 use Rattle.jls_splice_answers.specs.declared.outcome.Cause.TheVariants as cause
-use Rattle.jls_splice_answers.specs.declared.outcome.Outcome.TheVariants.{Done, Refused}
+use Rattle.jls_splice_answers.specs.declared.outcome.Outcome.TheVariants.{Done}
 use Rattle.jls_splice_run.specs.Copies.{bytes_read}
-use Rattle.jls_splice_run.specs.Runs.{Performs, came_of, no_names, Splices, at_copies, not_made, not_handed, done}
+use Rattle.jls_splice_run.specs.Runs.{Performs, came_of, no_names, at_copies, not_made, not_handed, done}
 use Rattle.jls_splicing_laws.specs.SplicingLaws.{SplicedCopiesGiveNoOther}
 use Rattle.jls_splice_run_laws.specs.RunLaws.{DidSplice, SplicedRunsGiveNoOther}
 

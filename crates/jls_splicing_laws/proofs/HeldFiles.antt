@@ -1,5 +1,5 @@
 -- What a station holds that took files.
-use Rattle.std.proofs.Common.{◌≡◌, ℕ, List, [], ◌∷◌, ◌++◌, Option, Some, refl, sym, ap, ◌∙◌, subst, append_assoc}
+use Rattle.std.proofs.Common.{◌≡◌, ℕ, List, [], ◌∷◌, ◌++◌, Option, refl, sym, ap, ◌∙◌, subst, append_assoc}
 use Rattle.std.specs.Prelude.{fold}
 use Rattle.std.proofs.lemmas.List.{append-nil}
 use Rattle.jls_values.specs.Shape.{PictureShape}
@@ -15,7 +15,7 @@ use Rattle.jls_splice_laws.specs.Taken.{AreOfShape, none_left, taken, passed_ove
 use Rattle.jls_splicing.specs.Stations.{Give, no_file, gives, gives_nothing}
 use Rattle.jls_splicing.specs.Shapes.{HasShape}
 use Rattle.jls_splicing.proofs.OneFile.{shape_read}
-use Rattle.jls_splicing_laws.specs.SplicingLaws.{under, HoldsFiles, FilesAreHeld}
+use Rattle.jls_splicing_laws.specs.SplicingLaws.{under, FilesAreHeld}
 
 -- what is held behind files
 record Holds (source : Option ℕ) (copies : List SourcedCopy) (shape : PictureShape) (files : List (List ℕ)) (new : PartialPicture) : Type 0 where

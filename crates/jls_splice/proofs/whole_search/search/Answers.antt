@@ -1,4 +1,4 @@
-use Rattle.std.proofs.Common.{◌≡◌, ℕ, List, length, Vec, Global, sym, ap, ◌∙◌, arith, inl, inr}
+use Rattle.std.proofs.Common.{◌≡◌, ℕ, length, Vec, Global, sym, ap, ◌∙◌, arith, inl, inr}
 use Rattle.jls_parts.specs.PartsOf.{parts_of}
 use Rattle.jls_splice.specs.Search.{lists_of}
 use Rattle.jls_splice.proofs.Paths.{length-map}

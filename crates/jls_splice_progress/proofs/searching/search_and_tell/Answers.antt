@@ -1,6 +1,6 @@
-use Rattle.std.proofs.Common.{◌≡◌, ℕ, ◌<◌, Bool, true, false, List, [], length, Vec, Global, refl, sym, ap, ◌∙◌, subst, arith, inl, inr}
+use Rattle.std.proofs.Common.{◌≡◌, ℕ, ◌<◌, List, [], length, Vec, Global, sym, ap, ◌∙◌, subst, arith, inl, inr}
 use Rattle.std.specs.List.{AllByRecursion}
-use Rattle.jls_device.specs.Event.{Event, GrewBy}
+use Rattle.jls_device.specs.Event.{GrewBy}
 use Rattle.jls_device.proofs.Growing.{grew_as, grew_not}
 use Rattle.jls_parts.proofs.Slices.{count_of_slices}
 use Rattle.jls_parts.specs.PartsOf.{bytes_of, parts_of}

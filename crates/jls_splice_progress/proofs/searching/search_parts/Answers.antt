@@ -1,4 +1,4 @@
-use Rattle.std.proofs.Common.{◌≡◌, ℕ, Bool, true, false, List, [], length, refl, sym, ap, ◌∙◌, subst, arith}
+use Rattle.std.proofs.Common.{◌≡◌, ℕ, true, false, List, [], length, sym, ap, ◌∙◌, subst, arith}
 use Rattle.jls_device.specs.Event.{Event, GrewBy}
 use Rattle.jls_device.proofs.Growing.{grew_as, grew_not, grew_on}
 use Rattle.jls_parts.specs.PartsOf.{parts_of}

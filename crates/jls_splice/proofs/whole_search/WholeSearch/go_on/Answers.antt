@@ -1,4 +1,4 @@
-use Rattle.std.proofs.Common.{◌≡◌, ℕ, ◌<◌, ◌≤◌, Bool, true, List, length, refl, sym, subst, arith, inl, inr}
+use Rattle.std.proofs.Common.{◌≡◌, ℕ, ◌<◌, ◌≤◌, Bool, true, List, refl, sym, subst, arith, inl, inr}
 use Rattle.jls_parts.specs.Parts.{Part}
 use Rattle.jls_parts.specs.PartsOf.{parts_of}
 use Rattle.jls_splice.specs.Search.{CanGoOn, GoesOn, StandsAt, lists_of, nothing, one_more}
