@@ -15,8 +15,9 @@ use Rattle.jls_context.specs.declared.regular.Cell.{Cell}
 use Rattle.jls_context.specs.declared.interruption.RunCell.{RunCell}
 use Rattle.jls_context.specs.Errors.{IsError}
 use Rattle.jls_context.specs.Mode.{context, is_negative, is_run_mode}
-use Rattle.jls_context.specs.Regular.{golomb_k, updated, initial_cell, regular_k, regular_mapped}
+use Rattle.jls_context.specs.Regular.{golomb_k, with_error, halved, counted, bias_computed, updated, initial_cell, regular_k, regular_mapped}
 use Rattle.jls_context.specs.Interruption.{run_updated, initial_run_cell, interruption_magnitudes, run_k, interruption_mapped}
+use Rattle.jls_context.proofs.BiasSteps.{by_steps}
 use Rattle.jls_context.proofs.Samples.{error_range}
 use Rattle.jls_context.proofs.Sizes.{maxval_small, interruption_mapped_at_most}
 use Rattle.jls_interval.specs.Events.{Event, regular, run_to_end, interrupted_run, Above, neighbours, run_stop, stretch, events_from, events_after, above, line_events}
@@ -70,12 +71,19 @@ k_at_most n a b some small =
 error_at_most : (p : CodingParameters) (e : ℤ) → p.maxval < 2 ^ 16 → IsError p e → unsigned_abs e ≤ 2 ^ 16
 error_at_most p e small is = omega (arith, ints, small, is.at_least, is.below)
 
+-- the bias computation leaves A and N as they are
+sums_stay : (cell : Cell) → ((bias_computed cell).magnitudes ≡ cell.magnitudes) × ((bias_computed cell).occurrences ≡ cell.occurrences)
+sums_stay cell = let e = sym (by_steps cell) in (ap (λ (x : Cell). x.magnitudes) e, ap (λ (x : Cell). x.occurrences) e)
+
 -- an error adds at most so much to A
 updated_grows : (reset : ℕ) (cell : Cell) (e : ℤ) → unsigned_abs e ≤ 2 ^ 16
     → (1 ≤ (updated reset cell e).occurrences) × ((updated reset cell e).magnitudes ≤ cell.magnitudes + 2 ^ 17)
 unfolding updated
 updated_grows reset cell e small =
-    elim (cases_Bool (eqb cell.occurrences reset)) [ inl same ↦ rw same (omega arith, omega (arith, small)) | inr other ↦ rw other (omega arith, omega (arith, small)) ]
+    elim (cases_Bool (eqb cell.occurrences reset)) [
+      | inl same ↦ (let stay = sums_stay (counted (halved (with_error cell e))) in rw (same, stay.0, stay.1) (omega arith, omega (arith, small)))
+      | inr other ↦ (let stay = sums_stay (counted (with_error cell e)) in rw (other, stay.0, stay.1) (omega arith, omega (arith, small)))
+    ]
 
 run_updated_grows : (reset : ℕ) (same : Bool) (cell : RunCell) (e : ℤ) → interruption_mapped same cell e ≤ 2 ^ 16
     → (1 ≤ (run_updated reset same cell e).occurrences) × ((run_updated reset same cell e).magnitudes ≤ cell.magnitudes + 2 ^ 17) × ((run_updated reset same cell e).occurrences ≤ cell.occurrences + 1)
