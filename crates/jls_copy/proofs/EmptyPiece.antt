@@ -3,7 +3,7 @@ use Rattle.std.proofs.Common.{ℕ, ◌<◌, ◌≤◌, ◌*◌, [], refl, arith}
 use Rattle.std.proofs.lemmas.Nat.{mul-le}
 use Rattle.jls_values.specs.Params.{CodingParameters, AreCodingParameters}
 use Rattle.jls_interval.specs.Reads.{IsBroken}
-use Rattle.jls_interval.specs.declared.line_reader.Hand.TheVariants.{Fresh}
+use Rattle.jls_interval.specs.declared.line_reader.OpenEvent.TheVariants.{NotBegun}
 use Rattle.jls_interval.proofs.Decoding.{working_start, working_ends}
 use Rattle.jls_interval.proofs.Finishing.{broken_bits}
 use Rattle.jls_interval.specs.Lines.{interval_shape}
@@ -13,4 +13,4 @@ pub empty_is_broken : (p : CodingParameters) (w c rows : ℕ) → AreCodingParam
 empty_is_broken p w c rows ok some least any =
     let count : 0 < rows * c = (let l = mul-le 1 1 rows c any least in omega arith) in
     let start = working_start p w c (rows * c) some count _ [] refl (λ component. refl) in
-    broken_bits p w c (rows * c) [] (working_ends p ok w c (rows * c) some _ [] [] _ [] Fresh start)
+    broken_bits p w c (rows * c) [] (working_ends p ok w c (rows * c) some _ [] [] _ [] NotBegun start)

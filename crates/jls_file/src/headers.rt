@@ -13,7 +13,7 @@ use jls_values::Params;
 use std::alloc::{AllocError, Global};
 
 /// SOI, SOF55 without its components, LSE and DRI have so many bytes at most.
-const MOST_OTHERS: usize = 35;
+const BYTES_BESIDE_COMPONENTS: usize = 35;
 
 /// Whether the parameters are the defaults of their precision.
 fn are_defaults(params: &Params) -> bool
@@ -71,7 +71,7 @@ pub(crate) fn header_bytes(
     ensures params { OnOk result (AreCodingParameters options.now.params) }
 {
     let shape = picture.shape();
-    let mut bytes = Vec::with_capacity(alloc, MOST_OTHERS + 3 * shape.ids().len())?;
+    let mut bytes = Vec::with_capacity(alloc, BYTES_BESIDE_COMPONENTS + 3 * shape.ids().len())?;
     bytes.extend_from_slice(&[0xFF, SOI])?;
     write_segment(&mut bytes, &Segment::Frame(shape.to_owned()))?;
     write_presets(&mut bytes, &options.params())?;

@@ -9,13 +9,13 @@ use Rattle.jls_bits.proofs.NumberBits.{bits_more, bits_split}
 use Rattle.jls_interval.specs.Runs.{run_order, blocks}
 use Rattle.jls_interval.specs.Reading.{NoRun, Taken}
 use Rattle.jls_interval.specs.RunState.{IsRunState, RunAt}
-use Rattle.jls_interval.specs.CutHands.{BeginsRun}
+use Rattle.jls_interval.specs.CutEventsOpen.{BeginsRun}
 use Rattle.jls_interval.specs.declared.run_reader.RunState.{RunState}
 use Rattle.jls_interval.specs.declared.run_reader.RunState.TheVariants.{Blocks, Count}
 use Rattle.jls_interval.proofs.EventsApart.{j_small}
 use Rattle.jls_interval.proofs.BlocksTaken.{taken_with}
 use Rattle.jls_interval.proofs.RunSteps.{digit_taken, no_whole, counted, counted_long}
-use Rattle.jls_interval.proofs.HandBits.{broken_with}
+use Rattle.jls_interval.proofs.OpenEventBits.{broken_with}
 
 module _ (r0 w0 : ℕ) (told : List Bool) (r w : ℕ) where
   -- a count below the columns left, of which more bits follow

@@ -9,10 +9,10 @@ use Rattle.jls_interval.specs.Events.{Event, above, events}
 use Rattle.jls_interval.specs.Code.{event_bits}
 use Rattle.jls_interval.specs.Growth.{Position, IsNext, grown, moved, interval_steps, start, finish}
 use Rattle.jls_interval.specs.PieceFaults.{NoLines}
-use Rattle.jls_interval.specs.Hands.{NoEvent, HandAt, EventDone}
-use Rattle.jls_interval.specs.Decoding.{IsWorking, IsOver, IsDead}
-use Rattle.jls_interval.specs.declared.line_reader.Hand.{Hand}
-use Rattle.jls_interval.specs.declared.line_reader.Hand.TheVariants.{Fresh}
+use Rattle.jls_interval.specs.OpenEvents.{NoEvent, OpenEventAt, EventDone}
+use Rattle.jls_interval.specs.Decoding.{IsWorking, IsComplete, BeginsNoCode}
+use Rattle.jls_interval.specs.declared.line_reader.OpenEvent.{OpenEvent}
+use Rattle.jls_interval.specs.declared.line_reader.OpenEvent.TheVariants.{NotBegun}
 use Rattle.jls_interval.proofs.StepwiseCodes.{refused}
 use Rattle.jls_interval.proofs.GrownLines.{some_fits, grown_full, grown_part}
 use Rattle.jls_interval.proofs.LinesGrow.{lines_grow}
@@ -21,9 +21,9 @@ use Rattle.jls_interval.proofs.CodesApart.{kept, code_is, finished}
 use Rattle.jls_interval.proofs.DecodedBits.{Decoded, decoded_more, decoded_end}
 use Rattle.jls_interval.proofs.CutEvents.{decoded_with, event_some}
 use Rattle.jls_interval.proofs.AfterEvents.{after_none}
-use Rattle.jls_interval.proofs.HandBits.{hand_none}
+use Rattle.jls_interval.proofs.OpenEventBits.{open_event_none}
 
-module _ (p : CodingParameters) (ok : AreCodingParameters p) (w c n : ℕ) (some : 0 < w) (given : List Bool) (lines : List (List ℕ)) (line : List ℕ) (cells : Variables) (run_indices : List ℕ) (hand : Hand) (h : IsWorking p w c n given lines line cells run_indices hand) where
+module _ (p : CodingParameters) (ok : AreCodingParameters p) (w c n : ℕ) (some : 0 < w) (given : List Bool) (lines : List (List ℕ)) (line : List ℕ) (cells : Variables) (run_indices : List ℕ) (open_event : OpenEvent) (h : IsWorking p w c n given lines line cells run_indices open_event) where
   abbrev z : Position
   z = record { lines = lines; line = line; earlier = h.earlier }
 
@@ -41,14 +41,14 @@ module _ (p : CodingParameters) (ok : AreCodingParameters p) (w c n : ℕ) (some
   -- a refused step: no bits that come later make it a code
   pub working_refused : (taken : List Bool)
       → ((more : List Bool) → NoEvent p w (length lines % c) (above c lines) line ((h.told ++ taken) ++ more) h.earlier)
-      → IsDead p w c n (given ++ taken)
+      → BeginsNoCode p w c n (given ++ taken)
   working_refused taken none = λ more.
       subst (NoLines p w c n) (sym (append_assoc given taken more)) (stuck (taken ++ more) (subst (λ v. NoEvent p w (length lines % c) (above c lines) line v h.earlier) (append_assoc h.told taken more) (none more)))
 
   -- what was told is no whole event
   none_whole : NoEvent p w (length lines % c) (above c lines) line h.told h.earlier
   none_whole =
-      hand_none p ok w (length lines % c) (above c lines) (small_back p lines c h.samples.0) line h.unfinished cells run_indices h.earlier h.is_after (λ e fits. event_some p w c n z e h.unfinished (h.few, fits)) hand h.told h.hand_at
+      open_event_none p ok w (length lines % c) (above c lines) (small_back p lines c h.samples.0) line h.unfinished cells run_indices h.earlier h.is_after (λ e fits. event_some p w c n z e h.unfinished (h.few, fits)) open_event h.told h.open_event_at
 
   -- the end of the input while lines are still to come
   pub working_ends : NoLines p w c n given
@@ -56,10 +56,10 @@ module _ (p : CodingParameters) (ok : AreCodingParameters p) (w c n : ℕ) (some
       subst (NoLines p w c n) (append-nil given) (stuck [] (subst (λ v. NoEvent p w (length lines % c) (above c lines) line v h.earlier) (sym (append-nil h.told)) none_whole))
 
   -- more bits of the event in hand
-  pub working_more : (taken : List Bool) (hand' : Hand)
-      → HandAt p w (above c lines) line cells (get_or run_indices (length lines % c) 0) hand' (h.told ++ taken)
-      → IsWorking p w c n (given ++ taken) lines line cells run_indices hand'
-  working_more taken hand' at = record {
+  pub working_more : (taken : List Bool) (open_event' : OpenEvent)
+      → OpenEventAt p w (above c lines) line cells (get_or run_indices (length lines % c) 0) open_event' (h.told ++ taken)
+      → IsWorking p w c n (given ++ taken) lines line cells run_indices open_event'
+  working_more taken open_event' at = record {
     earlier = h.earlier;
     told = h.told ++ taken;
     leads = h.leads;
@@ -68,7 +68,7 @@ module _ (p : CodingParameters) (ok : AreCodingParameters p) (w c n : ℕ) (some
     unfinished = h.unfinished;
     few = h.few;
     is_after = h.is_after;
-    hand_at = at;
+    open_event_at = at;
   }
 
   -- an event is whole
@@ -92,11 +92,11 @@ module _ (p : CodingParameters) (ok : AreCodingParameters p) (w c n : ℕ) (some
         decoded_more p w c n some (given ++ taken) z (h.told ++ taken) [] m.event (decoded_with p w c n some given z h.told taken decoded) next (m.bits_are ∙ sym (append-nil (event_bits p h.earlier m.event)))
 
     -- and the line goes on
-    pub working_on : length line' < w → IsWorking p w c n (given ++ taken) lines line' cells' run_indices' Fresh
+    pub working_on : length line' < w → IsWorking p w c n (given ++ taken) lines line' cells' run_indices' NotBegun
     working_on short =
         let at : moved w c z m.event ≡ record { lines = lines; line = line'; earlier = later } = ap (λ v. grown w lines v later) (sym m.line_is) ∙ grown_part p w c n some lines line' later short in
         let d : Decoded p w c n (given ++ taken) (record { lines = lines; line = line'; earlier = later }) [] = subst (λ v. Decoded p w c n (given ++ taken) v []) at after in
-        record { earlier = later; told = []; leads = d.leads; bits_are = d.bits_are; samples = d.samples; unfinished = d.unfinished; few = h.few; is_after = m.is_after; hand_at = refl }
+        record { earlier = later; told = []; leads = d.leads; bits_are = d.bits_are; samples = d.samples; unfinished = d.unfinished; few = h.few; is_after = m.is_after; open_event_at = refl }
 
     full : length line' ≡ w → Decoded p w c n (given ++ taken) (record { lines = lines ++ line' ∷ []; line = []; earlier = later }) []
     full whole =
@@ -104,25 +104,25 @@ module _ (p : CodingParameters) (ok : AreCodingParameters p) (w c n : ℕ) (some
 
     -- and its line, with lines still to come
     pub working_line : length line' ≡ w → length (lines ++ line' ∷ []) < n
-        → IsWorking p w c n (given ++ taken) (lines ++ line' ∷ []) [] cells' run_indices' Fresh
+        → IsWorking p w c n (given ++ taken) (lines ++ line' ∷ []) [] cells' run_indices' NotBegun
     working_line whole few =
         let d = full whole in
-        record { earlier = later; told = []; leads = d.leads; bits_are = d.bits_are; samples = d.samples; unfinished = d.unfinished; few = few; is_after = m.is_after; hand_at = refl }
+        record { earlier = later; told = []; leads = d.leads; bits_are = d.bits_are; samples = d.samples; unfinished = d.unfinished; few = few; is_after = m.is_after; open_event_at = refl }
 
     -- and its line, the last one
-    pub working_over : length line' ≡ w → n ≤ length (lines ++ line' ∷ []) → IsOver p w c n (given ++ taken) (lines ++ line' ∷ []) 0
+    pub working_over : length line' ≡ w → n ≤ length (lines ++ line' ∷ []) → IsComplete p w c n (given ++ taken) (lines ++ line' ∷ []) 0
     working_over whole all =
         let r = decoded_end p w c n some (given ++ taken) (record { lines = lines ++ line' ∷ []; line = []; earlier = later }) [] (let f = h.few in omega arith) (full whole) all in
         record { unread = []; are_lines = r.0; begins = r.1; counted = refl }
 
 -- more bits behind the last line, and behind what begins no lines' code
-pub dead_more : (p : CodingParameters) (w c n : ℕ) (given more : List Bool) → IsDead p w c n given → IsDead p w c n (given ++ more)
-dead_more p w c n given more h = λ later. subst (NoLines p w c n) (sym (append_assoc given more later)) (h (more ++ later))
+pub no_code_more : (p : CodingParameters) (w c n : ℕ) (given more : List Bool) → BeginsNoCode p w c n given → BeginsNoCode p w c n (given ++ more)
+no_code_more p w c n given more h = λ later. subst (NoLines p w c n) (sym (append_assoc given more later)) (h (more ++ later))
 
 -- no bit
 pub working_start : (p : CodingParameters) (w c n : ℕ) → 0 < w → 0 < n → (cells : Variables) (run_indices : List ℕ)
     → cells ≡ initial_variables p → ((component : ℕ) → get_or run_indices component 0 ≡ 0)
-    → IsWorking p w c n (bits_read []) [] [] cells run_indices Fresh
+    → IsWorking p w c n (bits_read []) [] [] cells run_indices NotBegun
 working_start p w c n some any cells run_indices e zeros = record {
   earlier = [];
   told = [];
@@ -132,5 +132,5 @@ working_start p w c n some any cells run_indices e zeros = record {
   unfinished = some;
   few = any;
   is_after = after_none p cells run_indices e zeros;
-  hand_at = refl;
+  open_event_at = refl;
 }

@@ -11,7 +11,7 @@ use Rattle.jls_bits.proofs.Appending.{whole_front}
 use Rattle.jls_interval.specs.Lines.{interval_shape}
 use Rattle.jls_interval.specs.Reads.{Reads, IsLong, IsBroken}
 use Rattle.jls_interval.specs.PieceFaults.{NoLines, OutcomeIs}
-use Rattle.jls_interval.specs.Decoding.{IsOver, IsDead, HaveWidth, IsReading, TakesFirst, GivesBack, HasShape}
+use Rattle.jls_interval.specs.Decoding.{IsComplete, BeginsNoCode, HaveWidth, IsReading, TakesFirst, GivesBack, HasShape}
 use Rattle.jls_interval.specs.IntervalBytes.{IsReadingBefore, HasLengths}
 use Rattle.jls_interval.specs.declared.interval_reader.IntervalReader.{IntervalReader}
 use Rattle.jls_interval.specs.declared.decode_piece.PieceFault.{PieceFault}
@@ -56,10 +56,10 @@ module _ (p : CodingParameters) (w c n : ℕ) (bytes : List ℕ) where
     not_long = λ l. none l.lines l.unread l.begins.are_lines l.begins.data_bits.read;
   }
 
-  pub dead_breaks : IsDead p w c n (bits_read bytes) → IsBroken (interval_shape p w c n) bytes
-  dead_breaks d = broken_bits (subst (NoLines p w c n) (append-nil (bits_read bytes)) (d []))
+  pub no_code_breaks : BeginsNoCode p w c n (bits_read bytes) → IsBroken (interval_shape p w c n) bytes
+  no_code_breaks d = broken_bits (subst (NoLines p w c n) (append-nil (bits_read bytes)) (d []))
 
-  module _ (are_bytes : AllByRecursion (λ x. x < 256) bytes) (whole : is_whole bytes ≡ true) (lines : List (List ℕ)) (extra : ℕ) (o : IsOver p w c n (bits_read bytes) lines extra) where
+  module _ (are_bytes : AllByRecursion (λ x. x < 256) bytes) (whole : is_whole bytes ≡ true) (lines : List (List ℕ)) (extra : ℕ) (o : IsComplete p w c n (bits_read bytes) lines extra) where
     pub over_reads : extra ≤ 7 → Reads (interval_shape p w c n) bytes lines
     over_reads l = record { unread = o.unread; begins = record { are_bytes = are_bytes; are_lines = o.are_lines; data_bits = record { whole = whole; read = o.begins } }; at_most_seven = (let e = o.counted in omega arith) }
 

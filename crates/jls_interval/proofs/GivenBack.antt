@@ -10,9 +10,9 @@ use Rattle.jls_interval.specs.Events.{Event, above}
 use Rattle.jls_interval.specs.Code.{event_bits}
 use Rattle.jls_interval.specs.Stepwise.{Leads, bits_of_steps}
 use Rattle.jls_interval.specs.Growth.{Position, added, here, IsNext, moved, interval_steps, start}
-use Rattle.jls_interval.specs.Hands.{HandAt}
+use Rattle.jls_interval.specs.OpenEvents.{OpenEventAt}
 use Rattle.jls_interval.specs.Decoding.{IsReading, GivenBack, StateIs}
-use Rattle.jls_interval.specs.declared.line_reader.Hand.TheVariants.{Fresh, Sample}
+use Rattle.jls_interval.specs.declared.line_reader.OpenEvent.TheVariants.{NotBegun, Sample}
 use Rattle.jls_interval.specs.declared.interval_reader.State.TheVariants.{Working}
 use Rattle.jls_interval.specs.declared.interval_reader.IntervalReader.{IntervalReader}
 use Rattle.jls_interval.proofs.GrownLines.{added_fits, grown_full, grown_part}
@@ -43,19 +43,19 @@ module _ (p : CodingParameters) (w c n : ℕ) (some : 0 < w) where
       let sum = length-append (event_bits p s.earlier e) (bits_of_steps m (moved w c s e) es) in omega arith
 
 module _ (p : CodingParameters) (given : List Bool) (d : IntervalReader) (h : IsReading p given d) (is : d.state ≡ Working) where
-  pub sample_open : (code : CodeState) → d.reader.hand ≡ Sample code → (k : ℕ) × IsOpen k (limit p) (qbpp p) code
-  sample_open code hand =
+  pub sample_open : (code : CodeState) → d.reader.open_event ≡ Sample code → (k : ℕ) × IsOpen k (limit p) (qbpp p) code
+  sample_open code open_event =
       let x = working p d given h is in let L = items d.lines.items in
-      let at = subst (λ z. HandAt p d.reader.width (above d.components L) d.reader.line.items d.reader.coder.cells (get_or d.reader.coder.run_indices (length L % d.components) 0) z x.told) hand x.hand_at in (_, at.1)
+      let at = subst (λ z. OpenEventAt p d.reader.width (above d.components L) d.reader.line.items d.reader.coder.cells (get_or d.reader.coder.run_indices (length L % d.components) 0) z x.told) open_event x.open_event_at in (_, at.1)
 
   -- a sample that isn't whole
-  pub sample_back : (code : CodeState) → d.reader.hand ≡ Sample code → (chunk : List Bool) → chunk ≡ bits_told (limit p) (qbpp p) code
-      → (short : d.reader.width < 2 ^ 16) → GivenBack p given (record d { reader = record d.reader { hand = Fresh; width_below = short } }) chunk
-  sample_back code hand chunk is_told short =
+  pub sample_back : (code : CodeState) → d.reader.open_event ≡ Sample code → (chunk : List Bool) → chunk ≡ bits_told (limit p) (qbpp p) code
+      → (short : d.reader.width < 2 ^ 16) → GivenBack p given (record d { reader = record d.reader { open_event = NotBegun; width_below = short } }) chunk
+  sample_back code open_event chunk is_told short =
       let w : ℕ = d.reader.width in let k : ℕ = d.components in let L = items d.lines.items in let line : List ℕ = d.reader.line.items in
       let cells : Variables = d.reader.coder.cells in let ri : List ℕ = d.reader.coder.run_indices in
       let x = working p d given h is in let m = interval_steps p w k d.count in let before = bits_of_steps m start x.earlier in
-      let at = subst (λ z. HandAt p w (above k L) line cells (get_or ri (length L % k) 0) z x.told) hand x.hand_at in
+      let at = subst (λ z. OpenEventAt p w (above k L) line cells (get_or ri (length L % k) 0) z x.told) open_event x.open_event_at in
       let paid = lines_have_bits p w k d.count h.width_at_least x.earlier start (record { lines = L; line = line; earlier = x.earlier }) h.width_at_least x.leads in
       record {
         before = before;
@@ -69,6 +69,6 @@ module _ (p : CodingParameters) (given : List Bool) (d : IntervalReader) (h : Is
           lines_paid = (let e = length-map d.lines.items (λ (v : Vec ℕ Global). v.items) in omega arith);
           lines_wide = h.lines_wide;
           line_at_most = h.line_at_most;
-          state_is = subst (λ s. StateIs p w k d.count before L line cells ri Fresh s) (sym is) (record { earlier = x.earlier; told = []; leads = x.leads; bits_are = sym (append-nil before); samples = x.samples; unfinished = x.unfinished; few = x.few; is_after = x.is_after; hand_at = refl });
+          state_is = subst (λ s. StateIs p w k d.count before L line cells ri NotBegun s) (sym is) (record { earlier = x.earlier; told = []; leads = x.leads; bits_are = sym (append-nil before); samples = x.samples; unfinished = x.unfinished; few = x.few; is_after = x.is_after; open_event_at = refl });
         };
       }

@@ -104,7 +104,7 @@ none_behind_first : (given begun : List Bool) → given ≡ bits_of_steps (inter
     → RefusesCode 2 32 8 begun
     → IsCutCode (interval_shape bits_8 1 1 2) given → ⊥
 unfolding least_from quantized_gradient is_negative context modulo_reduced corrected_prediction golomb_k updated cell_before event_bits
-none_behind_first given begun e dead cut =
+none_behind_first given begun e no_code cut =
     let m = interval_steps bits_8 1 1 2 in let left = begun ++ cut.missing ∷ cut.more_missing in
     let second : IsNext bits_8 1 1 2 behind_first (regular near 34) = (lit< tt, (refl, refl, lit≤ tt)) in
     let first = bits_of_steps m start (first_event ∷ []) in
@@ -115,7 +115,7 @@ none_behind_first given begun e dead cut =
         → begun ++ cut.missing ∷ cut.more_missing ≡ event_bits bits_8 (first_event ∷ []) x ++ rest → ⊥
     stuck (regular n s) rest a q =
         let q' : begun ++ cut.missing ∷ cut.more_missing ≡ event_bits bits_8 (first_event ∷ []) (regular near s) ++ rest = subst (λ v. begun ++ cut.missing ∷ cut.more_missing ≡ event_bits bits_8 (first_event ∷ []) (regular v s) ++ rest) a.1.1 q in
-        dead _ (cut.missing ∷ cut.more_missing) rest (regular_has bits_8 are_parameters (cell_before bits_8 (first_event ∷ []) (context bits_8 near)) near s a.1.2) q'
+        no_code _ (cut.missing ∷ cut.more_missing) rest (regular_has bits_8 are_parameters (cell_before bits_8 (first_event ∷ []) (context bits_8 near)) near s a.1.2) q'
     stuck (run_to_end k count) rest a q = (let mode : false ≡ true = a.1.0 in cc)
     stuck (interrupted_run k count n s) rest a q = (let mode : false ≡ true = a.1.0 in cc)
 

@@ -6,18 +6,18 @@ use Rattle.jls_values.specs.Params.{AreCodingParameters}
 use Rattle.jls_context.specs.Variables.{Variables}
 use Rattle.jls_interval.specs.Events.{Event, Above, above}
 use Rattle.jls_interval.specs.After.{IsAfter}
-use Rattle.jls_interval.specs.Hands.{NoEvent, HandAt, Holds, EventDone, EventPushed}
-use Rattle.jls_interval.specs.Decoding.{IsWorking, IsDead, StateIs, HaveWidth, IsReading, TakesAll, Taken, TakesFirst, TakesEvent, HasShape}
+use Rattle.jls_interval.specs.OpenEvents.{NoEvent, OpenEventAt, Holds, EventDone, EventPushed}
+use Rattle.jls_interval.specs.Decoding.{IsWorking, BeginsNoCode, StateIs, HaveWidth, IsReading, TakesAll, Taken, TakesFirst, TakesEvent, HasShape}
 use Rattle.jls_interval.specs.LineSamples.{Works, TakesInLine}
-use Rattle.jls_interval.specs.declared.line_reader.Hand.{Hand}
-use Rattle.jls_interval.specs.declared.line_reader.Hand.TheVariants.{Fresh}
+use Rattle.jls_interval.specs.declared.line_reader.OpenEvent.{OpenEvent}
+use Rattle.jls_interval.specs.declared.line_reader.OpenEvent.TheVariants.{NotBegun}
 use Rattle.jls_interval.specs.declared.line_reader.LineReader.{LineReader}
 use Rattle.jls_interval.specs.declared.line_reader.EventStep.{EventStep}
 use Rattle.jls_interval.specs.declared.line_reader.EventStep.TheVariants.{More, Moved, Refused}
 use Rattle.jls_interval.specs.declared.interval_reader.State.{State}
 use Rattle.jls_interval.specs.declared.interval_reader.State.TheVariants.{Working}
 use Rattle.jls_interval.proofs.GrownLines.{added_fits}
-use Rattle.jls_interval.proofs.Decoding.{working_more, working_refused, dead_more}
+use Rattle.jls_interval.proofs.Decoding.{working_more, working_refused, no_code_more}
 use Rattle.jls_interval.specs.declared.interval_reader.IntervalReader.{IntervalReader}
 
 pub shape_none : (d : IntervalReader) → HasShape d d
@@ -84,11 +84,11 @@ line_fits p w k up line line' cells' run_indices' told earlier m short =
     let f = added_fits p w k up line m.event short m.fits in let e = ap length m.line_is in omega (arith, f, e)
 
 module _ (p : CodingParameters) (n count : ℕ) (lines : List (List ℕ)) (s : State) where
-  pub state_same : (w w' : ℕ) (given given' : List Bool) (line line' : List ℕ) (cells cells' : Variables) (ri ri' : List ℕ) (hand : Hand)
+  pub state_same : (w w' : ℕ) (given given' : List Bool) (line line' : List ℕ) (cells cells' : Variables) (ri ri' : List ℕ) (open_event : OpenEvent)
       → w' ≡ w → given' ≡ given → line' ≡ line → cells' ≡ cells → ri' ≡ ri
-      → StateIs p w n count given lines line cells ri hand s → StateIs p w' n count given' lines line' cells' ri' hand s
-  state_same w w' given given' line line' cells cells' ri ri' hand a b c d e h =
-      subst (λ z. StateIs p z n count given' lines line' cells' ri' hand s) (sym a) (subst (λ z. StateIs p w n count z lines line' cells' ri' hand s) (sym b) (subst (λ z. StateIs p w n count given lines z cells' ri' hand s) (sym c) (subst (λ (z : Variables). StateIs p w n count given lines line z ri' hand s) (sym d) (subst (λ z. StateIs p w n count given lines line cells z hand s) (sym e) h))))
+      → StateIs p w n count given lines line cells ri open_event s → StateIs p w' n count given' lines line' cells' ri' open_event s
+  state_same w w' given given' line line' cells cells' ri ri' open_event a b c d e h =
+      subst (λ z. StateIs p z n count given' lines line' cells' ri' open_event s) (sym a) (subst (λ z. StateIs p w n count z lines line' cells' ri' open_event s) (sym b) (subst (λ z. StateIs p w n count given lines z cells' ri' open_event s) (sym c) (subst (λ (z : Variables). StateIs p w n count given lines line z ri' open_event s) (sym d) (subst (λ z. StateIs p w n count given lines line cells z open_event s) (sym e) h))))
 
 module _ (p : CodingParameters) (d : IntervalReader) (given : List Bool) (h : IsReading p given d) (is : d.state ≡ Working) where
   abbrev w : ℕ
@@ -112,8 +112,8 @@ module _ (p : CodingParameters) (d : IntervalReader) (given : List Bool) (h : Is
   abbrev run_indices : List ℕ
   run_indices = d.reader.coder.run_indices
 
-  pub working : IsWorking p w n d.count given lines line cells run_indices d.reader.hand
-  working = subst (λ s. StateIs p w n d.count given lines line cells run_indices d.reader.hand s) is h.state_is
+  pub working : IsWorking p w n d.count given lines line cells run_indices d.reader.open_event
+  working = subst (λ s. StateIs p w n d.count given lines line cells run_indices d.reader.open_event s) is h.state_is
 
   pub in_range : AreCodingParameters p
   in_range = subst AreCodingParameters h.parameters d.reader.coder.in_range
@@ -127,15 +127,15 @@ module _ (p : CodingParameters) (d : IntervalReader) (given : List Bool) (h : Is
         → EventPushed component (above n lines) d.reader new working.told chunk unread working.earlier step
     pushed step all =
         let a : Pushes component (above n lines) step = subst (λ z. Pushes z (above n lines) step) k_is (subst (λ (z : Above). Pushes k z step) up_is all) in
-        a working.told working.earlier (subst (λ q. IsAfter q cells run_indices working.earlier) (sym h.parameters) working.is_after) (subst (λ q. HandAt q w (above n lines) line cells (get_or run_indices component 0) d.reader.hand working.told) (sym h.parameters) working.hand_at)
+        a working.told working.earlier (subst (λ q. IsAfter q cells run_indices working.earlier) (sym h.parameters) working.is_after) (subst (λ q. OpenEventAt q w (above n lines) line cells (get_or run_indices component 0) d.reader.open_event working.told) (sym h.parameters) working.open_event_at)
 
     -- the event isn't whole
-    pub more_state : Pushes k up More → StateIs p w n d.count (given ++ chunk) lines line cells run_indices new.hand d.state
+    pub more_state : Pushes k up More → StateIs p w n d.count (given ++ chunk) lines line cells run_indices new.open_event d.state
     more_state all =
         let e = pushed More all in
-        let at = subst (λ q. HandAt q w (above n lines) line cells (get_or run_indices component 0) new.hand (working.told ++ e.taken)) h.parameters e.step_is.3 in
+        let at = subst (λ q. OpenEventAt q w (above n lines) line cells (get_or run_indices component 0) new.open_event (working.told ++ e.taken)) h.parameters e.step_is.3 in
         let whole : e.taken ≡ chunk = sym (e.chunk_is ∙ ap (λ z. e.taken ++ z) e.all ∙ append-nil e.taken) in
-        subst (λ s. StateIs p w n d.count (given ++ chunk) lines line cells run_indices new.hand s) (sym is) (subst (λ z. IsWorking p w n d.count (given ++ z) lines line cells run_indices new.hand) whole (working_more p in_range w n d.count h.width_at_least given lines line cells run_indices d.reader.hand working e.taken new.hand at))
+        subst (λ s. StateIs p w n d.count (given ++ chunk) lines line cells run_indices new.open_event s) (sym is) (subst (λ z. IsWorking p w n d.count (given ++ z) lines line cells run_indices new.open_event) whole (working_more p in_range w n d.count h.width_at_least given lines line cells run_indices d.reader.open_event working e.taken new.open_event at))
 
     pub more_same : Pushes k up More → (new.line.items ≡ line) × (new.coder.cells ≡ cells) × (new.coder.run_indices ≡ run_indices)
     more_same all = let e = pushed More all in (e.step_is.0, e.step_is.1, e.step_is.2)
@@ -144,15 +144,15 @@ module _ (p : CodingParameters) (d : IntervalReader) (given : List Bool) (h : Is
     pub refused_same : Pushes k up Refused → new.line.items ≡ line
     refused_same all = let e = pushed Refused all in e.step_is.0
 
-    pub refused_state : Pushes k up Refused → IsDead p w n d.count (given ++ chunk)
+    pub refused_state : Pushes k up Refused → BeginsNoCode p w n d.count (given ++ chunk)
     refused_state all =
         let e = pushed Refused all in
-        let dead = working_refused p in_range w n d.count h.width_at_least given lines line cells run_indices d.reader.hand working e.taken (λ more. subst (λ q. NoEvent q w component (above n lines) line ((working.told ++ e.taken) ++ more) working.earlier) h.parameters (e.step_is.1 more)) in
-        subst (IsDead p w n d.count) (append_assoc given e.taken unread ∙ ap (λ z. given ++ z) (sym e.chunk_is)) (dead_more p w n d.count (given ++ e.taken) unread dead)
+        let no_code = working_refused p in_range w n d.count h.width_at_least given lines line cells run_indices d.reader.open_event working e.taken (λ more. subst (λ q. NoEvent q w component (above n lines) line ((working.told ++ e.taken) ++ more) working.earlier) h.parameters (e.step_is.1 more)) in
+        subst (BeginsNoCode p w n d.count) (append_assoc given e.taken unread ∙ ap (λ z. given ++ z) (sym e.chunk_is)) (no_code_more p w n d.count (given ++ e.taken) unread no_code)
 
     -- the event is whole
     pub moved_taken : Pushes k up Moved
-        → (taken : List Bool) × (chunk ≡ taken ++ unread) × EventDone p w component (above n lines) line new.line.items new.coder.cells new.coder.run_indices (working.told ++ taken) working.earlier × (new.hand ≡ Fresh)
+        → (taken : List Bool) × (chunk ≡ taken ++ unread) × EventDone p w component (above n lines) line new.line.items new.coder.cells new.coder.run_indices (working.told ++ taken) working.earlier × (new.open_event ≡ NotBegun)
     moved_taken all =
         let e = pushed Moved all in
         (e.taken, e.chunk_is, subst (λ q. EventDone q w component (above n lines) line new.line.items new.coder.cells new.coder.run_indices (working.told ++ e.taken) working.earlier) h.parameters e.step_is.0, e.step_is.1)
@@ -175,6 +175,6 @@ module _ (p : CodingParameters) (d : IntervalReader) (given : List Bool) (h : Is
             lines_paid = (let b = h.lines_paid in let m = length-append given a.taken in omega arith);
             lines_wide = wide_same w new.width lines wide h.lines_wide;
             line_at_most = (let b = works.unfinished in omega arith);
-            state_is = subst (λ s. StateIs p new.width n d.count (given ++ a.taken) lines new.line.items new.coder.cells new.coder.run_indices new.hand s) (sym is) works;
+            state_is = subst (λ s. StateIs p new.width n d.count (given ++ a.taken) lines new.line.items new.coder.cells new.coder.run_indices new.open_event s) (sym is) works;
           };
         }

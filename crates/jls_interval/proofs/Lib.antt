@@ -28,7 +28,7 @@ pub mod RunSteps
 pub mod LineLists
 pub mod AfterEvents
 pub mod RunChunks
-pub mod HandBits
+pub mod OpenEventBits
 pub mod Decoding
 pub mod IntervalReading
 pub mod GivenBack
@@ -36,7 +36,7 @@ pub mod LineSamples
 pub mod Finishing
 pub mod CutSamples
 pub mod CutRuns
-pub mod CutEventHands
+pub mod CutOpenEvents
 pub mod CutStates
 pub mod PackedLines
 pub mod WrittenRuns

@@ -12,11 +12,11 @@ use Rattle.jls_bits.specs.CodeState.{IsOpen}
 use Rattle.jls_bits.specs.declared.code_state.CodeState.{CodeState}
 use Rattle.jls_interval.specs.Events.{regular, Above, above, neighbours}
 use Rattle.jls_interval.specs.Code.{event_bits}
-use Rattle.jls_interval.specs.Hands.{now_at, HandAt, EventDone}
+use Rattle.jls_interval.specs.OpenEvents.{now_at, OpenEventAt, EventDone}
 use Rattle.jls_interval.specs.Decoding.{IsWorking}
 use Rattle.jls_interval.specs.LineSamples.{SampleTaken, SampleBegun, Works, TakenBy, TakesInLine}
 use Rattle.jls_interval.specs.declared.coder.Coder.{Coder}
-use Rattle.jls_interval.specs.declared.line_reader.Hand.TheVariants.{Fresh, Sample}
+use Rattle.jls_interval.specs.declared.line_reader.OpenEvent.TheVariants.{NotBegun, Sample}
 use Rattle.jls_interval.specs.declared.line_reader.LineReader.{LineReader}
 use Rattle.jls_interval.proofs.Decoding.{working_on, working_more}
 
@@ -46,14 +46,14 @@ behind_sample w up line near value rd x x_is is room rd_at =
 -- One sample more -----------------------------------------------------------------------------------
 
 module _ (p : CodingParameters) (near : Neighbours) (value : ℕ) (now next : LineReader) (chunk unread : List Bool) (s : SampleTaken p near value now.coder next.coder chunk unread)
-    (fresh : now.hand ≡ Fresh) (fresh' : next.hand ≡ Fresh) (wide : next.width ≡ now.width) (grown : next.line.items ≡ now.line.items ++ value ∷ []) (params : now.coder.cells.parameters ≡ p) where
+    (not_begun : now.open_event ≡ NotBegun) (not_begun' : next.open_event ≡ NotBegun) (wide : next.width ≡ now.width) (grown : next.line.items ≡ now.line.items ++ value ∷ []) (params : now.coder.cells.parameters ≡ p) where
   sample_more : (c n : ℕ) (given : List Bool) (lines : List (List ℕ)) → near ≡ now_at now.width (above c lines) now.line.items
       → length now.line.items + 1 < now.width
       → Works p c n given lines now → TakenBy p c n given lines next chunk unread
   sample_more c n given lines near_is room h =
       let w : ℕ = now.width in let up = above c lines in let line : List ℕ = now.line.items in let line' : List ℕ = next.line.items in
       let cells : Variables = now.coder.cells in let cells' : Variables = next.coder.cells in let ri : List ℕ = now.coder.run_indices in let ri' : List ℕ = next.coder.run_indices in
-      let told : h.told ≡ [] = subst (λ z. HandAt p w up line cells (get_or ri (length lines % c) 0) z h.told) fresh h.hand_at in
+      let told : h.told ≡ [] = subst (λ z. OpenEventAt p w up line cells (get_or ri (length lines % c) 0) z h.told) not_begun h.open_event_at in
       let taken = event_bits p h.earlier (regular near value) in
       let done : EventDone p w (length lines % c) up line line' cells' ri' (h.told ++ taken) h.earlier = record {
         event = regular near value;
@@ -63,23 +63,23 @@ module _ (p : CodingParameters) (near : Neighbours) (value : ℕ) (now next : Li
         bits_are = ap (λ z. z ++ taken) told;
       } in
       let a = length-append line (value ∷ []) in let b = ap length grown in
-      let on = working_on p (subst AreCodingParameters params now.coder.in_range) w c n (omega (arith, room)) given lines line cells ri now.hand h taken line' cells' ri' done (omega (arith, room, a, b)) in
+      let on = working_on p (subst AreCodingParameters params now.coder.in_range) w c n (omega (arith, room)) given lines line cells ri now.open_event h taken line' cells' ri' done (omega (arith, room, a, b)) in
       record {
         taken = taken;
         chunk_is = s.bits_are h.earlier h.is_after;
-        works = subst (λ z. IsWorking p z c n (given ++ taken) lines line' cells' ri' next.hand) (sym wide) (subst (λ z. IsWorking p w c n (given ++ taken) lines line' cells' ri' z) (sym fresh') on);
+        works = subst (λ z. IsWorking p z c n (given ++ taken) lines line' cells' ri' next.open_event) (sym wide) (subst (λ z. IsWorking p w c n (given ++ taken) lines line' cells' ri' z) (sym not_begun') on);
       }
 
 module _ (k : ℕ) (up : Above) (old now next : LineReader) (chunk unread unread' : List Bool) (near : Neighbours) (value : ℕ) where
-  pub taken_more : SampleTaken now.coder.cells.parameters near value now.coder next.coder unread unread' → now.hand ≡ Fresh → next.hand ≡ Fresh
+  pub taken_more : SampleTaken now.coder.cells.parameters near value now.coder next.coder unread unread' → now.open_event ≡ NotBegun → next.open_event ≡ NotBegun
       → next.width ≡ now.width → next.line.items ≡ now.line.items ++ value ∷ [] → now.coder.cells.parameters ≡ old.coder.cells.parameters
       → near ≡ now_at now.width up now.line.items → length now.line.items + 1 < now.width
       → TakesInLine k up old now chunk unread → TakesInLine k up old next chunk unread'
-  taken_more s fresh fresh' wide grown params near_is room t = λ c n given lines k_is up_is h.
+  taken_more s not_begun not_begun' wide grown params near_is room t = λ c n given lines k_is up_is h.
       let p = old.coder.cells.parameters in
       let a = t c n given lines k_is up_is h in
       let s' = subst (λ q. SampleTaken q near value now.coder next.coder unread unread') params s in
-      let b = sample_more p near value now next unread unread' s' fresh fresh' wide grown params c n (given ++ a.taken) lines (subst (λ (z : Above). near ≡ now_at now.width z now.line.items) up_is near_is) room a.works in
+      let b = sample_more p near value now next unread unread' s' not_begun not_begun' wide grown params c n (given ++ a.taken) lines (subst (λ (z : Above). near ≡ now_at now.width z now.line.items) up_is near_is) room a.works in
       record {
         taken = a.taken ++ b.taken;
         chunk_is = a.chunk_is ∙ ap (λ z. a.taken ++ z) b.chunk_is ∙ sym (append_assoc a.taken b.taken unread');
@@ -98,24 +98,24 @@ taken_same k up old now chunk unread unread' coder' a b t =
 
 -- the first bits of a sample
 pub begun_same : (k : ℕ) (up : Above) (old now : LineReader) (chunk unread unread' : List Bool) (near : Neighbours) (code : CodeState) (coder' : Coder)
-    → SampleBegun now.coder.cells.parameters near now.coder.cells code unread unread' → coder' ≡ now.coder → now.hand ≡ Fresh
+    → SampleBegun now.coder.cells.parameters near now.coder.cells code unread unread' → coder' ≡ now.coder → now.open_event ≡ NotBegun
     → now.coder.cells.parameters ≡ old.coder.cells.parameters → near ≡ now_at now.width up now.line.items
-    → TakesInLine k up old now chunk unread → TakesInLine k up old (record now { coder = coder'; hand = Sample code }) chunk unread'
-begun_same k up old now chunk unread unread' near code coder' s same fresh params near_is t = λ c n given lines k_is up_is h.
+    → TakesInLine k up old now chunk unread → TakesInLine k up old (record now { coder = coder'; open_event = Sample code }) chunk unread'
+begun_same k up old now chunk unread unread' near code coder' s same not_begun params near_is t = λ c n given lines k_is up_is h.
     let p = old.coder.cells.parameters in let w : ℕ = now.width in let line : List ℕ = now.line.items in let cells : Variables = now.coder.cells in let ri : List ℕ = now.coder.run_indices in
     let a = t c n given lines k_is up_is h in let x = a.works in let there = above c lines in
-    let told : x.told ≡ [] = subst (λ z. HandAt p w there line cells (get_or ri (length lines % c) 0) z x.told) fresh x.hand_at in
+    let told : x.told ≡ [] = subst (λ z. OpenEventAt p w there line cells (get_or ri (length lines % c) 0) z x.told) not_begun x.open_event_at in
     let s' = subst (λ q. SampleBegun q near cells code unread unread') params s in
     let near' : near ≡ now_at w there line = subst (λ (z : Above). near ≡ now_at w z line) up_is near_is in
-    let at : HandAt p w there line cells (get_or ri (length lines % c) 0) (Sample code) (x.told ++ unread) = (
+    let at : OpenEventAt p w there line cells (get_or ri (length lines % c) 0) (Sample code) (x.told ++ unread) = (
       subst (λ (z : Neighbours). is_run_mode z ≡ false) near' s'.not_run,
       subst (λ (z : Neighbours). IsOpen (regular_k (cell_at cells (context p z))) (limit p) (qbpp p) code) near' s'.opened,
       ap (λ z. z ++ unread) told ∙ s'.told,
     ) in
-    let more = working_more p (subst AreCodingParameters params now.coder.in_range) w c n (let u = x.unfinished in omega arith) (given ++ a.taken) lines line cells ri now.hand x unread (Sample code) at in
+    let more = working_more p (subst AreCodingParameters params now.coder.in_range) w c n (let u = x.unfinished in omega arith) (given ++ a.taken) lines line cells ri now.open_event x unread (Sample code) at in
     let all = append_assoc given a.taken unread in
     record {
       taken = a.taken ++ unread;
       chunk_is = a.chunk_is ∙ sym (append-nil (a.taken ++ unread)) ∙ ap (λ z. (a.taken ++ unread) ++ z) (sym s.all);
-      works = subst (λ (z : Coder). Works p c n (given ++ (a.taken ++ unread)) lines (record now { coder = z; hand = Sample code })) (sym same) (subst (λ z. IsWorking p w c n z lines line cells ri (Sample code)) all more);
+      works = subst (λ (z : Coder). Works p c n (given ++ (a.taken ++ unread)) lines (record now { coder = z; open_event = Sample code })) (sym same) (subst (λ z. IsWorking p w c n z lines line cells ri (Sample code)) all more);
     }

@@ -7,20 +7,20 @@ use Rattle.jls_bits.proofs.Appending.{data_append, whole_front}
 use Rattle.jls_interval.specs.Lines.{interval_shape}
 use Rattle.jls_interval.specs.Code.{code}
 use Rattle.jls_interval.specs.Reads.{ReadsNoMore}
-use Rattle.jls_interval.specs.Decoding.{IsDead, IsOver}
+use Rattle.jls_interval.specs.Decoding.{BeginsNoCode, IsComplete}
 use Rattle.jls_interval.proofs.CodesApart.{codes_apart}
 
 module _ (p : CodingParameters) (w c n : ℕ) (bytes : List ℕ) where
   pub unwhole_reads_no_more : is_whole bytes ≡ false → ReadsNoMore (interval_shape p w c n) bytes
   unwhole_reads_no_more e more lines r = let t = (whole_front 0 bytes more r.begins.data_bits.whole).0 in absurd cc
 
-  pub dead_reads_no_more : IsDead p w c n (bits_read bytes) → ReadsNoMore (interval_shape p w c n) bytes
-  dead_reads_no_more dead more lines r =
+  pub no_code_reads_no_more : BeginsNoCode p w c n (bits_read bytes) → ReadsNoMore (interval_shape p w c n) bytes
+  no_code_reads_no_more no_code more lines r =
       let t = (whole_front 0 bytes more r.begins.data_bits.whole).0 in
-      dead (bits_read_after (last_after 0 bytes) more) lines r.unread r.begins.are_lines (sym (data_append 0 bytes more t) ∙ r.begins.data_bits.read)
+      no_code (bits_read_after (last_after 0 bytes) more) lines r.unread r.begins.are_lines (sym (data_append 0 bytes more t) ∙ r.begins.data_bits.read)
 
   pub over_reads_no_more : AreCodingParameters p → 0 < w → (whole : List (List ℕ)) (extra : ℕ)
-      → IsOver p w c n (bits_read bytes) whole extra → 7 < extra → ReadsNoMore (interval_shape p w c n) bytes
+      → IsComplete p w c n (bits_read bytes) whole extra → 7 < extra → ReadsNoMore (interval_shape p w c n) bytes
   over_reads_no_more ok some whole extra over many more lines r =
       let t = (whole_front 0 bytes more r.begins.data_bits.whole).0 in
       let behind : List Bool = bits_read_after (last_after 0 bytes) more in

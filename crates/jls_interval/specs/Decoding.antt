@@ -9,17 +9,17 @@ use Rattle.jls_interval.specs.Code.{code}
 use Rattle.jls_interval.specs.Stepwise.{Leads, bits_of_steps}
 use Rattle.jls_interval.specs.Growth.{HasSamples, interval_steps, start}
 use Rattle.jls_interval.specs.After.{IsAfter}
-use Rattle.jls_interval.specs.Hands.{HandAt}
+use Rattle.jls_interval.specs.OpenEvents.{OpenEventAt}
 use Rattle.jls_interval.specs.PieceFaults.{NoLines}
-use Rattle.jls_interval.specs.declared.line_reader.Hand.{Hand}
+use Rattle.jls_interval.specs.declared.line_reader.OpenEvent.{OpenEvent}
 use Rattle.jls_interval.specs.declared.interval_reader.State.{State}
-use Rattle.jls_interval.specs.declared.interval_reader.State.TheVariants.{Working, Over, Dead}
+use Rattle.jls_interval.specs.declared.interval_reader.State.TheVariants.{Working, Complete, NoCode}
 use Rattle.jls_interval.specs.declared.interval_reader.IntervalReader.{IntervalReader}
 
 -- Lines are still to come. Of the bits given, the first ones are those of whole events, which lead from the start to these finished
 -- lines and this begun one; the machine in hand was told the others
 pub record IsWorking (p : CodingParameters) (w c n : ℕ) (given : List Bool) (lines : List (List ℕ)) (line : List ℕ) (cells : Variables)
-    (run_indices : List ℕ) (hand : Hand) : Type 0 where
+    (run_indices : List ℕ) (open_event : OpenEvent) : Type 0 where
   pub earlier : List Event
   pub told : List Bool
   pub leads : Leads (interval_steps p w c n) start earlier (record { lines = lines; line = line; earlier = earlier })
@@ -28,25 +28,25 @@ pub record IsWorking (p : CodingParameters) (w c n : ℕ) (given : List Bool) (l
   pub unfinished : length line < w
   pub few : length lines < n
   pub is_after : IsAfter p cells run_indices earlier
-  pub hand_at : HandAt p w (above c lines) line cells (get_or run_indices (length lines % c) 0) hand told
+  pub open_event_at : OpenEventAt p w (above c lines) line cells (get_or run_indices (length lines % c) 0) open_event told
 
 -- all lines are there, and so many bits, counted up to 8, came behind their code
-pub record IsOver (p : CodingParameters) (w c n : ℕ) (given : List Bool) (lines : List (List ℕ)) (extra : ℕ) : Type 0 where
+pub record IsComplete (p : CodingParameters) (w c n : ℕ) (given : List Bool) (lines : List (List ℕ)) (extra : ℕ) : Type 0 where
   pub unread : List Bool
   pub are_lines : AreLines p w n lines
   pub begins : given ≡ code p w c lines ++ unread
   pub counted : extra ≡ min 8 (length unread)
 
 -- no lines' code begins with the bits given, whatever comes
-abbrev pub IsDead : CodingParameters → ℕ → ℕ → ℕ → List Bool → Type 0
-IsDead p w c n given = (more : List Bool) → NoLines p w c n (given ++ more)
+abbrev pub BeginsNoCode : CodingParameters → ℕ → ℕ → ℕ → List Bool → Type 0
+BeginsNoCode p w c n given = (more : List Bool) → NoLines p w c n (given ++ more)
 
 -- what the bits given have come to
-abbrev pub StateIs : CodingParameters → ℕ → ℕ → ℕ → List Bool → List (List ℕ) → List ℕ → Variables → List ℕ → Hand → State → Type 0
-StateIs p w c n given lines line cells run_indices hand Working =
-    IsWorking p w c n given lines line cells run_indices hand
-StateIs p w c n given lines line cells run_indices hand (Over extra) = IsOver p w c n given lines extra
-StateIs p w c n given lines line cells run_indices hand Dead = IsDead p w c n given
+abbrev pub StateIs : CodingParameters → ℕ → ℕ → ℕ → List Bool → List (List ℕ) → List ℕ → Variables → List ℕ → OpenEvent → State → Type 0
+StateIs p w c n given lines line cells run_indices open_event Working =
+    IsWorking p w c n given lines line cells run_indices open_event
+StateIs p w c n given lines line cells run_indices open_event (Complete extra) = IsComplete p w c n given lines extra
+StateIs p w c n given lines line cells run_indices open_event NoCode = BeginsNoCode p w c n given
 
 -- each of these lines has so many samples
 abbrev pub HaveWidth : ℕ → List (List ℕ) → Type 0
@@ -63,7 +63,7 @@ pub record IsReading (p : CodingParameters) (given : List Bool) (d : IntervalRea
   pub lines_wide : HaveWidth d.reader.width (map (λ v. v.items) d.lines.items)
   pub line_at_most : length d.reader.line.items ≤ d.reader.width
   pub state_is : StateIs p d.reader.width d.components d.count given (map
-      (λ v. v.items) d.lines.items) d.reader.line.items d.reader.coder.cells d.reader.coder.run_indices d.reader.hand d.state
+      (λ v. v.items) d.lines.items) d.reader.line.items d.reader.coder.cells d.reader.coder.run_indices d.reader.open_event d.state
 
 -- all bits of a chunk were taken
 abbrev pub TakesAll : IntervalReader → IntervalReader → List Bool → Type 0

@@ -20,9 +20,9 @@ pub mod Encoding
 pub mod ReadBack
 pub mod RunChunks
 pub mod SampleSteps
-pub mod Hands
+pub mod OpenEvents
 pub mod Decoding
 pub mod LineSamples
 pub mod IntervalBytes
-pub mod CutHands
+pub mod CutEventsOpen
 pub mod CutEnds

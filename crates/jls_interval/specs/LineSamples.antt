@@ -12,7 +12,7 @@ use Rattle.jls_interval.specs.Code.{event_bits}
 use Rattle.jls_interval.specs.After.{IsAfter}
 use Rattle.jls_interval.specs.Decoding.{IsWorking}
 use Rattle.jls_interval.specs.declared.coder.Coder.{Coder}
-use Rattle.jls_interval.specs.declared.line_reader.Hand.{Hand}
+use Rattle.jls_interval.specs.declared.line_reader.OpenEvent.{OpenEvent}
 use Rattle.jls_interval.specs.declared.line_reader.LineReader.{LineReader}
 use Rattle.jls_interval.specs.declared.line_samples.Front.{Front}
 use Rattle.jls_interval.specs.declared.line_samples.Front.TheVariants.{Taken, Begun, Other}
@@ -44,19 +44,19 @@ FrontIs p near old new chunk unread Other = (new ≡ old) × (unread ≡ chunk)
 -- lines are still to come, and a reader has the one in work
 abbrev pub Works : CodingParameters → ℕ → ℕ → List Bool → List (List ℕ) → LineReader → Type 0
 Works p c n given lines reader =
-    IsWorking p reader.width c n given lines reader.line.items reader.coder.cells reader.coder.run_indices reader.hand
+    IsWorking p reader.width c n given lines reader.line.items reader.coder.cells reader.coder.run_indices reader.open_event
 
 -- the first bits of a chunk were taken, and the line goes on
 pub record TakenInLine (p : CodingParameters) (w c n : ℕ) (given : List Bool) (lines : List (List ℕ)) (line : List ℕ) (cells : Variables)
-    (run_indices : List ℕ) (hand : Hand) (chunk unread : List Bool) : Type 0 where
+    (run_indices : List ℕ) (open_event : OpenEvent) (chunk unread : List Bool) : Type 0 where
   pub taken : List Bool
   pub chunk_is : chunk ≡ taken ++ unread
-  pub works : IsWorking p w c n (given ++ taken) lines line cells run_indices hand
+  pub works : IsWorking p w c n (given ++ taken) lines line cells run_indices open_event
 
 -- the same of the line that a reader has
 abbrev pub TakenBy : CodingParameters → ℕ → ℕ → List Bool → List (List ℕ) → LineReader → List Bool → List Bool → Type 0
 TakenBy p c n given lines new chunk unread =
-    TakenInLine p new.width c n given lines new.line.items new.coder.cells new.coder.run_indices new.hand chunk unread
+    TakenInLine p new.width c n given lines new.line.items new.coder.cells new.coder.run_indices new.open_event chunk unread
 
 -- the same of a line of a component, whatever came before
 abbrev pub TakesInLine : ℕ → Above → LineReader → LineReader → List Bool → List Bool → Type 0

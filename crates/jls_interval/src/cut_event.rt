@@ -17,12 +17,12 @@ ghost use Rattle.jls_interval.specs.Growth.{Fits};
 ghost use Rattle.jls_interval.specs.Reading.{NoRun, NoSample, NoInterruption};
 ghost use Rattle.jls_interval.specs.Place.{above_of};
 ghost use Rattle.jls_interval.specs.After.{IsAfter};
-ghost use Rattle.jls_interval.specs.Hands.{now_at, behind, Holds, NoEvent};
-ghost use Rattle.jls_interval.specs.CutHands.{BeginsSample, BeginsInterruption, BeginsRun, BeginsEvent};
+ghost use Rattle.jls_interval.specs.OpenEvents.{now_at, behind, Holds, NoEvent};
+ghost use Rattle.jls_interval.specs.CutEventsOpen.{BeginsSample, BeginsInterruption, BeginsRun, BeginsEvent};
 
 use crate::coder::RegularMode;
 use crate::cut_sample::{interruption_goes_on, sample_goes_on};
-use crate::line_reader::{Hand, Interruption, LineReader};
+use crate::line_reader::{Interruption, LineReader, OpenEvent};
 use crate::place::Place;
 use crate::run_index::run_order;
 use crate::run_reader::RunState;
@@ -124,7 +124,7 @@ fn interrupted_goes_on(reader: &LineReader, place: &Place<'_>, interruption: Int
 pub(crate) fn event_goes_on(reader: &LineReader, place: &Place<'_>) -> bool
     requires above { AllByRecursion (λ s. s ≤ reader.now.coder.cells.parameters.maxval) place.now.line_above.now }
     requires columns { length reader.now.line.items < reader.now.width }
-    requires hand { (told : List Bool) × Holds place.now.component (above_of place.now) reader.now told }
+    requires open_event { (told : List Bool) × Holds place.now.component (above_of place.now) reader.now told }
     ensures yes { result ≡ true → (told : List Bool) (earlier : List Event)
         → IsAfter reader.now.coder.cells.parameters reader.now.coder.cells reader.now.coder.run_indices earlier
         → ((e : Event) → Fits reader.now.coder.cells.parameters reader.now.width place.now.component
@@ -139,10 +139,10 @@ pub(crate) fn event_goes_on(reader: &LineReader, place: &Place<'_>) -> bool
         → (more : List Bool) → NoEvent reader.now.coder.cells.parameters reader.now.width place.now.component
         (above_of place.now) reader.now.line.items (told ++ more) earlier }
 {
-    match reader.hand {
-        Hand::Fresh => true,
-        Hand::Sample(code) => regular_goes_on(reader, place, code),
-        Hand::InRun(state) => run_goes_on(state),
-        Hand::Interruption(interruption) => interrupted_goes_on(reader, place, interruption),
+    match reader.open_event {
+        OpenEvent::NotBegun => true,
+        OpenEvent::Sample(code) => regular_goes_on(reader, place, code),
+        OpenEvent::InRun(state) => run_goes_on(state),
+        OpenEvent::Interruption(interruption) => interrupted_goes_on(reader, place, interruption),
     }
 }

@@ -10,7 +10,7 @@ ghost use Rattle.jls_bits.specs.Golomb.{golomb, BeginsCodeOf};
 ghost use Rattle.jls_bits.specs.CodeState.{IsOpen, bits_told};
 ghost use Rattle.jls_interval.specs.Cells.{is_same};
 ghost use Rattle.jls_interval.specs.Reading.{NoSample, NoInterruption};
-ghost use Rattle.jls_interval.specs.CutHands.{BeginsSample, BeginsInterruption};
+ghost use Rattle.jls_interval.specs.CutEventsOpen.{BeginsSample, BeginsInterruption};
 
 use crate::coder::{Coder, RegularMode};
 use crate::push_sample::{interruption_of, sample_of};

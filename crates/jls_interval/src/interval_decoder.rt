@@ -15,7 +15,7 @@ use crate::coder::Coder;
 use crate::cut_end::CutEnd;
 use crate::decode_piece::PieceFault;
 use crate::interval_reader::{IntervalReader, State};
-use crate::line_reader::{Hand, LineReader};
+use crate::line_reader::{LineReader, OpenEvent};
 use jls_bits::{Chunk, Unstuffer};
 use jls_values::Params;
 use std::alloc::{AllocError, Global};
@@ -174,7 +174,7 @@ impl IntervalDecoder {
                     coder: Coder::new(params),
                     width: usize::from(width),
                     line: Vec::new(alloc),
-                    hand: Hand::Fresh,
+                    open_event: OpenEvent::NotBegun,
                 },
                 components: usize::from(components),
                 count: rows as usize * usize::from(components),
@@ -248,8 +248,8 @@ impl IntervalDecoder {
         }
         match self.reader.state {
             State::Working => false,
-            State::Dead => true,
-            State::Over(extra) => extra > 7,
+            State::NoCode => true,
+            State::Complete(extra) => extra > 7,
         }
     }
 
@@ -270,8 +270,8 @@ impl IntervalDecoder {
         let IntervalReader { lines, state, .. } = reader;
         match state {
             State::Working => Err(PieceFault::Broken),
-            State::Dead => Err(PieceFault::Broken),
-            State::Over(extra) => {
+            State::NoCode => Err(PieceFault::Broken),
+            State::Complete(extra) => {
                 if extra > 7 {
                     Err(PieceFault::Long)
                 } else {
@@ -312,8 +312,8 @@ impl IntervalDecoder {
         }
         match reader.state {
             State::Working => Ok(CutEnd::Head(reader.into_head(), PieceFault::Broken)),
-            State::Dead => Ok(CutEnd::Head(reader.into_head(), PieceFault::Broken)),
-            State::Over(extra) => {
+            State::NoCode => Ok(CutEnd::Head(reader.into_head(), PieceFault::Broken)),
+            State::Complete(extra) => {
                 if extra <= 7 {
                     let IntervalReader { lines, .. } = reader;
                     return Ok(CutEnd::Whole(lines));

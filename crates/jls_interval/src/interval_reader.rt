@@ -3,7 +3,7 @@
 ghost use Rattle.std.specs.Prelude.{◌≡◌, ◌↔◌, ◌-◌, ◌≤◌, ℕ, List, Bool, length, map, IsTrue, IfOk, OnOk};
 ghost use Rattle.jls_values.specs.Params.{CodingParameters};
 
-use crate::line_reader::{EventStep, Hand, LineReader};
+use crate::line_reader::{EventStep, LineReader, OpenEvent};
 use crate::line_samples::take_samples;
 use crate::place::Place;
 use crate::push_event::push_to_event;
@@ -17,9 +17,9 @@ pub(crate) enum State {
     /// Lines are still to come.
     Working,
     /// All lines are there, and so many bits came behind their code, counted up to 8.
-    Over(u8),
+    Complete(u8),
     /// They begin with no lines' code, whatever comes.
-    Dead,
+    NoCode,
 }
 
 /// The lines of an interval that is read.
@@ -86,7 +86,7 @@ impl IntervalReader {
         match push_to_event(&mut self.reader, &place, chunk)? {
             EventStep::More => Ok(false),
             EventStep::Refused => {
-                self.state = State::Dead;
+                self.state = State::NoCode;
                 Ok(false)
             }
             EventStep::Moved => {
@@ -94,7 +94,7 @@ impl IntervalReader {
                     let line = mem::replace(&mut self.reader.line, Vec::new(self.alloc));
                     self.lines.push(line)?;
                     if self.lines.len() == self.count {
-                        self.state = State::Over(0);
+                        self.state = State::Complete(0);
                     }
                 }
                 Ok(true)
@@ -113,14 +113,14 @@ impl IntervalReader {
         let State::Working = self.state else {
             return Chunk::new();
         };
-        let Hand::Sample(code) = self.reader.hand else {
+        let OpenEvent::Sample(code) = self.reader.open_event else {
             return Chunk::new();
         };
         let lengths = self.reader.coder.lengths;
         match code.told(lengths.limit, lengths.qbpp) {
             None => Chunk::new(),
             Some(chunk) => {
-                self.reader.hand = Hand::Fresh;
+                self.reader.open_event = OpenEvent::NotBegun;
                 chunk
             }
         }
@@ -131,8 +131,8 @@ impl IntervalReader {
         ensures shape { HasShape self.old self.new }
         ensures bits { (self.old.state ≡ State.Working → ⊥) → TakesAll self.old self.new chunk.now }
     {
-        if let State::Over(extra) = self.state {
-            self.state = State::Over(extra.saturating_add(chunk.len()).min(8));
+        if let State::Complete(extra) = self.state {
+            self.state = State::Complete(extra.saturating_add(chunk.len()).min(8));
         }
     }
 

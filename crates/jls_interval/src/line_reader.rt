@@ -19,9 +19,9 @@ pub(crate) struct Interruption {
 
 /// What the bits since the last whole event have come to.
 #[derive(Clone, Copy)]
-pub(crate) enum Hand {
+pub(crate) enum OpenEvent {
     /// No bit.
-    Fresh,
+    NotBegun,
     /// The first bits of a sample in regular mode.
     Sample(CodeState),
     /// The first bits of a run.
@@ -48,7 +48,7 @@ pub(crate) struct LineReader {
     pub width: usize,
     /// The samples so far.
     pub line: Vec<u16>,
-    pub hand: Hand,
+    pub open_event: OpenEvent,
     ghost width_below: { width < 2 ^ 16 },
 }
 
@@ -61,14 +61,14 @@ impl LineReader {
         ensures run_indices { IfOk result (λ clone. clone.coder.run_indices ≡ self.now.coder.run_indices) }
         ensures width { IfOk result (λ clone. clone.width ≡ self.now.width) }
         ensures line { IfOk result (λ clone. clone.line.items ≡ self.now.line.items) }
-        ensures hand { IfOk result (λ clone. clone.hand ≡ self.now.hand) }
+        ensures open_event { IfOk result (λ clone. clone.open_event ≡ self.now.open_event) }
     {
         let line = Vec::from_slice(alloc, &self.line)?;
         Ok(LineReader {
             coder: self.coder.to_owned(),
             width: self.width,
             line,
-            hand: self.hand,
+            open_event: self.open_event,
         })
     }
 }

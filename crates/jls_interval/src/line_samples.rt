@@ -14,7 +14,7 @@ ghost use Rattle.jls_interval.specs.LineSamples.{FrontIs, TakesInLine};
 
 use crate::code_lengths::CodeLengths;
 use crate::coder::{Coder, RegularMode};
-use crate::line_reader::{Hand, LineReader};
+use crate::line_reader::{LineReader, OpenEvent};
 use crate::place::Place;
 use crate::push_sample::{Sample, sample_of};
 use jls_bits::{Chunk, CodeState};
@@ -93,7 +93,7 @@ pub(crate) fn take_samples(
     ensures width { reader.new.width ≡ reader.old.width }
     ensures parameters { reader.new.coder.cells.parameters ≡ reader.old.coder.cells.parameters }
 {
-    let Hand::Fresh = reader.hand else {
+    let OpenEvent::NotBegun = reader.open_event else {
         return Ok(());
     };
     let mut column = reader.line.len();
@@ -104,7 +104,7 @@ pub(crate) fn take_samples(
         match take_sample(&mut reader.coder, near, first, second, chunk) {
             Front::Other => return Ok(()),
             Front::Begun(code) => {
-                reader.hand = Hand::Sample(code);
+                reader.open_event = OpenEvent::Sample(code);
                 return Ok(());
             }
             Front::Taken(value) => {

@@ -14,11 +14,11 @@ ghost use Rattle.jls_interval.specs.Place.{above_of};
 ghost use Rattle.jls_interval.specs.After.{IsAfter};
 ghost use Rattle.jls_interval.specs.Runs;
 ghost use Rattle.jls_interval.specs.RunState.{IsRunState, RunAt, RunIs};
-ghost use Rattle.jls_interval.specs.Hands.{now_at, behind, Holds, EventPushed};
+ghost use Rattle.jls_interval.specs.OpenEvents.{now_at, behind, Holds, EventPushed};
 ghost use Rattle.jls_interval.specs.declared.run_reader.Run.TheVariants.{Interrupted};
 
 use crate::coder::RegularMode;
-use crate::line_reader::{EventStep, Hand, Interruption, LineReader};
+use crate::line_reader::{EventStep, Interruption, LineReader, OpenEvent};
 use crate::place::Place;
 use crate::push_sample::{SampleStep, push_to_interruption, push_to_sample};
 use crate::run_index::{lowered, run_order};
@@ -49,7 +49,7 @@ fn push_to_regular(
 {
     match push_to_sample(&reader.coder, neighbours, mode, code, chunk) {
         SampleStep::More(next) => {
-            reader.hand = Hand::Sample(next);
+            reader.open_event = OpenEvent::Sample(next);
             Ok(EventStep::More)
         }
         SampleStep::Refused => Ok(EventStep::Refused),
@@ -59,7 +59,7 @@ fn push_to_regular(
                 .coder
                 .cells
                 .update_regular(mode.context, sample.error);
-            reader.hand = Hand::Fresh;
+            reader.open_event = OpenEvent::NotBegun;
             Ok(EventStep::Moved)
         }
     }
@@ -114,7 +114,7 @@ fn push_to_interrupted(
     };
     match push_to_interruption(&reader.coder, there, run_order(run_index), code, chunk) {
         SampleStep::More(code) => {
-            reader.hand = Hand::Interruption(Interruption {
+            reader.open_event = OpenEvent::Interruption(Interruption {
                 count,
                 run_index,
                 code,
@@ -129,7 +129,7 @@ fn push_to_interrupted(
             reader
                 .coder
                 .set_run_index(place.component, lowered(run_index));
-            reader.hand = Hand::Fresh;
+            reader.open_event = OpenEvent::NotBegun;
             Ok(EventStep::Moved)
         }
     }
@@ -158,14 +158,14 @@ fn push_to_run(
     let columns = (reader.width - reader.line.len()) as u32;
     match state.push_chunk(columns, chunk) {
         RunStep::More(next) => {
-            reader.hand = Hand::InRun(next);
+            reader.open_event = OpenEvent::InRun(next);
             Ok(EventStep::More)
         }
         RunStep::Refused => Ok(EventStep::Refused),
         RunStep::Done(Run::ToEnd { run_index }) => {
             push_run(&mut reader.line, value, columns)?;
             reader.coder.set_run_index(place.component, run_index);
-            reader.hand = Hand::Fresh;
+            reader.open_event = OpenEvent::NotBegun;
             Ok(EventStep::Moved)
         }
         RunStep::Done(Run::Interrupted { count, run_index }) => {
@@ -188,7 +188,7 @@ pub(crate) fn push_to_event(
 ) -> Result<EventStep, AllocError>
     requires above { AllByRecursion (λ s. s ≤ reader.old.coder.cells.parameters.maxval) place.now.line_above.now }
     requires columns { length reader.old.line.items < reader.old.width }
-    requires hand { (told : List Bool) × Holds place.now.component (above_of place.now) reader.old told }
+    requires open_event { (told : List Bool) × Holds place.now.component (above_of place.now) reader.old told }
     ensures step { IfOk result (λ s. (told : List Bool) (earlier : List Event)
         → IsAfter reader.old.coder.cells.parameters reader.old.coder.cells reader.old.coder.run_indices earlier
         → Holds place.now.component (above_of place.now) reader.old told
@@ -204,28 +204,34 @@ pub(crate) fn push_to_event(
         .cells
         .mode(neighbours.ra, neighbours.rb, neighbours.rc, neighbours.rd)
     {
-        Mode::Run => match reader.hand {
-            Hand::Fresh => {
+        Mode::Run => match reader.open_event {
+            OpenEvent::NotBegun => {
                 let run_index = reader.coder.run_index(place.component);
                 let state = RunState::Blocks { run_index, columns };
                 push_to_run(reader, place, neighbours.ra, state, chunk)
             }
-            Hand::InRun(state) => push_to_run(reader, place, neighbours.ra, state, chunk),
-            Hand::Interruption(interruption) => {
+            OpenEvent::InRun(state) => push_to_run(reader, place, neighbours.ra, state, chunk),
+            OpenEvent::Interruption(interruption) => {
                 push_to_interrupted(reader, place, neighbours.ra, interruption, chunk)
             }
-            Hand::Sample(_) => unreachable!(),
+            OpenEvent::Sample(_) => unreachable!(),
         },
         Mode::Regular { cell, negative } => {
             let mode = RegularMode {
                 context: cell,
                 negative,
             };
-            match reader.hand {
-                Hand::Fresh => push_to_regular(reader, neighbours, mode, CodeState::START, chunk),
-                Hand::Sample(code) => push_to_regular(reader, neighbours, mode, code, chunk),
-                Hand::InRun(_) => unreachable!(),
-                Hand::Interruption(_) => unreachable!(),
+            match reader.open_event {
+                OpenEvent::NotBegun => push_to_regular(
+                    reader,
+                    neighbours,
+                    mode,
+                    CodeState::START,
+                    chunk,
+                ),
+                OpenEvent::Sample(code) => push_to_regular(reader, neighbours, mode, code, chunk),
+                OpenEvent::InRun(_) => unreachable!(),
+                OpenEvent::Interruption(_) => unreachable!(),
             }
         }
     }

@@ -9,9 +9,9 @@ use Rattle.jls_interval.specs.Cells.{is_same}
 use Rattle.jls_interval.specs.Runs.{run_order}
 use Rattle.jls_interval.specs.Reading.{NoInterruption}
 use Rattle.jls_interval.specs.Place.{above_of}
-use Rattle.jls_interval.specs.Hands.{now_at, behind}
-use Rattle.jls_interval.specs.CutHands.{BeginsInterruption}
-use Rattle.jls_interval.proofs.HandBits.{rb_small, near_behind}
+use Rattle.jls_interval.specs.OpenEvents.{now_at, behind}
+use Rattle.jls_interval.specs.CutEventsOpen.{BeginsInterruption}
+use Rattle.jls_interval.proofs.OpenEventBits.{rb_small, near_behind}
 use Rattle.jls_interval.proofs.cut_event.interrupted_goes_on.Goals as goal
 
 pub interruption_goes_on-requires-clause-above : goal.interruption_goes_on-requires-clause-above

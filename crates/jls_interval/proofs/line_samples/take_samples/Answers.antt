@@ -15,7 +15,7 @@ returns-in_default c =
 pub returns-in-Begun-clause-taken : goal.returns-in-Begun-clause-taken
 returns-in-Begun-clause-taken c =
     let i = c.columns.invariant in let s = c.in-Begun.ensures.front in
-    begun_same c.args.place.now.component (above_of c.args.place.now) c.args.reader.now c.columns.reader c.args.chunk.now c.columns.chunk c.take_sample.new.chunk c.columns.near c.in-Begun.code c.take_sample.new.coder s.0 s.1 i.hand i.parameters i.near i.taking
+    begun_same c.args.place.now.component (above_of c.args.place.now) c.args.reader.now c.columns.reader c.args.chunk.now c.columns.chunk c.take_sample.new.chunk c.columns.near c.in-Begun.code c.take_sample.new.coder s.0 s.1 i.open_event i.parameters i.near i.taking
 
 pub returns-in-Other-clause-taken : goal.returns-in-Other-clause-taken
 returns-in-Other-clause-taken c =
@@ -37,9 +37,9 @@ columns-preserved c =
       columns = omega arith;
       width = i.width;
       parameters = c.take_sample.ensures.parameters ∙ i.parameters;
-      hand = i.hand;
+      open_event = i.open_event;
       near = next ∙ ap (λ z. neighbours w up z (x + 1)) (sym grown) ∙ ap (neighbours w up line') at';
       second = same ∙ c.gradient-first.ensures.value ∙ ap (λ (q : CodingParameters). quantized_gradient q (pos near.rd -ℤ pos near.rb)) (sym c.take_sample.ensures.parameters) ∙ ap (λ z. quantized_gradient c.take_sample.new.coder.cells.parameters (pos z -ℤ pos near.rb)) (sym rolled.0) ∙ ap (λ z. quantized_gradient c.take_sample.new.coder.cells.parameters (pos near'.rb -ℤ pos z)) (sym rolled.1);
       step = subst IsStep (sym same) c.gradient-first.ensures.step;
-      taking = taken_more c.args.place.now.component up c.args.reader.now now (record now { coder = c.take_sample.new.coder; line = c.push.new.self }) c.args.chunk.now c.columns.chunk c.take_sample.new.chunk c.columns.near v c.in-Taken.ensures.front i.hand i.hand refl grown i.parameters i.near (omega arith) i.taking;
+      taking = taken_more c.args.place.now.component up c.args.reader.now now (record now { coder = c.take_sample.new.coder; line = c.push.new.self }) c.args.chunk.now c.columns.chunk c.take_sample.new.chunk c.columns.near v c.in-Taken.ensures.front i.open_event i.open_event refl grown i.parameters i.near (omega arith) i.taking;
     }

@@ -2,9 +2,9 @@ use Rattle.std.proofs.Common.{◌≡◌, ◌-◌, ◌<◌, length}
 use Rattle.std.specs.Prelude.{pos, ◌-ℤ◌}
 use Rattle.jls_context.specs.Mode.{IsStep, quantized_gradient}
 use Rattle.jls_interval.specs.Place.{above_of}
-use Rattle.jls_interval.specs.Hands.{now_at}
+use Rattle.jls_interval.specs.OpenEvents.{now_at}
 use Rattle.jls_interval.specs.LineSamples.{TakesInLine}
-use Rattle.jls_interval.specs.declared.line_reader.Hand.TheVariants.{Fresh}
+use Rattle.jls_interval.specs.declared.line_reader.OpenEvent.TheVariants.{NotBegun}
 use Rattle.jls_interval.proofs.line_samples.take_samples.Given as goal
 
 abbrev pub invariant-columns : goal.invariant-columns
@@ -13,7 +13,7 @@ invariant-columns l = record {
   columns : length l.reader.line.items < l.reader.width;
   width : l.reader.width ≡ l.initial.reader.width;
   parameters : l.reader.coder.cells.parameters ≡ l.initial.reader.coder.cells.parameters;
-  hand : l.reader.hand ≡ Fresh;
+  open_event : l.reader.open_event ≡ NotBegun;
   near : l.near ≡ now_at l.reader.width (above_of l.place) l.reader.line.items;
   second : l.second ≡ quantized_gradient l.reader.coder.cells.parameters (pos l.near.rb -ℤ pos l.near.rc);
   step : IsStep l.second;

@@ -14,11 +14,11 @@ use Rattle.jls_interval.specs.Code.{interrupted_run_bits, interrupting_bits}
 use Rattle.jls_interval.specs.Runs.{run_order, blocks, run_index_lowered}
 use Rattle.jls_interval.specs.Reading.{NoInterruption}
 use Rattle.jls_interval.specs.Place.{above_of}
-use Rattle.jls_interval.specs.Hands.{now_at, behind}
+use Rattle.jls_interval.specs.OpenEvents.{now_at, behind}
 use Rattle.jls_interval.proofs.SamplesRead.{wide}
 use Rattle.jls_interval.proofs.RunEvents.{run_alone, run_broken, run_fits}
 use Rattle.jls_interval.proofs.AfterEvents.{after_interruption, after_same}
-use Rattle.jls_interval.proofs.HandBits.{rb_small, near_behind, broken_with}
+use Rattle.jls_interval.proofs.OpenEventBits.{rb_small, near_behind, broken_with}
 use Rattle.jls_interval.proofs.push_event.push_to_interrupted.Goals as goal
 
 pub push_to_interruption-requires-clause-above : goal.push_to_interruption-requires-clause-above

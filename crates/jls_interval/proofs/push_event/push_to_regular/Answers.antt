@@ -10,9 +10,9 @@ use Rattle.jls_bits.specs.CodeState.{bits_told}
 use Rattle.jls_interval.specs.Code.{regular_bits}
 use Rattle.jls_interval.specs.Events.{regular}
 use Rattle.jls_interval.specs.Reading.{NoSample}
-use Rattle.jls_interval.specs.Hands.{now_at}
+use Rattle.jls_interval.specs.OpenEvents.{now_at}
 use Rattle.jls_interval.proofs.AfterEvents.{after_regular, sample_bits}
-use Rattle.jls_interval.proofs.HandBits.{no_sample_no_event}
+use Rattle.jls_interval.proofs.OpenEventBits.{no_sample_no_event}
 use Rattle.jls_interval.proofs.push_event.push_to_regular.Goals as goal
 
 pub returns-in-Refused-clause-step : goal.returns-in-Refused-clause-step

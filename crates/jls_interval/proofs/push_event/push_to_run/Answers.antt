@@ -7,14 +7,14 @@ use Rattle.jls_interval.specs.Runs.{run_order}
 use Rattle.jls_interval.specs.RunState.{RunAt, RunIs, IsRunState, RunStepIs}
 use Rattle.jls_interval.specs.After.{IsAfter}
 use Rattle.jls_interval.specs.Place.{above_of}
-use Rattle.jls_interval.specs.Hands.{behind, EventPushed}
+use Rattle.jls_interval.specs.OpenEvents.{behind, EventPushed}
 use Rattle.jls_interval.specs.declared.line_reader.EventStep.{EventStep}
 use Rattle.jls_interval.specs.declared.run_reader.Run.TheVariants.{ToEnd, Interrupted}
 use Rattle.jls_interval.specs.declared.run_reader.RunStep.TheVariants.{Refused}
 use Rattle.jls_interval.proofs.SamplesRead.{wide}
 use Rattle.jls_interval.proofs.RunEvents.{run_none, run_end}
 use Rattle.jls_interval.proofs.AfterEvents.{after_end, after_same}
-use Rattle.jls_interval.proofs.HandBits.{run_then}
+use Rattle.jls_interval.proofs.OpenEventBits.{run_then}
 use Rattle.jls_interval.proofs.push_event.push_to_run.Goals as goal
 
 pub returns-in-More-clause-step : goal.returns-in-More-clause-step

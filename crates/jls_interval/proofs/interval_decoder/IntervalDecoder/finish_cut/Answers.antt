@@ -4,13 +4,13 @@ use Rattle.jls_values.specs.Params.{CodingParameters}
 use Rattle.jls_bits.specs.Bits.{bits_read}
 use Rattle.jls_interval.specs.Lines.{interval_shape}
 use Rattle.jls_interval.specs.CutEnds.{CutEndIs}
-use Rattle.jls_interval.specs.Decoding.{IsWorking, IsOver, IsDead, StateIs}
+use Rattle.jls_interval.specs.Decoding.{IsWorking, IsComplete, BeginsNoCode, StateIs}
 use Rattle.jls_interval.specs.IntervalBytes.{IntervalBytes, bytes_of, interval_asked}
 use Rattle.jls_interval.specs.declared.cut_end.CutEnd.{CutEnd}
 use Rattle.jls_interval.specs.declared.cut_end.CutEnd.TheVariants.{Head}
 use Rattle.jls_interval.specs.declared.decode_piece.PieceFault.TheVariants.{Long, Broken}
 use Rattle.jls_interval.proofs.Decoding.{working_ends}
-use Rattle.jls_interval.proofs.Finishing.{broken_bits, dead_breaks, over_long}
+use Rattle.jls_interval.proofs.Finishing.{broken_bits, no_code_breaks, over_long}
 use Rattle.jls_interval.proofs.IntervalReading.{items}
 use Rattle.jls_interval.proofs.interval_decoder.IntervalDecoder.finish_cut.Goals as goal
 
@@ -27,23 +27,23 @@ pub returns-in-Working-clause-cut_end : goal.returns-in-Working-clause-cut_end
 returns-in-Working-clause-cut_end c =
     let i = c.self.inside in let d = i.reader in let v = c.self.invariant in let h = v.decoding c.if-self.false in let w : ℕ = d.reader.width in let n : ℕ = d.components in let bytes : List ℕ = i.unstuffer in let reading = h.reading c.if-ended.false in
     let L = items d.lines.items in let coder = d.reader.coder in
-    let working : IsWorking i.params w n d.count (bits_read bytes) L d.reader.line.items coder.cells coder.run_indices d.reader.hand = subst (λ s. StateIs i.params w n d.count (bits_read bytes) L d.reader.line.items coder.cells coder.run_indices d.reader.hand s) c.in-Working.is reading.state_is in
+    let working : IsWorking i.params w n d.count (bits_read bytes) L d.reader.line.items coder.cells coder.run_indices d.reader.open_event = subst (λ s. StateIs i.params w n d.count (bits_read bytes) L d.reader.line.items coder.cells coder.run_indices d.reader.open_event s) c.in-Working.is reading.state_is in
     seen c.args.self i.refused i.params w n i.rows d.count bytes (Head c.into_head.result Broken) c.if-self.false c.self.view_is v.count_is
-    (broken_bits i.params w n d.count bytes (working_ends i.params v.in_range w n d.count v.width_at_least (bits_read bytes) L d.reader.line.items coder.cells coder.run_indices d.reader.hand working), inl (h.whole c.if-ended.false, c.into_head.ensures i.params (bits_read bytes) reading))
+    (broken_bits i.params w n d.count bytes (working_ends i.params v.in_range w n d.count v.width_at_least (bits_read bytes) L d.reader.line.items coder.cells coder.run_indices d.reader.open_event working), inl (h.whole c.if-ended.false, c.into_head.ensures i.params (bits_read bytes) reading))
 
-pub returns-in-Dead-clause-cut_end : goal.returns-in-Dead-clause-cut_end
-returns-in-Dead-clause-cut_end c =
+pub returns-in-NoCode-clause-cut_end : goal.returns-in-NoCode-clause-cut_end
+returns-in-NoCode-clause-cut_end c =
     let i = c.self.inside in let d = i.reader in let v = c.self.invariant in let h = v.decoding c.if-self.false in let w : ℕ = d.reader.width in let n : ℕ = d.components in let bytes : List ℕ = i.unstuffer in let reading = h.reading c.if-ended.false in
     let L = items d.lines.items in let coder = d.reader.coder in
-    let dead : IsDead i.params w n d.count (bits_read bytes) = subst (λ s. StateIs i.params w n d.count (bits_read bytes) L d.reader.line.items coder.cells coder.run_indices d.reader.hand s) c.in-Dead.is reading.state_is in
-    seen c.args.self i.refused i.params w n i.rows d.count bytes (Head c.into_head-in-Dead.result Broken) c.if-self.false c.self.view_is v.count_is
-    (dead_breaks i.params w n d.count bytes dead, inl (h.whole c.if-ended.false, c.into_head-in-Dead.ensures i.params (bits_read bytes) reading))
+    let no_code : BeginsNoCode i.params w n d.count (bits_read bytes) = subst (λ s. StateIs i.params w n d.count (bits_read bytes) L d.reader.line.items coder.cells coder.run_indices d.reader.open_event s) c.in-NoCode.is reading.state_is in
+    seen c.args.self i.refused i.params w n i.rows d.count bytes (Head c.into_head-in-NoCode.result Broken) c.if-self.false c.self.view_is v.count_is
+    (no_code_breaks i.params w n d.count bytes no_code, inl (h.whole c.if-ended.false, c.into_head-in-NoCode.ensures i.params (bits_read bytes) reading))
 
 pub returns-else-extra-le7-clause-cut_end : goal.returns-else-extra-le7-clause-cut_end
 returns-else-extra-le7-clause-cut_end c =
     let i = c.self.inside in let d = i.reader in let v = c.self.invariant in let h = v.decoding c.if-self.false in let w : ℕ = d.reader.width in let n : ℕ = d.components in let bytes : List ℕ = i.unstuffer in let reading = h.reading c.if-ended.false in
     let L = items d.lines.items in let coder = d.reader.coder in
-    let over : IsOver i.params w n d.count (bits_read bytes) L c.in-Over.extra = subst (λ s. StateIs i.params w n d.count (bits_read bytes) L d.reader.line.items coder.cells coder.run_indices d.reader.hand s) c.in-Over.is reading.state_is in
-    let many : 7 < c.in-Over.extra = (let e = c.if-extra-le7.false in omega arith) in
-    seen c.args.self i.refused i.params w n i.rows d.count bytes (Head c.into_head-in-Over.result Long) c.if-self.false c.self.view_is v.count_is
-    (over_long i.params w n d.count bytes v.are_bytes (h.whole c.if-ended.false) L c.in-Over.extra over many, inl (h.whole c.if-ended.false, c.into_head-in-Over.ensures i.params (bits_read bytes) reading))
+    let over : IsComplete i.params w n d.count (bits_read bytes) L c.in-Complete.extra = subst (λ s. StateIs i.params w n d.count (bits_read bytes) L d.reader.line.items coder.cells coder.run_indices d.reader.open_event s) c.in-Complete.is reading.state_is in
+    let many : 7 < c.in-Complete.extra = (let e = c.if-extra-le7.false in omega arith) in
+    seen c.args.self i.refused i.params w n i.rows d.count bytes (Head c.into_head-in-Complete.result Long) c.if-self.false c.self.view_is v.count_is
+    (over_long i.params w n d.count bytes v.are_bytes (h.whole c.if-ended.false) L c.in-Complete.extra over many, inl (h.whole c.if-ended.false, c.into_head-in-Complete.ensures i.params (bits_read bytes) reading))

@@ -5,11 +5,11 @@ use Rattle.jls_values.specs.Params.{CodingParameters}
 use Rattle.jls_bits.specs.Bits.{bits_read}
 use Rattle.jls_interval.specs.Lines.{interval_shape}
 use Rattle.jls_interval.specs.Reads.{ReadsNoMore}
-use Rattle.jls_interval.specs.Decoding.{IsDead, IsOver, StateIs}
+use Rattle.jls_interval.specs.Decoding.{BeginsNoCode, IsComplete, StateIs}
 use Rattle.jls_interval.specs.IntervalBytes.{IntervalBytes, bytes_of, interval_asked}
 use Rattle.jls_interval.specs.declared.line_reader.LineReader.{LineReader}
 use Rattle.jls_interval.specs.declared.interval_reader.State.{State}
-use Rattle.jls_interval.proofs.NoMore.{unwhole_reads_no_more, dead_reads_no_more, over_reads_no_more}
+use Rattle.jls_interval.proofs.NoMore.{unwhole_reads_no_more, no_code_reads_no_more, over_reads_no_more}
 use Rattle.jls_interval.proofs.interval_decoder.IntervalDecoder.reads_no_more.Goals as goal
 
 said : (p : CodingParameters) (w n rows count : ℕ) (refused : Bool) (bytes : List ℕ) (z : IntervalBytes) → refused ≡ false
@@ -29,28 +29,28 @@ returns-then-self-2 c = λ _.
 
 -- what the state of a reading says, at the state that was matched
 at_state : (p : CodingParameters) (w n count : ℕ) (given : List Bool) (lines : List (List ℕ)) (r : LineReader) (s t : State) → s ≡ t
-    → StateIs p w n count given lines r.line.items r.coder.cells r.coder.run_indices r.hand s
-    → StateIs p w n count given lines r.line.items r.coder.cells r.coder.run_indices r.hand t
+    → StateIs p w n count given lines r.line.items r.coder.cells r.coder.run_indices r.open_event s
+    → StateIs p w n count given lines r.line.items r.coder.cells r.coder.run_indices r.open_event t
 at_state p w n count given lines r s t e h =
-    subst (λ s. StateIs p w n count given lines r.line.items r.coder.cells r.coder.run_indices r.hand s) e h
+    subst (λ s. StateIs p w n count given lines r.line.items r.coder.cells r.coder.run_indices r.open_event s) e h
 
-pub returns-in-Dead : goal.returns-in-Dead
-returns-in-Dead c = λ _.
+pub returns-in-NoCode : goal.returns-in-NoCode
+returns-in-NoCode c = λ _.
     let i = c.self.inside in let d = i.reader in let v = c.self.invariant in let w : ℕ = d.reader.width in let n : ℕ = d.components in
     let reading = (v.decoding c.if-self.false).reading c.if-self-2.false in
     let lines : List (List ℕ) = map (λ v. v.items) d.lines.items in
-    let dead : IsDead i.params w n d.count (bits_read i.unstuffer) =
-    at_state i.params w n d.count (bits_read i.unstuffer) lines d.reader d.state _ c.in-Dead.is reading.state_is in
+    let no_code : BeginsNoCode i.params w n d.count (bits_read i.unstuffer) =
+    at_state i.params w n d.count (bits_read i.unstuffer) lines d.reader d.state _ c.in-NoCode.is reading.state_is in
     said i.params w n i.rows d.count i.refused i.unstuffer _ c.if-self.false v.count_is c.self.view_is
-    (dead_reads_no_more i.params w n d.count i.unstuffer dead)
+    (no_code_reads_no_more i.params w n d.count i.unstuffer no_code)
 
-pub returns-in-Over : goal.returns-in-Over
-returns-in-Over c = λ many.
+pub returns-in-Complete : goal.returns-in-Complete
+returns-in-Complete c = λ many.
     let i = c.self.inside in let d = i.reader in let v = c.self.invariant in let w : ℕ = d.reader.width in let n : ℕ = d.components in
     let reading = (v.decoding c.if-self.false).reading c.if-self-2.false in
     let lines : List (List ℕ) = map (λ v. v.items) d.lines.items in
-    let over : IsOver i.params w n d.count (bits_read i.unstuffer) lines c.in-Over.extra =
-    at_state i.params w n d.count (bits_read i.unstuffer) lines d.reader d.state _ c.in-Over.is reading.state_is in
-    let high : 7 < c.in-Over.extra = grind (arith, nat_tests, many) in
+    let over : IsComplete i.params w n d.count (bits_read i.unstuffer) lines c.in-Complete.extra =
+    at_state i.params w n d.count (bits_read i.unstuffer) lines d.reader d.state _ c.in-Complete.is reading.state_is in
+    let high : 7 < c.in-Complete.extra = grind (arith, nat_tests, many) in
     said i.params w n i.rows d.count i.refused i.unstuffer _ c.if-self.false v.count_is c.self.view_is
-    (over_reads_no_more i.params w n d.count i.unstuffer v.in_range v.width_at_least lines c.in-Over.extra over high)
+    (over_reads_no_more i.params w n d.count i.unstuffer v.in_range v.width_at_least lines c.in-Complete.extra over high)

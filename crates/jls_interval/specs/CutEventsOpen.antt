@@ -8,7 +8,7 @@ use Rattle.jls_interval.specs.Events.{Event, Above}
 use Rattle.jls_interval.specs.Runs.{blocks}
 use Rattle.jls_interval.specs.Code.{regular_bits, interrupting_bits, interrupted_run_bits, event_bits}
 use Rattle.jls_interval.specs.Growth.{Fits}
-use Rattle.jls_interval.specs.Hands.{now_at}
+use Rattle.jls_interval.specs.OpenEvents.{now_at}
 use Rattle.jls_interval.specs.CutEvents.{IsProperPrefix}
 
 -- the bits told are a proper prefix of those of a sample of regular mode

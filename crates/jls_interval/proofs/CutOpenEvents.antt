@@ -16,15 +16,15 @@ use Rattle.jls_interval.specs.Growth.{Fits}
 use Rattle.jls_interval.specs.Reading.{NoInterruption}
 use Rattle.jls_interval.specs.RunState.{RunIs}
 use Rattle.jls_interval.specs.After.{IsAfter}
-use Rattle.jls_interval.specs.Hands.{now_at, behind, NoEvent}
+use Rattle.jls_interval.specs.OpenEvents.{now_at, behind, NoEvent}
 use Rattle.jls_interval.specs.CutEvents.{IsProperPrefix}
-use Rattle.jls_interval.specs.CutHands.{BeginsSample, BeginsInterruption, BeginsRun, BeginsEvent}
+use Rattle.jls_interval.specs.CutEventsOpen.{BeginsSample, BeginsInterruption, BeginsRun, BeginsEvent}
 use Rattle.jls_interval.specs.declared.run_reader.Run.TheVariants.{Interrupted}
 use Rattle.jls_interval.proofs.GrownLines.{some_fits}
 use Rattle.jls_interval.proofs.SamplesRead.{wide}
 use Rattle.jls_interval.proofs.RunEvents.{run_alone, run_broken, run_fits}
 use Rattle.jls_interval.proofs.AfterEvents.{sample_bits}
-use Rattle.jls_interval.proofs.HandBits.{broken_with}
+use Rattle.jls_interval.proofs.OpenEventBits.{broken_with}
 
 module _ (p : CodingParameters) (ok : AreCodingParameters p) (w k : ℕ) (up : Above) (above_small : AllByRecursion (λ s. s ≤ p.maxval) up.line_above) (line : List ℕ) (short : length line < w) (cells : Variables) (ri : List ℕ) (earlier : List Event) (t : IsAfter p cells ri earlier) where
   abbrev near : Neighbours
@@ -40,8 +40,8 @@ module _ (p : CodingParameters) (ok : AreCodingParameters p) (w k : ℕ) (up : A
   w0_is = omega arith
 
   -- no bit: some event can come, and each has a bit
-  pub fresh_goes_on : ((e : Event) → Fits p w k up line near e → event_bits p earlier e ≡ [] → ⊥) → BeginsEvent p w k up line [] earlier
-  fresh_goes_on some =
+  pub not_begun_goes_on : ((e : Event) → Fits p w k up line near e → event_bits p earlier e ≡ [] → ⊥) → BeginsEvent p w k up line [] earlier
+  not_begun_goes_on some =
       let e = some_fits p w k up line short in
       record { event = e.0; fits = e.1; cut = first (event_bits p earlier e.0) (some e.0 e.1) }
     where

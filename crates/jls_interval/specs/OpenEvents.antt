@@ -15,8 +15,8 @@ use Rattle.jls_interval.specs.Growth.{Fits, added}
 use Rattle.jls_interval.specs.After.{IsAfter}
 use Rattle.jls_interval.specs.RunState.{IsRunState, RunIs, RunAt}
 use Rattle.jls_interval.specs.declared.run_reader.Run.TheVariants.{Interrupted}
-use Rattle.jls_interval.specs.declared.line_reader.Hand.{Hand}
-use Rattle.jls_interval.specs.declared.line_reader.Hand.TheVariants.{Fresh, Sample, InRun, Interruption}
+use Rattle.jls_interval.specs.declared.line_reader.OpenEvent.{OpenEvent}
+use Rattle.jls_interval.specs.declared.line_reader.OpenEvent.TheVariants.{NotBegun, Sample, InRun, Interruption}
 use Rattle.jls_interval.specs.declared.line_reader.LineReader.{LineReader}
 use Rattle.jls_interval.specs.declared.line_reader.EventStep.{EventStep}
 use Rattle.jls_interval.specs.declared.line_reader.EventStep.TheVariants.{More, Moved, Refused}
@@ -30,14 +30,14 @@ abbrev pub behind : ℕ → Above → List ℕ → ℕ → Neighbours
 behind w up line count = neighbours w up (line ++ replicate count (now_at w up line).ra) (length line + count)
 
 -- since the last whole event the machine in hand was told these bits, and no event is whole
-abbrev pub HandAt : CodingParameters → ℕ → Above → List ℕ → Variables → ℕ → Hand → List Bool → Type 0
-HandAt p w up line cells r Fresh told = told ≡ []
-HandAt p w up line cells r (Sample code) told =
+abbrev pub OpenEventAt : CodingParameters → ℕ → Above → List ℕ → Variables → ℕ → OpenEvent → List Bool → Type 0
+OpenEventAt p w up line cells r NotBegun told = told ≡ []
+OpenEventAt p w up line cells r (Sample code) told =
     (is_run_mode (now_at w up line) ≡ false) × IsOpen (regular_k (cell_at cells (context p (now_at w up line)))) (limit p) (qbpp p) code
     × (told ≡ bits_told (limit p) (qbpp p) code)
-HandAt p w up line cells r (InRun state) told =
+OpenEventAt p w up line cells r (InRun state) told =
     (is_run_mode (now_at w up line) ≡ true) × IsRunState (w - length line) state × RunAt r (w - length line) told state
-HandAt p w up line cells r (Interruption i) told =
+OpenEventAt p w up line cells r (Interruption i) told =
     (is_run_mode (now_at w up line) ≡ true) × (i.run_index ≤ 31)
     × IsOpen (run_k (is_same (behind w up line i.count)) (run_cell_at cells (is_same (behind w up line i.count))))
     (limit p - run_order i.run_index - 1) (qbpp p) i.code
@@ -46,8 +46,8 @@ HandAt p w up line cells r (Interruption i) told =
 -- the same of what a reader holds, in a line of a component
 abbrev pub Holds : ℕ → Above → LineReader → List Bool → Type 0
 Holds component up reader told =
-    HandAt reader.coder.cells.parameters reader.width up reader.line.items reader.coder.cells
-    (get_or reader.coder.run_indices component 0) reader.hand told
+    OpenEventAt reader.coder.cells.parameters reader.width up reader.line.items reader.coder.cells
+    (get_or reader.coder.run_indices component 0) reader.open_event told
 
 -- no event that can come next stands at the front of the bits
 abbrev pub NoEvent : CodingParameters → ℕ → ℕ → Above → List ℕ → List Bool → List Event → Type 0
@@ -68,10 +68,10 @@ pub record EventDone (p : CodingParameters) (w component : ℕ) (up : Above) (li
 abbrev pub EventStepIs : ℕ → Above → LineReader → LineReader → List Bool → List Event → EventStep → Type 0
 EventStepIs component up old new told earlier More =
     (new.line.items ≡ old.line.items) × (new.coder.cells ≡ old.coder.cells) × (new.coder.run_indices ≡ old.coder.run_indices)
-    × HandAt old.coder.cells.parameters old.width up old.line.items old.coder.cells (get_or old.coder.run_indices component 0) new.hand told
+    × OpenEventAt old.coder.cells.parameters old.width up old.line.items old.coder.cells (get_or old.coder.run_indices component 0) new.open_event told
 EventStepIs component up old new told earlier Moved =
     EventDone old.coder.cells.parameters old.width component up old.line.items new.line.items new.coder.cells new.coder.run_indices told
-    earlier × (new.hand ≡ Fresh)
+    earlier × (new.open_event ≡ NotBegun)
 EventStepIs component up old new told earlier Refused =
     (new.line.items ≡ old.line.items) × ((more : List Bool) → NoEvent old.coder.cells.parameters old.width component up old.line.items (told
     ++ more) earlier)

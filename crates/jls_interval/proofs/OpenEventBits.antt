@@ -17,11 +17,11 @@ use Rattle.jls_bits.specs.Bits.{bits}
 use Rattle.jls_interval.specs.Growth.{Fits}
 use Rattle.jls_interval.specs.Reading.{NoSample, NoInterruption}
 use Rattle.jls_interval.specs.After.{IsAfter}
-use Rattle.jls_interval.specs.Hands.{NoEvent, now_at, behind, HandAt, EventStepIs, EventPushed}
+use Rattle.jls_interval.specs.OpenEvents.{NoEvent, now_at, behind, OpenEventAt, EventStepIs, EventPushed}
 use Rattle.jls_interval.specs.declared.line_reader.LineReader.{LineReader}
 use Rattle.jls_interval.specs.declared.line_reader.EventStep.{EventStep}
-use Rattle.jls_interval.specs.declared.line_reader.Hand.{Hand}
-use Rattle.jls_interval.specs.declared.line_reader.Hand.TheVariants.{Fresh, Sample, InRun, Interruption}
+use Rattle.jls_interval.specs.declared.line_reader.OpenEvent.{OpenEvent}
+use Rattle.jls_interval.specs.declared.line_reader.OpenEvent.TheVariants.{NotBegun, Sample, InRun, Interruption}
 use Rattle.jls_interval.proofs.SamplesRead.{wide, regular_none, interruption_none}
 use Rattle.jls_interval.proofs.EventsApart.{true_false, limit_room, small_get, run_value}
 use Rattle.jls_interval.proofs.RunSteps.{no_whole}
@@ -71,16 +71,16 @@ module _ (p : CodingParameters) (ok : AreCodingParameters p) (w k : ℕ) (up : A
   w0_is : length line + (w - length line) ≡ w
   w0_is = omega arith
 
-  pub hand_none : (some : (e : Event) → Fits p w k up line (now_at w up line) e → event_bits p earlier e ≡ [] → ⊥) (hand : Hand) (told : List Bool)
-      → HandAt p w up line cells r hand told → NoEvent p w k up line told earlier
-  hand_none some Fresh told h = λ e rest fits is. some e fits (nothing_else (event_bits p earlier e) rest (sym h ∙ is))
-  hand_none some (Sample code) told h =
+  pub open_event_none : (some : (e : Event) → Fits p w k up line (now_at w up line) e → event_bits p earlier e ≡ [] → ⊥) (open_event : OpenEvent) (told : List Bool)
+      → OpenEventAt p w up line cells r open_event told → NoEvent p w k up line told earlier
+  open_event_none some NotBegun told h = λ e rest fits is. some e fits (nothing_else (event_bits p earlier e) rest (sym h ∙ is))
+  open_event_none some (Sample code) told h =
       let room = limit_room p 0 (omega arith) in
       let kk = regular_k (cell_at cells (context p (now_at w up line))) in
       no_sample_no_event p w k up line cells ri earlier t told h.0 (regular_none p ok (cell_at cells (context p (now_at w up line))) (now_at w up line) told (λ m rest has e. none_whole kk (limit p) (qbpp p) (omega arith) told (subst (λ z. BeginsCode kk (limit p) (qbpp p) z) (sym h.2) (begins kk (limit p) (qbpp p) (omega arith) code h.1)) m rest has e))
-  hand_none some (InRun state) told h =
+  open_event_none some (InRun state) told h =
       run_none p (wide p ok) w k up above_small line earlier r (t.run_indices_are k) (w - length line) w0_is told h.0 (no_whole r (w - length line) told state h.1 h.2)
-  hand_none some (Interruption i) told h =
+  open_event_none some (Interruption i) told h =
       let count = i.count in let run_index = i.run_index in let code = i.code in
       let near = behind w up line count in let cell = run_cell_at cells (is_same near) in let j = run_order run_index in
       let few = j_small run_index in let room = limit_room p j few in
