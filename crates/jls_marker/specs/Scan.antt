@@ -22,10 +22,11 @@ scan_with f components params restart_interval =
 abbrev pub intervals : Scan → ℕ
 intervals s = if s.restart_interval == 0 then 1 else (s.height + s.restart_interval - 1) / s.restart_interval
 
--- the first row of an interval, and how many it has: the last may have fewer than Ri
+-- the first row of an interval
 abbrev pub first_row : Scan → ℕ → ℕ
 first_row s k = k * s.restart_interval
 
+-- how many rows an interval has: Ri, but the last has what is left of the height
 abbrev pub row_count : Scan → ℕ → ℕ
 row_count s k = if s.restart_interval == 0 then s.height else min s.restart_interval (s.height - k * s.restart_interval)
 

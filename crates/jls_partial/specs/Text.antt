@@ -24,6 +24,7 @@ bare_entries p = map (λ at. (at, readings_at p at.component at.line)) (places_h
 abbrev pub with_own_sources : PartialPicture → BareEntry → Entry
 with_own_sources p e = (e.0, map (λ samples. (samples, sources_at p e.0.component e.0.line samples)) e.1)
 
+-- all entries of the text, in ascending order of their places
 abbrev pub entries : PartialPicture → List Entry
 entries p = map (with_own_sources p) (bare_entries p)
 
@@ -31,6 +32,7 @@ entries p = map (with_own_sources p) (bare_entries p)
 abbrev pub magic : List ℕ
 magic = 0x4A ∷ 0x4C ∷ 0x53 ∷ 0x50 ∷ []
 
+-- the byte that a version has in the text
 abbrev pub version_byte : Version → ℕ
 version_byte One = 1
 version_byte Two = 2
