@@ -1,6 +1,6 @@
 -- Rows in pages: what is found in its rows, that they rise, and what a page that is changed leaves.
 use Rattle.std.proofs.Common.{◌≡◌, ℕ, ◌<◌, ◌/◌, Bool, true, false, cond, List, [], ◌∷◌, ◌++◌, map, Option, Some, None, refl, ap, sym, subst, ◌∙◌, arith}
-use Rattle.std.specs.Prelude.{IfSome, unwrap_or}
+use Rattle.std.specs.Prelude.{IfSome, IsSome, unwrap_or}
 use Rattle.std.specs.declared.alloc.Global.{Global}
 use Rattle.std.specs.declared.cmp.Ordering.TheVariants.{Less, Equal, Greater}
 use Rattle.std.specs.declared.vec.Vec.{Vec}
@@ -200,12 +200,12 @@ pub record IsPageWritten (es : Pages) (at : LinePlace) (w v : Vec Row Global) (f
   pub are : ArePages fs
 
 pub page_written : (es fs : Pages) (at : LinePlace) (page : PageNumber) (w v : Vec Row Global) → page ≡ page_of at → ArePages es
-    → lookup (is_at (page_cmp page)) es ≡ Some w → fs ≡ set_value (is_at (page_cmp page)) es v
-    → UpdatedBy page_cmp es page v fs → IsStrictlySortedBy page_cmp (map (λ p. p.0) fs) → IsPage (page_of at) v.items → IsPageWritten es at w v fs
+    → Some w ≡ lookup (is_at (page_cmp page)) es → fs ≡ set_value (is_at (page_cmp page)) es v → (IsSome (lookup (is_at (page_cmp page)) es) → UpdatedBy page_cmp es page v fs)
+    → IsStrictlySortedBy page_cmp (map (λ p. p.0) fs) → IsPage (page_of at) v.items → IsPageWritten es at w v fs
 page_written es fs at page w v named are found is u order kept =
-    let updated : UpdatedBy page_cmp es (page_of at) v fs = subst (λ (z : PageNumber). UpdatedBy page_cmp es z v fs) named u in
+    let updated : UpdatedBy page_cmp es (page_of at) v fs = subst (λ (z : PageNumber). UpdatedBy page_cmp es z v fs) named (u (subst (λ (o : Option (Vec Row Global)). IsSome o) found refl)) in
     record {
-      found = ap (λ (z : PageNumber). lookup (is_at (page_cmp z)) es) (sym named) ∙ found;
+      found = ap (λ (z : PageNumber). lookup (is_at (page_cmp z)) es) (sym named) ∙ sym found;
       is = is ∙ ap (λ (z : PageNumber). set_value (is_at (page_cmp z)) es v) named;
       updated = updated;
       are = pages_more es fs (page_of at) v are updated order kept;
@@ -248,13 +248,20 @@ each_page packed [] h = tt
 each_page packed (p ∷ ps) h = let k = parts packed p.1.items (rows_of ps) h in (k.0, each_page packed ps k.1)
 
 -- the rows of a page are of what is packed
-pub page_packed : (packed : PackedLines) (ps : Pages) (page : PageNumber) (v : Vec Row Global) → AreRowsOf packed (rows_of ps)
+page_packed : (packed : PackedLines) (ps : Pages) (page : PageNumber) (v : Vec Row Global) → AreRowsOf packed (rows_of ps)
     → lookup (is_at (page_cmp page)) ps ≡ Some v → AreRowsOf packed v.items
 page_packed packed ps page v rows_packed found = record {
   precision_at_most = rows_packed.precision_at_most;
   width_at_least = rows_packed.width_at_least;
   each = subst (λ (o : Option (Vec Row Global)). IfSome o (λ w. AllByRecursion (P packed) (slots_of_entries w.items))) found
       (lookup_by page_total same_page (λ p. AllByRecursion (P packed) (slots_of_entries p.1.items)) ps page (each_page packed ps rows_packed.each));
+}
+
+pub rows_here : (packed : PackedLines) (ps : Pages) (at : LinePlace) (v : Vec Row Global) → ArePagesOf packed ps → lookup (is_at (page_cmp (page_of at))) ps ≡ Some v
+    → IsPageOf packed (page_of at) v.items
+rows_here packed ps at v are found = record {
+  page = page_here ps at v are.pages found;
+  rows_packed = page_packed packed ps (page_of at) v are.rows_packed found;
 }
 
 -- ---- a page that is changed, or made

@@ -225,14 +225,38 @@ module _ (p w : ℕ) (packed x ss : List ℕ) (slots : List Slot) (narrow : p �
   gap : IsGap (slice_cmp nat_cmp) [] 0 x
   gap = record { within = omega arith; below = λ k lt. absurd (omega arith); above = λ k le lt. absurd (omega arith) }
 
-  pub first_kept : IsLineSet p w (packed ++ x) slots
+  first_kept : IsLineSet p w (packed ++ x) slots
   first_kept = subst (IsLineSet p w (packed ++ x)) (sym is) (put_kept p w packed x [] 0 (none_kept p w packed narrow wide) gap fits (fitting_length p w x fits) (set.insert_all set.empty ss))
 
-  pub first_seen : seen_lines p w (packed ++ x) slots ≡ with_lines (no_lines p w) ((x, ss) ∷ [])
+  first_seen : seen_lines p w (packed ++ x) slots ≡ with_lines (no_lines p w) ((x, ss) ∷ [])
   first_seen =
       ap (seen_lines p w (packed ++ x)) is
       ∙ put_seen p w packed x [] 0 (none_kept p w packed narrow wide) gap fits (fitting_length p w x fits) (set.insert_all set.empty ss)
       ∙ with_own (no_lines p w) x ss
+
+-- so it is there once its samples are put behind the others
+pub record IsFirst (old new : PackedLines) (x ss : List ℕ) (slots : List Slot) : Type 0 where
+  pub longer : Extends old new
+  pub kept : IsLineSet new.precision new.width new.samples.items slots
+  pub puts : PutsLine (no_lines old.precision old.width) x ss (seen_lines new.precision new.width new.samples.items slots)
+
+pub first_line : (old new : PackedLines) (x ss : List ℕ) (slots : List Slot) (es : List LineSlots) → are_in old es → samples_fault old.precision old.width x ≡ None
+    → slots ≡ record { start = length old.samples.items; sources = set.insert_all set.empty ss } ∷ []
+    → new.precision ≡ old.precision → new.width ≡ old.width → new.samples.items ≡ old.samples.items ++ x → IsFirst old new x ss slots
+first_line old new x ss slots es rows_packed fits is precision width samples =
+    let narrow = rows_packed.precision_at_most in
+    let wide = rows_packed.width_at_least in
+    let kept : IsLineSet new.precision new.width new.samples.items slots =
+    subst (λ (n : ℕ). IsLineSet n new.width new.samples.items slots) (sym precision)
+    (subst (λ (n : ℕ). IsLineSet old.precision n new.samples.items slots) (sym width)
+    (subst (λ (xs : List ℕ). IsLineSet old.precision old.width xs slots) (sym samples)
+    (first_kept old.precision old.width old.samples.items x ss slots narrow wide fits is))) in
+    record {
+      longer = record { precision = precision; width = width; more = x; samples = samples };
+      kept = kept;
+      puts = puts_line (no_lines old.precision old.width) x ss new slots kept (subst (λ (ts : List Slot). length ts < 2 ^ 64) (sym is) (omega arith))
+          ((λ i. seen_lines (precision i) (width i) (samples i) slots) ∙ first_seen old.precision old.width old.samples.items x ss slots narrow wide fits is);
+    }
 
 -- what is packed has its own samples
 pub itself : (packed : PackedLines) → Extends packed packed
