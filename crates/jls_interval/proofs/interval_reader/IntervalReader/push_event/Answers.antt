@@ -1,158 +1,156 @@
-use Rattle.std.proofs.Common.{◌≡◌, ℕ, ◌%◌, ◌<◌, ◌≤◌, List, Bool, Vec, Global, length, [], ◌∷◌, ◌++◌, refl, sym, ap, ◌∙◌, subst, arith}
+use Rattle.std.proofs.Common.{◌≡◌, ℕ, ◌+◌, ◌%◌, ◌^◌, ◌<◌, ◌≤◌, List, Bool, Vec, Global, length, [], ◌∷◌, ◌++◌, refl, sym, ap, ◌∙◌, subst, arith}
 use Rattle.std.proofs.lemmas.List.{length-map, length-append, map-append}
+use Rattle.jls_values.specs.Params.{CodingParameters, AreCodingParameters}
 use Rattle.jls_interval.specs.Events.{Event, Above, above}
 use Rattle.jls_interval.specs.After.{IsAfter}
-use Rattle.jls_interval.specs.OpenEvents.{Holds, EventPushed}
-use Rattle.jls_interval.specs.Place.{above_of}
-use Rattle.jls_interval.specs.Decoding.{IsWorking, IsComplete, BeginsNoCode, StateIs, HaveWidth}
+use Rattle.jls_interval.specs.OpenEvents.{Holds, EventDone, EventPushed}
+use Rattle.jls_interval.specs.Decoding.{IsWorking, StateIs, HaveWidth, IsReading, Takes}
+use Rattle.jls_interval.specs.declared.line_reader.OpenEvent.TheVariants.{NotBegun}
+use Rattle.jls_interval.specs.declared.line_reader.LineReader.{LineReader}
 use Rattle.jls_interval.specs.declared.line_reader.EventStep.{EventStep}
+use Rattle.jls_interval.specs.declared.line_reader.EventStep.TheVariants.{More, Moved, Refused}
+use Rattle.jls_interval.specs.declared.interval_reader.State.{State}
+use Rattle.jls_interval.specs.declared.interval_reader.State.TheVariants.{Working, Complete, NoCode}
+use Rattle.jls_interval.specs.declared.interval_reader.IntervalReader.{IntervalReader}
 use Rattle.jls_interval.proofs.Decoding.{working_takes, working_on, working_line, working_over}
 use Rattle.jls_interval.proofs.IntervalReading.{items, wide_same, wide_more, line_fits, state_same, working, in_range, more_state, more_same, refused_same, refused_state, moved_taken}
 use Rattle.jls_interval.proofs.interval_reader.IntervalReader.push_event.Goals as goal
 
+-- what a step says of the line in work, whose place this is
+abbrev Pushes : LineReader → LineReader → List Bool → List Bool → ℕ → Above → EventStep → Type 0
+Pushes old new chunk unread k up step =
+    (told : List Bool) (earlier : List Event) → IsAfter old.coder.cells.parameters old.coder.cells old.coder.run_indices earlier → Holds k up old told → EventPushed k up old new told chunk unread earlier step
+
+-- What an event says of a reader at work, in the place behind its lines
+module _ {p : CodingParameters} {given : List Bool} {d : IntervalReader} {new : LineReader} {chunk unread : List Bool} {lines : List (Vec ℕ Global)} {k : ℕ} {up : Above} {step : EventStep} (h : IsReading p given d) (state : d.state ≡ Working)
+    (same : lines ≡ d.lines.items) (component : k ≡ length lines % d.components) (above_is : up ≡ above d.components (items lines)) (wide : new.width ≡ d.reader.width) (parameters : new.coder.cells.parameters ≡ d.reader.coder.cells.parameters) (pushed : Pushes d.reader new chunk unread k up step) where
+  abbrev w : ℕ
+  w = d.reader.width
+
+  abbrev n : ℕ
+  n = d.components
+
+  abbrev L : List (List ℕ)
+  L = items d.lines.items
+
+  abbrev line : List ℕ
+  line = d.reader.line.items
+
+  abbrev line' : List ℕ
+  line' = new.line.items
+
+  k_is : k ≡ length L % n
+  k_is = component ∙ ap (λ z. length z % n) same ∙ ap (λ z. z % n) (sym (length-map d.lines.items (λ (v : Vec ℕ Global). v.items)))
+
+  up_is : up ≡ above n L
+  up_is = above_is ∙ ap (λ z. above n (items z)) same
+
+  abbrev Is : List Bool → List (List ℕ) → List ℕ → State → Type 0
+  Is bits ls l s = StateIs p w n d.count (given ++ bits) ls l new.coder.cells new.coder.run_indices new.open_event s
+
+  -- a reader with these lines, this line in work and this state
+  reads : (l : Vec ℕ Global) (below : new.width < 2 ^ 16) (ls : Vec (Vec ℕ Global) Global) (bits : List Bool) (s : State)
+      → length ls.items ≤ d.count → length ls.items ≤ length given + length bits → HaveWidth w (items ls.items) → length l.items ≤ w → Is bits (items ls.items) l.items s
+      → IsReading p (given ++ bits) (record d { reader = record new { line = l; width_below = below }; lines = ls; state = s })
+  reads l below ls bits s at_most paid widths short is = record {
+    parameters = parameters ∙ h.parameters;
+    width_at_least = (let a = h.width_at_least in omega arith);
+    components_at_least = h.components_at_least;
+    components_at_most = h.components_at_most;
+    lines_at_most = at_most;
+    lines_paid = (let sum = length-append given bits in omega arith);
+    lines_wide = wide_same w new.width (items ls.items) wide widths;
+    line_at_most = omega arith;
+    state_is = subst (λ z. StateIs p z n d.count (given ++ bits) (items ls.items) l.items new.coder.cells new.coder.run_indices new.open_event s) (sym wide) is;
+  }
+
+  -- the event isn't whole
+  more : step ≡ More → IsReading p (given ++ chunk) (record d { reader = new })
+  more e =
+      let all = subst (Pushes d.reader new chunk unread k up) e pushed in let a = h.line_at_most in let paid = h.lines_paid in
+      let kept = more_same p d given h state new chunk unread k k_is up up_is all in let b = ap length kept.0 in
+      reads new.line new.width_below d.lines chunk d.state h.lines_at_most (omega arith) h.lines_wide (omega arith) (state_same p n d.count L d.state w w (given ++ chunk) (given ++ chunk) line line' d.reader.coder.cells new.coder.cells d.reader.coder.run_indices new.coder.run_indices new.open_event refl refl kept.0 kept.1 kept.2 (more_state p d given h state new chunk unread k k_is up up_is all))
+
+  -- no event can come
+  refused : step ≡ Refused → IsReading p (given ++ chunk) (record d { reader = new; state = NoCode })
+  refused e =
+      let all = subst (Pushes d.reader new chunk unread k up) e pushed in let a = h.line_at_most in let paid = h.lines_paid in
+      let b = ap length (refused_same p d given h state new chunk unread k k_is up up_is all) in
+      reads new.line new.width_below d.lines chunk NoCode h.lines_at_most (omega arith) h.lines_wide (omega arith) (refused_state p d given h state new chunk unread k k_is up up_is all)
+
+  -- the event is whole
+  module _ (moved : step ≡ Moved) where
+    abbrev work : IsWorking p w n d.count given L line d.reader.coder.cells d.reader.coder.run_indices d.reader.open_event
+    work = working p d given h state
+
+    abbrev ok : AreCodingParameters p
+    ok = in_range p d given h state
+
+    m : (taken : List Bool) × (chunk ≡ taken ++ unread) × EventDone p w (length L % n) (above n L) line line' new.coder.cells new.coder.run_indices (work.told ++ taken) work.earlier × (new.open_event ≡ NotBegun)
+    m = moved_taken p d given h state new chunk unread k k_is up up_is (subst (Pushes d.reader new chunk unread k up) moved pushed)
+
+    some : 0 < length m.0
+    some = working_takes p ok w n d.count h.width_at_least given L line d.reader.coder.cells d.reader.coder.run_indices d.reader.open_event work m.0 line' new.coder.cells new.coder.run_indices m.2
+
+    takes : {next : IntervalReader} → IsReading p (given ++ m.0) next → Takes p given next chunk unread
+    takes r = record { taken = m.0; chunk_is = m.1; some = some; reading = r }
+
+    -- the line goes on
+    unfinished : (length line' ≡ w → ⊥) → Takes p given (record d { reader = new }) chunk unread
+    unfinished ne =
+        let most = line_fits p w (length L % n) (above n L) line line' new.coder.cells new.coder.run_indices (work.told ++ m.0) work.earlier m.2 work.unfinished in let short : length line' < w = omega arith in let paid = h.lines_paid in
+        let on = working_on p ok w n d.count h.width_at_least given L line d.reader.coder.cells d.reader.coder.run_indices d.reader.open_event work m.0 line' new.coder.cells new.coder.run_indices m.2 short in
+        takes (reads new.line new.width_below d.lines m.0 d.state h.lines_at_most (omega arith) h.lines_wide most (subst (Is m.0 L line') (sym state) (subst (λ z. IsWorking p w n d.count (given ++ m.0) L line' new.coder.cells new.coder.run_indices z) (sym m.3) on)))
+
+    -- the line is whole, and another one begins
+    module _ {l none v : Vec ℕ Global} (whole : length line' ≡ w) (ls : Vec (Vec ℕ Global) Global) (l_is : l ≡ none) (empty : none.items ≡ []) (v_is : v ≡ new.line) (ls_is : ls.items ≡ d.lines.items ++ v ∷ []) where
+      grown : items ls.items ≡ L ++ line' ∷ []
+      grown = ap items ls_is ∙ map-append (λ (v : Vec ℕ Global). v.items) d.lines.items (v ∷ []) ∙ ap (λ (z : Vec ℕ Global). L ++ z.items ∷ []) v_is
+
+      begun : l.items ≡ []
+      begun = ap (λ (z : Vec ℕ Global). z.items) l_is ∙ empty
+
+      number : length ls.items ≡ length (L ++ line' ∷ [])
+      number = sym (length-map ls.items (λ (v : Vec ℕ Global). v.items)) ∙ ap length grown
+
+      ended : {below : new.width < 2 ^ 16} (s : State) → Is m.0 (L ++ line' ∷ []) [] s → Takes p given (record d { reader = record new { line = l; width_below = below }; lines = ls; state = s }) chunk unread
+      ended {below} s is =
+          let few = work.few in let paid = h.lines_paid in let one = some in let a = number in let b = length-append L (line' ∷ []) in let maps = length-map d.lines.items (λ (v : Vec ℕ Global). v.items) in let zero = ap length begun in
+          takes (reads l below ls m.0 s (omega arith) (omega arith) (subst (HaveWidth w) (sym grown) (wide_more w L line' h.lines_wide whole)) (omega arith) (subst (λ z. Is m.0 z l.items s) (sym grown) (subst (λ z. Is m.0 (L ++ line' ∷ []) z s) (sym begun) is)))
+
+      complete : {below : new.width < 2 ^ 16} → d.count ≤ length ls.items → Takes p given (record d { reader = record new { line = l; width_below = below }; lines = ls; state = Complete 0 }) chunk unread
+      complete all =
+          let a = number in
+          ended (Complete 0) (working_over p ok w n d.count h.width_at_least given L line d.reader.coder.cells d.reader.coder.run_indices d.reader.open_event work m.0 line' new.coder.cells new.coder.run_indices m.2 whole (omega arith))
+
+      goes_on : {below : new.width < 2 ^ 16} → (length ls.items ≡ d.count → ⊥) → Takes p given (record d { reader = record new { line = l; width_below = below }; lines = ls }) chunk unread
+      goes_on ne =
+          let few = work.few in let a = number in let b = length-append L (line' ∷ []) in
+          let more_lines : length (L ++ line' ∷ []) < d.count = omega arith in
+          let on = working_line p ok w n d.count h.width_at_least given L line d.reader.coder.cells d.reader.coder.run_indices d.reader.open_event work m.0 line' new.coder.cells new.coder.run_indices m.2 whole more_lines in
+          ended d.state (subst (Is m.0 (L ++ line' ∷ []) []) (sym state) (subst (λ z. IsWorking p w n d.count (given ++ m.0) (L ++ line' ∷ []) [] new.coder.cells new.coder.run_indices z) (sym m.3) on))
+
 pub returns-in-More-clause-bits : goal.returns-in-More-clause-bits
 returns-in-More-clause-bits c = λ p given h.
-    let d = c.args.self.now in let w : ℕ = d.reader.width in let n : ℕ = d.components in let L = items d.lines.items in let line : List ℕ = d.reader.line.items in let new = c.push_to_event.new.reader in
-    let maps = length-map d.lines.items (λ (v : Vec ℕ Global). v.items) in let chunk : List Bool = c.args.chunk.now in let unread : List Bool = c.push_to_event.new.chunk in
-    let k : ℕ = c.after-place.result.component in let k_is : k ≡ length L % n = c.after-place.ensures.component ∙ ap (λ z. length z % n) c.deref.ensures.value ∙ ap (λ z. z % n) (sym maps) in
-    let up : Above = above_of c.after-place.result in let up_is : up ≡ above n L = c.after-place.ensures.above ∙ ap (λ z. above n (items z)) c.deref.ensures.value in
-    let wide : new.width ≡ w = c.push_to_event.ensures.width in let step = c.in_ok-push_to_event.ensures.step in
-    let all = subst (λ (s : EventStep). (told : List Bool) (earlier : List Event) → IsAfter d.reader.coder.cells.parameters d.reader.coder.cells d.reader.coder.run_indices earlier → Holds k up d.reader told → EventPushed k up d.reader new told chunk unread earlier s) c.in-More.is step in
-    let same = more_same p d given h c.requires.state new chunk unread k k_is up up_is all in let sum = length-append given chunk in
-    record {
-      parameters = c.push_to_event.ensures.parameters ∙ h.parameters;
-      width_at_least = (let a = h.width_at_least in omega arith);
-      components_at_least = h.components_at_least;
-      components_at_most = h.components_at_most;
-      lines_at_most = h.lines_at_most;
-      lines_paid = (let a = h.lines_paid in omega arith);
-      lines_wide = wide_same w new.width L wide h.lines_wide;
-      line_at_most = (let a = h.line_at_most in let b = ap length same.0 in omega arith);
-      state_is = state_same p n d.count L d.state w new.width (given ++ chunk) (given ++ chunk) line new.line.items d.reader.coder.cells new.coder.cells d.reader.coder.run_indices new.coder.run_indices new.open_event wide refl same.0 same.1 same.2 (more_state p d given h c.requires.state new chunk unread k k_is up up_is all);
-    }
+    let place = c.after-place.ensures in let e = c.push_to_event.ensures in
+    more h c.requires.state c.deref.ensures.value place.component place.above e.width e.parameters c.in_ok-push_to_event.ensures.step c.in-More.is
 
 pub returns-in-Refused-clause-bits : goal.returns-in-Refused-clause-bits
 returns-in-Refused-clause-bits c = λ p given h.
-    let d = c.args.self.now in let w : ℕ = d.reader.width in let n : ℕ = d.components in let L = items d.lines.items in let line : List ℕ = d.reader.line.items in let new = c.push_to_event.new.reader in
-    let maps = length-map d.lines.items (λ (v : Vec ℕ Global). v.items) in let chunk : List Bool = c.args.chunk.now in let unread : List Bool = c.push_to_event.new.chunk in
-    let k : ℕ = c.after-place.result.component in let k_is : k ≡ length L % n = c.after-place.ensures.component ∙ ap (λ z. length z % n) c.deref.ensures.value ∙ ap (λ z. z % n) (sym maps) in
-    let up : Above = above_of c.after-place.result in let up_is : up ≡ above n L = c.after-place.ensures.above ∙ ap (λ z. above n (items z)) c.deref.ensures.value in
-    let wide : new.width ≡ w = c.push_to_event.ensures.width in let step = c.in_ok-push_to_event.ensures.step in
-    let all = subst (λ (s : EventStep). (told : List Bool) (earlier : List Event) → IsAfter d.reader.coder.cells.parameters d.reader.coder.cells d.reader.coder.run_indices earlier → Holds k up d.reader told → EventPushed k up d.reader new told chunk unread earlier s) c.in-Refused.is step in
-    let sum = length-append given chunk in
-    record {
-      parameters = c.push_to_event.ensures.parameters ∙ h.parameters;
-      width_at_least = (let a = h.width_at_least in omega arith);
-      components_at_least = h.components_at_least;
-      components_at_most = h.components_at_most;
-      lines_at_most = h.lines_at_most;
-      lines_paid = (let a = h.lines_paid in omega arith);
-      lines_wide = wide_same w new.width L wide h.lines_wide;
-      line_at_most = (let a = h.line_at_most in let b = ap length (refused_same p d given h c.requires.state new chunk unread k k_is up up_is all) in omega arith);
-      state_is = subst (λ z. BeginsNoCode p z n d.count (given ++ chunk)) (sym wide) (refused_state p d given h c.requires.state new chunk unread k k_is up up_is all);
-    }
+    let place = c.after-place.ensures in let e = c.push_to_event.ensures in
+    refused h c.requires.state c.deref.ensures.value place.component place.above e.width e.parameters c.in_ok-push_to_event.ensures.step c.in-Refused.is
 
 pub returns-else-len-self-clause-bits : goal.returns-else-len-self-clause-bits
 returns-else-len-self-clause-bits c = λ p given h.
-    let d = c.args.self.now in let w : ℕ = d.reader.width in let n : ℕ = d.components in let L = items d.lines.items in let line : List ℕ = d.reader.line.items in let new = c.push_to_event.new.reader in
-    let maps = length-map d.lines.items (λ (v : Vec ℕ Global). v.items) in let chunk : List Bool = c.args.chunk.now in let unread : List Bool = c.push_to_event.new.chunk in
-    let k : ℕ = c.after-place.result.component in let k_is : k ≡ length L % n = c.after-place.ensures.component ∙ ap (λ z. length z % n) c.deref.ensures.value ∙ ap (λ z. z % n) (sym maps) in
-    let up : Above = above_of c.after-place.result in let up_is : up ≡ above n L = c.after-place.ensures.above ∙ ap (λ z. above n (items z)) c.deref.ensures.value in
-    let wide : new.width ≡ w = c.push_to_event.ensures.width in let step = c.in_ok-push_to_event.ensures.step in
-    let all = subst (λ (s : EventStep). (told : List Bool) (earlier : List Event) → IsAfter d.reader.coder.cells.parameters d.reader.coder.cells d.reader.coder.run_indices earlier → Holds k up d.reader told → EventPushed k up d.reader new told chunk unread earlier s) c.in-Moved.is step in
-    let m = moved_taken p d given h c.requires.state new chunk unread k k_is up up_is all in let taken : List Bool = m.0 in let line' : List ℕ = new.line.items in
-    let work : IsWorking p w n d.count given L line d.reader.coder.cells d.reader.coder.run_indices d.reader.open_event = working p d given h c.requires.state in let ok = in_range p d given h c.requires.state in let any = h.width_at_least in
-    let some : 0 < length taken = working_takes p ok w n d.count any given L line d.reader.coder.cells d.reader.coder.run_indices d.reader.open_event work taken line' new.coder.cells new.coder.run_indices m.2 in
-    let most = line_fits p w (length L % n) (above n L) line line' new.coder.cells new.coder.run_indices (work.told ++ taken) work.earlier m.2 work.unfinished in let sum = length-append given taken in
-    let short : length line' < w = (let f = c.if-len-self.false in let e = c.len.ensures in omega arith) in
-    let state : IsWorking p w n d.count (given ++ taken) L line' new.coder.cells new.coder.run_indices new.open_event = subst (λ z. IsWorking p w n d.count (given ++ taken) L line' new.coder.cells new.coder.run_indices z) (sym m.3) (working_on p ok w n d.count any given L line d.reader.coder.cells d.reader.coder.run_indices d.reader.open_event work taken line' new.coder.cells new.coder.run_indices m.2 short) in
-    record {
-      taken = taken;
-      chunk_is = m.1;
-      some = some;
-      reading = record {
-        parameters = c.push_to_event.ensures.parameters ∙ h.parameters;
-        width_at_least = (let a = h.width_at_least in omega arith);
-        components_at_least = h.components_at_least;
-        components_at_most = h.components_at_most;
-        lines_at_most = h.lines_at_most;
-        lines_paid = (let a = h.lines_paid in omega arith);
-        lines_wide = wide_same w new.width L wide h.lines_wide;
-        line_at_most = omega arith;
-        state_is = subst (λ s. StateIs p new.width n d.count (given ++ taken) L line' new.coder.cells new.coder.run_indices new.open_event s) (sym c.requires.state) (subst (λ z. IsWorking p z n d.count (given ++ taken) L line' new.coder.cells new.coder.run_indices new.open_event) (sym wide) state);
-      };
-    }
+    let place = c.after-place.ensures in let e = c.push_to_event.ensures in
+    unfinished h c.requires.state c.deref.ensures.value place.component place.above e.width e.parameters c.in_ok-push_to_event.ensures.step c.in-Moved.is (λ o. (let f = c.if-len-self.false in let l = c.len.ensures in omega arith))
 
 pub returns-then-len-self-2-clause-bits : goal.returns-then-len-self-2-clause-bits
 returns-then-len-self-2-clause-bits c = λ p given h.
-    let d = c.args.self.now in let w : ℕ = d.reader.width in let n : ℕ = d.components in let L = items d.lines.items in let line : List ℕ = d.reader.line.items in let new = c.push_to_event.new.reader in
-    let maps = length-map d.lines.items (λ (v : Vec ℕ Global). v.items) in let chunk : List Bool = c.args.chunk.now in let unread : List Bool = c.push_to_event.new.chunk in
-    let k : ℕ = c.after-place.result.component in let k_is : k ≡ length L % n = c.after-place.ensures.component ∙ ap (λ z. length z % n) c.deref.ensures.value ∙ ap (λ z. z % n) (sym maps) in
-    let up : Above = above_of c.after-place.result in let up_is : up ≡ above n L = c.after-place.ensures.above ∙ ap (λ z. above n (items z)) c.deref.ensures.value in
-    let wide : new.width ≡ w = c.push_to_event.ensures.width in let step = c.in_ok-push_to_event.ensures.step in
-    let all = subst (λ (s : EventStep). (told : List Bool) (earlier : List Event) → IsAfter d.reader.coder.cells.parameters d.reader.coder.cells d.reader.coder.run_indices earlier → Holds k up d.reader told → EventPushed k up d.reader new told chunk unread earlier s) c.in-Moved.is step in
-    let m = moved_taken p d given h c.requires.state new chunk unread k k_is up up_is all in let taken : List Bool = m.0 in let line' : List ℕ = new.line.items in
-    let work : IsWorking p w n d.count given L line d.reader.coder.cells d.reader.coder.run_indices d.reader.open_event = working p d given h c.requires.state in let ok = in_range p d given h c.requires.state in let any = h.width_at_least in
-    let some : 0 < length taken = working_takes p ok w n d.count any given L line d.reader.coder.cells d.reader.coder.run_indices d.reader.open_event work taken line' new.coder.cells new.coder.run_indices m.2 in
-    let most = line_fits p w (length L % n) (above n L) line line' new.coder.cells new.coder.run_indices (work.told ++ taken) work.earlier m.2 work.unfinished in let sum = length-append given taken in
-    let whole : length line' ≡ w = (let f = c.if-len-self.true in let e = c.len.ensures in omega arith) in
-    let value : (c.replace-line.result).items ≡ line' = ap (λ (v : Vec ℕ Global). v.items) c.replace-line.ensures.value in
-    let after : List (List ℕ) = items c.push.new.self.items in
-    let pushed : after ≡ L ++ line' ∷ [] = ap items c.in_ok-push-in-Moved.ensures.items ∙ map-append (λ (v : Vec ℕ Global). v.items) d.lines.items (c.replace-line.result ∷ []) ∙ ap (λ z. L ++ z ∷ []) value in
-    let empty : c.replace-line.new.dest.items ≡ [] = ap (λ (v : Vec ℕ Global). v.items) c.replace-line.ensures.after ∙ c.new.ensures.items in
-    let none = ap length empty in let number = length-append L (line' ∷ []) in let number' = ap length pushed in let maps' = length-map c.push.new.self.items (λ (v : Vec ℕ Global). v.items) in let few = work.few in let len = c.len-then-len-self.ensures in
-    let all' : d.count ≤ length (L ++ line' ∷ []) = (let f = c.if-len-self-2.true in omega (arith, number', maps')) in
-    record {
-      taken = taken;
-      chunk_is = m.1;
-      some = some;
-      reading = record {
-        parameters = c.push_to_event.ensures.parameters ∙ h.parameters;
-        width_at_least = (let a = h.width_at_least in omega arith);
-        components_at_least = h.components_at_least;
-        components_at_most = h.components_at_most;
-        lines_at_most = (let f = c.if-len-self-2.true in omega arith);
-        lines_paid = (let a = h.lines_paid in omega arith);
-        lines_wide = wide_same w new.width after wide (subst (HaveWidth w) (sym pushed) (wide_more w L line' h.lines_wide whole));
-        line_at_most = omega arith;
-        state_is = subst (λ z. IsComplete p z n d.count (given ++ taken) after 0) (sym wide) (subst (λ z. IsComplete p w n d.count (given ++ taken) z 0) (sym pushed) (working_over p ok w n d.count any given L line d.reader.coder.cells d.reader.coder.run_indices d.reader.open_event work taken line' new.coder.cells new.coder.run_indices m.2 whole all'));
-      };
-    }
+    let place = c.after-place.ensures in let e = c.push_to_event.ensures in
+    complete h c.requires.state c.deref.ensures.value place.component place.above e.width e.parameters c.in_ok-push_to_event.ensures.step c.in-Moved.is (let f = c.if-len-self.true in let l = c.len.ensures in omega arith) c.push.new.self c.replace-line.ensures.after c.new.ensures.items c.replace-line.ensures.value c.in_ok-push-in-Moved.ensures.items (let f = c.if-len-self-2.true in let l = c.len-then-len-self.ensures in omega arith)
 
 pub returns-else-len-self-2-clause-bits : goal.returns-else-len-self-2-clause-bits
 returns-else-len-self-2-clause-bits c = λ p given h.
-    let d = c.args.self.now in let w : ℕ = d.reader.width in let n : ℕ = d.components in let L = items d.lines.items in let line : List ℕ = d.reader.line.items in let new = c.push_to_event.new.reader in
-    let maps = length-map d.lines.items (λ (v : Vec ℕ Global). v.items) in let chunk : List Bool = c.args.chunk.now in let unread : List Bool = c.push_to_event.new.chunk in
-    let k : ℕ = c.after-place.result.component in let k_is : k ≡ length L % n = c.after-place.ensures.component ∙ ap (λ z. length z % n) c.deref.ensures.value ∙ ap (λ z. z % n) (sym maps) in
-    let up : Above = above_of c.after-place.result in let up_is : up ≡ above n L = c.after-place.ensures.above ∙ ap (λ z. above n (items z)) c.deref.ensures.value in
-    let wide : new.width ≡ w = c.push_to_event.ensures.width in let step = c.in_ok-push_to_event.ensures.step in
-    let all = subst (λ (s : EventStep). (told : List Bool) (earlier : List Event) → IsAfter d.reader.coder.cells.parameters d.reader.coder.cells d.reader.coder.run_indices earlier → Holds k up d.reader told → EventPushed k up d.reader new told chunk unread earlier s) c.in-Moved.is step in
-    let m = moved_taken p d given h c.requires.state new chunk unread k k_is up up_is all in let taken : List Bool = m.0 in let line' : List ℕ = new.line.items in
-    let work : IsWorking p w n d.count given L line d.reader.coder.cells d.reader.coder.run_indices d.reader.open_event = working p d given h c.requires.state in let ok = in_range p d given h c.requires.state in let any = h.width_at_least in
-    let some : 0 < length taken = working_takes p ok w n d.count any given L line d.reader.coder.cells d.reader.coder.run_indices d.reader.open_event work taken line' new.coder.cells new.coder.run_indices m.2 in
-    let most = line_fits p w (length L % n) (above n L) line line' new.coder.cells new.coder.run_indices (work.told ++ taken) work.earlier m.2 work.unfinished in let sum = length-append given taken in
-    let whole : length line' ≡ w = (let f = c.if-len-self.true in let e = c.len.ensures in omega arith) in
-    let value : (c.replace-line.result).items ≡ line' = ap (λ (v : Vec ℕ Global). v.items) c.replace-line.ensures.value in
-    let after : List (List ℕ) = items c.push.new.self.items in
-    let pushed : after ≡ L ++ line' ∷ [] = ap items c.in_ok-push-in-Moved.ensures.items ∙ map-append (λ (v : Vec ℕ Global). v.items) d.lines.items (c.replace-line.result ∷ []) ∙ ap (λ z. L ++ z ∷ []) value in
-    let empty : c.replace-line.new.dest.items ≡ [] = ap (λ (v : Vec ℕ Global). v.items) c.replace-line.ensures.after ∙ c.new.ensures.items in
-    let none = ap length empty in let number = length-append L (line' ∷ []) in let number' = ap length pushed in let maps' = length-map c.push.new.self.items (λ (v : Vec ℕ Global). v.items) in let few = work.few in let len = c.len-then-len-self.ensures in
-    let more : length (L ++ line' ∷ []) < d.count = (let f = c.if-len-self-2.false in omega (arith, number, number', maps')) in
-    let state : IsWorking p w n d.count (given ++ taken) (L ++ line' ∷ []) [] new.coder.cells new.coder.run_indices new.open_event = subst (λ z. IsWorking p w n d.count (given ++ taken) (L ++ line' ∷ []) [] new.coder.cells new.coder.run_indices z) (sym m.3) (working_line p ok w n d.count any given L line d.reader.coder.cells d.reader.coder.run_indices d.reader.open_event work taken line' new.coder.cells new.coder.run_indices m.2 whole more) in
-    let placed : IsWorking p new.width n d.count (given ++ taken) after c.replace-line.new.dest.items new.coder.cells new.coder.run_indices new.open_event = subst (λ z. IsWorking p z n d.count (given ++ taken) after c.replace-line.new.dest.items new.coder.cells new.coder.run_indices new.open_event) (sym wide) (subst (λ z. IsWorking p w n d.count (given ++ taken) z c.replace-line.new.dest.items new.coder.cells new.coder.run_indices new.open_event) (sym pushed) (subst (λ z. IsWorking p w n d.count (given ++ taken) (L ++ line' ∷ []) z new.coder.cells new.coder.run_indices new.open_event) (sym empty) state)) in
-    record {
-      taken = taken;
-      chunk_is = m.1;
-      some = some;
-      reading = record {
-        parameters = c.push_to_event.ensures.parameters ∙ h.parameters;
-        width_at_least = (let a = h.width_at_least in omega arith);
-        components_at_least = h.components_at_least;
-        components_at_most = h.components_at_most;
-        lines_at_most = (let f = c.if-len-self-2.false in omega (arith, number, number', maps'));
-        lines_paid = (let a = h.lines_paid in omega arith);
-        lines_wide = wide_same w new.width after wide (subst (HaveWidth w) (sym pushed) (wide_more w L line' h.lines_wide whole));
-        line_at_most = omega arith;
-        state_is = subst (λ s. StateIs p new.width n d.count (given ++ taken) after c.replace-line.new.dest.items new.coder.cells new.coder.run_indices new.open_event s) (sym c.requires.state) placed;
-      };
-    }
+    let place = c.after-place.ensures in let e = c.push_to_event.ensures in
+    goes_on h c.requires.state c.deref.ensures.value place.component place.above e.width e.parameters c.in_ok-push_to_event.ensures.step c.in-Moved.is (let f = c.if-len-self.true in let l = c.len.ensures in omega arith) c.push.new.self c.replace-line.ensures.after c.new.ensures.items c.replace-line.ensures.value c.in_ok-push-in-Moved.ensures.items (λ o. (let f = c.if-len-self-2.false in let l = c.len-then-len-self.ensures in omega arith))
