@@ -9,7 +9,25 @@ use Rattle.jls_station.specs.declared.input.ReadStop.TheVariants.{Whole, Failed}
 use Rattle.jls_station.specs.declared.input.InputFault.TheVariants as fault
 use Rattle.jls_station.proofs.Mapped.{error_at, value_at}
 use Rattle.jls_station.proofs.OneInput.{nothing_read, one_read_more, read_to_end, read_to_failure, refused_for, empty_gives_none, empty_goes_on}
+use Rattle.jls_station.proofs.input.read_form.Given.{Over}
+use Rattle.jls_station.proofs.input.read_form.Goals.{After-front-first}
 use Rattle.jls_station.proofs.input.read_form.Goals as goal
+
+-- the first read gave some bytes, if none are not enough
+first_gave : (g : Over) (c : After-front-first g) (E : List ℕ → Type 0) → (E [] → ⊥)
+    → GrewBy (ReadSoFar E 1 c.front-first.result.now) (g.S.Device.history c.args.device.now) (g.S.Device.history c.read_some.new.self)
+first_gave g c E not =
+    let old = g.S.Device.history c.args.device.now in
+    let new = g.S.Device.history c.read_some.new.self in
+    let given = take c.in_ok-count.count c.read_some.new.into in
+    let was = value_at _ c.read_some.result c.map_err.result c.in_ok-count.count c.map_err.ensures.cases c.in_ok-count.was in
+    let read = IfOk-at_ok _ was c.read_some.ensures.read in
+    let within = IfOk-at_ok _ was c.read_some.ensures.within in
+    let room : length c.read_some.new.into ≡ 4096 = search rules in
+    let some : 0 < length given = omega (arith, length-take c.in_ok-count.count c.read_some.new.into, within, c.if-count-eq0.false) in
+    subst (λ (t : List ℕ). GrewBy (ReadSoFar E 1 t) old new) (sym c.front-first.ensures.front)
+    (one_read_more E 0 old old new [] 4096 given (nothing_read E 0 old old old []) (rw room at read) not (omega arith) some
+    (subst AreBytes c.front-first.ensures.front c.front-first.ensures.bytes))
 
 pub returns-in_err-count-clause-refused : goal.returns-in_err-count-clause-refused
 returns-in_err-count-clause-refused g c =
@@ -36,63 +54,21 @@ returns-then-count-eq0-clause-refused g c =
 
 pub returns-in_ok-read_text-clause-form : goal.returns-in_ok-read_text-clause-form
 returns-in_ok-read_text-clause-form g c =
-    let old = g.S.Device.history c.args.device.now in
-    let mid = g.S.Device.history c.read_some.new.self in
-    let given = take c.in_ok-count.count c.read_some.new.into in
-    let was = value_at _ c.read_some.result c.map_err.result c.in_ok-count.count c.map_err.ensures.cases c.in_ok-count.was in
-    let read = IfOk-at_ok _ was c.read_some.ensures.read in
-    let within = IfOk-at_ok _ was c.read_some.ensures.within in
-    let room : length c.read_some.new.into ≡ 4096 = search rules in
-    let some : 0 < length given = omega (arith, length-take c.in_ok-count.count c.read_some.new.into, within, c.if-count-eq0.false) in
-    let so_far = subst (λ (t : List ℕ). GrewBy (ReadSoFar IsEnough 1 t) old mid) (sym c.front-first.ensures.front)
-    (one_read_more IsEnough 0 old old mid [] 4096 given (nothing_read IsEnough 0 old old old []) (rw room at read)
-    (λ e. empty_goes_on c.copies_have_one_course.ensures e.1) (omega arith) some (subst AreBytes c.front-first.ensures.front c.front-first.ensures.bytes)) in
-    let all = c.in_ok-read_text.ensures.read old so_far in
+    let all = c.in_ok-read_text.ensures.read _
+    (first_gave g (goal.at.returns-in_ok-read_text-clause-form g c).After-front-first IsEnough (λ e. empty_goes_on c.copies_have_one_course.ensures e.1)) in
     record { events = all.events; grew = all.grew; they_are = (all.they_are, c.in_ok-read_text.ensures.text) }
 
 pub returns-in_err-read_text-clause-refused : goal.returns-in_err-read_text-clause-refused
 returns-in_err-read_text-clause-refused g c =
-    let old = g.S.Device.history c.args.device.now in
-    let mid = g.S.Device.history c.read_some.new.self in
-    let given = take c.in_ok-count.count c.read_some.new.into in
-    let was = value_at _ c.read_some.result c.map_err.result c.in_ok-count.count c.map_err.ensures.cases c.in_ok-count.was in
-    let read = IfOk-at_ok _ was c.read_some.ensures.read in
-    let within = IfOk-at_ok _ was c.read_some.ensures.within in
-    let room : length c.read_some.new.into ≡ 4096 = search rules in
-    let some : 0 < length given = omega (arith, length-take c.in_ok-count.count c.read_some.new.into, within, c.if-count-eq0.false) in
-    let so_far = subst (λ (t : List ℕ). GrewBy (ReadSoFar IsEnough 1 t) old mid) (sym c.front-first.ensures.front)
-    (one_read_more IsEnough 0 old old mid [] 4096 given (nothing_read IsEnough 0 old old old []) (rw room at read)
-    (λ e. empty_goes_on c.copies_have_one_course.ensures e.1) (omega arith) some (subst AreBytes c.front-first.ensures.front c.front-first.ensures.bytes)) in
     let p = err_from_is_err_and c.from_residual-in_err-read_text.result c.from_residual-in_err-read_text.ensures.1 in
-    rw (p.1, p.2) (c.in_err-read_text.ensures.refused old so_far)
+    rw (p.1, p.2) (c.in_err-read_text.ensures.refused _
+    (first_gave g (goal.at.returns-in_err-read_text-clause-refused g c).After-front-first IsEnough (λ e. empty_goes_on c.copies_have_one_course.ensures e.1)))
 
 pub returns-in_ok-read-clause-form : goal.returns-in_ok-read-clause-form
 returns-in_ok-read-clause-form g c =
-    let old = g.S.Device.history c.args.device.now in
-    let mid = g.S.Device.history c.read_some.new.self in
-    let given = take c.in_ok-count.count c.read_some.new.into in
-    let was = value_at _ c.read_some.result c.map_err.result c.in_ok-count.count c.map_err.ensures.cases c.in_ok-count.was in
-    let read = IfOk-at_ok _ was c.read_some.ensures.read in
-    let within = IfOk-at_ok _ was c.read_some.ensures.within in
-    let room : length c.read_some.new.into ≡ 4096 = search rules in
-    let some : 0 < length given = omega (arith, length-take c.in_ok-count.count c.read_some.new.into, within, c.if-count-eq0.false) in
-    let so_far = subst (λ (t : List ℕ). GrewBy (ReadSoFar IsCopyDone 1 t) old mid) (sym c.front-first.ensures.front)
-    (one_read_more IsCopyDone 0 old old mid [] 4096 given (nothing_read IsCopyDone 0 old old old []) (rw room at read)
-    (empty_goes_on c.copies_have_one_course.ensures) (omega arith) some (subst AreBytes c.front-first.ensures.front c.front-first.ensures.bytes)) in
-    c.in_ok-read.ensures.given old so_far
+    c.in_ok-read.ensures.given _ (first_gave g (goal.at.returns-in_ok-read-clause-form g c).After-front-first IsCopyDone (empty_goes_on c.copies_have_one_course.ensures))
 
 pub returns-in_err-read-clause-refused : goal.returns-in_err-read-clause-refused
 returns-in_err-read-clause-refused g c =
-    let old = g.S.Device.history c.args.device.now in
-    let mid = g.S.Device.history c.read_some.new.self in
-    let given = take c.in_ok-count.count c.read_some.new.into in
-    let was = value_at _ c.read_some.result c.map_err.result c.in_ok-count.count c.map_err.ensures.cases c.in_ok-count.was in
-    let read = IfOk-at_ok _ was c.read_some.ensures.read in
-    let within = IfOk-at_ok _ was c.read_some.ensures.within in
-    let room : length c.read_some.new.into ≡ 4096 = search rules in
-    let some : 0 < length given = omega (arith, length-take c.in_ok-count.count c.read_some.new.into, within, c.if-count-eq0.false) in
-    let so_far = subst (λ (t : List ℕ). GrewBy (ReadSoFar IsCopyDone 1 t) old mid) (sym c.front-first.ensures.front)
-    (one_read_more IsCopyDone 0 old old mid [] 4096 given (nothing_read IsCopyDone 0 old old old []) (rw room at read)
-    (empty_goes_on c.copies_have_one_course.ensures) (omega arith) some (subst AreBytes c.front-first.ensures.front c.front-first.ensures.bytes)) in
     let p = err_from_is_err_and c.from_residual-in_err-read.result c.from_residual-in_err-read.ensures.1 in
-    rw (p.1, p.2) (c.in_err-read.ensures.refused old so_far)
+    rw (p.1, p.2) (c.in_err-read.ensures.refused _ (first_gave g (goal.at.returns-in_err-read-clause-refused g c).After-front-first IsCopyDone (empty_goes_on c.copies_have_one_course.ensures)))

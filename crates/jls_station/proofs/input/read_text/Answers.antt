@@ -1,18 +1,16 @@
-use Rattle.std.proofs.Common.{rules, ◌≡◌, ◌∙◌, ◌++◌, ℕ, List, ap, sym, subst, arith, length}
+use Rattle.std.proofs.Common.{rules, ◌≡◌, ◌∙◌, ◌++◌, ℕ, List, [], ap, sym, subst, arith, length}
 use Rattle.std.proofs.lemmas.Result.{err_from_is_err_and}
-use Rattle.std.specs.Io.KnownBytes.{Consumes}
-use Rattle.jls_device.specs.Event.{History, GrewBy}
+use Rattle.jls_device.specs.Event.{GrewBy}
 use Rattle.jls_station.specs.Inputs.{IsEnough, text_not_read, ReadsRefuse}
-use Rattle.jls_station.specs.Reading.{IsRead, ReadSoFar}
+use Rattle.jls_station.specs.Reading.{IsRead}
 use Rattle.jls_station.specs.declared.input.ReadStop.{ReadStop}
 use Rattle.jls_station.specs.declared.input.InputFault.TheVariants as fault
 use Rattle.jls_station.proofs.OneInput.{out_of_memory_in_part, read_in_part, refused_for, known_all}
 use Rattle.jls_station.proofs.input.read_text.Goals as goal
 
--- the copy of what the first read gave
-as_first : (before now : History) (first items : List ℕ) → items ≡ first → GrewBy (ReadSoFar IsEnough 1 first) before now
-    → GrewBy (ReadSoFar IsEnough 1 items) before now
-as_first before now first items is h = subst (λ (t : List ℕ). GrewBy (ReadSoFar IsEnough 1 t) before now) (sym is) h
+-- the room was cleared, and holds what the first read gave
+first_held : {first cleared items : List ℕ} → cleared ≡ [] → items ≡ cleared ++ first → first ≡ items
+first_held {first} none is = sym (is ∙ ap (λ (t : List ℕ). t ++ first) none)
 
 pub returns-in_err-extend_from_slice-clause-refused : goal.returns-in_err-extend_from_slice-clause-refused
 returns-in_err-extend_from_slice-clause-refused g c before h =
@@ -25,7 +23,7 @@ returns-in_err-stop-clause-refused g c before h =
     let history = g.S.Device.history in
     let p = err_from_is_err_and c.from_residual-in_err-stop.result c.from_residual-in_err-stop.ensures.1 in
     rw (p.1, p.2) (out_of_memory_in_part before (history c.read_text_on.new.device)
-    (c.in_err-stop.ensures.refused before (as_first before (history c.args.device.now) c.args.first.now c.extend_from_slice.new.self.items (c.in_ok-extend_from_slice.ensures.items ∙ ap (λ (t : List ℕ). t ++ c.args.first.now) c.clear.ensures.items) h)))
+    (c.in_err-stop.ensures.refused before (rw (first_held c.clear.ensures.items c.in_ok-extend_from_slice.ensures.items) at h)))
 
 pub returns-in_default-clause-refused : goal.returns-in_default-clause-refused
 returns-in_default-clause-refused g c before h =
@@ -35,7 +33,7 @@ returns-in_default-clause-refused g c before h =
     let count : c.len.result ≡ length bytes = search rules in
     subst (λ (n : ℕ). GrewBy (ReadsRefuse (fault.Read stop n)) before (history c.read_text_on.new.device)) (sym count)
     (refused_for before (history c.read_text_on.new.device) bytes stop
-    (c.in_ok-stop.ensures.read before (as_first before (history c.args.device.now) c.args.first.now c.extend_from_slice.new.self.items (c.in_ok-extend_from_slice.ensures.items ∙ ap (λ (t : List ℕ). t ++ c.args.first.now) c.clear.ensures.items) h))
+    (c.in_ok-stop.ensures.read before (rw (first_held c.clear.ensures.items c.in_ok-extend_from_slice.ensures.items) at h))
     (fault.Read stop (length bytes)) (text_not_read bytes stop c.in_ok-stop.ensures.text c.in_default.not-Whole))
 
 pub returns-in-Whole-clause-read : goal.returns-in-Whole-clause-read
@@ -43,11 +41,10 @@ returns-in-Whole-clause-read g c before h =
     let history = g.S.Device.history in
     let bytes = c.read_text_on.new.bytes.items in
     subst (λ (stop : ReadStop). GrewBy (λ reads. IsRead IsEnough reads bytes stop) before (history c.read_text_on.new.device)) c.in-Whole.is
-    (c.in_ok-stop.ensures.read before (as_first before (history c.args.device.now) c.args.first.now c.extend_from_slice.new.self.items (c.in_ok-extend_from_slice.ensures.items ∙ ap (λ (t : List ℕ). t ++ c.args.first.now) c.clear.ensures.items) h))
+    (c.in_ok-stop.ensures.read before (rw (first_held c.clear.ensures.items c.in_ok-extend_from_slice.ensures.items) at h))
 
 pub returns-in-Whole-clause-known : goal.returns-in-Whole-clause-known
 returns-in-Whole-clause-known g c before h =
     let remaining = g.S.Source.remaining in
-    let items : c.extend_from_slice.new.self.items ≡ c.args.first.now = c.in_ok-extend_from_slice.ensures.items ∙ ap (λ (t : List ℕ). t ++ c.args.first.now) c.clear.ensures.items in
     known_all before (remaining c.read_text_on.new.device) c.read_text_on.new.bytes.items
-    (c.in_ok-stop.ensures.known before (subst (λ (t : List ℕ). Consumes before (remaining c.args.device.now) t) (sym items) h)) (c.in_ok-stop.ensures.end c.in-Whole.is)
+    (c.in_ok-stop.ensures.known before (rw (first_held c.clear.ensures.items c.in_ok-extend_from_slice.ensures.items) at h)) (c.in_ok-stop.ensures.end c.in-Whole.is)
