@@ -1,7 +1,7 @@
 -- Members of lists.
-use Rattle.std.proofs.Common.{◌≡◌, ℕ, zero, suc, ◌<◌, List, [], ◌∷◌, ◌++◌, length, map, refl, sym, ap, subst, arith, ◌⊎◌, inl, inr}
-use Rattle.std.specs.Prelude.{get_or}
-use Rattle.std.specs.List.{AllByRecursion, Contains, flat_map}
+use Rattle.std.proofs.Common.{◌≡◌, zero, suc, List, [], ◌∷◌, map, refl, sym, ap, ◌∙◌, subst, arith, ◌⊎◌, inl, inr}
+use Rattle.std.specs.List.{Contains, flat_map}
+use Rattle.std.proofs.lemmas.List.{length-map, get_or-map}
 use Rattle.std.proofs.lemmas.List.Elements.{Contains-append_left, Contains-append_right, Contains-append_cases}
 
 module _ {X : Type 0} where
@@ -18,25 +18,9 @@ module _ {X : Type 0} where
   first_or_rest x y xs (zero, l, e) = inl e
   first_or_rest x y xs (suc k, l, e) = inr (k, omega (arith, l), e)
 
-  pub all_append : (P : X → Type 0) (xs ys : List X) → AllByRecursion P xs → AllByRecursion P ys → AllByRecursion P (xs ++ ys)
-  all_append P [] ys h k = k
-  all_append P (x ∷ xs) ys h k = (h.0, all_append P xs ys h.1 k)
-
-  pub at_index : (d : X) (xs : List X) (j : ℕ) → j < length xs → Contains xs (get_or xs j d)
-  at_index d [] j l = absurd (omega (arith, l))
-  at_index d (x ∷ xs) zero l = is_first x xs
-  at_index d (x ∷ xs) (suc j) l = in_rest (get_or xs j d) x xs (at_index d xs j (omega (arith, l)))
-
-  pub index_of : (d : X) (xs : List X) (x : X) → Contains xs x → (j : ℕ) × (j < length xs) × (get_or xs j d ≡ x)
-  index_of d [] x c = absurd (none_in x c)
-  index_of d (y ∷ ys) x (zero, l, e) = (0, omega arith, e)
-  index_of d (y ∷ ys) x (suc k, l, e) = (let r = index_of d ys x (k, omega (arith, l), e) in (suc r.0, omega (arith, r.1), r.2))
-
 -- members of images and of joined lists
 pub in_map : {X Y : Type 0} (f : X → Y) (xs : List X) (x : X) → Contains xs x → Contains (map f xs) (f x)
-in_map f [] x c = absurd (none_in x c)
-in_map f (y ∷ ys) x (zero, l, e) = (0, omega arith, ap f e)
-in_map f (y ∷ ys) x (suc k, l, e) = in_rest (f x) (f y) (map f ys) (in_map f ys x (k, omega (arith, l), e))
+in_map f xs x c = (c.0, omega (arith, length-map xs f, c.1), get_or-map f xs c.0 x (f x) c.1 ∙ ap f c.2)
 
 pub of_map : {X Y : Type 0} (f : X → Y) (xs : List X) (y : Y) → Contains (map f xs) y → (x : X) × Contains xs x × (f x ≡ y)
 of_map f [] y c = absurd (none_in y c)

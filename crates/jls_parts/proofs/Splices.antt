@@ -2,7 +2,8 @@
 use Rattle.std.proofs.Common.{◌≡◌, ℕ, suc, ◌<◌, List, [], ◌∷◌, ◌++◌, map, length, refl, sym, ap, ◌∙◌, subst, inl, inr}
 use Rattle.std.specs.Prelude.{get_or}
 use Rattle.std.specs.List.{AllByRecursion, Contains}
-use Rattle.jls_parts.proofs.Members.{is_first, none_in, first_or_rest, in_map, of_map, in_flat_map, of_flat_map, at_index, index_of}
+use Rattle.std.proofs.lemmas.List.Elements.{Contains-get_or, at_from_Contains}
+use Rattle.jls_parts.proofs.Members.{is_first, none_in, first_or_rest, in_map, of_map, in_flat_map, of_flat_map}
 use Rattle.jls_parts.specs.Parts.{Part, Same, Differ, way, made, HasWays, IsSplice, splice_of, splices}
 use Rattle.jls_parts.specs.SpliceLaws.{CopiesAreSplices, SplicesAreListed, ChoicesMakeSplices}
 
@@ -25,7 +26,7 @@ listed count (Same b ∷ parts) bytes h (j, l, rest, e, more) =
 listed count (Differ ways ∷ parts) bytes h (j, l, rest, e, more) =
     let inside : j < length ways = subst (λ n. j < n) (sym h.0) l in
     subst (Contains (splices (Differ ways ∷ parts))) (sym e)
-    (in_flat_map (λ here. map (λ r. here ++ r) (splices parts)) ways (get_or ways j []) (get_or ways j [] ++ rest) (at_index [] ways j inside)
+    (in_flat_map (λ here. map (λ r. here ++ r) (splices parts)) ways (get_or ways j []) (get_or ways j [] ++ rest) (Contains-get_or ways j [] inside)
     (in_map (λ r. get_or ways j [] ++ r) (splices parts) rest (listed count parts rest h.1 more)))
 
 of_listed : (count : ℕ) (parts : List Part) (bytes : List ℕ) → 0 < count → AllByRecursion (HasWays count) parts
@@ -35,9 +36,9 @@ of_listed count (Same b ∷ parts) bytes some h c =
     let r = of_map (λ r. b ++ r) (splices parts) bytes c in (0, some, r.0, sym r.2, of_listed count parts r.0 some h.1 r.1)
 of_listed count (Differ ways ∷ parts) bytes some h c =
     let f = of_flat_map (λ here. map (λ r. here ++ r) (splices parts)) ways bytes c in
-    let j = index_of [] ways f.0 f.1 in
+    let j = at_from_Contains ways f.0 f.1 in
     let r = of_map (λ r. f.0 ++ r) (splices parts) bytes f.2 in
-    (j.0, subst (λ n. j.0 < n) h.0 j.1, r.0, sym r.2 ∙ ap (λ w. w ++ r.0) (sym j.2), of_listed count parts r.0 some h.1 r.1)
+    (j.0, subst (λ n. j.0 < n) h.0 j.1, r.0, sym r.2 ∙ ap (λ w. w ++ r.0) (sym (j.2 [])), of_listed count parts r.0 some h.1 r.1)
 
 pub splices_are_listed : SplicesAreListed
 splices_are_listed copies parts are some bytes =
