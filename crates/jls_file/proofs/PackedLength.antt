@@ -223,7 +223,7 @@ stretch_within width component up line x =
     ]
 
 line_at_most : (width component : ℕ) (up : Above) (line : List ℕ) (fuel x : ℕ)
-    → (length (events_from width component up line fuel x) ≤ fuel) × AllByRecursion (IsWithin width) (events_from width component up line fuel x)
+    → (length (events_from (stretch width component up line) width fuel x) ≤ fuel) × AllByRecursion (IsWithin width) (events_from (stretch width component up line) width fuel x)
 unfolding events_from
 line_at_most width component up line zero x = (omega arith, tt)
 line_at_most width component up line (suc fuel) x =

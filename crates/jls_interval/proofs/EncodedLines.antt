@@ -31,7 +31,7 @@ module _ (p : CodingParameters) (component : ℕ) (up : Above) (line : List ℕ)
   columns_then x y z old middle new a b = record {
     first = a.first ++ b.first;
     writes = writes_then p old middle new a.first b.first a.writes b.writes;
-    parted = a.parted ∙ ap (λ u. a.first ++ u) b.parted ∙ sym (append_assoc a.first b.first (events_from width component up line width z));
+    parted = a.parted ∙ ap (λ u. a.first ++ u) b.parted ∙ sym (append_assoc a.first b.first (events_from (stretch width component up line) width width z));
   }
 
   -- one stretch
@@ -43,7 +43,7 @@ module _ (p : CodingParameters) (component : ℕ) (up : Above) (line : List ℕ)
       record {
         first = s.event ∷ [];
         writes = w;
-        parted = fuel_same width component up width (suc width) line x (omega arith) (omega arith) ∙ more width component up width line x l ∙ ap (λ z. s.event ∷ events_from width component up line width z) (sym e);
+        parted = fuel_same width component up width (suc width) line x (omega arith) (omega arith) ∙ more width component up width line x l ∙ ap (λ z. s.event ∷ events_from (stretch width component up line) width width z) (sym e);
       }
 
   pub columns_end : (x : ℕ) (old new : Written) → width ≤ x → WritesColumns p component up line 0 x old new

@@ -17,7 +17,7 @@ module _ (w k : ℕ) (up : Above) where
       let v = (neighbours w up line x).ra in
       elim (cases_Bool (is_run_mode (neighbours w up line x))) [ inl r ↦ elim (cases_Bool (ltb (run_stop line v x) w)) [ inl s ↦ rw (r, s) (omega arith) | inr s ↦ rw (r, s) h ] | inr r ↦ rw r (omega arith) ]
 
-  pub fuel_same : (f g : ℕ) (line : List ℕ) (x : ℕ) → w ≤ x + f → w ≤ x + g → events_from w k up line f x ≡ events_from w k up line g x
+  pub fuel_same : (f g : ℕ) (line : List ℕ) (x : ℕ) → w ≤ x + f → w ≤ x + g → events_from (stretch w k up line) w f x ≡ events_from (stretch w k up line) w g x
   fuel_same zero g line x h j = past w k up zero line x (omega arith) ∙ sym (past w k up g line x (omega arith))
   fuel_same (suc f) zero line x h j = past w k up (suc f) line x (omega arith) ∙ sym (past w k up zero line x (omega arith))
   fuel_same (suc f) (suc g) line x h j =
@@ -62,7 +62,7 @@ module _ (p : CodingParameters) (w k : ℕ) (up : Above) where
 
   -- the events of a line, with enough fuel
   abbrev pub line_events_from : List ℕ → ℕ → List Event
-  line_events_from line x = events_from w k up line w x
+  line_events_from line x = events_from (stretch w k up line) w w x
 
   -- an event that fits is the first of each finished line that begins so
   pub events_from_first : (line rest : List ℕ) (e : Event) → length line < w
@@ -72,7 +72,7 @@ module _ (p : CodingParameters) (w k : ℕ) (up : Above) where
   events_from_first line rest e l h fits =
       let whole = line ++ (added (neighbours w up line (length line)).ra e ++ rest) in let x = length line in
       let s = fits_stretch w k up p line rest e h fits in
-      fuel_same w k up w (suc w) whole x (omega arith) (omega arith) ∙ more w k up w whole x l ∙ ap (λ (z : Stretch). z.event ∷ events_from w k up whole w z.next) s
+      fuel_same w k up w (suc w) whole x (omega arith) (omega arith) ∙ more w k up w whole x l ∙ ap (λ (z : Stretch). z.event ∷ events_from (stretch w k up whole) w w z.next) s
 
 module _ (p : CodingParameters) (w k : ℕ) (up : Above) where
   -- the last event of a line

@@ -88,14 +88,14 @@ module _ (w c : ℕ) (lines : List (List ℕ)) (j : ℕ) (some : 0 < c) (within 
           (record { component_is = refl; run = run_is x ∙ r; within = omega arith; holds = passes_hold x (x + n - x) (omega arith); near_is = ap at (sym f) ∙ sym (near (x + (x + n - x))); sample_is = ap (λ z. get_or line z 0) (sym f) ∙ sym (sample (x + (x + n - x))); interrupts = λ e. eqb-false _ _ stop (get_or-drop x line n 0 ∙ e ∙ ap (λ (m : Neighbours). m.ra) (near x)); next_is = omega arith }, omega arith)
 
   -- the columns from x on
-  parted_only : (es : List Event) (x : ℕ) → IsParted w c lines k (j / c) x es → es ≡ events_from w k up line w x
+  parted_only : (es : List Event) (x : ℕ) → IsParted w c lines k (j / c) x es → es ≡ events_from (stretch w k up line) w w x
   parted_only [] x h = sym (past w k up w line x (let e : x ≡ w = h in omega arith))
   parted_only (e ∷ es) x h =
       let s = stands_stretch x e h.0 h.1 h.2 in let m = stretch_moves w k up line x h.1 in
       let l : x < w = h.1 in
-      ap (λ z. e ∷ z) (parted_only es h.0 h.3) ∙ ap (λ (z : Stretch). z.event ∷ events_from w k up line w z.next) (sym s) ∙ sym (more w k up w line x l) ∙ fuel_same w k up (suc w) w line x (omega arith) (omega arith)
+      ap (λ z. e ∷ z) (parted_only es h.0 h.3) ∙ ap (λ (z : Stretch). z.event ∷ events_from (stretch w k up line) w w z.next) (sym s) ∙ sym (more w k up w line x l) ∙ fuel_same w k up (suc w) w line x (omega arith) (omega arith)
 
-  parted_so : (fuel x : ℕ) → x ≤ w → w ≤ x + fuel → IsParted w c lines k (j / c) x (events_from w k up line fuel x)
+  parted_so : (fuel x : ℕ) → x ≤ w → w ≤ x + fuel → IsParted w c lines k (j / c) x (events_from (stretch w k up line) w fuel x)
   parted_so zero x l f = let e : x ≡ w = omega arith in subst (λ z. IsParted w c lines k (j / c) x z) (sym (past w k up zero line x (omega arith))) e
   parted_so (suc fuel) x l f =
       elim (cases_lt x w) [ inl m ↦ (let s = stretch w k up line x in let h = stretch_stands x m s.event s.next refl in let g = stretch_moves w k up line x m in subst (λ z. IsParted w c lines k (j / c) x z) (sym (more w k up fuel line x m)) (s.next, m, h.0, parted_so fuel s.next h.1 (omega arith))) | inr m ↦ (let e : x ≡ w = omega arith in subst (λ z. IsParted w c lines k (j / c) x z) (sym (past w k up (suc fuel) line x m)) e) ]

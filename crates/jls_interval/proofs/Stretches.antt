@@ -24,13 +24,13 @@ module _ (w k : ℕ) (up : Above) where
   abbrev pub at : List ℕ → ℕ → Neighbours
   at line x = neighbours w up line x
 
-  pub past : (f : ℕ) (line : List ℕ) (x : ℕ) → w ≤ x → events_from w k up line f x ≡ []
+  pub past : (f : ℕ) (line : List ℕ) (x : ℕ) → w ≤ x → events_from (stretch w k up line) w f x ≡ []
   unfolding events_from
   past zero line x h = refl
   past (suc f) line x h = let t : ltb x w ≡ false = le-ltb x w h in rw t
 
   pub more : (f : ℕ) (line : List ℕ) (x : ℕ) → x < w
-      → events_from w k up line (suc f) x ≡ (stretch w k up line x).event ∷ events_from w k up line f (stretch w k up line x).next
+      → events_from (stretch w k up line) w (suc f) x ≡ (stretch w k up line x).event ∷ events_from (stretch w k up line) w f (stretch w k up line x).next
   unfolding events_from
   more f line x h = let t : ltb x w ≡ true = lt-ltb x w h in rw t
 

@@ -2,7 +2,7 @@
 use Rattle.std.specs.Prelude.{◌≡◌, ℕ, Bool, List, ◌++◌, length, take}
 use Rattle.jls_values.specs.Params.{CodingParameters}
 use Rattle.jls_context.specs.Variables.{Variables}
-use Rattle.jls_interval.specs.Events.{Event, Above, events_from, events}
+use Rattle.jls_interval.specs.Events.{Event, Above, stretch, events_from, events}
 use Rattle.jls_interval.specs.Code.{bits_of_events, code}
 use Rattle.jls_interval.specs.After.{IsAfter}
 use Rattle.jls_interval.specs.declared.encoder.Encoder.{Encoder}
@@ -29,7 +29,7 @@ pub record Writes (p : CodingParameters) (old new : Written) (later : List Event
 pub record WritesColumns (p : CodingParameters) (component : ℕ) (up : Above) (line : List ℕ) (x next : ℕ) (old new : Written) : Type 0 where
   pub first : List Event
   pub writes : Writes p old new first
-  pub parted : let w = length line in events_from w component up line w x ≡ first ++ events_from w component up line w next
+  pub parted : let w = length line in let at = stretch w component up line in events_from at w w x ≡ first ++ events_from at w w next
 
 -- the lines before line j were written, from the start of an interval
 pub record AreWritten (p : CodingParameters) (width components : ℕ) (lines : List (List ℕ)) (j : ℕ) (now : Written) : Type 0 where

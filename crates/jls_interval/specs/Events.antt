@@ -124,16 +124,16 @@ stretch width component up line x =
     else record { event = run_to_end component (width - x); next = width })
     else record { event = regular near (get_or line x 0); next = suc x }
 
--- the events of the columns from x on; `fuel` is at least their number
-unfoldable pub events_from : ℕ → ℕ → Above → List ℕ → ℕ → ℕ → List Event
-events_from width component up line zero x = []
-events_from width component up line (suc fuel) x =
-    let first = stretch width component up line x in
-    let later = events_from width component up line fuel first.next in if (nat_lt x width) then first.event ∷ later else []
+-- the events of the columns from x on, where `stretch_at` gives the stretch that begins at a column; `fuel` is at least their number
+unfoldable pub events_from : (ℕ → Stretch) → ℕ → ℕ → ℕ → List Event
+events_from stretch_at width zero x = []
+events_from stretch_at width (suc fuel) x =
+    let first = stretch_at x in
+    let later = events_from stretch_at width fuel first.next in if (nat_lt x width) then first.event ∷ later else []
 
 -- the events of a whole line
 abbrev pub line_events : ℕ → ℕ → Above → List ℕ → List Event
-line_events width component up line = events_from width component up line width 0
+line_events width component up line = events_from (stretch width component up line) width width 0
 
 -- the line so many places back, or none
 abbrev pub line_back : List (List ℕ) → ℕ → List ℕ
