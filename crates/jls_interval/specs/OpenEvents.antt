@@ -68,7 +68,8 @@ pub record EventDone (p : CodingParameters) (w component : ℕ) (up : Above) (li
 abbrev pub EventStepIs : ℕ → Above → LineReader → LineReader → List Bool → List Event → EventStep → Type 0
 EventStepIs component up old new told earlier More =
     (new.line.items ≡ old.line.items) × (new.coder.cells ≡ old.coder.cells) × (new.coder.run_indices ≡ old.coder.run_indices)
-    × OpenEventAt old.coder.cells.parameters old.width up old.line.items old.coder.cells (get_or old.coder.run_indices component 0) new.open_event told
+    × OpenEventAt old.coder.cells.parameters old.width up old.line.items old.coder.cells
+    (get_or old.coder.run_indices component 0) new.open_event told
 EventStepIs component up old new told earlier Moved =
     EventDone old.coder.cells.parameters old.width component up old.line.items new.line.items new.coder.cells new.coder.run_indices told
     earlier × (new.open_event ≡ NotBegun)

@@ -15,7 +15,8 @@ impl IntervalReader {
     fn is_cut(&self) -> bool
         requires { (p : CodingParameters) × (given : List Bool) × IsReading p given self.now }
         ensures yes { result ≡ true → (p : CodingParameters) (given : List Bool) → IsReading p given self.now
-            → IsHead (interval_shape p self.now.reader.width self.now.components self.now.count) given (map (λ v. v.items) self.now.lines.items) }
+            → IsHead (interval_shape p self.now.reader.width self.now.components self.now.count) given
+            (map (λ v. v.items) self.now.lines.items) }
         ensures no { result ≡ false → (p : CodingParameters) (given : List Bool) → IsReading p given self.now
             → IsHead (interval_shape p self.now.reader.width self.now.components self.now.count) given [] }
     {

@@ -41,10 +41,11 @@ pub fn decode_interval(
     requires components_at_most { components ≤ 4 }
     requires rows { 1 ≤ rows }
     requires samples { width * components * rows ≤ 2 ^ 28 }
-    ensures lines { IfOk result (λ v. Reads (interval_shape params.now width components (rows * components)) piece.now (map (λ v. v.items) v.items)) }
+    ensures lines { IfOk result (λ v. Reads (interval_shape params.now width components (rows * components)) piece.now
+        (map (λ v. v.items) v.items)) }
     ensures fault { IfErr result (λ fault. FaultIs fault (interval_shape params.now width components (rows * components)) piece.now) }
-    ensures read { (lines : List (List ℕ)) → Reads (interval_shape params.now width components (rows * components)) piece.now lines → MatchResult result
-        (λ v. map (λ v. v.items) v.items ≡ lines) (λ fault. fault ≡ PieceFault.OutOfMemory) }
+    ensures read { (lines : List (List ℕ)) → Reads (interval_shape params.now width components (rows * components)) piece.now lines
+        → MatchResult result (λ v. map (λ v. v.items) v.items ≡ lines) (λ fault. fault ≡ PieceFault.OutOfMemory) }
 {
     let mut decoder = IntervalDecoder::new(alloc, params, width, components, rows);
     match decoder.push_all(piece) {
