@@ -1,6 +1,6 @@
 -- The bias computation, and B and C each by itself.
 use Rattle.std.proofs.Common.{◌≡◌, ℕ, refl, Bool, true, false, ap, ◌∙◌}
-use Rattle.std.specs.Prelude.{ℤ, pos, negsuc, neg_ℤ, if◌then◌else◌, ◌+ℤ◌, ◌-ℤ◌, int_lt, int_le}
+use Rattle.std.specs.Prelude.{ℤ, pos, neg_ℤ, if◌then◌else◌, int_lt, int_le}
 use Rattle.jls_context.specs.declared.regular.Cell.{Cell}
 use Rattle.jls_context.specs.BiasSteps.{computed_bias, computed_correction}
 use Rattle.jls_context.specs.Regular.{bias_computed}
