@@ -189,10 +189,10 @@ closing_is by_marker by_marker r s b c h = (refl, b.bytes_are ∙ ap end_bytes h
 
 -- One unit --------------------------------------------------------------------------------------------------------
 
-record Same (u v : CopyUnit) (a b : HeaderState) (r s : List ℕ) : Type 0 where
-  units : u ≡ v
-  headers : a ≡ b
-  rests : r ≡ s
+pub record Same (u v : CopyUnit) (a b : HeaderState) (r s : List ℕ) : Type 0 where
+  pub units : u ≡ v
+  pub headers : a ≡ b
+  pub rests : r ≡ s
 
 same_unit : (h : HeaderState) (u v : CopyUnit) (a b : HeaderState) (r s : List ℕ) → IsUnit h u a r → IsUnit h v b s
     → unit_step u a r ≡ unit_step v b s → Same u v a b r s
@@ -214,6 +214,16 @@ same_unit h (scan n code payload plan closed last closing) (scan m c q plan' clo
 end_no_unit : (d : End) (u : CopyUnit) (a : HeaderState) (r : List ℕ) → ends d ≡ unit_step u a r → ⊥
 end_no_unit d (segment n code payload) a r e = cc
 end_no_unit d (scan n code payload s closed last closing) a r e = cc
+
+-- bytes begin with one unit at most
+pub one_unit : (h : HeaderState) (x : List ℕ) (u v : CopyUnit) (a b : HeaderState) (r s : List ℕ) → x ≡ unit_bytes u ++ r → IsUnit h u a r
+    → x ≡ unit_bytes v ++ s → IsUnit h v b s → Same u v a b r s
+one_unit h x u v a b r s e is f is' = same_unit h u v a b r s is is' (sym (step_is h 0 u a r x e is) ∙ step_is h 0 v b s x f is')
+
+-- and with none where a copy ends
+pub no_unit_at_end : (h : HeaderState) (at : ℕ) (x : List ℕ) (d : End) (u : CopyUnit) (a : HeaderState) (r : List ℕ) → Ends h at x d
+    → x ≡ unit_bytes u ++ r → IsUnit h u a r → ⊥
+no_unit_at_end h at x d u a r ends_here e is = end_no_unit d u a r (sym (ends_step h at x d ends_here) ∙ step_is h at u a r x e is)
 
 two_ends : (d e : End) → ends d ≡ ends e → d ≡ e
 two_ends d e p = cc

@@ -74,7 +74,8 @@ pub data Passed : List ℕ → HeaderState → List CopyUnit → List FoundPiece
       → (n code : ℕ) (payload : List ℕ) (after : HeaderState) (y : List ℕ) → has_segment code ≡ true → length payload + 2 < 2 ^ 16
       → (behind ≡ true → ends_scan_data code ≡ true) → (s : Scan) → headers_after h code payload ≡ Ok (after, Some s)
       → (closed : List ClosedPiece) (last : List ℕ) (fs : List FoundPiece) → AllByRecursion IsClosedPiece closed → IsPiece last
-      → AlikePieces fs (pieces_from (piece_begun h.scans s (Interval 0) (length x + length (segment_unit_bytes n code payload))) 0 closed last)
+      → AlikePieces fs
+      (pieces_from (piece_begun h.scans s (Interval 0) (length x + length (segment_unit_bytes n code payload))) 0 closed last)
       → y ≡ x ++ unit_bytes (scan n code payload s closed last by_marker)
       → Passed y after (us ++ scan n code payload s closed last by_marker ∷ []) (ps ++ fs) true
 
