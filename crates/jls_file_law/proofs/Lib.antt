@@ -3,4 +3,5 @@ mod WrittenPieces
 mod WrittenScans
 mod WrittenUnits
 mod HeadsTaken
+pub mod WrittenBytes
 pub mod FileRead
