@@ -14,13 +14,15 @@ use Rattle.jls_copy.specs.CutPieces.{closed_by_input, last_piece, cut_pieces, Is
 use Rattle.jls_copy.specs.CopyReads.{CopyReads}
 use Rattle.jls_copy.specs.ReadCopy.{ReadCopy}
 use Rattle.jls_copy.specs.Pieces.{FoundPiece, PieceOutcome, Lines, Fault, IsOutcome, outcome_readings, readings_of, AreOutcomes, readings, pieces}
-use Rattle.jls_copy.proofs.OneCourse.{one_course}
 use Rattle.jls_copy.proofs.ScansOfCourse.{HasScan, course_has}
 use Rattle.jls_copy.proofs.BytesDecide.{one_outcome, one_head_of_cut, cut_has}
-use Rattle.jls_headline.specs.Gives.{PieceGives, HeadGives, CourseGives, GivesReading}
+use Rattle.jls_copy_law.specs.CourseGives.{FoundPieceGives, FoundHeadGives, CourseGives}
+use Rattle.jls_copy_law.specs.Gives.{GivesReading}
+use Rattle.jls_copy_law.proofs.CopyScans.{course_has_scans}
+use Rattle.jls_copy_law.proofs.Gives.{readings_are_of_the_course}
 use Rattle.jls_headline.specs.Stations.{HasShape}
-use Rattle.jls_headline.proofs.Members.{is_first, in_rest, none_in, first_or_rest}
-use Rattle.jls_headline.proofs.CutOff.{last_short}
+use Rattle.jls_copy_law.proofs.Members.{is_first, in_rest, none_in, first_or_rest}
+use Rattle.jls_copy_law.proofs.CutOff.{last_short}
 use Rattle.jls_headline.proofs.Held.{made_holds}
 
 abbrev some_shape : PictureShape → Option PictureShape
@@ -35,7 +37,7 @@ faults_give_none s (BeyondLast k) r (Fault f) c = absurd (none_in r c)
 
 -- the readings of pieces that have these outcomes are what the pieces give
 pub listed : (ps : List FoundPiece) (os : List PieceOutcome) (r : Reading) → AreOutcomes ps os → Contains (readings ps os) r
-    → (p : FoundPiece) × Contains ps p × PieceGives p r
+    → (p : FoundPiece) × Contains ps p × FoundPieceGives p r
 listed [] os r are c = absurd (none_in r c)
 listed (p ∷ ps) [] r are c = absurd are
 listed (p ∷ ps) (o ∷ os) r are c =
@@ -47,7 +49,7 @@ listed (p ∷ ps) (o ∷ os) r are c =
     ]
 
 given : (ps : List FoundPiece) (os : List PieceOutcome) (p : FoundPiece) (r : Reading) → AllByRecursion HasScan ps → AreOutcomes ps os
-    → Contains ps p → PieceGives p r → Contains (readings ps os) r
+    → Contains ps p → FoundPieceGives p r → Contains (readings ps os) r
 given [] os p r ok are c g = absurd (none_in p c)
 given (q ∷ ps) [] p r ok are c g = absurd are
 given (q ∷ ps) (o ∷ os) p r ok are c g =
@@ -58,24 +60,24 @@ given (q ∷ ps) (o ∷ os) p r ok are c g =
   where
     own : q ≡ p → Contains (readings_of q o) r
     own e =
-        let h : PieceGives q r = subst (λ x. PieceGives x r) (sym e) g in
+        let h : FoundPieceGives q r = subst (λ x. FoundPieceGives x r) (sym e) g in
         subst (λ x. Contains (readings_of q x) r) (one_outcome q.plan q.number q.bytes (Lines h.lines) o ok.0 h.reads are.0) h.among
 
 -- The head of the piece that the input's end closes ---------------------------------------------------------------
 
 head_listed : (ps : List FoundPiece) (head : List (List ℕ)) (r : Reading) → IsHeadOfCut ps head → Contains (head_readings ps head) r
-    → (p : FoundPiece) × Contains ps p × HeadGives p r
+    → (p : FoundPiece) × Contains ps p × FoundHeadGives p r
 head_listed [] head r is c = absurd (none_in r c)
 head_listed (p ∷ ps) head r is c = (p, is_first p ps, record { head = head; is_head = is; among = c })
 
 head_given : (ps : List FoundPiece) (head : List (List ℕ)) (p : FoundPiece) (r : Reading) → length ps ≤ 1 → AllByRecursion HasScan ps
     → IsHeadOfCut ps head
-    → Contains ps p → HeadGives p r → Contains (head_readings ps head) r
+    → Contains ps p → FoundHeadGives p r → Contains (head_readings ps head) r
 head_given [] head p r short ok is c g = absurd (none_in p c)
 head_given (q ∷ []) head p r short ok is c g =
     elim (first_or_rest p q [] c) [
       | inl e ↦ (
-          let h : HeadGives q r = subst (λ x. HeadGives x r) (sym e) g in
+          let h : FoundHeadGives q r = subst (λ x. FoundHeadGives x r) (sym e) g in
           subst (λ x. Contains (readings_of q (Lines x)) r) (one_head_of_cut (q ∷ []) h.head head ok h.is_head is) h.among)
       | inr later ↦ absurd (none_in p later)
     ]
@@ -88,38 +90,46 @@ cut_short c = by (closed_by_input c.units)
     by true = last_short (pieces c)
     by false = omega arith
 
-pub copy_gives : (copy : List ℕ) → AllByRecursion (λ b. b < 256) copy → (read : ReadCopy) → CopyReads copy read → (r : Reading)
-    → (set.contains read.partial.readings r ≡ true) ↔ GivesReading copy r
-copy_gives copy low read reads r = (there, back)
+-- the frame of what was read is that of the course
+frame_is : (copy : List ℕ) (read : ReadCopy) (reads : CopyReads copy read) → reads.course.headers.frame ≡ Some read.partial.shape
+frame_is copy read reads = reads.framed ∙ ap (λ (p : PartialPicture). some_shape p.shape) (sym reads.partial_is)
+
+course_gives : (copy : List ℕ) → AllByRecursion (λ b. b < 256) copy → (read : ReadCopy) (reads : CopyReads copy read) (r : Reading)
+    → (set.contains read.partial.readings r ≡ true) ↔ CourseGives reads.course r
+course_gives copy low read reads r = (there, back)
   where
-    there : set.contains read.partial.readings r ≡ true → GivesReading copy r
+    there : set.contains read.partial.readings r ≡ true → CourseGives reads.course r
     there h =
         let ps = pieces reads.course in
         let cs = cut_pieces reads.course in
         let told = made_holds (readings ps reads.outcomes ++ head_readings cs reads.head) r in
-        let c = told.0 (subst (λ (p : PartialPicture). set.contains p.readings r ≡ true) reads.partial_is h) in (
-          reads.course,
-          reads.is_course,
-          elim (Contains-append_cases (readings ps reads.outcomes) (head_readings cs reads.head) r c) [
-            | inl m ↦ inl (listed ps reads.outcomes r reads.each m)
-            | inr m ↦ inr (head_listed cs reads.head r reads.head_is m)
-          ],
-        )
+        let c = told.0 (subst (λ (p : PartialPicture). set.contains p.readings r ≡ true) reads.partial_is h) in
+        elim (Contains-append_cases (readings ps reads.outcomes) (head_readings cs reads.head) r c) [
+          | inl m ↦ inl (listed ps reads.outcomes r reads.each m)
+          | inr m ↦ inr (head_listed cs reads.head r reads.head_is m)
+        ]
 
-    back : GivesReading copy r → set.contains read.partial.readings r ≡ true
-    back (c, is, g) =
+    back : CourseGives reads.course r → set.contains read.partial.readings r ≡ true
+    back g =
         let ps = pieces reads.course in
         let cs = cut_pieces reads.course in
         let has = course_has copy reads.course low reads.is_course in
         let told = made_holds (readings ps reads.outcomes ++ head_readings cs reads.head) r in
-        let own : CourseGives reads.course r = subst (λ x. CourseGives x r) (one_course copy c reads.course is reads.is_course) g in
         subst (λ (p : PartialPicture). set.contains p.readings r ≡ true) (sym reads.partial_is)
-        (told.1 (elim own [
+        (told.1 (elim g [
           | inl m ↦ Contains-append_left (readings ps reads.outcomes) (head_readings cs reads.head) r (given ps reads.outcomes m.0 r has reads.each m.1 m.2)
           | inr m ↦ Contains-append_right (readings ps reads.outcomes) (head_readings cs reads.head) r
               (head_given cs reads.head m.0 r (cut_short reads.course) (cut_has reads.course has) reads.head_is m.1 m.2)
         ]))
 
-pub copy_has_shape : (copy : List ℕ) (read : ReadCopy) → CopyReads copy read → HasShape read.partial.shape copy
-copy_has_shape copy read reads =
-    (reads.course, reads.is_course, reads.framed ∙ ap (λ (p : PartialPicture). some_shape p.shape) (sym reads.partial_is))
+-- what was read of a copy is what the copy gives
+pub copy_gives : (copy : List ℕ) → AllByRecursion (λ b. b < 256) copy → (read : ReadCopy) → CopyReads copy read → (r : Reading)
+    → (set.contains read.partial.readings r ≡ true) ↔ GivesReading copy r
+copy_gives copy low read reads r =
+    let by_course = course_gives copy low read reads r in
+    let by_copy = readings_are_of_the_course copy reads.course read.partial.shape r low reads.is_course (frame_is copy read reads) in
+    (λ h. by_copy.1 (by_course.0 h), λ g. by_course.1 (by_copy.0 g))
+
+pub copy_has_shape : (copy : List ℕ) → AllByRecursion (λ b. b < 256) copy → (read : ReadCopy) → CopyReads copy read
+    → HasShape read.partial.shape copy
+copy_has_shape copy low read reads = (_, course_has_scans copy reads.course read.partial.shape low reads.is_course (frame_is copy read reads))

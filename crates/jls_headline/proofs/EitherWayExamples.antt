@@ -1,48 +1,51 @@
 -- Each statement that the headline names holds of something here and of something else doesn't: so none is always true or always false.
 -- Those with an example of each kind beside their copies (`TwoLineExamples`, `HeadExamples`, `PremiseExamples`) are not repeated.
-use Rattle.std.proofs.Common.{◌≡◌, ℕ, zero, suc, ◌<◌, ◌≤◌, true, false, List, [], ◌∷◌, Option, Some, None, refl, sym, ap, subst, ◌∙◌, lit<, lit≤, arith}
+use Rattle.std.proofs.Common.{◌≡◌, ℕ, zero, suc, ◌≤◌, true, false, List, [], ◌∷◌, length, Option, Some, None, refl, sym, ap, subst, ◌∙◌, lit<, lit≤, arith, inl}
 use Rattle.std.specs.Prelude.{get_or, All}
 use Rattle.std.specs.List.{AllByRecursion, Contains}
 use Rattle.jls_values.specs.OrderedSet as set
 use Rattle.jls_values.specs.OrderedSetLaws.{contains-empty}
 use Rattle.jls_values.specs.Shape.{PictureShape}
-use Rattle.jls_interval.proofs.PiecesReadOnce.{reads_once}
 use Rattle.jls_partial.specs.Reading.{Reading, reading_of, reading_cmp}
 use Rattle.jls_partial.specs.Partial.{PartialPicture, without_sources, nothing_known}
-use Rattle.jls_copy.specs.Course.{by_input, by_marker, Course}
-use Rattle.jls_copy.proofs.OneCourse.{one_course}
 use Rattle.jls_picture.specs.Options.{OptionsFit}
 use Rattle.jls_file_law.specs.Covering.{IsLineOf}
-use Rattle.jls_headline.specs.PictureLines.{placed_in_interval, picture_reading}
-use Rattle.jls_headline.specs.Gives.{GivesReading}
-use Rattle.jls_headline.specs.Damaged.{ReadsAsPicture, PiecesAre, last_number, WhereCutOff, Damaged}
-use Rattle.jls_headline.specs.Survives.{SomePieceIs, HasLine, Survives, EachLineSurvives}
-use Rattle.jls_headline.specs.Stations.{ReadingsOf, HasShape, AreCopies, HoldsExactly, HasReadingsOf, began, Took, TookInTheEnd, IsSameCopy, AreAmong, SameCopies}
+use Rattle.jls_marker.specs.Scan.{first_row}
+use Rattle.jls_copy.specs.Numbers.{Interval, numbers_behind}
+use Rattle.jls_copy.specs.Pieces.{placed}
+use Rattle.jls_copy_law.specs.Gives.{ScanGives, GivesReading}
+use Rattle.jls_copy_law.proofs.CopyScans.{one_list_of_scans}
+use Rattle.jls_headline.specs.Damaged.{AreNumbers, numbered_pieces, HasPictureLines, DamagedScan, Damaged, SurvivesInScan, picture_reading, Survives, EachLineSurvives}
+use Rattle.jls_headline.specs.Stations.{ReadingsOf, HasShape, HoldsExactly, began, Took, TookInTheEnd, IsSameCopy, AreAmong, SameCopies}
 use Rattle.jls_headline.specs.ReadsAs.{GivesPicture, ReadsAs, ReadsAsOnly, FilesReadAs}
 use Rattle.jls_headline.specs.HeadlineLaws.{SayTheSame}
 use Rattle.jls_headline.specs.SourceLaws.{sourced_copy}
-use Rattle.jls_headline.specs.Sources.{copies_of, GivesUnder, SourcesOf, HoldsExactlyUnder, TookUnder, AreAmongUnder, TookInTheEndUnder, SameCopiesUnder}
-use Rattle.jls_headline.proofs.Members.{is_first, none_in, all_at}
+use Rattle.jls_headline.specs.Sources.{copies_of, GivesUnder, SourcesOf, HoldsExactlyUnder, TookUnder, IsSameUnder, TookInTheEndUnder, SameCopiesUnder}
+use Rattle.jls_copy_law.proofs.Members.{is_first, none_in, all_at}
 use Rattle.jls_headline.proofs.Held.{made_holds}
-use Rattle.jls_headline.proofs.ScansInRange.{same_frame}
 use Rattle.jls_headline.proofs.LostIntervals.{damaged_copies_give_no_other, surviving_lines_are_given}
 use Rattle.jls_headline.proofs.SameCopies.{same_copy_gives}
+use Rattle.jls_headline.proofs.ScanNumbers.{numbered_pieces_give}
 use Rattle.jls_headline.proofs.Stations.{took_holds}
 use Rattle.jls_headline.proofs.SourcedStations.{took_holds_under}
 use Rattle.jls_headline.proofs.StationCalls.{holds_none, new_station_took_nothing_under}
 use Rattle.jls_headline.proofs.StationPictures.{damaged_copies_give_the_picture}
-use Rattle.jls_headline.proofs.FileExamples.{options, options_fit, are_parameters}
+use Rattle.jls_headline.proofs.FileExamples.{options, options_fit}
 use Rattle.jls_headline.proofs.PremiseExamples.{longer, same_lines, longer_is_another, taller, shapes_differ, known}
 use Rattle.jls_headline.proofs.SameCopyExamples.{taken, taken_under}
-use Rattle.jls_headline.proofs.TwoLineExamples.{shape, bits_8, plan, pic, is_picture, first, second, third, first_course, second_course, course_with, lost_first, pieces_read, bytes_of_test, both_are_damaged, line_0, line_1, each_line_survives, third_gives_another, another_is_not_of_it, line_1_is_lost}
+use Rattle.jls_headline.proofs.TwoLineCopies.{shape, parameters_8, plan, pic, is_picture, first, second, third, piece_of, first_data, second_data, third_data, first_scans, second_scans, pieces_read}
+use Rattle.jls_headline.proofs.TwoLineExamples.{both_are_damaged, line_0, line_1, each_line_survives, third_gives_another, another_is_not_of_it, line_1_is_lost}
 
 -- Values ---------------------------------------------------------------------------------------------------------
 
-last_of_three : last_number 0 (8 ∷ 9 ∷ []) ≡ 9
-last_of_three = refl
-
-line_of_interval_1 : placed_in_interval plan 1 ((255 ∷ []) ∷ []) ≡ reading_of 0 1 (255 ∷ []) ∷ []
+line_of_interval_1 : placed (0 ∷ []) (first_row plan 1) 0 ((255 ∷ []) ∷ []) ≡ reading_of 0 1 (255 ∷ []) ∷ []
 line_of_interval_1 = refl
+
+numbers_of_marks : numbers_behind 10 0 (7 ∷ 0 ∷ []) ≡ Interval 8 ∷ Interval 9 ∷ []
+numbers_of_marks = refl
+
+with_its_number : numbered_pieces third_data [] ≡ (0, piece_of (0x50 ∷ [])) ∷ []
+with_its_number = refl
 
 reading_of_line_1 : picture_reading pic 0 1 ≡ reading_of 0 1 (255 ∷ [])
 reading_of_line_1 = refl
@@ -56,36 +59,44 @@ copies_alone = refl
 abbrev one : Reading
 one = reading_of 0 0 (1 ∷ [])
 
-other_lines : ReadsAsPicture pic plan 0 (0x50 ∷ []) → ⊥
-other_lines reads =
-    (let e = ap (λ (lines : List (List ℕ)). get_or (get_or lines 0 []) 0 0) (reads_once bits_8 are_parameters 1 1 1 (lit< tt) (0x50 ∷ []) _ _ pieces_read.one_read reads) in omega (arith, e))
+-- the piece of the third copy has it, and no line of the picture
+has_no_line_of_the_picture : HasPictureLines pic plan (0, piece_of (0x50 ∷ [])) → ⊥
+has_no_line_of_the_picture has =
+    (let e = ap (λ (lines : List (List ℕ)). get_or (get_or lines 0 []) 0 0) (has ((1 ∷ []) ∷ []) (inl pieces_read.one_read)) in omega (arith, e))
 
--- a number without a piece
-one_piece_too_few : PiecesAre (λ k bytes. Unit {0}) 0 [] [] (1 ∷ []) → ⊥
-one_piece_too_few none = none
+no_numbers : AreNumbers third_data []
+no_numbers = record { rise = tt; marks_are = refl }
 
-where_cut_off : WhereCutOff (by_input 0) ⊥ → ⊥
-where_cut_off none = none
+-- a number without a mark
+one_mark_too_few : AreNumbers third_data (1 ∷ []) → ⊥
+one_mark_too_few are = (let e = ap length are.marks_are in omega (arith, e))
 
-where_not_cut_off : WhereCutOff by_marker ⊥
-where_not_cut_off = tt
+third_scan_gives : ScanGives third_data one
+third_scan_gives = (0, piece_of (0x50 ∷ []), (0, lit< tt, refl), ((1 ∷ []) ∷ [], inl pieces_read.one_read, (0, lit< tt, refl)))
 
-no_piece_is : SomePieceIs (λ k bytes. ⊥) 0 [] [] [] → ⊥
-no_piece_is none = none
+third_scan_survives : SurvivesInScan third_data one
+third_scan_survives = ([], no_numbers, 0, piece_of (0x50 ∷ []), (0, lit< tt, refl), ((1 ∷ []) ∷ [], inl pieces_read.one_read, (0, lit< tt, refl)))
 
-interval_0_has_not : HasLine plan 0 1 0 → ⊥
-interval_0_has_not has = omega (arith, has.1.1)
+first_scan_is_damaged : DamagedScan pic first_data
+first_scan_is_damaged =
+    let damaged = (both_are_damaged []).0 in
+    let same = (one_list_of_scans first shape shape damaged.0 (first_data ∷ []) damaged.1 first_scans).1 in
+    (subst (AllByRecursion (DamagedScan pic)) same damaged.2).0
+
+third_scan_is_not_damaged : DamagedScan pic third_data → ⊥
+third_scan_is_not_damaged ([], are, each) = has_no_line_of_the_picture each.0
+third_scan_is_not_damaged (number ∷ numbers, are, each) = (let e = ap length are.marks_are in omega (arith, e))
 
 -- Copies ---------------------------------------------------------------------------------------------------------
 
 -- the first copy gives no line but the picture's, and the third does
 first_gives_no_other : GivesReading first one → ⊥
 first_gives_no_other gives =
-    another_is_not_of_it (damaged_copies_give_no_other pic first (bytes_of_test first refl) (both_are_damaged []).0 one gives)
+    another_is_not_of_it (damaged_copies_give_no_other pic first (both_are_damaged []).0 one gives)
 
 third_is_not_damaged : Damaged pic third → ⊥
 third_is_not_damaged damaged =
-    another_is_not_of_it (damaged_copies_give_no_other pic third (bytes_of_test third refl) damaged one third_gives_another)
+    another_is_not_of_it (damaged_copies_give_no_other pic third damaged one third_gives_another)
 
 one_copy_has_not_each : EachLineSurvives pic (first ∷ []) → ⊥
 one_copy_has_not_each each = of_copy (each 0 1 (lit< tt) (lit< tt)).0 (each 0 1 (lit< tt) (lit< tt)).1 (each 0 1 (lit< tt) (lit< tt)).2
@@ -100,24 +111,26 @@ third_gives = (third, is_first third [], third_gives_another)
 none_gives : ReadingsOf [] one → ⊥
 none_gives gives = none_in gives.0 gives.1
 
+-- so neither its scan nor any other of the first copy has that line
+first_scan_gives_not : ScanGives first_data one → ⊥
+first_scan_gives_not gives = first_gives_no_other (shape, first_data ∷ [], first_scans, first_data, (0, lit< tt, refl), gives)
+
+first_scan_survives_not : SurvivesInScan first_data one → ⊥
+first_scan_survives_not (numbers, are, k, piece, c, gives) =
+    first_scan_gives_not ((numbered_pieces_give first_data numbers are one).1 (k, piece, c, gives))
+
 first_has_shape : HasShape shape first
-first_has_shape = (course_with [] (0x80 ∷ []) 32, first_course, refl)
+first_has_shape = (first_data ∷ [], first_scans)
 
 first_is_not_taller : HasShape taller first → ⊥
-first_is_not_taller (c, is, framed) =
-    (let same = subst (λ (d : Course). d.headers.frame ≡ Some taller) (one_course first c (course_with [] (0x80 ∷ []) 32) is first_course) framed in
-    let n = ap (λ (s : PictureShape). s.height) (same_frame shape taller same) in omega (arith, n))
-
-are_copies : AreCopies shape (first ∷ [])
-are_copies = ((bytes_of_test first refl, first_has_shape), tt)
-
-are_not_taller : AreCopies taller (first ∷ []) → ⊥
-are_not_taller are = first_is_not_taller are.0.1
+first_is_not_taller (scans, has) =
+    (let same = (one_list_of_scans first shape taller (first_data ∷ []) scans first_scans has).0 in
+    let n = ap (λ (s : PictureShape). s.height) same in omega (arith, n))
 
 is_not_first : IsSameCopy third first → ⊥
 is_not_first same = first_gives_no_other (same_copy_gives third first one same third_gives_another)
 
-not_among_none : AreAmong (third ∷ []) [] → ⊥
+not_among_none : AreAmong IsSameCopy (third ∷ []) [] → ⊥
 not_among_none among = (let found = among third (is_first third []) in none_in found.0 found.1)
 
 not_the_same : SameCopies (third ∷ []) [] → ⊥
@@ -131,12 +144,6 @@ holds_no_copies = holds_none known refl
 holds_not_third : HoldsExactly known (third ∷ []) → ⊥
 holds_not_third holds =
     (let none : false ≡ true = sym (contains-empty reading_cmp one) ∙ (holds.readings one).1 third_gives in cc)
-
-has_its_own : HasReadingsOf known known
-has_its_own = (refl, refl)
-
-has_not_its_shape : HasReadingsOf known (nothing_known taller) → ⊥
-has_not_its_shape has = (let n = ap (λ (s : PictureShape). s.height) has.0 in omega (arith, n))
 
 took_nothing : Took known [] []
 took_nothing = began known [] holds_no_copies
@@ -184,17 +191,13 @@ listed zero (suc zero) samples is = (1, lit< tt, ap (reading_of 0 1) (sym is.2))
 listed zero (suc (suc line)) samples (c, l, e) = absurd (omega (arith, l))
 listed (suc component) line samples (c, l, e) = absurd (omega (arith, c))
 
-are_bytes : AllByRecursion (λ copy. AllByRecursion (λ b. b < 256) copy) both
-are_bytes = (bytes_of_test first refl, (bytes_of_test second refl, tt))
-
 line_of_picture : (r : Reading) → ReadingsOf both r → IsLineOf pic r
 line_of_picture r (copy, found, gives) =
-    damaged_copies_give_no_other pic copy (all_at (λ (c : List ℕ). AllByRecursion (λ b. b < 256) c) both copy are_bytes found)
-    (all_at (Damaged pic) both copy (both_are_damaged []) found) r gives
+    damaged_copies_give_no_other pic copy (all_at (Damaged pic) both copy (both_are_damaged []) found) r gives
 
 holds_both : HoldsExactly held both
 holds_both = record {
-  are_copies = ((bytes_of_test first refl, first_has_shape), ((bytes_of_test second refl, (course_with (lost_first ∷ []) (0x40 ∷ []) 34, second_course, refl)), tt));
+  are_copies = (first_has_shape, ((second_data ∷ [], second_scans), tt));
   readings = λ r. (
     λ h. given r ((made_holds lines r).0 h),
     λ g. (made_holds lines r).1 (listed r.component r.line r.samples (line_of_picture r g)),
@@ -222,7 +225,7 @@ fits_longer = record {
 
 files_read_not_as_another : FilesReadAs held longer → ⊥
 files_read_not_as_another files =
-    longer_is_another ((files options are_parameters (lit< tt) fits_longer).no_other pic is_picture (files_read_as_it options are_parameters (lit< tt) options_fit).reads)
+    longer_is_another ((files options parameters_8 (lit< tt) fits_longer).no_other pic is_picture (files_read_as_it options parameters_8 (lit< tt) options_fit).reads)
 
 -- Under sources --------------------------------------------------------------------------------------------------
 
@@ -230,14 +233,17 @@ abbrev number_or_none : Option ℕ → ℕ
 number_or_none None = 0
 number_or_none (Some n) = n
 
-gives_under_1 : GivesUnder (sourced_copy (Some 1) third) one 1
-gives_under_1 = (refl, third_gives_another)
+source_1 : SourcesOf (sourced_copy (Some 1) third ∷ []) one 1
+source_1 = (sourced_copy (Some 1) third, is_first (sourced_copy (Some 1) third) [], (refl, third_gives_another))
 
 gives_not_under_2 : GivesUnder (sourced_copy (Some 1) third) one 2 → ⊥
 gives_not_under_2 gives = (let n : 1 ≡ 2 = ap number_or_none gives.0 in omega (arith, n))
 
-source_1 : SourcesOf (sourced_copy (Some 1) third ∷ []) one 1
-source_1 = (sourced_copy (Some 1) third, is_first (sourced_copy (Some 1) third) [], gives_under_1)
+same_under_itself : IsSameUnder (sourced_copy (Some 1) third) (sourced_copy (Some 1) third)
+same_under_itself = (refl, inl refl)
+
+not_under_another : IsSameUnder (sourced_copy (Some 1) third) (sourced_copy (Some 2) third) → ⊥
+not_under_another same = (let n : 1 ≡ 2 = ap number_or_none same.0 in omega (arith, n))
 
 no_source : SourcesOf [] one 1 → ⊥
 no_source sources = none_in sources.0 sources.1
@@ -260,7 +266,7 @@ took_not_third_in_the_end_under took = holds_not_third_under (took_holds_under k
 took_not_third_under : TookUnder known (sourced_copy None third ∷ []) [] → ⊥
 took_not_third_under took = took_not_third_in_the_end_under ([], took, λ copy c. absurd (none_in copy c))
 
-not_among_none_under : AreAmongUnder (sourced_copy None third ∷ []) [] → ⊥
+not_among_none_under : AreAmong IsSameUnder (sourced_copy None third ∷ []) [] → ⊥
 not_among_none_under among =
     (let found = among (sourced_copy None third) (is_first (sourced_copy None third) []) in none_in found.0 found.1)
 

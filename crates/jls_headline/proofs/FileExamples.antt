@@ -2,7 +2,7 @@
 use Rattle.std.proofs.Common.{◌≡◌, ℕ, zero, suc, ◌<◌, ◌≤◌, false, List, [], ◌∷◌, refl, subst, arith, lit≤, lit<}
 use Rattle.std.specs.Prelude.{All}
 use Rattle.jls_values.specs.OrderedSet as set
-use Rattle.jls_values.specs.Params.{AreCodingParameters, least_from}
+use Rattle.jls_values.specs.Params.{least_from}
 use Rattle.jls_bits.specs.Bits.{bits, value_of_bits, width_after}
 use Rattle.jls_bits.specs.Golomb.{golomb}
 use Rattle.jls_bits.specs.Pad.{pad_after}
@@ -23,25 +23,12 @@ use Rattle.jls_picture.specs.Options.{WriteOptions, OptionsFit}
 use Rattle.jls_file.specs.WrittenFile.{written_file}
 use Rattle.jls_headline.specs.ReadsAs.{ReadsAsOnly}
 use Rattle.jls_headline.proofs.WrittenFiles.{files_read_back}
-use Rattle.jls_headline.proofs.TwoLineExamples.{shape, pic, is_picture, bits_8, first, second, picture_comes_back}
+use Rattle.jls_headline.proofs.TwoLineCopies.{shape, pic, is_picture, bits_8, parameters_8, first, second}
+use Rattle.jls_headline.proofs.TwoLineExamples.{picture_comes_back}
 
 -- a scan of one component with the defaults of 8 bits, and a restart marker behind each row but the last
 abbrev pub options : WriteOptions
 options = record { line = false; restart_interval = 1; params = bits_8 }
-
-pub are_parameters : AreCodingParameters bits_8
-are_parameters = record {
-  precision_at_least = lit≤ tt;
-  precision_at_most = lit≤ tt;
-  maxval_at_least = lit≤ tt;
-  maxval_below = lit< tt;
-  t1_at_least = lit≤ tt;
-  t2_at_least = lit≤ tt;
-  t3_at_least = lit≤ tt;
-  t3_at_most = lit≤ tt;
-  reset_at_least = lit≤ tt;
-  reset_at_most = lit≤ tt;
-}
 
 pub one_sample : (sample : ℕ) → sample ≤ 255 → All (λ x. x ≤ 255) (sample ∷ [])
 one_sample sample h zero d l = h
@@ -72,9 +59,9 @@ written = record { bytes_are = refl }
 pub file_reads : ReadsAsOnly file pic
 file_reads =
     subst (λ (bytes : List ℕ). ReadsAsOnly bytes pic) written.bytes_are
-    (files_read_back pic is_picture options are_parameters (lit< tt) options_fit)
+    (files_read_back pic is_picture options parameters_8 (lit< tt) options_fit)
 
 -- and that of a new station that took both copies reads as the picture
 file_comes_back : (p : PartialPicture) (a b : ReadCopy) → p.shape ≡ shape → p.readings ≡ set.empty → CopyReads first a → CopyReads second b
     → ReadsAsOnly (written_file (picture_of (union (union p b.partial) a.partial)) options) pic
-file_comes_back p a b e new ra rb = (picture_comes_back p a b e new ra rb).1 options are_parameters (lit< tt) options_fit
+file_comes_back p a b e new ra rb = (picture_comes_back p a b e new ra rb).1 options parameters_8 (lit< tt) options_fit

@@ -1,5 +1,5 @@
 -- A line that survives in the head of the piece that the input's end cuts off, and what else that head gives, which is nothing.
-use Rattle.std.proofs.Common.{◌≡◌, ℕ, false, List, [], ◌∷◌, replicate, Some, refl, ap, lit<, lit≤, arith, inr}
+use Rattle.std.proofs.Common.{◌≡◌, ℕ, true, false, List, [], ◌∷◌, replicate, Some, refl, ap, lit<, lit≤, arith, inr}
 use Rattle.std.specs.Prelude.{get_or}
 use Rattle.jls_values.specs.Params.{least_from}
 use Rattle.jls_bits.specs.Bits.{bits, width_after, bits_read_after, ends_data, is_whole_after}
@@ -23,15 +23,15 @@ use Rattle.jls_marker.specs.Headers.{headers_after}
 use Rattle.jls_copy.specs.Course.{by_input, CopyUnit, segment, scan, Course, IsCourse, with_soi, with_the_input}
 use Rattle.jls_copy.specs.declared.end.End.TheVariants.{Input}
 use Rattle.jls_picture.specs.Picture.{WholePicture}
-use Rattle.jls_headline.specs.Damaged.{Damaged}
-use Rattle.jls_headline.specs.Gives.{GivesReading}
-use Rattle.jls_headline.specs.PictureLines.{picture_reading}
-use Rattle.jls_headline.specs.Survives.{Survives}
+use Rattle.jls_copy_law.specs.CopyScans.{ScanPiece, ScanWithData, HasScans}
+use Rattle.jls_copy_law.specs.Gives.{GivesReading}
+use Rattle.jls_copy_law.proofs.CopyScans.{course_has_scans}
+use Rattle.jls_headline.specs.Damaged.{Damaged, picture_reading, Survives}
 use Rattle.jls_headline.specs.Trimmed.{front, TrimmedCopy}
 use Rattle.jls_headline.proofs.LostIntervals.{damaged_copies_give_no_other, surviving_lines_are_given}
 use Rattle.jls_headline.proofs.Trims.{trimmed_copies_are_damaged}
 use Rattle.jls_headline.proofs.PremiseExamples.{both_lines, another_head}
-use Rattle.jls_headline.proofs.TwoLineExamples.{shape, bits_8, frame_payload, scan_payload, bytes_of_test}
+use Rattle.jls_headline.proofs.TwoLineCopies.{shape, bits_8, frame_payload, scan_payload, bytes_of_test}
 
 -- a column of the samples 1 and 9, in one interval
 abbrev pic : WholePicture
@@ -66,16 +66,32 @@ is_course =
       (final, [], refl, ((refl, lit< tt), refl, tt, (λ (h : 0x50 ≡ 0xFF). omega (arith, h)), refl), (refl, with_the_input final 26)),
     )
 
+-- so it has one scan, of one piece that is cut off
+abbrev piece : ScanPiece
+piece = record { bytes = 0x50 ∷ []; ended_by_input = true }
+
+abbrev scan_data : ScanWithData
+scan_data = record { scan = both_lines; marks = []; pieces = piece ∷ [] }
+
+scans : HasScans copy shape (scan_data ∷ [])
+scans = course_has_scans copy course shape (bytes_of_test copy refl) is_course refl
+
 -- the piece reads as no lines, and its head is the first line
 line_0 : Survives pic copy 0 0
-line_0 = record {
-  course = course;
-  is_course = is_course;
-  framed = refl;
-  unit = scan 0 0xDA scan_payload both_lines [] (0x50 ∷ []) (by_input 0);
-  among = (1, lit< tt, refl);
-  there = record { numbers = []; rise = tt; marks = tt; there = inr ((1 ∷ []) ∷ [], another_head, (0, lit< tt, refl)) };
-}
+line_0 = (
+  scan_data ∷ [],
+  scans,
+  scan_data,
+  (0, lit< tt, refl),
+  (
+    [],
+    record { rise = tt; marks_are = refl },
+    0,
+    piece,
+    (0, lit< tt, refl),
+    ((1 ∷ []) ∷ [], inr (refl, another_head), (0, lit< tt, refl)),
+  ),
+)
 
 -- so the copy gives it
 line_0_is_given : GivesReading copy (picture_reading pic 0 0)
@@ -98,18 +114,22 @@ both = record {
 
 is_trimmed : TrimmedCopy pic copy
 is_trimmed = (
-  course,
-  is_course,
-  record {
-    framed = refl;
-    units = (tt, (record { numbers = []; rise = tt; pieces_are = record { bytes = 0x50 ∷ 0x80 ∷ []; reads = both.both_read; trimmed = front (0x50 ∷ []) (0x80 ∷ []) } }, tt));
-  },
+  scan_data ∷ [],
+  scans,
+  (
+    (
+      [],
+      record { rise = tt; marks_are = refl },
+      (record { bytes = 0x50 ∷ 0x80 ∷ []; reads = both.both_read; trimmed = front (0x50 ∷ []) (0x80 ∷ []) }, tt),
+    ),
+    tt,
+  ),
 )
 
 is_damaged : Damaged pic copy
-is_damaged = trimmed_copies_are_damaged pic copy (bytes_of_test copy refl) is_trimmed
+is_damaged = trimmed_copies_are_damaged pic copy is_trimmed
 
 no_other_is_given : GivesReading copy (reading_of 0 1 (7 ∷ [])) → ⊥
 no_other_is_given gives =
-    (let is = damaged_copies_give_no_other pic copy (bytes_of_test copy refl) is_damaged (reading_of 0 1 (7 ∷ [])) gives in
+    (let is = damaged_copies_give_no_other pic copy is_damaged (reading_of 0 1 (7 ∷ [])) gives in
     let e = ap (λ (xs : List ℕ). get_or xs 0 0) is.2 in omega (arith, e))

@@ -34,21 +34,21 @@ use Rattle.jls_commands.specs.WritingFiles.{done}
 use Rattle.jls_commands.specs.declared.writing.Format.TheVariants.{Pnm}
 use Rattle.jls_headline.specs.JoinThenWrite.{JoinsDamagedCopies, JoinsForDamagedCopies, WritesWhatWasJoined}
 use Rattle.jls_headline.specs.NoOtherLaws.{SomeInputHasEachLine}
-use Rattle.jls_headline.specs.PictureLines.{picture_reading}
+use Rattle.jls_headline.specs.Damaged.{picture_reading, Survives}
 use Rattle.jls_headline.specs.ReadsAs.{GivesPicture}
 use Rattle.jls_headline.specs.RunLaws.{InputStandsFor, InputStandsUnder}
 use Rattle.jls_headline.specs.SourceLaws.{sourced_copy}
-use Rattle.jls_headline.specs.Sources.{HoldsExactlyUnder, began_under, TookInTheEndUnder}
+use Rattle.jls_headline.specs.Sources.{HoldsExactlyUnder, TookInTheEndUnder}
 use Rattle.jls_headline.specs.Stations.{HoldsExactly, began, TookInTheEnd}
 use Rattle.jls_headline.proofs.JoinThenWrite.{text_of_copies}
 use Rattle.jls_headline.proofs.LostIntervals.{surviving_lines_are_given}
-use Rattle.jls_headline.specs.Survives.{Survives}
 use Rattle.jls_headline.proofs.Held.{is_at_line, or_first, or_second}
-use Rattle.jls_headline.proofs.Members.{in_rest, is_first, none_in}
+use Rattle.jls_copy_law.proofs.Members.{in_rest, is_first, none_in}
 use Rattle.jls_headline.proofs.SourcedStations.{copy_holds_under, union_holds_under}
 use Rattle.jls_headline.proofs.StationPictures.{damaged_copies_give_the_picture}
 use Rattle.jls_headline.proofs.Stations.{copy_holds, union_holds}
-use Rattle.jls_headline.proofs.TwoLineExamples.{shape, pic, is_picture, first, second, first_course, second_course, course_with, lost_first, bytes_of_test, shape_read, both_are_damaged, line_0, line_1, each_line_survives}
+use Rattle.jls_headline.proofs.TwoLineCopies.{shape, pic, is_picture, first, second, first_course, second_course, course_with, lost_first, bytes_of_test, first_data, second_data, first_scans, second_scans}
+use Rattle.jls_headline.proofs.TwoLineExamples.{shape_read, both_are_damaged, line_0, line_1, each_line_survives}
 
 -- One input that is a copy ---------------------------------------------------------------------------------------
 
@@ -96,18 +96,18 @@ module _ (a b : ReadCopy) (ra : CopyReads first a) (rb : CopyReads second b) whe
   both = union a.partial b.partial
 
   first_shape : a.partial.shape ≡ shape
-  first_shape = shape_read first (course_with [] (0x80 ∷ []) 32) a first_course refl ra
+  first_shape = shape_read first (first_data ∷ []) a first_scans ra
 
   second_shape : b.partial.shape ≡ shape
-  second_shape = shape_read second (course_with (lost_first ∷ []) (0x40 ∷ []) 34) b second_course refl rb
+  second_shape = shape_read second (second_data ∷ []) b second_scans rb
 
   one_shape : has_same_shape a.partial b.partial ≡ true
   one_shape = subst (λ (s : PictureShape). same_shape a.partial.shape s ≡ true) (first_shape ∙ sym second_shape) (shape_itself a.partial.shape)
 
   holds_both : HoldsExactly both (first ∷ second ∷ [])
   holds_both =
-      union_holds a.partial b.partial (first ∷ []) (second ∷ []) (copy_holds a.partial first a (bytes_of_test first refl) ra (refl, refl))
-      (copy_holds b.partial second b (bytes_of_test second refl) rb (refl, refl)) (second_shape ∙ sym first_shape)
+      union_holds a.partial b.partial (first ∷ []) (second ∷ []) (copy_holds a.partial first a (bytes_of_test first refl) ra refl refl)
+      (copy_holds b.partial second b (bytes_of_test second refl) rb refl refl) (second_shape ∙ sym first_shape)
 
   took_both : TookInTheEnd both (first ∷ second ∷ [])
   took_both = ([], began both (first ∷ second ∷ []) holds_both, λ copy c. absurd (none_in copy c))
@@ -192,7 +192,7 @@ module _ (a b : ReadCopy) (ra : CopyReads first a) (rb : CopyReads second b) whe
 
   took_both_under : TookInTheEndUnder both (sourced_copy None first ∷ sourced_copy None second ∷ [])
   took_both_under =
-      ([], began_under both (sourced_copy None first ∷ sourced_copy None second ∷ []) holds_both_under, λ copy c. absurd (none_in copy c))
+      ([], began both (sourced_copy None first ∷ sourced_copy None second ∷ []) holds_both_under, λ copy c. absurd (none_in copy c))
 
   stands_under_none : (source : Option ℕ) → InputStandsUnder source (text both) (sourced_copy None first ∷ sourced_copy None second ∷ [])
   stands_under_none source = inr (both, text_is, holds_both_under)
@@ -228,12 +228,12 @@ module _ (a b : ReadCopy) (ra : CopyReads first a) (rb : CopyReads second b) whe
   each_is_held zero c zero l = (
     a.partial,
     is_first a.partial (b.partial ∷ []),
-    has_line a.partial first 0 (copy_holds a.partial first a (bytes_of_test first refl) ra (refl, refl)) (line_0 []),
+    has_line a.partial first 0 (copy_holds a.partial first a (bytes_of_test first refl) ra refl refl) (line_0 []),
   )
   each_is_held zero c (suc zero) l = (
     b.partial,
     in_rest b.partial a.partial (b.partial ∷ []) (is_first b.partial []),
-    has_line b.partial second 1 (copy_holds b.partial second b (bytes_of_test second refl) rb (refl, refl)) (line_1 []),
+    has_line b.partial second 1 (copy_holds b.partial second b (bytes_of_test second refl) rb refl refl) (line_1 []),
   )
   each_is_held zero c (suc (suc line)) l = (let h = ap (λ (s : PictureShape). s.height) first_shape in absurd (omega (arith, h, l)))
   each_is_held (suc component) c line l = (let h = ap (λ (s : PictureShape). length s.ids) first_shape in absurd (omega (arith, h, c)))

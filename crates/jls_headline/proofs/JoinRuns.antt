@@ -1,6 +1,6 @@
 -- Whole runs of `join` whose inputs are copies.
-use Rattle.std.proofs.Common.{◌≡◌, ℕ, zero, suc, ◌<◌, true, false, Bool, List, [], ◌∷◌, ◌++◌, map, Option, Some, refl, sym, ap, ◌∙◌, subst, append_assoc, inl, inr}
-use Rattle.std.specs.List.{AllByRecursion, Contains}
+use Rattle.std.proofs.Common.{◌≡◌, ℕ, zero, suc, true, false, Bool, List, [], ◌∷◌, ◌++◌, map, Option, Some, refl, sym, ap, ◌∙◌, subst, append_assoc, inl, inr}
+use Rattle.std.specs.List.{Contains}
 use Rattle.std.proofs.lemmas.List.{append-nil}
 use Rattle.jls_values.specs.OrderedSet as set
 use Rattle.jls_values.specs.Join.{join_all, AllOfShape}
@@ -10,8 +10,9 @@ use Rattle.jls_partial.specs.Partial.{PartialPicture, has_same_shape, union}
 use Rattle.jls_partial.specs.PartialLaws.{one_shape}
 use Rattle.jls_partial.specs.Text.{text}
 use Rattle.jls_partial.proofs.TextLaws.{one_text}
-use Rattle.jls_copy.specs.Course.{Course, IsCourse, with_soi, with_another_marker, with_no_marker, with_fill_alone}
-use Rattle.jls_copy.proofs.OneCourse.{one_course}
+use Rattle.jls_copy.specs.ScanData.{fill_bytes}
+use Rattle.jls_copy_law.specs.CopyScans.{ScanWithData, HasScans}
+use Rattle.jls_copy_law.proofs.CopyScans.{one_list_of_scans}
 use Rattle.jls_device.specs.Event.{Event}
 use Rattle.jls_station.specs.Given.{Given, marked, Gives, by_text, by_copy, GivesPartial}
 use Rattle.jls_station.specs.Texts.{is_text}
@@ -21,12 +22,11 @@ use Rattle.jls_commands.specs.Joining.{JoinIsDone}
 use Rattle.jls_commands.specs.Laws.{input_bytes}
 use Rattle.jls_headline.specs.Damaged.{Damaged}
 use Rattle.jls_headline.specs.Stations.{HasShape, HoldsExactly, began, IsSameCopy, AreAmong, TookInTheEnd}
-use Rattle.jls_headline.specs.Sources.{SourcedCopy, HoldsExactlyUnder, AreAmongUnder}
+use Rattle.jls_headline.specs.Sources.{SourcedCopy, HoldsExactlyUnder, IsSameUnder}
 use Rattle.jls_headline.specs.SourceLaws.{sourced_copy}
 use Rattle.jls_headline.specs.RunLaws.{AreNoTexts, InputStandsFor, InputsStand, InputsStandFor, InputStandsUnder, InputsStandUnder, RunsHoldExactly, RunsWithTextsHoldExactly, RunsSayTheSame, RunsWithTextsSayTheSame, RunsGiveThePicture, RunsWithTextsGiveThePicture, RunsHoldExactlyUnder, RunsUnderSourcesHandOutTheSame}
 use Rattle.jls_partial.specs.Reading.{Reading}
-use Rattle.jls_headline.proofs.Members.{is_first, none_in, all_at, all_map, in_map, of_map}
-use Rattle.jls_headline.proofs.ScansInRange.{same_frame}
+use Rattle.jls_copy_law.proofs.Members.{is_first, none_in, all_at, all_map, in_map, of_map}
 use Rattle.jls_headline.proofs.SameCopies.{same_copy_has_shape}
 use Rattle.jls_headline.proofs.Stations.{copy_holds, union_holds, same_readings}
 use Rattle.jls_headline.proofs.SourcedStations.{marked_shape, marked_readings, copy_holds_under, union_holds_under, same_under}
@@ -46,7 +46,7 @@ given_holds source bytes p low none (g, gives, e) = by g gives e
     by _ (by_text _ _ q is) e = no_text bytes none (ap is_text is.bytes_are)
     by _ (by_copy _ _ read stop copied reads) e =
         subst (λ x. HoldsExactly x (bytes ∷ [])) e
-        (copy_holds (marked source read.partial) bytes read low reads (marked_shape source read.partial, marked_readings source read.partial))
+        (copy_holds (marked source read.partial) bytes read low reads (marked_shape source read.partial) (marked_readings source read.partial))
 
 -- a text has one partial picture
 given_stands : (source : Option ℕ) (bytes : List ℕ) (p : PartialPicture) (copies : List (List ℕ)) → AreBytes bytes
@@ -146,13 +146,13 @@ took_these : (p : PartialPicture) (copies : List (List ℕ)) → HoldsExactly p 
 took_these p copies h = ([], began p copies h, λ copy c. absurd (none_in copy c))
 
 -- a copy's first marker is SOI, with fill before it
-pub framed_is_no_text : (bytes : List ℕ) (c : Course) (f : PictureShape) → IsCourse bytes c → c.headers.frame ≡ Some f
+filled_is_no_text : (fill : ℕ) (bytes : List ℕ) → is_text (fill_bytes fill ++ 0xFF ∷ 0xD8 ∷ bytes) ≡ false
+filled_is_no_text zero bytes = refl
+filled_is_no_text (suc fill) bytes = refl
+
+pub scans_are_no_text : (bytes : List ℕ) (shape : PictureShape) (scans : List ScanWithData) → HasScans bytes shape scans
     → is_text bytes ≡ false
-framed_is_no_text _ _ f (with_soi zero bytes units final e are) framed = refl
-framed_is_no_text _ _ f (with_soi (suc n) bytes units final e are) framed = refl
-framed_is_no_text _ _ f (with_another_marker n code bytes k l) framed = absurd cc
-framed_is_no_text _ _ f (with_no_marker b bytes k) framed = absurd cc
-framed_is_no_text _ _ f (with_fill_alone n) framed = absurd cc
+scans_are_no_text bytes shape scans has = ap is_text has.copy_is ∙ filled_is_no_text has.fill has.behind_soi
 
 pub runs_with_texts_give_the_picture : RunsWithTextsGiveThePicture
 runs_with_texts_give_the_picture source out names joined settled whole events h copies stand pic is damaged each =
@@ -163,7 +163,7 @@ pub runs_give_the_picture : RunsGiveThePicture
 runs_give_the_picture source out names joined settled whole events h pic is damaged each =
     let none : AreNoTexts (input_bytes events) =
     all_map (Damaged pic) (λ bytes. is_text bytes ≡ false) (input_bytes events)
-    (λ bytes d. framed_is_no_text bytes d.0 pic.shape d.1 d.2.framed) damaged in
+    (λ bytes d. scans_are_no_text bytes pic.shape d.0 d.1) damaged in
     runs_with_texts_give_the_picture source out names joined settled whole events h (input_bytes events)
     (copies_stand (input_bytes events) none) pic is damaged each
 
@@ -176,12 +176,11 @@ some_input source (p ∷ ps) joined [] given u = absurd given
 some_input source (p ∷ ps) joined (bytes ∷ inputs) given u = (bytes, is_first bytes inputs)
 
 pub one_shape_of : (bytes : List ℕ) (s t : PictureShape) → HasShape s bytes → HasShape t bytes → s ≡ t
-one_shape_of bytes s t (c, is, e) (d, is', f) =
-    same_frame s t (sym e ∙ ap (λ (k : Course). k.headers.frame) (one_course bytes c d is is') ∙ f)
+one_shape_of bytes s t (scans, has) (scans', has') = (one_list_of_scans bytes s t scans scans' has has').0
 
 shape_of_input : (p : PartialPicture) (copies : List (List ℕ)) (bytes : List ℕ) → HoldsExactly p copies → Contains copies bytes
     → HasShape p.shape bytes
-shape_of_input p copies bytes h c = (all_at (λ x. AllByRecursion (λ b. b < 256) x × HasShape p.shape x) copies bytes h.are_copies c).1
+shape_of_input p copies bytes h c = all_at (HasShape p.shape) copies bytes h.are_copies c
 
 -- the readings of copies alone have the source of the run, and no other
 pub marks_of_run : (source : Option ℕ) (out : List ℕ) (names : List (List ℕ)) (joined : PartialPicture) (settled whole : Bool)
@@ -197,15 +196,14 @@ marks_of_run source out names joined settled whole events h none r number marked
     )
 
 -- the same copies are the same under one source
-among_under : (source source' : Option ℕ) (copies others : List (List ℕ)) → source ≡ source' → AreAmong copies others
-    → AreAmongUnder (map (sourced_copy source) copies) (map (sourced_copy source') others)
+among_under : (source source' : Option ℕ) (copies others : List (List ℕ)) → source ≡ source' → AreAmong IsSameCopy copies others
+    → AreAmong IsSameUnder (map (sourced_copy source) copies) (map (sourced_copy source') others)
 among_under source source' copies others e among copy c =
     let from = of_map (sourced_copy source) copies copy c in
     let there = among from.0 from.1 in (
       sourced_copy source' there.0,
       in_map (sourced_copy source') others there.0 there.1,
-      ap (λ (x : SourcedCopy). x.source) (sym from.2) ∙ e,
-      subst (λ (x : SourcedCopy). IsSameCopy x.bytes there.0) from.2 there.2,
+      (ap (λ (x : SourcedCopy). x.source) (sym from.2) ∙ e, subst (λ (x : SourcedCopy). IsSameCopy x.bytes there.0) from.2 there.2),
     )
 
 pub runs_with_texts_say_the_same : RunsWithTextsSayTheSame

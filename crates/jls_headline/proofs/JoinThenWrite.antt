@@ -36,9 +36,9 @@ use Rattle.jls_headline.specs.Damaged.{Damaged}
 use Rattle.jls_headline.specs.ReadsAs.{GivesPicture, ReadsAsOnly}
 use Rattle.jls_headline.specs.RunLaws.{AreNoTexts}
 use Rattle.jls_headline.specs.JoinThenWrite.{JoinsDamagedCopies, JoinsForDamagedCopies, WritesWhatWasJoined, WrittenJoinsAreThePicture, WrittenJoinsReadAsThePicture, WrittenJoinsAreSettled, WrittenTextJoinsAreThePicture, WrittenTextJoinsReadAsThePicture, WrittenTextJoinsAreSettled}
-use Rattle.jls_headline.proofs.Members.{all_map}
+use Rattle.jls_copy_law.proofs.Members.{all_map}
 use Rattle.jls_commands.proofs.InputBytes.{ReadsNone, one_input, handed_out, inputs_of_join, output_of_join}
-use Rattle.jls_headline.proofs.JoinRuns.{framed_is_no_text, marks_of_run, runs_hold_exactly, runs_with_texts_hold_exactly, runs_give_the_picture, runs_with_texts_give_the_picture}
+use Rattle.jls_headline.proofs.JoinRuns.{scans_are_no_text, marks_of_run, runs_hold_exactly, runs_with_texts_hold_exactly, runs_give_the_picture, runs_with_texts_give_the_picture}
 use Rattle.jls_headline.proofs.JoinedTexts.{held_are_lines, its_text, text_given}
 use Rattle.jls_headline.proofs.InputMarks.{marks_of_inputs}
 use Rattle.jls_headline.proofs.WrittenFiles.{files_read_back}
@@ -162,7 +162,7 @@ text_of_copies pic joining j = (
     none : AreNoTexts (input_bytes joining)
     none =
         all_map (Damaged pic) (λ bytes. is_text bytes ≡ false) (input_bytes joining)
-        (λ bytes d. framed_is_no_text bytes d.0 pic.shape d.1 d.2.framed) j.damaged
+        (λ bytes d. scans_are_no_text bytes pic.shape d.0 d.1) j.damaged
 
     gives : GivesPicture j.joined pic
     gives = (runs_give_the_picture j.source j.out j.names j.joined j.settled j.whole joining j.is_done pic j.is_picture j.damaged j.each_line).0

@@ -21,10 +21,10 @@ use Rattle.jls_file_law.specs.Covering.{IsLineOf}
 use Rattle.jls_station.specs.Texts.{is_text}
 use Rattle.jls_station.specs.Given.{Given, Gives, by_text, by_copy}
 use Rattle.jls_headline.specs.Damaged.{Damaged}
-use Rattle.jls_headline.specs.Stations.{HasShape, HoldsExactly}
+use Rattle.jls_headline.specs.Stations.{HoldsExactly}
 use Rattle.jls_picture.specs.WholePictures.{IsLineIn, IsPicture}
 use Rattle.jls_headline.specs.ReadsAs.{GivesPicture}
-use Rattle.jls_headline.proofs.Members.{is_first, in_rest, all_at}
+use Rattle.jls_copy_law.proofs.Members.{is_first, in_rest, all_at}
 use Rattle.jls_headline.proofs.Held.{any_of_member}
 use Rattle.jls_headline.proofs.LostIntervals.{damaged_copies_give_no_other}
 use Rattle.jls_headline.proofs.Pictures.{heights}
@@ -97,8 +97,7 @@ pub held_are_lines : (pic : WholePicture) (p : PartialPicture) (copies : List (L
     → AllByRecursion (Damaged pic) copies → (r : Reading) → set.contains p.readings r ≡ true → IsLineOf pic r
 held_are_lines pic p copies h damaged r held =
     let from = (h.readings r).0 held in
-    let of = all_at (λ copy. AllByRecursion (λ b. b < 256) copy × HasShape p.shape copy) copies from.0 h.are_copies from.1 in
-    damaged_copies_give_no_other pic from.0 of.0 (all_at (Damaged pic) copies from.0 damaged from.1) r from.2
+    damaged_copies_give_no_other pic from.0 (all_at (Damaged pic) copies from.0 damaged from.1) r from.2
 
 module _ (pic : WholePicture) (is : IsPicture pic) (p : PartialPicture) (gives : GivesPicture p pic)
     (lines : (r : Reading) → set.contains p.readings r ≡ true → IsLineOf pic r)

@@ -1,8 +1,6 @@
-pub mod Members
-mod Numbered
+pub mod ScanNumbers
 mod Placed
-mod CutOff
-mod LostIntervals
+pub mod LostIntervals
 mod ScansInRange
 mod Trims
 mod Held
@@ -21,6 +19,7 @@ mod JoinThenWrite
 mod SettledInputs
 mod WrittenInputs
 pub mod StationCalls
+pub mod TwoLineCopies
 pub mod TwoLineExamples
 pub mod FileExamples
 mod PremiseExamples

@@ -5,14 +5,12 @@ use Rattle.std.specs.List.{AllByRecursion, range_with_len}
 use Rattle.jls_values.specs.Shape.{PictureShape}
 use Rattle.jls_partial.specs.Partial.{PartialPicture, readings_at}
 use Rattle.jls_partial.specs.Status.{status_of, IsSettled}
-use Rattle.jls_copy.specs.Course.{Course}
-use Rattle.jls_copy.proofs.OneCourse.{one_course}
 use Rattle.jls_picture.specs.Picture.{WholePicture, line_of, settled_line}
-use Rattle.jls_headline.specs.PictureLines.{picture_reading}
 use Rattle.jls_picture.specs.WholePictures.{IsComponentIn, IsPicture}
+use Rattle.jls_copy_law.proofs.CopyScans.{one_list_of_scans}
+use Rattle.jls_headline.specs.Damaged.{picture_reading}
 use Rattle.jls_headline.specs.ReadsAs.{GivesPicture}
 use Rattle.jls_headline.specs.HeadlineLaws.{FilesReadAsOne}
-use Rattle.jls_headline.proofs.ScansInRange.{same_frame}
 
 -- a list is told by its items
 listed_by : {A : Type 0} (d : A) (f : ℕ → A) (xs : List A) (from : ℕ) → ((i : ℕ) → i < length xs → f (from + i) ≡ get_or xs i d)
@@ -77,4 +75,4 @@ files_read_as_one file pic other is is' r s =
     one_picture pic other is is' e (λ c y l k. ((s.readings (picture_reading pic c y)).0 ((r.readings (picture_reading pic c y)).1 (l, k, refl))).2)
   where
     e : pic.shape ≡ other.shape
-    e = same_frame pic.shape other.shape (sym r.shape.2 ∙ ap (λ (c : Course). c.headers.frame) (one_course file r.shape.0 s.shape.0 r.shape.1 s.shape.1) ∙ s.shape.2)
+    e = (one_list_of_scans file pic.shape other.shape r.shape.0 s.shape.0 r.shape.1 s.shape.1).0

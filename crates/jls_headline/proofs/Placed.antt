@@ -11,8 +11,12 @@ use Rattle.jls_picture.specs.Picture.{WholePicture, line_of}
 use Rattle.jls_file.specs.WrittenFile.{interval_lines}
 use Rattle.jls_file_law.specs.Covering.{row_readings, IsLineOf}
 use Rattle.jls_file_law.proofs.Covering.{rows_from, placed_rows}
-use Rattle.jls_headline.specs.PictureLines.{placed_in_interval, picture_reading}
-use Rattle.jls_headline.proofs.Members.{none_in, in_rest, first_or_rest, all_at, all_append, in_map, in_flat_map}
+use Rattle.jls_headline.specs.Damaged.{picture_reading}
+use Rattle.jls_copy_law.proofs.Members.{none_in, in_rest, first_or_rest, all_at, all_append, in_map, in_flat_map}
+
+-- lines of interval k of a scan, from its first one on, as readings
+abbrev pub placed_in_interval : Scan → ℕ → List (List ℕ) → List Reading
+placed_in_interval s k lines = placed s.components (first_row s k) 0 lines
 
 module _ (pic : WholePicture) where
   -- each line of the rows is among their readings

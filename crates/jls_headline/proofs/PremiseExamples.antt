@@ -1,5 +1,5 @@
 -- What there is where a premise of the laws on stations and files is not met. `TwoLineExamples` has those on marks, refusal and survival.
-use Rattle.std.proofs.Common.{◌≡◌, ℕ, zero, suc, ◌<◌, ◌≤◌, Bool, true, false, List, [], ◌∷◌, ◌++◌, length, map, replicate, refl, sym, ap, subst, ◌∙◌, lit<, lit≤, arith, inl}
+use Rattle.std.proofs.Common.{◌≡◌, ℕ, zero, suc, ◌<◌, ◌≤◌, Bool, true, false, List, [], ◌∷◌, ◌++◌, length, map, replicate, refl, sym, ap, subst, ◌∙◌, lit<, lit≤, arith, inl, inr}
 use Rattle.std.specs.Prelude.{get_or}
 use Rattle.std.specs.List.{range_with_len}
 use Rattle.std.proofs.lemmas.List.FromFn.{length-map-range_with_len}
@@ -19,7 +19,7 @@ use Rattle.jls_interval.specs.Events.{events_from, events_after}
 use Rattle.jls_interval.specs.Cells.{cell_before, run_cell_before}
 use Rattle.jls_interval.specs.Runs.{block_columns, full_blocks, blocks, run_index_before}
 use Rattle.jls_interval.specs.Code.{event_bits, bits_of_events, code}
-use Rattle.jls_interval.specs.Heads.{BeginsWithFirst, AreWholeLines}
+use Rattle.jls_interval.specs.Heads.{BeginsWithFirst, AreWholeLines, IsHeadOfPiece}
 use Rattle.jls_interval.specs.Laws.{IsCutCode}
 use Rattle.jls_interval.specs.Reads.{Reads}
 use Rattle.jls_interval.proofs.HeadLines.{read_has_none}
@@ -30,21 +30,19 @@ use Rattle.jls_partial.specs.PartialLaws.{partial_laws, shape_itself}
 use Rattle.jls_partial.specs.Reading.{reading_cmp}
 use Rattle.jls_marker.specs.Scan.{Scan}
 use Rattle.jls_copy.specs.CopyReads.{CopyReads}
-use Rattle.jls_copy.specs.CutPieces.{IsHeadAt}
-use Rattle.jls_copy.specs.Numbers.{Interval}
+use Rattle.jls_copy.specs.IntervalOf.{interval_of}
 use Rattle.jls_copy.specs.ReadCopy.{ReadCopy}
 use Rattle.jls_picture.specs.Picture.{WholePicture, line_of, settled_line, picture_of}
-use Rattle.jls_headline.specs.Damaged.{ReadsAsPictureOrNone, HasHeadOfPicture}
-use Rattle.jls_headline.specs.PictureLines.{picture_reading}
+use Rattle.jls_headline.specs.Damaged.{HasPictureLines, picture_reading}
 use Rattle.jls_headline.specs.Stations.{HoldsExactly, began, ran_out, Took, TookInTheEnd}
 use Rattle.jls_headline.specs.ReadsAs.{GivesPicture, ReadsAs}
-use Rattle.jls_headline.proofs.Members.{none_in}
+use Rattle.jls_copy_law.proofs.Members.{none_in}
 use Rattle.jls_headline.proofs.CopyGives.{copy_gives}
 use Rattle.jls_headline.proofs.LostIntervals.{surviving_lines_are_given}
 use Rattle.jls_headline.proofs.StationCalls.{holds_none}
 use Rattle.jls_headline.proofs.Stations.{copy_holds}
-use Rattle.jls_headline.proofs.FileExamples.{are_parameters}
-use Rattle.jls_headline.proofs.TwoLineExamples.{shape, bits_8, pic_and, pic, first, first_course, course_with, bytes_of_test, shape_read, line_0}
+use Rattle.jls_headline.proofs.TwoLineCopies.{shape, bits_8, parameters_8, pic_and, pic, first, bytes_of_test, piece_of, first_data, first_scans}
+use Rattle.jls_headline.proofs.TwoLineExamples.{shape_read, line_0}
 
 -- A picture has no more lines than its shape ---------------------------------------------------------------------
 
@@ -115,9 +113,9 @@ between p q e =
 
 ran_out_over_first : (a : ReadCopy) → CopyReads first a → Took (union known a.partial) [] (first ∷ [])
 ran_out_over_first a reads =
-    let same = shape_read first (course_with [] (0x80 ∷ []) 32) a first_course refl reads in
+    let same = shape_read first (first_data ∷ []) a first_scans reads in
     ran_out known (union known a.partial) a.partial [] [] (first ∷ []) (began known [] (holds_none known refl))
-    (copy_holds a.partial first a (bytes_of_test first refl) reads (refl, refl)) same (between known a.partial (sym same))
+    (copy_holds a.partial first a (bytes_of_test first refl) reads refl refl) same (between known a.partial (sym same))
 
 holds_more : (p : PartialPicture) → set.contains p.readings (picture_reading pic 0 0) ≡ true → HoldsExactly p [] → ⊥
 holds_more p held h = (let from = (h.readings (picture_reading pic 0 0)).0 held in none_in from.0 from.1)
@@ -167,19 +165,24 @@ longest (x ∷ y ∷ []) b =
 longest (x ∷ y ∷ z ∷ zs) b = absurd (let n = ap length b.lines_are in omega (arith, n))
 
 -- so its head is another line than the picture's
-pub another_head : IsHeadAt both_lines (Interval 0) (0x50 ∷ []) ((1 ∷ []) ∷ [])
+pub another_head : IsHeadOfPiece (interval_of both_lines 0) (0x50 ∷ []) ((1 ∷ []) ∷ [])
 another_head =
     let own : AreWholeLines (interval_shape bits_8 1 1 2) (bits_read (0x50 ∷ [])) one_and_nine ((1 ∷ []) ∷ []) = record { begins = cut_off.begins; longest = longest } in
     inl (cut_off.whole, inl (cut_off.cut, subst (λ lines. AreWholeLines (interval_shape bits_8 1 1 2) (bits_read (0x50 ∷ [])) lines ((1 ∷ []) ∷ [])) (sym cut_off.lines_are) own))
 
-no_head_of_the_picture : HasHeadOfPicture pic both_lines 0 (0x50 ∷ []) → ⊥
-no_head_of_the_picture h =
-    (let e = ap (λ (lines : List (List ℕ)). get_or (get_or lines 0 []) 0 0) (h ((1 ∷ []) ∷ []) another_head) in omega (arith, e))
+no_lines_of_the_picture : HasPictureLines pic both_lines (0, record { bytes = 0x50 ∷ []; ended_by_input = true }) → ⊥
+no_lines_of_the_picture h =
+    (let e = ap (λ (lines : List (List ℕ)). get_or (get_or lines 0 []) 0 0) (h ((1 ∷ []) ∷ []) (inr (refl, another_head))) in omega (arith, e))
 
 -- though it reads as no lines
-reads_as_none : ReadsAsPictureOrNone pic both_lines 0 (0x50 ∷ [])
+reads_as_none : (lines : List (List ℕ)) → Reads (interval_of both_lines 0) (0x50 ∷ []) lines → ⊥
 reads_as_none lines reads =
-    absurd (let e = ap length (read_has_none bits_8 1 1 2 are_parameters (lit< tt) (0x50 ∷ []) lines ((1 ∷ []) ∷ []) reads another_head) in omega (arith, e))
+    (let e = ap length (read_has_none bits_8 1 1 2 parameters_8 (lit< tt) (0x50 ∷ []) lines ((1 ∷ []) ∷ []) reads another_head) in omega (arith, e))
+
+-- and would give no reading if the input went on
+none_if_not_cut : HasPictureLines pic both_lines (0, record { bytes = 0x50 ∷ []; ended_by_input = false })
+none_if_not_cut lines (inl reads) = absurd (reads_as_none lines reads)
+none_if_not_cut lines (inr (cut, head)) = absurd cc
 
 -- A whole piece behind a changed header --------------------------------------------------------------------------
 
@@ -205,6 +208,6 @@ read_behind = record {
 }
 
 -- which is no line of the picture
-another_line_read : ReadsAsPictureOrNone pic changed 1 (0x40 ∷ []) → ⊥
+another_line_read : HasPictureLines pic changed (1, piece_of (0x40 ∷ [])) → ⊥
 another_line_read h =
-    (let e = ap (λ (lines : List (List ℕ)). get_or (get_or lines 0 []) 0 0) (h ((15 ∷ []) ∷ []) read_behind.fifteen_read) in omega (arith, e))
+    (let e = ap (λ (lines : List (List ℕ)). get_or (get_or lines 0 []) 0 0) (h ((15 ∷ []) ∷ []) (inl read_behind.fifteen_read)) in omega (arith, e))

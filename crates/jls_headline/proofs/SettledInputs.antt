@@ -20,14 +20,13 @@ use Rattle.jls_commands.specs.AllInputs.{partials, AreOfOneShape, IsUnionOf}
 use Rattle.jls_commands.specs.Laws.{input_bytes}
 use Rattle.jls_commands.proofs.InputBytes.{AreGiven, inputs_of_join, output_of_join}
 use Rattle.jls_headline.specs.NoOtherLaws.{InputHasLine, SomeInputHasEachLine, SettledJoinsAreThePicture}
-use Rattle.jls_headline.specs.PictureLines.{picture_reading}
+use Rattle.jls_headline.specs.Damaged.{picture_reading, Survives}
 use Rattle.jls_headline.specs.ReadsAs.{GivesPicture}
 use Rattle.jls_headline.specs.Stations.{HasShape}
-use Rattle.jls_headline.specs.Survives.{Survives}
 use Rattle.jls_headline.proofs.Held.{or_first, or_second, is_at_line}
-use Rattle.jls_headline.proofs.JoinRuns.{no_text, given_holds, framed_is_no_text, one_shape_of, all_of_shape}
+use Rattle.jls_headline.proofs.JoinRuns.{no_text, given_holds, scans_are_no_text, one_shape_of, all_of_shape}
 use Rattle.jls_headline.proofs.LostIntervals.{surviving_lines_are_given}
-use Rattle.jls_headline.proofs.Members.{is_first, none_in}
+use Rattle.jls_copy_law.proofs.Members.{is_first, none_in}
 use Rattle.jls_headline.proofs.Pictures.{gives_picture}
 use Rattle.jls_headline.proofs.StationPictures.{only_one}
 use Rattle.jls_headline.proofs.WrittenFiles.{files_read_as}
@@ -94,10 +93,10 @@ module _ (pic : WholePicture) (source : Option ℕ) (bytes : List ℕ) (joined :
     (component line : ℕ) where
   survivor_held : Survives pic bytes component line → HoldsLine pic joined component line
   survivor_held s =
-      let none = framed_is_no_text bytes s.course pic.shape s.is_course s.framed in
+      let none = scans_are_no_text bytes pic.shape s.0 s.1 in
       let h = given_holds source bytes is.partial is.low none is.gives in
-      let shape : HasShape is.partial.shape bytes = h.are_copies.0.1 in (
-        sym is.shape_is ∙ one_shape_of bytes is.partial.shape pic.shape shape (s.course, s.is_course, s.framed),
+      let shape : HasShape is.partial.shape bytes = h.are_copies.0 in (
+        sym is.shape_is ∙ one_shape_of bytes is.partial.shape pic.shape shape (s.0, s.1),
         is.held (picture_reading pic component line)
             ((h.readings (picture_reading pic component line)).1 (bytes, is_first bytes [], surviving_lines_are_given pic bytes component line s)),
       )

@@ -14,11 +14,11 @@ use Rattle.jls_partial.specs.Text.{text}
 use Rattle.jls_copy.specs.CopyReads.{CopyReads}
 use Rattle.jls_copy.specs.ReadCopy.{ReadCopy}
 use Rattle.jls_station.specs.Given.{marked}
-use Rattle.jls_headline.specs.Gives.{GivesReading}
-use Rattle.jls_headline.specs.Stations.{HoldsExactly, began, took_copy, took_partial, ran_out, Took, IsSameCopy, AreAmong, TookInTheEnd}
-use Rattle.jls_headline.specs.Sources.{SourcedCopy, copies_of, GivesUnder, HoldsExactlyUnder, TookUnder, began_under, took_copy_under, took_partial_under, ran_out_under, AreAmongUnder, TookInTheEndUnder}
-use Rattle.jls_headline.specs.SourceLaws.{SameSourcesSameText, SourcesAside}
-use Rattle.jls_headline.proofs.Members.{in_map, of_map}
+use Rattle.jls_copy_law.specs.Gives.{GivesReading}
+use Rattle.jls_headline.specs.Stations.{HoldsExactly, began, took_copies, ran_out, Took, IsSameCopy, AreAmong, TookInTheEnd}
+use Rattle.jls_headline.specs.Sources.{SourcedCopy, copies_of, GivesUnder, HoldsExactlyUnder, TookUnder, IsSameUnder, TookInTheEndUnder}
+use Rattle.jls_headline.specs.SourceLaws.{SameSourcesSameStation, SameSourcesSameText, SourcesAside}
+use Rattle.jls_copy_law.proofs.Members.{in_map, of_map}
 use Rattle.jls_headline.proofs.Held.{set_of_list_holds, set_holds_items}
 use Rattle.jls_headline.proofs.CopyGives.{copy_gives}
 use Rattle.jls_headline.proofs.SameCopies.{same_copy_gives}
@@ -113,7 +113,8 @@ marks_of_copy (Some source) bytes read low reads m = (there, back)
 pub copy_holds_under : (copy : SourcedCopy) (read : ReadCopy) → AllByRecursion (λ b. b < 256) copy.bytes → CopyReads copy.bytes read
     → HoldsExactlyUnder (marked copy.source read.partial) (copy ∷ [])
 copy_holds_under copy read low reads = record {
-  readings = copy_holds (marked copy.source read.partial) copy.bytes read low reads (marked_shape copy.source read.partial, marked_readings copy.source read.partial);
+  readings = copy_holds (marked copy.source read.partial) copy.bytes read low reads
+      (marked_shape copy.source read.partial) (marked_readings copy.source read.partial);
   sources = λ r source. one_exactly GivesMark is_marked union_marked (marked copy.source read.partial) copy (marks_of_copy copy.source copy.bytes read low reads) (r, source);
 }
 
@@ -132,23 +133,19 @@ union_holds_under p q copies more h k shape = record {
 -- what is said of copies under sources is said of the copies
 sources_aside : (station : PartialPicture) (copies over : List SourcedCopy) → TookUnder station copies over
     → Took station (copies_of copies) (copies_of over)
-sources_aside _ _ _ (began_under p copies h) = began p (copies_of copies) h.readings
-sources_aside _ _ _ (took_copy_under station copies over copy read t low reads shape) =
-    let taken = marked copy.source read.partial in
-    took_copy station taken (copies_of copies) (copies_of over) copy.bytes read (sources_aside station copies over t) low reads
-    (marked_shape copy.source read.partial, marked_readings copy.source read.partial) (marked_shape copy.source read.partial ∙ shape)
-sources_aside _ _ _ (took_partial_under station taken copies over more t h shape) =
+sources_aside _ _ _ (began p copies h) = began p (copies_of copies) h.readings
+sources_aside _ _ _ (took_copies station taken copies over more t h shape) =
     subst (λ xs. Took (union station taken) xs (copies_of over)) (sym (map-append (λ (copy : SourcedCopy). copy.bytes) more copies))
-    (took_partial station taken (copies_of copies) (copies_of over) (copies_of more) (sources_aside station copies over t) h.readings shape)
-sources_aside _ _ _ (ran_out_under station new other copies over more t h shape between) =
+    (took_copies station taken (copies_of copies) (copies_of over) (copies_of more) (sources_aside station copies over t) h.readings shape)
+sources_aside _ _ _ (ran_out station new other copies over more t h shape between) =
     subst (λ xs. Took new (copies_of copies) xs) (sym (map-append (λ (copy : SourcedCopy). copy.bytes) more over))
     (ran_out station new other (copies_of copies) (copies_of over) (copies_of more) (sources_aside station copies over t) h.readings shape between)
 
-among_aside : (copies others : List SourcedCopy) → AreAmongUnder copies others → AreAmong (copies_of copies) (copies_of others)
+among_aside : (copies others : List SourcedCopy) → AreAmong IsSameUnder copies others → AreAmong IsSameCopy (copies_of copies) (copies_of others)
 among_aside copies others among bytes c =
     let from = of_map (λ (copy : SourcedCopy). copy.bytes) copies bytes c in
     let there = among from.0 from.1 in
-    (there.0.bytes, in_map (λ (copy : SourcedCopy). copy.bytes) others there.0 there.1, subst (λ x. IsSameCopy x there.0.bytes) from.2 there.3)
+    (there.0.bytes, in_map (λ (copy : SourcedCopy). copy.bytes) others there.0 there.1, subst (λ x. IsSameCopy x there.0.bytes) from.2 there.2.1)
 
 in_the_end_aside : (station : PartialPicture) (copies : List SourcedCopy) → TookInTheEndUnder station copies
     → TookInTheEnd station (copies_of copies)
@@ -160,21 +157,18 @@ sources_are_aside = (in_the_end_aside, λ copies others same. (among_aside copie
 -- which sources there are after each call
 sources_after : (station : PartialPicture) (copies over : List SourcedCopy) → TookUnder station copies over
     → Holds GivesMark is_marked union_marked station copies over
-sources_after _ _ _ (began_under p copies h) = at_first GivesMark is_marked union_marked p copies (λ m. h.sources m.0 m.1)
-sources_after _ _ _ (took_copy_under station copies over copy read t low reads shape) =
-    after_union GivesMark is_marked union_marked station (marked copy.source read.partial) copies over (copy ∷ []) (sources_after station copies over t)
-    (λ m. (copy_holds_under copy read low reads).sources m.0 m.1)
-sources_after _ _ _ (took_partial_under station taken copies over more t h shape) =
+sources_after _ _ _ (began p copies h) = at_first GivesMark is_marked union_marked p copies (λ m. h.sources m.0 m.1)
+sources_after _ _ _ (took_copies station taken copies over more t h shape) =
     after_union GivesMark is_marked union_marked station taken copies over more (sources_after station copies over t) (λ m. h.sources m.0 m.1)
-sources_after _ _ _ (ran_out_under station new other copies over more t h shape between) =
+sources_after _ _ _ (ran_out station new other copies over more t h shape between) =
     after_refusal GivesMark is_marked union_marked station new other copies over more (sources_after station copies over t) (λ m. h.sources m.0 m.1) between
 
 -- what copies give under sources, the same copies give under the same
-among_mark : (copies others : List SourcedCopy) → AreAmongUnder copies others → (m : Mark)
+among_mark : (copies others : List SourcedCopy) → AreAmong IsSameUnder copies others → (m : Mark)
     → GivenBy GivesMark is_marked union_marked copies m → GivenBy GivesMark is_marked union_marked others m
 among_mark copies others among m (copy, c, g) =
     let there = among copy c in
-    (there.0, there.1, (sym there.2 ∙ g.0, same_copy_gives copy.bytes there.0.bytes m.0 there.3 g.1))
+    (there.0, there.1, (sym there.2.0 ∙ g.0, same_copy_gives copy.bytes there.0.bytes m.0 there.2.1 g.1))
 
 pub took_holds_under : (station : PartialPicture) (copies : List SourcedCopy) → TookInTheEndUnder station copies
     → HoldsExactlyUnder station copies
@@ -186,7 +180,7 @@ took_holds_under station copies (over, took, among) = record {
 -- two of one shape that hold exactly what the same copies give under the same sources are one
 pub same_under : (station other : PartialPicture) (copies others : List SourcedCopy) → HoldsExactlyUnder station copies
     → HoldsExactlyUnder other others
-    → station.shape ≡ other.shape → AreAmongUnder copies others → AreAmongUnder others copies → station ≡ other
+    → station.shape ≡ other.shape → AreAmong IsSameUnder copies others → AreAmong IsSameUnder others copies → station ≡ other
 same_under station other copies others h k shape among back =
     let readings = same_readings station other (copies_of copies) (copies_of others) h.readings k.readings (among_aside copies others among) (among_aside others copies back) in
     let marks = same_set marks_total marks_exact station.marks other.marks (λ m. both_ways (is_marked station m) (is_marked other m)
@@ -194,9 +188,12 @@ same_under station other copies others h k shape among back =
     (λ x. (h.sources m.0 m.1).1 (among_mark others copies back m ((k.sources m.0 m.1).0 x)))) in
     λ i. record { shape = shape i; readings = readings i; marks = marks i }
 
-pub same_sources_same_text : SameSourcesSameText
-same_sources_same_text station other copies others took took' shape same =
+pub same_sources_same_station : SameSourcesSameStation
+same_sources_same_station station other copies others took took' shape same =
     let h = took_holds_under station copies took in
     let k = took_holds_under other others took' in
-    let one = same_under station other copies others h k shape same.0 same.1 in
-    (h, k, one, ap text one)
+    (h, k, same_under station other copies others h k shape same.0 same.1)
+
+pub same_sources_same_text : SameSourcesSameText
+same_sources_same_text station other copies others took took' shape same =
+    ap text (same_sources_same_station station other copies others took took' shape same).2

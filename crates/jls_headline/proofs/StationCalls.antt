@@ -11,11 +11,11 @@ use Rattle.jls_station.specs.Given.{CopyReport, Given, Gives, by_text, by_copy, 
 use Rattle.jls_station.specs.Inputs.{IsCopyDone, IsEnough}
 use Rattle.jls_station.specs.Reading.{AreBytes}
 use Rattle.jls_station.specs.TakingCopies.{CopyGives, gives_none, other_shape, no_memory}
-use Rattle.jls_headline.specs.Stations.{HoldsExactly, Took, began, took_partial, ran_out}
-use Rattle.jls_headline.specs.Sources.{HoldsExactlyUnder, TookUnder, began_under, took_partial_under, ran_out_under}
+use Rattle.jls_headline.specs.Stations.{HoldsExactly, Took, began, took_copies, ran_out}
+use Rattle.jls_headline.specs.Sources.{HoldsExactlyUnder, TookUnder}
 use Rattle.jls_headline.specs.SourceLaws.{sourced_copy, NewStationTookNothingUnder, CopyIsTakenUnder, CopyIsRefusedUnder, PartialIsTakenUnder, PartialIsRefusedUnder, FinishedCopiesHold, ReadCopiesHold}
 use Rattle.jls_headline.specs.CallLaws.{NewStationTookNothing, CopyIsTaken, CopyIsRefused, PartialIsTaken, PartialIsRefused}
-use Rattle.jls_headline.proofs.Members.{none_in}
+use Rattle.jls_copy_law.proofs.Members.{none_in}
 use Rattle.jls_commands.proofs.InputBytes.{all_reads}
 use Rattle.jls_headline.proofs.Stations.{copy_holds}
 use Rattle.jls_headline.proofs.SourcedStations.{marked_shape, marked_readings, copy_holds_under}
@@ -38,7 +38,7 @@ given_by_reads source p report reads g =
     subst (λ bytes. HoldsExactly p (bytes ∷ [])) (sym all.1)
     (subst (λ (x : PartialPicture). HoldsExactly x (g.bytes ∷ [])) (sym g.partial_is)
     (copy_holds (marked source g.read.partial) g.bytes g.read g.is_read.are_bytes g.reads_as
-    (marked_shape source g.read.partial, marked_readings source g.read.partial)))
+    (marked_shape source g.read.partial) (marked_readings source g.read.partial)))
 
 pub new_station_took_nothing : NewStationTookNothing
 new_station_took_nothing shape = began (nothing_known shape) [] (holds_none (nothing_known shape) refl)
@@ -46,7 +46,7 @@ new_station_took_nothing shape = began (nothing_known shape) [] (holds_none (not
 pub partial_is_taken : PartialIsTaken
 partial_is_taken old taken new more copies over took holds same is =
     subst (λ (p : PartialPicture). Took p (more ++ copies) over) (sym is)
-    (took_partial old taken copies over more took holds (sym (one_shape old.shape taken.shape same)))
+    (took_copies old taken copies over more took holds (sym (one_shape old.shape taken.shape same)))
 
 pub partial_is_refused : PartialIsRefused
 partial_is_refused old taken new more copies over took holds same between =
@@ -75,7 +75,7 @@ given_by_reads_under source p report reads g =
     (copy_holds_under (sourced_copy source g.bytes) g.read g.is_read.are_bytes g.reads_as))
 
 pub new_station_took_nothing_under : NewStationTookNothingUnder
-new_station_took_nothing_under shape = began_under (nothing_known shape) [] (record {
+new_station_took_nothing_under shape = began (nothing_known shape) [] (record {
   readings = holds_none (nothing_known shape) refl;
   sources = λ r source. (
     λ h. (let none : false ≡ true = sym (contains-empty (mark_cmp reading_cmp) (r, source)) ∙ h in absurd cc),
@@ -86,11 +86,11 @@ new_station_took_nothing_under shape = began_under (nothing_known shape) [] (rec
 pub partial_is_taken_under : PartialIsTakenUnder
 partial_is_taken_under old taken new more copies over took holds same is =
     subst (λ (p : PartialPicture). TookUnder p (more ++ copies) over) (sym is)
-    (took_partial_under old taken copies over more took holds (sym (one_shape old.shape taken.shape same)))
+    (took_copies old taken copies over more took holds (sym (one_shape old.shape taken.shape same)))
 
 pub partial_is_refused_under : PartialIsRefusedUnder
 partial_is_refused_under old taken new more copies over took holds same between =
-    ran_out_under old new taken copies over more took holds (sym (one_shape old.shape taken.shape same)) between
+    ran_out old new taken copies over more took holds (sym (one_shape old.shape taken.shape same)) between
 
 pub copy_is_taken_under : CopyIsTakenUnder
 copy_is_taken_under source old new report reads copies over took t =
@@ -107,7 +107,7 @@ copy_is_refused_under _ _ _ _ _ copies over took (no_memory source old new p rep
 -- What is read of a copy ------------------------------------------------------------------------------------------
 
 pub finished_copies_hold : FinishedCopiesHold
-finished_copies_hold copy read low reads = copy_holds read.partial copy read low reads (refl, refl)
+finished_copies_hold copy read low reads = copy_holds read.partial copy read low reads refl refl
 
 pub read_copies_hold : ReadCopiesHold
 read_copies_hold source given reads h copied =

@@ -1,6 +1,6 @@
 -- What stations hold that took the same copies, and the picture that damaged copies give.
 use Rattle.std.proofs.Common.{◌≡◌, ℕ, zero, suc, ◌<◌, true, List, [], ◌∷◌, length, sym, ap, ◌∙◌, subst, arith}
-use Rattle.std.specs.List.{AllByRecursion, Contains}
+use Rattle.std.specs.List.{Contains}
 use Rattle.jls_values.specs.OrderedSet as set
 use Rattle.jls_values.specs.Shape.{PictureShape}
 use Rattle.jls_partial.specs.Reading.{Reading, reading_of, reading_cmp}
@@ -8,22 +8,18 @@ use Rattle.jls_partial.specs.Partial.{PartialPicture, readings_at}
 use Rattle.jls_partial.specs.Status.{status_of}
 use Rattle.jls_partial.specs.Text.{text}
 use Rattle.jls_partial.specs.declared.status.Status.TheVariants.{Settled}
-use Rattle.jls_copy.specs.Course.{Course}
-use Rattle.jls_copy.proofs.OneCourse.{one_course}
 use Rattle.jls_picture.specs.Picture.{WholePicture, line_of, picture_of}
 use Rattle.jls_picture.specs.Pnm.{pnm}
 use Rattle.jls_file.specs.WrittenFile.{written_file}
 use Rattle.jls_report.specs.Report.{report_of}
 use Rattle.jls_report.specs.ReportText.{report_text}
-use Rattle.jls_headline.specs.PictureLines.{picture_reading}
-use Rattle.jls_headline.specs.Damaged.{Damaged}
-use Rattle.jls_headline.specs.Survives.{EachLineSurvives}
+use Rattle.jls_copy_law.proofs.CopyScans.{one_list_of_scans}
+use Rattle.jls_headline.specs.Damaged.{Damaged, picture_reading, EachLineSurvives}
 use Rattle.jls_headline.specs.Stations.{HasShape, HoldsExactly}
 use Rattle.jls_picture.specs.WholePictures.{IsPicture}
 use Rattle.jls_headline.specs.ReadsAs.{GivesPicture}
-use Rattle.jls_headline.specs.HeadlineLaws.{SayTheSame, SameCopiesSameReadings, DamagedCopiesGiveThePicture, NeverAnotherPicture}
-use Rattle.jls_headline.proofs.Members.{all_at}
-use Rattle.jls_headline.proofs.ScansInRange.{same_frame}
+use Rattle.jls_headline.specs.HeadlineLaws.{SameReadingsSayTheSame, SameCopiesSameReadings, SameCopiesSayTheSame, DamagedCopiesGiveThePicture, NeverAnotherPicture}
+use Rattle.jls_copy_law.proofs.Members.{all_at}
 use Rattle.jls_headline.proofs.LostIntervals.{damaged_copies_give_no_other, surviving_lines_are_given}
 use Rattle.jls_headline.proofs.Held.{one_reading, is_at_line}
 use Rattle.jls_headline.proofs.Stations.{took_holds, same_readings}
@@ -33,8 +29,7 @@ use Rattle.jls_headline.proofs.WrittenFiles.{files_read_as}
 -- The same copies ------------------------------------------------------------------------------------------------
 
 -- what is said of a station rests on its shape and its readings
-pub say_the_same : (station other : PartialPicture) → station.shape ≡ other.shape → station.readings ≡ other.readings
-    → SayTheSame station other
+pub say_the_same : SameReadingsSayTheSame
 say_the_same station other e f =
     let with_these = (λ (s : PictureShape) (rs : set.OrderedSet reading_cmp). record station { shape = s; readings = rs }) in
     record {
@@ -50,7 +45,11 @@ pub same_copies_same_readings : SameCopiesSameReadings
 same_copies_same_readings station other copies others took took' shape same =
     let h = took_holds station copies took in
     let k = took_holds other others took' in
-    (h, k, say_the_same station other shape (same_readings station other copies others h k same.0 same.1))
+    (h, k, same_readings station other copies others h k same.0 same.1)
+
+pub same_copies_say_the_same : SameCopiesSayTheSame
+same_copies_say_the_same station other copies others took took' shape same =
+    say_the_same station other shape (same_copies_same_readings station other copies others took took' shape same).2
 
 -- The picture ----------------------------------------------------------------------------------------------------
 
@@ -66,8 +65,8 @@ same_shape : (pic : WholePicture) (station : PartialPicture) (copies : List (Lis
     → EachLineSurvives pic copies → station.shape ≡ pic.shape
 same_shape pic station copies is h each =
     let s = each 0 0 is.shape.ids_at_least is.shape.height_at_least in
-    let of = all_at (λ copy. AllByRecursion (λ b. b < 256) copy × HasShape station.shape copy) copies s.0 h.are_copies s.1 in
-    same_frame station.shape pic.shape (sym of.1.2 ∙ ap (λ (c : Course). c.headers.frame) (one_course s.0 of.1.0 s.2.course of.1.1 s.2.is_course) ∙ s.2.framed)
+    let of = all_at (HasShape station.shape) copies s.0 h.are_copies s.1 in
+    (one_list_of_scans s.0 station.shape pic.shape of.0 s.2.0 of.1 s.2.1).0
 
 pub damaged_copies_give_the_picture : DamagedCopiesGiveThePicture
 damaged_copies_give_the_picture pic is station copies took damaged each =
@@ -80,8 +79,7 @@ damaged_copies_give_the_picture pic is station copies took damaged each =
         → r ≡ picture_reading pic c y
     only h c y r held e f =
         let from = (h.readings r).0 held in
-        let of = all_at (λ copy. AllByRecursion (λ b. b < 256) copy × HasShape station.shape copy) copies from.0 h.are_copies from.1 in
-        let is = damaged_copies_give_no_other pic from.0 of.0 (all_at (Damaged pic) copies from.0 damaged from.1) r from.2 in
+        let is = damaged_copies_give_no_other pic from.0 (all_at (Damaged pic) copies from.0 damaged from.1) r from.2 in
         let samples : r.samples ≡ line_of pic c y = is.2 ∙ ap (λ n. line_of pic n r.line) e ∙ ap (line_of pic c) f in
         λ i. reading_of (e i) (f i) (samples i)
 

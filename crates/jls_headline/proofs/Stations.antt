@@ -6,14 +6,15 @@ use Rattle.std.specs.Cmp.{both_ways}
 use Rattle.jls_values.specs.OrderedSet as set
 use Rattle.jls_values.specs.OrderedSetLaws.{contains-union, same_set}
 use Rattle.jls_values.specs.Join.{IsBetween}
+use Rattle.jls_values.specs.Shape.{PictureShape}
 use Rattle.jls_partial.specs.Reading.{Reading}
 use Rattle.jls_partial.specs.ReadingOrder.{reading_total, reading_exact}
 use Rattle.jls_partial.specs.Partial.{PartialPicture, union}
 use Rattle.jls_copy.specs.CopyReads.{CopyReads}
 use Rattle.jls_copy.specs.ReadCopy.{ReadCopy}
-use Rattle.jls_headline.specs.Gives.{GivesReading}
-use Rattle.jls_headline.specs.Stations.{HasShape, AreCopies, HoldsExactly, HasReadingsOf, Took, began, took_copy, took_partial, ran_out, AreAmong, TookInTheEnd}
-use Rattle.jls_headline.proofs.Members.{all_append}
+use Rattle.jls_copy_law.specs.Gives.{GivesReading}
+use Rattle.jls_headline.specs.Stations.{HasShape, HoldsExactly, Took, began, took_copies, ran_out, AreAmong, IsSameCopy, TookInTheEnd}
+use Rattle.jls_copy_law.proofs.Members.{all_append}
 use Rattle.jls_headline.proofs.CopyGives.{copy_gives, copy_has_shape}
 use Rattle.jls_headline.proofs.SameCopies.{among_gives}
 use Rattle.jls_headline.proofs.Unions.{Holds, one_exactly, union_exactly, at_first, after_union, after_refusal, in_the_end}
@@ -24,14 +25,18 @@ is_read p r = set.contains p.readings r
 union_read : (p q : PartialPicture) (r : Reading) → is_read (union p q) r ≡ (is_read p r || is_read q r)
 union_read p q r = contains-union reading_total p.readings q.readings r
 
+-- copies of one shape
+abbrev pub AreCopies : PictureShape → List (List ℕ) → Type 0
+AreCopies shape copies = AllByRecursion (HasShape shape) copies
+
 -- what was read of a copy, from whatever source, holds exactly the copy's readings
 pub copy_holds : (taken : PartialPicture) (copy : List ℕ) (read : ReadCopy) → AllByRecursion (λ b. b < 256) copy → CopyReads copy read
-    → HasReadingsOf taken read.partial → HoldsExactly taken (copy ∷ [])
-copy_holds taken copy read low reads same = record {
-  are_copies = ((low, subst (λ s. HasShape s copy) (sym same.0) (copy_has_shape copy read reads)), tt);
+    → taken.shape ≡ read.partial.shape → taken.readings ≡ read.partial.readings → HoldsExactly taken (copy ∷ [])
+copy_holds taken copy read low reads shape readings = record {
+  are_copies = (subst (λ s. HasShape s copy) (sym shape) (copy_has_shape copy low read reads), tt);
   readings = one_exactly GivesReading is_read union_read taken copy (λ r. (
-    λ m. (copy_gives copy low read reads r).0 (subst (λ rs. set.contains rs r ≡ true) same.1 m),
-    λ g. subst (λ rs. set.contains rs r ≡ true) (sym same.1) ((copy_gives copy low read reads r).1 g),
+    λ m. (copy_gives copy low read reads r).0 (subst (λ rs. set.contains rs r ≡ true) readings m),
+    λ g. subst (λ rs. set.contains rs r ≡ true) (sym readings) ((copy_gives copy low read reads r).1 g),
   ));
 }
 
@@ -65,9 +70,8 @@ out_of_memory station new other copies over more h exactly between = (
 
 after_calls : (station : PartialPicture) (copies over : List (List ℕ)) → Took station copies over → After station copies over
 after_calls _ _ _ (began p copies h) = (h.are_copies, at_first GivesReading is_read union_read p copies h.readings)
-after_calls _ _ _ (took_copy station taken copies over copy read t low reads same shape) =
-    after_partial station taken copies over (copy ∷ []) (after_calls station copies over t) (copy_holds taken copy read low reads same) shape
-after_calls _ _ _ (took_partial station taken copies over more t exactly shape) = after_partial station taken copies over more (after_calls station copies over t) exactly shape
+after_calls _ _ _ (took_copies station taken copies over more t exactly shape) =
+    after_partial station taken copies over more (after_calls station copies over t) exactly shape
 after_calls _ _ _ (ran_out station new other copies over more t exactly shape between) = out_of_memory station new other copies over more (after_calls station copies over t) exactly between
 
 -- a station that took copies in the end holds exactly their readings
@@ -82,7 +86,7 @@ took_holds station copies (over, took, among) =
 -- two that hold the readings of the same copies have the same readings
 pub same_readings : (station other : PartialPicture) (copies others : List (List ℕ)) → HoldsExactly station copies
     → HoldsExactly other others
-    → AreAmong copies others → AreAmong others copies → station.readings ≡ other.readings
+    → AreAmong IsSameCopy copies others → AreAmong IsSameCopy others copies → station.readings ≡ other.readings
 same_readings station other copies others h k among back =
     same_set reading_total reading_exact station.readings other.readings
     (λ r. both_ways (set.contains station.readings r) (set.contains other.readings r)

@@ -1,5 +1,5 @@
 -- A picture of ten lines, and a copy of it that has lost seven of them with their marks: the numbers of its pieces are 0, 8 and 9.
-use Rattle.std.proofs.Common.{◌≡◌, ℕ, List, [], ◌∷◌, Some, refl, lit<, lit≤, arith, inl, inr}
+use Rattle.std.proofs.Common.{◌≡◌, ℕ, List, [], ◌∷◌, Some, refl, lit<, lit≤, arith, inl}
 use Rattle.jls_values.specs.Shape.{PictureShape}
 use Rattle.jls_marker.specs.ComponentIndex.{index_of}
 use Rattle.jls_marker.specs.MarkerCodes.{has_segment}
@@ -10,11 +10,12 @@ use Rattle.jls_copy.specs.ScanData.{ClosedPiece}
 use Rattle.jls_copy.specs.Course.{by_marker, CopyUnit, segment, scan, Course, IsCourse, with_soi, at_eoi, for_good}
 use Rattle.jls_copy.specs.declared.end.End.TheVariants.{Eoi}
 use Rattle.jls_picture.specs.Picture.{WholePicture}
-use Rattle.jls_headline.specs.Damaged.{Damaged}
-use Rattle.jls_headline.specs.Survives.{Survives}
+use Rattle.jls_copy_law.specs.CopyScans.{ScanWithData, HasScans}
+use Rattle.jls_copy_law.proofs.CopyScans.{course_has_scans}
+use Rattle.jls_headline.specs.Damaged.{AreNumbers, Damaged, Survives}
 use Rattle.jls_headline.specs.Trimmed.{whole, TrimmedCopy}
 use Rattle.jls_headline.proofs.Trims.{trimmed_copies_are_damaged}
-use Rattle.jls_headline.proofs.TwoLineExamples.{bits_8, scan_payload, pieces_read, bytes_of_test}
+use Rattle.jls_headline.proofs.TwoLineCopies.{bits_8, scan_payload, bytes_of_test, piece_of, pieces_read}
 
 abbrev shape : PictureShape
 shape = record { precision = 8; width = 1; height = 10; ids = 1 ∷ [] }
@@ -87,54 +88,54 @@ is_course =
       ),
     )
 
+-- so it has one scan, of three pieces
+abbrev scan_data : ScanWithData
+scan_data = record { scan = plan; marks = 7 ∷ 0 ∷ []; pieces = piece_of (0x80 ∷ []) ∷ piece_of (0x40 ∷ []) ∷ piece_of (0x80 ∷ []) ∷ [] }
+
+scans : HasScans copy shape (scan_data ∷ [])
+scans = course_has_scans copy course shape (bytes_of_test copy refl) is_course refl
+
+are_numbers : AreNumbers scan_data (8 ∷ 9 ∷ [])
+are_numbers = record { rise = (lit< tt, lit≤ tt, lit< tt, (lit< tt, lit≤ tt, lit< tt, tt)); marks_are = refl }
+
 -- nothing but whole intervals is lost
 is_trimmed : TrimmedCopy pic copy
 is_trimmed = (
-  course,
-  is_course,
-  record {
-    framed = refl;
-    units = (
-      tt,
+  scan_data ∷ [],
+  scans,
+  (
+    (
+      8 ∷ 9 ∷ [],
+      are_numbers,
       (
-        tt,
+        record { bytes = 0x80 ∷ []; reads = pieces_read.zero_read; trimmed = whole (0x80 ∷ []) },
         (
-          record {
-            numbers = 8 ∷ 9 ∷ [];
-            rise = (lit< tt, lit≤ tt, lit< tt, (lit< tt, lit≤ tt, lit< tt, tt));
-            pieces_are = (
-              record { bytes = 0x80 ∷ []; reads = pieces_read.zero_read; trimmed = whole (0x80 ∷ []) },
-              refl,
-              (
-                record { bytes = 0x40 ∷ []; reads = pieces_read.largest_read; trimmed = whole (0x40 ∷ []) },
-                refl,
-                record { bytes = 0x80 ∷ []; reads = pieces_read.zero_read; trimmed = whole (0x80 ∷ []) },
-              ),
-            );
-          },
-          tt,
+          record { bytes = 0x40 ∷ []; reads = pieces_read.largest_read; trimmed = whole (0x40 ∷ []) },
+          (record { bytes = 0x80 ∷ []; reads = pieces_read.zero_read; trimmed = whole (0x80 ∷ []) }, tt),
         ),
       ),
-    );
-  },
+    ),
+    tt,
+  ),
 )
 
 -- so it is a damaged copy
 is_damaged : Damaged pic copy
-is_damaged = trimmed_copies_are_damaged pic copy (bytes_of_test copy refl) is_trimmed
+is_damaged = trimmed_copies_are_damaged pic copy is_trimmed
 
 -- and line 8 survives in it
 line_8 : Survives pic copy 0 8
-line_8 = record {
-  course = course;
-  is_course = is_course;
-  framed = refl;
-  unit = scan 0 0xDA scan_payload plan closed (0x80 ∷ []) by_marker;
-  among = (2, lit< tt, refl);
-  there = record {
-    numbers = 8 ∷ 9 ∷ [];
-    rise = (lit< tt, lit≤ tt, lit< tt, (lit< tt, lit≤ tt, lit< tt, tt));
-    marks = (tt, refl, (tt, refl, tt));
-    there = inl (inr (inl (((0, lit< tt, refl), (lit≤ tt, lit< tt)), pieces_read.largest_read)));
-  };
-}
+line_8 = (
+  scan_data ∷ [],
+  scans,
+  scan_data,
+  (0, lit< tt, refl),
+  (
+    8 ∷ 9 ∷ [],
+    are_numbers,
+    8,
+    piece_of (0x40 ∷ []),
+    (1, lit< tt, refl),
+    ((255 ∷ []) ∷ [], inl pieces_read.largest_read, (0, lit< tt, refl)),
+  ),
+)

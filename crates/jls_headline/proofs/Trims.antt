@@ -1,5 +1,6 @@
 -- A trimmed piece reads as the picture's lines or as none, and its head is the picture's first lines.
 use Rattle.std.proofs.Common.{◌≡◌, ℕ, zero, suc, ◌*◌, ◌<◌, ◌≤◌, Bool, true, List, [], ◌∷◌, ◌++◌, length, take, refl, sym, ap, subst, ◌∙◌, append_assoc, length-append, arith, ◌⊎◌, inl, inr}
+use Rattle.std.specs.List.{AllByRecursion}
 use Rattle.std.proofs.lemmas.List.{append-nil}
 use Rattle.jls_values.specs.Params.{CodingParameters, AreCodingParameters}
 use Rattle.jls_bits.specs.Bits.{bits_read, bits_read_after, is_whole}
@@ -15,16 +16,14 @@ use Rattle.jls_interval.proofs.PiecesReadOnce.{reads_once}
 use Rattle.jls_interval.proofs.HeadLines.{front_lines, code_parts}
 use Rattle.jls_interval.proofs.StepwiseCodes.{one_begins}
 use Rattle.jls_marker.specs.Scan.{row_count}
-use Rattle.jls_copy.specs.ScanData.{ClosedPiece}
-use Rattle.jls_copy.specs.Course.{CopyUnit, segment, scan, LastClosed, by_input, by_marker}
 use Rattle.jls_picture.specs.Picture.{WholePicture}
 use Rattle.jls_file.specs.WrittenFile.{interval_lines}
-use Rattle.jls_headline.specs.Damaged.{PiecesAre, last_number, WhereCutOff, ReadsAsPictureOrNone, HasHeadOfPicture, DamagedUnit}
-use Rattle.jls_headline.specs.Trimmed.{Trimmed, whole, front, longer, IsTrimmed, TrimmedUnit}
-use Rattle.jls_headline.specs.ScanLaws.{IsScanUnder, ScanOfUnitIs}
-use Rattle.jls_headline.specs.LostIntervalLaws.{TrimmedPiecesAreHarmless, TrimmedPiecesHaveHeads, TrimmedPiecesHaveHeadsOfPicture, TrimmedCopiesAreDamaged}
-use Rattle.jls_headline.proofs.LostIntervals.{both_hold}
-use Rattle.jls_headline.proofs.Members.{all_map}
+use Rattle.jls_copy_law.specs.CopyScans.{ScanPiece, ScanWithData}
+use Rattle.jls_copy_law.proofs.Members.{all_map}
+use Rattle.jls_headline.specs.Damaged.{numbered_pieces, HasPictureLines, DamagedScan}
+use Rattle.jls_headline.specs.Trimmed.{Trimmed, whole, front, longer, IsTrimmed, TrimmedScan}
+use Rattle.jls_headline.specs.ScanLaws.{IsScanUnder}
+use Rattle.jls_headline.specs.LostIntervalLaws.{TrimmedPiecesAreHarmless, TrimmedPiecesHaveHeads, TrimmedPiecesHavePictureLines, TrimmedCopiesAreDamaged}
 use Rattle.jls_headline.proofs.ScansInRange.{scans_are_of_the_frame}
 
 nothing_is : (xs : List Bool) (y : Bool) (ys : List Bool) → xs ++ y ∷ ys ≡ [] → ⊥
@@ -153,52 +152,43 @@ trimmed_pieces_have_heads pic s k piece is t head h = (
       (λ l. lacks_none (record { missing = l.0; more_missing = l.1; code_is = l.2 })),
 )
 
-pub trimmed_pieces_have_heads_of_picture : TrimmedPiecesHaveHeadsOfPicture
-trimmed_pieces_have_heads_of_picture pic s k piece is t head h =
-    head_of_these s.params is.params s.width (length s.components) (row_count s k * length s.components) is.width_at_least t.bytes piece (interval_lines pic s k) t.trimmed t.reads head h
+all_taken : (xs : List (List ℕ)) → take (length xs) xs ≡ xs
+all_taken [] = refl
+all_taken (x ∷ xs) = ap (λ t. x ∷ t) (all_taken xs)
+
+pub trimmed_pieces_have_picture_lines : TrimmedPiecesHavePictureLines
+trimmed_pieces_have_picture_lines pic s k piece is t lines (inl reads) =
+    let e : lines ≡ interval_lines pic s k = trimmed_pieces_are_harmless pic s k piece.bytes is t lines reads in
+    sym (all_taken lines) ∙ ap (take (length lines)) e
+trimmed_pieces_have_picture_lines pic s k piece is t lines (inr (cut, head)) =
+    head_of_these s.params is.params s.width (length s.components) (row_count s k * length s.components) is.width_at_least t.bytes piece.bytes (interval_lines pic s k) t.trimmed t.reads lines head
 
 -- Copies ---------------------------------------------------------------------------------------------------------
 
-pieces_map : (P Q : ℕ → List ℕ → Type 0) → ((k : ℕ) (bytes : List ℕ) → P k bytes → Q k bytes)
-    → (closed : List ClosedPiece) (number : ℕ) (last numbers : List ℕ)
-    → PiecesAre P number closed last numbers → PiecesAre Q number closed last numbers
-pieces_map P Q f [] number last [] p = f number last p
-pieces_map P Q f [] number last (next ∷ numbers) p = absurd p
-pieces_map P Q f (c ∷ closed) number last [] p = absurd p
-pieces_map P Q f (c ∷ closed) number last (next ∷ numbers) p = (f number c.piece p.0, p.1, pieces_map P Q f closed next last numbers p.2)
-
-last_is : (P : ℕ → List ℕ → Type 0) (closed : List ClosedPiece) (number : ℕ) (last numbers : List ℕ)
-    → PiecesAre P number closed last numbers → P (last_number number numbers) last
-last_is P [] number last [] p = p
-last_is P [] number last (next ∷ numbers) p = absurd p
-last_is P (c ∷ closed) number last [] p = absurd p
-last_is P (c ∷ closed) number last (next ∷ numbers) p = last_is P closed next last numbers p.2
-
-where_cut : (closing : LastClosed) (Claim : Type 0) → Claim → WhereCutOff closing Claim
-where_cut (by_input dropped) Claim h = h
-where_cut by_marker Claim h = tt
+both_hold : {X : Type 0} (P Q : X → Type 0) (xs : List X) → AllByRecursion P xs → AllByRecursion Q xs
+    → AllByRecursion (λ x. P x × Q x) xs
+both_hold P Q [] h k = tt
+both_hold P Q (x ∷ xs) h k = ((h.0, k.0), both_hold P Q xs h.1 k.1)
 
 module _ (pic : WholePicture) where
-  abbrev TrimmedHere : CopyUnit → Type 0
-  TrimmedHere u = TrimmedUnit pic u × ScanOfUnitIs (IsScanUnder pic.shape) u
+  abbrev IsUnder : ScanWithData → Type 0
+  IsUnder d = IsScanUnder pic.shape d.scan
 
-  unit_is_damaged : (u : CopyUnit) → TrimmedHere u → DamagedUnit pic u
-  unit_is_damaged (segment fill code payload) h = tt
-  unit_is_damaged (scan fill code payload s closed last closing) (t, is) = record {
-    numbers = t.numbers;
-    rise = t.rise;
-    pieces_are = pieces_map (IsTrimmed pic s) (ReadsAsPictureOrNone pic s) (λ k bytes h. trimmed_pieces_are_harmless pic s k bytes is.0 h) closed 0 last t.numbers t.pieces_are;
-    head = where_cut closing (HasHeadOfPicture pic s (last_number 0 t.numbers) last)
-        (trimmed_pieces_have_heads_of_picture pic s (last_number 0 t.numbers) last is.0 (last_is (IsTrimmed pic s) closed 0 last t.numbers t.pieces_are));
-  }
+  abbrev TrimmedHere : ScanWithData → Type 0
+  TrimmedHere d = TrimmedScan pic d × IsUnder d
+
+  scan_is_damaged : (d : ScanWithData) → TrimmedHere d → DamagedScan pic d
+  scan_is_damaged d ((numbers, are, each), under) = (
+    numbers,
+    are,
+    all_map (λ (p : ℕ × ScanPiece). IsTrimmed pic d.scan p.0 p.1.bytes) (HasPictureLines pic d.scan) (numbered_pieces d numbers)
+        (λ p t. trimmed_pieces_have_picture_lines pic d.scan p.0 p.1 under.0 t) each,
+  )
 
 pub trimmed_copies_are_damaged : TrimmedCopiesAreDamaged
-trimmed_copies_are_damaged pic copy low (c, is, t) =
-    let framed = scans_are_of_the_frame copy low c is pic.shape t.framed in (
-      c,
-      is,
-      record {
-        framed = t.framed;
-        units = all_map (TrimmedHere pic) (DamagedUnit pic) c.units (unit_is_damaged pic) (both_hold (TrimmedUnit pic) (ScanOfUnitIs (IsScanUnder pic.shape)) c.units t.units framed.1);
-      },
-    )
+trimmed_copies_are_damaged pic copy (scans, has, trimmed) = (
+  scans,
+  has,
+  all_map (TrimmedHere pic) (DamagedScan pic) scans (scan_is_damaged pic)
+      (both_hold (TrimmedScan pic) (IsUnder pic) scans trimmed (scans_are_of_the_frame copy pic.shape scans has).1),
+)

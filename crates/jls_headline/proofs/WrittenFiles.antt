@@ -1,24 +1,26 @@
 -- The JPEG-LS file that is written of a picture reads as that picture and no other.
 use Rattle.std.proofs.Common.{◌≡◌, ℕ, zero, suc, ◌<◌, List, [], ◌∷◌, length, sym, subst, arith, inl, inr}
-use Rattle.std.specs.Prelude.{get_or}
+use Rattle.std.specs.Prelude.{get_or, ◌↔◌}
 use Rattle.std.specs.List.{AllByRecursion, Contains}
 use Rattle.std.proofs.lemmas.List.Elements.{Contains-append_left, Contains-append_right}
 use Rattle.jls_values.specs.Shape.{PictureShape}
 use Rattle.jls_partial.specs.Reading.{Reading}
 use Rattle.jls_partial.specs.Partial.{PartialPicture}
-use Rattle.jls_copy.specs.Course.{Course}
 use Rattle.jls_copy.specs.Pieces.{FoundPiece, PieceOutcome, Lines, pieces, AreOutcomes, readings_of, readings}
-use Rattle.jls_copy.proofs.OneCourse.{one_course}
 use Rattle.jls_picture.specs.Picture.{WholePicture, line_of, picture_of}
 use Rattle.jls_file.specs.WrittenFile.{written_file}
-use Rattle.jls_file_law.specs.Covering.{IsLineOf, AreThePicture}
+use Rattle.jls_file_law.specs.Covering.{AreThePicture}
 use Rattle.jls_file_law.specs.FileLaw.{IsWritable, ReadsBack}
 use Rattle.jls_file_law.proofs.Covering.{contains_the_picture}
 use Rattle.jls_file_law.proofs.FileRead.{file_law}
-use Rattle.jls_headline.specs.Gives.{PieceGives, CourseGives, GivesReading}
+use Rattle.jls_file_law.proofs.WrittenBytes.{written_bytes}
+use Rattle.jls_copy_law.specs.CourseGives.{FoundPieceGives, CourseGives}
+use Rattle.jls_copy_law.specs.Gives.{GivesReading}
+use Rattle.jls_copy_law.proofs.CopyScans.{course_has_scans}
+use Rattle.jls_copy_law.proofs.Gives.{readings_are_of_the_course}
 use Rattle.jls_picture.specs.WholePictures.{IsLineIn, IsComponentIn, IsPicture, IsWholePicture}
 use Rattle.jls_headline.specs.ReadsAs.{ReadsAs, ReadsAsOnly, FilesReadBack, FilesReadAs}
-use Rattle.jls_headline.proofs.Members.{none_in, first_or_rest}
+use Rattle.jls_copy_law.proofs.Members.{none_in, first_or_rest}
 use Rattle.jls_headline.proofs.CopyGives.{listed}
 use Rattle.jls_headline.proofs.Pictures.{heights, files_read_as_one}
 
@@ -50,14 +52,14 @@ is_whole pic is = record { shape = is.shape; widths = widths }
 
 -- outcomes of which one is this piece's own
 with_own : (ps : List FoundPiece) (os : List PieceOutcome) (p : FoundPiece) (r : Reading) → AreOutcomes ps os → Contains ps p
-    → PieceGives p r
+    → FoundPieceGives p r
     → (others : List PieceOutcome) × AreOutcomes ps others × Contains (readings ps others) r
 with_own [] os p r are c g = absurd (none_in p c)
 with_own (q ∷ ps) [] p r are c g = absurd are
 with_own (q ∷ ps) (o ∷ os) p r are c g =
     elim (first_or_rest p q ps c) [
       | inl e ↦ (
-          let h : PieceGives q r = subst (λ x. PieceGives x r) (sym e) g in
+          let h : FoundPieceGives q r = subst (λ x. FoundPieceGives x r) (sym e) g in
           (Lines h.lines ∷ os, (h.reads, are.1), Contains-append_left (readings_of q (Lines h.lines)) (readings ps os) r h.among))
       | inr later ↦ (
           let m = with_own ps os p r are.1 later g in
@@ -76,16 +78,17 @@ module _ (pic : WholePicture) (file : List ℕ) (rs : List Reading) (w : ReadsBa
       inl (listed (pieces w.course) w.outcomes r w.some_outcomes
       (subst (λ xs. Contains xs r) (sym (w.gives w.outcomes w.some_outcomes).0) c))
 
-  reads_as : AreThePicture pic rs → ReadsAs file pic
-  reads_as are = record { shape = (w.course, w.is_course, w.framed); readings = λ r. (there r, back r) }
+  reads_as : AllByRecursion (λ b. b < 256) file → AreThePicture pic rs → ReadsAs file pic
+  reads_as low are = record {
+    shape = (_, course_has_scans file w.course pic.shape low w.is_course w.framed);
+    readings = λ r. (
+      λ g. (contains_the_picture pic rs are r).0 (given_is_listed r ((by_course r).0 g)),
+      λ is. (by_course r).1 (listed_is_given r ((contains_the_picture pic rs are r).1 is)),
+    );
+  }
     where
-      there : (r : Reading) → GivesReading file r → IsLineOf pic r
-      there r (c, is, g) =
-          (contains_the_picture pic rs are r).0
-          (given_is_listed r (subst (λ (k : Course). CourseGives k r) (one_course file c w.course is w.is_course) g))
-
-      back : (r : Reading) → IsLineOf pic r → GivesReading file r
-      back r is = (w.course, w.is_course, listed_is_given r ((contains_the_picture pic rs are r).1 is))
+      by_course : (r : Reading) → GivesReading file r ↔ CourseGives w.course r
+      by_course r = readings_are_of_the_course file w.course pic.shape r low w.is_course w.framed
 
 -- The files of a station's picture -------------------------------------------------------------------------------
 
@@ -96,7 +99,7 @@ pub files_read_back : (pic : WholePicture) → IsPicture pic → FilesReadBack p
 files_read_back pic is o params below fit =
     let can : IsWritable pic o = record { whole = is_whole pic is; fit = fit; params = params; restart_below = below } in
     let law = file_law pic o can in
-    reads_as_only (written_file pic o) pic is (reads_as pic (written_file pic o) _ law.0 law.1)
+    reads_as_only (written_file pic o) pic is (reads_as pic (written_file pic o) _ law.0 (written_bytes pic o can) law.1)
 
 pub files_read_as : (station : PartialPicture) (pic : WholePicture) → IsPicture pic → picture_of station ≡ pic → FilesReadAs station pic
 files_read_as station pic is e o params below fit =

@@ -11,7 +11,7 @@ use Rattle.jls_commands.specs.declared.writing.Format.{Format}
 use Rattle.jls_commands.specs.declared.writing.Format.TheVariants.{Jls}
 use Rattle.jls_headline.specs.NoOtherLaws.{SomeInputHasEachLine, WrittenInputsAreThePicture, WrittenInputsReadAsThePicture}
 use Rattle.jls_headline.proofs.JoinThenWrite.{DidWrite, did_write, read_as_the_picture}
-use Rattle.jls_headline.proofs.Members.{none_in, first_or_rest}
+use Rattle.jls_copy_law.proofs.Members.{none_in, first_or_rest}
 use Rattle.jls_headline.proofs.SettledInputs.{IsJoined, settled_is_the_picture}
 
 -- what was written is the picture

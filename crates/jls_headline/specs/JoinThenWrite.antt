@@ -12,8 +12,7 @@ use Rattle.jls_commands.specs.declared.outcome.Refusal.TheVariants.{Unsettled}
 use Rattle.jls_commands.specs.WritingFiles.{file, WritesFile}
 use Rattle.jls_commands.specs.declared.writing.Format.{Format}
 use Rattle.jls_commands.specs.declared.writing.Format.TheVariants.{Jls}
-use Rattle.jls_headline.specs.Damaged.{Damaged}
-use Rattle.jls_headline.specs.Survives.{EachLineSurvives}
+use Rattle.jls_headline.specs.Damaged.{Damaged, EachLineSurvives}
 use Rattle.jls_picture.specs.WholePictures.{IsPicture}
 use Rattle.jls_headline.specs.ReadsAs.{ReadsAsOnly}
 use Rattle.jls_headline.specs.RunLaws.{InputsStandFor}

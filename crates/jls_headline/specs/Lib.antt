@@ -1,7 +1,4 @@
-pub mod PictureLines
-pub mod Gives
 pub mod Damaged
-pub mod Survives
 pub mod Trimmed
 pub mod ScanLaws
 pub mod LostIntervalLaws

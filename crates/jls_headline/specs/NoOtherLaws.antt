@@ -14,9 +14,8 @@ use Rattle.jls_commands.specs.Outcomes.{finished}
 use Rattle.jls_commands.specs.WritingFiles.{file, WritesFile}
 use Rattle.jls_commands.specs.declared.writing.Format.{Format}
 use Rattle.jls_commands.specs.declared.writing.Format.TheVariants.{Jls}
-use Rattle.jls_headline.specs.PictureLines.{picture_reading}
+use Rattle.jls_headline.specs.Damaged.{picture_reading, Survives}
 use Rattle.jls_headline.specs.ReadsAs.{GivesPicture, FilesReadAs, ReadsAsOnly}
-use Rattle.jls_headline.specs.Survives.{Survives}
 
 -- an input has the picture's line: a copy in which it survives, or a text of the picture's shape that has it as a reading
 abbrev pub InputHasLine : WholePicture → List ℕ → ℕ → ℕ → Type 0

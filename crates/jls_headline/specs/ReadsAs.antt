@@ -9,10 +9,10 @@ use Rattle.jls_picture.specs.WholePictures.{IsPicture}
 use Rattle.jls_picture.specs.Options.{WriteOptions, OptionsFit}
 use Rattle.jls_file.specs.WrittenFile.{written_file}
 use Rattle.jls_file_law.specs.Covering.{IsLineOf}
-use Rattle.jls_headline.specs.Gives.{GivesReading}
+use Rattle.jls_copy_law.specs.Gives.{GivesReading}
 use Rattle.jls_headline.specs.Stations.{HasShape}
 
--- each line of the shape has exactly one reading, and this is the picture of them
+-- each line of the station has exactly one reading, and together these readings are the picture
 abbrev pub GivesPicture : PartialPicture → WholePicture → Type 0
 GivesPicture station pic = IsSettled station × (picture_of station ≡ pic)
 
@@ -32,8 +32,8 @@ FilesReadBack pic =
     (o : WriteOptions) → AreCodingParameters o.params → o.restart_interval < 2 ^ 32 → OptionsFit pic o
     → ReadsAsOnly (written_file pic o) pic
 
--- each JPEG-LS file that is written of the station's picture, under options in their ranges that fit this one, reads as this one and
--- as no other
+-- Each JPEG-LS file that is written of the station's picture reads as the picture `pic` and as no other. The options are in their ranges
+-- and fit `pic`
 abbrev pub FilesReadAs : PartialPicture → WholePicture → Type 0
 FilesReadAs station pic =
     (o : WriteOptions) → AreCodingParameters o.params → o.restart_interval < 2 ^ 32 → OptionsFit pic o

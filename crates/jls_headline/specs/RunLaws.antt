@@ -8,8 +8,7 @@ use Rattle.jls_picture.specs.Picture.{WholePicture}
 use Rattle.jls_station.specs.Texts.{is_text, IsTextOf}
 use Rattle.jls_commands.specs.Joining.{JoinIsDone}
 use Rattle.jls_commands.specs.Laws.{input_bytes, output_bytes}
-use Rattle.jls_headline.specs.Damaged.{Damaged}
-use Rattle.jls_headline.specs.Survives.{EachLineSurvives}
+use Rattle.jls_headline.specs.Damaged.{Damaged, EachLineSurvives}
 use Rattle.jls_headline.specs.Stations.{HoldsExactly, SameCopies}
 use Rattle.jls_picture.specs.WholePictures.{IsPicture}
 use Rattle.jls_headline.specs.ReadsAs.{GivesPicture, FilesReadAs}
@@ -122,5 +121,5 @@ abbrev pub RunsUnderSourcesHandOutTheSame : Type 0
 RunsUnderSourcesHandOutTheSame =
     (run again : DoneJoin)
     → (copies others : List SourcedCopy) → InputsStandUnder run.source (input_bytes run.events) copies
-    → InputsStandUnder again.source (input_bytes again.events) others → run.joined.shape ≡ again.joined.shape → SameCopiesUnder copies others
-    → (run.joined ≡ again.joined) × (output_bytes run.events ≡ output_bytes again.events)
+    → InputsStandUnder again.source (input_bytes again.events) others → run.joined.shape ≡ again.joined.shape
+    → SameCopiesUnder copies others → (run.joined ≡ again.joined) × (output_bytes run.events ≡ output_bytes again.events)

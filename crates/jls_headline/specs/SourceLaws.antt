@@ -13,20 +13,27 @@ use Rattle.jls_station.specs.Inputs.{ReadsGive}
 use Rattle.jls_station.specs.TakingCopies.{TakesCopy, RefusesCopy}
 use Rattle.jls_station.specs.declared.take_copy.TakeFault.{TakeFault}
 use Rattle.jls_station.specs.declared.take_copy.TakeFault.TheVariants as fault
-use Rattle.jls_headline.specs.Stations.{HoldsExactly, TookInTheEnd, SameCopies}
-use Rattle.jls_headline.specs.Sources.{SourcedCopy, copies_of, HoldsExactlyUnder, TookUnder, TookInTheEndUnder, SameCopiesUnder}
+use Rattle.jls_headline.specs.Stations.{HoldsExactly, SameCopies, TookInTheEnd}
+use Rattle.jls_headline.specs.Sources.{SourcedCopy, copies_of, HoldsExactlyUnder, TookUnder, SameCopiesUnder, TookInTheEndUnder}
 
 -- the copy of these bytes, under this source
 abbrev pub sourced_copy : Option ℕ → List ℕ → SourcedCopy
 sourced_copy source bytes = record { source = source; bytes = bytes }
 
 -- Stations of one shape that took the same copies under the same sources, in any order and with any repeats, hold exactly the readings
--- that those copies give, each under exactly the sources of the copies that give it. They are the same, and so are their texts
+-- that those copies give, each under exactly the sources of the copies that give it. They are the same, and so is whatever is written of
+-- them (law `same_copies_write_the_same_bytes`)
+abbrev pub SameSourcesSameStation : Type 0
+SameSourcesSameStation =
+    (station other : PartialPicture) (copies others : List SourcedCopy) → TookInTheEndUnder station copies → TookInTheEndUnder other others
+    → station.shape ≡ other.shape → SameCopiesUnder copies others
+    → HoldsExactlyUnder station copies × HoldsExactlyUnder other others × (station ≡ other)
+
+-- so their texts are the same
 abbrev pub SameSourcesSameText : Type 0
 SameSourcesSameText =
     (station other : PartialPicture) (copies others : List SourcedCopy) → TookInTheEndUnder station copies → TookInTheEndUnder other others
-    → station.shape ≡ other.shape → SameCopiesUnder copies others
-    → HoldsExactlyUnder station copies × HoldsExactlyUnder other others × (station ≡ other) × (text station ≡ text other)
+    → station.shape ≡ other.shape → SameCopiesUnder copies others → text station ≡ text other
 
 -- what is said of copies under sources is said of the copies: so the other laws of stations hold of it
 abbrev pub SourcesAside : Type 0

@@ -1,17 +1,11 @@
 -- Stations that took copies under sources: which sources their readings have.
-use Rattle.std.specs.Prelude.{◌≡◌, ℕ, ◌<◌, true, List, [], ◌∷◌, ◌++◌, map, Option, Some, ◌↔◌}
-use Rattle.std.specs.List.{AllByRecursion, Contains}
+use Rattle.std.specs.Prelude.{◌≡◌, ℕ, true, List, map, Option, Some, ◌↔◌}
+use Rattle.std.specs.List.{Contains}
 use Rattle.jls_values.specs.OrderedSet as set
-use Rattle.jls_values.specs.Join.{IsBetween}
 use Rattle.jls_partial.specs.Reading.{Reading}
-use Rattle.jls_partial.specs.Partial.{PartialPicture, union}
-use Rattle.jls_copy.specs.CopyReads.{CopyReads}
-use Rattle.jls_copy.specs.ReadCopy.{ReadCopy}
-use Rattle.jls_station.specs.Given.{marked}
-use Rattle.jls_headline.specs.Gives.{GivesReading}
-use Rattle.jls_headline.specs.Stations.{HoldsExactly, IsSameCopy}
-
--- Exactly the sources of copies ----------------------------------------------------------------------------------
+use Rattle.jls_partial.specs.Partial.{PartialPicture}
+use Rattle.jls_copy_law.specs.Gives.{GivesReading}
+use Rattle.jls_headline.specs.Stations.{HoldsExactly, TookBy, AreAmong, AreSame, IsSameCopy}
 
 -- a copy, and the source that it was taken under, where there is one
 pub record SourcedCopy : Type 0 where
@@ -26,7 +20,7 @@ copies_of copies = map (λ copy. copy.bytes) copies
 abbrev pub GivesUnder : SourcedCopy → Reading → ℕ → Type 0
 GivesUnder copy r source = (copy.source ≡ Some source) × GivesReading copy.bytes r
 
--- one of these copies does
+-- some of these copies gives the reading under this source
 abbrev pub SourcesOf : List SourcedCopy → Reading → ℕ → Type 0
 SourcesOf copies r source = (copy : SourcedCopy) × Contains copies copy × GivesUnder copy r source
 
@@ -35,29 +29,18 @@ pub record HoldsExactlyUnder (p : PartialPicture) (copies : List SourcedCopy) : 
   pub readings : HoldsExactly p (copies_of copies)
   pub sources : (r : Reading) (source : ℕ) → (set.contains p.marks (r, source) ≡ true) ↔ SourcesOf copies r source
 
--- Took, with the sources -----------------------------------------------------------------------------------------
+-- the history of a station that took copies, each under its source
+abbrev pub TookUnder : PartialPicture → List SourcedCopy → List SourcedCopy → Type 0
+TookUnder station copies over = TookBy HoldsExactlyUnder station copies over
 
--- A station, after calls, as `Took` has it: it took these copies, each under its source, and ran out of memory over those
-pub data TookUnder : PartialPicture → List SourcedCopy → List SourcedCopy → Type 0 where
-  began_under : (p : PartialPicture) (copies : List SourcedCopy) → HoldsExactlyUnder p copies → TookUnder p copies []
-  took_copy_under : (station : PartialPicture) (copies over : List SourcedCopy) (copy : SourcedCopy) (read : ReadCopy)
-      → TookUnder station copies over → AllByRecursion (λ b. b < 256) copy.bytes → CopyReads copy.bytes read
-      → read.partial.shape ≡ station.shape → TookUnder (union station (marked copy.source read.partial)) (copy ∷ copies) over
-  took_partial_under : (station taken : PartialPicture) (copies over more : List SourcedCopy) → TookUnder station copies over
-      → HoldsExactlyUnder taken more → taken.shape ≡ station.shape → TookUnder (union station taken) (more ++ copies) over
-  ran_out_under : (station new other : PartialPicture) (copies over more : List SourcedCopy) → TookUnder station copies over
-      → HoldsExactlyUnder other more → other.shape ≡ station.shape → IsBetween union station new (union station other)
-      → TookUnder new copies (more ++ over)
+-- the same copy, under the same source
+abbrev pub IsSameUnder : SourcedCopy → SourcedCopy → Type 0
+IsSameUnder copy other = (copy.source ≡ other.source) × IsSameCopy copy.bytes other.bytes
 
--- each of these copies is one of those, under the same source
-abbrev pub AreAmongUnder : List SourcedCopy → List SourcedCopy → Type 0
-AreAmongUnder copies others = (copy : SourcedCopy) → Contains copies copy
-    → (other : SourcedCopy) × Contains others other × (copy.source ≡ other.source) × IsSameCopy copy.bytes other.bytes
-
--- the station took these copies, and each that it ran out of memory over was taken in the end, under the same source
-abbrev pub TookInTheEndUnder : PartialPicture → List SourcedCopy → Type 0
-TookInTheEndUnder station copies = (over : List SourcedCopy) × TookUnder station copies over × AreAmongUnder over copies
-
--- the same copies under the same sources, whatever their order and however often each stands there
+-- the same copies under the same sources
 abbrev pub SameCopiesUnder : List SourcedCopy → List SourcedCopy → Type 0
-SameCopiesUnder copies others = AreAmongUnder copies others × AreAmongUnder others copies
+SameCopiesUnder copies others = AreSame IsSameUnder copies others
+
+-- the station took these copies, and each over which it ran out of memory is the same as one of them, under the same source
+abbrev pub TookInTheEndUnder : PartialPicture → List SourcedCopy → Type 0
+TookInTheEndUnder station copies = (over : List SourcedCopy) × TookUnder station copies over × AreAmong IsSameUnder over copies

@@ -1,15 +1,13 @@
 -- What stations hold that took copies, call after call.
-use Rattle.std.specs.Prelude.{◌≡◌, ℕ, ◌<◌, true, List, [], ◌∷◌, ◌++◌, Some, ◌⊎◌, ◌↔◌}
+use Rattle.std.specs.Prelude.{◌≡◌, ℕ, true, List, [], ◌++◌, ◌⊎◌, ◌↔◌}
 use Rattle.std.specs.List.{AllByRecursion, Contains}
-use Rattle.jls_values.specs.OrderedSet as set
 use Rattle.jls_values.specs.Join.{IsBetween}
+use Rattle.jls_values.specs.OrderedSet as set
 use Rattle.jls_values.specs.Shape.{PictureShape}
 use Rattle.jls_partial.specs.Reading.{Reading}
 use Rattle.jls_partial.specs.Partial.{PartialPicture, union}
-use Rattle.jls_copy.specs.Course.{Course, IsCourse}
-use Rattle.jls_copy.specs.CopyReads.{CopyReads, IsDone}
-use Rattle.jls_copy.specs.ReadCopy.{ReadCopy}
-use Rattle.jls_headline.specs.Gives.{GivesReading}
+use Rattle.jls_copy_law.specs.CopyScans.{ScanWithData, HasScans}
+use Rattle.jls_copy_law.specs.Gives.{GivesReading}
 
 -- Exactly the readings of copies -------------------------------------------------------------------------------
 
@@ -17,54 +15,52 @@ use Rattle.jls_headline.specs.Gives.{GivesReading}
 abbrev pub ReadingsOf : List (List ℕ) → Reading → Type 0
 ReadingsOf copies r = (copy : List ℕ) × Contains copies copy × GivesReading copy r
 
--- the course of the copy takes a frame of this shape
+-- the copy is a list of bytes with a frame of this shape
 abbrev pub HasShape : PictureShape → List ℕ → Type 0
-HasShape shape copy = (c : Course) × IsCourse copy c × (c.headers.frame ≡ Some shape)
+HasShape shape copy = (scans : List ScanWithData) × HasScans copy shape scans
 
--- lists of bytes, of this shape
-abbrev pub AreCopies : PictureShape → List (List ℕ) → Type 0
-AreCopies shape copies = AllByRecursion (λ copy. AllByRecursion (λ b. b < 256) copy × HasShape shape copy) copies
-
--- the copies are of its shape, and it holds exactly their readings
+-- the copies have a frame of the station's shape, and it holds exactly the readings that they give, from whatever source
 pub record HoldsExactly (p : PartialPicture) (copies : List (List ℕ)) : Type 0 where
-  pub are_copies : AreCopies p.shape copies
+  pub are_copies : AllByRecursion (HasShape p.shape) copies
   pub readings : (r : Reading) → (set.contains p.readings r ≡ true) ↔ ReadingsOf copies r
 
 -- Took ---------------------------------------------------------------------------------------------------------
 
--- it has the readings of another partial picture, from whatever source
-abbrev pub HasReadingsOf : PartialPicture → PartialPicture → Type 0
-HasReadingsOf p q = (p.shape ≡ q.shape) × (p.readings ≡ q.readings)
+-- The history of a station: the copies that it took, and those over which it ran out of memory. `Holds` says that a partial picture holds
+-- exactly what copies give. A station begins with what some copies give; a new one, with none. It takes in what holds exactly more copies:
+-- a copy that was read, or another partial picture. Where it ran out of memory, it has taken in a part of this
+pub data TookBy {C : Type 0} (Holds : PartialPicture → List C → Type 0) : PartialPicture → List C → List C → Type 0 where
+  began : (p : PartialPicture) (copies : List C) → Holds p copies → TookBy Holds p copies []
+  took_copies : (station taken : PartialPicture) (copies over more : List C) → TookBy Holds station copies over
+      → Holds taken more → taken.shape ≡ station.shape → TookBy Holds (union station taken) (more ++ copies) over
+  ran_out : (station new other : PartialPicture) (copies over more : List C) → TookBy Holds station copies over
+      → Holds other more → other.shape ≡ station.shape → IsBetween union station new (union station other)
+      → TookBy Holds new copies (more ++ over)
 
--- A station, after calls: it took these copies, and it ran out of memory over those, of which it can have taken some readings.
--- It begins with exactly the readings of some copies; a new one, with those of none.
--- A copy was taken where the station became the union of what it held and what was read of the copy; copies were taken where `take`
--- answered Ok for what holds exactly their readings
-pub data Took : PartialPicture → List (List ℕ) → List (List ℕ) → Type 0 where
-  began : (p : PartialPicture) (copies : List (List ℕ)) → HoldsExactly p copies → Took p copies []
-  took_copy : (station taken : PartialPicture) (copies over : List (List ℕ)) (copy : List ℕ) (read : ReadCopy) → Took station copies over
-      → AllByRecursion (λ b. b < 256) copy → CopyReads copy read → HasReadingsOf taken read.partial → taken.shape ≡ station.shape
-      → Took (union station taken) (copy ∷ copies) over
-  took_partial : (station taken : PartialPicture) (copies over more : List (List ℕ)) → Took station copies over
-      → HoldsExactly taken more → taken.shape ≡ station.shape → Took (union station taken) (more ++ copies) over
-  ran_out : (station new other : PartialPicture) (copies over more : List (List ℕ)) → Took station copies over
-      → HoldsExactly other more → other.shape ≡ station.shape → IsBetween union station new (union station other)
-      → Took new copies (more ++ over)
+-- the history of a station, where it is known which readings were held exactly, and not from which sources
+abbrev pub Took : PartialPicture → List (List ℕ) → List (List ℕ) → Type 0
+Took station copies over = TookBy HoldsExactly station copies over
 
--- two lists of bytes are one copy: they are equal, or they differ only behind the end of the copy
+-- The same copies ----------------------------------------------------------------------------------------------
+
+-- each of the first list is the same as some of the second
+abbrev pub AreAmong : {C : Type 0} → (C → C → Type 0) → List C → List C → Type 0
+AreAmong {C} IsSame copies others = (copy : C) → Contains copies copy → (other : C) × Contains others other × IsSame copy other
+
+-- so both ways: the two lists have the same ones, whatever their order and however often each stands there
+abbrev pub AreSame : {C : Type 0} → (C → C → Type 0) → List C → List C → Type 0
+AreSame IsSame copies others = AreAmong IsSame copies others × AreAmong IsSame others copies
+
+-- Two lists of bytes are the same copy if they are equal. They also are if they have one shape and the same scans, as where only comments,
+-- fill bytes or bytes after the end differ
 abbrev pub IsSameCopy : List ℕ → List ℕ → Type 0
-IsSameCopy copy other = (copy ≡ other)
-    ⊎ ((front : List ℕ) × (behind : List ℕ) × (behind' : List ℕ)
-    × IsDone front true × (copy ≡ front ++ behind) × (other ≡ front ++ behind'))
+IsSameCopy copy other =
+    (copy ≡ other) ⊎ ((shape : PictureShape) × (scans : List ScanWithData) × HasScans copy shape scans × HasScans other shape scans)
 
--- each of these copies is one of those
-abbrev pub AreAmong : List (List ℕ) → List (List ℕ) → Type 0
-AreAmong copies others = (copy : List ℕ) → Contains copies copy → (other : List ℕ) × Contains others other × IsSameCopy copy other
-
--- the station took these copies, and each that it ran out of memory over was taken in the end
-abbrev pub TookInTheEnd : PartialPicture → List (List ℕ) → Type 0
-TookInTheEnd station copies = (over : List (List ℕ)) × Took station copies over × AreAmong over copies
-
--- the same copies, whatever their order and however often each stands there
+-- the same copies
 abbrev pub SameCopies : List (List ℕ) → List (List ℕ) → Type 0
-SameCopies copies others = AreAmong copies others × AreAmong others copies
+SameCopies copies others = AreSame IsSameCopy copies others
+
+-- the station took these copies, and each over which it ran out of memory is the same as one of them, taken before or after
+abbrev pub TookInTheEnd : PartialPicture → List (List ℕ) → Type 0
+TookInTheEnd station copies = (over : List (List ℕ)) × Took station copies over × AreAmong IsSameCopy over copies

@@ -1,15 +1,15 @@
 -- Trimmed pieces: what is left where nothing but the front of an interval's bytes came, or bytes came behind them.
-use Rattle.std.specs.Prelude.{◌≡◌, ℕ, Bool, List, ◌∷◌, ◌++◌, length, Some}
+use Rattle.std.specs.Prelude.{◌≡◌, ℕ, Bool, List, ◌∷◌, ◌++◌, length}
 use Rattle.std.specs.List.{AllByRecursion}
 use Rattle.jls_bits.specs.Bits.{bits_read}
 use Rattle.jls_interval.specs.Code.{code}
-use Rattle.jls_marker.specs.Scan.{Scan, intervals}
-use Rattle.jls_copy.specs.ScanData.{ClosedPiece}
-use Rattle.jls_copy.specs.Numbers.{RiseByEightAtMost}
-use Rattle.jls_copy.specs.Course.{CopyUnit, segment, scan, Course, IsCourse}
+use Rattle.jls_interval.specs.Reads.{Reads}
+use Rattle.jls_marker.specs.Scan.{Scan}
+use Rattle.jls_copy.specs.IntervalOf.{interval_of}
 use Rattle.jls_picture.specs.Picture.{WholePicture}
 use Rattle.jls_file.specs.WrittenFile.{interval_lines}
-use Rattle.jls_headline.specs.Damaged.{ReadsAsPicture, PiecesAre}
+use Rattle.jls_copy_law.specs.CopyScans.{ScanPiece, ScanWithData, HasScans}
+use Rattle.jls_headline.specs.Damaged.{AreNumbers, numbered_pieces}
 
 -- the whole of the bytes, so many of them from the front on, or all of them and at least one more
 pub data Trimmed : List ℕ → List ℕ → Type 0 where
@@ -17,34 +17,23 @@ pub data Trimmed : List ℕ → List ℕ → Type 0 where
   front : (kept lost : List ℕ) → Trimmed (kept ++ lost) kept
   longer : (bytes : List ℕ) (first : ℕ) (more : List ℕ) → Trimmed bytes (bytes ++ first ∷ more)
 
--- a piece trimmed from one that reads as the picture's lines of interval k
+-- bytes trimmed from some that read as the picture's lines of interval k
 pub record IsTrimmed (pic : WholePicture) (s : Scan) (k : ℕ) (piece : List ℕ) : Type 0 where
   pub bytes : List ℕ
-  pub reads : ReadsAsPicture pic s k bytes
+  pub reads : Reads (interval_of s k) bytes (interval_lines pic s k)
   pub trimmed : Trimmed bytes piece
 
--- the piece lacks a bit of the code of the picture's lines of interval k, and has no bit that isn't of it
+-- the bytes lack a bit of the code of the picture's lines of interval k, and have no bit that isn't of it
 pub record LacksABit (pic : WholePicture) (s : Scan) (k : ℕ) (piece : List ℕ) : Type 0 where
   pub missing : Bool
   pub more_missing : List Bool
   pub code_is : bits_read piece ++ missing ∷ more_missing ≡ code s.params s.width (length s.components) (interval_lines pic s k)
 
--- whole intervals are lost and pieces are trimmed, and nothing else
-pub record TrimmedScan (pic : WholePicture) (s : Scan) (closed : List ClosedPiece) (last : List ℕ) : Type 0 where
-  pub numbers : List ℕ
-  pub rise : RiseByEightAtMost (intervals s) 0 numbers
-  pub pieces_are : PiecesAre (IsTrimmed pic s) 0 closed last numbers
+-- the pieces are those of some intervals, each trimmed or whole, and nothing else happened to the scan
+abbrev pub TrimmedScan : WholePicture → ScanWithData → Type 0
+TrimmedScan pic d = (numbers : List ℕ) × AreNumbers d numbers
+    × AllByRecursion (λ (p : ℕ × ScanPiece). IsTrimmed pic d.scan p.0 p.1.bytes) (numbered_pieces d numbers)
 
--- nothing else happened to a scan of the copy; a marker segment may say anything
-abbrev pub TrimmedUnit : WholePicture → CopyUnit → Type 0
-TrimmedUnit pic (segment fill code payload) = Unit {0}
-TrimmedUnit pic (scan fill code payload s closed last closing) = TrimmedScan pic s closed last
-
--- a copy in whose scans nothing else happened
-pub record TrimmedCourse (pic : WholePicture) (c : Course) : Type 0 where
-  pub framed : c.headers.frame ≡ Some pic.shape
-  pub units : AllByRecursion (TrimmedUnit pic) c.units
-
--- the bytes are such a copy of the picture
+-- a copy in whose scans nothing else happened; its other marker segments may say anything
 abbrev pub TrimmedCopy : WholePicture → List ℕ → Type 0
-TrimmedCopy pic copy = (c : Course) × IsCourse copy c × TrimmedCourse pic c
+TrimmedCopy pic copy = (scans : List ScanWithData) × HasScans copy pic.shape scans × AllByRecursion (TrimmedScan pic) scans

@@ -14,8 +14,8 @@ pub use calls::{
     calls_tell_the_sources, calls_tell_what_was_taken, copies_that_are_read_hold_their_readings,
 };
 pub use headline::{
-    files_read_as_one, never_another_picture, same_copies_give_the_picture,
-    written_pictures_read_back,
+    bytes_behind_the_end_change_nothing, files_read_as_one, never_another_picture,
+    same_copies_give_the_picture, same_copies_write_the_same_bytes, written_pictures_read_back,
 };
 pub use lost_intervals::{
     damaged_copies_give_the_picture, numbers_come_back, surviving_lines_are_given,

@@ -10,7 +10,8 @@ use Rattle.jls_commands.specs.Outcomes.{finished}
 use Rattle.jls_words.specs.Asking.{AskFor, join}
 use Rattle.jls_program.specs.Runs.{came_of}
 use Rattle.jls_headline.proofs.JoinExamples as runs
-use Rattle.jls_headline.proofs.TwoLineExamples.{pic, is_picture, first, second, both_are_damaged, each_line_survives}
+use Rattle.jls_headline.proofs.TwoLineCopies.{pic, is_picture, first, second}
+use Rattle.jls_headline.proofs.TwoLineExamples.{both_are_damaged, each_line_survives}
 use Rattle.jls_run_laws.specs.RunToRun.{JoinRun}
 
 -- `jls-salvage join o a b`

@@ -14,8 +14,7 @@ use Rattle.jls_commands.specs.declared.writing.Format.TheVariants.{Jls}
 use Rattle.jls_words.specs.Asking.{AskFor, join}
 use Rattle.jls_program.specs.Laws.{written_as}
 use Rattle.jls_program.specs.Runs.{Ran}
-use Rattle.jls_headline.specs.Damaged.{Damaged}
-use Rattle.jls_headline.specs.Survives.{EachLineSurvives}
+use Rattle.jls_headline.specs.Damaged.{Damaged, EachLineSurvives}
 use Rattle.jls_headline.specs.NoOtherLaws.{SomeInputHasEachLine}
 use Rattle.jls_headline.specs.ReadsAs.{GivesPicture, ReadsAsOnly}
 

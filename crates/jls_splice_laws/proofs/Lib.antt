@@ -1,5 +1,3 @@
-mod Lists
-mod Rows
 mod WholeFiles
 mod Searching
 mod TakenFiles

@@ -8,7 +8,7 @@ use Rattle.jls_copy.specs.CopyLaws.{FinalEndsStay}
 use Rattle.jls_copy.specs.Fronts.{FrontsStayBroken}
 use Rattle.jls_copy.specs.Pieces.{pieces}
 use Rattle.jls_copy.proofs.OneCourse.{one_course}
-use Rattle.jls_headline.proofs.Members.{is_first, none_in, first_or_rest, all_at, all_append, all_map}
+use Rattle.jls_copy_law.proofs.Members.{is_first, none_in, first_or_rest, all_at, all_append, all_map}
 use Rattle.jls_parts.proofs.Members.{in_map, of_map, in_flat_map, of_flat_map}
 use Rattle.jls_parts.specs.Parts.{Part, Same, Differ, HasWays, IsSplice, splices}
 use Rattle.jls_parts.specs.SpliceLaws.{SplicesAreListed}

@@ -4,19 +4,19 @@ use Rattle.std.specs.List.{AllByRecursion, Contains}
 use Rattle.std.proofs.lemmas.List.Elements.{Contains-append_right}
 use Rattle.jls_values.specs.Shape.{PictureShape}
 use Rattle.jls_headline.specs.HeadlineLaws.{NeverAnotherPicture, SameCopiesSameReadings}
-use Rattle.jls_headline.specs.Stations.{HasShape, SameCopies}
-use Rattle.jls_headline.proofs.Members.{is_first, in_rest, none_in, first_or_rest, all_map}
+use Rattle.jls_headline.specs.Stations.{SameCopies}
+use Rattle.jls_copy_law.proofs.Members.{is_first, in_rest, none_in, first_or_rest, all_map}
 use Rattle.jls_parts.specs.Parts.{Part, HasWays, IsSplice}
 use Rattle.jls_splice.specs.Faultless.{IsFaultless}
 use Rattle.jls_splice.specs.Search.{HasEachSplice, files_of}
 use Rattle.jls_splice.specs.SearchLaws.{SearchesComeToEachSplice}
 use Rattle.jls_splice_laws.specs.SpliceLaws.{FaultlessSplicesAreTaken, SearchedFilesAreTaken, SearchedSplicesGiveNoOther, SplicesGiveNoOther, WholeSplicesGiveNoOther}
-use Rattle.jls_splice_laws.specs.Taken.{FilesTaken, SearchTaken, AreOfShape, none_left, taken, passed_over}
+use Rattle.jls_splice_laws.specs.Taken.{HasFrame, FilesTaken, SearchTaken, AreOfShape, none_left, taken, passed_over}
 use Rattle.jls_splice_laws.proofs.WholeFiles.{whole_files_are_faultless, whole_files_survive}
 
 -- a file of the shape is among those that are taken
 kept_of_shape : (shape : PictureShape) (files more : List (List ℕ)) (file : List ℕ) → AreOfShape shape files more
-    → Contains files file → HasShape shape file → Contains more file
+    → Contains files file → HasFrame shape file → Contains more file
 kept_of_shape shape _ _ file none_left c h = absurd (none_in file c)
 kept_of_shape shape _ _ file (taken f files more is rest) c h =
     elim (first_or_rest file f files c) [
@@ -25,7 +25,7 @@ kept_of_shape shape _ _ file (taken f files more is rest) c h =
     ]
 kept_of_shape shape _ _ file (passed_over f files more other rest) c h =
     elim (first_or_rest file f files c) [
-      | inl e ↦ absurd (other (subst (HasShape shape) (sym e) h))
+      | inl e ↦ absurd (other (subst (HasFrame shape) (sym e) h))
       | inr later ↦ kept_of_shape shape files more file rest later h
     ]
 

@@ -7,7 +7,7 @@ use Rattle.jls_partial.specs.Status.{IsSettled}
 use Rattle.jls_picture.specs.Picture.{WholePicture, picture_of}
 use Rattle.jls_picture.specs.WholePictures.{IsPicture}
 use Rattle.jls_headline.specs.Stations.{HoldsExactly, TookInTheEnd}
-use Rattle.jls_headline.specs.Survives.{EachLineSurvives}
+use Rattle.jls_headline.specs.Damaged.{EachLineSurvives}
 use Rattle.jls_parts.specs.Parts.{Part, IsSplice}
 use Rattle.jls_splice.specs.Faultless.{IsFaultless}
 use Rattle.jls_splice_laws.specs.Taken.{FilesTaken, AllTaken, SearchTaken}

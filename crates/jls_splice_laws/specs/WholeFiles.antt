@@ -5,7 +5,7 @@ use Rattle.jls_copy.specs.Course.{Course, IsCourse}
 use Rattle.jls_copy.specs.Pieces.{pieces}
 use Rattle.jls_picture.specs.Picture.{WholePicture}
 use Rattle.jls_headline.specs.ReadsAs.{ReadsAs}
-use Rattle.jls_headline.specs.Survives.{Survives}
+use Rattle.jls_headline.specs.Damaged.{Survives}
 use Rattle.jls_splice.specs.Faultless.{HasLines, EndsWell, IsFaultless}
 
 -- each piece of the file reads as lines

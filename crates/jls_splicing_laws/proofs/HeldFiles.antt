@@ -8,7 +8,7 @@ use Rattle.jls_station.specs.Given.{marked}
 use Rattle.jls_headline.specs.Stations.{HoldsExactly, began}
 use Rattle.jls_headline.specs.Sources.{SourcedCopy, HoldsExactlyUnder, copies_of}
 use Rattle.jls_headline.specs.SourceLaws.{sourced_copy}
-use Rattle.jls_headline.proofs.Members.{none_in}
+use Rattle.jls_copy_law.proofs.Members.{none_in}
 use Rattle.jls_headline.proofs.SourcedStations.{marked_shape, copy_holds_under, union_holds_under, took_holds_under}
 use Rattle.jls_headline.proofs.StationCalls.{new_station_took_nothing_under}
 use Rattle.jls_splice_laws.specs.Taken.{AreOfShape, none_left, taken, passed_over}

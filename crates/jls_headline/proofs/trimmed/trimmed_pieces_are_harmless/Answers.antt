@@ -1,4 +1,4 @@
-use Rattle.jls_headline.proofs.Trims.{trimmed_pieces_are_harmless, trimmed_pieces_have_heads, trimmed_pieces_have_heads_of_picture}
+use Rattle.jls_headline.proofs.Trims.{trimmed_pieces_are_harmless, trimmed_pieces_have_heads, trimmed_pieces_have_picture_lines}
 use Rattle.jls_headline.proofs.trimmed.trimmed_pieces_are_harmless.Goals as goal
 
 pub returns-clause-lines : goal.returns-clause-lines
@@ -8,4 +8,4 @@ pub returns-clause-heads : goal.returns-clause-heads
 returns-clause-heads c = trimmed_pieces_have_heads
 
 pub returns-clause-first_lines : goal.returns-clause-first_lines
-returns-clause-first_lines c = trimmed_pieces_have_heads_of_picture
+returns-clause-first_lines c = trimmed_pieces_have_picture_lines

@@ -12,7 +12,7 @@ use Rattle.jls_copy.specs.Course.{by_input, by_marker, CopyUnit, segment, scan, 
 use Rattle.jls_copy.specs.CutPieces.{is_cut, closed_by_input, last_piece}
 use Rattle.jls_copy.specs.Pieces.{FoundPiece, pieces_from, unit_pieces, scans_in, pieces_in, piece_begun}
 use Rattle.jls_copy.specs.declared.end.End.{End}
-use Rattle.jls_headline.proofs.Members.{first_or_rest, none_in}
+use Rattle.jls_copy_law.proofs.Members.{first_or_rest, none_in}
 
 -- The last of pieces -----------------------------------------------------------------------------------------------
 

@@ -1,0 +1,7 @@
+pub mod Members
+mod ScanBegins
+mod PayloadFields
+pub mod SegmentSets
+pub mod CutOff
+pub mod CopyScans
+pub mod Gives

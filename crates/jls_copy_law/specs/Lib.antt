@@ -1,0 +1,6 @@
+pub mod SegmentSets
+pub mod SegmentLaws
+pub mod CopyScans
+pub mod Gives
+pub mod CourseGives
+pub mod CopyLaws
