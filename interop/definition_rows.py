@@ -26,6 +26,14 @@ def audit():
     return module
 
 
+def reached_by(claim):
+    """The definitions that a claim rests on, each after those that it uses."""
+    script = audit()
+    sources = script.Sources()
+    script.read_models()
+    return script.reached(script.roots_of(sources, next(found for found in script.all_claims() if found[3] == claim)))
+
+
 def definitions():
     """[((crate, file), [definition])] in reading order."""
     script = audit()
