@@ -16,7 +16,7 @@ pub record HasCourseWith (copy : List ℕ) (shape : PictureShape) (scans : List 
   pub framed : course.headers.frame ≡ Some shape
   pub scans_are : scans ≡ flat_map scans_of_unit course.units
 
--- bytes have a frame of a shape and scans exactly where their course does
+-- bytes have a frame of a shape and scans if and only if their course does
 abbrev pub ScansAreOfTheCourse : Type 0
 ScansAreOfTheCourse = (copy : List ℕ) (shape : PictureShape) (scans : List ScanWithData) → AreBytes copy
     → HasScans copy shape scans ↔ HasCourseWith copy shape scans
@@ -26,7 +26,7 @@ abbrev pub OneListOfScans : Type 0
 OneListOfScans = (copy : List ℕ) (shape shape' : PictureShape) (scans scans' : List ScanWithData)
     → HasScans copy shape scans → HasScans copy shape' scans' → (shape ≡ shape') × (scans ≡ scans')
 
--- where the course of bytes takes a frame, they give exactly the readings that the course gives
+-- if the course of bytes takes a frame, they give exactly the readings that the course gives
 abbrev pub ReadingsAreOfTheCourse : Type 0
 ReadingsAreOfTheCourse = (copy : List ℕ) (c : Course) (shape : PictureShape) (r : Reading) → AreBytes copy → IsCourse copy c
     → c.headers.frame ≡ Some shape → GivesReading copy r ↔ CourseGives c r

@@ -6,13 +6,13 @@ use Rattle.jls_copy.specs.Course.{Course}
 use Rattle.jls_copy.specs.CutPieces.{cut_pieces, IsHeadAt}
 use Rattle.jls_copy.specs.Pieces.{FoundPiece, Lines, IsOutcome, readings_of, pieces}
 
--- a piece gives the reading: under its number it reads as lines that have it
+-- a piece of a course gives the reading: under its number it reads as lines that have it
 pub record FoundPieceGives (p : FoundPiece) (r : Reading) : Type 0 where
   pub lines : List (List ℕ)
   pub reads : IsOutcome p (Lines lines)
   pub among : Contains (readings_of p (Lines lines)) r
 
--- the head of a piece gives it
+-- the head of a piece of a course gives it
 pub record FoundHeadGives (p : FoundPiece) (r : Reading) : Type 0 where
   pub head : List (List ℕ)
   pub is_head : IsHeadAt p.plan p.number p.bytes head

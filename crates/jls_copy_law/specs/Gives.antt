@@ -13,7 +13,7 @@ use Rattle.jls_copy.specs.Pieces.{placed}
 use Rattle.jls_copy_law.specs.CopyScans.{ScanPiece, ScanWithData, HasScans}
 
 -- As interval k the piece gives these lines: all lines of the interval, if it reads as them. If the input's end ends the piece, it gives
--- its head too, which is this profile's choice
+-- its head too, which is this profile's choice (T.87 A.1)
 abbrev pub GivesLines : Scan → ℕ → ScanPiece → List (List ℕ) → Type 0
 GivesLines s k piece lines =
     Reads (interval_of s k) piece.bytes lines ⊎ ((piece.ended_by_input ≡ true) × IsHeadOfPiece (interval_of s k) piece.bytes lines)
@@ -28,7 +28,7 @@ abbrev pub ScanGives : ScanWithData → Reading → Type 0
 ScanGives d r = (k : ℕ) × (piece : ScanPiece)
     × Contains (zip (Interval 0 ∷ numbers_behind (intervals d.scan) 0 d.marks) d.pieces) (Interval k, piece) × PieceGives d.scan k piece r
 
--- some scan of the copy gives the reading
+-- one of the copy's scans gives the reading
 abbrev pub GivesReading : List ℕ → Reading → Type 0
 GivesReading copy r =
     (shape : PictureShape) × (scans : List ScanWithData) × HasScans copy shape scans × (d : ScanWithData) × Contains scans d × ScanGives d r

@@ -16,6 +16,7 @@ row_readings pic components row = map (λ c. reading_of c row (line_of pic c row
 abbrev pub interval_readings : WholePicture → Scan → ℕ → List Reading
 interval_readings pic s k = placed s.components (first_row s k) 0 (interval_lines pic s k)
 
+-- the readings of all intervals of a scan
 abbrev pub scan_readings : WholePicture → Scan → List Reading
 scan_readings pic s = flat_map (interval_readings pic s) (range_with_len 0 (intervals s))
 

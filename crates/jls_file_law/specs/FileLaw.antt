@@ -15,7 +15,7 @@ use Rattle.jls_copy.specs.declared.end.End.TheVariants.{Eoi}
 use Rattle.jls_file.specs.WrittenFile.{written_file}
 use Rattle.jls_file_law.specs.Covering.{written_readings, AreThePicture}
 
--- it can be written under these options
+-- a picture in its ranges (`IsWholePicture`) can be written under these options
 pub record IsWritable (pic : WholePicture) (o : WriteOptions) : Type 0 where
   pub whole : IsWholePicture pic
   pub fit : OptionsFit pic o
@@ -50,6 +50,7 @@ pub record AnswersOnly (pic : WholePicture) (rs : List Reading) (read : ReadCopy
   pub offset : ℕ
   pub ended : read.ended ≡ Eoi offset
 
+-- a reader answers so of a written file
 abbrev pub FileIsRead : Type 0
 FileIsRead = (pic : WholePicture) (o : WriteOptions) → IsWritable pic o → (read : ReadCopy) → CopyReads (written_file pic o) read
     → AnswersOnly pic (written_readings pic o) read

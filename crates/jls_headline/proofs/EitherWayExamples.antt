@@ -16,22 +16,21 @@ use Rattle.jls_copy.specs.Pieces.{placed}
 use Rattle.jls_copy_law.specs.Gives.{ScanGives, GivesReading}
 use Rattle.jls_copy_law.proofs.CopyScans.{one_list_of_scans}
 use Rattle.jls_headline.specs.Damaged.{AreNumbers, numbered_pieces, HasPictureLines, DamagedScan, Damaged, SurvivesInScan, picture_reading, Survives, EachLineSurvives}
-use Rattle.jls_headline.specs.Stations.{ReadingsOf, HasShape, HoldsExactly, began, Took, TookInTheEnd, IsSameCopy, AreAmong, SameCopies}
+use Rattle.jls_headline.specs.Stations.{ReadingsOf, HasShape, HoldsExactly, IsSameCopy, AreAmong, SameCopies}
+use Rattle.jls_headline.specs.Collected.{Collected, new_station, CollectedFrom, CollectedUnder}
 use Rattle.jls_headline.specs.ReadsAs.{GivesPicture, ReadsAs, ReadsAsOnly, FilesReadAs}
 use Rattle.jls_headline.specs.HeadlineLaws.{SayTheSame}
-use Rattle.jls_headline.specs.SourceLaws.{sourced_copy}
-use Rattle.jls_headline.specs.Sources.{copies_of, GivesUnder, SourcesOf, HoldsExactlyUnder, TookUnder, IsSameUnder, TookInTheEndUnder, SameCopiesUnder}
+use Rattle.jls_headline.specs.Sources.{sourced_copy}
+use Rattle.jls_headline.specs.Sources.{copies_of, GivesUnder, SourcesOf, HoldsExactlyUnder, IsSameUnder, SameCopiesUnder}
 use Rattle.jls_copy_law.proofs.Members.{is_first, none_in, all_at}
 use Rattle.jls_headline.proofs.Held.{made_holds}
 use Rattle.jls_headline.proofs.LostIntervals.{damaged_copies_give_no_other, surviving_lines_are_given}
 use Rattle.jls_headline.proofs.SameCopies.{same_copy_gives}
 use Rattle.jls_headline.proofs.ScanNumbers.{numbered_pieces_give}
-use Rattle.jls_headline.proofs.Stations.{took_holds}
-use Rattle.jls_headline.proofs.SourcedStations.{took_holds_under}
-use Rattle.jls_headline.proofs.StationCalls.{holds_none, new_station_took_nothing_under}
-use Rattle.jls_headline.proofs.StationPictures.{damaged_copies_give_the_picture}
+use Rattle.jls_headline.proofs.Collected.{collected_holds, collected_holds_under}
+use Rattle.jls_headline.proofs.StationPictures.{exactly_gives_the_picture}
 use Rattle.jls_headline.proofs.FileExamples.{options, options_fit}
-use Rattle.jls_headline.proofs.PremiseExamples.{longer, same_lines, longer_is_another, taller, shapes_differ, known}
+use Rattle.jls_headline.proofs.PremiseExamples.{longer, same_lines, longer_is_another, taller, new_read_none, shapes_differ, known}
 use Rattle.jls_headline.proofs.SameCopyExamples.{taken, taken_under}
 use Rattle.jls_headline.proofs.TwoLineCopies.{shape, parameters_8, plan, pic, is_picture, first, second, third, piece_of, first_data, second_data, third_data, first_scans, second_scans, pieces_read}
 use Rattle.jls_headline.proofs.TwoLineExamples.{both_are_damaged, line_0, line_1, each_line_survives, third_gives_another, another_is_not_of_it, line_1_is_lost}
@@ -138,21 +137,21 @@ not_the_same same = not_among_none same.0
 
 -- Stations -------------------------------------------------------------------------------------------------------
 
+collected_of_none : CollectedFrom known []
+collected_of_none = new_read_none shape
+
 holds_no_copies : HoldsExactly known []
-holds_no_copies = holds_none known refl
+holds_no_copies = collected_holds known [] collected_of_none
 
 holds_not_third : HoldsExactly known (third ∷ []) → ⊥
 holds_not_third holds =
     (let none : false ≡ true = sym (contains-empty reading_cmp one) ∙ (holds.readings one).1 third_gives in cc)
 
-took_nothing : Took known [] []
-took_nothing = began known [] holds_no_copies
+not_collected_from_third : CollectedFrom known (sourced_copy None third ∷ []) → ⊥
+not_collected_from_third collected = holds_not_third (collected_holds known (sourced_copy None third ∷ []) collected)
 
-took_not_third_in_the_end : TookInTheEnd known (third ∷ []) → ⊥
-took_not_third_in_the_end took = holds_not_third (took_holds known (third ∷ []) took)
-
-took_not_third : Took known (third ∷ []) [] → ⊥
-took_not_third took = took_not_third_in_the_end ([], took, λ copy c. absurd (none_in copy c))
+not_collected_of_third : Collected known (sourced_copy None third ∷ []) [] → ⊥
+not_collected_of_third collected = not_collected_from_third ([], collected, λ copy c. absurd (none_in copy c))
 
 says_the_same : SayTheSame known known
 says_the_same = record { readings = refl; report = refl; picture = refl; pnm_file = refl; jls_file = λ o. refl; of_same_sources = λ e. refl }
@@ -204,16 +203,13 @@ holds_both = record {
   );
 }
 
-took_both : TookInTheEnd held both
-took_both = ([], began held both holds_both, λ copy c. absurd (none_in copy c))
-
 gives_the_picture : GivesPicture held pic
 gives_the_picture =
-    (damaged_copies_give_the_picture pic is_picture held both took_both (both_are_damaged []) (each_line_survives [])).0
+    (exactly_gives_the_picture pic is_picture held both holds_both (both_are_damaged []) (each_line_survives [])).0
 
 files_read_as_it : FilesReadAs held pic
 files_read_as_it =
-    (damaged_copies_give_the_picture pic is_picture held both took_both (both_are_damaged []) (each_line_survives [])).1
+    (exactly_gives_the_picture pic is_picture held both holds_both (both_are_damaged []) (each_line_survives [])).1
 
 -- its files read as another picture too, as one that has more lines than its shape: so not as that one alone
 fits_longer : OptionsFit longer options
@@ -248,23 +244,17 @@ not_under_another same = (let n : 1 ≡ 2 = ap number_or_none same.0 in omega (a
 no_source : SourcesOf [] one 1 → ⊥
 no_source sources = none_in sources.0 sources.1
 
-took_nothing_under : TookUnder known [] []
-took_nothing_under = new_station_took_nothing_under shape
-
-took_nothing_in_the_end_under : TookInTheEndUnder known []
-took_nothing_in_the_end_under = ([], took_nothing_under, λ copy c. absurd (none_in copy c))
+collected_under_none : CollectedUnder known []
+collected_under_none = ([], new_station shape known refl, λ copy c. absurd (none_in copy c))
 
 holds_none_under : HoldsExactlyUnder known []
-holds_none_under = took_holds_under known [] took_nothing_in_the_end_under
+holds_none_under = collected_holds_under known [] collected_under_none
 
 holds_not_third_under : HoldsExactlyUnder known (sourced_copy None third ∷ []) → ⊥
 holds_not_third_under holds = holds_not_third holds.readings
 
-took_not_third_in_the_end_under : TookInTheEndUnder known (sourced_copy None third ∷ []) → ⊥
-took_not_third_in_the_end_under took = holds_not_third_under (took_holds_under known (sourced_copy None third ∷ []) took)
-
-took_not_third_under : TookUnder known (sourced_copy None third ∷ []) [] → ⊥
-took_not_third_under took = took_not_third_in_the_end_under ([], took, λ copy c. absurd (none_in copy c))
+not_collected_under_third : CollectedUnder known (sourced_copy None third ∷ []) → ⊥
+not_collected_under_third collected = holds_not_third_under (collected_holds_under known (sourced_copy None third ∷ []) collected)
 
 not_among_none_under : AreAmong IsSameUnder (sourced_copy None third ∷ []) [] → ⊥
 not_among_none_under among =

@@ -1,7 +1,6 @@
 -- Options under which the picture of two lines can be written: every premise of `FilesReadAs` is met.
 use Rattle.std.proofs.Common.{◌≡◌, ℕ, zero, suc, ◌<◌, ◌≤◌, false, List, [], ◌∷◌, refl, subst, arith, lit≤, lit<}
 use Rattle.std.specs.Prelude.{All}
-use Rattle.jls_values.specs.OrderedSet as set
 use Rattle.jls_values.specs.Params.{least_from}
 use Rattle.jls_bits.specs.Bits.{bits, value_of_bits, width_after}
 use Rattle.jls_bits.specs.Golomb.{golomb}
@@ -15,7 +14,6 @@ use Rattle.jls_interval.specs.Events.{events_from, events_after}
 use Rattle.jls_interval.specs.Cells.{cell_before, run_cell_before}
 use Rattle.jls_interval.specs.Runs.{block_columns, full_blocks, blocks, run_index_before}
 use Rattle.jls_interval.specs.Code.{event_bits, bits_of_events, code}
-use Rattle.jls_partial.specs.Partial.{PartialPicture, union}
 use Rattle.jls_copy.specs.CopyReads.{CopyReads}
 use Rattle.jls_copy.specs.ReadCopy.{ReadCopy}
 use Rattle.jls_picture.specs.Picture.{line_of, picture_of}
@@ -23,8 +21,11 @@ use Rattle.jls_picture.specs.Options.{WriteOptions, OptionsFit}
 use Rattle.jls_file.specs.WrittenFile.{written_file}
 use Rattle.jls_headline.specs.ReadsAs.{ReadsAsOnly}
 use Rattle.jls_headline.proofs.WrittenFiles.{files_read_back}
-use Rattle.jls_headline.proofs.TwoLineCopies.{shape, pic, is_picture, bits_8, parameters_8, first, second}
-use Rattle.jls_headline.proofs.TwoLineExamples.{picture_comes_back}
+use Rattle.jls_headline.proofs.TwoLineCopies.{pic, is_picture, bits_8, parameters_8, first, second}
+use Rattle.jls_headline.proofs.TwoLineExamples.{both_are_damaged, each_line_survives}
+use Rattle.jls_headline.proofs.Collected.{collected_holds}
+use Rattle.jls_headline.proofs.CollectedExamples.{both_copies, with_both, collected_both}
+use Rattle.jls_headline.proofs.StationPictures.{exactly_gives_the_picture}
 
 -- a scan of one component with the defaults of 8 bits, and a restart marker behind each row but the last
 abbrev pub options : WriteOptions
@@ -61,7 +62,10 @@ file_reads =
     subst (λ (bytes : List ℕ). ReadsAsOnly bytes pic) written.bytes_are
     (files_read_back pic is_picture options parameters_8 (lit< tt) options_fit)
 
--- and that of a new station that took both copies reads as the picture
-file_comes_back : (p : PartialPicture) (a b : ReadCopy) → p.shape ≡ shape → p.readings ≡ set.empty → CopyReads first a → CopyReads second b
-    → ReadsAsOnly (written_file (picture_of (union (union p b.partial) a.partial)) options) pic
-file_comes_back p a b e new ra rb = (picture_comes_back p a b e new ra rb).1 options parameters_8 (lit< tt) options_fit
+-- and that of a new station that took what was read of both copies reads as the picture
+file_comes_back : (a b : ReadCopy) (ra : CopyReads first a) (rb : CopyReads second b)
+    → ReadsAsOnly (written_file (picture_of (with_both a b ra rb)) options) pic
+file_comes_back a b ra rb =
+    (exactly_gives_the_picture pic is_picture (with_both a b ra rb) (first ∷ second ∷ [])
+    (collected_holds (with_both a b ra rb) (both_copies a b ra rb) (collected_both a b ra rb)) (both_are_damaged []) (each_line_survives [])).1
+    options parameters_8 (lit< tt) options_fit

@@ -111,10 +111,10 @@ items_rise s = sorted_from_test reading_cmp (fin.entries s) (fin.entries_sorted 
 not_below_itself : (r : Reading) → reading_cmp r r ≡ Less → ⊥
 not_below_itself r e = (let same : Less ≡ Equal = sym e ∙ tied_itself reading_total r in cc)
 
-abbrev is_there : ℕ → ℕ → Reading → Bool
+abbrev pub is_there : ℕ → ℕ → Reading → Bool
 is_there component line r = r.component == component && r.line == line
 
-there_is : (component line : ℕ) (r : Reading) → is_there component line r ≡ true → (r.component ≡ component) × (r.line ≡ line)
+pub there_is : (component line : ℕ) (r : Reading) → is_there component line r ≡ true → (r.component ≡ component) × (r.line ≡ line)
 there_is component line r e =
     let p = and_parts (r.component == component) (r.line == line) e in (eqb-true r.component component p.0, eqb-true r.line line p.1)
 
@@ -165,7 +165,7 @@ one_reading p component line samples held same =
     ap (map (λ (x : Reading). x.samples)) one
 
 -- what is held is among the readings of its line
-held_among : (pass : Reading → Bool) (r : Reading) (rs : List Reading) → pass r ≡ true → Contains rs r → Contains (filter pass rs) r
+pub held_among : (pass : Reading → Bool) (r : Reading) (rs : List Reading) → pass r ≡ true → Contains rs r → Contains (filter pass rs) r
 held_among pass r [] e c = absurd (none_in r c)
 held_among pass r (q ∷ qs) e c =
     elim (cases_Bool (pass q)) [

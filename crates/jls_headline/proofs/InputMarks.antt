@@ -13,7 +13,7 @@ use Rattle.jls_commands.specs.AllInputs.{IsUnionOf}
 use Rattle.jls_commands.proofs.InputBytes.{AreGiven}
 use Rattle.jls_copy_law.specs.Gives.{GivesReading}
 use Rattle.jls_headline.specs.Sources.{SourcedCopy}
-use Rattle.jls_headline.specs.SourceLaws.{sourced_copy}
+use Rattle.jls_headline.specs.Sources.{sourced_copy}
 use Rattle.jls_headline.proofs.Held.{either, or_first, or_second}
 use Rattle.jls_copy_law.proofs.Members.{is_first, none_in, first_or_rest}
 use Rattle.jls_headline.proofs.SourcedStations.{copy_holds_under}

@@ -37,16 +37,18 @@ use Rattle.jls_headline.specs.NoOtherLaws.{SomeInputHasEachLine}
 use Rattle.jls_headline.specs.Damaged.{picture_reading, Survives}
 use Rattle.jls_headline.specs.ReadsAs.{GivesPicture}
 use Rattle.jls_headline.specs.RunLaws.{InputStandsFor, InputStandsUnder}
-use Rattle.jls_headline.specs.SourceLaws.{sourced_copy}
-use Rattle.jls_headline.specs.Sources.{HoldsExactlyUnder, TookInTheEndUnder}
-use Rattle.jls_headline.specs.Stations.{HoldsExactly, began, TookInTheEnd}
+use Rattle.jls_headline.specs.Sources.{sourced_copy}
+use Rattle.jls_headline.specs.Sources.{SourcedCopy}
+use Rattle.jls_headline.specs.Stations.{HoldsExactly}
+use Rattle.jls_headline.specs.Collected.{reader_finished, CollectedUnder}
+use Rattle.jls_headline.proofs.Collected.{collected_holds}
+use Rattle.jls_headline.proofs.CollectedRuns.{collected_aside, union_under}
 use Rattle.jls_headline.proofs.JoinThenWrite.{text_of_copies}
 use Rattle.jls_headline.proofs.LostIntervals.{surviving_lines_are_given}
 use Rattle.jls_headline.proofs.Held.{is_at_line, or_first, or_second}
 use Rattle.jls_copy_law.proofs.Members.{in_rest, is_first, none_in}
-use Rattle.jls_headline.proofs.SourcedStations.{copy_holds_under, union_holds_under}
-use Rattle.jls_headline.proofs.StationPictures.{damaged_copies_give_the_picture}
-use Rattle.jls_headline.proofs.Stations.{copy_holds, union_holds}
+use Rattle.jls_headline.proofs.StationPictures.{exactly_gives_the_picture}
+use Rattle.jls_headline.proofs.Stations.{copy_holds}
 use Rattle.jls_headline.proofs.TwoLineCopies.{shape, pic, is_picture, first, second, first_course, second_course, course_with, lost_first, bytes_of_test, first_data, second_data, first_scans, second_scans}
 use Rattle.jls_headline.proofs.TwoLineExamples.{shape_read, both_are_damaged, line_0, line_1, each_line_survives}
 
@@ -104,17 +106,23 @@ module _ (a b : ReadCopy) (ra : CopyReads first a) (rb : CopyReads second b) whe
   one_shape : has_same_shape a.partial b.partial ≡ true
   one_shape = subst (λ (s : PictureShape). same_shape a.partial.shape s ≡ true) (first_shape ∙ sym second_shape) (shape_itself a.partial.shape)
 
-  holds_both : HoldsExactly both (first ∷ second ∷ [])
-  holds_both =
-      union_holds a.partial b.partial (first ∷ []) (second ∷ []) (copy_holds a.partial first a (bytes_of_test first refl) ra refl refl)
-      (copy_holds b.partial second b (bytes_of_test second refl) rb refl refl) (second_shape ∙ sym first_shape)
+  -- what `finish` gave of both copies was joined
+  abbrev both_copies : List SourcedCopy
+  both_copies = sourced_copy None first ∷ sourced_copy None second ∷ []
 
-  took_both : TookInTheEnd both (first ∷ second ∷ [])
-  took_both = ([], began both (first ∷ second ∷ []) holds_both, λ copy c. absurd (none_in copy c))
+  collected_both : CollectedUnder both both_copies
+  collected_both =
+      union_under a.partial b.partial (sourced_copy None first ∷ []) (sourced_copy None second ∷ [])
+      ([], reader_finished None first a a.partial (bytes_of_test first refl) ra refl, λ copy c. absurd (none_in copy c))
+      ([], reader_finished None second b b.partial (bytes_of_test second refl) rb refl, λ copy c. absurd (none_in copy c))
+      (second_shape ∙ sym first_shape)
+
+  holds_both : HoldsExactly both (first ∷ second ∷ [])
+  holds_both = collected_holds both both_copies (collected_aside both both_copies collected_both)
 
   gives : GivesPicture both pic
   gives =
-      (damaged_copies_give_the_picture pic is_picture both (first ∷ second ∷ []) took_both (both_are_damaged []) (each_line_survives [])).0
+      (exactly_gives_the_picture pic is_picture both (first ∷ second ∷ []) holds_both (both_are_damaged []) (each_line_survives [])).0
 
   abbrev pub joining : List Event
   joining = reading ++ (created (111 ∷ []) ∷ took (text both) ∷ [])
@@ -180,22 +188,12 @@ module _ (a b : ReadCopy) (ra : CopyReads first a) (rb : CopyReads second b) whe
   text_is = (text_of_copies pic joining joins).1
 
   -- the text that was handed out stands for both copies
-  stands_for_both : InputStandsFor (text both) (first ∷ second ∷ [])
-  stands_for_both = inr (both, text_is, holds_both)
+  stands_for_both : (source : Option ℕ) → InputStandsFor source (text both) both_copies
+  stands_for_both source = inr (both, text_is, collected_aside both both_copies collected_both)
 
-  -- under their sources, of which there are none
-  holds_both_under : HoldsExactlyUnder both (sourced_copy None first ∷ sourced_copy None second ∷ [])
-  holds_both_under =
-      union_holds_under a.partial b.partial (sourced_copy None first ∷ []) (sourced_copy None second ∷ [])
-      (copy_holds_under (sourced_copy None first) a (bytes_of_test first refl) ra)
-      (copy_holds_under (sourced_copy None second) b (bytes_of_test second refl) rb) (second_shape ∙ sym first_shape)
-
-  took_both_under : TookInTheEndUnder both (sourced_copy None first ∷ sourced_copy None second ∷ [])
-  took_both_under =
-      ([], began both (sourced_copy None first ∷ sourced_copy None second ∷ []) holds_both_under, λ copy c. absurd (none_in copy c))
-
-  stands_under_none : (source : Option ℕ) → InputStandsUnder source (text both) (sourced_copy None first ∷ sourced_copy None second ∷ [])
-  stands_under_none source = inr (both, text_is, holds_both_under)
+  -- and under their sources, of which there are none
+  stands_under_none : (source : Option ℕ) → InputStandsUnder source (text both) both_copies
+  stands_under_none source = inr (both, text_is, collected_both)
 
   -- and it has each line
   text_has_each_line : SomeInputHasEachLine pic (text both ∷ [])
@@ -324,12 +322,12 @@ module _ (a b : ReadCopy) (ra : CopyReads first a) (rb : CopyReads second b) whe
           wrote = record { are_writes = (omega arith, tt); they_took = append-nil (text both) };
         };
       };
-      copies = first ∷ second ∷ [];
+      copies = both_copies;
       stand = (
-        first ∷ second ∷ [],
+        both_copies,
         [],
         refl,
-        subst (λ (bytes : List ℕ). InputStandsFor bytes (first ∷ second ∷ [])) (sym (append-nil (text both))) stands_for_both,
+        subst (λ (bytes : List ℕ). InputStandsFor None bytes both_copies) (sym (append-nil (text both))) (stands_for_both None),
         refl,
       );
       damaged = both_are_damaged [];

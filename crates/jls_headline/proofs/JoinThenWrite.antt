@@ -35,6 +35,7 @@ use Rattle.jls_commands.proofs.Defaults.{defaults_are}
 use Rattle.jls_headline.specs.Damaged.{Damaged}
 use Rattle.jls_headline.specs.ReadsAs.{GivesPicture, ReadsAsOnly}
 use Rattle.jls_headline.specs.RunLaws.{AreNoTexts}
+use Rattle.jls_headline.specs.Sources.{copies_of}
 use Rattle.jls_headline.specs.JoinThenWrite.{JoinsDamagedCopies, JoinsForDamagedCopies, WritesWhatWasJoined, WrittenJoinsAreThePicture, WrittenJoinsReadAsThePicture, WrittenJoinsAreSettled, WrittenTextJoinsAreThePicture, WrittenTextJoinsReadAsThePicture, WrittenTextJoinsAreSettled}
 use Rattle.jls_copy_law.proofs.Members.{all_map}
 use Rattle.jls_commands.proofs.InputBytes.{ReadsNone, one_input, handed_out, inputs_of_join, output_of_join}
@@ -182,7 +183,7 @@ gave_of_texts pic joining j = record {
   joined = j.joined;
   gives = gives;
   text_is = its_text pic j.is_picture j.joined gives
-      (held_are_lines pic j.joined j.copies
+      (held_are_lines pic j.joined (copies_of j.copies)
       (runs_with_texts_hold_exactly j.source j.out j.names j.joined j.settled j.whole joining j.is_done j.copies j.stand) j.damaged)
       (marks_of_inputs j.source j.small (partials j.is_done.taken.givens) j.joined (input_bytes joining)
       (inputs_of_join j.source j.out j.names j.joined j.settled j.whole joining j.is_done) j.is_done.taken.union_is);

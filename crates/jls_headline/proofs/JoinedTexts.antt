@@ -29,7 +29,7 @@ use Rattle.jls_headline.proofs.Held.{any_of_member}
 use Rattle.jls_headline.proofs.LostIntervals.{damaged_copies_give_no_other}
 use Rattle.jls_headline.proofs.Pictures.{heights}
 use Rattle.jls_headline.proofs.WrittenFiles.{component_at}
-use Rattle.jls_headline.proofs.JoinRuns.{no_text}
+use Rattle.jls_headline.proofs.Collected.{no_text}
 
 -- Lines of a picture fit its shape -------------------------------------------------------------------------------
 

@@ -9,18 +9,24 @@ mod SameCopies
 mod Unions
 mod Stations
 pub mod SourcedStations
+pub mod Collected
+mod CollectedRuns
+mod CutTexts
 mod Pictures
 mod WrittenFiles
 mod StationPictures
 mod JoinRuns
+pub mod CollectedPictures
+pub mod OneLine
+mod TrimmedLines
 mod JoinedTexts
 mod InputMarks
 mod JoinThenWrite
 mod SettledInputs
 mod WrittenInputs
-pub mod StationCalls
 pub mod TwoLineCopies
 pub mod TwoLineExamples
+mod CollectedExamples
 pub mod FileExamples
 mod PremiseExamples
 mod SameCopyExamples

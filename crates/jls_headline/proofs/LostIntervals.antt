@@ -1,17 +1,17 @@
 -- What damaged copies give, and that what survives is given.
 use Rattle.std.proofs.Common.{◌≡◌, ℕ, List, length, take, subst}
-use Rattle.std.specs.List.{Contains}
+use Rattle.std.specs.List.{AllByRecursion, Contains}
 use Rattle.jls_values.specs.Shape.{PictureShape}
 use Rattle.jls_partial.specs.Reading.{Reading}
 use Rattle.jls_marker.specs.Scan.{first_row}
 use Rattle.jls_picture.specs.Picture.{WholePicture}
 use Rattle.jls_file.specs.WrittenFile.{interval_lines}
 use Rattle.jls_file_law.specs.Covering.{IsLineOf}
-use Rattle.jls_copy_law.specs.CopyScans.{ScanWithData, HasScans}
-use Rattle.jls_copy_law.specs.Gives.{ScanGives, GivesReading}
+use Rattle.jls_copy_law.specs.CopyScans.{ScanPiece, ScanWithData, HasScans}
+use Rattle.jls_copy_law.specs.Gives.{PieceGives, ScanGives, GivesReading}
 use Rattle.jls_copy_law.proofs.CopyScans.{one_list_of_scans}
 use Rattle.jls_copy_law.proofs.Members.{all_at}
-use Rattle.jls_headline.specs.Damaged.{numbered_pieces, HasPictureLines, DamagedScan, picture_reading, SurvivesInScan}
+use Rattle.jls_headline.specs.Damaged.{AreNumbers, numbered_pieces, HasPictureLines, DamagedScan, picture_reading, SurvivesInScan}
 use Rattle.jls_headline.specs.ScanLaws.{IsScanUnder}
 use Rattle.jls_headline.specs.LostIntervalLaws.{DamagedCopiesGiveExactly, DamagedCopiesGiveNoOther, SurvivingLinesAreGiven}
 use Rattle.jls_headline.proofs.ScanNumbers.{numbered_pieces_give, number_low}
@@ -25,17 +25,24 @@ given_by_scan copy shape scans has r (shape', scans', has', d, among, gives) =
     let one = one_list_of_scans copy shape' shape scans' scans has' has in
     (d, subst (λ xs. Contains xs d) one.1 among, gives)
 
+-- what a piece of a damaged scan gives is a line of the picture
+pub piece_gives_no_other : (pic : WholePicture) (d : ScanWithData) → IsScanUnder pic.shape d.scan → (numbers : List ℕ) → AreNumbers d numbers
+    → AllByRecursion (HasPictureLines pic d.scan) (numbered_pieces d numbers)
+    → (k : ℕ) (piece : ScanPiece) → Contains (numbered_pieces d numbers) (k, piece) → (r : Reading) → PieceGives d.scan k piece r → IsLineOf pic r
+piece_gives_no_other pic d under numbers are each k piece c r gives =
+    let lines = gives.0 in
+    let e : lines ≡ take (length lines) (interval_lines pic d.scan k) =
+    all_at (HasPictureLines pic d.scan) (numbered_pieces d numbers) (k, piece) each c lines gives.1 in
+    are_lines_of pic d.scan k r under.0 under.1 (number_low d numbers k piece under.0.some_interval are c)
+    (first_among d.scan.components (length lines) (interval_lines pic d.scan k) (first_row d.scan k) 0 r
+    (subst (λ xs. Contains (placed_in_interval d.scan k xs) r) e gives.2))
+
 -- what a damaged scan gives is a line of the picture
 scan_gives_no_other : (pic : WholePicture) (d : ScanWithData) → IsScanUnder pic.shape d.scan → DamagedScan pic d → (r : Reading) → ScanGives d r
     → IsLineOf pic r
 scan_gives_no_other pic d under (numbers, are, each) r gives =
     let g = (numbered_pieces_give d numbers are r).0 gives in
-    let lines = g.3.0 in
-    let e : lines ≡ take (length lines) (interval_lines pic d.scan g.0) =
-    all_at (HasPictureLines pic d.scan) (numbered_pieces d numbers) (g.0, g.1) each g.2 lines g.3.1 in
-    are_lines_of pic d.scan g.0 r under.0 under.1 (number_low d numbers g.0 g.1 under.0.some_interval are g.2)
-    (first_among d.scan.components (length lines) (interval_lines pic d.scan g.0) (first_row d.scan g.0) 0 r
-    (subst (λ xs. Contains (placed_in_interval d.scan g.0 xs) r) e g.3.2))
+    piece_gives_no_other pic d under numbers are each g.0 g.1 g.2 r g.3
 
 pub damaged_copies_give_no_other : DamagedCopiesGiveNoOther
 damaged_copies_give_no_other pic copy (scans, has, damaged) r gives =

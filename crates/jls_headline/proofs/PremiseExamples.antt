@@ -1,5 +1,5 @@
 -- What there is where a premise of the laws on stations and files is not met. `TwoLineExamples` has those on marks, refusal and survival.
-use Rattle.std.proofs.Common.{◌≡◌, ℕ, zero, suc, ◌<◌, ◌≤◌, Bool, true, false, List, [], ◌∷◌, ◌++◌, length, map, replicate, refl, sym, ap, subst, ◌∙◌, lit<, lit≤, arith, inl, inr}
+use Rattle.std.proofs.Common.{◌≡◌, ℕ, zero, suc, ◌<◌, ◌≤◌, Bool, true, false, List, [], None, ◌∷◌, ◌++◌, length, map, replicate, refl, sym, ap, subst, ◌∙◌, lit<, lit≤, arith, inl, inr}
 use Rattle.std.specs.Prelude.{get_or}
 use Rattle.std.specs.List.{range_with_len}
 use Rattle.std.proofs.lemmas.List.FromFn.{length-map-range_with_len}
@@ -34,13 +34,13 @@ use Rattle.jls_copy.specs.IntervalOf.{interval_of}
 use Rattle.jls_copy.specs.ReadCopy.{ReadCopy}
 use Rattle.jls_picture.specs.Picture.{WholePicture, line_of, settled_line, picture_of}
 use Rattle.jls_headline.specs.Damaged.{HasPictureLines, picture_reading}
-use Rattle.jls_headline.specs.Stations.{HoldsExactly, began, ran_out, Took, TookInTheEnd}
+use Rattle.jls_headline.specs.Stations.{HoldsExactly}
+use Rattle.jls_headline.specs.Sources.{sourced_copy}
+use Rattle.jls_headline.specs.Collected.{Collected, new_station, reader_finished, partial_ran_out, CollectedFrom}
 use Rattle.jls_headline.specs.ReadsAs.{GivesPicture, ReadsAs}
 use Rattle.jls_copy_law.proofs.Members.{none_in}
 use Rattle.jls_headline.proofs.CopyGives.{copy_gives}
 use Rattle.jls_headline.proofs.LostIntervals.{surviving_lines_are_given}
-use Rattle.jls_headline.proofs.StationCalls.{holds_none}
-use Rattle.jls_headline.proofs.Stations.{copy_holds}
 use Rattle.jls_headline.proofs.TwoLineCopies.{shape, bits_8, parameters_8, pic_and, pic, first, bytes_of_test, piece_of, first_data, first_scans}
 use Rattle.jls_headline.proofs.TwoLineExamples.{shape_read, line_0}
 
@@ -82,27 +82,27 @@ longer_is_another e = (let n : 1 ≡ 2 = ap (λ (x : WholePicture). length x.lin
 abbrev pub taller : PictureShape
 taller = record { precision = 8; width = 1; height = 3; ids = 1 ∷ [] }
 
--- both took the same copies, which are none
-pub new_took_none : (s : PictureShape) → TookInTheEnd (nothing_known s) []
-new_took_none s = ([], began (nothing_known s) [] (holds_none (nothing_known s) refl), λ copy c. absurd (none_in copy c))
+-- for both the same copies were read, which are none
+pub new_read_none : (s : PictureShape) → CollectedFrom (nothing_known s) []
+new_read_none s = ([], new_station s (nothing_known s) refl, λ copy c. absurd (none_in copy c))
 
 pub shapes_differ : picture_of (nothing_known shape) ≡ picture_of (nothing_known taller) → ⊥
 shapes_differ e = (let n : 2 ≡ 3 = ap (λ (p : WholePicture). p.shape.height) e in omega (arith, n))
 
--- Stations that took other copies, and such as ran out of memory -------------------------------------------------
+-- Stations of other copies, and such as ran out of memory -------------------------------------------------
 
 -- what was read of the first copy has its line 0
 read_of_first : (a : ReadCopy) → CopyReads first a → set.contains a.partial.readings (picture_reading pic 0 0) ≡ true
 read_of_first a reads =
     (copy_gives first (bytes_of_test first refl) a reads (picture_reading pic 0 0)).1 (surviving_lines_are_given pic first 0 0 (line_0 []))
 
--- so a station that took it holds what a new one doesn't
+-- so a station of it holds what a new one doesn't
 first_is_not_none : (a : ReadCopy) → CopyReads first a → a.partial.readings ≡ set.empty → ⊥
 first_is_not_none a reads e =
     (let held = read_of_first a reads in
     let none : false ≡ true = sym (contains-empty reading_cmp (picture_reading pic 0 0)) ∙ subst (λ rs. set.contains rs (picture_reading pic 0 0) ≡ true) e held in cc)
 
--- a station that ran out of memory over the first copy, and didn't take it again, can hold all of it, and took none
+-- a station that ran out of memory for the first copy, which was not read again, can hold all of it, and no copy counts as read
 abbrev pub known : PartialPicture
 known = nothing_known shape
 
@@ -111,11 +111,11 @@ between p q e =
     let same : has_same_shape p q ≡ true = subst (λ (s : PictureShape). same_shape p.shape s ≡ true) e (shape_itself p.shape) in
     (sym (partial_laws.associative p p q (shape_itself p.shape) same) ∙ ap (λ (x : PartialPicture). union x q) (partial_laws.idempotent p), partial_laws.idempotent (union p q))
 
-ran_out_over_first : (a : ReadCopy) → CopyReads first a → Took (union known a.partial) [] (first ∷ [])
+ran_out_over_first : (a : ReadCopy) → CopyReads first a → Collected (union known a.partial) [] (sourced_copy None first ∷ [])
 ran_out_over_first a reads =
-    let same = shape_read first (first_data ∷ []) a first_scans reads in
-    ran_out known (union known a.partial) a.partial [] [] (first ∷ []) (began known [] (holds_none known refl))
-    (copy_holds a.partial first a (bytes_of_test first refl) reads refl refl) same (between known a.partial (sym same))
+    partial_ran_out known (union known a.partial) a.partial [] [] (sourced_copy None first ∷ []) [] (new_station shape known refl)
+    (reader_finished None first a a.partial (bytes_of_test first refl) reads refl)
+    (between known a.partial (sym (shape_read first (first_data ∷ []) a first_scans reads)))
 
 holds_more : (p : PartialPicture) → set.contains p.readings (picture_reading pic 0 0) ≡ true → HoldsExactly p [] → ⊥
 holds_more p held h = (let from = (h.readings (picture_reading pic 0 0)).0 held in none_in from.0 from.1)

@@ -8,7 +8,7 @@ use Rattle.jls_copy_law.proofs.CopyScans.{course_has_scans}
 use Rattle.jls_commands.specs.Laws.{HaveSameMembers}
 use Rattle.jls_headline.specs.Stations.{IsSameCopy, AreAmong, SameCopies}
 use Rattle.jls_headline.specs.Sources.{SourcedCopy, IsSameUnder, SameCopiesUnder}
-use Rattle.jls_headline.specs.SourceLaws.{sourced_copy}
+use Rattle.jls_headline.specs.Sources.{sourced_copy}
 use Rattle.jls_headline.proofs.TwoLineCopies.{shape, first, second, lost_first, course_with, second_course, bytes_of_test, second_data, second_scans}
 
 -- the second copy, with bytes behind EOI

@@ -24,7 +24,9 @@ use Rattle.jls_headline.specs.Damaged.{picture_reading, Survives}
 use Rattle.jls_headline.specs.ReadsAs.{GivesPicture}
 use Rattle.jls_headline.specs.Stations.{HasShape}
 use Rattle.jls_headline.proofs.Held.{or_first, or_second, is_at_line}
-use Rattle.jls_headline.proofs.JoinRuns.{no_text, given_holds, scans_are_no_text, one_shape_of, all_of_shape}
+use Rattle.jls_headline.proofs.Collected.{no_text}
+use Rattle.jls_headline.proofs.CollectedRuns.{given_holds, all_of_shape}
+use Rattle.jls_headline.proofs.JoinRuns.{scans_are_no_text, one_shape_of}
 use Rattle.jls_headline.proofs.LostIntervals.{surviving_lines_are_given}
 use Rattle.jls_copy_law.proofs.Members.{is_first, none_in}
 use Rattle.jls_headline.proofs.Pictures.{gives_picture}

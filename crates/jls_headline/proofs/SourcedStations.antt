@@ -1,29 +1,26 @@
 -- A station that took copies under sources holds exactly their readings, each under exactly the sources of the copies that give it.
-use Rattle.std.proofs.Common.{◌≡◌, ℕ, ◌<◌, true, false, Bool, List, [], ◌∷◌, ◌++◌, map, Option, Some, None, refl, sym, ap, ◌∙◌, subst}
+use Rattle.std.proofs.Common.{◌≡◌, ℕ, ◌<◌, true, false, Bool, List, [], ◌∷◌, map, Option, Some, None, refl, sym, ap, ◌∙◌, subst}
 use Rattle.std.specs.Prelude.{◌||◌, ◌↔◌}
 use Rattle.std.specs.List.{AllByRecursion, Contains}
 use Rattle.std.specs.Cmp.{both_ways}
-use Rattle.std.proofs.lemmas.List.{map-append}
 use Rattle.jls_values.specs.OrderedSet as set
 use Rattle.jls_values.specs.OrderedSetLaws.{contains-union, contains-empty, same_set}
 use Rattle.jls_partial.specs.Marks.{mark_cmp}
 use Rattle.jls_partial.specs.Reading.{Reading, reading_cmp}
 use Rattle.jls_partial.specs.ReadingOrder.{reading_total, reading_exact, marks_total, marks_exact}
 use Rattle.jls_partial.specs.Partial.{PartialPicture, union}
-use Rattle.jls_partial.specs.Text.{text}
 use Rattle.jls_copy.specs.CopyReads.{CopyReads}
 use Rattle.jls_copy.specs.ReadCopy.{ReadCopy}
 use Rattle.jls_station.specs.Given.{marked}
 use Rattle.jls_copy_law.specs.Gives.{GivesReading}
-use Rattle.jls_headline.specs.Stations.{HoldsExactly, began, took_copies, ran_out, Took, IsSameCopy, AreAmong, TookInTheEnd}
-use Rattle.jls_headline.specs.Sources.{SourcedCopy, copies_of, GivesUnder, HoldsExactlyUnder, TookUnder, IsSameUnder, TookInTheEndUnder}
-use Rattle.jls_headline.specs.SourceLaws.{SameSourcesSameStation, SameSourcesSameText, SourcesAside}
+use Rattle.jls_headline.specs.Stations.{IsSameCopy, AreAmong}
+use Rattle.jls_headline.specs.Sources.{SourcedCopy, copies_of, GivesUnder, HoldsExactlyUnder, IsSameUnder}
 use Rattle.jls_copy_law.proofs.Members.{in_map, of_map}
 use Rattle.jls_headline.proofs.Held.{set_of_list_holds, set_holds_items}
 use Rattle.jls_headline.proofs.CopyGives.{copy_gives}
 use Rattle.jls_headline.proofs.SameCopies.{same_copy_gives}
-use Rattle.jls_headline.proofs.Stations.{copy_holds, union_holds, took_holds, same_readings}
-use Rattle.jls_headline.proofs.Unions.{GivenBy, Holds, one_exactly, union_exactly, at_first, after_union, after_refusal, in_the_end}
+use Rattle.jls_headline.proofs.Stations.{copy_holds, same_readings}
+use Rattle.jls_headline.proofs.Unions.{GivenBy, one_exactly}
 
 -- What one copy gives --------------------------------------------------------------------------------------------
 
@@ -37,17 +34,17 @@ marked_readings None p = refl
 marked_readings (Some source) p = refl
 
 -- a reading with one source
-abbrev Mark : Type 0
+abbrev pub Mark : Type 0
 Mark = Reading × ℕ
 
 -- a copy gives a reading under its source
-abbrev GivesMark : SourcedCopy → Mark → Type 0
+abbrev pub GivesMark : SourcedCopy → Mark → Type 0
 GivesMark copy m = GivesUnder copy m.0 m.1
 
-abbrev is_marked : PartialPicture → Mark → Bool
+abbrev pub is_marked : PartialPicture → Mark → Bool
 is_marked p m = set.contains p.marks m
 
-union_marked : (p q : PartialPicture) (m : Mark) → is_marked (union p q) m ≡ (is_marked p m || is_marked q m)
+pub union_marked : (p q : PartialPicture) (m : Mark) → is_marked (union p q) m ≡ (is_marked p m || is_marked q m)
 union_marked p q m = contains-union marks_total p.marks q.marks m
 
 abbrev with_number : ℕ → Reading → Mark
@@ -118,64 +115,20 @@ copy_holds_under copy read low reads = record {
   sources = λ r source. one_exactly GivesMark is_marked union_marked (marked copy.source read.partial) copy (marks_of_copy copy.source copy.bytes read low reads) (r, source);
 }
 
--- a union holds exactly what both do
-pub union_holds_under : (p q : PartialPicture) (copies more : List SourcedCopy) → HoldsExactlyUnder p copies → HoldsExactlyUnder q more
-    → q.shape ≡ p.shape
-    → HoldsExactlyUnder (union p q) (copies ++ more)
-union_holds_under p q copies more h k shape = record {
-  readings = subst (λ xs. HoldsExactly (union p q) xs) (sym (map-append (λ (copy : SourcedCopy). copy.bytes) copies more))
-      (union_holds p q (copies_of copies) (copies_of more) h.readings k.readings shape);
-  sources = λ r source. union_exactly GivesMark is_marked union_marked p q copies more (λ m. h.sources m.0 m.1) (λ m. k.sources m.0 m.1) (r, source);
-}
+-- The same copies ----------------------------------------------------------------------------------------------
 
--- Stations -------------------------------------------------------------------------------------------------------
-
--- what is said of copies under sources is said of the copies
-sources_aside : (station : PartialPicture) (copies over : List SourcedCopy) → TookUnder station copies over
-    → Took station (copies_of copies) (copies_of over)
-sources_aside _ _ _ (began p copies h) = began p (copies_of copies) h.readings
-sources_aside _ _ _ (took_copies station taken copies over more t h shape) =
-    subst (λ xs. Took (union station taken) xs (copies_of over)) (sym (map-append (λ (copy : SourcedCopy). copy.bytes) more copies))
-    (took_copies station taken (copies_of copies) (copies_of over) (copies_of more) (sources_aside station copies over t) h.readings shape)
-sources_aside _ _ _ (ran_out station new other copies over more t h shape between) =
-    subst (λ xs. Took new (copies_of copies) xs) (sym (map-append (λ (copy : SourcedCopy). copy.bytes) more over))
-    (ran_out station new other (copies_of copies) (copies_of over) (copies_of more) (sources_aside station copies over t) h.readings shape between)
-
-among_aside : (copies others : List SourcedCopy) → AreAmong IsSameUnder copies others → AreAmong IsSameCopy (copies_of copies) (copies_of others)
+pub among_aside : (copies others : List SourcedCopy) → AreAmong IsSameUnder copies others → AreAmong IsSameCopy (copies_of copies) (copies_of others)
 among_aside copies others among bytes c =
     let from = of_map (λ (copy : SourcedCopy). copy.bytes) copies bytes c in
     let there = among from.0 from.1 in
     (there.0.bytes, in_map (λ (copy : SourcedCopy). copy.bytes) others there.0 there.1, subst (λ x. IsSameCopy x there.0.bytes) from.2 there.2.1)
 
-in_the_end_aside : (station : PartialPicture) (copies : List SourcedCopy) → TookInTheEndUnder station copies
-    → TookInTheEnd station (copies_of copies)
-in_the_end_aside station copies (over, took, among) = (copies_of over, sources_aside station copies over took, among_aside over copies among)
-
-pub sources_are_aside : SourcesAside
-sources_are_aside = (in_the_end_aside, λ copies others same. (among_aside copies others same.0, among_aside others copies same.1))
-
--- which sources there are after each call
-sources_after : (station : PartialPicture) (copies over : List SourcedCopy) → TookUnder station copies over
-    → Holds GivesMark is_marked union_marked station copies over
-sources_after _ _ _ (began p copies h) = at_first GivesMark is_marked union_marked p copies (λ m. h.sources m.0 m.1)
-sources_after _ _ _ (took_copies station taken copies over more t h shape) =
-    after_union GivesMark is_marked union_marked station taken copies over more (sources_after station copies over t) (λ m. h.sources m.0 m.1)
-sources_after _ _ _ (ran_out station new other copies over more t h shape between) =
-    after_refusal GivesMark is_marked union_marked station new other copies over more (sources_after station copies over t) (λ m. h.sources m.0 m.1) between
-
 -- what copies give under sources, the same copies give under the same
-among_mark : (copies others : List SourcedCopy) → AreAmong IsSameUnder copies others → (m : Mark)
+pub among_mark : (copies others : List SourcedCopy) → AreAmong IsSameUnder copies others → (m : Mark)
     → GivenBy GivesMark is_marked union_marked copies m → GivenBy GivesMark is_marked union_marked others m
 among_mark copies others among m (copy, c, g) =
     let there = among copy c in
     (there.0, there.1, (sym there.2.0 ∙ g.0, same_copy_gives copy.bytes there.0.bytes m.0 there.2.1 g.1))
-
-pub took_holds_under : (station : PartialPicture) (copies : List SourcedCopy) → TookInTheEndUnder station copies
-    → HoldsExactlyUnder station copies
-took_holds_under station copies (over, took, among) = record {
-  readings = took_holds station (copies_of copies) (in_the_end_aside station copies (over, took, among));
-  sources = λ r source. in_the_end GivesMark is_marked union_marked station copies over (sources_after station copies over took) (among_mark over copies among) (r, source);
-}
 
 -- two of one shape that hold exactly what the same copies give under the same sources are one
 pub same_under : (station other : PartialPicture) (copies others : List SourcedCopy) → HoldsExactlyUnder station copies
@@ -187,13 +140,3 @@ same_under station other copies others h k shape among back =
     (λ x. (k.sources m.0 m.1).1 (among_mark copies others among m ((h.sources m.0 m.1).0 x)))
     (λ x. (h.sources m.0 m.1).1 (among_mark others copies back m ((k.sources m.0 m.1).0 x)))) in
     λ i. record { shape = shape i; readings = readings i; marks = marks i }
-
-pub same_sources_same_station : SameSourcesSameStation
-same_sources_same_station station other copies others took took' shape same =
-    let h = took_holds_under station copies took in
-    let k = took_holds_under other others took' in
-    (h, k, same_under station other copies others h k shape same.0 same.1)
-
-pub same_sources_same_text : SameSourcesSameText
-same_sources_same_text station other copies others took took' shape same =
-    ap text (same_sources_same_station station other copies others took took' shape same).2

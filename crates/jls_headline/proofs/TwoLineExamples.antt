@@ -1,12 +1,10 @@
 -- Two copies of a picture of two lines, of which each has lost another line: every premise of the laws is met. And what there is where a
 -- premise is not.
-use Rattle.std.proofs.Common.{◌≡◌, ℕ, zero, suc, List, [], ◌∷◌, refl, sym, ap, subst, ◌∙◌, lit<, lit≤, arith, inl, inr}
+use Rattle.std.proofs.Common.{◌≡◌, ℕ, zero, suc, List, [], ◌∷◌, refl, sym, ap, subst, lit<, lit≤, arith, inl, inr}
 use Rattle.std.specs.Prelude.{get_or}
 use Rattle.std.specs.List.{AllByRecursion, Contains}
-use Rattle.jls_values.specs.OrderedSet as set
 use Rattle.jls_interval.proofs.PiecesReadOnce.{reads_once}
 use Rattle.jls_partial.specs.Reading.{Reading, reading_of}
-use Rattle.jls_partial.specs.Partial.{PartialPicture, union}
 use Rattle.jls_marker.specs.Scan.{Scan, intervals}
 use Rattle.jls_copy.specs.Numbers.{PieceNumber, Interval, mark_before, numbers_behind}
 use Rattle.jls_copy.specs.Pieces.{placed, value_of}
@@ -18,16 +16,11 @@ use Rattle.jls_copy_law.specs.Gives.{PieceGives, ScanGives, GivesReading}
 use Rattle.jls_copy_law.proofs.CopyScans.{one_list_of_scans}
 use Rattle.jls_headline.specs.Damaged.{Damaged, picture_reading, Survives, EachLineSurvives}
 use Rattle.jls_headline.specs.Trimmed.{whole, front, TrimmedCopy}
-use Rattle.jls_headline.specs.ReadsAs.{GivesPicture, FilesReadAs}
-use Rattle.jls_headline.specs.Stations.{began, took_copies, TookInTheEnd}
 use Rattle.jls_copy_law.proofs.Members.{none_in, first_or_rest}
 use Rattle.jls_headline.proofs.CopyGives.{copy_has_shape}
-use Rattle.jls_headline.proofs.StationPictures.{damaged_copies_give_the_picture}
 use Rattle.jls_headline.proofs.LostIntervals.{given_by_scan, surviving_lines_are_given}
-use Rattle.jls_headline.proofs.StationCalls.{holds_none}
-use Rattle.jls_headline.proofs.Stations.{copy_holds}
 use Rattle.jls_headline.proofs.Trims.{trimmed_copies_are_damaged}
-use Rattle.jls_headline.proofs.TwoLineCopies.{shape, pic_and, pic, is_picture, bits_8, parameters_8, plan, first, second, third, bytes_of_test, piece_of, first_data, second_data, third_data, first_scans, second_scans, third_scans, pieces_read}
+use Rattle.jls_headline.proofs.TwoLineCopies.{shape, pic_and, pic, bits_8, parameters_8, plan, first, second, third, piece_of, first_data, second_data, third_data, first_scans, second_scans, third_scans, pieces_read}
 
 -- The premises are met -------------------------------------------------------------------------------------------
 
@@ -109,33 +102,13 @@ each_line_survives more zero (suc zero) c l = (second, (1, lit< tt, refl), line_
 each_line_survives more zero (suc (suc line)) c l = absurd (omega (arith, l))
 each_line_survives more (suc component) line c l = absurd (omega (arith, c))
 
--- A new station that takes both has the picture ------------------------------------------------------------------
+-- What is read of it ---------------------------------------------------------------------------------------------
 
 -- what is read of a copy of this shape has the shape
 pub shape_read : (copy : List ℕ) (scans : List ScanWithData) (read : ReadCopy) → HasScans copy shape scans → CopyReads copy read
     → read.partial.shape ≡ shape
 shape_read copy scans read has reads =
     let own = copy_has_shape copy has.are_bytes read reads in (one_list_of_scans copy read.partial.shape shape own.0 scans own.1 has).0
-
-pub took_both : (p : PartialPicture) (a b : ReadCopy) → p.shape ≡ shape → p.readings ≡ set.empty → CopyReads first a → CopyReads second b
-    → TookInTheEnd (union (union p b.partial) a.partial) (first ∷ second ∷ [])
-took_both p a b e new ra rb =
-    let sa = shape_read first (first_data ∷ []) a first_scans ra ∙ sym e in
-    let sb = shape_read second (second_data ∷ []) b second_scans rb ∙ sym e in (
-      [],
-      took_copies (union p b.partial) a.partial (second ∷ []) [] (first ∷ [])
-          (took_copies p b.partial [] [] (second ∷ []) (began p [] (holds_none p new))
-          (copy_holds b.partial second b (bytes_of_test second refl) rb refl refl) sb)
-          (copy_holds a.partial first a (bytes_of_test first refl) ra refl refl) sa,
-      λ copy c. absurd (none_in copy c),
-    )
-
-pub picture_comes_back : (p : PartialPicture) (a b : ReadCopy) → p.shape ≡ shape → p.readings ≡ set.empty → CopyReads first a
-    → CopyReads second b
-    → GivesPicture (union (union p b.partial) a.partial) pic × FilesReadAs (union (union p b.partial) a.partial) pic
-picture_comes_back p a b e new ra rb =
-    damaged_copies_give_the_picture pic is_picture (union (union p b.partial) a.partial) (first ∷ second ∷ []) (took_both p a b e new ra rb)
-    (both_are_damaged []) (each_line_survives [])
 
 -- Where a premise is not met -------------------------------------------------------------------------------------
 

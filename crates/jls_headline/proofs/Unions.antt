@@ -52,14 +52,6 @@ module _ {C M : Type 0} (Gives : C → M → Type 0) (contains : PartialPicture 
       of_this (other, c, g) =
           elim (first_or_rest other copy [] c) [ inl e ↦ subst (λ x. Gives x m) (sym e) g | inr later ↦ absurd (none_in other later) ]
 
-  -- a union holds exactly what both do
-  pub union_exactly : (p q : PartialPicture) (copies more : List C) → Exactly p copies → Exactly q more
-      → Exactly (union p q) (copies ++ more)
-  union_exactly p q copies more h k m = (
-    one_has (GivenBy (copies ++ more) m) p q m (λ x. of_first copies more m ((h m).0 x)) (λ x. of_second copies more m ((k m).0 x)),
-    of_one (has (union p q) m) copies more m (λ x. left_has p q m ((h m).1 x)) (λ x. right_has p q m ((k m).1 x)),
-  )
-
   -- what holds after each call: all that these copies give is held, and nothing else but what those can have left
   abbrev pub Holds : PartialPicture → List C → List C → Type 0
   Holds station copies over = ((m : M) → GivenBy copies m → has station m) × ((m : M) → has station m → GivenBy copies m ⊎ GivenBy over m)
@@ -67,26 +59,42 @@ module _ {C M : Type 0} (Gives : C → M → Type 0) (contains : PartialPicture 
   pub at_first : (p : PartialPicture) (copies : List C) → Exactly p copies → Holds p copies []
   at_first p copies h = (λ m. (h m).1, λ m x. inl ((h m).0 x))
 
-  pub after_union : (station taken : PartialPicture) (copies over more : List C) → Holds station copies over → Exactly taken more
-      → Holds (union station taken) (more ++ copies) over
-  after_union station taken copies over more h exactly = (
-    λ m. of_one (has (union station taken) m) more copies m (λ x. right_has station taken m ((exactly m).1 x)) (λ x. left_has station taken m (h.0 m x)),
-    λ m. one_has (GivenBy (more ++ copies) m ⊎ GivenBy over m) station taken m
-        (λ s. elim (h.1 m s) [ inl x ↦ inl (of_second more copies m x) | inr x ↦ inr x ])
-        (λ t. inl (of_first more copies m ((exactly m).0 t))),
-  )
-
-  pub after_refusal : (station new other : PartialPicture) (copies over more : List C) → Holds station copies over → Exactly other more
-      → IsBetween union station new (union station other) → Holds new copies (more ++ over)
-  after_refusal station new other copies over more h exactly between = (
-    λ m x. subst (λ (p : PartialPicture). has p m) between.0 (left_has station new m (h.0 m x)),
-    λ m x. one_has (GivenBy copies m ⊎ GivenBy (more ++ over) m) station other m
-        (λ s. elim (h.1 m s) [ inl y ↦ inl y | inr y ↦ inr (of_second more over m y) ])
-        (λ t. inr (of_first more over m ((exactly m).0 t)))
-        (subst (λ (p : PartialPicture). has p m) between.1 (left_has new (union station other) m x)),
-  )
-
   pub in_the_end : (station : PartialPicture) (copies over : List C) → Holds station copies over
       → ((m : M) → GivenBy over m → GivenBy copies m)
       → Exactly station copies
   in_the_end station copies over h among m = (λ x. elim (h.1 m x) [ inl y ↦ y | inr y ↦ among m y ], h.0 m)
+
+  -- a union holds all that the copies of both give, and nothing else but what those of either can have left
+  pub both_collected : (p q : PartialPicture) (copies over more further : List C) → Holds p copies over → Holds q more further
+      → Holds (union p q) (copies ++ more) (over ++ further)
+  both_collected p q copies over more further h k = (
+    λ m. of_one (has (union p q) m) copies more m (λ x. left_has p q m (h.0 m x)) (λ x. right_has p q m (k.0 m x)),
+    λ m. one_has (GivenBy (copies ++ more) m ⊎ GivenBy (over ++ further) m) p q m
+        (λ s. elim (h.1 m s) [ inl x ↦ inl (of_first copies more m x) | inr x ↦ inr (of_first over further m x) ])
+        (λ t. elim (k.1 m t) [ inl x ↦ inl (of_second copies more m x) | inr x ↦ inr (of_second over further m x) ]),
+  )
+
+  -- what holds all that the first does, and nothing else but what either does
+  pub part_collected : (p q new : PartialPicture) (copies over more further : List C) → Holds p copies over → Holds q more further
+      → ((m : M) → has p m → has new m) → ((m : M) → has new m → has p m ⊎ has q m) → Holds new copies (over ++ (more ++ further))
+  part_collected p q new copies over more further h k keeps only = (
+    λ m x. keeps m (h.0 m x),
+    λ m x. elim (only m x) [
+      | inl s ↦ elim (h.1 m s) [ inl y ↦ inl y | inr y ↦ inr (of_first over (more ++ further) m y) ]
+      | inr t ↦ elim (k.1 m t) [
+        | inl y ↦ inr (of_second over (more ++ further) m (of_first more further m y))
+        | inr y ↦ inr (of_second over (more ++ further) m (of_second more further m y))
+      ]
+    ],
+  )
+
+  pub between_keeps : (p q new : PartialPicture) → IsBetween union p new (union p q) → (m : M) → has p m → has new m
+  between_keeps p q new between m x = subst (λ (z : PartialPicture). has z m) between.0 (left_has p new m x)
+
+  pub between_only : (p q new : PartialPicture) → IsBetween union p new (union p q) → (m : M) → has new m → has p m ⊎ has q m
+  between_only p q new between m x =
+      one_has (has p m ⊎ has q m) p q m (λ s. inl s) (λ t. inr t) (subst (λ (z : PartialPicture). has z m) between.1 (left_has new (union p q) m x))
+
+  -- memory may have run out over more
+  pub over_more : (p : PartialPicture) (copies over more : List C) → Holds p copies over → Holds p copies (over ++ more)
+  over_more p copies over more h = (h.0, λ m x. elim (h.1 m x) [ inl y ↦ inl y | inr y ↦ inr (of_first over more m y) ])

@@ -16,6 +16,7 @@ use Rattle.jls_headline.specs.Damaged.{Damaged, EachLineSurvives}
 use Rattle.jls_picture.specs.WholePictures.{IsPicture}
 use Rattle.jls_headline.specs.ReadsAs.{ReadsAsOnly}
 use Rattle.jls_headline.specs.RunLaws.{InputsStandFor}
+use Rattle.jls_headline.specs.Sources.{SourcedCopy, copies_of}
 
 -- a run of `join` that is done, under a source or none: its inputs gave damaged copies of this picture, and every line survives in some
 -- input. A source of the program has 32 bits
@@ -44,10 +45,10 @@ pub record JoinsForDamagedCopies (pic : WholePicture) (joining : List Event) : T
   pub settled : Bool
   pub whole : Bool
   pub is_done : JoinIsDone source out names joined settled whole joining
-  pub copies : List (List ℕ)
-  pub stand : InputsStandFor (input_bytes joining) copies
-  pub damaged : AllByRecursion (Damaged pic) copies
-  pub each_line : EachLineSurvives pic copies
+  pub copies : List SourcedCopy
+  pub stand : InputsStandFor source (input_bytes joining) copies
+  pub damaged : AllByRecursion (Damaged pic) (copies_of copies)
+  pub each_line : EachLineSurvives pic (copies_of copies)
 
 -- a run of `write` in this format, and what came of it: its one input gave the bytes that the run of `join` handed to its one output
 pub record WritesWhatWasJoined (joining : List Event) (format : Format) (outcome : Outcome) (writing : List Event) : Type 0 where

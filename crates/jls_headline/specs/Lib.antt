@@ -9,5 +9,7 @@ pub mod HeadlineLaws
 pub mod RunLaws
 pub mod JoinThenWrite
 pub mod NoOtherLaws
-pub mod CallLaws
-pub mod SourceLaws
+pub mod Collected
+pub mod CollectedLaws
+pub mod Headline
+pub mod LineLaws

@@ -18,12 +18,12 @@ use Rattle.jls_headline.specs.Trimmed.{IsTrimmed, LacksABit, TrimmedCopy}
 
 -- Numbers ------------------------------------------------------------------------------------------------------
 
--- The marks of numbers that rise by one to eight each give the pieces behind them these numbers; so no piece is beyond the last interval
+-- the numbers that the marks of some intervals give are those of these intervals. No piece is beyond the last one
 abbrev pub NumbersComeBack : Type 0
 NumbersComeBack = (d : ScanWithData) (numbers : List ℕ) → AreNumbers d numbers
     → numbers_behind (intervals d.scan) 0 d.marks ≡ map Interval numbers
 
--- so a scan gives what its pieces have as these intervals
+-- a scan whose marks are those of some intervals gives what its pieces have as these intervals
 abbrev pub NumberedPiecesGive : Type 0
 NumberedPiecesGive = (d : ScanWithData) (numbers : List ℕ) → AreNumbers d numbers → (r : Reading)
     → ScanGives d r ↔ ((k : ℕ) × (piece : ScanPiece) × Contains (numbered_pieces d numbers) (k, piece) × PieceGives d.scan k piece r)
@@ -37,7 +37,7 @@ DamagedCopiesGiveExactly =
     → AllByRecursion (DamagedScan pic) scans
     → (r : Reading) → GivesReading copy r ↔ ((d : ScanWithData) × Contains scans d × SurvivesInScan d r)
 
--- and whatever it gives is a line of the picture
+-- so whatever a damaged copy gives is a line of the picture
 abbrev pub DamagedCopiesGiveNoOther : Type 0
 DamagedCopiesGiveNoOther =
     (pic : WholePicture) (copy : List ℕ) → Damaged pic copy → (r : Reading) → GivesReading copy r → IsLineOf pic r
@@ -50,13 +50,13 @@ SurvivingLinesAreGiven =
 
 -- Trimmed pieces -----------------------------------------------------------------------------------------------
 
--- trimmed bytes read as the picture's lines or as none
+-- a trimmed piece reads as the picture's lines or as none
 abbrev pub TrimmedPiecesAreHarmless : Type 0
 TrimmedPiecesAreHarmless =
     (pic : WholePicture) (s : Scan) (k : ℕ) (piece : List ℕ) → IsScan s → IsTrimmed pic s k piece
     → (lines : List (List ℕ)) → Reads (interval_of s k) piece lines → lines ≡ interval_lines pic s k
 
--- where they lack a bit of the code, their head is those of the picture's lines that stand whole; and else their head is empty
+-- if it lacks a bit of the code, its head is those of the picture's lines that are complete. Else its head is empty
 abbrev pub TrimmedPiecesHaveHeads : Type 0
 TrimmedPiecesHaveHeads =
     (pic : WholePicture) (s : Scan) (k : ℕ) (piece : List ℕ) → IsScan s → IsTrimmed pic s k piece
@@ -64,7 +64,7 @@ TrimmedPiecesHaveHeads =
     → (LacksABit pic s k piece → AreWholeLines (interval_of s k) (bits_read piece) (interval_lines pic s k) head)
     × ((LacksABit pic s k piece → ⊥) → head ≡ [])
 
--- in each case a piece of these bytes has no lines but the picture's first ones
+-- a trimmed piece has no lines but the picture's first ones of its interval
 abbrev pub TrimmedPiecesHavePictureLines : Type 0
 TrimmedPiecesHavePictureLines =
     (pic : WholePicture) (s : Scan) (k : ℕ) (piece : ScanPiece) → IsScan s → IsTrimmed pic s k piece.bytes

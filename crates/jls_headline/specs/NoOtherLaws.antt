@@ -17,20 +17,20 @@ use Rattle.jls_commands.specs.declared.writing.Format.TheVariants.{Jls}
 use Rattle.jls_headline.specs.Damaged.{picture_reading, Survives}
 use Rattle.jls_headline.specs.ReadsAs.{GivesPicture, FilesReadAs, ReadsAsOnly}
 
--- an input has the picture's line: a copy in which it survives, or a text of the picture's shape that has it as a reading
+-- an input has a line of the picture. It is a copy in which the line survives, or a text of the picture's shape that holds it
 abbrev pub InputHasLine : WholePicture → List ℕ → ℕ → ℕ → Type 0
 InputHasLine pic bytes component line =
     Survives pic bytes component line
     ⊎ ((p : PartialPicture) × IsTextOf bytes p × (p.shape ≡ pic.shape)
     × (set.contains p.readings (picture_reading pic component line) ≡ true))
 
--- each line of the picture is had by one of these
+-- for each line of the picture, one of these inputs has it
 abbrev pub SomeInputHasEachLine : WholePicture → List (List ℕ) → Type 0
 SomeInputHasEachLine pic inputs = (component line : ℕ) → component < length pic.shape.ids → line < pic.shape.height
     → (bytes : List ℕ) × Contains inputs bytes × InputHasLine pic bytes component line
 
--- Where a run of `join` is done, some input has each line of a picture, whatever its other inputs are or read as, and each line of what
--- it joined is settled, that is the picture, and its output was handed the text of it, with what sources it has
+-- let a `join` be done, and each line of a picture be in some input, whatever its other inputs are or read as. If each line that it joined
+-- is settled, they are that picture, and its output was handed the text of it, with what sources it has
 abbrev pub SettledJoinsAreThePicture : Type 0
 SettledJoinsAreThePicture =
     (source : Option ℕ) (out : List ℕ) (names : List (List ℕ)) (joined : PartialPicture) (whole : Bool) (events : List Event)
@@ -38,7 +38,7 @@ SettledJoinsAreThePicture =
     → (pic : WholePicture) → IsPicture pic → SomeInputHasEachLine pic (input_bytes events)
     → GivesPicture joined pic × FilesReadAs joined pic × (output_bytes events ≡ text joined ∷ [])
 
--- Where a run of `write` is done whose input has each line of a picture, it handed the file of that picture to its output
+-- let the input of a `write` that is done have each line of a picture. Then the file of that picture was handed out
 abbrev pub WrittenInputsAreThePicture : Type 0
 WrittenInputsAreThePicture =
     (format : Format) (out name : List ℕ) (settled whole : Bool) (events : List Event)
@@ -46,7 +46,7 @@ WrittenInputsAreThePicture =
     → (pic : WholePicture) → IsPicture pic → SomeInputHasEachLine pic (input_bytes events)
     → output_bytes events ≡ file format pic ∷ []
 
--- and as JPEG-LS, with any restart interval, what it handed to its output reads as that picture and as no other
+-- as JPEG-LS, with any restart interval, what such a `write` handed to its output reads as that picture and as no other
 abbrev pub WrittenInputsReadAsThePicture : Type 0
 WrittenInputsReadAsThePicture =
     (line : Bool) (ri : ℕ) (out name : List ℕ) (settled whole : Bool) (events : List Event) → ri < 2 ^ 32

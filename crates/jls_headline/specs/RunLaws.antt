@@ -13,8 +13,8 @@ use Rattle.jls_headline.specs.Stations.{HoldsExactly, SameCopies}
 use Rattle.jls_picture.specs.WholePictures.{IsPicture}
 use Rattle.jls_headline.specs.ReadsAs.{GivesPicture, FilesReadAs}
 use Rattle.jls_headline.specs.HeadlineLaws.{SayTheSame}
-use Rattle.jls_headline.specs.Sources.{SourcedCopy, HoldsExactlyUnder, SameCopiesUnder}
-use Rattle.jls_headline.specs.SourceLaws.{sourced_copy}
+use Rattle.jls_headline.specs.Sources.{SourcedCopy, sourced_copy, copies_of, HoldsExactlyUnder, SameCopiesUnder}
+use Rattle.jls_headline.specs.Collected.{CollectedFrom, CollectedUnder}
 
 -- none of these is read as a text
 abbrev pub AreNoTexts : List (List ℕ) → Type 0
@@ -27,10 +27,12 @@ RunsHoldExactly =
     → JoinIsDone source out names joined settled whole events → AreNoTexts (input_bytes events)
     → HoldsExactly joined (input_bytes events)
 
--- which copies an input stands for: a copy for itself, and a text for those of which its partial picture holds exactly the readings
-abbrev pub InputStandsFor : List ℕ → List (List ℕ) → Type 0
-InputStandsFor bytes copies =
-    ((is_text bytes ≡ false) × (copies ≡ bytes ∷ [])) ⊎ ((p : PartialPicture) × IsTextOf bytes p × HoldsExactly p copies)
+-- Which copies an input stands for in a run under this source: a copy for itself, under the source. The text of what calls collected
+-- stands for the copies that they read for it, which have their own sources
+abbrev pub InputStandsFor : Option ℕ → List ℕ → List SourcedCopy → Type 0
+InputStandsFor source bytes copies =
+    ((is_text bytes ≡ false) × (copies ≡ sourced_copy source bytes ∷ []))
+    ⊎ ((p : PartialPicture) × IsTextOf bytes p × CollectedFrom p copies)
 
 -- these copies, side by side, are those that the inputs stand for
 abbrev pub InputsStand : {C : Type 0} → (List ℕ → List C → Type 0) → List (List ℕ) → List C → Type 0
@@ -39,15 +41,22 @@ InputsStand {C} StandsFor (bytes ∷ inputs) copies =
     (mine : List C) × (more : List C) × (copies ≡ mine ++ more) × StandsFor bytes mine × InputsStand StandsFor inputs more
 
 -- these inputs, in turn, stand for these copies
-abbrev pub InputsStandFor : List (List ℕ) → List (List ℕ) → Type 0
-InputsStandFor inputs copies = InputsStand InputStandsFor inputs copies
+abbrev pub InputsStandFor : Option ℕ → List (List ℕ) → List SourcedCopy → Type 0
+InputsStandFor source inputs copies = InputsStand (InputStandsFor source) inputs copies
 
--- What a run of `join` joins that is done, whose inputs are copies and texts, holds exactly the readings of the copies that they stand for
+-- What a run of `join` joins that is done, with any status, was collected from the copies that its inputs stand for
+abbrev pub RunsAreCollected : Type 0
+RunsAreCollected =
+    (source : Option ℕ) (out : List ℕ) (names : List (List ℕ)) (joined : PartialPicture) (settled whole : Bool) (events : List Event)
+    → JoinIsDone source out names joined settled whole events
+    → (copies : List SourcedCopy) → InputsStandFor source (input_bytes events) copies → CollectedFrom joined copies
+
+-- so it holds exactly their readings
 abbrev pub RunsWithTextsHoldExactly : Type 0
 RunsWithTextsHoldExactly =
     (source : Option ℕ) (out : List ℕ) (names : List (List ℕ)) (joined : PartialPicture) (settled whole : Bool) (events : List Event)
     → JoinIsDone source out names joined settled whole events
-    → (copies : List (List ℕ)) → InputsStandFor (input_bytes events) copies → HoldsExactly joined copies
+    → (copies : List SourcedCopy) → InputsStandFor source (input_bytes events) copies → HoldsExactly joined (copies_of copies)
 
 -- a run of `join` that is done, under a source or none: what it joined, whether this is settled and whole, and its reads and writes
 pub record DoneJoin : Type 0 where
@@ -73,8 +82,9 @@ RunsSayTheSame =
 abbrev pub RunsWithTextsSayTheSame : Type 0
 RunsWithTextsSayTheSame =
     (run again : DoneJoin)
-    → (copies others : List (List ℕ)) → InputsStandFor (input_bytes run.events) copies → InputsStandFor (input_bytes again.events) others
-    → run.joined.shape ≡ again.joined.shape → SameCopies copies others → SayTheSame run.joined again.joined
+    → (copies others : List SourcedCopy) → InputsStandFor run.source (input_bytes run.events) copies
+    → InputsStandFor again.source (input_bytes again.events) others
+    → run.joined.shape ≡ again.joined.shape → SameCopies (copies_of copies) (copies_of others) → SayTheSame run.joined again.joined
 
 -- Where the inputs of a run that is done are damaged copies of one picture and every line survives in some input, each line of what it
 -- joins is settled, and they are that picture; and the JPEG-LS file that is written of it reads as that picture and no other
@@ -90,25 +100,30 @@ abbrev pub RunsWithTextsGiveThePicture : Type 0
 RunsWithTextsGiveThePicture =
     (source : Option ℕ) (out : List ℕ) (names : List (List ℕ)) (joined : PartialPicture) (settled whole : Bool) (events : List Event)
     → JoinIsDone source out names joined settled whole events
-    → (copies : List (List ℕ)) → InputsStandFor (input_bytes events) copies
-    → (pic : WholePicture) → IsPicture pic → AllByRecursion (Damaged pic) copies → EachLineSurvives pic copies
+    → (copies : List SourcedCopy) → InputsStandFor source (input_bytes events) copies
+    → (pic : WholePicture) → IsPicture pic → AllByRecursion (Damaged pic) (copies_of copies) → EachLineSurvives pic (copies_of copies)
     → GivesPicture joined pic × FilesReadAs joined pic
 
 -- Sources --------------------------------------------------------------------------------------------------------
 
--- which copies under sources an input of a run stands for: a copy for itself, under the source of the run, and a text, which has its own
--- sources, for those of which its partial picture holds exactly the readings, each under exactly their sources
+-- The same, where each copy for which memory ran out was read again under the same source
 abbrev pub InputStandsUnder : Option ℕ → List ℕ → List SourcedCopy → Type 0
 InputStandsUnder source bytes copies =
     ((is_text bytes ≡ false) × (copies ≡ sourced_copy source bytes ∷ []))
-    ⊎ ((p : PartialPicture) × IsTextOf bytes p × HoldsExactlyUnder p copies)
+    ⊎ ((p : PartialPicture) × IsTextOf bytes p × CollectedUnder p copies)
 
 -- these inputs, in turn, stand for these copies under their sources
 abbrev pub InputsStandUnder : Option ℕ → List (List ℕ) → List SourcedCopy → Type 0
 InputsStandUnder source inputs copies = InputsStand (InputStandsUnder source) inputs copies
 
--- What a run of `join` joins that is done holds exactly the readings of the copies that its inputs stand for, each under exactly the
--- sources of those that give it
+-- What a run of `join` joins that is done was collected so
+abbrev pub RunsAreCollectedUnder : Type 0
+RunsAreCollectedUnder =
+    (source : Option ℕ) (out : List ℕ) (names : List (List ℕ)) (joined : PartialPicture) (settled whole : Bool) (events : List Event)
+    → JoinIsDone source out names joined settled whole events
+    → (copies : List SourcedCopy) → InputsStandUnder source (input_bytes events) copies → CollectedUnder joined copies
+
+-- so it holds exactly their readings, each under exactly the sources of the copies that give it
 abbrev pub RunsHoldExactlyUnder : Type 0
 RunsHoldExactlyUnder =
     (source : Option ℕ) (out : List ℕ) (names : List (List ℕ)) (joined : PartialPicture) (settled whole : Bool) (events : List Event)

@@ -9,7 +9,7 @@ use Rattle.jls_copy_law.specs.CopyScans.{ScanWithData, HasScans}
 abbrev pub IsScanUnder : PictureShape → Scan → Type 0
 IsScanUnder f s = IsScan s × IsScanOf f s
 
--- The frame of a copy is a shape, and each of its scans is in its ranges and of that frame
+-- the frame of a course is a shape, and each scan of the course is in its ranges and of that frame
 abbrev pub ScansAreOfTheFrame : Type 0
 ScansAreOfTheFrame = (copy : List ℕ) (shape : PictureShape) (scans : List ScanWithData) → HasScans copy shape scans
     → IsShape shape × AllByRecursion (λ d. IsScanUnder shape d.scan) scans

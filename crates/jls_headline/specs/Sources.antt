@@ -1,22 +1,26 @@
--- Stations that took copies under sources: which sources their readings have.
+-- Copies under sources, and which sources the readings of a partial picture have.
 use Rattle.std.specs.Prelude.{◌≡◌, ℕ, true, List, map, Option, Some, ◌↔◌}
 use Rattle.std.specs.List.{Contains}
 use Rattle.jls_values.specs.OrderedSet as set
 use Rattle.jls_partial.specs.Reading.{Reading}
 use Rattle.jls_partial.specs.Partial.{PartialPicture}
 use Rattle.jls_copy_law.specs.Gives.{GivesReading}
-use Rattle.jls_headline.specs.Stations.{HoldsExactly, TookBy, AreAmong, AreSame, IsSameCopy}
+use Rattle.jls_headline.specs.Stations.{HoldsExactly, AreSame, IsSameCopy}
 
--- a copy, and the source that it was taken under, where there is one
+-- a copy, and the source that it was read under, where there is one
 pub record SourcedCopy : Type 0 where
   pub source : Option ℕ
   pub bytes : List ℕ
+
+-- the copy of these bytes, under this source
+abbrev pub sourced_copy : Option ℕ → List ℕ → SourcedCopy
+sourced_copy source bytes = record { source = source; bytes = bytes }
 
 -- the copies alone
 abbrev pub copies_of : List SourcedCopy → List (List ℕ)
 copies_of copies = map (λ copy. copy.bytes) copies
 
--- the copy gives the reading, and was taken under this source
+-- the copy gives the reading, and was read under this source
 abbrev pub GivesUnder : SourcedCopy → Reading → ℕ → Type 0
 GivesUnder copy r source = (copy.source ≡ Some source) × GivesReading copy.bytes r
 
@@ -29,10 +33,6 @@ pub record HoldsExactlyUnder (p : PartialPicture) (copies : List SourcedCopy) : 
   pub readings : HoldsExactly p (copies_of copies)
   pub sources : (r : Reading) (source : ℕ) → (set.contains p.marks (r, source) ≡ true) ↔ SourcesOf copies r source
 
--- the history of a station that took copies, each under its source
-abbrev pub TookUnder : PartialPicture → List SourcedCopy → List SourcedCopy → Type 0
-TookUnder station copies over = TookBy HoldsExactlyUnder station copies over
-
 -- the same copy, under the same source
 abbrev pub IsSameUnder : SourcedCopy → SourcedCopy → Type 0
 IsSameUnder copy other = (copy.source ≡ other.source) × IsSameCopy copy.bytes other.bytes
@@ -40,7 +40,3 @@ IsSameUnder copy other = (copy.source ≡ other.source) × IsSameCopy copy.bytes
 -- the same copies under the same sources
 abbrev pub SameCopiesUnder : List SourcedCopy → List SourcedCopy → Type 0
 SameCopiesUnder copies others = AreSame IsSameUnder copies others
-
--- the station took these copies, and each over which it ran out of memory is the same as one of them, under the same source
-abbrev pub TookInTheEndUnder : PartialPicture → List SourcedCopy → Type 0
-TookInTheEndUnder station copies = (over : List SourcedCopy) × TookUnder station copies over × AreAmong IsSameUnder over copies

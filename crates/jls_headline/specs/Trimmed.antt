@@ -17,7 +17,7 @@ pub data Trimmed : List ℕ → List ℕ → Type 0 where
   front : (kept lost : List ℕ) → Trimmed (kept ++ lost) kept
   longer : (bytes : List ℕ) (first : ℕ) (more : List ℕ) → Trimmed bytes (bytes ++ first ∷ more)
 
--- bytes trimmed from some that read as the picture's lines of interval k
+-- a piece trimmed from one that reads as the picture's lines of interval k
 pub record IsTrimmed (pic : WholePicture) (s : Scan) (k : ℕ) (piece : List ℕ) : Type 0 where
   pub bytes : List ℕ
   pub reads : Reads (interval_of s k) bytes (interval_lines pic s k)
@@ -34,6 +34,6 @@ abbrev pub TrimmedScan : WholePicture → ScanWithData → Type 0
 TrimmedScan pic d = (numbers : List ℕ) × AreNumbers d numbers
     × AllByRecursion (λ (p : ℕ × ScanPiece). IsTrimmed pic d.scan p.0 p.1.bytes) (numbered_pieces d numbers)
 
--- a copy in whose scans nothing else happened; its other marker segments may say anything
+-- a copy of which only intervals were lost and pieces trimmed; its other marker segments may say anything
 abbrev pub TrimmedCopy : WholePicture → List ℕ → Type 0
 TrimmedCopy pic copy = (scans : List ScanWithData) × HasScans copy pic.shape scans × AllByRecursion (TrimmedScan pic) scans

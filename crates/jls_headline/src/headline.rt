@@ -1,33 +1,37 @@
-//! What stations hold that took the same copies, the picture that damaged copies give, and files of pictures. Each law is a function that
+//! The headline, and the laws beside it: what is written of a station, and files that read as a picture. Each law is a function that
 //! changes nothing and whose contract is the law.
 
-ghost use Rattle.jls_headline.specs.HeadlineLaws.{SameCopiesSameReadings, DamagedCopiesGiveThePicture};
+ghost use Rattle.jls_headline.specs.Headline.{SameCopiesHoldTheSame, SameCopiesWriteTheSame, SameSourcesAreOneStation};
+ghost use Rattle.jls_headline.specs.Headline.{DamagedCopiesWriteThePicture};
 ghost use Rattle.jls_headline.specs.HeadlineLaws.{SameReadingsSayTheSame, SameCopiesSayTheSame, BytesBehindTheEndChangeNothing};
-ghost use Rattle.jls_headline.specs.HeadlineLaws.{FilesReadAsOne, NeverAnotherPicture};
+ghost use Rattle.jls_headline.specs.HeadlineLaws.{FilesReadAsOne, SameSourcesSameText};
 ghost use Rattle.jls_headline.specs.ReadsAs.{FilesReadBack};
-ghost use Rattle.jls_headline.specs.SourceLaws.{SameSourcesSameStation, SameSourcesSameText};
 
 use jls_picture::{Picture, pictures_are_whole};
 
-/// A law, the one that this product is trusted for. Stations of one shape took the same copies, in any order and with any repeats. Then
-/// they hold for every component and line the same readings, exactly the ones that those copies give. If the copies were taken under the
-/// same sources, the stations are the same. Each reading then has exactly the sources of the copies that give it. So they write the same
-/// bytes (`same_copies_write_the_same_bytes`). A copy is the bytes that were read from it, in whatever lengths. Now let the copies be
-/// damaged copies of one picture, and let every line survive in some copy. Then each line of the station is settled, and the lines are
-/// that picture. Its JPEG-LS file, under any options that fit, reads as that picture and no other.
+/// A law, the one that this product is trusted for. It speaks of stations for which public calls read copies (`Collected`).
+///
+/// For two stations of one shape, calls read the same copies, in any order and with any repeats. Then both hold exactly the readings that
+/// these copies give, and so the same ones. Two calls of `write_jls` under equal options hand the same bytes to their sinks, and two of
+/// `write_pnm` do. Two reports have the same text. If the copies were read under the same sources, the stations are equal, and so are the
+/// bytes of two calls of `to_bytes`. This is said of calls that answer Ok.
+///
+/// Now let calls read damaged copies of one picture alone, in some of which each line survives. Then each line of the station is settled,
+/// as the picture's. `Picture::of` answers the picture. What `write_jls` hands to its sink reads as that picture and as no other.
 ///
 /// A damaged copy may have lost whole restart intervals, fewer than eight restart markers in a row before one that is seen. The markers
 /// that are seen must be true ones. No piece may decode to other lines than the picture's, even if it is damaged or a header before it
 /// was changed. For pieces that were only truncated or extended, after true headers, this is proved (`trimmed_copies_are_damaged`).
 pub fn same_copies_give_the_picture()
-    ensures same { SameCopiesSameReadings }
-    ensures same_sources { SameSourcesSameStation }
-    ensures damaged { DamagedCopiesGiveThePicture }
+    ensures same { SameCopiesHoldTheSame }
+    ensures same_sources { SameSourcesAreOneStation }
+    ensures writes { SameCopiesWriteTheSame }
+    ensures damaged { DamagedCopiesWriteThePicture }
 {}
 
-/// A law: what a station reports, shows and writes rests on its shape and its readings. So stations of one shape that took the same copies
-/// have the same report, the same picture, the same PNM file, and under equal options the same JPEG-LS file. If the copies were taken
-/// under the same sources, their texts are the same.
+/// A law: what a station reports, shows and writes rests on its shape and its readings. So stations of one shape for which calls read the
+/// same copies have the same report, the same picture, the same PNM file, and under equal options the same JPEG-LS file. If the copies were
+/// read under the same sources, their texts are the same.
 pub fn same_copies_write_the_same_bytes()
     ensures readings { SameReadingsSayTheSame }
     ensures same { SameCopiesSayTheSame }
@@ -50,10 +54,4 @@ pub fn written_pictures_read_back(picture: &Picture<'_>)
 /// A law: a file reads as one picture at most.
 pub fn files_read_as_one()
     ensures { FilesReadAsOne }
-{}
-
-/// A law: let every line of a picture survive in some copy that a station took. It may have taken any other copies, and damaged intervals
-/// may read as anything. Then not every line of the station is settled, or they are that picture.
-pub fn never_another_picture()
-    ensures { NeverAnotherPicture }
 {}

@@ -1,22 +1,22 @@
-//! The law that the product is trusted for: what damaged copies of a picture give, and what stations hold that took them. This crate has
-//! definitions and laws alone; each law is a function that does nothing and whose contract is the law.
+//! The law that the product is trusted for: what public calls come to that read copies, and the picture that damaged copies give. This
+//! crate has definitions and laws alone; each law is a function that does nothing and whose contract is the law.
 #![tactic(auto)]
 
 mod calls;
 mod headline;
+mod lines;
 mod lost_intervals;
 mod no_other;
 mod runs;
 mod scans;
 mod trimmed;
 
-pub use calls::{
-    calls_tell_the_sources, calls_tell_what_was_taken, copies_that_are_read_hold_their_readings,
-};
+pub use calls::{collected_copies_are_held, cut_texts_are_held};
 pub use headline::{
-    bytes_behind_the_end_change_nothing, files_read_as_one, never_another_picture,
-    same_copies_give_the_picture, same_copies_write_the_same_bytes, written_pictures_read_back,
+    bytes_behind_the_end_change_nothing, files_read_as_one, same_copies_give_the_picture,
+    same_copies_write_the_same_bytes, written_pictures_read_back,
 };
+pub use lines::{damaged_copies_say_no_other, lines_are_told, never_another_picture};
 pub use lost_intervals::{
     damaged_copies_give_the_picture, numbers_come_back, surviving_lines_are_given,
 };

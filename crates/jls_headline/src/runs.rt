@@ -2,7 +2,7 @@
 
 ghost use Rattle.jls_headline.specs.RunLaws.{RunsHoldExactly, RunsSayTheSame, RunsGiveThePicture};
 ghost use Rattle.jls_headline.specs.RunLaws.{RunsWithTextsHoldExactly, RunsWithTextsSayTheSame, RunsWithTextsGiveThePicture};
-ghost use Rattle.jls_headline.specs.RunLaws.{RunsHoldExactlyUnder, RunsUnderSourcesHandOutTheSame};
+ghost use Rattle.jls_headline.specs.RunLaws.{RunsHoldExactlyUnder, RunsUnderSourcesHandOutTheSame, RunsAreCollected, RunsAreCollectedUnder};
 ghost use Rattle.jls_headline.specs.JoinThenWrite.{WrittenJoinsAreThePicture, WrittenJoinsReadAsThePicture, WrittenJoinsAreSettled};
 ghost use Rattle.jls_headline.specs.JoinThenWrite.{WrittenTextJoinsAreThePicture, WrittenTextJoinsReadAsThePicture};
 ghost use Rattle.jls_headline.specs.JoinThenWrite.{WrittenTextJoinsAreSettled};
@@ -18,12 +18,14 @@ pub fn joined_copies_give_the_picture()
     ensures damaged { RunsGiveThePicture }
 {}
 
-/// A law: the same where texts are among the inputs. Each of them stands for the copies of which its partial picture holds exactly the
-/// readings. So stations that hand on what they hold as texts come to what all their copies give. Two such runs of one shape, over the
-/// same copies from whatever sources, join what holds and says the same. Where texts stand for copies under sources, each reading has
-/// exactly the sources of the copies that give it. Two such runs of one shape, over the same copies under the same sources, hand the same
-/// bytes to their outputs.
+/// A law: the same where texts are among the inputs. The text of what public calls made of copies stands for these copies. What a run of
+/// `join` joined that is done was then made of the copies that its inputs stand for. So stations that hand on what they hold as texts come
+/// to what all their copies give. Two such runs of one shape, over the same copies from whatever sources, join what holds and says the
+/// same. Each reading has exactly the sources of the copies that give it. Two such runs of one shape, over the same copies under the same
+/// sources, hand the same bytes to their outputs.
 pub fn joined_texts_give_the_picture()
+    ensures collected { RunsAreCollected }
+    ensures collected_under { RunsAreCollectedUnder }
     ensures exactly { RunsWithTextsHoldExactly }
     ensures sources { RunsHoldExactlyUnder }
     ensures same { RunsUnderSourcesHandOutTheSame }
@@ -41,8 +43,7 @@ pub fn written_joins_read_as_the_picture()
     ensures settled { WrittenJoinsAreSettled }
 {}
 
-/// A law: the same where texts are among the inputs of the `join`. Each of them stands for the copies of which its partial picture holds
-/// exactly the readings.
+/// A law: the same where texts are among the inputs of the `join`. The text of what public calls made of copies stands for these copies.
 pub fn written_text_joins_read_as_the_picture()
     ensures written { WrittenTextJoinsAreThePicture }
     ensures reads { WrittenTextJoinsReadAsThePicture }

@@ -18,7 +18,7 @@ use Rattle.jls_headline.specs.Damaged.{Damaged, EachLineSurvives}
 use Rattle.jls_headline.specs.NoOtherLaws.{SomeInputHasEachLine}
 use Rattle.jls_headline.specs.ReadsAs.{GivesPicture, ReadsAsOnly}
 
--- a run over words that ended with this status, in which the desk did these events
+-- a run over these words ended with this status, and the desk did these events in it
 pub record RanOver (words : List Text) (status : ℕ) (events : List Event) : Type 0 where
   pub desk : History
   pub desk' : History
@@ -29,8 +29,8 @@ pub record RanOver (words : List Text) (status : ℕ) (events : List Event) : Ty
   pub ran : Ran words status desk desk' report report' faults faults'
   pub they_are : ran.desk_events ≡ events
 
--- a run of `join` that ended with this status, 0 or 1; its inputs gave damaged copies of this picture, and every line survives in some
--- input. A source of the program has 32 bits
+-- a run whose words ask for a join ended with this status, 0 or 1. Its inputs gave damaged copies of this picture, and every line survives
+-- in some input. A source of the program has 32 bits
 pub record JoinRun (pic : WholePicture) (status : ℕ) (joining : List Event) : Type 0 where
   pub is_picture : IsPicture pic
   pub words : List Text
@@ -44,7 +44,7 @@ pub record JoinRun (pic : WholePicture) (status : ℕ) (joining : List Event) : 
   pub damaged : AllByRecursion (Damaged pic) (input_bytes joining)
   pub each_line : EachLineSurvives pic (input_bytes joining)
 
--- a run of `write` in this format that ended with status 0
+-- a run whose words ask for a file in this format ended with status 0
 pub record WriteRun (format : Format) (writing : List Event) : Type 0 where
   pub words : List Text
   pub ran : RanOver words 0 writing
@@ -52,15 +52,15 @@ pub record WriteRun (format : Format) (writing : List Event) : Type 0 where
   pub name : Text
   pub asks : AskFor words (written_as format out name)
 
--- Where its one input gave the bytes that such a run of `join` handed to its one output, each line was settled there, and it handed the
--- file of that picture to its output
+-- let the one input of the `write` have given the bytes that the `join` handed to its one output. Then each line was settled there, and the
+-- `write` handed the file of that picture to its output
 abbrev pub JoinsAndWritesGiveThePicture : Type 0
 JoinsAndWritesGiveThePicture =
     (pic : WholePicture) (status : ℕ) (joining : List Event) → JoinRun pic status joining
     → (format : Format) (writing : List Event) → WriteRun format writing → input_bytes writing ≡ output_bytes joining
     → (status ≡ 0) × (output_bytes writing ≡ file format pic ∷ [])
 
--- and as JPEG-LS, with any restart interval, what it handed to its output reads as that picture and as no other
+-- as JPEG-LS, with any restart interval, what the `write` handed to its output reads as that picture and as no other
 abbrev pub JoinsAndWritesReadAsThePicture : Type 0
 JoinsAndWritesReadAsThePicture =
     (pic : WholePicture) (status : ℕ) (joining : List Event) → JoinRun pic status joining
@@ -68,7 +68,7 @@ JoinsAndWritesReadAsThePicture =
     → input_bytes writing ≡ output_bytes joining
     → (bytes : List ℕ) × (output_bytes writing ≡ bytes ∷ []) × ReadsAsOnly bytes pic
 
--- Where a run of `join` ends with status 0, and some input has each line of a picture, whatever its other inputs are or read as, what it
+-- let a run of `join` end with status 0, and some input have each line of a picture, whatever its other inputs are or read as. Then what it
 -- joined is that picture, and its output was handed the text of it
 abbrev pub SettledRunsAreThePicture : Type 0
 SettledRunsAreThePicture =
@@ -77,7 +77,7 @@ SettledRunsAreThePicture =
     → (pic : WholePicture) → IsPicture pic → SomeInputHasEachLine pic (input_bytes events)
     → (joined : PartialPicture) × GivesPicture joined pic × (output_bytes events ≡ text joined ∷ [])
 
--- Where a run of `write` ends with status 0 whose input has each line of a picture, it handed the file of that picture to its output
+-- let a run of `write` end with status 0 whose input has each line of a picture. Then it handed the file of that picture to its output
 abbrev pub WrittenRunsAreThePicture : Type 0
 WrittenRunsAreThePicture =
     (format : Format) (events : List Event) → WriteRun format events

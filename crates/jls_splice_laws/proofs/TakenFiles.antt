@@ -3,8 +3,11 @@ use Rattle.std.proofs.Common.{◌≡◌, ℕ, ◌<◌, Bool, false, List, [], �
 use Rattle.std.specs.List.{AllByRecursion, Contains}
 use Rattle.std.proofs.lemmas.List.Elements.{Contains-append_right}
 use Rattle.jls_values.specs.Shape.{PictureShape}
-use Rattle.jls_headline.specs.HeadlineLaws.{NeverAnotherPicture, SameCopiesSameReadings}
-use Rattle.jls_headline.specs.Stations.{SameCopies}
+use Rattle.jls_headline.specs.Damaged.{EachLineSurvives}
+use Rattle.jls_headline.specs.Headline.{SameCopiesHoldTheSame}
+use Rattle.jls_headline.specs.LineLaws.{NeverAnotherPicture}
+use Rattle.jls_headline.specs.Sources.{copies_of}
+use Rattle.jls_headline.specs.Stations.{HoldsExactly, SameCopies}
 use Rattle.jls_copy_law.proofs.Members.{is_first, in_rest, none_in, first_or_rest, all_map}
 use Rattle.jls_parts.specs.Parts.{Part, HasWays, IsSplice}
 use Rattle.jls_splice.specs.Faultless.{IsFaultless}
@@ -45,17 +48,18 @@ faultless_splices_are_taken copies parts shape files t bytes low is faultless =
 same_as_itself : (files : List (List ℕ)) → SameCopies files files
 same_as_itself files = (λ copy m. (copy, m, inl refl), λ copy m. (copy, m, inl refl))
 
-pub splices_give_no_other : NeverAnotherPicture → SameCopiesSameReadings → SplicesGiveNoOther
-splices_give_no_other never same copies parts shape files t station took = (
-  (same station station files files took took refl (same_as_itself files)).0,
-  λ pic is each settled. never pic is station files took each settled,
+pub splices_give_no_other : NeverAnotherPicture → SameCopiesHoldTheSame → SplicesGiveNoOther
+splices_give_no_other never same copies parts shape files t station (read, collected, are) = (
+  subst (HoldsExactly station) are (same station station read read collected collected refl (same_as_itself (copies_of read))).0,
+  λ pic is each settled. never pic is station read collected (subst (EachLineSurvives pic) (sym are) each) settled,
 )
 
 pub whole_splices_give_no_other : NeverAnotherPicture → WholeSplicesGiveNoOther
-whole_splices_give_no_other never copies parts shape files t pic is file whole splice station took settled =
+whole_splices_give_no_other never copies parts shape files t pic is file whole splice station (read, collected, are) settled =
     let inside : Contains files file = faultless_splices_are_taken copies parts shape files t file whole.bytes splice (whole_files_are_faultless pic file whole) in
-    never pic is station files took
-    (λ c y l k. (file, inside, whole_files_survive pic file whole.bytes whole.reads (whole.course, whole.is_course, whole.each) c y l k)) settled
+    let each : EachLineSurvives pic files =
+    λ c y l k. (file, inside, whole_files_survive pic file whole.bytes whole.reads (whole.course, whole.is_course, whole.each) c y l k) in
+    never pic is station read collected (subst (EachLineSurvives pic) (sym are) each) settled
 
 -- Of a search ------------------------------------------------------------------------------------------------------
 

@@ -7,7 +7,7 @@ use Rattle.jls_parts.specs.Parts.{Part, Same, Differ, AreParts, IsSplice}
 use Rattle.jls_splice.specs.Faultless.{IsFaultless}
 use Rattle.jls_splice.specs.Search.{HasEachSplice}
 
--- A front that can be given up: its piece in hand is broken, whatever follows; or bytes behind it leave its course as it is, and it has a
+-- a prefix that can be given up: its current piece is broken, whatever follows; or bytes after it leave its course as it is, and it has a
 -- fault
 pub data CanBeGivenUp : List ℕ → Type 0 where
   broken : (front : List ℕ) → IsPieceBroken front → CanBeGivenUp front
@@ -28,7 +28,7 @@ pub data Searched : List ℕ → List Part → List (List ℕ) → Type 0 where
       → Searched front (Differ ways ∷ parts) files → Searched front (Differ (ways ++ here ∷ []) ∷ parts) files
   given_up : (front : List ℕ) (parts : List Part) → CanBeGivenUp front → Searched front parts []
 
--- these files are splices of so many copies, and none of them has a fault
+-- each of these files is a splice without a fault
 abbrev pub AreFaultlessSplices : ℕ → List Part → List (List ℕ) → Type 0
 AreFaultlessSplices count parts files = AllByRecursion (λ file. IsSplice count parts file × IsFaultless file) files
 
@@ -38,7 +38,7 @@ SearchesFindSplices =
     (copies : List (List ℕ)) (parts : List Part) → AreParts copies parts → 0 < length copies → (files : List (List ℕ))
     → Searched [] parts files → AreFaultlessSplices (length copies) parts files
 
--- and no splice without a fault is lost, whatever was given up and passed over
+-- a search loses no splice without a fault, whatever was given up and passed over
 abbrev pub SearchesLoseNothing : Type 0
 SearchesLoseNothing =
     (copies : List (List ℕ)) (parts : List Part) → AreParts copies parts → 0 < length copies → (files : List (List ℕ))

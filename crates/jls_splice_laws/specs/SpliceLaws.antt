@@ -6,12 +6,18 @@ use Rattle.jls_partial.specs.Partial.{PartialPicture}
 use Rattle.jls_partial.specs.Status.{IsSettled}
 use Rattle.jls_picture.specs.Picture.{WholePicture, picture_of}
 use Rattle.jls_picture.specs.WholePictures.{IsPicture}
-use Rattle.jls_headline.specs.Stations.{HoldsExactly, TookInTheEnd}
+use Rattle.jls_headline.specs.Stations.{HoldsExactly}
+use Rattle.jls_headline.specs.Sources.{SourcedCopy, copies_of}
+use Rattle.jls_headline.specs.Collected.{CollectedFrom}
 use Rattle.jls_headline.specs.Damaged.{EachLineSurvives}
 use Rattle.jls_parts.specs.Parts.{Part, IsSplice}
 use Rattle.jls_splice.specs.Faultless.{IsFaultless}
 use Rattle.jls_splice_laws.specs.Taken.{FilesTaken, AllTaken, SearchTaken}
 use Rattle.jls_splice_laws.specs.WholeFiles.{IsWholeFile}
+
+-- public calls read these files for the station, each as a copy under some source or under none, and no others
+abbrev pub ReadFiles : PartialPicture → List (List ℕ) → Type 0
+ReadFiles station files = (copies : List SourcedCopy) × CollectedFrom station copies × (copies_of copies ≡ files)
 
 -- Where the search found each splice without a fault, each of them is among the files taken: none has another shape
 abbrev pub FaultlessSplicesAreTaken : Type 0
@@ -20,22 +26,22 @@ FaultlessSplicesAreTaken =
     → (bytes : List ℕ) → AllByRecursion (λ b. b < 256) bytes → IsSplice (length copies) parts bytes → IsFaultless bytes
     → Contains files bytes
 
--- A station that took the files taken holds exactly their readings. Where every line of a picture survives in some of them, whatever the
--- search found and whatever else they read as, not each line of the station is settled, or they are that picture
+-- A station for which calls read the files taken holds exactly their readings. Where every line of a picture survives in some of them,
+-- whatever the search found and whatever else they read as, not each line of the station is settled, or they are that picture
 abbrev pub SplicesGiveNoOther : Type 0
 SplicesGiveNoOther =
     (copies : List (List ℕ)) (parts : List Part) (shape : PictureShape) (files : List (List ℕ)) → FilesTaken copies parts shape files
-    → (station : PartialPicture) → TookInTheEnd station files
+    → (station : PartialPicture) → ReadFiles station files
     → HoldsExactly station files
     × ((pic : WholePicture) → IsPicture pic → EachLineSurvives pic files → IsSettled station → picture_of station ≡ pic)
 
 -- Where, at each part in which the copies are found to differ, some copy has what an undamaged file has there, and the search found each
--- splice without a fault: not each line of a station that took the files taken is settled, or they are that file's picture
+-- splice without a fault: not each line of a station for which calls read the files taken is settled, or they are that file's picture
 abbrev pub WholeSplicesGiveNoOther : Type 0
 WholeSplicesGiveNoOther =
     (copies : List (List ℕ)) (parts : List Part) (shape : PictureShape) (files : List (List ℕ)) → AllTaken copies parts shape files
     → (pic : WholePicture) → IsPicture pic → (file : List ℕ) → IsWholeFile pic file → IsSplice (length copies) parts file
-    → (station : PartialPicture) → TookInTheEnd station files → IsSettled station → picture_of station ≡ pic
+    → (station : PartialPicture) → ReadFiles station files → IsSettled station → picture_of station ≡ pic
 
 -- What is taken of the copies and of what `search_copies` came to over them are files taken, each of which is a splice. Where its tries
 -- were not used up, each splice without a fault is among them
@@ -46,12 +52,12 @@ SearchedFilesAreTaken =
     → FilesTaken copies parts shape files × (is_used_up ≡ false → AllTaken copies parts shape files)
 
 -- So, where the tries of `search_copies` were not used up: if some copy has, at each part in which the copies are found to differ, what
--- an undamaged file has there, that file is taken; and not each line of a station that took the files taken is settled, or they are that
--- file's picture
+-- an undamaged file has there, that file is taken; and not each line of a station for which calls read the files taken is settled, or they
+-- are that file's picture
 abbrev pub SearchedSplicesGiveNoOther : Type 0
 SearchedSplicesGiveNoOther =
     (copies : List (List ℕ)) (parts : List Part) (found : List (List ℕ)) (shape : PictureShape) (files : List (List ℕ))
     → SearchTaken copies parts found false shape files
     → (pic : WholePicture) → IsPicture pic → (file : List ℕ) → IsWholeFile pic file → IsSplice (length copies) parts file
     → Contains files file
-    × ((station : PartialPicture) → TookInTheEnd station files → IsSettled station → picture_of station ≡ pic)
+    × ((station : PartialPicture) → ReadFiles station files → IsSettled station → picture_of station ≡ pic)

@@ -13,11 +13,11 @@ use Rattle.jls_splice.specs.Search.{HasEachSplice, CameTo, files_of}
 abbrev pub HasFrame : PictureShape → List ℕ → Type 0
 HasFrame shape file = (c : Course) × IsCourse file c × (c.headers.frame ≡ Some shape)
 
--- it takes no frame
+-- the course of the file takes no frame
 abbrev pub HasNoFrame : List ℕ → Type 0
 HasNoFrame file = (c : Course) × IsCourse file c × (c.headers.frame ≡ None)
 
--- the shape of the first of these files that has a frame
+-- the shape of the first file that has a frame
 abbrev pub IsFirstShape : List (List ℕ) → PictureShape → Type 0
 IsFirstShape [] shape = ⊥
 IsFirstShape (file ∷ files) shape = HasFrame shape file ⊎ (HasNoFrame file × IsFirstShape files shape)
@@ -28,7 +28,7 @@ pub record IsShapeTaken (copies found : List (List ℕ)) (shape : PictureShape) 
   pub of_faultless : (file : List ℕ) → Contains (copies ++ found) file → IsFaultless file → HasFrame shape file
   pub of_first : ((file : List ℕ) → Contains (copies ++ found) file → IsFaultless file → ⊥) → IsFirstShape copies shape
 
--- those of the files that have the shape, in order
+-- those of some files that have a shape, in order
 pub data AreOfShape (shape : PictureShape) : List (List ℕ) → List (List ℕ) → Type 0 where
   none_left : AreOfShape shape [] []
   taken : (file : List ℕ) (files more : List (List ℕ)) → HasFrame shape file → AreOfShape shape files more
@@ -47,12 +47,12 @@ pub record FilesTaken (copies : List (List ℕ)) (parts : List Part) (shape : Pi
   pub shape_is : IsShapeTaken copies found shape
   pub of_shape : AreOfShape shape (copies ++ found) files
 
--- the files taken where the search found each splice without a fault: its tries were enough
+-- the files taken, if the search found each splice without a fault: its tries were enough
 pub record AllTaken (copies : List (List ℕ)) (parts : List Part) (shape : PictureShape) (files : List (List ℕ)) : Type 0 where
   pub files_taken : FilesTaken copies parts shape files
   pub each : HasEachSplice parts files_taken.found
 
--- the files taken where what was found is what jls_splice's `search_copies` came to over the copies
+-- the files taken, if what was found is what `search_copies` came to over the copies
 pub record SearchTaken (copies : List (List ℕ)) (parts : List Part) (found : List (List ℕ)) (is_used_up : Bool) (shape : PictureShape)
     (files : List (List ℕ)) : Type 0 where
   pub some_copy : 0 < length copies

@@ -21,7 +21,7 @@ pub record IsWholeFile (pic : WholePicture) (file : List ℕ) : Type 0 where
   pub ends : EndsWell course.end
   pub each : AllByRecursion HasLines (pieces course)
 
--- Such a file is one without a fault: each line of its frame is read
+-- an undamaged file of a picture is a file without a fault
 abbrev pub WholeFilesAreFaultless : Type 0
 WholeFilesAreFaultless = (pic : WholePicture) (file : List ℕ) → IsWholeFile pic file → IsFaultless file
 

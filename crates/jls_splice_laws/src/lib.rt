@@ -1,6 +1,8 @@
 //! The laws of splices that speak of readings and pictures. They say what a search for files without a fault finds, what survives in
 //! such a file, and what the files that are taken settle. This crate has definitions and laws alone. Each law is a function that does
 //! nothing: its contract is the law.
+//!
+//! Definitions: `WholeFiles`, `Searches`, `Taken`, `SpliceLaws`.
 #![tactic(auto)]
 
 mod searches;

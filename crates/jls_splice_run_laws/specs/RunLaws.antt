@@ -27,7 +27,7 @@ pub record DidSplice (a : Asked) (desk report : List Event) : Type 0 where
   pub settled : IsSettled made.picture
   pub handed : HandsAll (texts a copies made) writing report
 
--- What was asked of some copies ends with status 0: it was done. Where the search of all splices was not cut off, and some copy has, at
+-- what was asked of some copies ends with status 0. Then it was done. If the search of all splices was not cut off, and some copy has, at
 -- each part in which the copies are found to differ, what an undamaged file has there, the picture is that file's
 abbrev pub SplicedRunsGiveNoOther : Type 0
 SplicedRunsGiveNoOther =

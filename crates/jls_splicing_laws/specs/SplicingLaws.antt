@@ -5,9 +5,8 @@ use Rattle.jls_partial.specs.Partial.{PartialPicture, nothing_known}
 use Rattle.jls_partial.specs.Status.{IsSettled}
 use Rattle.jls_picture.specs.Picture.{WholePicture, picture_of}
 use Rattle.jls_picture.specs.WholePictures.{IsPicture}
-use Rattle.jls_headline.specs.SourceLaws.{sourced_copy}
-use Rattle.jls_headline.specs.Sources.{SourcedCopy, HoldsExactlyUnder}
-use Rattle.jls_headline.specs.Stations.{TookInTheEnd}
+use Rattle.jls_headline.specs.Collected.{CollectedUnder}
+use Rattle.jls_headline.specs.Sources.{SourcedCopy, sourced_copy, HoldsExactlyUnder}
 use Rattle.jls_parts.specs.Parts.{Part, AreParts, IsSplice}
 use Rattle.jls_splice.specs.Search.{CameTo, files_of}
 use Rattle.jls_splice_laws.specs.Taken.{AreOfShape}
@@ -19,12 +18,12 @@ use Rattle.jls_splicing.specs.Stations.{TakesFiles}
 abbrev pub under : Option ℕ → List (List ℕ) → List SourcedCopy
 under source files = map (sourced_copy source) files
 
--- of these files the station took those of the shape, and holds exactly the readings that they give, each under the source
+-- public calls read those of the files that have the shape for the station, each under the source; and it holds exactly their readings
 pub record HoldsFiles (source : Option ℕ) (shape : PictureShape) (files : List (List ℕ)) (station : PartialPicture) : Type 0 where
   pub taken : List (List ℕ)
   pub of_shape : AreOfShape shape files taken
+  pub read : CollectedUnder station (under source taken)
   pub exactly : HoldsExactlyUnder station (under source taken)
-  pub took : TookInTheEnd station taken
 
 -- what `settle_files` gives does so
 abbrev pub FilesAreHeld : Type 0

@@ -2,12 +2,16 @@
 
 ghost use Rattle.jls_splicing_laws.specs.SplicingLaws.{FilesAreHeld, SplicedCopiesGiveNoOther};
 
+use jls_headline::collected_copies_are_held;
 use jls_splice_laws::splices_give_no_other;
 
-/// A law: a station that took files holds exactly the readings of those whose frame has its shape, each under the source of the call.
+/// A law: a station that took files holds exactly the readings of those whose frame has its shape, each under the source of the call. These
+/// are the copies that public calls read for it.
 pub fn files_are_held()
     ensures { FilesAreHeld }
-{}
+{
+    collected_copies_are_held();
+}
 
 /// A law: assume that an undamaged file has, at each part in which the copies are found to differ, what some copy has there. Assume
 /// also that the tries of the search were not used up. If every line of the station that took the files is settled, the lines are that
@@ -15,5 +19,6 @@ pub fn files_are_held()
 pub fn spliced_copies_give_no_other()
     ensures { SplicedCopiesGiveNoOther }
 {
+    collected_copies_are_held();
     splices_give_no_other();
 }

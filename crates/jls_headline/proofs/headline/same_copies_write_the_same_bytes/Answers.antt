@@ -1,5 +1,5 @@
-use Rattle.jls_headline.proofs.StationPictures.{say_the_same, same_copies_say_the_same}
-use Rattle.jls_headline.proofs.SourcedStations.{same_sources_same_text}
+use Rattle.jls_headline.proofs.StationPictures.{say_the_same}
+use Rattle.jls_headline.proofs.CollectedPictures.{same_copies_say_the_same, same_sources_same_text}
 use Rattle.jls_headline.proofs.headline.same_copies_write_the_same_bytes.Goals as goal
 
 pub returns-clause-readings : goal.returns-clause-readings

@@ -1,0 +1,57 @@
+//! Callers that read a copy, or an input.
+
+ghost use Rattle.std.specs.Prelude.{◌≡◌, ◌∷◌, [], List, None, IfOk};
+ghost use Rattle.jls_device.specs.Event.{GrewBy, bytes_given};
+ghost use Rattle.jls_partial.specs.Partial.{PartialPicture};
+ghost use Rattle.jls_partial.specs.Text.{IsTextOf};
+ghost use Rattle.jls_headline.specs.Collected.{Collected};
+ghost use Rattle.jls_headline.specs.Sources.{SourcedCopy, sourced_copy};
+
+use jls_copy::{CopyFault, CopyReader};
+use jls_device::Source;
+use jls_partial::Partial;
+use jls_station::{InputFault, InputRead, read_input};
+use std::alloc::Global;
+
+/// Reads a copy that stands in memory, under a source if there is one.
+pub fn read_in_memory(
+    alloc: Global,
+    source: Option<u32>,
+    bytes: &[u8],
+) -> Result<Partial, CopyFault>
+    ensures { IfOk result (λ partial. Collected partial (sourced_copy source bytes.now ∷ []) []) }
+{
+    if bytes.len() > 1 << 61 {
+        return Err(CopyFault::OutOfMemory);
+    }
+    let mut reader = CopyReader::new(alloc);
+    match reader.feed(bytes) {
+        Ok(()) => {}
+        Err(_) => return Err(CopyFault::OutOfMemory),
+    }
+    let read = reader.finish()?;
+    let mut partial = read.into_partial();
+    match source {
+        None => Ok(partial),
+        Some(number) => match partial.mark(number) {
+            Ok(()) => Ok(partial),
+            Err(_) => Err(CopyFault::OutOfMemory),
+        },
+    }
+}
+
+/// Reads an input: a copy, or the text of something that calls collected.
+pub fn read_any<S: Source>(
+    alloc: Global,
+    source: Option<u32>,
+    device: &mut S,
+) -> Result<InputRead, InputFault>
+    ensures copy { IfOk result (λ given. (given.copy ≡ None → ⊥) → GrewBy
+        (λ reads. Collected given.partial (sourced_copy source (bytes_given reads) ∷ []) [])
+        (S.history device.old) (S.history device.new)) }
+    ensures text { (p : PartialPicture) (copies over : List SourcedCopy) → Collected p copies over → IfOk result (λ given. GrewBy
+        (λ reads. IsTextOf (bytes_given reads) p → Collected given.partial copies over)
+        (S.history device.old) (S.history device.new)) }
+{
+    read_input(alloc, source, device)
+}

@@ -1,0 +1,59 @@
+//! Callers of stations that take copies and partial pictures.
+
+ghost use Rattle.std.specs.Prelude.{◌≡◌, ◌++◌, ◌∷◌, [], List, OnOk, IfOk, IfErr, IsErrOf};
+ghost use Rattle.jls_device.specs.Event.{GrewBy, bytes_given};
+ghost use Rattle.jls_values.specs.declared.merge.MergeFault.TheVariants.{ShapeDiffers, OutOfMemory};
+ghost use Rattle.jls_station.specs.declared.take_copy.TakeFault.TheVariants as TakeFault;
+ghost use Rattle.jls_headline.specs.Collected.{Collected};
+ghost use Rattle.jls_headline.specs.Sources.{SourcedCopy, sourced_copy};
+
+use jls_device::Source;
+use jls_station::{Station, TakeFault, TakeReport};
+use jls_values::{MergeFault, Shape};
+use std::alloc::Global;
+
+/// A new station takes its first copy.
+pub fn take_first<S: Source>(
+    alloc: Global,
+    shape: Shape,
+    source: Option<u32>,
+    first: &mut S,
+) -> Result<Station, TakeFault>
+    ensures { IfOk result (λ station. GrewBy (λ reads. Collected station (sourced_copy source (bytes_given reads) ∷ []) [])
+        (S.history first.old) (S.history first.new)) }
+{
+    let mut station = Station::new(alloc, shape);
+    station.take_copy(source, first)?;
+    Ok(station)
+}
+
+/// A station takes one copy more.
+pub fn take_next<S: Source>(
+    station: &mut Station,
+    source: Option<u32>,
+    device: &mut S,
+) -> Result<TakeReport, TakeFault>
+    ensures taken { (copies over : List SourcedCopy) → Collected station.old copies over → IfOk result (λ _. GrewBy
+        (λ reads. Collected station.new (copies ++ sourced_copy source (bytes_given reads) ∷ []) over)
+        (S.history device.old) (S.history device.new)) }
+    ensures refused { (copies over : List SourcedCopy) → Collected station.old copies over
+        → IfErr result (λ fault. (fault ≡ TakeFault.OutOfMemory → ⊥) → Collected station.new copies over) }
+    ensures ran_out { (copies over : List SourcedCopy) → Collected station.old copies over
+        → IfErr result (λ fault. fault ≡ TakeFault.OutOfMemory → GrewBy
+        (λ reads. Collected station.new copies (over ++ sourced_copy source (bytes_given reads) ∷ []))
+        (S.history device.old) (S.history device.new)) }
+{
+    station.take_copy(source, device)
+}
+
+/// A station takes what another holds.
+pub fn take_other(station: &mut Station, other: &Station) -> Result<(), MergeFault>
+    ensures taken { (copies over more further : List SourcedCopy) → Collected station.old copies over → Collected other.now more further
+        → OnOk result (Collected station.new (copies ++ more) (over ++ further)) }
+    ensures refused { (copies over : List SourcedCopy) → Collected station.old copies over
+        → IsErrOf result ShapeDiffers → Collected station.new copies over }
+    ensures ran_out { (copies over more further : List SourcedCopy) → Collected station.old copies over → Collected other.now more further
+        → IsErrOf result OutOfMemory → Collected station.new copies (over ++ (more ++ further)) }
+{
+    station.take(other.partial())
+}

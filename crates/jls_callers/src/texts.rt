@@ -1,0 +1,61 @@
+//! Callers that hand on what a station holds as its text.
+
+ghost use Rattle.std.specs.Prelude.{◌++◌, ℕ, List, OnOk, OnErr, IfOk};
+ghost use Rattle.jls_partial.specs.Text.{IsTextOf};
+ghost use Rattle.jls_headline.specs.Collected.{Collected};
+ghost use Rattle.jls_headline.specs.Sources.{SourcedCopy};
+
+use jls_headline::cut_texts_are_held;
+use jls_partial::{MergeTextFault, Partial, TextFault};
+use jls_station::Station;
+use std::alloc::{AllocError, Global};
+
+/// The text of what a station holds, as `to_bytes` makes it.
+pub fn text_of(alloc: Global, station: &Station) -> Result<Vec<u8>, AllocError>
+    ensures { IfOk result (λ bytes. IsTextOf bytes.items station.now) }
+{
+    let partial = station.partial();
+    let _ids = partial.shape().ids();
+    partial.to_bytes(alloc)
+}
+
+/// A station again, from the text of another.
+pub fn read_back(alloc: Global, other: &Station, bytes: &[u8]) -> Result<Station, TextFault>
+    requires { IsTextOf bytes.now other.now }
+    ensures { (copies over : List SourcedCopy) → Collected other.now copies over → IfOk result (λ station. Collected station copies over) }
+{
+    let _other = other.partial();
+    let partial = Partial::from_bytes(alloc, bytes)?;
+    Ok(Station::holding(alloc, partial))
+}
+
+/// A station takes the text of what another holds.
+pub fn take_its_text(
+    station: &mut Station,
+    other: &Station,
+    bytes: &[u8],
+) -> Result<(), MergeTextFault>
+    requires { IsTextOf bytes.now other.now }
+    ensures taken { (copies over more further : List SourcedCopy) → Collected station.old copies over → Collected other.now more further
+        → OnOk result (Collected station.new (copies ++ more) (over ++ further)) }
+    ensures ran_out { (copies over more further : List SourcedCopy) → Collected station.old copies over → Collected other.now more further
+        → OnErr result (Collected station.new copies (over ++ (more ++ further))) }
+{
+    let _other = other.partial();
+    station.take_text(bytes)
+}
+
+/// A station refuses a text that was cut short.
+pub fn take_cut_text(
+    station: &mut Station,
+    other: &Station,
+    front: &[u8],
+) -> Result<(), MergeTextFault>
+    ensures { (behind : List ℕ) (copies over more further : List SourcedCopy) → IsTextOf (front.now ++ behind) other.now
+        → Collected station.old copies over → Collected other.now more further
+        → OnErr result (Collected station.new copies (over ++ (more ++ further))) }
+{
+    cut_texts_are_held();
+    let _other = other.partial();
+    station.take_text(front)
+}

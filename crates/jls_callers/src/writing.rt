@@ -1,0 +1,53 @@
+//! A caller that writes the picture of a station.
+
+ghost use Rattle.std.specs.Prelude.{◌≡◌, ℕ, List, IsTrue};
+ghost use Rattle.std.specs.List.{AllByRecursion};
+ghost use Rattle.jls_device.specs.Event.{GrewBy};
+ghost use Rattle.jls_device.specs.Writing.{Wrote};
+ghost use Rattle.jls_picture.specs.Outcomes.{HandedOut};
+ghost use Rattle.jls_picture.specs.Picture.{WholePicture, picture_of};
+ghost use Rattle.jls_picture.specs.WholePictures.{IsPicture};
+ghost use Rattle.jls_file.specs.WrittenFile.{written_file};
+ghost use Rattle.jls_headline.specs.Collected.{CollectedFrom};
+ghost use Rattle.jls_headline.specs.Damaged.{Damaged, EachLineSurvives};
+ghost use Rattle.jls_headline.specs.ReadsAs.{ReadsAsOnly};
+ghost use Rattle.jls_headline.specs.Sources.{SourcedCopy, copies_of};
+
+use jls_device::Sink;
+use jls_file::write_jls;
+use jls_headline::same_copies_give_the_picture;
+use jls_picture::{Options, Picture};
+use jls_station::Station;
+use std::alloc::Global;
+
+/// Writes the picture of a station as JPEG-LS, if each line is settled and the options fit. It answers whether the sink took all of it.
+pub fn write_station<W: Sink>(
+    alloc: Global,
+    station: &Station,
+    options: &Options,
+    sink: &mut W,
+) -> bool
+    // Where this holds of two stations and equal options, the clause `writes` of the law says that both sinks took the same bytes.
+    ensures all { IsTrue result → HandedOut (W.history sink.old) (W.history sink.new) (W.contents sink.old) (W.contents sink.new)
+        (written_file (picture_of station.now) options.now) }
+    ensures damaged { (pic : WholePicture) (copies : List SourcedCopy) → IsPicture pic → CollectedFrom station.now copies
+        → AllByRecursion (Damaged pic) (copies_of copies) → EachLineSurvives pic (copies_of copies) → IsTrue result
+        → (bytes : List ℕ) × GrewBy (Wrote bytes) (W.history sink.old) (W.history sink.new) × ReadsAsOnly bytes pic }
+{
+    same_copies_give_the_picture();
+    let _ri = options.restart_interval();
+    let params = options.params();
+    let _precision = params.precision();
+    match Picture::of(station.partial()) {
+        Ok(picture) => {
+            if !options.fits(&picture) {
+                return false;
+            }
+            match write_jls(alloc, &picture, options, sink) {
+                Ok(()) => true,
+                Err(_) => false,
+            }
+        }
+        Err(_) => false,
+    }
+}

@@ -1,0 +1,92 @@
+-- Histories of calls: which copies public calls read for what they came to. Each constructor is one call that answered in one way, and its
+-- premises are what the clauses of this call's contract say of that answer. jls_callers makes each call, and ends in this step.
+use Rattle.std.specs.Prelude.{◌≡◌, ℕ, ◌<◌, true, List, [], ◌∷◌, ◌++◌, Option, None}
+use Rattle.std.specs.List.{AllByRecursion}
+use Rattle.jls_values.specs.Join.{IsBetween}
+use Rattle.jls_values.specs.OrderedSet as set
+use Rattle.jls_values.specs.Shape.{PictureShape}
+use Rattle.jls_partial.specs.Reading.{Reading}
+use Rattle.jls_partial.specs.Partial.{PartialPicture, nothing_known, has_same_shape, union}
+use Rattle.jls_partial.specs.Merging.{TakesFront}
+use Rattle.jls_partial.specs.Text.{IsTextOf}
+use Rattle.jls_partial.specs.TextFront.{text_front}
+use Rattle.jls_partial.specs.TextMerging.{MergesText}
+use Rattle.jls_device.specs.Event.{Event, bytes_given}
+use Rattle.jls_copy.specs.CopyReads.{CopyReads}
+use Rattle.jls_copy.specs.ReadCopy.{ReadCopy}
+use Rattle.jls_station.specs.Given.{CopyReport, Given, marked}
+use Rattle.jls_station.specs.Inputs.{ReadsGive}
+use Rattle.jls_station.specs.TakingCopies.{TakesCopy, RefusesCopy}
+use Rattle.jls_station.specs.declared.take_copy.TakeFault.{TakeFault}
+use Rattle.jls_station.specs.declared.take_copy.TakeFault.TheVariants as fault
+use Rattle.jls_headline.specs.Stations.{AreAmong, IsSameCopy}
+use Rattle.jls_headline.specs.Sources.{SourcedCopy, sourced_copy, copies_of, IsSameUnder}
+
+-- one entry of a text, which is a reading and its sources, is held
+abbrev pub HoldsEntry : PartialPicture → Reading × List ℕ → Type 0
+HoldsEntry p entry =
+    (set.contains p.readings entry.0 ≡ true) × AllByRecursion (λ source. set.contains p.marks (entry.0, source) ≡ true) entry.1
+
+-- so is each entry that stands in these bytes before their first fault as a text
+abbrev pub HoldsFront : PartialPicture → List ℕ → Type 0
+HoldsFront p bytes = AllByRecursion (HoldsEntry p) (text_front bytes)
+
+-- `Collected p copies over`: public calls came to the partial picture `p`, alone or in a station. For it they read `copies`, each under a
+-- source or under none. For those in `over` memory ran out: any of their readings may be held, or none
+pub data Collected : PartialPicture → List SourcedCopy → List SourcedCopy → Type 0 where
+  -- `Station::new`
+  new_station : (shape : PictureShape) (station : PartialPicture) → station ≡ nothing_known shape → Collected station [] []
+  -- `CopyReader::finish` answered Ok after it was fed these bytes. Where there is a source, `Partial::mark` then did
+  reader_finished : (source : Option ℕ) (bytes : List ℕ) (read : ReadCopy) (p : PartialPicture) → AllByRecursion (λ b. b < 256) bytes
+      → CopyReads bytes read → p ≡ marked source read.partial → Collected p (sourced_copy source bytes ∷ []) []
+  -- `read_input` answered Ok, and what it read was a copy
+  copy_input : (source : Option ℕ) (given : Given) (reads : List Event) → ReadsGive source given reads → (given.copy ≡ None → ⊥)
+      → Collected given.partial (sourced_copy source (bytes_given reads) ∷ []) []
+  -- `read_input` answered Ok, and what it read was the text of something collected
+  text_input : (p : PartialPicture) (copies over : List SourcedCopy) (source : Option ℕ) (given : Given) (reads : List Event)
+      → Collected p copies over → IsTextOf (bytes_given reads) p → ReadsGive source given reads → Collected given.partial copies over
+  -- `Partial::from_bytes` answered Ok for such a text
+  text_back : (p new : PartialPicture) (copies over : List SourcedCopy) (bytes : List ℕ) → Collected p copies over → IsTextOf bytes p
+      → IsTextOf bytes new → Collected new copies over
+  -- `Station::holding` or `Station::partial` hands on what it is given; or a call answered ShapeDiffers, and the station is as it was
+  same_again : (old new : PartialPicture) (copies over : List SourcedCopy) → Collected old copies over → new ≡ old
+      → Collected new copies over
+  -- `Station::take_copy` answered Ok
+  copy_taken : (source : Option ℕ) (old new : PartialPicture) (report : CopyReport) (reads : List Event) (copies over : List SourcedCopy)
+      → Collected old copies over → TakesCopy source old new report reads
+      → Collected new (copies ++ sourced_copy source (bytes_given reads) ∷ []) over
+  -- it answered a fault, but not OutOfMemory
+  copy_refused : (source : Option ℕ) (old new : PartialPicture) (f : TakeFault) (reads : List Event) (copies over : List SourcedCopy)
+      → Collected old copies over → RefusesCopy source old new f reads → (f ≡ fault.OutOfMemory → ⊥) → Collected new copies over
+  -- it answered OutOfMemory
+  copy_ran_out : (source : Option ℕ) (old new : PartialPicture) (reads : List Event) (copies over : List SourcedCopy)
+      → Collected old copies over → RefusesCopy source old new fault.OutOfMemory reads
+      → Collected new copies (over ++ sourced_copy source (bytes_given reads) ∷ [])
+  -- `Station::take` answered Ok for something collected
+  partial_taken : (old new other : PartialPicture) (copies over more further : List SourcedCopy) → Collected old copies over
+      → Collected other more further → has_same_shape old other ≡ true → new ≡ union old other
+      → Collected new (copies ++ more) (over ++ further)
+  -- it answered OutOfMemory
+  partial_ran_out : (old new other : PartialPicture) (copies over more further : List SourcedCopy) → Collected old copies over
+      → Collected other more further → IsBetween union old new (union old other) → Collected new copies (over ++ (more ++ further))
+  -- `Station::take_text` answered Ok for the text of something collected
+  text_taken : (old new other : PartialPicture) (copies over more further : List SourcedCopy) (bytes : List ℕ) → Collected old copies over
+      → Collected other more further → IsTextOf bytes other → MergesText old bytes new → Collected new (copies ++ more) (over ++ further)
+  -- it answered a fault for such a text, of which memory ran out or whose shape is another
+  text_ran_out : (old new other : PartialPicture) (copies over more further : List SourcedCopy) (bytes : List ℕ)
+      → Collected old copies over → Collected other more further → IsTextOf bytes other → IsBetween union old new (union old other)
+      → Collected new copies (over ++ (more ++ further))
+  -- It answered a fault for other bytes, and something collected holds each entry before their fault. Such is a text that was cut short. A
+  -- station that refused any other text has no history from then on
+  text_cut_short : (old new other : PartialPicture) (copies over more further : List SourcedCopy) (bytes : List ℕ)
+      → Collected old copies over → Collected other more further → HoldsFront other bytes → TakesFront old new (text_front bytes)
+      → Collected new copies (over ++ (more ++ further))
+
+-- Public calls read these copies for it, and no others. Each copy for which memory ran out is the same as one of them, read before or after
+abbrev pub CollectedFrom : PartialPicture → List SourcedCopy → Type 0
+CollectedFrom p copies =
+    (over : List SourcedCopy) × Collected p copies over × AreAmong IsSameCopy (copies_of over) (copies_of copies)
+
+-- So too, and it is the same under the same source
+abbrev pub CollectedUnder : PartialPicture → List SourcedCopy → Type 0
+CollectedUnder p copies = (over : List SourcedCopy) × Collected p copies over × AreAmong IsSameUnder over copies
