@@ -1,66 +1,127 @@
-# make, make test, make install, make uninstall, make dist: the programs, their gate, and their files in their places.
+# make            builds bin/jls-salvage and bin/jls-splice from dist/ with a C compiler, and puts the commands of commands/ beside them
+# make install, make uninstall     PREFIX=.. (default /usr/local), DESTDIR=..
+# make proved     proves and builds the programs from the sources, and compares them with dist/: this one needs the toolchain (rt)
+# make test       the gate
+# make renew      makes dist/ anew from the sources
+# make dist, make deb, make release     archives for each processor, a Debian package for each, and both
 #
-# `make` needs the Rattle toolchain (rt); `make install` and what `make dist` packs don't. docs/INSTALL.md says more.
+# CC=.. another compiler, also one for another processor; STATIC=1 programs that need no library of the system; BUILD=.. another folder
+# than bin. docs/INSTALL.md says more.
 
 PREFIX ?= /usr/local
 DESTDIR ?=
+BUILD = bin
+CFLAGS ?= -O2
+LDFLAGS ?=
+STATIC =
+
 BINDIR = $(DESTDIR)$(PREFIX)/bin
+LIBDIR = $(DESTDIR)$(PREFIX)/lib/jls-salvage
 MANDIR = $(DESTDIR)$(PREFIX)/share/man/man1
 BASHDIR = $(DESTDIR)$(PREFIX)/share/bash-completion/completions
 ZSHDIR = $(DESTDIR)$(PREFIX)/share/zsh/site-functions
 SHAREDIR = $(DESTDIR)$(PREFIX)/share/jls-salvage
 
-PROGRAMS = bin/jls-salvage bin/jls-splice
-SOURCES = $(shell find crates -path '*/out' -prune -o -type f \( -path '*/src/*' -o -path '*/specs/*' -o -path '*/proofs/*' \) -print)
-VERSION = $(shell sed -n 's/.*version("\([0-9.]*\)").*/\1/p' crates/jls_words/src/command.rt)
-DIST = jls-salvage-$(VERSION)-x86_64-linux
-PACKED = $(PROGRAMS) man completions recipes examples docs LICENSE README.md CHANGELOG.md Makefile
+NAMES = jls-salvage jls-splice
+PROGRAMS = $(addprefix $(BUILD)/,$(NAMES))
+# the commands are scripts, and call the programs beside them; with the modules that they read
+COMMANDS := $(sort $(patsubst commands/%,%,$(shell find commands -maxdepth 1 -type f -perm -100 2> /dev/null)))
+MODULES := $(sort $(patsubst commands/%,%,$(shell find commands -name '*.py' ! -perm -100 2> /dev/null)))
+PAGES = $(wildcard man/*.1)
+BASHES = $(wildcard completions/*.bash)
+ZSHES = $(wildcard completions/_*)
 
-.PHONY: all test install uninstall dist clean
-all: $(PROGRAMS)
+.PHONY: all ready test proved renew install uninstall dist deb release current clean FORCE
+.DELETE_ON_ERROR:
+all: $(PROGRAMS) $(addprefix $(BUILD)/,$(COMMANDS) $(MODULES))
 
-# In what `make dist` packed there are no sources, and the programs are there
+# The programs ----------------------------------------------------------------
+
+# In what `make dist` packs there are no sources, and the programs are there
 ifneq ($(wildcard crates.txt),)
-bin/jls-salvage: $(SOURCES) crates.txt jls-salvage
-	./jls-salvage --version > /dev/null
-	mkdir -p bin
-	install -m 755 crates/jls_salvage/out/jls_salvage $@
+MACHINE := $(shell $(CC) -dumpmachine 2> /dev/null)
+PROCESSOR = $(patsubst amd64,x86_64,$(patsubst arm64,aarch64,$(firstword $(subst -, ,$(MACHINE)))))
+LINK = $(CC) $(CFLAGS) -fno-lto $(LDFLAGS) $(if $(STATIC),-static) -Wl,--wrap=main
 
-bin/jls-splice: $(SOURCES) crates.txt jls-splice
-	./jls-splice --version > /dev/null
-	mkdir -p bin
-	install -m 755 crates/jls_splice_program/out/jls_splice_program $@
+$(PROGRAMS): $(BUILD)/%: dist/runtime.c dist/SHA256SUMS $(BUILD)/.how | ready
+	gzip -dc dist/$(PROCESSOR)/$*.o.gz > $(BUILD)/.$*.o
+	$(LINK) -o $(BUILD)/.$* dist/runtime.c $(BUILD)/.$*.o
+	@rm -f $(BUILD)/.$*.o
+	mv -f $(BUILD)/.$* $@
+
+# What has to be there, and whether dist/ is as it was made
+ready:
+	@command -v $(firstword $(CC)) > /dev/null \
+	    || { echo 'make: there is no C compiler $(firstword $(CC)): install one, or name one by CC=' >&2; exit 1; }
+	@case '$(MACHINE)' in *linux*) ;; *) echo 'make: $(CC) makes programs for $(MACHINE), and dist/ has objects for Linux alone' >&2; exit 1 ;; esac
+	@test -d 'dist/$(PROCESSOR)' \
+	    || { echo 'make: dist/ has no objects for $(PROCESSOR); it has them for $(notdir $(patsubst %/,%,$(wildcard dist/*/)))' >&2; exit 1; }
+	@cd dist && sums=$$(sha256sum -c SHA256SUMS 2>&1) \
+	    || { printf '%s\n' "$$sums" | grep -v ': OK$$' >&2; echo 'make: dist/ is damaged: its files are not those of dist/SHA256SUMS' >&2; exit 1; }
+
+# How the programs were built last: another compiler, or other flags, build them anew
+$(BUILD)/.how: FORCE
+	@mkdir -p $(BUILD) && test -w $(BUILD) \
+	    || { echo 'make: $(BUILD) cannot be written; name another folder by BUILD=, as in make BUILD=/tmp/jls' >&2; exit 1; }
+	@echo '$(LINK) $(PROCESSOR)' | cmp -s - $@ || echo '$(LINK) $(PROCESSOR)' > $@
 endif
+
+$(addprefix $(BUILD)/,$(COMMANDS) $(MODULES)): $(BUILD)/%: commands/%
+	@mkdir -p $(@D)
+	cp -p $< $@
+
+proved:
+	interop/prove $(NAMES)
+	interop/dist
+
+renew:
+	interop/renew
 
 test:
 	./test
 
-install: $(PROGRAMS)
-	install -d "$(BINDIR)" "$(MANDIR)" "$(BASHDIR)" "$(ZSHDIR)" "$(SHAREDIR)/recipes"
-	for name in jls-salvage jls-splice; do \
-	    install -m 755 bin/$$name "$(BINDIR)/$$name" \
-	    && install -m 644 man/$$name.1 "$(MANDIR)/$$name.1" \
-	    && install -m 644 completions/$$name.bash "$(BASHDIR)/$$name" \
-	    && install -m 644 completions/_$$name "$(ZSHDIR)/_$$name" || exit 1; \
+# Their places ----------------------------------------------------------------
+
+# It installs what is there, and builds only what isn't: so root needs no compiler
+install: $(if $(filter-out $(wildcard $(PROGRAMS)),$(PROGRAMS)),all)
+	install -d "$(BINDIR)" "$(LIBDIR)" "$(MANDIR)" "$(BASHDIR)" "$(ZSHDIR)" "$(SHAREDIR)/recipes"
+	install -m 755 $(PROGRAMS) "$(BINDIR)"
+	for name in $(NAMES); do ln -sf ../../bin/$$name "$(LIBDIR)/$$name" || exit 1; done
+	for name in $(COMMANDS); do \
+	    install -m 755 commands/$$name "$(LIBDIR)/$$name" && ln -sf ../lib/jls-salvage/$$name "$(BINDIR)/$$name" || exit 1; \
 	done
+	for name in $(MODULES); do install -D -m 644 commands/$$name "$(LIBDIR)/$$name" || exit 1; done
+	install -m 644 $(PAGES) "$(MANDIR)"
+	for file in $(notdir $(BASHES)); do install -m 644 completions/$$file "$(BASHDIR)/$${file%.bash}" || exit 1; done
+	install -m 644 $(ZSHES) "$(ZSHDIR)"
 	install -m 755 $(filter-out %.py,$(wildcard recipes/*)) "$(SHAREDIR)/recipes"
-	install -m 644 $(wildcard recipes/*.py) "$(SHAREDIR)/recipes"
+	for file in $(wildcard recipes/*.py); do install -m 644 $$file "$(SHAREDIR)/recipes" || exit 1; done
 
 uninstall:
-	for name in jls-salvage jls-splice; do \
-	    rm -f "$(BINDIR)/$$name" "$(MANDIR)/$$name.1" "$(BASHDIR)/$$name" "$(ZSHDIR)/_$$name"; \
-	done
-	rm -rf "$(SHAREDIR)"
+	rm -f $(patsubst %,"$(BINDIR)/%",$(NAMES) $(COMMANDS)) $(patsubst man/%,"$(MANDIR)/%",$(PAGES))
+	rm -f $(patsubst completions/%.bash,"$(BASHDIR)/%",$(BASHES)) $(patsubst completions/%,"$(ZSHDIR)/%",$(ZSHES))
+	rm -rf "$(LIBDIR)" "$(SHAREDIR)"
 
-# The same bytes each time: names in order, no owner, the time of the last commit
-dist: $(PROGRAMS)
-	rm -rf out/$(DIST) && mkdir -p out/$(DIST)
-	cp -r --parents $(PACKED) out/$(DIST)
-	find out/$(DIST) -name __pycache__ -prune -exec rm -rf {} +
-	cd out/$(DIST) && find . -type f ! -name SHA256SUMS | LC_ALL=C sort | xargs sha256sum > SHA256SUMS
-	tar -C out --sort=name --owner=0 --group=0 --numeric-owner --mtime="@$$(git log -1 --format=%ct)" -cf - $(DIST) \
-	    | gzip -n > out/$(DIST).tar.gz
-	cd out && sha256sum $(DIST).tar.gz $(addprefix $(DIST)/,$(PROGRAMS))
+# Archives and packages -------------------------------------------------------
+
+PROCESSORS = x86_64 aarch64
+VERSION = $(shell sed -n 's/.*const VERSION: &str = "\([0-9.]*\).*/\1/p' crates/*/src/*.rt)
+
+# Whether dist/ is made of the sources that are here
+current:
+	interop/dist --current
+
+dist: current
+	interop/pack archive $(VERSION) $(PROCESSORS)
+
+deb: current
+	interop/pack deb $(VERSION) $(PROCESSORS)
+
+# What is given out is made of a commit, and CHANGELOG.md has its version
+release:
+	test -z "$$(git status --porcelain)"
+	grep -q '^## $(VERSION) (....-..-..)$$' CHANGELOG.md
+	$(MAKE) dist deb
 
 clean:
 	rm -rf bin out

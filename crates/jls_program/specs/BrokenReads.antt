@@ -24,33 +24,34 @@ use Rattle.jls_words.specs.Asking.{Asked, check, join, show, write_pnm, write_jl
 use Rattle.jls_program.specs.Runs.{Ran}
 use Rattle.jls_program.specs.Statuses.{source_of, inputs_of}
 
--- Where a run ends, its status is at most 5
+-- the status of a run is at most 5
 abbrev pub StatusesAreAtMost5 : Type 0
 StatusesAreAtMost5 =
     (words : List Text) (status : ℕ) (desk desk' report report' faults faults' : History)
     → Ran words status desk desk' report report' faults faults' → status ≤ 5
 
--- everything was opened and created, and no write failed
+-- an input was not opened, an output was not created, or a write failed
 abbrev pub is_other_failure : Event → Bool
 is_other_failure e = is_failed_opening e || is_failed_write e
 
+-- no opening, creation or write among these events failed
 abbrev pub NothingElseFailed : List Event → Type 0
 NothingElseFailed events = list_any is_other_failure events ≡ false
 
--- one input was taken, though not read whole, and exactly these lines of what was read were printed
+-- an input was taken, though not read whole, and exactly the lines of what was read were printed
 pub record TellsInPart (traced : Bool) (name : Text) (desk report : List Event) : Type 0 where
   pub g : Given
   pub taken : IsTaken None name g desk
   pub in_part : g.stop ≡ Whole → ⊥
   pub printed : Wrote (lines traced g) report
 
--- the inputs were taken, one of them at least not read whole, and the output was handed exactly the text of all that was read
+-- inputs were taken, one at least not read whole, and the output was handed the text of all that was read
 pub record JoinsInPart (source : Option ℕ) (out : Text) (names : List Text) (desk : List Event) : Type 0 where
   pub joined : PartialPicture
   pub settled : Bool
   pub is_done : JoinIsDone source out names joined settled false desk
 
--- the input was taken, though not read whole; each line is settled, and the output was handed exactly the file of what was read
+-- an input was taken, though not read whole; each line is settled, and the output was handed the file of what was read
 pub record WritesInPart (f : Format) (out name : Text) (desk : List Event) : Type 0 where
   pub g : Given
   pub reading : List Event
@@ -70,7 +71,7 @@ DoneInPart (show name) desk report = TellsInPart false name desk report
 DoneInPart (write_pnm out name) desk report = WritesInPart Pnm out name desk × (report ≡ [])
 DoneInPart (write_jls line ri out name) desk report = WritesInPart (Jls line ri) out name desk × (report ≡ [])
 
--- an input of this name was opened and not read whole, and what was read of it begins as a text, or no frame is taken in it
+-- an input of this name was opened and not read whole. What was read of it begins as a text, or no frame is taken in it
 pub record IsUnread (name : Text) (events : List Event) : Type 0 where
   pub bytes : List ℕ
   pub stop : ReadStop
@@ -81,7 +82,7 @@ pub record IsUnread (name : Text) (events : List Event) : Type 0 where
   pub in_part : stop ≡ Whole → ⊥
   pub refused : IsRefused bytes stop f
 
--- the inputs before one of these were taken, that one is such, and nothing else was done
+-- the inputs before an input like `IsUnread` were taken, and nothing else was done
 pub record EndsAtUnread (source : Option ℕ) (names : List Text) (events : List Event) : Type 0 where
   pub before : List Text
   pub name : Text
@@ -94,8 +95,8 @@ pub record EndsAtUnread (source : Option ℕ) (names : List Text) (events : List
   pub unread : IsUnread name last
   pub events_are : events ≡ reading ++ last
 
--- Where a run ends with status 4, and all was opened and created and no write failed, its words ask for something, and that was done with
--- all that was read, though not all was; or an input was not read whole that is refused for it, and nothing was reported
+-- let a run end with status 4, let all be opened and created, and let no write fail. Then its words ask for something, and that was done
+-- with all that was read, though not all was. Or an input was not read whole that is refused for it, and nothing was reported
 abbrev pub BrokenReadsAreBehindStatus4 : Type 0
 BrokenReadsAreBehindStatus4 =
     (words : List Text) (status : ℕ) (desk desk' report report' faults faults' : History)

@@ -14,12 +14,12 @@ use Rattle.jls_commands.specs.declared.outcome.Refusal.TheVariants as refusal
 abbrev pub program : List ℕ
 program = codes "jls-salvage"
 
--- an option has a value which it doesn't take: the interleave mode where the format is known, else the format
+-- the line of an option with an unknown value: `--ilv` if the format is known, else `--as`
 abbrev pub unknown_value_line : Bool → List ℕ
 unknown_value_line true = plain_line program (codes "--ilv takes none or line")
 unknown_value_line false = plain_line program (codes "--as takes jls or pnm")
 
--- the line of a bad text of this name: the kind of its fault, and the offset
+-- the line of a bad text of this name, or that memory ran out
 abbrev pub text_fault_line : List ℕ → TextFault → List ℕ
 text_fault_line name (text_fault.Magic offset) = line_with_number program name (codes ": bad text, magic at ") offset
 text_fault_line name (text_fault.BadShape offset) = line_with_number program name (codes ": bad text, shape at ") offset
@@ -63,7 +63,7 @@ refusal_line (refusal.OutOfMemory name) = out_of_memory_line program
 abbrev pub not_replaced_line : List ℕ → List ℕ
 not_replaced_line name = line_about program name (codes " is a JPEG file, and join does not replace one")
 
--- none where the command is done
+-- the line of a refusal, and none if the command is done
 abbrev pub fault_line : Outcome → List ℕ
 fault_line (Ok d) = []
 fault_line (Err r) = refusal_line r

@@ -27,8 +27,8 @@ pub record JoinRan (source : Option ℕ) (out : Text) (names : List Text) (joine
   pub is_done : JoinIsDone source out names joined settled true events
   pub status_is : (status ≡ 0) ↔ IsSettled joined
 
--- Where the words ask for a join and the status is 0 or 1, the join is done under the source that they name, with status 0 exactly where
--- each line is settled; and nothing is reported or printed
+-- if the words ask for a join and the status is 0 or 1, the join is done under the source that they name. The status is 0 if and only if
+-- each line is settled. Nothing is reported or printed
 abbrev pub DoneJoinsRan : Type 0
 DoneJoinsRan =
     (words : List Text) (status : ℕ) (desk desk' report report' faults faults' : History)
@@ -44,8 +44,8 @@ pub record TellRan (traced : Bool) (name : Text) (g : Given) (status : ℕ) (des
   pub printed : GrewBy (Wrote (lines traced g)) report report'
   pub status_is : (status ≡ 0) ↔ IsSettled g.partial
 
--- Where the words ask for a trace and a report and the status is 0 or 1, they are printed, with status 0 exactly where each line is
--- settled; and no fault is printed
+-- if the words ask for a trace and a report and the status is 0 or 1, they are printed. The status is 0 if and only if each line is
+-- settled. No fault is printed
 abbrev pub DoneChecksRan : Type 0
 DoneChecksRan =
     (words : List Text) (status : ℕ) (desk desk' report report' faults faults' : History)
@@ -53,8 +53,8 @@ DoneChecksRan =
     → (name : Text) → AskFor words (check name) → status ≤ 1
     → (g : Given) × TellRan true name g status desk desk' report report' × (faults' ≡ faults)
 
--- Where the words ask for a report and the status is 0 or 1, it is printed, with status 0 exactly where each line is settled;
--- and no fault is printed
+-- if the words ask for a report and the status is 0 or 1, it is printed. The status is 0 if and only if each line is settled. No fault is
+-- printed
 abbrev pub DoneShowsRan : Type 0
 DoneShowsRan =
     (words : List Text) (status : ℕ) (desk desk' report report' faults faults' : History)
@@ -79,8 +79,8 @@ pub record WriteRan (f : Format) (out name : Text) (g : Given) (desk desk' : His
   pub fits : FitsFormat f (picture_of g.partial)
   pub handed : HandsOut out (file f (picture_of g.partial)) writing
 
--- Where the words ask for a file and the status is 1, the input was taken, and nothing else was done with the desk: so no output was
--- created; and a line of what it gave is not settled
+-- if the words ask for a file and the status is 1, the input was taken, and nothing else was done with the desk. So no output was created.
+-- A line of what the input gave is not settled
 abbrev pub UnsettledWritesStop : Type 0
 UnsettledWritesStop =
     (words : List Text) (status : ℕ) (desk desk' report report' faults faults' : History)
@@ -88,7 +88,7 @@ UnsettledWritesStop =
     → (f : Format) (out name : Text) → AskFor words (written_as f out name) → status ≡ 1
     → (g : Given) × GrewBy (IsTaken None name g) desk desk' × (IsSettled g.partial → ⊥)
 
--- Where the words ask for a file and the status is 0, it is written; and nothing is reported or printed
+-- if the words ask for a file and the status is 0, it is written; and nothing is reported or printed
 abbrev pub DoneWritesRan : Type 0
 DoneWritesRan =
     (words : List Text) (status : ℕ) (desk desk' report report' faults faults' : History)

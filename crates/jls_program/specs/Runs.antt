@@ -15,7 +15,7 @@ use Rattle.jls_words.specs.Words.{AreRefused}
 use Rattle.jls_words.specs.Asking.{Asked, check, join, show, write_pnm, write_jls, AskFor, AskForNothing, format_is_known}
 use Rattle.jls_program.specs.FaultLines.{fault_line, program, unknown_value_line}
 
--- what came of what was asked, by the events of the desk and of the report output
+-- the outcome of what was asked for, by the events of the desk and of the report output
 abbrev pub CameOf : Asked → Outcome → List Event → List Event → Type 0
 CameOf (check name) outcome desk report = PrintsReport (lines true) name outcome desk report
 CameOf (join source out names) outcome desk report = Joins source out names outcome desk × (report ≡ [])

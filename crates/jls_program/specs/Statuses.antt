@@ -30,21 +30,22 @@ is_failure e = is_failed_opening e || (is_failed_read e || is_failed_write e)
 abbrev pub HadFailure : List Event → Type 0
 HadFailure events = (list_any is_failure events ≡ true) ⊎ (4294967295 ≤ length (filter is_read events))
 
--- Where a run ends with status 4, the desk or the report output failed in it, or so many reads were made as one input can have
+-- if a run ends with status 4, one of two things happened. The desk or the report output failed in it, or so many reads were made as one
+-- input can have
 abbrev pub FailuresAreBehindStatus4 : Type 0
 FailuresAreBehindStatus4 =
     (words : List Text) (status : ℕ) (desk desk' report report' faults faults' : History)
     → (ran : Ran words status desk desk' report report' faults faults')
     → status ≡ 4 → HadFailure ran.desk_events ⊎ HadFailure ran.report_events
 
--- Where it ends with status 2 or 3, no output was created, and nothing was reported
+-- if it ends with status 2 or 3, no output was created, and nothing was reported
 abbrev pub RefusedRunsCreateNothing : Type 0
 RefusedRunsCreateNothing =
     (words : List Text) (status : ℕ) (desk desk' report report' faults faults' : History)
     → (ran : Ran words status desk desk' report report' faults faults')
     → 2 ≤ status → status ≤ 3 → (list_any is_creation ran.desk_events ≡ false) × (report' ≡ report)
 
--- Where it ends with status 5, the line that memory ran out was printed as a fault
+-- if it ends with status 5, the line that memory ran out was printed as a fault
 abbrev pub WantOfMemoryIsTold : Type 0
 WantOfMemoryIsTold =
     (words : List Text) (status : ℕ) (desk desk' report report' faults faults' : History)
@@ -68,19 +69,20 @@ pub record AskForTooMuch (words : List Text) (desk desk' : History) : Type 0 whe
   pub settled : IsSettled g.partial
   pub too_large : IsTooLarge (Jls line rows) (picture_of g.partial)
 
--- Where a run ends with status 2, it is for its words: clap refuses them, they ask for nothing that there is, or for a file whose
--- intervals would be too large
+-- if a run ends with status 2, it is for its words. clap refuses them, they ask for nothing, or for a file whose intervals would be too
+-- large
 abbrev pub WordsAreBehindStatus2 : Type 0
 WordsAreBehindStatus2 =
     (words : List Text) (status : ℕ) (desk desk' report report' faults faults' : History)
     → Ran words status desk desk' report report' faults faults'
     → status ≡ 2 → AreMisused words ⊎ (AskForNothing words ⊎ AskForTooMuch words desk desk')
 
--- the source under which copies are taken, if there is one, and the names of the inputs
+-- the source under which copies are taken, if there is one
 abbrev pub source_of : Asked → Option ℕ
 source_of (join source out names) = source
 source_of _ = None
 
+-- the names of the FILEs that the words ask for
 abbrev pub inputs_of : Asked → List Text
 inputs_of (check name) = name ∷ []
 inputs_of (join source out names) = names
@@ -88,8 +90,8 @@ inputs_of (show name) = name ∷ []
 inputs_of (write_pnm out name) = name ∷ []
 inputs_of (write_jls line rows out name) = name ∷ []
 
--- an input of this name, behind those that gave the list, was opened and read whole, and its bytes are refused: they begin as a
--- text and are none, or no frame is taken in them; or what it gave has another shape than the first
+-- an input of this name, after those that gave the list, was opened and read whole. Its bytes are refused: they begin as a text and are
+-- none, or no frame is taken in them. Or what it gave has another shape than the first
 pub data IsUnfit : Option ℕ → List Given → Text → List Event → Type 0 where
   no_picture : (source : Option ℕ) (before : List Given) (name : Text) (bytes : List ℕ) (f : InputFault) (reads : List Event)
       → IsRead IsEnough reads bytes Whole → IsRefused bytes Whole f → IsUnfit source before name (opened name ∷ reads)
@@ -109,7 +111,7 @@ pub record EndsAtUnfit (source : Option ℕ) (names : List Text) (events : List 
   pub unfit : IsUnfit source givens name last
   pub events_are : events ≡ reading ++ last
 
--- Where a run ends with status 3, it is for what an input is that its words name
+-- if a run ends with status 3, it is for what an input is that its words name
 abbrev pub InputsAreBehindStatus3 : Type 0
 InputsAreBehindStatus3 =
     (words : List Text) (status : ℕ) (desk desk' report report' faults faults' : History)

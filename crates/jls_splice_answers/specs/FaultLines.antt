@@ -11,7 +11,7 @@ use Rattle.jls_splice_answers.specs.declared.outcome.Outcome.TheVariants.{Done, 
 abbrev pub program : List ℕ
 program = codes "jls-splice"
 
--- the words ask for nothing that there is
+-- the fault line of words that ask for nothing that there is
 abbrev pub not_understood_line : List ℕ
 not_understood_line = plain_line program (codes "the words were not understood")
 
@@ -30,11 +30,11 @@ cause_line name cause.OutOfMemory = out_of_memory_line program
 abbrev pub not_replaced_line : List ℕ → List ℕ
 not_replaced_line name = line_about program name (codes " is a JPEG file, and jls-splice replaces none")
 
--- the line of words that name both outputs so
+-- the line of words that give this name to both outputs
 abbrev pub named_twice_line : List ℕ → List ℕ
 named_twice_line name = line_about program name (codes ": is named as OUT and by --file")
 
--- none where the run is done
+-- the fault line of an outcome: none if the run is done
 abbrev pub fault_line : Outcome → List ℕ
 fault_line (Done settled whole) = []
 fault_line (Refused r) = cause_line r.name.now r.cause

@@ -5,6 +5,7 @@ use Rattle.jls_splice_answers.specs.declared.outcome.Cause.TheVariants as cause
 use Rattle.jls_splice_answers.specs.declared.outcome.Outcome.{Outcome}
 use Rattle.jls_splice_answers.specs.declared.outcome.Outcome.TheVariants.{Done, Refused}
 
+-- the exit status of a cause: 3, 4 or 5
 abbrev pub exit_status_of_cause : Cause → ℕ
 exit_status_of_cause cause.NotOpened = 4
 exit_status_of_cause cause.PartialPicture = 3
@@ -15,7 +16,7 @@ exit_status_of_cause cause.NotCreated = 4
 exit_status_of_cause (cause.NotWritten count) = 4
 exit_status_of_cause cause.OutOfMemory = 5
 
--- done: 4 where a copy was not read to its end, else 0 or 1 as all lines are settled or not
+-- the exit status. Done: 4 if a copy was not read to its end, else 0 or 1 as all lines are settled or not
 abbrev pub exit_status : Outcome → ℕ
 exit_status (Done settled false) = 4
 exit_status (Done true true) = 0

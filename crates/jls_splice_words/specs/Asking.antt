@@ -8,8 +8,8 @@ use Rattle.jls_splice_words.specs.Words.{splice_app, AreTaken}
 use Rattle.jls_splice_words.specs.declared.asked.Asked.{Asked as AskedValue}
 use Rattle.jls_splice_words.specs.declared.asked.Options.{Options as OptionsValue}
 
--- the source of the readings, if one is given; how much each search tries; whether it tells how far it is; and where the mended file
--- goes, if that is asked for
+-- what the words ask for beside files: the source of the readings, if one is given; how much each search tries; whether it tells how far it
+-- is; and where the mended file goes, if that is asked for
 pub record Options : Type 0 where
   pub source : Option ℕ
   pub tries : ℕ
@@ -28,7 +28,7 @@ pub record Asked : Type 0 where
 abbrev pub number_in : ℕ → ℕ → Text → Option ℕ
 number_in least most value = if is_unsigned_in least most value then Some (digits_value 10 (without_leading_plus value)) else None
 
--- the source, if one is given; nothing, where what is given is no such number
+-- the source, if one is given; nothing, if what is given is no such number
 abbrev pub source_of : Option Text → Option (Option ℕ)
 source_of None = Some None
 source_of (Some value) = option_map (λ n. Some n) (number_in 0 4294967295 value)
@@ -43,11 +43,13 @@ abbrev pub is_set : Option Text → Bool
 is_set None = false
 is_set (Some value) = bytes_eq value (codes "true")
 
+-- the options, if all of their values are there
 abbrev pub options_with : Bool → Option Text → Option (Option ℕ) → Option ℕ → Option Options
 options_with progress file (Some source) (Some tries) =
     Some (record { source = source; tries = tries; progress = progress; file = file })
 options_with progress file _ _ = None
 
+-- the options that the words give
 abbrev pub options_of : Option Text → Option Text → Option Text → Option Text → Option Options
 options_of source tries progress file = options_with (is_set progress) file (source_of source) (tries_of tries)
 

@@ -13,7 +13,7 @@ source_rule = record (new_rule (codes "source")) {
   parser = Some (Unsigned 0 4294967295);
 }
 
--- --tries N, a number from 1 to 2^32 - 1, 4096 where it is not given
+-- --tries N, a number from 1 to 2^32 - 1, 4096 if it is not given
 abbrev pub tries_rule : Rule
 tries_rule = record (new_rule (codes "tries")) {
   long = Some (codes "tries");
@@ -34,7 +34,7 @@ file_rule = record (new_rule (codes "file")) { long = Some (codes "file"); value
 abbrev pub word_rule : Text → Rule
 word_rule id = record (new_rule id) { required = true }
 
--- COPY.., behind the first one: one word or more
+-- COPY.., after the first one: one word or more
 abbrev pub others_rule : Rule
 others_rule = record (word_rule (codes "OTHERS")) { value_names = 1; action = Some Append }
 
@@ -42,7 +42,7 @@ others_rule = record (word_rule (codes "OTHERS")) { value_names = 1; action = So
 abbrev pub bare_app : App
 bare_app = let app = new_app (codes "jls-splice") in record app { top = record app.top { has_version = true } }
 
--- with its options
+-- the program with its options
 abbrev pub options_app : App
 options_app = with_rule (with_rule (with_rule (with_rule bare_app source_rule) tries_rule) progress_rule) file_rule
 

@@ -10,6 +10,7 @@ use crate::texts;
 use clap::builder::ValueParser;
 use clap::error::ErrorKind;
 use clap::{Arg, ArgAction, ArgMatches, Command, Error};
+use jls_version::VERSION;
 use std::alloc::{AllocError, Global};
 
 /// One word that has to be there.
@@ -73,7 +74,7 @@ fn bare<'a>(alloc: Global) -> Command<'a>
     ensures local { (out-Command result).has_globals ≡ false }
 {
     let named = Command::new(alloc, "jls-splice").about(texts::ABOUT);
-    named.after_help(texts::NOTES).version("1.0.0")
+    named.after_help(texts::NOTES).version(VERSION)
 }
 
 /// The command with its options.

@@ -8,7 +8,7 @@ use Rattle.jls_words.specs.Words.{salvage_app, AreTaken}
 use Rattle.jls_words.specs.declared.asked.Asked.{Asked as AskedValue}
 use Rattle.jls_words.specs.declared.asked.Asked.TheVariants as asked
 
--- a command with its words: the output stands before the inputs
+-- a command with its words: the output comes before the inputs
 pub data Asked : Type 0 where
   check : Text → Asked
   -- with the source under which the readings of copies are taken, if one is given
@@ -20,9 +20,11 @@ pub data Asked : Type 0 where
 
 -- ---- by the values of a command's arguments
 
+-- what `check` asks for, by its FILE
 abbrev pub asked_check : Option Text → Option Asked
 asked_check file = option_map check file
 
+-- what `show` asks for, by its FILE
 abbrev pub asked_show : Option Text → Option Asked
 asked_show file = option_map show file
 
@@ -41,6 +43,7 @@ asked_join (Some source) (Some out) (Some (first ∷ others)) =
     option_map (λ n. join (Some n) out (first ∷ others)) (number_up_to 4294967295 source)
 asked_join _ _ _ = None
 
+-- both values, if both are there
 abbrev pub both_of : Option Bool → Option ℕ → Option (Bool × ℕ)
 both_of (Some line) (Some n) = Some (line, n)
 both_of _ _ = None

@@ -17,11 +17,11 @@ files_rule = record (word_rule (codes "FILE")) { action = Some Append }
 abbrev pub as_rule : Rule
 as_rule = record (new_rule (codes "as")) { long = Some (codes "as"); value_names = 1; required = true }
 
--- --ilv MODE, none where it is not given
+-- --ilv MODE, none if it is not given
 abbrev pub ilv_rule : Rule
 ilv_rule = record (new_rule (codes "ilv")) { long = Some (codes "ilv"); value_names = 1; defaults = codes "none" ∷ [] }
 
--- --ri N, a number from 0 to 65535, 0 where it is not given
+-- --ri N, a number from 0 to 65535, 0 if it is not given
 abbrev pub ri_rule : Rule
 ri_rule = record (new_rule (codes "ri")) {
   long = Some (codes "ri");
@@ -38,27 +38,33 @@ source_rule = record (new_rule (codes "source")) {
   parser = Some (Unsigned 0 4294967295);
 }
 
+-- the definition of `join` that clap gets
 abbrev pub join_app : App
 join_app = with_rule (with_rule (with_rule (new_app (codes "join")) source_rule) (word_rule (codes "OUT"))) files_rule
 
+-- the definition of `show` that clap gets
 abbrev pub show_app : App
 show_app = with_rule (new_app (codes "show")) (word_rule (codes "FILE"))
 
+-- the definition of `check` that clap gets
 abbrev pub check_app : App
 check_app = with_rule (new_app (codes "check")) (word_rule (codes "FILE"))
 
+-- the definition of the options of `write` that clap gets
 abbrev pub write_options_app : App
 write_options_app = with_rule (with_rule (with_rule (new_app (codes "write")) as_rule) ilv_rule) ri_rule
 
+-- the definition of `write` that clap gets
 abbrev pub write_app : App
 write_app = with_rule (with_rule write_options_app (word_rule (codes "OUT"))) (word_rule (codes "FILE"))
 
--- the program without its commands: it has a version, which each command tells too, and must be followed by a command
+-- the program without its commands: it has a version, which each command prints too, and must be followed by a command
 abbrev pub bare_app : App
 bare_app =
     let app = new_app (codes "jls-salvage") in
     record app { top = record app.top { has_version = true; propagate_version = true; subcommand_required = true } }
 
+-- the definition of the whole command line that clap gets
 abbrev pub salvage_app : App
 salvage_app = with_subcommand (with_subcommand (with_subcommand
     (with_subcommand bare_app check_app.top) show_app.top) join_app.top) write_app.top

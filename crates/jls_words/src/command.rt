@@ -10,6 +10,7 @@ use crate::texts;
 use clap::builder::ValueParser;
 use clap::error::ErrorKind;
 use clap::{Arg, ArgAction, ArgMatches, Command, Error};
+use jls_version::VERSION;
 use std::alloc::{AllocError, Global};
 
 /// One word that has to be there.
@@ -125,7 +126,7 @@ fn command<'a>(alloc: Global) -> Result<Command<'a>, AllocError>
     ensures { IfOk result (λ c. app_of c ≡ salvage_app) }
 {
     let bare = bare(alloc, "jls-salvage", texts::ABOUT, texts::EXAMPLES);
-    let versioned = bare.version("1.0.0").propagate_version(true);
+    let versioned = bare.version(VERSION).propagate_version(true);
     let salvage = versioned.subcommand_required(true);
     let checks = salvage.subcommand(check_command(alloc)?)?;
     let shows = checks.subcommand(show_command(alloc)?)?;
