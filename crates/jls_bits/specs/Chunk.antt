@@ -4,13 +4,13 @@ use Rattle.jls_bits.specs.CodeState.{StepIs}
 use Rattle.jls_bits.specs.declared.code_state.CodeStep.{CodeStep}
 use Rattle.jls_bits.specs.declared.code_state.CodeStep.TheVariants.{More, Done, Refused}
 
--- a code that isn't whole has taken all bits
+-- all bits were taken, and the code is still incomplete
 abbrev pub AllTaken : CodeStep → List Bool → Type 0
 AllTaken (More state) unread = unread ≡ []
 AllTaken (Done number) unread = Unit {0}
 AllTaken Refused unread = Unit {0}
 
--- the first bits of the chunk were taken, and the step is what the bits told before and these make of the code
+-- the answer to several bits at once: which of them were taken, and what the bits so far are
 pub record ChunkStep (k g qbpp : ℕ) (told chunk unread : List Bool) (step : CodeStep) : Type 0 where
   pub taken : List Bool
   pub chunk_is : chunk ≡ taken ++ unread

@@ -1,7 +1,7 @@
 -- What contracts see of a reader of one Golomb code.
 use Rattle.std.specs.Prelude.{ℕ, Bool, List}
 
--- the code LG(k, g) with qbpp bits in an escape, and the bits that were pushed
+-- what contracts see of a `GolombReader`: k, g, qbpp, and the bits pushed
 pub record GolombBits : Type 0 where
   pub k : ℕ
   pub g : ℕ

@@ -1,7 +1,7 @@
 -- What contracts see of a reader.
 use Rattle.std.specs.Prelude.{Bool, List}
 
--- what a reader has not read yet
+-- what contracts see of a reader: the bits that are left, and whether all its bytes are whole
 pub record Unread : Type 0 where
   -- the data bits that can still be read
   pub left : List Bool

@@ -9,7 +9,7 @@ ghost use Rattle.jls_bits.specs.declared.code_state.CodeState.TheVariants.{Zeros
 
 use crate::chunk::Chunk;
 
-/// Where the bits of a code that isn't whole have come to. A contract sees these bits as `bits_told`.
+/// How far an incomplete code was read. A contract sees its bits so far as `bits_told`.
 #[derive(Clone, Copy)]
 pub enum CodeState {
     /// So many zeros, and nothing else.

@@ -1,4 +1,20 @@
 //! Data bits with the bit stuffed after each byte 0xFF, and Golomb codes of a limited length (ITU-T T.87, annex A).
+//!
+//! - `stuffing`: the two facts about a byte after 0xFF
+//! - `reader`: the data bits of a slice of bytes
+//! - `unstuffer`, `pushed`, `chunk`: the data bits of bytes that come one by one. `pushed` keeps the list of these bytes for contracts
+//!   alone. `chunk` holds up to 64 bits
+//! - `packing`: a writer's complete bytes, and the bits that wait after them in a number of 64 bits. It says how much room a call needs
+//! - `writer`: the public writer. It reserves that room first, and then appends what cannot fail
+//! - `code_state`: a Golomb code, read one bit or one chunk at a time. It answers `Done` (this number's code) or `Refused` (no code begins
+//!   so) at the first bit that decides, and `More` until then
+//! - `golomb`, `golomb_reader`: the public forms: over a `BitReader`, and bit by bit
+//!
+//! A decoder of an interval keeps a `CodeState`, and computes k, g and qbpp anew. `of_short` finds the state of an incomplete short code
+//! from all its bits at once, and `told` gives these bits back.
+//!
+//! Definitions: `Bits`, `Pad`, `Golomb`, `CodeState`, `Chunk`, `Unread`, `GolombBits`. Inside the crate: `Packing`, `Appending`,
+//! `Unstuffing`, `GolombReading`.
 #![tactic(auto)]
 
 mod chunk;

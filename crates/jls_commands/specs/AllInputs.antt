@@ -27,10 +27,11 @@ pub record IsTaken (source : Option ℕ) (name : List ℕ) (g : Given) (events :
 
 -- ---- all inputs
 
--- the names of inputs, in their order
+-- the names of the inputs of a join, in their order
 abbrev pub names_of : JoinInputs → List (List ℕ)
 names_of inputs = inputs.first.now ∷ map (λ f. f.now) inputs.others.now
 
+-- the partial pictures of several inputs
 abbrev pub partials : List Given → List PartialPicture
 partials givens = map (λ g. g.partial) givens
 
@@ -49,14 +50,14 @@ abbrev pub IsUnionOf : List PartialPicture → PartialPicture → Type 0
 IsUnionOf [] p = ⊥
 IsUnionOf (first ∷ others) p = p ≡ join_all union first others
 
--- inputs of these names were taken in turn, and each gave what stands at its place
+-- the inputs of these names were taken one after the other, and each gave the partial picture at its place in the list
 abbrev pub TakesInTurn : Option ℕ → List (List ℕ) → List Given → List Event → Type 0
 TakesInTurn source [] [] events = events ≡ []
 TakesInTurn source (name ∷ names) (g ∷ givens) events =
     (mine : List Event) × (more : List Event) × (events ≡ mine ++ more) × IsTaken source name g mine × TakesInTurn source names givens more
 TakesInTurn source _ _ events = ⊥
 
--- and all that they gave is of one shape
+-- inputs were taken in turn, and all that they gave is of one shape
 pub record TakesAll (source : Option ℕ) (names : List (List ℕ)) (givens : List Given) (events : List Event) : Type 0 where
   pub in_turn : TakesInTurn source names givens events
   pub one_shape : AreOfOneShape (partials givens)
@@ -69,8 +70,8 @@ pub record TakesUnion (source : Option ℕ) (names : List (List ℕ)) (joined : 
   pub union_is : IsUnionOf (partials givens) joined
   pub whole_is : IsTrue whole ↔ All (λ g. g.stop ≡ Whole) givens
 
--- an input stops the command for this refusal, which has its name, where those before it gave this: it is not opened; it is refused;
--- it is of another shape; or it is not, and memory ran out as it was joined to the others
+-- an input stops the command for this refusal, which has its name, if those before it gave this. It is not opened, is refused, has another
+-- shape, or memory ran out as it was joined
 pub data StopsAt : Option ℕ → List Given → Refusal → List Event → Type 0 where
   not_there : (source : Option ℕ) (before : List Given) (name : Bor (List ℕ))
       → StopsAt source before (refusal.NotOpened name) (not_opened name.now ∷ [])

@@ -2,7 +2,7 @@
 use Rattle.std.specs.Prelude.{◌≡◌, List, ◌++◌}
 use Rattle.jls_device.specs.Event.{Event, History}
 
--- the histories of the two grew by events, and they are such: nothing else was done
+-- the histories of the desk and of the report output grew by such events, and nothing else was done
 pub record GrewBoth (Are : List Event → List Event → Type 0) (desk desk' report report' : History) : Type 0 where
   pub desk_events : List Event
   pub report_events : List Event

@@ -22,8 +22,8 @@ pub record JoinIsDone (source : Option ℕ) (out : List ℕ) (names : List (List
   pub handed : HandsOut out (text joined) writing
   pub settled_is : IsTrue settled ↔ IsSettled joined
 
--- what comes of `join` with this output and inputs of these names: it is done; an input stops it; memory runs out for the
--- text, when all inputs were taken; or the output stops it
+-- what comes of a `join`, with the names of its output and inputs. It is done, an input stops it, memory runs out for the text when all
+-- inputs were taken, or the output stops it
 pub data Joins : Option ℕ → List ℕ → List (List ℕ) → Outcome → List Event → Type 0 where
   done : (source : Option ℕ) (out : List ℕ) (names : List (List ℕ)) (joined : PartialPicture) (settled whole : Bool) (events : List Event)
       → JoinIsDone source out names joined settled whole events → Joins source out names (finished settled whole) events

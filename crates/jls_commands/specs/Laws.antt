@@ -25,19 +25,18 @@ output_bytes [] = []
 output_bytes (created name ∷ more) = bytes_taken (before_next is_creation more) ∷ output_bytes more
 output_bytes (_ ∷ more) = output_bytes more
 
--- the same inputs stand in both, whatever their order, and however often each does
+-- both lists have the same inputs, in any order and with any repeats
 abbrev pub HaveSameMembers : List (List ℕ) → List (List ℕ) → Type 0
 HaveSameMembers inputs others = (bytes : List ℕ) → Contains inputs bytes ↔ Contains others bytes
 
--- at each place stand the bytes of an input that gives the partial picture there
+-- at each place of the list are the bytes of an input that gives the partial picture at this place
 abbrev pub AreInputsOf : Option ℕ → List (List ℕ) → List PartialPicture → Type 0
 AreInputsOf source [] [] = Unit {0}
 AreInputsOf source (bytes ∷ inputs) (p ∷ ps) = GivesPartial source bytes p × AreInputsOf source inputs ps
 AreInputsOf source _ _ = ⊥
 
--- Two runs of `join` under one source that are done and whose inputs, texts and copies, gave the same bytes, in whatever order, however
--- often, under whatever names, and however their reading stopped: what they join is one picture, and their outputs are handed the
--- same bytes
+-- let two runs of `join` under one source be done, whose inputs, texts and copies, gave the same bytes. Order, repeats, names, and how
+-- reading stopped may differ. Then what they join is one picture, and their outputs are handed the same bytes
 abbrev pub SameInputsSameOutput : Type 0
 SameInputsSameOutput =
     (source : Option ℕ) (out : List ℕ) (names : List (List ℕ)) (joined : PartialPicture) (settled whole : Bool) (events : List Event)
@@ -47,8 +46,8 @@ SameInputsSameOutput =
     → HaveSameMembers (input_bytes events) (input_bytes events')
     → (joined ≡ joined') × (output_bytes events ≡ output_bytes events')
 
--- A run of `join` that is done and whose inputs, texts and copies, give parts of one picture, in which each line of it survives
--- somewhere: what it joins is that picture, with the sources of all parts, and its output is handed the text of that
+-- let a run of `join` be done, whose inputs give parts of one picture, with each of its lines in some part. What it joins is that picture,
+-- with the sources of all parts, and its output is handed the text of that
 abbrev pub SurvivingLinesGiveThePicture : Type 0
 SurvivingLinesGiveThePicture =
     (source : Option ℕ) (out : List ℕ) (names : List (List ℕ)) (joined : PartialPicture) (settled whole : Bool) (events : List Event)

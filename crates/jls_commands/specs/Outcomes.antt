@@ -10,7 +10,7 @@ use Rattle.jls_commands.specs.declared.outcome.Refusal.TheVariants as refusal
 abbrev pub Outcome : Type 0
 Outcome = Result Done Refusal
 
--- it is done, and this is said of the lines of what it made and of the reading of its inputs
+-- a command is done. Whether each line of what it made is settled, and whether each input was read whole
 abbrev pub finished : Bool → Bool → Outcome
 finished settled whole = Ok (record { settled = settled; whole = whole })
 
@@ -25,13 +25,14 @@ name_of (refusal.NotCreated name) = name.now
 name_of (refusal.NotWritten name count) = name.now
 name_of (refusal.OutOfMemory name) = name.now
 
--- (no input is refused as a text whose fault is want of memory: that is `OutOfMemory`)
+-- the exit status of an input's fault, from 3 to 5. An input whose text needs memory is refused as `OutOfMemory`
 abbrev pub status_of_input : InputFault → ℕ
 status_of_input (fault.Text f) = 3
 status_of_input (fault.NoPicture f offset) = 3
 status_of_input (fault.Read stop offset) = 4
 status_of_input fault.OutOfMemory = 5
 
+-- the exit status of a refusal, from 1 to 5
 abbrev pub status_of_refusal : Refusal → ℕ
 status_of_refusal (refusal.NotOpened name) = 4
 status_of_refusal (refusal.Input name f) = status_of_input f
@@ -42,12 +43,13 @@ status_of_refusal (refusal.NotCreated name) = 4
 status_of_refusal (refusal.NotWritten name count) = 4
 status_of_refusal (refusal.OutOfMemory name) = 5
 
--- done: 4 where an input was not read whole, else 0 or 1 as all lines are settled or not
+-- 4 if an input was not read whole, else 0 or 1 as all lines are settled or not
 abbrev pub status_of_done : Bool → Bool → ℕ
 status_of_done settled false = 4
 status_of_done true true = 0
 status_of_done false true = 1
 
+-- the exit status of what came of a command
 abbrev pub exit_status : Outcome → ℕ
 exit_status (Ok d) = status_of_done d.settled d.whole
 exit_status (Err r) = status_of_refusal r

@@ -12,8 +12,8 @@ pub record HandsOut (name bytes : List ℕ) (events : List Event) : Type 0 where
   pub events_are : events ≡ created name ∷ writes
   pub wrote : Wrote bytes writes
 
--- an output stops the command for this refusal, which has its name: it is not created; or it is, and was handed so many of the bytes,
--- from the front on, when a write failed
+-- an output stops the command for this refusal, which has its name. It is not created, or it was handed so many of the first bytes when a
+-- write failed
 pub data StopsAtOutput : List ℕ → Refusal → List Event → Type 0 where
   not_there : (name : Bor (List ℕ)) (bytes : List ℕ) → StopsAtOutput bytes (refusal.NotCreated name) (not_created name.now ∷ [])
   cut : (name : Bor (List ℕ)) (bytes : List ℕ) (count : ℕ) (writes : List Event) → WroteFront bytes count writes

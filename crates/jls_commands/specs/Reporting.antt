@@ -15,11 +15,11 @@ use Rattle.jls_commands.specs.declared.outcome.Refusal.{Refusal}
 use Rattle.jls_commands.specs.declared.outcome.Refusal.TheVariants as refusal
 use Rattle.jls_commands.specs.Tracing.{trace_lines}
 
--- the lines that tell what is known of a partial picture
+-- the lines that say what is known of a partial picture
 abbrev pub report_lines : PartialPicture → List ℕ
 report_lines p = report_text (report_of p)
 
--- the lines that are printed of what an input gave: its trace, if that is asked for, and its report
+-- what is printed of an input: its trace, if it is asked for, and its report
 abbrev pub lines : Bool → Given → List ℕ
 lines traced g = (if traced then trace_lines g else []) ++ report_lines g.partial
 
@@ -28,9 +28,8 @@ pub record Says (g : Given) (settled whole : Bool) : Type 0 where
   pub settled_is : IsTrue settled ↔ IsSettled g.partial
   pub whole_is : IsTrue whole ↔ (g.stop ≡ Whole)
 
--- What comes of a command that takes one input of this name and prints these lines of what it gave, by the events of the desk
--- and of the report output: it is done; the input stops it; memory runs out for the lines, when the input was taken; or a
--- write fails, and then the refusal names the report output
+-- what comes of a command that takes one input and prints these lines of what it gave, by the events of the desk and of the report output.
+-- It is done, the input stops it, memory runs out for the lines, or a write fails. That refusal names the report output
 pub data PrintsReport (lines : Given → List ℕ) : List ℕ → Outcome → List Event → List Event → Type 0 where
   done : (name : List ℕ) (g : Given) (settled whole : Bool) (reading writing : List Event)
       → IsTaken None name g reading → Says g settled whole → Wrote (lines g) writing

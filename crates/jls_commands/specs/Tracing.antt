@@ -11,6 +11,7 @@ use Rattle.jls_station.specs.Given.{FoundCopy, Given}
 use Rattle.jls_station.specs.declared.input.ReadStop.{ReadStop}
 use Rattle.jls_station.specs.declared.input.ReadStop.TheVariants.{Whole, Failed, Turns}
 
+-- the word for the kind of a faulty piece
 abbrev pub kind_text : PieceKind → List ℕ
 kind_text Broken = codes " broken\n"
 kind_text Long = codes " long\n"
@@ -20,7 +21,7 @@ kind_text Beyond = codes " beyond\n"
 abbrev pub piece_line : PieceRecord → List ℕ
 piece_line r = codes "piece " ++ decimal r.scan ++ codes " " ++ decimal r.interval ++ codes " " ++ decimal r.offset ++ kind_text r.kind
 
--- how many such pieces there are beside those that were kept, where there are any
+-- how many such pieces there are beside those that were kept, if there are any
 abbrev pub more_line : ℕ → ℕ → List ℕ
 more_line kept count = if nat_lt kept count then codes "pieces more " ++ decimal (count - kept) ++ codes "\n" else []
 
@@ -36,11 +37,13 @@ stop_line Whole count = []
 stop_line Failed count = codes "read failed " ++ decimal count ++ codes "\n"
 stop_line Turns count = codes "read stopped " ++ decimal count ++ codes "\n"
 
+-- the lines on a copy's faulty pieces, its end, and how its reading stopped
 abbrev pub trace : FoundCopy → ReadStop → List ℕ
 trace found stop =
     flat_map piece_line found.pieces ++ more_line (length found.pieces) found.piece_count
     ++ end_line found.ended ++ stop_line stop found.count
 
+-- the trace, if the input is a copy
 abbrev pub trace_of : Option FoundCopy → ReadStop → List ℕ
 trace_of None stop = []
 trace_of (Some found) stop = trace found stop

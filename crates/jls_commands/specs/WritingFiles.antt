@@ -47,10 +47,11 @@ abbrev pub FitsFormat : Format → WholePicture → Type 0
 FitsFormat Pnm picture = Unit {0}
 FitsFormat (Jls line ri) picture = OptionsFit picture (options_for line ri picture)
 
--- what alone can stand against it: as JPEG-LS, that an interval would have more than 2^28 samples
+-- the only thing that can prevent it: as JPEG-LS, an interval would have more than 2^28 samples
 abbrev pub HasTooLarge : WholePicture → WriteOptions → Type 0
 HasTooLarge picture o = 2 ^ 28 < picture.shape.width * components_of_scan picture.shape o * rows_of_interval picture.shape o
 
+-- as JPEG-LS with the default parameters, an interval has more than 2^28 samples. As PNM nothing is too large
 abbrev pub IsTooLarge : Format → WholePicture → Type 0
 IsTooLarge Pnm picture = ⊥
 IsTooLarge (Jls line ri) picture = HasTooLarge picture (options_for line ri picture)
@@ -60,8 +61,8 @@ abbrev pub takes_memory : Format → Bool
 takes_memory Pnm = false
 takes_memory (Jls line ri) = true
 
--- the file of these bytes stops the command for this refusal, which has the name of the output: it is too large, and nothing is created;
--- the output stops it; or memory runs out when so many of the bytes went out, from the front on and not all
+-- the file of these bytes stops the command for this refusal, which has the name of the output. It is too large, and nothing is created.
+-- The output stops it. Or memory runs out when so many first bytes went out, and not all
 pub data StopsAtFile (Fits TooLarge : Type 0) (takes : Bool) : List ℕ → Refusal → List Event → Type 0 where
   too_large : (name : Bor (List ℕ)) (bytes : List ℕ) → TooLarge → StopsAtFile Fits TooLarge takes bytes (refusal.TooLarge name) []
   at_output : (bytes : List ℕ) (r : Refusal) (events : List Event) → Fits → StopsAtOutput bytes r events
@@ -71,7 +72,7 @@ pub data StopsAtFile (Fits TooLarge : Type 0) (takes : Bool) : List ℕ → Refu
 
 -- ---- the command
 
--- what is said of a line that is not settled: the identifier of its component, its number, and whether it has readings
+-- the refusal for a line that is not settled: the identifier of its component, its number, and whether it has readings
 abbrev pub unsettled_refusal : Bor (List ℕ) → PartialPicture → PictureFault → Refusal
 unsettled_refusal name p (Unsettled component line) =
     refusal.Unsettled name (get_or p.shape.ids component 0) line (is_disputed p component line)

@@ -15,6 +15,7 @@ use Rattle.jls_copy.specs.declared.place.Place.{Place}
 use Rattle.jls_copy.specs.declared.place.Place.TheVariants.{Start, AtMarker, AtLength, InLength, InPayload, InScan, Done}
 use Rattle.jls_partial.specs.Partial.{without_sources}
 
+-- whether the course ends at a place, whatever bytes follow
 abbrev pub is_final : Place → Bool
 is_final (Start fill) = false
 is_final (AtMarker fill) = false
@@ -39,6 +40,7 @@ pub record Concludes (r : Reading) (read : ReadCopy) : Type 0 where
   pub count_is : read.piece_count ≡ length (records (all_pieces r) outcomes)
   pub ended_is : read.ended ≡ end_at r.state.place r.state.count
 
+-- a reader that took no frame answers this fault
 abbrev pub SaysNone : Reading → CopyFault → Type 0
 SaysNone r OutOfMemory = Unit {0}
 SaysNone r (NoPicture f offset) = (r.state.headers.frame ≡ None) × (NoPicture f offset ≡ no_picture (end_at r.state.place r.state.count))

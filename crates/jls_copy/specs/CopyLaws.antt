@@ -7,13 +7,14 @@ use Rattle.jls_copy.specs.CopyReads.{CopyReads, CopyGivesNone, is_final_end}
 use Rattle.jls_marker.specs.declared.fault.MarkerFault.{MarkerFault}
 use Rattle.jls_copy.specs.declared.reader.CopyFault.TheVariants.{NoPicture}
 
--- of a list of bytes: what it gives as a whole copy, and whether it gives anything, is one thing
+-- a list of bytes, as a whole copy, gives one thing or one fault, and not both
 pub record CopiesGiveOne (bytes : List ℕ) : Type 0 where
   pub one_reading : (r s : ReadCopy) → CopyReads bytes r → CopyReads bytes s → r ≡ s
   pub one_fault : (f g : MarkerFault) (m n : ℕ) → CopyGivesNone bytes (NoPicture f m) → CopyGivesNone bytes (NoPicture g n)
       → (f ≡ g) × (m ≡ n)
   pub not_both : (r : ReadCopy) (f : MarkerFault) (n : ℕ) → CopyReads bytes r → CopyGivesNone bytes (NoPicture f n) → ⊥
 
+-- bytes give one reading as a whole copy, or no picture with one fault and offset, and not both
 abbrev pub BytesDecide : Type 0
 BytesDecide = (bytes : List ℕ) → AllByRecursion (λ b. b < 256) bytes → CopiesGiveOne bytes
 
@@ -21,7 +22,7 @@ BytesDecide = (bytes : List ℕ) → AllByRecursion (λ b. b < 256) bytes → Co
 abbrev pub FinalEndsStay : Type 0
 FinalEndsStay = (front more : List ℕ) (c : Course) → IsCourse front c → is_final_end c.end ≡ true → IsCourse (front ++ more) c
 
--- and where the end isn't final, any bytes behind the copy change it
+-- if the end isn't final, any bytes after the copy change it
 abbrev pub OtherEndsChange : Type 0
 OtherEndsChange = (front more : List ℕ) (c d : Course) → IsCourse front c → is_final_end c.end ≡ false → 0 < length more
     → IsCourse (front ++ more) d → d.end ≢ c.end

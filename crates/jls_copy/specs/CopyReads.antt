@@ -16,8 +16,8 @@ use Rattle.jls_copy.specs.declared.reader.CopyFault.{CopyFault}
 use Rattle.jls_copy.specs.declared.reader.CopyFault.TheVariants.{NoPicture, OutOfMemory}
 use Rattle.jls_partial.specs.Partial.{without_sources}
 
--- the copy has a course with a frame, and what was read is the frame's shape with the readings of the course's pieces and those of the
--- head of the piece that the input's end closes, the first 4,096 of its records, how many there are, and its end
+-- what a copy gives. It has the frame's shape, and the readings of the course's pieces and of the head of the piece that the input's end
+-- closes. It has the first 4,096 records, their number, and the end of the course
 pub record CopyReads (copy : List ℕ) (read : ReadCopy) : Type 0 where
   pub course : Course
   pub is_course : IsCourse copy course
@@ -33,8 +33,8 @@ pub record CopyReads (copy : List ℕ) (read : ReadCopy) : Type 0 where
   pub count_is : read.piece_count ≡ length (records (pieces course) outcomes)
   pub ended_is : read.ended ≡ course.end
 
--- the fault where no frame was taken, with its offset: that which ended the copy, or `Ended` where the input ended at the place of a
--- marker. (Behind EOI a frame was always taken: EOI before a frame is a fault)
+-- the fault of a copy without a frame, by its end: the fault that ended it, or `Ended` if the input ended at the place of a marker. After
+-- EOI a frame was always taken, since EOI before a frame is a fault
 abbrev pub no_picture : End → CopyFault
 no_picture (Eoi offset) = NoPicture fault.NoFrame offset
 no_picture (Input offset) = NoPicture fault.Ended offset
@@ -55,6 +55,6 @@ is_final_end (Input offset) = false
 is_final_end (Header fault.Ended offset) = false
 is_final_end (Header f offset) = true
 
--- whether the course of the bytes has such an end
+-- the course of the bytes ends at a final end
 abbrev pub IsDone : List ℕ → Bool → Type 0
 IsDone copy done = (c : Course) × IsCourse copy c × (done ≡ is_final_end c.end)

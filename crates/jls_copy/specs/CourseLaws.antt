@@ -7,6 +7,6 @@ use Rattle.jls_copy.specs.Course.{Course, IsCourse}
 abbrev pub OneCourse : Type 0
 OneCourse = (bytes : List ℕ) (c d : Course) → IsCourse bytes c → IsCourse bytes d → c ≡ d
 
--- and it has one
+-- a list of bytes has a course
 abbrev pub SomeCourse : Type 0
 SomeCourse = (bytes : List ℕ) → AllByRecursion (λ b. b < 256) bytes → (c : Course) × IsCourse bytes c

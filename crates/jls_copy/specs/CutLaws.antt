@@ -10,8 +10,7 @@ use Rattle.jls_copy.specs.Numbers.{IsNextNumber, next_number, Interval, BeyondLa
 abbrev pub OneCut : Type 0
 OneCut = (bytes : List ℕ) → (c : ScanCut) × IsCut bytes c × ((d : ScanCut) → IsCut bytes d → d ≡ c)
 
--- The scan data of a unit of a course, with the bytes that follow the unit, is cut into the pieces and marks that the unit holds, and in
--- no other way
+-- the scan data of a unit, with the bytes after the unit, is divided into its pieces and marks, and in no other way
 abbrev pub UnitsAreCut : Type 0
 UnitsAreCut = (before after : HeaderState) (fill code : ℕ) (payload : List ℕ) (s : Scan)
     → (closed : List ClosedPiece) (last : List ℕ) (closing : LastClosed) (rest : List ℕ)
@@ -23,13 +22,13 @@ UnitsAreCut = (before after : HeaderState) (fill code : ℕ) (payload : List ℕ
 abbrev pub NumbersAreLeast : Type 0
 NumbersAreLeast = (last m : ℕ) → m < 8 → IsNextNumber last m (next_number last m)
 
--- where fewer than eight marks in a row are lost, and every mark that is seen is a true one, these marks give the pieces behind them
--- their true numbers
+-- let fewer than eight marks in a row be lost, and every mark seen be a true one. Then the marks give the pieces after them their true
+-- numbers. This is of lists of marks
 abbrev pub LostMarksAreBridged : Type 0
 LostMarksAreBridged = (intervals last : ℕ) (numbers : List ℕ) → RiseByEightAtMost intervals last numbers
     → numbers_behind intervals last (map mark_before numbers) ≡ map Interval numbers
 
--- a mark whose number is beyond the last interval leaves the numbers behind it as they were without it
+-- a mark whose number is beyond the last interval leaves the numbers after it as they were without it
 abbrev pub MarksBeyondChangeNothing : Type 0
 MarksBeyondChangeNothing = (intervals last m : ℕ) (marks : List ℕ) → intervals ≤ next_number last m
     → numbers_behind intervals last (m ∷ marks) ≡ BeyondLast (next_number last m) ∷ numbers_behind intervals last marks

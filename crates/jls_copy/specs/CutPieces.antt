@@ -15,7 +15,7 @@ is_cut (segment fill code payload) = false
 is_cut (scan fill code payload plan closed last (by_input count)) = true
 is_cut (scan fill code payload plan closed last by_marker) = false
 
--- whether it closes that of the last unit
+-- whether the input's end closes the last piece of the last unit
 abbrev pub closed_by_input : List CopyUnit → Bool
 closed_by_input [] = false
 closed_by_input (u ∷ []) = is_cut u
@@ -41,7 +41,7 @@ abbrev pub IsHeadOfCut : List FoundPiece → List (List ℕ) → Type 0
 IsHeadOfCut [] head = head ≡ []
 IsHeadOfCut (p ∷ ps) head = IsHeadAt p.plan p.number p.bytes head
 
--- its lines as readings
+-- the lines of a head as readings
 abbrev pub head_readings : List FoundPiece → List (List ℕ) → List Reading
 head_readings [] head = []
 head_readings (p ∷ ps) head = readings_of p (Lines head)

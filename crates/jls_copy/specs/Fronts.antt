@@ -17,7 +17,7 @@ use Rattle.jls_copy.specs.declared.place.Place.TheVariants.{Start, AtMarker, AtL
 abbrev pub NeverReads : Scan → PieceNumber → List ℕ → Type 0
 NeverReads s n bytes = (more : List ℕ) (lines : List (List ℕ)) → IsOutcomeAt s n (bytes ++ more) (Lines lines) → ⊥
 
--- the piece in hand is broken, whatever follows
+-- the piece that the end of these bytes closes reads as no lines, whatever bytes follow it
 pub record IsPieceBroken (front : List ℕ) : Type 0 where
   pub course : Course
   pub is_course : IsCourse front course
@@ -25,7 +25,7 @@ pub record IsPieceBroken (front : List ℕ) : Type 0 where
   pub in_hand : Contains (cut_pieces course) piece
   pub broken : NeverReads piece.plan piece.number piece.bytes
 
--- Then each list of bytes that begins with the front has a faulty piece, where that one stood
+-- a list of bytes that begins with such a prefix has a piece with that scan, number and offset. It reads as no lines
 abbrev pub FrontsStayBroken : Type 0
 FrontsStayBroken =
     (front more : List ℕ) → AllByRecursion (λ b. b < 256) (front ++ more)
@@ -38,6 +38,7 @@ abbrev pub OpenReadsNoMore : OpenPiece → Type 0
 OpenReadsNoMore (Within k d) = IfSome d.bytes (λ bytes. ReadsNoMore (interval_asked d) bytes)
 OpenReadsNoMore (Beyond k) = Unit {0}
 
+-- the place is in scan data, and its open piece reads as no lines, whatever follows
 abbrev pub PlaceReadsNoMore : Place → Type 0
 PlaceReadsNoMore (Start fill) = ⊥
 PlaceReadsNoMore (AtMarker fill) = ⊥

@@ -11,8 +11,8 @@ use Rattle.jls_copy.specs.declared.piece.PieceKind.TheVariants as kind
 use Rattle.jls_copy.specs.declared.piece.PieceRecord.{PieceRecord}
 use Rattle.jls_copy.specs.IntervalOf.{interval_of}
 
--- a piece: of which scan of the copy, counted from 0, and of which components, parameters and rows; its number; the offset of its first
--- byte; and its bytes
+-- a piece of a copy: its scan, counted from 0, with components, parameters and rows; its number; the offset of its first byte; and its
+-- bytes
 pub record FoundPiece : Type 0 where
   pub scan : ℕ
   pub plan : Scan
@@ -26,7 +26,7 @@ pub record FoundPiece : Type 0 where
 abbrev pub piece_begun : ℕ → Scan → PieceNumber → ℕ → FoundPiece
 piece_begun index plan number offset = record { scan = index; plan = plan; number = number; offset = offset; bytes = [] }
 
--- the pieces of scan data from this one on, which has no byte yet, where `last` was given last
+-- the pieces of scan data from this one on, which has no byte yet. `last` was the last number given
 abbrev pub pieces_from : FoundPiece → ℕ → List ClosedPiece → List ℕ → List FoundPiece
 pieces_from piece last [] bytes = record piece { bytes = bytes } ∷ []
 pieces_from piece last (c ∷ closed) bytes =
@@ -34,7 +34,7 @@ pieces_from piece last (c ∷ closed) bytes =
     record piece { bytes = c.piece }
     ∷ pieces_from (piece_begun piece.scan piece.plan next following) (given_last last next) closed bytes
 
--- the pieces of a unit at this offset, where so many scans stand before it
+-- the pieces of a unit at this offset, after so many scans
 abbrev pub unit_pieces : ℕ → ℕ → CopyUnit → List FoundPiece
 unit_pieces index at (segment fill code payload) = []
 unit_pieces index at (scan fill code payload plan closed last closing) =
@@ -45,7 +45,7 @@ abbrev pub scans_in : CopyUnit → ℕ
 scans_in (segment fill code payload) = 0
 scans_in (scan fill code payload plan closed last closing) = 1
 
--- the pieces of these units, of which the first stands at this offset, where so many scans stand before them
+-- the pieces of these units, of which the first is at this offset, after so many scans
 abbrev pub pieces_in : ℕ → ℕ → List CopyUnit → List FoundPiece
 pieces_in index at [] = []
 pieces_in index at (u ∷ us) = unit_pieces index at u ++ pieces_in (index + scans_in u) (at + length (unit_bytes u)) us
@@ -87,7 +87,7 @@ outcome_readings s (Interval k) (Lines lines) = placed s.components (first_row s
 outcome_readings s (Interval k) (Fault _) = []
 outcome_readings s (BeyondLast k) o = []
 
--- the readings of a piece with this outcome
+-- the readings that a piece gives by its outcome: none if it does not read
 abbrev pub readings_of : FoundPiece → PieceOutcome → List Reading
 readings_of p o = outcome_readings p.plan p.number o
 
@@ -109,12 +109,12 @@ AreOutcomes [] [] = Unit {0}
 AreOutcomes (p ∷ ps) (o ∷ os) = IsOutcome p o × AreOutcomes ps os
 AreOutcomes _ _ = ⊥
 
--- the readings that they give
+-- the readings that pieces give by their outcomes
 abbrev pub readings : List FoundPiece → List PieceOutcome → List Reading
 readings (p ∷ ps) (o ∷ os) = readings_of p o ++ readings ps os
 readings _ _ = []
 
--- the records of those that give no lines
+-- the records of the pieces that do not read, in order
 abbrev pub records : List FoundPiece → List PieceOutcome → List PieceRecord
 records (p ∷ ps) (o ∷ os) = records_of p o ++ records ps os
 records _ _ = []

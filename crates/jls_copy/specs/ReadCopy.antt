@@ -4,14 +4,15 @@ use Rattle.jls_partial.specs.Partial.{PartialPicture}
 use Rattle.jls_copy.specs.declared.end.End.{End}
 use Rattle.jls_copy.specs.declared.piece.PieceRecord.{PieceRecord}
 
--- the readings, the records that are kept of faulty pieces, how many faulty pieces there were, and where the copy ended
+-- what contracts see of a `CopyRead`. It has the partial picture, the records that are kept of pieces without readings, their number, and
+-- the copy's end. Its `pieces` are these records
 pub record ReadCopy : Type 0 where
   pub partial : PartialPicture
   pub pieces : List PieceRecord
   pub piece_count : ℕ
   pub ended : End
 
--- what was fed, or nothing more after a refusal
+-- the bytes fed to a reader with some more, or nothing once a `feed` was refused
 abbrev pub after : Option (List ℕ) → List ℕ → Option (List ℕ)
 after None more = None
 after (Some bytes) more = Some (bytes ++ more)

@@ -22,6 +22,7 @@ pub record IsReading (m : Machine) (bytes : List ℕ) : Type 0 where
   pub records_kept : length m.findings.records.items ≤ 4096
   pub header_bytes : length m.payload.items ≤ 65535
 
+-- a reader to which no `feed` was refused stands where these bytes lead
 abbrev pub IsReader : Bool → Machine → List ℕ → Type 0
 IsReader failed m bytes = failed ≡ false → IsReading m bytes
 

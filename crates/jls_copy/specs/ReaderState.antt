@@ -31,6 +31,7 @@ pub record ReaderState : Type 0 where
   pub headers : HeaderState
   pub payload : List ℕ
 
+-- the state before the first byte
 abbrev pub first_state : ReaderState
 first_state = record { count = 0; place = Start false; headers = no_headers; payload = [] }
 
@@ -59,6 +60,7 @@ decoding_of s k = record { parameters = s.params; width = s.width; components = 
 abbrev pub with_bytes : IntervalBytes → List ℕ → IntervalBytes
 with_bytes d more = record d { bytes = option_map (λ bytes. bytes ++ more) d.bytes }
 
+-- the piece of this number, with no byte yet
 abbrev pub piece_opened : Scan → PieceNumber → OpenPiece
 piece_opened s (Interval k) = open_piece.Within k (decoding_of s k)
 piece_opened s (BeyondLast k) = open_piece.Beyond k
@@ -79,13 +81,16 @@ pub record Step : Type 0 where
   pub headers : HeaderState
   pub payload : List ℕ
 
+-- a step to a place, with these headers and this payload
 abbrev pub step_to : HeaderState → List ℕ → Place → Step
 step_to h payload place = record { place = place; headers = h; payload = payload }
 
+-- the step after a whole segment: to its fault at the offset of its marker, or after it, with the headers that it leaves
 abbrev pub segment_taken : ℕ → HeaderState → List ℕ → ℕ → Result (HeaderState × Option Scan) MarkerFault → Step
 segment_taken count h payload marker (Err f) = step_to h payload (Done (end.Header f marker))
 segment_taken count h payload marker (Ok r) = step_to r.0 payload (place_after h.scans (count + 1) r.1)
 
+-- the step after a whole segment of this code and payload
 abbrev pub with_segment : ℕ → HeaderState → List ℕ → ℕ → ℕ → Step
 with_segment count h payload marker code = segment_taken count h payload marker (headers_after h code payload)
 
@@ -107,6 +112,7 @@ class_of Nothing b = if b == 0xFF then Fill else Data
 class_of One b = if b == 0xFF then Fill else if is_restart_code b then Mark else if ends_scan_data b then Stop else Data
 class_of More b = if b == 0xFF then Fill else if is_restart_code b then Mark else if ends_scan_data b then Stop else Data
 
+-- one byte FF more is held back
 abbrev pub one_more : Held → Held
 one_more Nothing = One
 one_more One = More
@@ -118,13 +124,16 @@ held_bytes Nothing = []
 held_bytes One = 0xFF ∷ []
 held_bytes More = 0xFF ∷ 0xFF ∷ []
 
+-- an open piece with more bytes; of a piece beyond the last interval no bytes are kept
 abbrev pub piece_with : OpenPiece → List ℕ → OpenPiece
 piece_with (open_piece.Within k d) more = open_piece.Within k (with_bytes d more)
 piece_with (open_piece.Beyond k) more = open_piece.Beyond k
 
+-- a scan after a byte of its piece: the bytes FF that were held back belong to the piece too
 abbrev pub scan_with : OpenScan → ℕ → OpenScan
 scan_with scan b = record scan { held = Nothing; piece = piece_with scan.piece (held_bytes scan.held ++ b ∷ []) }
 
+-- a scan after a mark, at its next piece
 abbrev pub scan_behind : OpenScan → PieceNumber → ℕ → OpenScan
 scan_behind scan number offset =
     record scan { last = given_last scan.last number; held = Nothing; offset = offset; piece = piece_opened scan.plan number }
@@ -136,6 +145,7 @@ from_scan Mark scan count b = InScan (scan_behind scan (number_behind (intervals
 from_scan Stop scan count b = from_marker true true count b
 from_scan Data scan count b = InScan (scan_with scan b)
 
+-- the step that a byte makes from a place
 abbrev pub step_from : Place → ℕ → HeaderState → List ℕ → ℕ → Step
 step_from (Start fill) count h payload b = step_to h payload (from_start fill count b)
 step_from (AtMarker fill) count h payload b = step_to h payload (from_marker fill (is_some h.frame) count b)
@@ -145,6 +155,7 @@ step_from (InPayload marker code size) count h payload b = payload_grown count h
 step_from (InScan scan) count h payload b = step_to h payload (from_scan (class_of scan.held b) scan count b)
 step_from (Done e) count h payload b = step_to h payload (Done e)
 
+-- the step that a byte makes from a state
 abbrev pub step : ReaderState → ℕ → Step
 step st b = step_from st.place st.count st.headers st.payload b
 
@@ -157,18 +168,22 @@ abbrev pub number_of : OpenPiece → PieceNumber
 number_of (open_piece.Within k d) = Interval k
 number_of (open_piece.Beyond k) = BeyondLast k
 
+-- the bytes that a decoder was told, or none once memory was refused
 abbrev pub told : Option (List ℕ) → List ℕ
 told (Some bytes) = bytes
 told None = []
 
+-- the bytes of an open piece; of a piece beyond the last interval none are kept
 abbrev pub bytes_of : OpenPiece → List ℕ
 bytes_of (open_piece.Within k d) = told d.bytes
 bytes_of (open_piece.Beyond k) = []
 
+-- an open piece of a scan as a found one
 abbrev pub piece_found : ℕ → Scan → ℕ → OpenPiece → FoundPiece
 piece_found index plan offset piece =
     record { scan = index; plan = plan; number = number_of piece; offset = offset; bytes = bytes_of piece }
 
+-- the open piece of a scan as a found one
 abbrev pub found : OpenScan → FoundPiece
 found scan = piece_found scan.index scan.plan scan.offset scan.piece
 
@@ -179,6 +194,7 @@ closed_by Mark scan = found scan ∷ []
 closed_by Stop scan = found scan ∷ []
 closed_by Data scan = []
 
+-- the pieces that a byte closes at a place: one or none
 abbrev pub closed_at : Place → ℕ → List FoundPiece
 closed_at (Start fill) b = []
 closed_at (AtMarker fill) b = []
@@ -199,6 +215,7 @@ end_at (InPayload marker code size) count = end.Header fault.Ended count
 end_at (InScan scan) count = end.Input count
 end_at (Done e) count = e
 
+-- the pieces that the input's end closes at a place: one or none
 abbrev pub closed_at_end : Place → List FoundPiece
 closed_at_end (Start fill) = []
 closed_at_end (AtMarker fill) = []
@@ -213,12 +230,15 @@ pub record Reading : Type 0 where
   pub state : ReaderState
   pub pieces : List FoundPiece
 
+-- a reading after one byte more
 abbrev pub reading_with : Reading → ℕ → Reading
 reading_with r b = record { state = after_byte r.state b; pieces = r.pieces ++ closed_at r.state.place b }
 
+-- a reading after more bytes
 abbrev pub reading_from : Reading → List ℕ → Reading
 reading_from r [] = r
 reading_from r (b ∷ bytes) = reading_from (reading_with r b) bytes
 
+-- the state after these bytes, from the first one on, with the pieces that they closed
 abbrev pub reading : List ℕ → Reading
 reading bytes = reading_from (record { state = first_state; pieces = [] }) bytes

@@ -19,10 +19,12 @@ pub record IsDecodingOf (s : Scan) (k : ℕ) (d : IntervalBytes) : Type 0 where
   pub bytes : List ℕ
   pub bytes_are : d.bytes ≡ Some bytes
 
+-- the decoder of an open piece is that of its interval, and the number of a piece beyond the last interval has 17 bits
 abbrev pub IsOpenPiece : Scan → OpenPiece → Type 0
 IsOpenPiece s (Within k d) = IsDecodingOf s k d
 IsOpenPiece s (Beyond k) = k < 2 ^ 17
 
+-- the last number given is that of an interval of the scan, and the open piece meets `IsOpenPiece`
 abbrev pub IsOpenScan : OpenScan → Type 0
 IsOpenScan scan = (scan.last < intervals scan.plan) × IsOpenPiece scan.plan scan.piece
 

@@ -13,20 +13,20 @@ use Rattle.jls_marker.specs.MarkerCodes.{has_segment}
 use Rattle.jls_marker.specs.declared.fault.MarkerFault.{MarkerFault}
 use Rattle.jls_marker.specs.declared.fault.MarkerFault.TheVariants as fault
 
--- behind so many bytes of the copy these stand
+-- after so many bytes of the copy come these bytes
 pub record StandsAt (copy : List ℕ) (offset : ℕ) (bytes : List ℕ) : Type 0 where
   pub front : List ℕ
   pub back : List ℕ
   pub copy_is : copy ≡ front ++ (bytes ++ back)
   pub offset_is : offset ≡ length front
 
--- each piece of a course stands at its offset
+-- the bytes of each piece of a course are at its offset in the copy
 abbrev pub PiecesStandAtTheirOffsets : Type 0
 PiecesStandAtTheirOffsets = (copy : List ℕ) (c : Course) → IsCourse copy c
     → AllByRecursion (λ piece. StandsAt copy piece.offset piece.bytes) (pieces c)
 
--- whether a fault is one that a whole segment, or its length, can have: not that of a code without a segment, of a byte that begins no
--- marker, of a copy that doesn't begin with SOI, or of an input that ends too early
+-- whether a fault is one that a whole marker segment, or its length, can have. The others are of a code without a segment, a byte that
+-- begins no marker, a missing SOI, and an input that ends too early
 abbrev pub is_of_segment : MarkerFault → Bool
 is_of_segment fault.UnknownMarker = false
 is_of_segment fault.NoMarker = false
@@ -34,7 +34,7 @@ is_of_segment fault.NoSoi = false
 is_of_segment fault.Ended = false
 is_of_segment f = true
 
--- What stands where a copy ends, by its end. The offset of a marker is that of the last byte 0xFF before its code
+-- at the offset of an end is what that end says. The offset of a marker is that of the last byte 0xFF before its code
 pub data EndStands (copy : List ℕ) : End → Type 0 where
   eoi : (offset : ℕ) → StandsAt copy offset (0xFF ∷ 0xD9 ∷ []) → EndStands copy (Eoi offset)
   input : (offset : ℕ) → offset ≡ length copy → EndStands copy (Input offset)
@@ -49,17 +49,18 @@ pub data EndStands (copy : List ℕ) : End → Type 0 where
   no_marker_first : (byte : ℕ) → byte ≢ 0xFF → StandsAt copy 0 (byte ∷ []) → EndStands copy (Header fault.NoSoi 0)
   too_early : (offset : ℕ) → offset ≡ length copy → EndStands copy (Header fault.Ended offset)
 
+-- what an end and its fault say is found at the end's offset
 abbrev pub EndsStandAtTheirOffsets : Type 0
 EndsStandAtTheirOffsets = (copy : List ℕ) (c : Course) → IsCourse copy c → EndStands copy c.end
 
--- the record of a piece that doesn't read as the lines of its interval: its scan, its number, the offset of its first byte, and why
+-- the record of a piece that doesn't read: its scan, its number, the offset of its first byte, and why
 pub record IsRecordOf (p : FoundPiece) (r : PieceRecord) : Type 0 where
   pub scan : r.scan ≡ p.scan
   pub interval : r.interval ≡ value_of p.number
   pub offset : r.offset ≡ p.offset
   pub kind : IsOutcome p (Fault r.kind)
 
--- each of these pieces reads as lines, or its record stands here, in order; and no other record does
+-- each of these pieces reads as lines, or its record is in the list, in order. The list has no other records
 pub data AreRecordsOf : List FoundPiece → List PieceRecord → Type 0 where
   of_none : AreRecordsOf [] []
   reads : (p : FoundPiece) (ps : List FoundPiece) (rs : List PieceRecord) (lines : List (List ℕ)) → IsOutcome p (Lines lines)
@@ -67,7 +68,7 @@ pub data AreRecordsOf : List FoundPiece → List PieceRecord → Type 0 where
   faulty : (p : FoundPiece) (ps : List FoundPiece) (r : PieceRecord) (rs : List PieceRecord) → IsRecordOf p r
       → AreRecordsOf ps rs → AreRecordsOf (p ∷ ps) (r ∷ rs)
 
--- what is told of a copy's faulty pieces are the first 4,096 of their records, and how many there are
+-- each of the first 4,096 faulty pieces of a copy has a record, and the number is that of all faulty pieces
 abbrev pub RecordsAreOfFaultyPieces : Type 0
 RecordsAreOfFaultyPieces = (copy : List ℕ) (read : ReadCopy) → (h : CopyReads copy read)
     → (rs : List PieceRecord) × AreRecordsOf (pieces h.course) rs × (read.pieces ≡ take 4096 rs) × (read.piece_count ≡ length rs)

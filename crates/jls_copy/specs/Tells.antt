@@ -52,6 +52,7 @@ pub record AlikePiece (p q : FoundPiece) : Type 0 where
   pub offset_is : p.offset ≡ q.offset
   pub told_as : ToldAs q.number p.bytes q.bytes
 
+-- two lists of pieces are alike, piece by piece
 abbrev pub AlikePieces : List FoundPiece → List FoundPiece → Type 0
 AlikePieces [] [] = Unit {0}
 AlikePieces (p ∷ ps) (q ∷ qs) = AlikePiece p q × AlikePieces ps qs
@@ -97,10 +98,12 @@ ScanPieces index s at closed front number offset =
     (w : List ℕ) → pieces_from (piece_begun index s (Interval 0) at) 0 closed w
     ≡ front ++ record { scan = index; plan = s; number = number; offset = offset; bytes = w } ∷ []
 
+-- the number that was given last after these closed pieces
 abbrev pub given_after : ℕ → ℕ → List ClosedPiece → ℕ
 given_after n given [] = given
 given_after n given (c ∷ cs) = given_after n (given_last given (number_behind n given c.mark)) cs
 
+-- the bytes so far end in scan data: whole units, the segment that begins the scan, the pieces that marks closed, and the open piece
 pub record InScanData (open_scan : OpenScan) (h : HeaderState) (ps : List FoundPiece) (x : List ℕ) : Type 0 where
   pub before : List ℕ
   pub old : HeaderState
@@ -143,6 +146,7 @@ pub data EndedAt : End → HeaderState → List FoundPiece → List ℕ → Type
       → EndedAt (Header fault.NoSoi n) no_headers [] x
   without_ff : (b : ℕ) (more x : List ℕ) → b ≢ 0xFF → x ≡ b ∷ more → EndedAt (Header fault.NoSoi 0) no_headers [] x
 
+-- what a place says of the bytes so far, with the headers, the payload and the pieces that were closed
 abbrev pub Tells : Place → HeaderState → List ℕ → List FoundPiece → List ℕ → Type 0
 Tells (Start false) h payload ps x = (x ≡ []) × (h ≡ no_headers) × (ps ≡ [])
 Tells (Start true) h payload ps x = (n : ℕ) × (x ≡ fill_bytes (suc n)) × (h ≡ no_headers) × (ps ≡ [])

@@ -16,7 +16,7 @@ use Rattle.jls_copy_files.specs.declared.copy.CopyRefusal.{CopyRefusal}
 abbrev pub begins_as_text : List ℕ → Bool
 begins_as_text bytes = starts_with nat_eq bytes magic
 
--- they do; so no byte more is read
+-- the bytes begin as the text of a partial picture does, and no more are read
 abbrev pub IsTextFront : List ℕ → Type 0
 IsTextFront bytes = begins_as_text bytes ≡ true
 
@@ -32,8 +32,8 @@ pub record IsCopyRead (name : List ℕ) (copy : CopyBytes) (events : List Event)
   pub is_read : IsRead IsTextFront reads copy.bytes copy.stop
   pub no_text : IsTextFront copy.bytes → ⊥
 
--- a copy of this name stops the command for this cause: it is not opened; it begins as a text, and was read until it did; or memory ran
--- out, between two reads or behind the last
+-- a copy of this name stops a run for this cause. It is not opened, it begins as a text, or memory ran out between two reads or after the
+-- last
 pub data StopsAtCopy : List ℕ → CopyCause → List Event → Type 0 where
   not_there : (name : List ℕ) → StopsAtCopy name cause.NotOpened (not_opened name ∷ [])
   partial_picture : (name bytes : List ℕ) (stop : ReadStop) (reads : List Event)
@@ -45,15 +45,14 @@ pub data StopsAtCopy : List ℕ → CopyCause → List Event → Type 0 where
 
 -- ---- all copies
 
--- copies of these names were opened and read in turn, and of each was read what stands at its place
+-- copies of these names were opened and read, one after the other, and this was read of them
 abbrev pub AreCopiesRead : List (List ℕ) → List CopyBytes → List Event → Type 0
 AreCopiesRead [] [] events = events ≡ []
 AreCopiesRead (name ∷ names) (copy ∷ copies) events =
     (mine : List Event) × (more : List Event) × (events ≡ mine ++ more) × IsCopyRead name copy mine × AreCopiesRead names copies more
 AreCopiesRead _ _ events = ⊥
 
--- the copies before one were read; that one, whose name the refusal has, stops the command for the refusal's cause; and nothing else was
--- done
+-- the copies before one were read. That one stops the run for the cause of the refusal, which has its name. Nothing else was done
 pub record StopsAmongCopies (names : List (List ℕ)) (r : CopyRefusal) (events : List Event) : Type 0 where
   pub before : List (List ℕ)
   pub after : List (List ℕ)
@@ -67,8 +66,10 @@ pub record StopsAmongCopies (names : List (List ℕ)) (r : CopyRefusal) (events 
 
 -- ---- as the code has them
 
+-- what was read of a copy, as the code holds it
 abbrev pub copy_of : CopyFile → CopyBytes
 copy_of c = record { bytes = c.bytes.items; stop = c.stop }
 
+-- what was read of copies, as the code holds them
 abbrev pub copies_of : List CopyFile → List CopyBytes
 copies_of cs = map copy_of cs

@@ -31,6 +31,7 @@ restored (inr (inl (room, bytes))) = gave room bytes
 restored (inr (inr true)) = read_failed
 restored (inr (inr false)) = write_failed
 
+-- an event is restored from what is stored of it
 pub restored_again : (e : Event) → restored (stored e) ≡ e
 restored_again (opened name) = refl
 restored_again (not_opened name) = refl
@@ -47,8 +48,10 @@ coded_text = coded_list coded_ℕ
 abbrev coded_texts : Coded Texts
 coded_texts = coded⊎ (coded⊎ coded_text coded_text) (coded⊎ (coded⊎ coded_text coded_text) coded_text)
 
+-- how an event is stored
 abbrev pub coded_event : Coded Event
 coded_event = code_by Stored (coded⊎ coded_texts (coded⊎ (coded× coded_ℕ coded_text) coded_bool)) stored restored restored_again
 
+-- how a history is stored
 abbrev pub coded_history : Coded History
 coded_history = coded_list coded_event

@@ -3,6 +3,7 @@ use Rattle.jls_device.specs.Event.{Event, opened, not_opened, gave, read_failed,
 use Rattle.jls_device.specs.declared.history.Noted.{Noted}
 use Rattle.jls_device.specs.declared.history.Noted.TheVariants as noted
 
+-- what a device noted, as an event
 abbrev pub event_of : Noted → Event
 event_of (noted.Opened name) = opened name.now
 event_of (noted.NotOpened name) = not_opened name.now

@@ -6,7 +6,7 @@ use Rattle.jls_device.specs.Event.{History, bytes_given, bytes_taken}
 abbrev pub remaining_behind : Bool → Option (List ℕ) → Option (List ℕ)
 remaining_behind is_open left = if is_open then left else Some []
 
--- reads gave the front of a content, in its order, and reads will give the rest
+-- reads gave the first bytes of a content, in order, and reads will give the rest
 abbrev pub HasGiven : List ℕ → History → Option (List ℕ) → Type 0
 HasGiven content h (Some left) = content ≡ bytes_given h ++ left
 HasGiven content h None = ⊥

@@ -8,12 +8,12 @@ AreWrites [] = Unit {0}
 AreWrites (took bytes ∷ more) = (0 < length bytes) × AreWrites more
 AreWrites (_ ∷ more) = ⊥
 
--- writes took exactly these bytes; there is no write where there are no bytes
+-- writes took exactly these bytes; there is no write if there are no bytes
 pub record Wrote (bytes : List ℕ) (writes : List Event) : Type 0 where
   pub are_writes : AreWrites writes
   pub they_took : bytes_taken writes ≡ bytes
 
--- writes took so many of the bytes, from the front on, and not all; then one failed, and there was no other
+-- writes took so many of the bytes, from the first on, and not all; then one failed, and there was no other
 pub record WroteFront (bytes : List ℕ) (count : ℕ) (events : List Event) : Type 0 where
   pub writes : List Event
   pub events_are : events ≡ writes ++ write_failed ∷ []

@@ -1,4 +1,24 @@
 //! Devices that keep a history: sources, sinks, and the desk of a program.
+//!
+//! - `device`: the traits: sources, sinks and the desk of a program
+//! - `history`: the list of events of a device, for contracts alone. It takes no memory at run time
+//! - `ledger`: the history with the four counts. It notes each event
+//! - `counted`: makes a device of any reader or writer, and a desk of whatever opens inputs and creates outputs by name (`Open`)
+//! - `writing`: hands all bytes to a sink
+//! - `laws`: tie what is noted to the bytes of a list in memory
+//!
+//! - A contract cannot say which bytes a file has. So each device has, for contracts alone, a *history*: the list of the events of its
+//!   life. What a program does is then a statement about the events of its desk.
+//! - One thing is trusted: `counted` calls its stream once for each read and write that it notes. No contract says that.
+//!
+//! Definitions: `Event`, `Writing`, `Remaining`, `Asked`. Inside the crate: `Counts` (the ledger), `Noted` and `EventCode` (how the
+//! checker's logic stores a history).
+//!
+//! Not proved:
+//!
+//! - That `Counted` calls the stream only once for each read and write that it notes. A second call that gives and takes nothing would not
+//!   be seen, since no contract of std counts calls. Read `counted.rt`; it is tested.
+//! - That a read of bytes in memory never fails, and that a write to a list fails only for lack of memory.
 #![tactic(auto)]
 
 mod counted;

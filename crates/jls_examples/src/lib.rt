@@ -1,4 +1,13 @@
 //! Examples for programs of one's own: a copy that is read, readings that are joined, a report, and a picture that is written.
+//!
+//! `docs/PROGRAMMERS.md` shows its code and explains it.
+//!
+//! - `reading`: a copy in two slices, and a source for what it gives
+//! - `joining`: partial pictures and a text that are joined
+//! - `telling`: the report, and the picture that is lent
+//! - `writing`: both files, handed to a sink
+//!
+//! Definitions: `Written`. Its one test takes two damaged copies through all of them.
 #![tactic(auto)]
 
 mod joining;

@@ -5,12 +5,12 @@ use Rattle.jls_picture.specs.Outcomes.{HandedOut, HandedFront, StoppedBy}
 use Rattle.jls_picture.specs.declared.output.OutputFault.{OutputFault}
 use Rattle.jls_picture.specs.declared.output.OutputFault.TheVariants.{Write, OutOfMemory}
 
--- so many of the bytes went out, from the front on and not all, by writes, none of which failed, and nothing else
+-- so many of the bytes went out, from the first on and not all, by writes, none of which failed, and nothing else
 pub record HandedPart (old new : History) (held holds : Option (List ℕ)) (bytes : List ℕ) (count : ℕ) : Type 0 where
   pub out : HandedOut old new held holds (take count bytes)
   pub not_all : count < length bytes
 
--- a write failed, or there was no memory, and the fault says how many bytes had gone out, with so many that had gone out before these
+-- a write failed, or there was no memory. The fault says how many bytes had gone out, with those that had gone out before these
 abbrev pub StopsIn : OutputFault → ℕ → History → History → Option (List ℕ) → Option (List ℕ) → List ℕ → Type 0
 StopsIn (Write count) before old new held holds bytes = StoppedBy (Write count) before (HandedFront old new held holds bytes)
 StopsIn (OutOfMemory count) before old new held holds bytes = (n : ℕ) × (count ≡ before + n) × HandedPart old new held holds bytes n

@@ -51,12 +51,13 @@ abbrev pub choices_by : Option ByGroups → List (List ℕ)
 choices_by None = []
 choices_by (Some b) = b.choices
 
--- all splices that were found: those of the search of all, and behind them those that groups gave
+-- all splices that were found: those of the search of all, and then those that groups gave
 abbrev pub splices_in : Found → List (List ℕ)
 splices_in f = files_of f.parts (f.choices ++ choices_by f.by_groups)
 
 -- As the code has it -----------------------------------------------------------------------------------------------
 
+-- what the search by groups came to, from what the code tells of it and the choices of its splices
 abbrev pub by_groups_of : List (List ℕ) → GroupsTold → ByGroups
 by_groups_of choices told = record {
   groups = told.groups;
@@ -65,6 +66,7 @@ by_groups_of choices told = record {
   is_used_up = told.is_used_up;
 }
 
+-- what a search found, from the value of the code: its first `whole` splices are those of the search of all, the others those of groups
 abbrev pub found_of : FoundSplices → Found
 found_of s = record {
   parts = parts_of s.parts.items;

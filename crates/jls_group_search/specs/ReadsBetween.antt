@@ -8,7 +8,7 @@ use Rattle.jls_copy.specs.declared.end.End.{End}
 use Rattle.jls_copy.specs.declared.end.End.TheVariants.{Eoi, Input, Header}
 use Rattle.jls_splice.specs.Faultless.{HasLines}
 
--- the offset is the first of these, or behind it, and before the second, if there is one
+-- the offset is the first of these or later, and before the second, if there is one
 abbrev pub IsBetween : ℕ → Option ℕ → ℕ → Type 0
 IsBetween from None offset = from ≤ offset
 IsBetween from (Some to) offset = (from ≤ offset) × (offset < to)

@@ -1,4 +1,18 @@
-//! The files and standard streams of the machine, and outputs that are whole or not at all.
+//! The files and standard streams of the machine, and outputs that are made beside their names and renamed when they are whole.
+//!
+//! - `choice`: decides how an output is made and whether it is kept. Its contracts say when
+//! - `name`: the name of the temporary file beside OUT
+//! - `output`: makes that file, and renames it to OUT or removes it. Its calls of the system go through `Machine`
+//! - `machine`: the trait `Machine`, which a test can implement
+//! - `host`: opens the files and standard streams of the machine (`HostFiles`), and holds the descriptors of closed standard streams
+//!   (`hold_streams`)
+//!
+//! What `host` and `output` do to a file is trusted, as `docs/TRUST.md` says. Definitions: `Choices`.
+//!
+//! Not proved:
+//!
+//! - What `HostFiles` and `Output` do with files. No contract says what file a name has after a call. `output.rt` shows that OUT is whole
+//!   or not at all. `jls_host_tests` and `interop/faults` test it.
 #![tactic(auto)]
 
 mod choice;

@@ -1,4 +1,4 @@
-//! An output that is whole or not at all.
+//! An output that is to be whole or not at all: no contract says so, so read this file.
 
 ghost use Rattle.std.specs.Prelude.{◌≤◌, length, IfOk};
 

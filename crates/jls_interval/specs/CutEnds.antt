@@ -7,7 +7,7 @@ use Rattle.jls_interval.specs.declared.cut_end.CutEnd.{CutEnd}
 use Rattle.jls_interval.specs.declared.cut_end.CutEnd.TheVariants.{Whole, Head}
 use Rattle.jls_interval.specs.declared.decode_piece.PieceFault.TheVariants.{Long, Broken, OutOfMemory}
 
--- The lines that the bytes read as; or, where they read as none, why, and the lines of their head
+-- what the answer of `finish_cut` says of bytes: lines as which they read. Or that they are too long or broken, and the lines of their head
 abbrev pub CutEndIs : IntervalShape → List ℕ → CutEnd → Type 0
 CutEndIs i piece (Whole lines) = Reads i piece (map (λ v. v.items) lines.items)
 CutEndIs i piece (Head lines Long) = IsLong i piece × IsHeadOfPiece i piece (map (λ v. v.items) lines.items)

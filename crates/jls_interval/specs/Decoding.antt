@@ -76,6 +76,7 @@ pub record Taken (p : CodingParameters) (given : List Bool) (new : IntervalReade
   pub chunk_is : chunk ≡ taken ++ unread
   pub reading : IsReading p (given ++ taken) new
 
+-- the first bits of a chunk were taken, whatever was given before
 abbrev pub TakesFirst : IntervalReader → List Bool → IntervalReader → List Bool → Type 0
 TakesFirst old chunk new unread =
     (p : CodingParameters) (given : List Bool) → IsReading p given old → Taken p given new chunk unread
@@ -86,6 +87,7 @@ pub record GivenBack (p : CodingParameters) (given : List Bool) (new : IntervalR
   pub given_is : given ≡ before ++ chunk
   pub reading : IsReading p before new
 
+-- the bits of a chunk, which were given last, were not taken
 abbrev pub GivesBack : IntervalReader → IntervalReader → List Bool → Type 0
 GivesBack old new chunk = (p : CodingParameters) (given : List Bool) → IsReading p given old → GivenBack p given new chunk
 

@@ -5,7 +5,7 @@ use Rattle.jls_context.specs.declared.mode.Neighbours.{Neighbours}
 use Rattle.jls_context.specs.Mode.{is_run_mode}
 use Rattle.jls_interval.specs.Lines.{sample_at, neighbours_at}
 
--- what is coded as a whole: a column, or a run
+-- a column in regular mode, a run to the end of its line, or an interrupted run (T.87 A.3.2, A.7)
 pub data Event : Type 0 where
   -- one column in regular mode: its neighbours and its sample
   regular : Neighbours → ℕ → Event
@@ -18,26 +18,26 @@ pub data Event : Type 0 where
 
 -- Line y of a component, in the finished lines of an interval
 module _ (width components : ℕ) (lines : List (List ℕ)) (component y : ℕ) where
-  -- its sample in column x
+  -- its sample in column x (T.87 A.3.2, A.7)
   abbrev pub sample_in : ℕ → ℕ
   sample_in x = sample_at components lines component (pos y) x
 
-  -- the neighbours of that column
+  -- the neighbours of that column (T.87 A.3.2, A.7)
   abbrev pub neighbours_in : ℕ → Neighbours
   neighbours_in x = neighbours_at width components lines component y x
 
-  -- so many columns from x on hold the value of a run that begins there, which is Ra
+  -- so many columns from x on hold the value of a run that begins there, which is Ra (T.87 A.3.2, A.7)
   abbrev pub HoldRun : ℕ → ℕ → Type 0
   HoldRun x count = (i : ℕ) → i < count → sample_in (x + i) ≡ (neighbours_in x).ra
 
-  -- column x is in regular mode
+  -- column x is in regular mode (T.87 A.3.2, A.7)
   pub record IsRegular (x : ℕ) (near : Neighbours) (sample next : ℕ) : Type 0 where
     pub near_is : near ≡ neighbours_in x
     pub not_run : is_run_mode near ≡ false
     pub sample_is : sample ≡ sample_in x
     pub next_is : next ≡ x + 1
 
-  -- column x is in run mode, and all columns from it on hold the run
+  -- column x is in run mode, and all columns from it on hold the run (T.87 A.3.2, A.7)
   pub record IsRunToEnd (x of_component count next : ℕ) : Type 0 where
     pub component_is : of_component ≡ component
     pub run : is_run_mode (neighbours_in x) ≡ true
@@ -45,7 +45,7 @@ module _ (width components : ℕ) (lines : List (List ℕ)) (component y : ℕ) 
     pub holds : HoldRun x count
     pub next_is : next ≡ width
 
-  -- column x is in run mode, so many columns from it on hold the run, and the one after them does not
+  -- column x is in run mode, so many columns from it on hold the run, and the one after them does not (T.87 A.3.2, A.7)
   pub record IsInterruptedRun (x of_component count : ℕ) (near : Neighbours) (sample next : ℕ) : Type 0 where
     pub component_is : of_component ≡ component
     pub run : is_run_mode (neighbours_in x) ≡ true
@@ -56,26 +56,26 @@ module _ (width components : ℕ) (lines : List (List ℕ)) (component y : ℕ) 
     pub interrupts : sample ≡ (neighbours_in x).ra → ⊥
     pub next_is : next ≡ x + count + 1
 
-  -- an event is what stands from column x to before column `next`
+  -- the columns from x to before `next` are this event (T.87 A.3.2, A.7)
   abbrev pub StandsIn : ℕ → Event → ℕ → Type 0
   StandsIn x (regular near sample) next = IsRegular x near sample next
   StandsIn x (run_to_end of_component count) next = IsRunToEnd x of_component count next
   StandsIn x (interrupted_run of_component count near sample) next = IsInterruptedRun x of_component count near sample next
 
-  -- the columns from x on are parted into these events
+  -- the columns from x on are divided into these events (T.87 A.3.2, A.7)
   abbrev pub IsParted : ℕ → List Event → Type 0
   IsParted x [] = x ≡ width
   IsParted x (event ∷ later) = (next : ℕ) × (x < width) × StandsIn x event next × IsParted next later
 
--- So many lines from line j on are parted into these events, one line after another. Line j of an interval is line
--- j / components of component j % components
+-- so many lines from line j on are divided into these events, one line after another. Line j of an interval is line j / components of
+-- component j % components (T.87 A.3.2, A.7)
 abbrev pub AreParted : ℕ → ℕ → List (List ℕ) → ℕ → ℕ → List Event → Type 0
 AreParted width components lines j zero events = events ≡ []
 AreParted width components lines j (suc more) events =
     (first : List Event) × (later : List Event) × (events ≡ first ++ later)
     × IsParted width components lines (j % components) (j / components) 0 first × AreParted width components lines (j + 1) more later
 
--- these are the events of the interval with these lines. For lines as `AreLines` has them there is exactly one such list
+-- these are the events of the interval with these lines. For lines as `AreLines` has them there is exactly one such list (T.87 A.3.2, A.7)
 abbrev pub AreEvents : ℕ → ℕ → List (List ℕ) → List Event → Type 0
 AreEvents width components lines events = AreParted width components lines 0 (length lines) events
 
@@ -124,7 +124,7 @@ stretch width component up line x =
     else record { event = run_to_end component (width - x); next = width })
     else record { event = regular near (get_or line x 0); next = suc x }
 
--- the events of the columns from x on, where `stretch_at` gives the stretch that begins at a column; `fuel` is at least their number
+-- the events of the columns from x on, if `stretch_at` gives the stretch that begins at a column; `fuel` is at least their number
 unfoldable pub events_from : (ℕ → Stretch) → ℕ → ℕ → ℕ → List Event
 events_from stretch_at width zero x = []
 events_from stretch_at width (suc fuel) x =
@@ -139,7 +139,7 @@ line_events width component up line = events_from (stretch width component up li
 abbrev pub line_back : List (List ℕ) → ℕ → List ℕ
 line_back lines back = if (nat_lt (length lines) back) then [] else get_or lines (length lines - back) []
 
--- the lines above the line that follows these, where the components take turns
+-- the lines above the line that follows these, if the components take turns
 abbrev pub above : ℕ → List (List ℕ) → Above
 above components lines = record { line_above = line_back lines components; line_two_above = line_back lines (2 * components) }
 
@@ -150,7 +150,7 @@ events_after width components before (line ∷ lines) =
     line_events width (length before % components) (above components before) line
     ++ events_after width components (before ++ line ∷ []) lines
 
--- The events of an interval, computed. They are those of `AreEvents` for lines as `AreLines` has them; a line of another
--- width is read as if it had zeros where it is too short, which means nothing
+-- the events of an interval, computed. For lines as in `AreLines` they are those of `AreEvents`. If a line is too short, zeros are added,
+-- which has no meaning
 abbrev pub events : ℕ → ℕ → List (List ℕ) → List Event
 events width components lines = events_after width components [] lines

@@ -18,14 +18,14 @@ pub record Position : Type 0 where
 abbrev pub here : ℕ → ℕ → Position → Neighbours
 here width components position = neighbours width (above components position.lines) position.line (length position.line)
 
--- the samples that an event adds to its line, where the run's value is v
+-- the samples that an event adds to its line, if the run's value is v
 abbrev pub added : ℕ → Event → List ℕ
 added v (regular near sample) = sample ∷ []
 added v (run_to_end component count) = replicate count v
 added v (interrupted_run component count near sample) = replicate count v ++ sample ∷ []
 
--- an event can come next in a line of a component, where the next column has the neighbours `near`: these are `IsRegular`, `IsRunToEnd`
--- and `IsInterruptedRun` of a line that is not finished yet
+-- an event can come next in a line of a component, if the next column has the neighbours `near`. Of a line that is not finished, these are
+-- `IsRegular`, `IsRunToEnd` and `IsInterruptedRun`
 abbrev pub Fits : CodingParameters → ℕ → ℕ → Above → List ℕ → Neighbours → Event → Type 0
 Fits p width component up line near (regular n sample) =
     (is_run_mode near ≡ false) × (n ≡ near) × (sample ≤ p.maxval)
@@ -35,13 +35,13 @@ Fits p width component up line near (interrupted_run of_component count n sample
     (is_run_mode near ≡ true) × (of_component ≡ component) × (length line + count < width)
     × (n ≡ neighbours width up (line ++ replicate count near.ra) (length line + count)) × (sample ≤ p.maxval) × (sample ≡ near.ra → ⊥)
 
--- an event can come next at a position, where there are to be `count` lines
+-- an event can come next at a position, if there are to be `count` lines
 abbrev pub IsNext : CodingParameters → ℕ → ℕ → ℕ → Position → Event → Type 0
 IsNext p width components count position event =
     (length position.lines < count) × Fits p width (length position.lines % components) (above components position.lines) position.line
     (here width components position) event
 
--- the position with this line begun, or among the finished lines where it is whole
+-- the position with this line begun, or among the finished lines if it is whole
 abbrev pub grown : ℕ → List (List ℕ) → List ℕ → List Event → Position
 grown width lines line earlier =
     if (length line == width) then record { lines = lines ++ line ∷ []; line = []; earlier = earlier }

@@ -20,8 +20,8 @@ pub record AreWholeLines (i : IntervalShape) (given : List Bool) (lines whole : 
   pub begins : BeginsWithFirst i given lines whole
   pub longest : (first : List (List ℕ)) → BeginsWithFirst i given lines first → length first ≤ length whole
 
--- The head of bits, where lines of this shape are to come: if they are a proper prefix of the code of some lines, those of these
--- lines that stand whole; else it is empty
+-- the head of bits, where `count` lines are to come. If they are a proper prefix of the code of some lines, it is those of these lines that
+-- are complete. Else it is empty
 abbrev pub IsHead : IntervalShape → List Bool → List (List ℕ) → Type 0
 IsHead i given head =
     ((cut : IsCutCode i given) × AreWholeLines i given cut.lines head) ⊎ ((IsCutCode i given → ⊥) × (head ≡ []))
@@ -37,7 +37,7 @@ HeadsAreOne =
     (i : IntervalShape) → AreCodingParameters i.params → 0 < i.width
     → (given : List Bool) (xs ys : List (List ℕ)) → IsHead i given xs → IsHead i given ys → xs ≡ ys
 
--- where the bits cut an event, the head is the lines that were finished before it
+-- if the bits cut an event, the head is the lines that were finished before it
 abbrev pub HeadsAreFinishedLines : Type 0
 HeadsAreFinishedLines =
     (i : IntervalShape) → 0 < i.width → (given : List Bool) (cut : IsCutEvent i given) → IsHead i given cut.position.lines

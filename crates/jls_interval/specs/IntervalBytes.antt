@@ -7,7 +7,8 @@ use Rattle.jls_interval.specs.Lines.{IntervalShape, interval_shape}
 use Rattle.jls_interval.specs.Decoding.{IsReading, HaveWidth}
 use Rattle.jls_interval.specs.declared.interval_reader.IntervalReader.{IntervalReader}
 
--- the shape of an interval, and the bytes of it that came so far: none of them is known any more once memory was refused
+-- what contracts see of an `IntervalDecoder`: the parameters, width, components and rows of the interval, and the bytes pushed, or none
+-- once memory was refused
 pub record IntervalBytes : Type 0 where
   pub parameters : CodingParameters
   pub width : ℕ

@@ -9,7 +9,7 @@ use Rattle.jls_interval.specs.Reads.{BeginsWithCode, Reads, IsLong, IsBroken}
 use Rattle.jls_interval.specs.Stepwise.{Leads, bits_of_steps, IsEnd, IsPrefixFree}
 use Rattle.jls_interval.specs.Growth.{Position, IsNext, interval_steps, start, finish}
 
--- Finished lines are parted into events in exactly one way, and `events` computes it
+-- finished lines are divided into events in exactly one way, and `events` computes it
 abbrev pub PartedOnce : Type 0
 PartedOnce =
     (p : CodingParameters) (width components count : ℕ) (lines : List (List ℕ)) → 0 < components → AreLines p width count lines
@@ -28,7 +28,7 @@ FullBlocksFit =
     (run_index count : ℕ) → (block_columns run_index (full_blocks run_index count) ≤ count)
     × (count < block_columns run_index (full_blocks run_index count + 1))
 
--- Lines that grow from the start, event by event, until no event can come next, are whole lines, and the events are theirs
+-- lines that grow from the start, event by event, until no event can come next, are whole lines, and the events are theirs
 abbrev pub GrowthEndsInLines : Type 0
 GrowthEndsInLines =
     (p : CodingParameters) (width components count : ℕ) → 0 < width
@@ -36,7 +36,7 @@ GrowthEndsInLines =
     → IsEnd (interval_steps p width components count) z
     → AreLines p width count z.lines × (z ≡ finish width components z.lines) × (es ≡ events width components z.lines)
 
--- and all lines grow so
+-- all lines grow so
 abbrev pub LinesGrow : Type 0
 LinesGrow =
     (p : CodingParameters) (width components count : ℕ) → 0 < width → (lines : List (List ℕ)) → AreLines p width count lines
@@ -67,7 +67,7 @@ PiecesReadOnce =
     (i : IntervalShape) → AreCodingParameters i.params → 0 < i.width → (piece : List ℕ) (xs : List (List ℕ)) → Reads i piece xs
     → ((ys : List (List ℕ)) → Reads i piece ys → xs ≡ ys) × (IsLong i piece → ⊥)
 
--- a piece is broken exactly where it doesn't begin with the code of any lines
+-- a piece is broken if and only if it doesn't begin with the code of any lines
 abbrev pub BrokenBeginsWithNone : Type 0
 BrokenBeginsWithNone =
     (i : IntervalShape) (piece : List ℕ)
@@ -81,7 +81,7 @@ pub record IsCutCode (i : IntervalShape) (given : List Bool) : Type 0 where
   pub more_missing : List Bool
   pub code_is : given ++ missing ∷ more_missing ≡ code i.params i.width i.components lines
 
--- bits that are those of whole first events, and then a proper prefix, which may be empty, of the bits of one event that can come next
+-- bits that are those of whole first events, then a proper prefix of the bits of one event that can come next. The prefix may be empty
 pub record IsCutEvent (i : IntervalShape) (given : List Bool) : Type 0 where
   pub whole : List Event
   pub position : Position
@@ -94,7 +94,7 @@ pub record IsCutEvent (i : IntervalShape) (given : List Bool) : Type 0 where
   pub more_missing : List Bool
   pub bits_are : event_bits i.params position.earlier cut ≡ begun ++ missing ∷ more_missing
 
--- the two are the same
+-- bits are a proper prefix of a code (`IsCutCode`) if and only if they cut an event (`IsCutEvent`)
 abbrev pub CutsAreExact : Type 0
 CutsAreExact =
     (i : IntervalShape) → AreCodingParameters i.params → 0 < i.width → (given : List Bool) → IsCutCode i given ↔ IsCutEvent i given

@@ -16,23 +16,24 @@ abbrev pub interval_shape : CodingParameters → ℕ → ℕ → ℕ → Interva
 interval_shape params width components line_count =
     record { params = params; width = width; components = components; line_count = line_count }
 
--- a line of this width, its samples at most MAXVAL
+-- a line of this width, its samples at most MAXVAL (T.87 B.2)
 abbrev pub IsLine : CodingParameters → ℕ → List ℕ → Type 0
 IsLine p width line = (length line ≡ width) × AllByRecursion (λ sample. sample ≤ p.maxval) line
 
--- So many lines of this width. They stand row by row, and in a row by component, in the order of the scan: with two components
--- lines 0, 2, 4 .. are those of the first. They may end inside a row
+-- so many lines of this width. They are in order of rows, and within a row in the order of the scan's components: with two components lines
+-- 0, 2, 4 .. are those of the first. They may end inside a row (T.87 B.2)
 pub record AreLines (p : CodingParameters) (width count : ℕ) (lines : List (List ℕ)) : Type 0 where
   pub count_is : length lines ≡ count
   pub each : AllByRecursion (IsLine p width) lines
 
--- L(y, x): the sample in column x of line y of a component. The lines -1 and -2 are zeros
+-- L(y, x): the sample in column x of line y of a component. The lines -1 and -2 are zeros (T.87 A.2)
 unfoldable pub sample_at : ℕ → List (List ℕ) → ℕ → ℤ → ℕ → ℕ
 sample_at components lines component (pos y) x = get_or (get_or lines (y * components + component) []) x 0
 sample_at components lines component (negsuc y) x = 0
 
--- The samples round column x of line y of a component: Ra to the left, Rb above, Rc above to the left, Rd above to the right.
--- In the first column Ra is Rb, and Rc is the Ra that the line above had there; in the last column Rd is Rb
+-- the samples around column x of line y of a component: Ra to the left, Rb above, Rc above to the left, Rd above to the right. In the first
+-- column Ra is Rb, and Rc is the Ra that the line above had there. In the last column Rd is Rb. Editions of the standard word Rc of the
+-- first column differently: this is the project's reading (T.87 A.2, A.3)
 unfoldable pub neighbours_at : ℕ → ℕ → List (List ℕ) → ℕ → ℕ → ℕ → Neighbours
 neighbours_at width components lines component y x = record {
   ra = if (x == 0) then sample_at components lines component (pos y -ℤ pos 1) x else sample_at components lines component (pos y) (x - 1);

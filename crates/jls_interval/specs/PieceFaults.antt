@@ -9,13 +9,13 @@ use Rattle.jls_interval.specs.Reads.{Reads, IsLong, IsBroken}
 use Rattle.jls_interval.specs.declared.decode_piece.PieceFault.{PieceFault}
 use Rattle.jls_interval.specs.declared.decode_piece.PieceFault.TheVariants.{Long, Broken, OutOfMemory}
 
--- the fault is the piece's; that memory is refused says nothing of the piece
+-- which of these a fault of `decode_interval` says; `OutOfMemory` says nothing of the piece
 abbrev pub FaultIs : PieceFault → IntervalShape → List ℕ → Type 0
 FaultIs Long i piece = IsLong i piece
 FaultIs Broken i piece = IsBroken i piece
 FaultIs OutOfMemory i piece = Unit {0}
 
--- what bytes that were all decoded gave: their lines, or why there are none
+-- what the answer says of bytes that were all decoded: lines as which they read, that they are too long, or that they are broken
 abbrev pub OutcomeIs : IntervalShape → List ℕ → Result (Vec (Vec ℕ Global) Global) PieceFault → Type 0
 OutcomeIs i piece (Ok lines) = Reads i piece (map (λ v. v.items) lines.items)
 OutcomeIs i piece (Err Long) = IsLong i piece

@@ -4,7 +4,7 @@ use Rattle.jls_values.specs.Params.{CodingParameters, AreCodingParameters}
 use Rattle.jls_interval.specs.Lines.{AreLines, interval_shape}
 use Rattle.jls_interval.specs.Reads.{Reads, packed}
 
--- the bytes that lines are written as read as these lines, and as no others
+-- what is written is read as these lines and as no others
 abbrev pub PackedLinesReadBack : Type 0
 PackedLinesReadBack =
     (p : CodingParameters) (width components count : ℕ) (lines : List (List ℕ)) → AreLines p width count lines

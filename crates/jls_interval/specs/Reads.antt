@@ -36,6 +36,6 @@ pub record IsBroken (i : IntervalShape) (piece : List ℕ) : Type 0 where
 abbrev pub ReadsNoMore : IntervalShape → List ℕ → Type 0
 ReadsNoMore i bytes = (more : List ℕ) (lines : List (List ℕ)) → Reads i (bytes ++ more) lines → ⊥
 
--- the bytes that lines are written as
+-- the bytes that lines are written as: `pad` of their `code`
 abbrev pub packed : CodingParameters → ℕ → ℕ → List (List ℕ) → List ℕ
 packed p width components lines = pad (code p width components lines)

@@ -46,6 +46,7 @@ pub record SamplePushed (p : CodingParameters) (cell : Cell) (near : Neighbours)
   pub step_is : SampleStepIs p cell near (told ++ taken) step
   pub all : HasTakenAll step unread
 
+-- the same of the sample that interrupts a run, after J bits of its count
 pub record InterruptionPushed (p : CodingParameters) (cell : RunCell) (near : Neighbours) (order : ℕ) (told chunk unread : List Bool)
     (step : SampleStep) : Type 0 where
   pub taken : List Bool

@@ -1,7 +1,7 @@
 -- Codes that are read step by step: at a state some events can come next, each with its bits, and each leads to a state.
 use Rattle.std.specs.Prelude.{◌≡◌, Bool, List, [], ◌∷◌, ◌++◌}
 
--- such a code
+-- a code that is read step by step: its states, the events that can come next in each, and their bits
 pub record StepwiseCode : Type 1 where
   pub State : Type 0
   pub Event : Type 0
@@ -17,7 +17,7 @@ abbrev pub Leads : (m : StepwiseCode) → m.State → List m.Event → m.State �
 Leads m s [] z = s ≡ z
 Leads m s (e ∷ es) z = m.Next s e × Leads m (m.after s e) es z
 
--- their bits
+-- the bits of events, one after another
 abbrev pub bits_of_steps : (m : StepwiseCode) → m.State → List m.Event → List Bool
 bits_of_steps m s [] = []
 bits_of_steps m s (e ∷ es) = m.step_bits s e ++ bits_of_steps m (m.after s e) es

@@ -113,9 +113,10 @@ fn push_bytes(
     Ok(whole)
 }
 
-/// Reads an interval whose bytes come a few at a time, and keeps none of them: only its lines so far. A
-/// contract sees the shape of the interval and the bytes so far. Once memory is refused, every call answers
-/// that, and no bytes are seen any more.
+/// Reads an interval whose bytes come a few at a time, and keeps none of them: only its lines so far. A contract sees the shape of the
+/// interval and the bytes so far. Once memory is refused, every call answers that, and no bytes are seen any more. Until then an
+/// invariant bounds what it keeps: one line in work, and at most eight finished lines for each byte pushed. It never has more lines than
+/// the interval, and each has exactly its width. Width times components times rows is at most 2^28. These are lengths, not capacities.
 #[derive(Drop)]
 pub struct IntervalDecoder {
     params: Params,

@@ -3,7 +3,7 @@ use Rattle.std.specs.Prelude.{ℕ, Bool, List, [], ◌∷◌, Result, Ok, Err, i
 use Rattle.jls_marker.specs.declared.fault.MarkerFault.{MarkerFault}
 use Rattle.jls_marker.specs.declared.fault.MarkerFault.TheVariants.{Length, BadShape, Sampling, NoFrame, SecondFrame, Lossy, Interleave, MappingTable, PointTransform, UnknownComponent, RepeatedComponent, BadParams, LseId, UnknownMarker, IntervalTooLarge, TooManyScans, NoMarker, NoSoi, Ended}
 
--- the number that reports print
+-- the number of a fault, 1 to 19, that reports print
 abbrev pub fault_number : MarkerFault → ℕ
 fault_number Length = 1
 fault_number BadShape = 2
@@ -25,7 +25,7 @@ fault_number NoMarker = 17
 fault_number NoSoi = 18
 fault_number Ended = 19
 
--- the value, or the fault of the first test that fails
+-- the value, or the fault of the first test of a list that fails
 abbrev pub first_failing : {A : Type 0} → List (Bool × MarkerFault) → A → Result A MarkerFault
 first_failing [] value = Ok value
 first_failing (test ∷ tests) value = if test.0 then first_failing tests value else Err test.1

@@ -3,18 +3,18 @@ use Rattle.std.specs.Prelude.{◌≡◌, ℕ, ◌≤◌, ◌<◌, ◌^◌, Optio
 use Rattle.jls_values.specs.Shape.{PictureShape, IsShape}
 use Rattle.jls_values.specs.PresetParameters.{PresetParameters, ArePresetParameters, no_presets}
 
--- the frame, the values of the last LSE of ID 1, those of the last DRI, and how many scans began
+-- the frame, the values of the last LSE of ID 1, those of the last DRI, and how many scans began (T.81 B.2)
 pub record HeaderState : Type 0 where
   pub frame : Option PictureShape
   pub preset : PresetParameters
   pub restart_interval : ℕ
   pub scans : ℕ
 
--- before the first segment
+-- before the first segment (T.81 B.2)
 abbrev pub no_headers : HeaderState
 no_headers = record { frame = None; preset = no_presets; restart_interval = 0; scans = 0 }
 
--- the ranges that headers keep
+-- the ranges that headers keep (T.81 B.2)
 pub record IsHeaderState (h : HeaderState) : Type 0 where
   pub frame : (f : PictureShape) → h.frame ≡ Some f → IsShape f
   pub preset : ArePresetParameters h.preset

@@ -15,11 +15,11 @@ use Rattle.jls_marker.specs.declared.fault.MarkerFault.TheVariants as fault
 use Rattle.jls_marker.specs.declared.segment.Segment.{Segment}
 use Rattle.jls_marker.specs.declared.segment.Segment.TheVariants as segment
 
--- the scan of these components of the frame, with the parameters in force at its precision
+-- the scan of these components of the frame, with the parameters in force at its precision (T.87 C.2.3)
 abbrev pub scan_in : PictureShape → PresetParameters → ℕ → ScanSelection → Scan
 scan_in f preset restart_interval s = scan_with f (map (index_of f.ids) s.ids) (in_force f.precision preset) restart_interval
 
--- what is asked of it where so many scans began before, in this order. No interval is longer than the first
+-- the tests of a scan that begins after so many others, in their order. No interval is longer than the first (T.87 C.2)
 abbrev pub begin_tests : PictureShape → PresetParameters → ℕ → ℕ → ScanSelection → List (Bool × MarkerFault)
 begin_tests f preset restart_interval scans s =
     (list_all (λ id. nat_lt (index_of f.ids id) (length f.ids)) s.ids, fault.UnknownComponent)
@@ -28,22 +28,22 @@ begin_tests f preset restart_interval scans s =
     ∷ (nat_lt scans 16, fault.TooManyScans)
     ∷ []
 
--- that scan, or the first of these that fails
+-- the scan of a selection under a frame and preset values, or its first fault
 abbrev pub scan_judged : PictureShape → PresetParameters → ℕ → ℕ → ScanSelection → Result Scan MarkerFault
 scan_judged f preset restart_interval scans s = first_failing (begin_tests f preset restart_interval scans s)
     (scan_in f preset restart_interval s)
 
--- the scan that an SOS begins after these headers, or its fault. There is none before a frame
+-- the scan of a selection under the headers so far, or its fault. Without a frame there is none
 abbrev pub scan_under : HeaderState → ScanSelection → Option PictureShape → Result Scan MarkerFault
 scan_under h s None = Err fault.NoFrame
 scan_under h s (Some f) = scan_judged f h.preset h.restart_interval h.scans s
 
--- a scan begins
+-- the headers when a scan begins, with that scan, or its fault
 abbrev pub begun : HeaderState → Result Scan MarkerFault → Result (HeaderState × Option Scan) MarkerFault
 begun h (Ok scan) = Ok (record h { scans = h.scans + 1 }, Some scan)
 begun h (Err e) = Err e
 
--- the headers after a segment, and the scan that it begins; or its fault
+-- the headers after a segment, and the scan that it begins; or its fault (T.87 C.2)
 abbrev pub accepted : HeaderState → Segment → Result (HeaderState × Option Scan) MarkerFault
 accepted h (segment.Frame f) = first_failing ((is_none h.frame, fault.SecondFrame) ∷ []) (record h { frame = Some f }, None)
 accepted h (segment.Scan s) = begun h (scan_under h s h.frame)
@@ -52,11 +52,11 @@ accepted h (segment.Preset maxval t1 t2 t3 reset) =
 accepted h (segment.Restart n) = Ok (record h { restart_interval = n }, None)
 accepted h (segment.Skipped code) = Ok (h, None)
 
--- the headers after a segment that was read, or the fault for which it was not
+-- what headers do with a segment, or with the fault of its bytes
 abbrev pub taking : HeaderState → Result Segment MarkerFault → Result (HeaderState × Option Scan) MarkerFault
 taking h (Ok s) = accepted h s
 taking h (Err e) = Err e
 
--- the same of a whole segment, by its code and its payload
+-- the same of a whole segment, by its code and its payload (T.87 C.2)
 unfoldable pub headers_after : HeaderState → ℕ → List ℕ → Result (HeaderState × Option Scan) MarkerFault
 headers_after h code payload = taking h (segment_of code payload)

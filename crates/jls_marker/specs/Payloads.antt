@@ -1,4 +1,5 @@
--- The payloads of a segment, as a relation: what stands in which field, and which fields are free.
+-- The payloads of a segment, as a relation (T.81 B.2; T.87 C.2): what stands in which field, and which fields are free. Which values are
+-- fixed is this profile's choice.
 use Rattle.std.specs.Prelude.{◌≡◌, ℕ, ◌%◌, true, List, ◌∷◌, map, ◌⊎◌, if◌then◌else◌}
 use Rattle.std.specs.List.{AllByRecursion}
 use Rattle.jls_values.specs.Shape.{PictureShape, IsShape}
@@ -8,7 +9,7 @@ use Rattle.jls_marker.specs.Layouts.{FrameHeader, HasFrameLayout, ScanHeader, Ha
 use Rattle.jls_marker.specs.declared.segment.Segment.{Segment}
 use Rattle.jls_marker.specs.declared.segment.Segment.TheVariants.{Frame, Scan, Preset, Restart, Skipped}
 
--- the frame header of a picture of this shape: each component has a sample for each of the picture. Tq is free
+-- the frame header of a picture of this shape: each component has a sample for each of the picture. Tq is free (T.81 B.2, T.87 C.2)
 pub record IsFrameHeaderOf (s : PictureShape) (h : FrameHeader) : Type 0 where
   pub precision : h.precision ≡ s.precision
   pub height : h.height ≡ s.height
@@ -17,7 +18,7 @@ pub record IsFrameHeaderOf (s : PictureShape) (h : FrameHeader) : Type 0 where
   pub sampling : AllByRecursion (λ c. c.sampling ≡ 0x11) h.components
   pub in_range : IsShape s
 
--- the scan header of these components: no mapping table, lossless, not shifted. Ah is free
+-- the scan header of these components: no mapping table, lossless, not shifted. Ah is free (T.81 B.2, T.87 C.2)
 pub record IsScanHeaderOf (s : ScanSelection) (h : ScanHeader) : Type 0 where
   pub ids : map (λ c. c.id) h.components ≡ s.ids
   pub tables : AllByRecursion (λ c. c.table ≡ 0) h.components
@@ -26,11 +27,11 @@ pub record IsScanHeaderOf (s : ScanSelection) (h : ScanHeader) : Type 0 where
   pub point_transform : h.approximation % 16 ≡ 0
   pub in_range : IsScanSelection s
 
--- the ID of an LSE segment
+-- the ID of an LSE segment (T.81 B.2, T.87 C.2)
 abbrev pub HasLseId : List ℕ → ℕ → Type 0
 HasLseId payload id = (values : List ℕ) × (payload ≡ id ∷ values)
 
--- these bytes are a payload of the segment
+-- these bytes are a payload of the segment: its layout, which fields have to have which values, and which are free (T.81 B.2, T.87 C.2)
 abbrev pub IsPayload : ℕ → List ℕ → Segment → Type 0
 IsPayload code payload (Frame s) = (code ≡ sof55) × ((h : FrameHeader) × HasFrameLayout payload h × IsFrameHeaderOf s h)
 IsPayload code payload (Scan s) = (code ≡ sos) × ((h : ScanHeader) × HasScanLayout payload h × IsScanHeaderOf s h)

@@ -7,12 +7,12 @@ use Rattle.jls_marker.specs.Faults.{first_failing}
 use Rattle.jls_marker.specs.declared.fault.MarkerFault.{MarkerFault}
 use Rattle.jls_marker.specs.declared.fault.MarkerFault.TheVariants as fault
 
--- identifiers, and whether ILV is 1
+-- the identifiers that a scan header lists, and whether it is interleaved by line (T.87 C.2.3)
 pub record ScanSelection : Type 0 where
   pub ids : List ℕ
   pub line : Bool
 
--- one to four identifiers, which are bytes and differ; several are interleaved by line
+-- one to four identifiers, which are bytes and differ. More than one are interleaved by line (T.87 C.2.3)
 pub record IsScanSelection (s : ScanSelection) : Type 0 where
   pub ids_at_least : 1 ≤ length s.ids
   pub ids_at_most : length s.ids ≤ 4
@@ -20,7 +20,7 @@ pub record IsScanSelection (s : ScanSelection) : Type 0 where
   pub ids_differ : has_repeat s.ids ≡ false
   pub interleaved : 1 < length s.ids → s.line ≡ true
 
--- the selection of these identifiers, or the first fault
+-- the selection of these identifiers, or the first fault (T.87 C.2.3)
 abbrev pub selection_of : List ℕ → Bool → Result ScanSelection MarkerFault
 selection_of ids line =
     first_failing

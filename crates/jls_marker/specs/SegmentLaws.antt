@@ -10,17 +10,18 @@ use Rattle.jls_marker.specs.Written.{payload_of, code_of, CanBeWritten, IsSegmen
 use Rattle.jls_marker.specs.declared.fault.MarkerFault.TheVariants.{UnknownMarker}
 use Rattle.jls_marker.specs.declared.segment.Segment.{Segment}
 
+-- a list of bytes
 abbrev pub AreBytes : List ℕ → Type 0
 AreBytes bytes = AllByRecursion (λ b. b < 256) bytes
 
--- a payload has one layout of its segment at most, and that is the one which is read; so none is read exactly where it has none
+-- a payload has at most one layout of its segment, and that is the one which is read. If it has none, none is read
 pub record LayoutsAreRead : Type 0 where
   pub frame : (payload : List ℕ) (h : FrameHeader) → AreBytes payload → (frame_header payload ≡ Some h) ↔ HasFrameLayout payload h
   pub scan : (payload : List ℕ) (h : ScanHeader) → AreBytes payload → (scan_header payload ≡ Some h) ↔ HasScanLayout payload h
   pub preset : (values : List ℕ) (p : PresetParameters) → AreBytes values → (preset_parameters values ≡ Some p) ↔ HasPresetLayout values p
   pub restart : (payload : List ℕ) (n : ℕ) → AreBytes payload → (restart_interval payload ≡ Some n) ↔ HasRestartLayout payload n
 
--- a payload is read as a segment exactly where it is a payload of this segment
+-- a payload is read as a segment if and only if it is a payload of this segment
 abbrev pub PayloadsAreRead : Type 0
 PayloadsAreRead = (code : ℕ) (payload : List ℕ) (s : Segment) → AreBytes payload
     → (segment_of code payload ≡ Ok s) ↔ IsPayload code payload s
@@ -29,6 +30,6 @@ PayloadsAreRead = (code : ℕ) (payload : List ℕ) (s : Segment) → AreBytes p
 abbrev pub WrittenReadsBack : Type 0
 WrittenReadsBack = (s : Segment) → IsSegment s → CanBeWritten s → segment_of (code_of s) (payload_of s) ≡ Ok s
 
--- a code is unknown exactly where it has no segment, whatever the payload
+-- a code is unknown if and only if it has no segment, whatever the payload
 abbrev pub UnknownCodes : Type 0
 UnknownCodes = (code : ℕ) (payload : List ℕ) → (segment_of code payload ≡ Err UnknownMarker) ↔ (has_segment code ≡ false)

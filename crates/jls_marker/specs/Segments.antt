@@ -13,35 +13,35 @@ use Rattle.jls_marker.specs.declared.fault.MarkerFault.TheVariants as fault
 use Rattle.jls_marker.specs.declared.segment.Segment.{Segment}
 use Rattle.jls_marker.specs.declared.segment.Segment.TheVariants as segment
 
--- SOF55: the identifiers in a frame header
+-- the identifiers in a frame header
 abbrev pub frame_ids : FrameHeader → List ℕ
 frame_ids h = map (λ c. c.id) h.components
 
--- the shape that it gives
+-- the shape that a frame header gives
 abbrev pub shape_in : FrameHeader → PictureShape
 shape_in h = record { precision = h.precision; width = h.width; height = h.height; ids = frame_ids h }
 
--- what is asked of it, in this order: the shape, then the sampling of each component. Tq is free
+-- the tests of a frame header, each with its fault, in order: the shape, then the sampling of each component. Tq is free
 abbrev pub frame_tests : FrameHeader → List (Bool × MarkerFault)
 frame_tests h =
     (is_ok (shape_of h.precision h.width h.height (frame_ids h)), fault.BadShape)
     ∷ (list_all (λ c. c.sampling == 0x11) h.components, fault.Sampling)
     ∷ []
 
--- the frame, or its first fault. A payload without the layout has none
+-- the frame segment of a frame header, or its first fault
 abbrev pub frame_of : Option FrameHeader → Result Segment MarkerFault
 frame_of None = Err fault.Length
 frame_of (Some h) = first_failing (frame_tests h) (segment.Frame (shape_in h))
 
--- SOS: the identifiers in a scan header
+-- the identifiers in a scan header
 abbrev pub scan_ids : ScanHeader → List ℕ
 scan_ids h = map (λ c. c.id) h.components
 
--- what it selects
+-- the selection that a scan header gives
 abbrev pub selection_in : ScanHeader → ScanSelection
 selection_in h = record { ids = scan_ids h; line = h.interleave == 1 }
 
--- what is asked of it: identifiers, mapping tables, NEAR, ILV and Al, in this order. Ah is free
+-- the tests of a scan header, each with its fault, in order: identifiers, mapping tables, NEAR, ILV and Al. Ah is free
 abbrev pub scan_tests : ScanHeader → List (Bool × MarkerFault)
 scan_tests h =
     (not (has_repeat (scan_ids h)), fault.RepeatedComponent)
@@ -51,24 +51,24 @@ scan_tests h =
     ∷ (h.approximation % 16 == 0, fault.PointTransform)
     ∷ []
 
--- the scan, or its first fault
+-- the scan segment of a scan header, or its first fault
 abbrev pub scan_of : Option ScanHeader → Result Segment MarkerFault
 scan_of None = Err fault.Length
 scan_of (Some h) = first_failing (scan_tests h) (segment.Scan (selection_in h))
 
--- LSE of ID 1: the five values, if the payload has their layout
+-- the segment of the five values of an LSE of ID 1, or its fault (T.87 C.2.4.1)
 abbrev pub preset_of : Option PresetParameters → Result Segment MarkerFault
 preset_of None = Err fault.Length
 preset_of (Some p) = Ok (segment.Preset p.maxval p.t1 p.t2 p.t3 p.reset)
 
--- LSE: that of ID 1. IDs 2 and 3, mapping tables, are skipped
+-- the segment of an LSE payload, or its first fault. IDs 2 and 3, mapping tables, are skipped (T.87 C.2.4.1)
 abbrev pub lse_of : List ℕ → Result Segment MarkerFault
 lse_of [] = Err fault.Length
 lse_of (id ∷ values) =
     if id == 1 then preset_of (preset_parameters values)
     else first_failing (((id == 2) || (id == 3), fault.LseId) ∷ []) (segment.Skipped lse)
 
--- DRI
+-- the segment of DRI, or its fault (T.81 B.2.4.4; T.87 C.2.5)
 abbrev pub restart_of : Option ℕ → Result Segment MarkerFault
 restart_of None = Err fault.Length
 restart_of (Some n) = Ok (segment.Restart n)

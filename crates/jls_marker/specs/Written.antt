@@ -1,4 +1,5 @@
--- What is written of a segment: the marker, the length, and one payload, with Tq and Ah 0 and Ri in the fewest bytes.
+-- What is written of a segment: the marker, the length, and one payload. That Tq and Ah are 0, and Ri has the fewest bytes, is this
+-- profile's choice.
 use Rattle.std.specs.Prelude.{ℕ, ◌+◌, ◌^◌, ◌<◌, nat_lt, List, [], ◌∷◌, ◌++◌, length, drop, if◌then◌else◌}
 use Rattle.std.specs.List.{flat_map}
 use Rattle.std.specs.Int.{w16, w32, to_be_bytes}
@@ -10,24 +11,24 @@ use Rattle.jls_marker.specs.Layouts.{preset_bytes}
 use Rattle.jls_marker.specs.declared.segment.Segment.{Segment}
 use Rattle.jls_marker.specs.declared.segment.Segment.TheVariants.{Frame, Scan, Preset, Restart, Skipped}
 
--- one by one sampling, and no quantization table
+-- the payload of a frame header that is written: sampling factors 1 by 1, and no quantization table (T.87 C.2.2)
 abbrev pub frame_payload : PictureShape → List ℕ
 frame_payload s =
     s.precision ∷ (to_be_bytes w16 s.height ++ (to_be_bytes w16 s.width ++ (length s.ids ∷ flat_map (λ id. id ∷ 0x11 ∷ 0 ∷ []) s.ids)))
 
--- no mapping table, NEAR 0, no point transform
+-- the payload of a scan header that is written: no mapping table, NEAR 0, no point transform (T.87 C.2.3)
 abbrev pub scan_payload : ScanSelection → List ℕ
 scan_payload s = length s.ids ∷ (flat_map (λ id. id ∷ 0 ∷ []) s.ids ++ (0 ∷ (if s.line then 1 else 0) ∷ 0 ∷ []))
 
--- how many of the four bytes of a number are not written: two, three or four are
+-- how many of the four bytes of a number are not written: two, one or none (T.87 C.2.5)
 abbrev pub unneeded_bytes : ℕ → ℕ
 unneeded_bytes n = if nat_lt n (2 ^ 16) then 2 else if nat_lt n (2 ^ 24) then 1 else 0
 
--- DRI: Ri in the bytes that are written
+-- the payload of DRI: Ri in two, three or four bytes, the fewest that hold it (T.87 C.2.5)
 abbrev pub restart_payload : ℕ → List ℕ
 restart_payload n = drop (unneeded_bytes n) (to_be_bytes w32 n)
 
--- the payload of a segment
+-- the payload that is written of a segment (T.81 B.1.1.4)
 abbrev pub payload_of : Segment → List ℕ
 payload_of (Frame s) = frame_payload s
 payload_of (Scan s) = scan_payload s
@@ -35,7 +36,7 @@ payload_of (Preset maxval t1 t2 t3 reset) = 1 ∷ preset_bytes (record { maxval 
 payload_of (Restart n) = restart_payload n
 payload_of (Skipped code) = []
 
--- the code of its marker
+-- the marker code of a segment (T.81 B.1.1.4)
 abbrev pub code_of : Segment → ℕ
 code_of (Frame s) = sof55
 code_of (Scan s) = sos
@@ -43,11 +44,11 @@ code_of (Preset maxval t1 t2 t3 reset) = lse
 code_of (Restart n) = dri
 code_of (Skipped code) = code
 
--- the marker, the length, which counts itself, and the payload
+-- the marker, the length, which counts itself, and the payload (T.81 B.1.1.4)
 abbrev pub segment_bytes : ℕ → List ℕ → List ℕ
 segment_bytes code payload = 0xFF ∷ code ∷ (to_be_bytes w16 (length payload + 2) ++ payload)
 
--- what a segment that was skipped had in it is not kept
+-- a segment that was not skipped: what stood in a skipped one is not kept
 abbrev pub CanBeWritten : Segment → Type 0
 CanBeWritten (Frame s) = Unit {0}
 CanBeWritten (Scan s) = Unit {0}

@@ -1,5 +1,20 @@
 //! Marker segments of JPEG-LS and the state of the headers. The crate says which segment a payload is, what each segment sets, and
 //! which scan an SOS begins (ITU-T T.87, annex C; ITU-T T.81, annex B).
+//!
+//! - `codes`, `fault`: the codes of markers, and the nineteen faults with their numbers
+//! - `segment`, `scan_head`: what a segment says, and what a scan header selects
+//! - `read`, `write`: from a payload to a segment, and back
+//! - `headers`: the state that segments set
+//! - `component_index`: finds the components of a scan in the frame
+//! - `scan_plan`: the scan that begins, with its restart intervals
+//! - `laws`: the laws of segments and of headers
+//!
+//! - A layout is defined in three ways. One is the fields of a header. One is the bytes that they are (`HasFrameLayout` and its like), to
+//!   be checked against T.81 and T.87. One is computed from bytes (`frame_header` and its like). A law says that the last two agree.
+//! - Which fault comes first is a list of tests with a fault each (`frame_tests`, `scan_tests`, `begin_tests`).
+//!
+//! Definitions: `MarkerCodes`, `Faults`, `ScanSelection`, `Layouts`, `Payloads`, `Segments`, `Written`, `HeaderState`, `Scan`,
+//! `ComponentIndex`, `Headers`, `SegmentLaws`, `HeaderLaws`. A reader of the public contracts needs all of them.
 #![tactic(auto)]
 
 pub mod codes;

@@ -15,6 +15,7 @@ Entry = LinePlace × List Kept
 abbrev pub BareEntry : Type 0
 BareEntry = LinePlace × List (List ℕ)
 
+-- an entry without the source numbers
 abbrev pub bare : Entry → BareEntry
 bare e = (e.0, map (λ k. k.0) e.1)
 
@@ -30,6 +31,7 @@ kept_at_place at k = (at_place at k.0, k.1)
 abbrev pub readings_of_entries : List BareEntry → List Reading
 readings_of_entries entries = flat_map (λ e. map (at_place e.0) e.1) entries
 
+-- the readings of entries, each with its source numbers
 abbrev pub kept_readings : List Entry → List (Reading × List ℕ)
 kept_readings entries = flat_map (λ e. map (kept_at_place e.0) e.1) entries
 

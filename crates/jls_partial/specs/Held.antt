@@ -29,6 +29,7 @@ pub record AreEntries (shape : PictureShape) (entries : List BareEntry) : Type 0
 abbrev pub kept_entry : LineEntry → Entry
 kept_entry e = (e.0, kept_lines e.1)
 
+-- what is kept of one line as an entry, without the sources
 abbrev pub bare_entry : LineEntry → BareEntry
 bare_entry e = (e.0, set.items e.1.lines)
 
@@ -40,6 +41,7 @@ pub record IsLineEntry (shape : PictureShape) (e : LineEntry) : Type 0 where
   pub marks_held : AreLineMarksHeld e.1
   pub small : (samples : List ℕ) (source : ℕ) → set.contains e.1.marks (samples, source) ≡ true → source < 2 ^ 32
 
+-- what a store keeps: entries in the order of their places, each fit for the shape
 pub record IsStore (shape : PictureShape) (entries : List LineEntry) : Type 0 where
   pub sorted : IsStrictlySortedBy place_cmp (map (λ e. e.0) entries)
   pub each : AllByRecursion (IsLineEntry shape) entries

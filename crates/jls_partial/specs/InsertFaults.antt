@@ -19,7 +19,7 @@ reading_fault shape component line samples =
     else if nat_le shape.height line then Some Line
     else samples_fault shape.precision shape.width samples
 
--- where there is a fault, the result is that one; where there is none, it is a value or want of memory
+-- if there is a fault, the result is that fault; if there is none, it is a value or "out of memory"
 abbrev pub Refuses : {X : Type 0} → Option InsertFault → Result X InsertFault → Type 0
 Refuses (Some fault) result = result ≡ Err fault
 Refuses None result = IfErr result (λ e. e ≡ OutOfMemory)

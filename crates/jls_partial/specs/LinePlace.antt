@@ -9,10 +9,10 @@ use Rattle.jls_partial.specs.Reading.{Reading}
 abbrev pub place : ℕ → ℕ → LinePlace
 place component line = record { component = component; line = line }
 
--- by component, then by line
+-- places, which are a component and a line, in order: by component, then line
 abbrev pub place_cmp : LinePlace → LinePlace → Ordering
 place_cmp a b = ordering_then (nat_cmp a.component b.component) (nat_cmp a.line b.line)
 
--- where a reading stands
+-- the component and line of a reading
 abbrev pub place_of : Reading → LinePlace
 place_of r = place r.component r.line

@@ -7,8 +7,8 @@ use Rattle.std.specs.Prelude.{◌≡◌, true}
 use Rattle.jls_values.specs.OrderedSet as set
 use Rattle.jls_partial.specs.Marks.{mark_cmp, marks_of, sources_of}
 
--- bits per sample, samples per line, the lines, each as the list of its samples, and the source numbers of these lines: a
--- mark is a line with one such number
+-- a precision and width, a set of lines, each as the list of its samples, and the source numbers of these lines. A mark is a line with one
+-- such number
 pub record PictureLines : Type 0 where
   pub precision : ℕ
   pub width : ℕ

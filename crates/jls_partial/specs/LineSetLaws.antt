@@ -26,6 +26,7 @@ lines_exact = exact_bytes
 pub line_marks_total : IsTotalOrder (mark_cmp (slice_cmp nat_cmp))
 line_marks_total = mark_total lines_total
 
+-- marks of lines that tie are one
 pub line_marks_exact : CmpEqualImpliesEq (mark_cmp (slice_cmp nat_cmp))
 line_marks_exact = mark_exact lines_exact
 

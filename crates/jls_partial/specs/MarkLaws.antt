@@ -48,6 +48,7 @@ any_of_item {K} R k s (m ∷ ms) =
           (sym (eq_mark R k m.0 s m.1 ∙ ap (λ b. b && eq_by_cmp nat_cmp s m.1) e))
     ] refl
 
+-- a number is among the sources of an item if and only if the item has that mark
 pub contains-sources_of : {K : Type 0} (R : K → K → Ordering) (marks : set.OrderedSet (mark_cmp R)) (k : K) (s : ℕ)
     → set.contains (set.from_list {R = nat_cmp} (map (λ m. m.1) (filter (λ m. eq_by_cmp R k m.0) (set.items marks)))) s
     ≡ set.contains marks (k, s)

@@ -19,7 +19,7 @@ abbrev pub readings_of_components : PartialPicture → ℕ → List Reading
 readings_of_components p zero = []
 readings_of_components p (suc n) = readings_of_components p n ++ readings_of_lines p n p.shape.height
 
--- some of the readings that are held have one source more, and nothing else has changed
+-- some readings have one source more, and nothing else has changed
 pub record MarksSome (old : PartialPicture) (source : ℕ) (new : PartialPicture) : Type 0 where
   pub marked : List Reading
   pub held : AllByRecursion (λ r. set.contains old.readings r ≡ true) marked

@@ -4,7 +4,7 @@ use Rattle.jls_partial.specs.LineSet.{PictureLines, with_lines}
 use Rattle.jls_partial.specs.Partial.{PartialPicture, with_all}
 use Rattle.jls_partial.specs.Reading.{Reading}
 
--- a part of these readings was taken whole, with all of their sources, and of the others nothing
+-- of some readings those of a prefix were taken, each with all of its sources
 pub record TakesFront (old new : PartialPicture) (ks : List (Reading × List ℕ)) : Type 0 where
   pub taken : List (Reading × List ℕ)
   pub left : List (Reading × List ℕ)

@@ -8,9 +8,9 @@ use Rattle.jls_partial.specs.InsertFaults.{reading_fault}
 use Rattle.jls_partial.specs.Marks.{mark_cmp, marks_of, sources_of}
 use Rattle.jls_partial.specs.Reading.{Reading, reading_of, reading_cmp, coded_reading}
 
--- A shape, readings of its lines, and the source numbers of these readings: a mark is a reading with one such number.
--- The record alone does not say that the readings fit the shape, nor that a line has few of them, nor that each mark is of a
--- reading that is held: IsFitting, IsCountable and AreMarksHeld do, and each value of the program's type meets them.
+-- A shape, readings of its lines, and the source numbers of these readings: a mark is a reading with one such number. The record alone does
+-- not say that the readings fit the shape, nor that a line has few of them, nor that each mark is of a reading that is held: IsFitting,
+-- IsCountable and AreMarksHeld do, and each value of the program's type meets them
 pub record PartialPicture : Type 0 where
   pub shape : PictureShape
   pub readings : set.OrderedSet reading_cmp
@@ -66,7 +66,7 @@ union p q = record { shape = p.shape; readings = set.union p.readings q.readings
 abbrev pub has_same_shape : PartialPicture → PartialPicture → Bool
 has_same_shape p q = same_shape p.shape q.shape
 
--- the sample lists that are held of a line, in ascending order
+-- the sample lists held of one line, in ascending order
 abbrev pub readings_at : PartialPicture → ℕ → ℕ → List (List ℕ)
 readings_at p component line = map (λ r. r.samples) (filter (λ r. r.component == component && r.line == line) (set.items p.readings))
 

@@ -8,7 +8,7 @@ use Rattle.jls_partial.specs.Marks.{mark_cmp}
 use Rattle.jls_partial.specs.Reading.{reading_cmp}
 use Rattle.jls_partial.specs.Status.{IsSettled}
 
--- it has the picture's shape, and each of its readings is one of the picture; the sources of the readings may be any
+-- a partial picture has the shape of another, and each of its readings is one of that one's. The sources of the readings may be any
 pub record IsPartOf (picture part : PartialPicture) : Type 0 where
   pub shape : part.shape ≡ picture.shape
   pub readings : (component line : ℕ) (samples : List ℕ)
@@ -18,7 +18,7 @@ pub record IsPartOf (picture part : PartialPicture) : Type 0 where
 abbrev pub IsHeld : List PartialPicture → ℕ → ℕ → Type 0
 IsHeld parts component line = (part : PartialPicture) × Contains parts part × (readings_at part component line ≡ [] → ⊥)
 
--- one of these has a reading of each line of a picture of this shape
+-- of each line of a shape one of these partial pictures has a reading
 abbrev pub EachLineIsHeld : PictureShape → List PartialPicture → Type 0
 EachLineIsHeld shape parts =
     (component : ℕ) → component < length shape.ids → (line : ℕ) → line < shape.height → IsHeld parts component line
@@ -44,8 +44,8 @@ JoinsHoldAllMarks = (first : PartialPicture) (others : List PartialPicture) → 
 abbrev pub sourced : List PartialPicture → PartialPicture → PartialPicture
 sourced parts picture = record { shape = picture.shape; readings = picture.readings; marks = all_marks parts }
 
--- where some part of a settled picture, whose readings fit it, holds each of its lines, the parts join to that picture, with the
--- sources of all parts
+-- if some part of a settled picture, whose readings fit it, holds each of its lines, the parts join to that picture, with the sources of
+-- all parts
 abbrev pub PartsGiveThePicture : Type 0
 PartsGiveThePicture =
     (picture : PartialPicture) → IsFitting picture → IsSettled picture

@@ -5,7 +5,7 @@ use Rattle.std.specs.declared.cmp.Ordering.{Ordering}
 use Rattle.std.specs.Ordering.{nat_cmp, ordering_then}
 use Rattle.std.specs.Cmp.Lexicographic.{slice_cmp}
 
--- the index of the component in the frame, the line in it, and the samples from left to right
+-- what a copy says of one line of a picture: the index of the component in the frame, the line in it, and the samples from left to right
 pub record Reading : Type 0 where
   pub component : ℕ
   pub line : ℕ
@@ -15,7 +15,7 @@ pub record Reading : Type 0 where
 abbrev pub reading_of : ℕ → ℕ → List ℕ → Reading
 reading_of component line samples = record { component = component; line = line; samples = samples }
 
--- by component, then by line, then by the samples from the first one on
+-- readings in order: by component, line, then the samples from the first on
 abbrev pub reading_cmp : Reading → Reading → Ordering
 reading_cmp a b = ordering_then (nat_cmp a.component b.component)
     (ordering_then (nat_cmp a.line b.line) (slice_cmp nat_cmp a.samples b.samples))

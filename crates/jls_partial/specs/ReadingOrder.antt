@@ -64,9 +64,11 @@ is_equal Greater e = absurd cc
 pub same_place : (p q : LinePlace) → eq_by_cmp place_cmp p q ≡ true → p ≡ q
 same_place p q e = place_exact p q (is_equal (place_cmp p q) e)
 
+-- sample lists that the test finds tied are one
 pub same_samples : (x y : List ℕ) → eq_by_cmp (slice_cmp nat_cmp) x y ≡ true → x ≡ y
 same_samples x y e = exact_bytes x y (is_equal (slice_cmp nat_cmp x y) e)
 
+-- readings that the test finds tied are one
 pub same_reading : (x y : Reading) → eq_by_cmp reading_cmp x y ≡ true → x ≡ y
 same_reading x y e = reading_exact x y (is_equal (reading_cmp x y) e)
 
@@ -74,5 +76,6 @@ same_reading x y e = reading_exact x y (is_equal (reading_cmp x y) e)
 pub marks_total : IsTotalOrder (mark_cmp reading_cmp)
 marks_total = mark_total reading_total
 
+-- marks of readings that tie are one
 pub marks_exact : CmpEqualImpliesEq (mark_cmp reading_cmp)
 marks_exact = mark_exact reading_exact

@@ -11,6 +11,7 @@ abbrev pub own_sources : Option (Box (set.OrderedSet nat_cmp) Global) → set.Or
 own_sources None = set.empty
 own_sources (Some own) = own.value
 
+-- how the checker's logic stores a slot
 abbrev pub coded_slot : Coded Slot
 coded_slot = code_by (ℕ × set.OrderedSet nat_cmp)
     (coded× coded_ℕ (set.code coded_ℕ))

@@ -39,6 +39,7 @@ coded_line_entry =
     coded× (code_by (ℕ × ℕ) (coded× coded_ℕ coded_ℕ) (λ at. (at.component, at.line)) (λ p. record { component = p.0; line = p.1 })
     (λ _. refl)) coded_lines
 
+-- how the checker's logic stores a store
 abbrev pub coded_stored : Coded StoredLines
 coded_stored = code_by (ℕ × (ℕ × List LineEntry)) (coded× coded_ℕ (coded× coded_ℕ (coded_list coded_line_entry)))
     (λ s. (s.precision, (s.width, s.entries))) (λ p. record { precision = p.0; width = p.1.0; entries = p.1.1 }) (λ _. refl)
@@ -47,6 +48,7 @@ coded_stored = code_by (ℕ × (ℕ × List LineEntry)) (coded× coded_ℕ (code
 abbrev pub LineSlots : Type 0
 LineSlots = LinePlace × List Slot
 
+-- the slots of each line, as lists
 abbrev pub slots_of_entries : List (LinePlace × Slots) → List LineSlots
 slots_of_entries es = map (λ e. (e.0, slots_of e.1)) es
 
@@ -54,6 +56,7 @@ slots_of_entries es = map (λ e. (e.0, slots_of e.1)) es
 abbrev pub seen_entries : ℕ → ℕ → List ℕ → List LineSlots → List LineEntry
 seen_entries precision width packed es = map (λ e. (e.0, seen_lines precision width packed e.1)) es
 
+-- what is kept of each line, from the packed samples
 abbrev pub entries_in : PackedLines → List (LinePlace × Slots) → List LineEntry
 entries_in packed es = seen_entries packed.precision packed.width packed.samples.items (slots_of_entries es)
 
@@ -63,6 +66,7 @@ pub record AreSlotsPacked (precision width : ℕ) (packed : List ℕ) (es : List
   pub width_at_least : 1 ≤ width
   pub each : AllByRecursion (λ e. IsLineSet precision width packed e.1) es
 
+-- each line's slots are of what is packed, with its precision and width
 abbrev pub AreRowsOf : PackedLines → List (LinePlace × Slots) → Type 0
 AreRowsOf packed es = AreSlotsPacked packed.precision packed.width packed.samples.items (slots_of_entries es)
 
@@ -78,6 +82,7 @@ rows_seen packed rows = stored packed (entries_in packed rows)
 abbrev pub stored_at : StoredLines → LinePlace → PictureLines
 stored_at store at = lines_or (no_lines store.precision store.width) store.entries at
 
+-- whether a store has these samples at a place
 abbrev pub holds_line : StoredLines → LinePlace → List ℕ → Bool
 holds_line store at samples = set.contains (stored_at store at).lines samples
 

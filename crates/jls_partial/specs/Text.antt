@@ -20,19 +20,19 @@ places_held p = set.items (set.from_list {R = place_cmp} (map place_of (set.item
 abbrev pub bare_entries : PartialPicture → List BareEntry
 bare_entries p = map (λ at. (at, readings_at p at.component at.line)) (places_held p)
 
--- the same with the source numbers of each reading
+-- the entries, with the source numbers of each reading
 abbrev pub with_own_sources : PartialPicture → BareEntry → Entry
 with_own_sources p e = (e.0, map (λ samples. (samples, sources_at p e.0.component e.0.line samples)) e.1)
 
--- all entries of the text, in ascending order of their places
+-- the lines that have a reading, in order, each with its readings and their sources
 abbrev pub entries : PartialPicture → List Entry
 entries p = map (with_own_sources p) (bare_entries p)
 
--- `JLSP`
+-- the bytes of `JLSP`
 abbrev pub magic : List ℕ
 magic = 0x4A ∷ 0x4C ∷ 0x53 ∷ 0x50 ∷ []
 
--- the byte that a version has in the text
+-- the byte of a version in a text
 abbrev pub version_byte : Version → ℕ
 version_byte One = 1
 version_byte Two = 2
@@ -58,7 +58,7 @@ reading_text version k = samples_text k.0 ++ sources_text version k.1
 abbrev pub entry_text : Version → Entry → List ℕ
 entry_text version e = e.0.component ∷ to_be_bytes w16 e.0.line ++ to_be_bytes w64 (length e.1) ++ flat_map (reading_text version) e.1
 
--- all that stands before the number of entries
+-- the bytes before the number of entries
 abbrev pub head_text : Version → PictureShape → List ℕ
 head_text version shape = magic ++ version_byte version ∷ shape_text shape
 
@@ -66,12 +66,12 @@ head_text version shape = magic ++ version_byte version ∷ shape_text shape
 abbrev pub text_of : Version → PictureShape → List Entry → List ℕ
 text_of version shape es = head_text version shape ++ to_be_bytes w32 (length es) ++ flat_map (entry_text version) es
 
--- the text that is written
+-- the text that is written, in version 2
 abbrev pub text : PartialPicture → List ℕ
 text p = text_of Two p.shape (entries p)
 
--- A partial picture that has a text. It needs IsCountable: a set may hold any number of readings of a line, but the
--- text has eight bytes for that number.
+-- A partial picture that has a text. It needs IsCountable: a set may hold any number of readings of a line, but the text has eight bytes
+-- for that number
 pub record IsPartial (p : PartialPicture) : Type 0 where
   pub shape : IsShape p.shape
   pub fitting : IsFitting p
@@ -84,7 +84,7 @@ abbrev pub SaysAll : Version → PartialPicture → Type 0
 SaysAll One p = p.marks ≡ set.empty
 SaysAll Two p = Unit {0}
 
--- these bytes are a text of this partial picture: that of version 2, or where no reading has a source that of version 1
+-- these bytes are a text of this partial picture: that of version 2, or if no reading has a source that of version 1
 pub record IsTextOf (bytes : List ℕ) (p : PartialPicture) : Type 0 where
   pub partial : IsPartial p
   pub version : Version

@@ -10,7 +10,7 @@ use Rattle.jls_partial.specs.Reading.{Reading}
 use Rattle.jls_partial.specs.TextInto.{head_fields}
 use Rattle.jls_partial.specs.TextReading.{kept_fields, place_fields, count_field, entry_fields}
 
--- what follows from what is read, or where there is a fault nothing
+-- what follows from what is read, or nothing if there is a fault
 abbrev pub unless_fault : {A B : Type 0} → Result A TextFault → (A → List B) → List B
 unless_fault (Ok x) f = f x
 unless_fault (Err e) f = []

@@ -28,7 +28,7 @@ with_entries p read = read >>= λ x. Ok (with_all p (kept_readings x.0), x.1)
 abbrev pub with_rest : ℕ → PartialPicture → Result (List Entry × List ℕ) TextFault → Result PartialPicture TextFault
 with_rest size p read = with_entries p read >>= λ x. if length x.1 == 0 then Ok x.0 else Err (fault.Trailing (offset size x.1))
 
--- what stands before the entries: the length of the text, its version, the shape, the number of entries, and the bytes after it
+-- what is read before the entries: the length of the text, its version, the shape, the number of entries, and the bytes after it
 unfoldable pub head_fields : List ℕ → Result (ℕ × Version × PictureShape × ℕ × List ℕ) TextFault
 head_fields bytes = do
   version_bytes ← magic_field (length bytes) magic bytes

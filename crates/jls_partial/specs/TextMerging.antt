@@ -22,7 +22,7 @@ pub record HasOtherShape (old : PartialPicture) (bytes : List ℕ) : Type 0 wher
   pub is_text : IsTextOf bytes said
   pub other_shape : has_same_shape old said ≡ false
 
--- the bytes begin as the texts of pictures of another shape do, whatever stands behind that
+-- the bytes begin like the text of a picture of another shape, whatever follows
 pub record HasOtherHead (old : PartialPicture) (bytes : List ℕ) : Type 0 where
   pub version : Version
   pub shape : PictureShape
@@ -31,7 +31,7 @@ pub record HasOtherHead (old : PartialPicture) (bytes : List ℕ) : Type 0 where
   pub bytes_are : bytes ≡ head_text version shape ++ rest
   pub other_shape : same_shape old.shape shape ≡ false
 
--- why the bytes were not merged: this is the first fault of theirs, unless memory ran out; or they are of another shape
+-- why the bytes were not merged: this is their first fault, unless memory ran out; or they are the text of another shape
 abbrev pub RefusesText : PartialPicture → List ℕ → MergeTextFault → Type 0
 RefusesText old bytes (Text f) = Fails f (read_text bytes)
 RefusesText old bytes ShapeDiffers = HasOtherShape old bytes

@@ -20,16 +20,17 @@ use Rattle.jls_partial.specs.declared.version.Version.TheVariants.{One, Two}
 use Rattle.jls_partial.specs.Text.{magic}
 
 infixl 10 ◌>>=◌
+-- what follows from what was read, or the fault of reading
 abbrev pub ◌>>=◌ : {A B : Type 0} → Result A TextFault → (A → Result B TextFault) → Result B TextFault
 (Ok x) >>= f = f x
 (Err e) >>= f = Err e
 
--- Reading gives this fault. Want of memory says nothing of what reading gives.
+-- reading gives this fault. "Out of memory" says nothing of what reading gives
 abbrev pub Fails : {Y : Type 0} → TextFault → Result Y TextFault → Type 0
 Fails fault.OutOfMemory read = Unit {0}
 Fails f read = read ≡ Err f
 
--- What a function returned, seen by view, is what reading gives, unless memory ran out.
+-- a result is what reading a text gives, value or fault, unless it is out of memory
 abbrev pub GivesText : {X Y : Type 0} → (X → Y) → Result X TextFault → Result Y TextFault → Type 0
 GivesText view (Ok x) read = read ≡ Ok (view x)
 GivesText view (Err e) read = Fails e read
@@ -74,12 +75,12 @@ version_field size bytes = do
 abbrev pub shape_offset : ℕ
 shape_offset = 5
 
--- the value, or where there is a fault BadShape at the first field of the shape
+-- the value, or if there is a fault BadShape at the first field of the shape
 abbrev pub unless_bad_shape : {A E : Type 0} → Option E → A → Result A TextFault
 unless_bad_shape None x = Ok x
 unless_bad_shape (Some e) x = Err (fault.BadShape shape_offset)
 
--- the shape that the fields make, or where they make none BadShape at the first of them
+-- the shape that the fields make, or if they make none BadShape at the first of them
 abbrev pub shape_or_fault : {E : Type 0} → Result PictureShape E → Result PictureShape TextFault
 shape_or_fault (Ok shape) = Ok shape
 shape_or_fault (Err e) = Err (fault.BadShape shape_offset)
@@ -215,7 +216,7 @@ text_fields size bytes = do
   entries ← entries_fields size version.0 shape.0 None count.0 count.1
   Ok (shape.0, entries.0, entries.1)
 
--- the partial picture whose text the bytes are, or the first fault; after the last entry nothing may stand
+-- the partial picture whose text the bytes are, or the first fault with its offset. Nothing may follow the last entry
 unfoldable pub read_text : List ℕ → Result PartialPicture TextFault
 read_text bytes = do
   fields ← text_fields (length bytes) bytes

@@ -9,10 +9,11 @@ use Rattle.jls_parts.specs.declared.part.Part.TheVariants.{Same, Differ}
 abbrev pub bytes_of : List (Bor (List ℕ)) → List (List ℕ)
 bytes_of slices = map (λ slice. slice.now) slices
 
--- a part whose slices are the bytes that they show
+-- a part of the code, as the bytes that its slices show
 abbrev pub part_of : Part → spec.Part
 part_of (Same bytes) = spec.Same bytes.now
 part_of (Differ ways) = spec.Differ (bytes_of ways.items)
 
+-- several parts, as bytes
 abbrev pub parts_of : List Part → List spec.Part
 parts_of parts = map part_of parts

@@ -9,13 +9,13 @@ CopiesAreSplices =
     (copies : List (List ℕ)) (parts : List Part) → AreParts copies parts → (j : ℕ) → j < length copies
     → IsSplice (length copies) parts (get_or copies j [])
 
--- what is at each part as some copy has it is listed, and nothing else is
+-- of one copy or more, bytes are a splice if and only if they are listed
 abbrev pub SplicesAreListed : Type 0
 SplicesAreListed =
     (copies : List (List ℕ)) (parts : List Part) → AreParts copies parts → 0 < length copies → (bytes : List ℕ)
     → IsSplice (length copies) parts bytes ↔ Contains (splices parts) bytes
 
--- the splice of any choices is one, and each is that of some choices, one for each part
+-- choices make a splice, and each splice is that of some choices, one for each part
 abbrev pub ChoicesMakeSplices : Type 0
 ChoicesMakeSplices =
     (count : ℕ) (parts : List Part) → 0 < count

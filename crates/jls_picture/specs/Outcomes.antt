@@ -6,12 +6,12 @@ use Rattle.jls_device.specs.Writing.{Wrote, WroteFront}
 use Rattle.jls_picture.specs.declared.output.OutputFault.{OutputFault}
 use Rattle.jls_picture.specs.declared.output.OutputFault.TheVariants.{Write, OutOfMemory}
 
--- all of the bytes went out, by writes and nothing else, and what the sink holds grew by them where that is known
+-- all of the bytes went out, by writes and nothing else, and what the sink holds grew by them if that is known
 pub record HandedOut (old new : History) (held holds : Option (List ℕ)) (bytes : List ℕ) : Type 0 where
   pub wrote : GrewBy (Wrote bytes) old new
   pub holds_them : Appends held holds bytes
 
--- so many of the bytes went out, from the front on and not all; then a write failed, and nothing else was done
+-- so many of the bytes went out, from the first on and not all; then a write failed, and nothing else was done
 pub record HandedFront (old new : History) (held holds : Option (List ℕ)) (bytes : List ℕ) (count : ℕ) : Type 0 where
   pub wrote : GrewBy (WroteFront bytes count) old new
   pub holds_them : Appends held holds (take count bytes)

@@ -5,7 +5,7 @@ use Rattle.std.specs.List.{range_with_len}
 use Rattle.jls_values.specs.Shape.{PictureShape}
 use Rattle.jls_partial.specs.Partial.{PartialPicture, readings_at}
 
--- the shape, and the samples by component, line and column
+-- a picture: its shape, and its samples by component, line and column
 pub record WholePicture : Type 0 where
   pub shape : PictureShape
   pub lines : List (List (List ℕ))

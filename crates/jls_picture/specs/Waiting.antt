@@ -5,7 +5,7 @@ use Rattle.jls_device.specs.Event.{History}
 use Rattle.jls_picture.specs.Outcomes.{HandedOut}
 use Rattle.jls_picture.specs.Pnm.{sample_bytes}
 
--- Bytes were put behind those that waited, with so many gone out before; the front of all of them went out, and the rest waits.
+-- Bytes were put after those that waited, with so many gone out before; the front of all of them went out, and the rest waits
 pub record PutBehind (old new : History) (held holds : Option (List ℕ)) (waited : List ℕ) (before : ℕ) (waits : List ℕ) (gone : ℕ)
     (bytes : List ℕ) : Type 0 where
   pub out : List ℕ

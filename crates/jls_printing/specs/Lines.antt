@@ -4,6 +4,7 @@ use Rattle.jls_printing.specs.Names.{shown_name}
 use Rattle.jls_printing.specs.declared.line.LinePart.{LinePart}
 use Rattle.jls_printing.specs.declared.line.LinePart.TheVariants.{Text, Name, Number}
 
+-- the bytes of a part: a text as it is, a name as it is shown, a number in decimal
 abbrev pub part_bytes : LinePart → List ℕ
 part_bytes (Text text) = text.now
 part_bytes (Name name) = shown_name name.now

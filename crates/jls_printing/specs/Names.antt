@@ -5,6 +5,7 @@ use Rattle.std.specs.Char.{encode_utf8}
 use Rattle.std.specs.Char.Escape.{escape_unicode}
 use Rattle.std.specs.Str.{chars}
 
+-- whether a code is in a range
 abbrev pub is_from_to : ℕ → ℕ → ℕ → Bool
 is_from_to first last c = nat_le first c && nat_le c last
 
@@ -18,7 +19,7 @@ is_control c =
 abbrev pub shown : ℕ → List ℕ
 shown c = if is_control c then escape_unicode c else if c == 0x5C then 0x5C ∷ 0x5C ∷ [] else c ∷ []
 
--- they in UTF-8
+-- the shown characters in UTF-8
 abbrev pub shown_bytes : ℕ → List ℕ
 shown_bytes c = flat_map encode_utf8 (shown c)
 

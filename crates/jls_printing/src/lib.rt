@@ -1,5 +1,12 @@
 //! Lines on a fault output. A line of at most 4,096 bytes is one write, and no line needs memory. No name in a line can steer a
 //! terminal or forge a line.
+//!
+//! - `line`: a line by its parts, and the public calls `print_line` and `print_text`
+//! - `names`: shows a name: each control character by its code, each backslash twice
+//! - `pending`: the bytes that wait for one write, in a buffer of 4,096 bytes
+//! - `fault`: the fault lines that both programs have, each with the name of its program
+//!
+//! Definitions: `Lines`, `Names`, `FaultLines`. Inside the crate: `Handing`.
 #![tactic(auto)]
 
 mod fault;

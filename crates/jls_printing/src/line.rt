@@ -10,7 +10,7 @@ use crate::pending::{Pending, flush, put};
 use itoa::Buffer;
 use jls_device::Sink;
 
-/// A part of a line.
+/// A part of a line: a text, the name of an input or output, or a number.
 #[derive(Clone, Copy)]
 pub enum LinePart<'a> {
     /// A text, as it is.

@@ -16,15 +16,15 @@ lines shape = range_with_len 0 shape.height
 abbrev pub reading_count : PartialPicture → ℕ → ℕ → ℕ
 reading_count p component line = length (readings_at p component line)
 
--- the line has no reading
+-- whether a line has no reading
 abbrev pub is_missing : PartialPicture → ℕ → ℕ → Bool
 is_missing p component line = reading_count p component line == 0
 
--- it has one
+-- whether a line has one reading
 abbrev pub is_settled_line : PartialPicture → ℕ → ℕ → Bool
 is_settled_line p component line = reading_count p component line == 1
 
--- it has several
+-- whether a line has several readings
 abbrev pub is_disputed : PartialPicture → ℕ → ℕ → Bool
 is_disputed p component line = nat_lt 1 (reading_count p component line)
 

@@ -8,8 +8,7 @@ use Rattle.jls_report.specs.declared.entry.ReportEntry.TheVariants.{Missing, Dis
 use Rattle.jls_report.specs.Lines.{line_count, reading_count, is_missing, is_settled_line, is_disputed}
 use Rattle.jls_report.specs.Report.{report_entries, report_of}
 
--- a longest range of missing lines: its lines are all missing, and the line above it and the line below it, where there are
--- such, are not
+-- a longest range of missing lines. Its lines are all missing, and the line above it and the line below it, if there are such, are not
 pub record IsLongestRange (p : PartialPicture) (component first last : ℕ) : Type 0 where
   pub component_in : component < length p.shape.ids
   pub rising : first ≤ last
@@ -51,15 +50,16 @@ CountsAreAllLines = (p : PartialPicture) →
     line_count p.shape (is_settled_line p) + line_count p.shape (is_missing p) + line_count p.shape (is_disputed p)
     ≡ length p.shape.ids * p.shape.height
 
--- all lines are counted as settled exactly where each line of the picture is settled
+-- all lines are counted as settled if and only if each line of the picture is settled
 abbrev pub FullCountIsSettled : Type 0
 FullCountIsSettled = (p : PartialPicture) → (line_count p.shape (is_settled_line p) ≡ length p.shape.ids * p.shape.height) ↔ IsSettled p
 
--- how many lines an entry says to be missing, and how many to be disputed
+-- how many missing lines an entry names
 abbrev pub missing_of : ReportEntry → ℕ
 missing_of (Missing component first last) = last + 1 - first
 missing_of (Disputed component line readings) = 0
 
+-- how many disputed lines an entry names: one or none
 abbrev pub disputed_of : ReportEntry → ℕ
 disputed_of (Missing component first last) = 0
 disputed_of (Disputed component line readings) = 1

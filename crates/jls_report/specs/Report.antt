@@ -23,22 +23,22 @@ begins_range p component line = is_missing p component line && (line == 0 || not
 abbrev pub missing_from : PartialPicture → ℕ → ℕ → ℕ
 missing_from p component line = prefix_len (is_missing p component) (range_with_len line (p.shape.height - line))
 
--- the entry that begins with a line, where one does
+-- the entry that begins with a line, if one does
 abbrev pub entries_at : PartialPicture → ℕ → ℕ → List ReportEntry
 entries_at p component line =
     if begins_range p component line then Missing component line (line + missing_from p component line - 1) ∷ []
     else if is_disputed p component line then Disputed component line (reading_count p component line) ∷ []
     else []
 
--- the entries of one component, from its first line to its last
+-- the entries of a component, by line
 abbrev pub component_entries : PartialPicture → ℕ → List ReportEntry
 component_entries p component = flat_map (entries_at p component) (lines p.shape)
 
--- the entries of all components, in their order in the frame
+-- an entry for each longest range of missing lines and for each disputed line, by component and line
 abbrev pub report_entries : PartialPicture → List ReportEntry
 report_entries p = flat_map (component_entries p) (components p.shape)
 
--- the report on a partial picture
+-- the report of a partial picture
 abbrev pub report_of : PartialPicture → PictureReport
 report_of p = record {
   shape = p.shape;

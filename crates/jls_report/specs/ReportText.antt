@@ -7,19 +7,19 @@ use Rattle.jls_report.specs.declared.entry.ReportEntry.{ReportEntry}
 use Rattle.jls_report.specs.declared.entry.ReportEntry.TheVariants.{Missing, Disputed}
 use Rattle.jls_report.specs.Report.{PictureReport}
 
--- the identifier of a component, of which there are these
+-- the identifier of a component in decimal
 abbrev pub id_text : List ℕ → ℕ → List ℕ
 id_text ids component = decimal (get_or ids component 0)
 
--- the width and the height, after the word picture
+-- the width and the height in decimal, after the word picture
 abbrev pub size_text : PictureShape → List ℕ
 size_text shape = codes "picture " ++ decimal shape.width ++ codes "x" ++ decimal shape.height
 
--- the precision in bits
+-- the text of the precision
 abbrev pub precision_text : PictureShape → List ℕ
 precision_text shape = codes ", " ++ decimal shape.precision ++ codes " bits, components "
 
--- the first line: size, precision, and the identifiers of the components
+-- the first line of a report: size, precision, and the identifiers of the components
 abbrev pub shape_line : PictureShape → List ℕ
 shape_line shape =
     size_text shape ++ precision_text shape ++ join_by decimal (codes ",") shape.ids ++ codes "\n"
@@ -37,6 +37,6 @@ entry_line ids (Missing component first last) =
 entry_line ids (Disputed component line readings) =
     codes "disputed " ++ id_text ids component ++ codes " " ++ decimal line ++ codes " " ++ decimal readings ++ codes "\n"
 
--- the text: the two lines, and a line for each entry
+-- the lines that are printed of a report: the two lines, and a line for each entry
 abbrev pub report_text : PictureReport → List ℕ
 report_text r = shape_line r.shape ++ counts_line r ++ flat_map (entry_line r.shape.ids) r.entries

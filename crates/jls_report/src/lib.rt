@@ -1,5 +1,13 @@
 //! The report of a partial picture: how many of its lines are settled, missing and disputed, and which are missing or
 //! disputed. It is a value, and has one text.
+//!
+//! - `report`: the value
+//! - `ranges`, `counting`: find its entries, and count lines by their status
+//! - `text`: the lines that are printed
+//! - `laws`: tie the entries to the lines
+//!
+//! An entry begins with each missing line whose line above is not missing, and with each disputed line. So entries are defined line by
+//! line, and the laws say what that means for ranges. Definitions: `Lines`, `Report`, `Ranges`, `ReportText`.
 #![tactic(auto)]
 
 mod counting;

@@ -1,5 +1,8 @@
 //! Tests as in `jls_growth_tests`, of the searches over splices and of whole runs of the programs: what each does where one growth of
 //! memory is refused.
+//!
+//! - `files`, `pairs`: files in memory, and damaged copies
+//! - `searching`, `running`, `splicing`: the tests: of the searches, and of both programs
 #![tactic(auto)]
 
 #[cfg(test)]

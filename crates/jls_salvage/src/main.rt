@@ -1,4 +1,7 @@
 //! Salvages JPEG-LS pictures: the program `jls-salvage`.
+//!
+//! `main` hands `run` the words, a desk over `HostFiles`, standard output as the report output, and standard error as the fault output. It
+//! ends OUT after the run. It answers 4 if OUT could not be kept, else the status of the run. It has no contract, so read it.
 #![tactic(auto)]
 
 use jls_device::{Counted, Sink};

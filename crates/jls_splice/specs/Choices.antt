@@ -2,7 +2,7 @@
 use Rattle.std.specs.Prelude.{◌≡◌, ℕ, ◌<◌, List, [], ◌∷◌, ◌++◌, length, get_or, ◌⊎◌}
 use Rattle.jls_parts.specs.Parts.{Part, Same, Differ, way}
 
--- the bytes that these choices make of the first parts, as many as there are choices
+-- the bytes that choices make of the first parts
 abbrev pub front_of : List Part → List ℕ → List ℕ
 front_of parts [] = []
 front_of [] (choice ∷ choices) = []
@@ -12,31 +12,31 @@ front_of (part ∷ parts) (choice ∷ choices) = way choice part ++ front_of par
 abbrev pub IsNew : List (List ℕ) → ℕ → Type 0
 IsNew ways choice = (other : ℕ) → other < choice → get_or ways other [] ≡ get_or ways choice [] → ⊥
 
--- the choice is a way of the part, and the first with its bytes
+-- a choice is a way of a part, and the first with its bytes
 abbrev pub IsFirstWay : Part → ℕ → Type 0
 IsFirstWay (Same bytes) choice = choice ≡ 0
 IsFirstWay (Differ ways) choice = (choice < length ways) × IsNew ways choice
 
--- such a choice for each of the first parts
+-- there is such a choice for each of the first parts
 abbrev pub IsPath : List Part → List ℕ → Type 0
 IsPath parts [] = Unit {0}
 IsPath [] (choice ∷ choices) = ⊥
 IsPath (part ∷ parts) (choice ∷ choices) = IsFirstWay part choice × IsPath parts choices
 
--- and for each part
+-- there is such a choice for each part
 abbrev pub IsWhole : List Part → List ℕ → Type 0
 IsWhole parts choices = IsPath parts choices × (length choices ≡ length parts)
 
--- the copies differ there
+-- copies differ in a part
 abbrev pub IsDiffer : Part → Type 0
 IsDiffer (Same bytes) = ⊥
 IsDiffer (Differ ways) = Unit {0}
 
--- the path ends before a part in which the copies differ, or has a choice for each part
+-- choices go up to the next part in which copies differ, or to the end of the file
 abbrev pub IsFront : List Part → List ℕ → Type 0
 IsFront parts path = IsDiffer (get_or parts (length path) (Same [])) ⊎ (length path ≡ length parts)
 
--- some copy has something there, were it nothing
+-- a part that differs has a way
 abbrev pub HasSomeWay : Part → Type 0
 HasSomeWay (Same bytes) = Unit {0}
 HasSomeWay (Differ ways) = 0 < length ways

@@ -16,13 +16,13 @@ use Rattle.jls_copy.specs.declared.end.End.TheVariants.{Eoi, Input, Header}
 abbrev pub HasLines : FoundPiece → Type 0
 HasLines p = (lines : List (List ℕ)) × IsOutcome p (Lines lines)
 
--- no fault of the headers ended the file
+-- no fault of the headers ended a file
 abbrev pub EndsWell : End → Type 0
 EndsWell (Eoi offset) = Unit {0}
 EndsWell (Input offset) = Unit {0}
 EndsWell (Header f offset) = ⊥
 
--- a piece of the course reads as lines that have the reading, or the head of the piece that the input's end cuts off has it
+-- a piece of a course decodes to lines, one of which is the reading, or the piece that the input's end cuts off has it in its head
 abbrev pub Gives : Course → Reading → Type 0
 Gives c r =
     ((p : FoundPiece) × Contains (pieces c) p × (lines : List (List ℕ)) × IsOutcome p (Lines lines)
@@ -30,12 +30,12 @@ Gives c r =
     ⊎ ((p : FoundPiece) × Contains (cut_pieces c) p × (head : List (List ℕ)) × IsHeadAt p.plan p.number p.bytes head
     × Contains (readings_of p (Lines head)) r)
 
--- each line of the shape has a reading
+-- a course gives a reading of each line of a shape
 abbrev pub GivesEachLine : PictureShape → Course → Type 0
 GivesEachLine shape c = (component line : ℕ) → component < length shape.ids → line < shape.height
     → (samples : List ℕ) × Gives c (reading_of component line samples)
 
--- the file has a frame, no fault of the headers ended it, no piece of it is faulty, and each line of its frame is read
+-- a file has a frame, no fault of its headers ended it, each piece can be decoded, and each line of its frame has a reading
 pub record IsFaultless (file : List ℕ) : Type 0 where
   pub course : Course
   pub is_course : IsCourse file course
@@ -45,7 +45,7 @@ pub record IsFaultless (file : List ℕ) : Type 0 where
   pub each : AllByRecursion HasLines (pieces course)
   pub whole : GivesEachLine shape course
 
--- no file without a fault begins so
+-- no file without a fault begins with these bytes
 abbrev pub IsDead : List ℕ → Type 0
 IsDead front = (more : List ℕ) → AllByRecursion (λ b. b < 256) (front ++ more) → IsFaultless (front ++ more) → ⊥
 

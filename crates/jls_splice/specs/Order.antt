@@ -1,13 +1,13 @@
 -- The order in which choices are tried.
 use Rattle.std.specs.Prelude.{◌≡◌, ℕ, ◌<◌, List, [], ◌∷◌, ◌++◌, ◌⊎◌}
 
--- the choices begin with the path, or stand behind all that do
+-- choices begin with a path, or come after all that do
 abbrev pub IsToCome : List ℕ → List ℕ → Type 0
 IsToCome [] choices = Unit {0}
 IsToCome (p ∷ path) [] = ⊥
 IsToCome (p ∷ path) (choice ∷ choices) = (p < choice) ⊎ ((p ≡ choice) × IsToCome path choices)
 
--- they stand behind all that do
+-- choices come after all that begin with a path
 abbrev pub IsBehind : List ℕ → List ℕ → Type 0
 IsBehind [] choices = ⊥
 IsBehind (p ∷ path) [] = ⊥

@@ -10,14 +10,15 @@ use Rattle.jls_splice.specs.Search.{IsShort, CameTo, files_of}
 abbrev pub AreShort : List (List ℕ) → Type 0
 AreShort copies = sum_by length copies ≤ 2 ^ 63 - 1
 
--- Parts of such copies, one or more, can be searched: some copy has something at each of them, and no choices make more than a reader takes
+-- parts of one copy or more that are short can be searched. At each of them some copy has something, and no choices make more than a reader
+-- takes
 abbrev pub PartsCanBeSearched : Type 0
 PartsCanBeSearched =
     (copies : List (List ℕ)) (parts : List Part) → AreParts copies parts → 0 < length copies → AreShort copies
     → AllByRecursion HasSomeWay parts × IsShort parts
 
--- What a search over one copy or more found are splices of them without a fault. Where its tries were not used up, it found each file
--- without a fault that has, at each of the parts, what some copy has there
+-- what a search over copies found are splices without a fault. If its tries were not used up, it found each file without a fault that has,
+-- at each part, what some copy has there
 abbrev pub SearchesComeToEachSplice : Type 0
 SearchesComeToEachSplice =
     (copies : List (List ℕ)) (parts : List Part) → AreParts copies parts → 0 < length copies → (found : List (List ℕ)) (is_used_up : Bool)

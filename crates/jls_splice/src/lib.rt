@@ -1,4 +1,18 @@
 //! Splices of copies: files each of whose stretches is what one of the copies has there, and the search for those without a fault.
+//!
+//! - `path`: goes through choices in depth-first order
+//! - `feeding`: feeds what they make to a `CopyReader`
+//! - `faultless`: judges it: a file without a fault, or a prefix that none begins with
+//! - `lines`: whether each line of a picture was read
+//! - `kept`: the reader that a search keeps, and readers that go on from it
+//! - `looking`: what is seen of a path
+//! - `whole_search`: the search, as a value that goes on as far as its caller wants
+//!
+//! Definitions: `Choices`, `Faultless`, `Search`, `Order`.
+//!
+//! Not proved:
+//!
+//! - That a search gives up choices as soon as it could. So the exact number of tries is open.
 #![tactic(auto)]
 
 mod copies;

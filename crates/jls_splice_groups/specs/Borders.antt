@@ -3,15 +3,15 @@ use Rattle.std.specs.Prelude.{◌≡◌, ℕ, ◌-◌, ◌<◌, ◌≤◌, List,
 use Rattle.jls_parts.specs.Parts.{Part, Same, Differ}
 use Rattle.jls_splice_groups.specs.declared.border.Border.{Border}
 
--- the code of SOS, or of one of RST0 to RST7
+-- the code of SOS, or of one of RST0 to RST7 (T.81 B.1.1.3)
 abbrev pub IsMark : ℕ → Type 0
 IsMark code = (code ≡ 0xDA) ⊎ ((0xD0 ≤ code) × (code ≤ 0xD7))
 
--- such a marker ends behind so many of the bytes
+-- such a marker ends after so many of the bytes
 abbrev pub IsBehindMark : List ℕ → ℕ → Type 0
 IsBehindMark bytes at = (2 ≤ at) × (at ≤ length bytes) × (get_or bytes (at - 2) 0 ≡ 0xFF) × IsMark (get_or bytes (at - 1) 0)
 
--- all copies have the part alike, and such a marker ends behind so many of its bytes
+-- all copies have the part alike, and such a marker ends after so many of its bytes
 abbrev pub IsBorderOf : Part → ℕ → Type 0
 IsBorderOf (Same bytes) at = IsBehindMark bytes at
 IsBorderOf (Differ ways) at = ⊥

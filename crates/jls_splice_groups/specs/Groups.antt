@@ -12,7 +12,7 @@ abbrev pub Differs : Part → Type 0
 Differs (Same bytes) = ⊥
 Differs (Differ ways) = Unit {0}
 
--- a group begins at a border behind the head, and ends at a later one, or with the parts
+-- a group begins at a border after the head, and ends at a later border, or with the parts
 abbrev pub IsGroup : List Part → Group → Type 0
 IsGroup parts group =
     IsBorder parts group.begin × (group.head ≤ group.begin.part)

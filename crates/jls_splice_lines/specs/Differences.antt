@@ -24,6 +24,6 @@ difference_at parts place =
     then record { offset = offset_at parts place; length = length (way 0 (part_at parts place)) } ∷ []
     else []
 
--- all of them, in order
+-- all differences of copies, in their order
 abbrev pub differences : List Part → List Difference
 differences parts = flat_map (difference_at parts) (range_with_len 0 (length parts))

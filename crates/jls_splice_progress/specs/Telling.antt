@@ -15,12 +15,12 @@ pub data Lines : ℕ → ℕ → List Event → Type 0 where
   line : (rounds found tries files : ℕ) (events more : List Event) → Lines (64 * rounds) found events → 64 * rounds < tries
       → tries ≤ 64 * rounds + 64 → found ≤ files → Printed (progress_line tries files) more → Lines tries files (events ++ more)
 
--- they are told, if that is asked for
+-- the lines of a search of so many tries, which found so many files, if they are asked for, and else nothing
 abbrev pub IsTold : Bool → ℕ → ℕ → List Event → Type 0
 IsTold true tries files events = Lines tries files events
 IsTold false tries files events = events ≡ []
 
--- and so are those of a search that memory ended, of so many tries at most
+-- the lines of a search that ended because memory ran out, after so many tries at most
 abbrev pub ToldSome : ℕ → Bool → List Event → Type 0
 ToldSome limit tells events = (tries : ℕ) × (files : ℕ) × (tries ≤ limit) × IsTold tells tries files events
 

@@ -20,11 +20,11 @@ bytes_read copies = map (λ copy. copy.bytes) copies
 abbrev pub stops_read : List CopyBytes → List ReadStop
 stops_read copies = map (λ copy. copy.stop) copies
 
--- each was read to its end
+-- each copy was read to its end
 abbrev pub AreWhole : List CopyBytes → Type 0
 AreWhole copies = AllByRecursion (λ copy. copy.stop ≡ Whole) copies
 
--- what is said of a copy that stops a run
+-- the cause for a copy that stops a run
 abbrev pub cause_of : CopyCause → Cause
 cause_of copy.NotOpened = cause.NotOpened
 cause_of copy.PartialPicture = cause.PartialPicture

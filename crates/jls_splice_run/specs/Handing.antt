@@ -13,18 +13,18 @@ pub record StopsAtReport (bytes : List ℕ) (r : Refusal) (events : List Event) 
   pub name_is : r.name.now ≡ codes "-"
   pub cause_is : r.cause ≡ cause.NotWritten count
 
--- an output of this name stops it: it is not created; or it is, and was handed so many of the bytes when a write failed
+-- an output of this name stops the run. It is not created, or it was handed so many of the bytes when a write failed
 pub data StopsAtOutput (name bytes : List ℕ) (r : Refusal) : List Event → Type 0 where
   not_there : r.name.now ≡ name → r.cause ≡ cause.NotCreated → StopsAtOutput name bytes r (not_created name ∷ [])
   cut : (count : ℕ) (writes : List Event) → r.name.now ≡ name → r.cause ≡ cause.NotWritten count → WroteFront bytes count writes
       → StopsAtOutput name bytes r (created name ∷ writes)
 
--- an output is handed these bytes, where there are a name and bytes; nothing is done, where one of them is missing
+-- an output is handed these bytes if there are a name and bytes. Else nothing is done
 abbrev pub HandsFile : Option (List ℕ) → Option (List ℕ) → List Event → Type 0
 HandsFile (Some name) (Some bytes) events = HandsOut name bytes events
 HandsFile _ _ events = events ≡ []
 
--- it stops the run
+-- the output for the single file stops the run
 abbrev pub StopsAtFile : Option (List ℕ) → Option (List ℕ) → Refusal → List Event → Type 0
 StopsAtFile (Some name) (Some bytes) r events = StopsAtOutput name bytes r events
 StopsAtFile _ _ r events = ⊥
@@ -37,7 +37,7 @@ pub record Texts : Type 0 where
   pub file_name : Option (List ℕ)
   pub file : Option (List ℕ)
 
--- it is handed out in this order; the events are those of the desk and of the report output
+-- all of it is handed out in this order; the events are those of the desk and of the report output
 pub record HandsAll (t : Texts) (desk report : List Event) : Type 0 where
   pub printed : Wrote t.lines report
   pub writing : List Event

@@ -34,7 +34,7 @@ use Rattle.jls_splice_run.specs.declared.made.Made.{Made as MadeValue}
 
 -- ---- what was found and made
 
--- the files taken: the copies in their order, then the splices of both searches
+-- the files taken: the copies in their order, then the splices
 abbrev pub files_taken : List (List ℕ) → Found → List (List ℕ)
 files_taken copies f = copies ++ splices_in f
 
@@ -50,14 +50,15 @@ pub record Made : Type 0 where
   pub picture : PartialPicture
   pub single : Option (List ℕ)
 
--- so many tries were made of those that are allowed, and came to what was found; and where they were used up these are all of them, or 64
--- files were found. The search by groups, if there was one, has as many tries of its own
+-- so many tries were made of those that are allowed, and came to what was found. If they were used up, these are all of them, or 64 files
+-- were found. The search by groups, if there was one, has as many tries of its own
 pub record AreTries (limit : ℕ) (f : Found) (tries : ℕ) : Type 0 where
   pub tried : WereTried f.parts tries f.choices
   pub within : tries ≤ limit
   pub used_up : f.is_used_up ≡ true → (tries ≡ limit) ⊎ (length f.choices ≡ 64)
   pub of_groups : IfSome f.by_groups (AreGroupTries limit)
 
+-- what was found, the picture and the single file are made of these copies
 pub record IsMade (a : Asked) (copies : List (List ℕ)) (m : Made) : Type 0 where
   pub is_found : IsFound copies m.found
   pub are_tries : AreTries a.options.tries m.found m.tries
@@ -83,45 +84,46 @@ abbrev pub told_lines : List Part → ℕ → Bool → Option GroupSearch → Bo
 told_lines parts splices is_used_up by_groups lacks =
     differ_lines (differences parts) ++ splices_line splices ++ used_up_line is_used_up ++ groups_line by_groups ++ single_line lacks
 
+-- the lines of what was found in these copies
 abbrev pub found_lines : Bool → List (List ℕ) → Found → List ℕ
 found_lines lacks copies f = told_lines f.parts (count_new copies (splices_in f)) f.is_used_up (groups_told f.by_groups) lacks
 
--- what is printed: these lines, and then the report; nothing, where the output is standard output
+-- what is printed: the lines of what was found and the report. Nothing, if the output is standard output
 abbrev pub lines : Asked → List (List ℕ) → Made → List ℕ
 lines a copies m =
     if bytes_eq a.out (codes "-") then []
     else found_lines (lacks_single a.options.file m.single) copies m.found ++ report_text (report_of m.picture)
 
--- the events of the fault output by which the search told how far it was, where that is asked for
+-- events of the fault output: the search told how far it was, if that is asked for
 abbrev pub Tells : Asked → Made → List Event → Type 0
 Tells a m events = IsTold a.options.progress m.tries (length m.found.choices) events
 
 -- ---- why nothing is made
 
--- what is said where no file has a frame, by how the reading of the first copy stopped
+-- why a run stops if no file has a frame, by how the reading of the first copy stopped
 abbrev pub no_picture_cause : ReadStop → MarkerFault → ℕ → Cause
 no_picture_cause Whole f offset = cause.NoPicture f offset
 no_picture_cause _ f offset = cause.NotRead
 
--- what is said of copies of these names for which this is found, as how their readings stopped has it
+-- the refusal of copies of these names, for what is found of their shape and how their readings stopped
 abbrev pub IsRefusedFor : List (List ℕ) → List ReadStop → ShapeFound → Refusal → Type 0
 IsRefusedFor names stops (Taken shape) r = ⊥
 IsRefusedFor names stops (Differ copy) r = (r.name.now ≡ get_or names copy []) × (r.cause ≡ cause.ShapeDiffers)
 IsRefusedFor names stops (NoFrame f offset) r =
     (r.name.now ≡ get_or names 0 []) × (r.cause ≡ no_picture_cause (get_or stops 0 Whole) f offset)
 
--- memory runs out
+-- the refusal for memory that runs out
 abbrev pub IsWantOfMemory : Asked → Refusal → Type 0
 IsWantOfMemory a r = (r.name.now ≡ a.out) × (r.cause ≡ cause.OutOfMemory)
 
--- why no picture comes of copies and splices: memory runs out; or the shape that is found for them
+-- why no picture can be made from copies and splices
 abbrev pub IsUnsettled : Asked → List CopyBytes → List (List ℕ) → Refusal → Type 0
 IsUnsettled a copies splices r =
     IsWantOfMemory a r
     ⊎ ((found : ShapeFound) × IsShapeFound (bytes_read copies) splices found × IsRefusedFor a.copies (stops_read copies) found r)
 
--- why a run stops after it has read the copies, and what it told until then of how far its search was, which had no more tries than are
--- allowed: memory runs out; or the search found splices of which no picture comes
+-- why a run stops after the copies were read, and what it printed until then of how far its search was. If it stops for what its files are,
+-- the search kept to its tries
 abbrev pub CantMake : Asked → List CopyBytes → Refusal → List Event → Type 0
 CantMake a copies r events =
     (IsWantOfMemory a r × ToldSome a.options.tries a.options.progress events)

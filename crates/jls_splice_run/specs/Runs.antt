@@ -29,7 +29,7 @@ pub record GrewBoth (Are : List Event → List Event → Type 0) (desk desk' rep
   pub report_is : report' ≡ report ++ report_events
   pub they_are : Are desk_events report_events
 
--- those of all three did
+-- the histories of the three devices grew by events, and they are such: nothing else was done
 pub record GrewAll (Are : List Event → List Event → List Event → Type 0) (desk desk' report report' faults faults' : History) : Type 0 where
   pub desk_events : List Event
   pub report_events : List Event
@@ -75,8 +75,7 @@ pub data Splices (a : Asked) : Outcome → List Event → List Event → List Ev
       → (IsTrue settled ↔ IsSettled m.picture) → (IsTrue whole ↔ AreWhole copies)
       → Splices a (Done settled whole) (reading ++ desk) report faults
 
--- what was asked ends with this status: what came of it has the status, and its fault line is printed last; or memory ran out before a copy
--- was opened
+-- what was asked ends with this status, and its fault line is printed last; or memory ran out before a copy was opened
 pub data Performs (a : Asked) : ℕ → List Event → List Event → List Event → Type 0 where
   came_of : (outcome : Outcome) (desk report faults line : List Event)
       → Splices a outcome desk report faults → Printed (fault_line outcome) line

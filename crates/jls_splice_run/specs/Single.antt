@@ -9,7 +9,7 @@ use Rattle.jls_splice_run.specs.declared.single.Faultless.TheVariants.{Nothing, 
 abbrev pub NoneIsFaultless : List (List ℕ) → Type 0
 NoneIsFaultless files = (file : List ℕ) → Contains files file → IsFaultless file → ⊥
 
--- one has none, and each other without a fault has the same bytes
+-- one file has no fault, and each other one without a fault has the same bytes
 pub record IsOnly (files : List (List ℕ)) (file : List ℕ) : Type 0 where
   pub among : Contains files file
   pub faultless : IsFaultless file
@@ -25,12 +25,12 @@ pub record TwoDiffer (files : List (List ℕ)) : Type 0 where
   pub other_faultless : IsFaultless other
   pub differ : file ≡ other → ⊥
 
--- the single file, where there is one
+-- the single file without a fault, if there is one
 abbrev pub IsSingle : List (List ℕ) → Option (List ℕ) → Type 0
 IsSingle files (Some file) = IsOnly files file
 IsSingle files None = (file : List ℕ) → IsOnly files file → ⊥
 
--- and nothing where it is not asked for
+-- the single file, if it is asked for
 abbrev pub IsSingleAsked : {A : Type 0} → Option A → List (List ℕ) → Option (List ℕ) → Type 0
 IsSingleAsked None files single = single ≡ None
 IsSingleAsked (Some name) files single = IsSingle files single

@@ -8,5 +8,6 @@ use Rattle.jls_splice_run.specs.declared.task.Task.{Task}
 abbrev pub texts_of : List (Bor (List ℕ)) → List (List ℕ)
 texts_of slices = map (λ s. s.now) slices
 
+-- what the words asked for, as the code holds it
 abbrev pub task_of : Task → Asked
 task_of t = record { options = options_in t.options; out = t.out.now; copies = texts_of t.names.now }

@@ -4,9 +4,10 @@ use Rattle.jls_parts.specs.PartsOf.{bytes_of, parts_of}
 use Rattle.jls_splice.specs.Search.{files_of, lists_of}
 use Rattle.jls_splicing.specs.declared.files.Files.{Files}
 
--- the splices alone
+-- the splices that a search found
 abbrev pub splices_found : Files → List (List ℕ)
 splices_found files = files_of (parts_of files.parts.now) (lists_of files.splices.now)
 
+-- the files taken: the copies in their order, then the splices that a search found
 abbrev pub files_taken : Files → List (List ℕ)
 files_taken files = bytes_of files.copies.now ++ splices_found files

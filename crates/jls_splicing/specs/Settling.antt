@@ -7,7 +7,7 @@ use Rattle.jls_splicing.specs.declared.settling.Settled.{Settled}
 use Rattle.jls_splicing.specs.declared.settling.Settled.TheVariants.{Held, Differ, NoFrame}
 use Rattle.jls_splicing.specs.declared.shape_found.ShapeFound.TheVariants as found
 
--- What comes of copies and of the splices found: a station of the shape that is found for them, which took them all, each under the source
+-- what comes of copies and of the splices found: a station of the shape that is found for them, which took them all, each under the source
 -- if there is one; or why no shape is found
 abbrev pub SettlesFiles : Option ℕ → List (List ℕ) → List (List ℕ) → Settled → Type 0
 SettlesFiles source copies splices (Held station) =

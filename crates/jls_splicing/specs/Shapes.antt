@@ -11,15 +11,15 @@ use Rattle.jls_splicing.specs.declared.shape_found.ShapeFound.TheVariants.{Taken
 
 -- One file ---------------------------------------------------------------------------------------------------------
 
--- the course of the file takes a frame of this shape
+-- the file has a frame of this shape
 abbrev pub HasShape : PictureShape → List ℕ → Type 0
 HasShape shape file = (c : Course) × IsCourse file c × (c.headers.frame ≡ Some shape)
 
--- it takes a frame of another shape
+-- the file has a frame of another shape
 abbrev pub HasOtherShape : PictureShape → List ℕ → Type 0
 HasOtherShape shape file = (other : PictureShape) × HasShape other file × (other ≡ shape → ⊥)
 
--- it takes no frame
+-- the file has no frame
 abbrev pub HasNoFrame : List ℕ → Type 0
 HasNoFrame file = (c : Course) × IsCourse file c × (c.headers.frame ≡ None)
 
@@ -34,7 +34,7 @@ IsFirstShape (file ∷ files) shape = HasShape shape file ⊎ (HasNoFrame file �
 abbrev pub NoneIsFaultless : List (List ℕ) → Type 0
 NoneIsFaultless files = (file : List ℕ) → Contains files file → IsFaultless file → ⊥
 
--- The shape that is taken: each file without a fault, among the copies and what was found, has it; where there is none, it is that of the
+-- the shape that is taken: each file without a fault, among the copies and what was found, has it. If there is none, it is that of the
 -- first copy with a frame
 pub record IsShapeTaken (copies found : List (List ℕ)) (shape : PictureShape) : Type 0 where
   pub of_faultless : (file : List ℕ) → Contains (copies ++ found) file → IsFaultless file → HasShape shape file
@@ -66,13 +66,13 @@ pub record IsFirstOther (copies : List (List ℕ)) (copy : ℕ) : Type 0 where
 abbrev pub NoneIsOther : List (List ℕ) → Type 0
 NoneIsOther copies = (shape : PictureShape) → IsFirstShape copies shape → AllByRecursion (λ copy. HasOtherShape shape copy → ⊥) copies
 
--- the copy that is named where shapes differ: that one, or the first copy where there is none
+-- the copy that is named if shapes differ: that one, or the first copy if there is none
 abbrev pub IsCopyNamed : List (List ℕ) → ℕ → Type 0
 IsCopyNamed copies copy = IsFirstOther copies copy ⊎ (NoneIsOther copies × (copy ≡ 0))
 
 -- What is found ----------------------------------------------------------------------------------------------------
 
--- What comes of the copies and of the splices found: the shape that is taken; or two files without a fault differ in shape, and this is the
+-- what comes of the copies and of the splices found: the shape that is taken; or two files without a fault differ in shape, and this is the
 -- copy that is named; or each file has a fault and no copy has a frame, and this is the fault of the first copy, with its offset
 abbrev pub IsShapeFound : List (List ℕ) → List (List ℕ) → ShapeFound → Type 0
 IsShapeFound copies found (Taken shape) = IsShapeTaken copies found shape

@@ -8,8 +8,8 @@ use Rattle.jls_station.specs.Given.{marked}
 use Rattle.jls_station.specs.Reading.{AreBytes}
 use Rattle.jls_splicing.specs.Shapes.{HasShape}
 
--- What these files give a station of this shape, in turn. A file with a frame of the shape gives what it reads as, with the source at each
--- reading, if there is one. A file with a frame of another shape, or without a frame, gives nothing
+-- what files give a station of this shape, one after the other. A file of the shape gives its readings, under the source if there is one.
+-- Any other file gives nothing
 pub data Give (source : Option ℕ) (shape : PictureShape) : List (List ℕ) → List PartialPicture → Type 0 where
   no_file : Give source shape [] []
   gives : (file : List ℕ) (read : ReadCopy) (files : List (List ℕ)) (given : List PartialPicture) → AreBytes file → CopyReads file read

@@ -10,6 +10,7 @@ use Rattle.jls_station.specs.declared.input.ReadStop.TheVariants.{Whole}
 use Rattle.jls_station.specs.declared.input.InputFault.{InputFault}
 use Rattle.jls_station.specs.declared.input.InputFault.TheVariants as fault
 
+-- the fault of an input that has this fault as a text
 abbrev pub input_fault_of : TextFault → InputFault
 input_fault_of OutOfMemory = fault.OutOfMemory
 input_fault_of f = fault.Text f

@@ -23,9 +23,9 @@ IsCopyDone bytes = IsDone bytes true
 abbrev pub IsEnough : List ℕ → Type 0
 IsEnough bytes = (is_text bytes ≡ false) × IsCopyDone bytes
 
--- An input that gave these bytes until it stopped so is refused for this fault. A text: it was read to its end and is none, or it was
--- not read to its end. A copy in which no frame was taken: it was read whole and has this fault, at this offset, or it was not read
--- whole. The fault of what was not read has the stop and the number of bytes before it
+-- an input that gave these bytes until it stopped so is refused for this fault. A text is refused if it was read to its end and is no text,
+-- or if it was not read to its end. A copy is refused if no frame was taken. If it was read whole, it has this fault at this offset. If an
+-- input was not read whole, the fault has the stop and the number of bytes before it
 pub data IsRefused : List ℕ → ReadStop → InputFault → Type 0 where
   no_text : (bytes : List ℕ) (f : TextFault) → is_text bytes ≡ true → IsNoText bytes f → IsRefused bytes Whole (fault.Text f)
   text_not_read : (bytes : List ℕ) (stop : ReadStop) → is_text bytes ≡ true → (stop ≡ Whole → ⊥)
@@ -35,8 +35,8 @@ pub data IsRefused : List ℕ → ReadStop → InputFault → Type 0 where
   copy_not_read : (bytes : List ℕ) (stop : ReadStop) (f : MarkerFault) (offset : ℕ) → is_text bytes ≡ false → (stop ≡ Whole → ⊥)
       → CopyGivesNone bytes (NoPicture f offset) → IsRefused bytes stop (fault.Read stop (length bytes))
 
--- memory can run out for an input that was read so far: between two reads; or behind the last, for what its bytes give, which are a
--- text that was read to its end or a copy
+-- memory can run out for an input that was read so far. It does so between two reads, or after the last for what its bytes give, a whole
+-- text or a copy
 pub data RunsOutOfMemory : List Event → Type 0 where
   between_reads : (reads : List Event) → IsReadInPart IsEnough reads → RunsOutOfMemory reads
   behind_the_last : (bytes : List ℕ) (stop : ReadStop) (reads : List Event) → IsRead IsEnough reads bytes stop

@@ -7,15 +7,15 @@ use Rattle.jls_station.specs.declared.input.ReadStop.TheVariants.{Whole, Failed,
 
 -- IsEnough says of the bytes that an input gave so far whether any more are wanted
 
--- reads of at most 4096 bytes, each of which gave some while what was given before, from these bytes on, was not enough
+-- reads of at most 4096 bytes. Each gave some bytes, and those given before it, with these at the start, were not enough
 abbrev pub GoesOn : (List ℕ → Type 0) → List ℕ → List Event → Type 0
 GoesOn IsEnough fed [] = Unit {0}
 GoesOn IsEnough fed (gave room bytes ∷ more) =
     (room ≤ 4096) × (0 < length bytes) × (IsEnough fed → ⊥) × GoesOn IsEnough (fed ++ bytes) more
 GoesOn IsEnough fed (_ ∷ more) = ⊥
 
--- why no read follows on these bytes, and the read that says so, where one does: they are enough; or they are not, and a
--- read with room met the end, or a read failed, or the turns are used up
+-- why no read follows after these bytes, and the read that shows it, if there is one. The bytes are enough, a read with room met the end, a
+-- read failed, or the reads are used up
 abbrev pub StopsWith : (List ℕ → Type 0) → List ℕ → List Event → ReadStop → Type 0
 StopsWith IsEnough bytes [] Whole = IsEnough bytes
 StopsWith IsEnough bytes [] Turns = IsEnough bytes → ⊥

@@ -32,8 +32,8 @@ pub record CopyGives (source : Option ℕ) (p : PartialPicture) (report : CopyRe
   pub partial_is : p ≡ marked source read.partial
   pub found_is : report.found ≡ found_in bytes read
 
--- these are all reads of a copy in which no frame was taken, and this is the fault: of what was read whole the copy's own; of what was
--- not, how it stopped and how many bytes there were. Or memory ran out between two reads, or behind the last
+-- these are all reads of a copy in which no frame was taken, and the fault. If it was read whole, it is the copy's own. If not, it is how
+-- it stopped, with the number of bytes. Or memory ran out between two reads, or after the last
 pub data CopyStops : TakeFault → List Event → Type 0 where
   no_picture : (bytes : List ℕ) (f : MarkerFault) (offset : ℕ) (reads : List Event)
       → IsRead IsCopyDone reads bytes Whole → CopyGivesNone bytes (copy.NoPicture f offset) → CopyStops (fault.NoPicture f offset) reads
@@ -51,8 +51,8 @@ pub record TakesCopy (source : Option ℕ) (old new : PartialPicture) (report : 
   pub one_shape : has_same_shape old given ≡ true
   pub union_is : new ≡ union old given
 
--- A station that held the first of these refused a copy for this fault, and holds the second: the copy gives nothing; it has another
--- shape; or it has not, and memory ran out as the two were joined, so that some of the copy's readings may be held
+-- a station that held the first of these refused a copy for this fault, and holds the second. The copy gives nothing, or it has another
+-- shape. Or memory ran out as the two were joined, and some of the copy's readings may be held
 pub data RefusesCopy : Option ℕ → PartialPicture → PartialPicture → TakeFault → List Event → Type 0 where
   gives_none : (source : Option ℕ) (old : PartialPicture) (f : TakeFault) (reads : List Event) → CopyStops f reads
       → RefusesCopy source old old f reads

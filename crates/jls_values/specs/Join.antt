@@ -1,7 +1,8 @@
 -- Joins: what a merge holds in the end, and the laws that make it independent of order and repeats.
 use Rattle.std.specs.Prelude.{◌≡◌, ℕ, ◌<◌, ◌+◌, Bool, true, false, List, [], ◌∷◌, length, take, IfSome, slice_get}
 
--- `same_shape x y` says that x and y can be joined
+-- The laws of `Merge`, for which `same_shape x y` says that x and y can be joined. Having the same shape is an equivalence, which a join
+-- keeps. A join of values of the same shape is idempotent, commutative and associative
 pub record JoinLaws {V : Type 0} (same_shape : V → V → Bool) (join : V → V → V) : Type 0 where
   pub reflexive : (x : V) → same_shape x x ≡ true
   pub symmetric : (x y : V) → same_shape x y ≡ same_shape y x
@@ -20,7 +21,7 @@ module _ {V : Type 0} where
   abbrev pub IsBetween : (V → V → V) → V → V → V → Type 0
   IsBetween join low x high = IsBelow join low x × IsBelow join x high
 
-  -- what is held after x has taken in each member of the list, in order
+  -- x joined with each member of the list, in order
   abbrev pub join_all : (V → V → V) → V → List V → V
   join_all join x [] = x
   join_all join x (y ∷ ys) = join_all join (join x y) ys
@@ -37,15 +38,17 @@ module _ {V : Type 0} where
     pub differs : IfSome (slice_get list k) (λ member. same_shape old member ≡ false)
     pub merged : new ≡ join_all join old (take k list)
 
+  -- `StopsAtShapeAt` for some member of the list
   abbrev pub StopsAtShape : (V → V → Bool) → (V → V → V) → V → List V → V → Type 0
   StopsAtShape same_shape join old list new = (k : ℕ) × StopsAtShapeAt same_shape join old list new k
 
-  -- memory ran out inside the member at k: those up to it have the shape, those before it are merged whole, and of it
-  -- nothing, a part or all
+  -- memory ran out inside the member at k. Members up to k have the shape, and those before k are merged whole. Of the one at k nothing, a
+  -- part or all is merged
   pub record StopsInsideAt (same_shape : V → V → Bool) (join : V → V → V) (old : V) (list : List V) (new : V) (k : ℕ) : Type 0 where
     pub within : k < length list
     pub upto : AllOfShape same_shape old (take (k + 1) list)
     pub between : IsBetween join (join_all join old (take k list)) new (join_all join old (take (k + 1) list))
 
+  -- `StopsInsideAt` for some member of the list
   abbrev pub StopsInside : (V → V → Bool) → (V → V → V) → V → List V → V → Type 0
   StopsInside same_shape join old list new = (k : ℕ) × StopsInsideAt same_shape join old list new k

@@ -6,7 +6,7 @@ use Rattle.std.specs.Coded.{Coded}
 use base.Stored.{coded_unit}
 use Rattle.std.specs.FinMap as map
 
--- the sets of K in the order R
+-- a finite set of K in the order R, kept as its items in ascending order
 abbrev pub OrderedSet : {K : Type 0} → (K → K → Ordering) → Type 0
 OrderedSet R = map.FinMap R (Unit {0})
 

@@ -19,20 +19,24 @@ or_turn true true c = refl
 or_turn true false c = refl
 or_turn false b c = refl
 
+-- `false` is neutral for `||`
 pub or_false : (b : Bool) → (b || false) ≡ b
 or_false true = refl
 or_false false = refl
 
+-- `||` is commutative
 pub or_comm : (a b : Bool) → (a || b) ≡ (b || a)
 or_comm true true = refl
 or_comm true false = refl
 or_comm false true = refl
 or_comm false false = refl
 
+-- `||` is associative
 pub or_assoc : (a b c : Bool) → ((a || b) || c) ≡ (a || (b || c))
 or_assoc true b c = refl
 or_assoc false b c = refl
 
+-- `||` is idempotent
 pub or_itself : (a : Bool) → (a || a) ≡ a
 or_itself true = refl
 or_itself false = refl

@@ -2,7 +2,7 @@
 -- from MAXVAL in lossless coding (T.87, A.2.1, with NEAR 0).
 use Rattle.std.specs.Prelude.{ℕ, zero, suc, ◌+◌, ◌*◌, ◌^◌, ◌≤◌, ◌<◌, max, Bool, nat_le, if◌then◌else◌}
 
--- bits per sample, MAXVAL, the thresholds of the gradients, and RESET
+-- the coding parameters in force: bits per sample, MAXVAL, the thresholds T1, T2 and T3 of the gradients, and RESET (T.87 C.2.4.1.1)
 pub record CodingParameters : Type 0 where
   pub precision : ℕ
   pub maxval : ℕ
@@ -11,7 +11,7 @@ pub record CodingParameters : Type 0 where
   pub t3 : ℕ
   pub reset : ℕ
 
--- the ranges of T.87, table C.1, at NEAR 0 and at the precisions of this profile
+-- the ranges of coding parameters: those of T.87, table C.1, at NEAR 0 and at the precisions of this profile
 pub record AreCodingParameters (p : CodingParameters) : Type 0 where
   pub precision_at_least : 2 ≤ p.precision
   pub precision_at_most : p.precision ≤ 16
@@ -29,18 +29,18 @@ unfoldable pub least_from : (ℕ → Bool) → ℕ → ℕ → ℕ
 least_from passes zero from = from
 least_from passes (suc count) from = let later = least_from passes count (suc from) in if passes from then from else later
 
--- RANGE: how many values a sample can have
+-- RANGE: how many values a sample can have (T.87 A.2.1)
 abbrev pub range : CodingParameters → ℕ
 range p = p.maxval + 1
 
--- qbpp: the least number of bits that hold RANGE values
+-- qbpp: the least number of bits that hold RANGE values (T.87 A.2.1)
 abbrev pub qbpp : CodingParameters → ℕ
 qbpp p = least_from (λ bits. nat_le (range p) (2 ^ bits)) 16 0
 
--- bpp: the least number of bits that hold a sample, but at least 2
+-- bpp: the least number of bits that hold a sample, but at least 2 (T.87 A.2.1)
 abbrev pub bpp : CodingParameters → ℕ
 bpp p = max 2 (qbpp p)
 
--- LIMIT: how long the Golomb code of a regular sample may be, in bits
+-- LIMIT: how long the Golomb code of a regular sample may be, in bits (T.87 A.2.1)
 abbrev pub limit : CodingParameters → ℕ
 limit p = 2 * (bpp p + max 8 (bpp p))

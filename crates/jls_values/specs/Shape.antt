@@ -1,20 +1,22 @@
--- The shape of a picture, as a frame header gives it (T.87, C.2.2).
+-- The shape of a picture, as a frame header gives it (T.87 C.2.2). That there are at most four components is this profile's choice.
 use Rattle.std.specs.Prelude.{◌≡◌, ℕ, ◌≤◌, ◌<◌, ◌^◌, Bool, false, ◌||◌, ◌==◌, List, [], ◌∷◌, length}
 use Rattle.std.specs.List.{list_any, AllByRecursion}
 
--- bits per sample, samples per line, lines of each component, and the identifiers in the order of the frame
+-- the shape of a picture: bits per sample, samples per line, lines of each component, and the identifiers in the order of the frame (T.87
+-- C.2.2)
 pub record PictureShape : Type 0 where
   pub precision : ℕ
   pub width : ℕ
   pub height : ℕ
   pub ids : List ℕ
 
--- whether an identifier stands twice
+-- whether an identifier occurs twice in the list
 abbrev pub has_repeat : List ℕ → Bool
 has_repeat [] = false
 has_repeat (id ∷ ids) = list_any (λ other. other == id) ids || has_repeat ids
 
--- the ranges of this profile; the identifiers are bytes, and differ
+-- the ranges of this profile: 2 to 16 bits, 1 to 65,535 samples and lines. It has 1 to 4 components, whose identifiers are bytes and differ
+-- (T.87 C.2.2)
 pub record IsShape (s : PictureShape) : Type 0 where
   pub precision_at_least : 2 ≤ s.precision
   pub precision_at_most : s.precision ≤ 16

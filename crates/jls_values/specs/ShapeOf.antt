@@ -5,7 +5,7 @@ use Rattle.jls_values.specs.declared.shape.ShapeFault.{ShapeFault}
 use Rattle.jls_values.specs.declared.shape.ShapeFault.TheVariants.{Precision, Width, Height, Count, RepeatedId}
 use Rattle.jls_values.specs.Shape.{PictureShape, has_repeat}
 
--- the first range that is broken by the precision, the sizes and the number of identifiers
+-- the first of the precision, the sizes and the number of identifiers that is outside its range, as a fault
 abbrev pub size_fault : ℕ → ℕ → ℕ → ℕ → Option ShapeFault
 size_fault precision width height count =
     if nat_lt precision 2 || nat_lt 16 precision then Some Precision
@@ -14,7 +14,7 @@ size_fault precision width height count =
     else if count == 0 || nat_lt 4 count then Some Count
     else None
 
--- the fault, or `otherwise` where there is none
+-- the fault, or `otherwise` if there is none
 abbrev pub unless_fault : Option ShapeFault → Result PictureShape ShapeFault → Result PictureShape ShapeFault
 unless_fault (Some fault) otherwise = Err fault
 unless_fault None otherwise = otherwise

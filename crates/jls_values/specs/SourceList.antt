@@ -4,7 +4,7 @@ use Rattle.std.specs.List.{AllByRecursion}
 use Rattle.std.specs.List.Sorted.{IsStrictlySortedBy}
 use Rattle.std.specs.Ordering.{nat_cmp}
 
--- each number is above the one before, and has 32 bits
+-- source numbers as they are lent and written: in ascending order, each once, each below 2^32
 pub record IsSourceList (numbers : List ℕ) : Type 0 where
   pub sorted : IsStrictlySortedBy nat_cmp numbers
   pub small : AllByRecursion (λ number. number < 2 ^ 32) numbers

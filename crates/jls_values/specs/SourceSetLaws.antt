@@ -7,6 +7,7 @@ use Rattle.jls_values.specs.Join.{JoinLaws}
 use Rattle.jls_values.specs.OrderedSet as set
 use Rattle.jls_values.specs.OrderedSetLaws.{union-idempotent, union-commutative, union-associative}
 
+-- sets of source numbers meet the laws of a join, all of them having one shape
 pub source_set_laws : JoinLaws {V = set.OrderedSet nat_cmp} (λ _ _. true) set.union
 source_set_laws = record {
   reflexive = λ _. refl;

@@ -1,4 +1,13 @@
 //! Values that all crates of the salvager share: shapes, coding parameters, and values that are merged.
+//!
+//! - `shape`, `params`: `Shape`, seen as the record `PictureShape`. `Params`, seen as `CodingParameters`. Their getters also state the
+//!   ranges (`IsShape`, `AreCodingParameters`), so that a crate above learns them from a contract
+//! - `merge`: the trait `Merge`, whose laws are the record `JoinLaws`, and `merge_all`
+//! - `limits`: the most samples of a restart interval
+//! - `source_set`: `SourceSet`, seen as an ordered set of numbers
+//!
+//! `specs/OrderedSet.antt` is the finite set in a total order. Readings and line sets are seen as such sets. Its laws are in
+//! `specs/OrderedSetLaws.antt`, since the laws of `Merge` that implementations state cite them.
 #![tactic(auto)]
 
 mod limits;

@@ -7,7 +7,7 @@ ghost use Rattle.jls_values.specs.ParamsOf.{param_fault, params_of};
 use std::marker::Model;
 use thiserror::Error;
 
-/// Why values are no coding parameters: the first value that is outside its range, in this order.
+/// Why values are not coding parameters: the first value that is outside its range, in this order.
 #[derive(Clone, Copy, Debug, PartialEq, Eq, Error)]
 pub enum ParamFault {
     /// The precision is not from 2 to 16 bits.

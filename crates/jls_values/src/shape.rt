@@ -8,7 +8,7 @@ use arrayvec::ArrayVec;
 use std::marker::Model;
 use thiserror::Error;
 
-/// Why four values are no shape, in the order in which they are judged.
+/// Why four values are not a shape, in the order in which they are judged.
 #[derive(Clone, Copy, Debug, PartialEq, Eq, Error)]
 pub enum ShapeFault {
     /// The precision is not from 2 to 16 bits.
