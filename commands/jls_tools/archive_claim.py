@@ -1,0 +1,52 @@
+"""Whether a call may work where it is told to: its trees, and OUT with the folders beside it."""
+import json
+import os
+
+from . import archive_names, archive_rows
+from .archive_places import Refused
+
+MARK = "run.json"  # says that jls-archive made the folder
+
+
+def folder_named(path):
+    """The true path of a folder that a word names."""
+    if not os.path.isdir(path):
+        reason = "is no folder" if os.path.lexists(path) else "is not there"
+        raise Refused(f"{archive_names.printable(path)} {reason}", 4)
+    return os.path.realpath(path)
+
+
+def is_within(path, folder):
+    return path == folder or path.startswith(folder.rstrip("/") + "/")
+
+
+def check_places(out, trees):
+    """Refuses trees that are one another, or lie in OUT, and an OUT that lies in a tree."""
+    shown = archive_names.printable
+    for at, tree in enumerate(trees):
+        if tree in trees[:at]:
+            raise Refused(f"{shown(tree)} is named twice")
+        if is_within(out, tree) or is_within(tree, out):
+            raise Refused(f"OUT and {shown(tree)} lie in one another: {shown(out)}")
+        for other in trees[:at]:
+            if is_within(tree, other) or is_within(other, tree):
+                raise Refused(f"{shown(tree)} and {shown(other)} lie in one another")
+
+
+def claim(places, what):
+    """Makes OUT and the folder of the report. What is there already has to be of an earlier run, or empty."""
+    mark, shown = os.path.join(places.report, f".{MARK}"), archive_names.printable(places.out)
+    if os.path.ismount(places.out):
+        raise Refused(f"{shown} is where a disk begins: name a folder on it")
+    if not os.path.isfile(mark):
+        for path in {*places.roots.values(), places.report}:
+            if os.path.lexists(path) and not (os.path.isdir(path) and not os.listdir(path)):
+                raise Refused(f"{archive_names.printable(path)} is there already, and no run of jls-archive made it")
+    os.makedirs(places.report, exist_ok=True)
+    if os.path.isfile(mark):
+        with open(mark, encoding="ascii") as file:
+            if json.load(file).get("what") != what:
+                raise Refused(f"{shown} is there already, of a run of another kind")
+    else:
+        archive_rows.write_whole(mark, json.dumps({"what": what}).encode("ascii"))
+    os.makedirs(places.out, exist_ok=True)

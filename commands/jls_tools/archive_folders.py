@@ -1,0 +1,127 @@
+"""jls-archive --folders: a picture of each folder of IN, from the copies in it."""
+import os
+
+from . import archive_claim, archive_dicom, archive_places, archive_rows, dicom_file
+from .archive_desk import Copy, Desk
+from .archive_joining import Joining
+from .archive_rows import Row
+
+ENDINGS = (".jls", ".jlsp")
+
+
+class FolderStore(archive_rows.Store):
+    """The row of NAME is OUT/NAME.row."""
+
+    def file_of(self, path):
+        return os.path.join(self.folder, f"{path}.row")
+
+    def files(self):
+        for name in os.listdir(self.folder):
+            if name.endswith(".row"):
+                yield os.path.join(self.folder, name)
+
+
+def sorts_of(folder):
+    """The copies of pictures in a folder, the DICOM files in it, and how many other files there are. Links are not followed."""
+    pictures, dicom, other = [], [], 0
+    for entry in sorted(os.scandir(folder), key=lambda entry: os.fsencode(entry.name)):
+        if not entry.is_file(follow_symlinks=False):
+            other += 1
+            continue
+        ending = os.path.splitext(entry.name)[1].lower()
+        if ending in ENDINGS:
+            pictures.append(entry.path)
+        elif ending == ".dcm" or dicom_file.begins_as_dicom(entry.path):
+            dicom.append(entry.path)
+        else:
+            other += 1
+    # partial pictures last
+    pictures.sort(key=lambda path: path.lower().endswith(".jlsp"))
+    return pictures, dicom, other
+
+
+def inputs_of(desk, folder):
+    """A text that changes if a file of the folder does, or a choice of the call."""
+    parts = [f"tries {desk.options.tries}"]
+    for entry in sorted(os.scandir(folder), key=lambda entry: os.fsencode(entry.name)):
+        seen = entry.stat(follow_symlinks=False)
+        parts.append(f"{seen.st_size} {seen.st_mtime_ns} {entry.path}")
+    return "\n".join(parts)
+
+
+def name_of_shape(name, shape):
+    """The name of the picture of copies that have another shape than most."""
+    return f"{name}.{shape.replace(' bits, components ', '-').replace(', ', '-').replace(',', '-')}"
+
+
+def most(shapes):
+    """The shape of most copies; of several the first."""
+    return max(shapes, key=lambda shape: len(shapes[shape]))
+
+
+def picture_rows(desk, name, copies):
+    """A row for each shape that the copies have, that of most of them first."""
+    joining = Joining(desk, [Copy(0, path, {}) for path in copies])
+    joining.look()
+    rows = []
+    main = most(joining.of) if joining.of else ""
+    for shape in sorted(joining.of, key=lambda shape: shape != main) or [""]:
+        row = Row(name if shape == main else name_of_shape(name, shape), "jls", len(copies))
+        joining.salvage(row, shape, joining.unread if shape == main else [])
+        rows.append(row)
+    joining.keep_log(rows[0])
+    return rows
+
+
+def dicom_row(desk, name, paths):
+    """The row of the DICOM files of a folder, which are mended together."""
+    row = Row(f"{name}.dcm", "dicom", len(paths))
+    archive_dicom.mend(desk, row, [Copy(0, path, {}) for path in paths])
+    return row
+
+
+class Folders:
+    """The work on folders: each item is the name of one."""
+
+    def __init__(self, options, programs):
+        self.options = options
+        self.source = archive_claim.folder_named(options.trees[0])
+        self.out = os.path.realpath(options.out)
+        archive_claim.check_places(self.out, [self.source])
+        self.places = archive_places.Places(self.out, report=self.out)
+        self.places.roots = dict.fromkeys(self.places.roots, self.out)
+        archive_claim.claim(self.places, "folders")
+        self.store = FolderStore(self.out)
+        self.desk = Desk([self.source], self.places, programs, options)
+
+    def items(self):
+        names = [entry.name for entry in os.scandir(self.source) if entry.is_dir(follow_symlinks=False)]
+        index, parts = self.options.part
+        return sorted(names, key=os.fsencode)[index - 1 :: parts]
+
+    def rows_of(self, name, folder):
+        pictures, dicom, other = sorts_of(folder)
+        rows = [dicom_row(self.desk, name, dicom)] if dicom else []
+        if pictures or not rows:
+            rows = [*picture_rows(self.desk, name, pictures), *rows]
+        elif rows:
+            rows[0].path = name
+        if other:
+            rows[0].say(f"{other} other files")
+        return rows
+
+    def do(self, name, folder):
+        """Settles a folder in a worker: its rows are kept when all files are there, its own row last."""
+        source = os.path.join(self.source, name)
+        row, inputs = self.store.of(name), inputs_of(self.desk, source)
+        if row and row.inputs == inputs and all(map(self.places.has, row.outputs)):
+            return row
+        self.store.remove(name)
+        for output in row.outputs if row else []:
+            self.places.drop(output)
+        self.desk.begin(folder)
+        rows = self.rows_of(name, source)
+        for row in reversed(rows):
+            row.inputs = inputs
+            self.store.save(row)
+        return max(rows, key=lambda row: row.status)

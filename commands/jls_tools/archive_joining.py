@@ -1,0 +1,89 @@
+"""Joins copies of one picture that may have lost their headers, and mends them where lines are missing then."""
+import os
+
+from . import archive_names, archive_pictures
+
+
+class Joining:
+    """The copies of one folder. `of` has by shape the names of those that have it, `unread` those that were refused."""
+
+    def __init__(self, desk, copies):
+        self.desk = desk
+        self.copies = copies
+        self.log = []
+        self.of = {}
+        self.files = {}  # by shape: the copies that are no partial pictures
+        self.unread = []
+        self.refused = 0
+
+    def note(self, title, outcome):
+        self.log.append(f"{title}: status {outcome.status}\n{outcome.printed}{outcome.faults}")
+
+    def look(self):
+        """Checks each copy, under a name of our own."""
+        for copy in self.copies:
+            name = self.desk.links([copy])[0]
+            outcome = self.desk.programs.check(name, self.desk.folder)
+            self.note(archive_names.printable(os.path.basename(copy.path)), outcome)
+            with open(copy.path, "rb") as file:
+                is_text = file.read(4) == b"JLSP"
+            if not outcome.report.shape:
+                self.refused += 1
+                self.unread += [] if is_text else [name]
+                continue
+            self.of.setdefault(outcome.report.shape, []).append(name)
+            self.files.setdefault(outcome.report.shape, []).extend([] if is_text else [name])
+
+    def salvage(self, row, shape, spare):
+        """The picture of the copies of a shape; if lines are missing, with what jls-splice gets of them and of the spare ones."""
+        joined, files = self.of.get(shape, []), self.files.get(shape, [])
+        known, status = self.join(None, joined, 3) if joined else (None, 3)
+        mended = False
+        for names in [files, files + spare] if spare else [files]:
+            known, status, was_mended = self.mend(known, status, names)
+            mended = mended or was_mended
+        self.end(row, known, status, "mended" if mended else "joined")
+        row.say(f"{len(joined)} used, {self.refused} refused")
+
+    def join(self, known, names, status):
+        """(the partial picture with these joined, the status). It stays as it was if the join is refused."""
+        joined = self.desk.name("all")
+        outcome = self.desk.programs.join(joined, ([known] if known else []) + names, self.desk.folder)
+        self.note("join", outcome)
+        if os.path.exists(self.desk.place(joined)):
+            return joined, outcome.status
+        return known, status if known else outcome.status
+
+    def mend(self, known, status, names):
+        """(the partial picture, the status, whether jls-splice added to it)"""
+        if len(names) < 2 or known and not self.desk.programs.show(known, self.desk.folder).report.missing:
+            return known, status, False
+        spliced = self.desk.name("spliced")
+        outcome = self.desk.programs.splice(spliced, names, None, self.desk.folder, ["--tries", str(self.desk.options.tries)])
+        self.note("splice", outcome)
+        if not os.path.exists(self.desk.place(spliced)):
+            return known, status, False
+        return *self.join(known, [spliced], status), True
+
+    def end(self, row, known, status, result):
+        """Writes the picture if each line is settled, and keeps all that the copies have."""
+        desk = self.desk
+        if known:
+            row.take(desk.programs.show(known, desk.folder).report)
+        if status == 0:
+            picture = desk.name("picture")
+            outcome = desk.programs.write_jls(picture, known, desk.folder)
+            self.note("write", outcome)
+            status = outcome.status
+            if os.path.exists(desk.place(picture)):
+                desk.put(row, picture, "out", f"{row.path}.jls")
+        if known:
+            if row.missing or row.disputed:
+                desk.draw(row, known)
+            desk.put(row, known, "out", f"{row.path}.jlsp")
+        words = archive_pictures.result_of(row, status)
+        row.end(result if words == "reads" else words, status)
+
+    def keep_log(self, row):
+        if self.log:
+            self.desk.keep_log(row, "".join(self.log), f"{row.path}.log")

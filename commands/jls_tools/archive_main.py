@@ -1,0 +1,158 @@
+"""jls-archive: from the words to the exit status."""
+import contextlib
+import os
+import shutil
+import subprocess
+import sys
+
+from . import archive_claim, archive_folders, archive_item, archive_names, archive_places, archive_rows, archive_run, archive_trees
+from . import archive_words, report_page
+from .archive_desk import Desk
+from .archive_places import Refused
+from .programs import ProgramFailed, Programs
+
+
+def say(text):
+    print(f"jls-archive: {text}", file=sys.stderr)
+
+
+class Trees:
+    """The work on trees: its items, and what is done to one."""
+
+    def __init__(self, options, programs):
+        self.options = options
+        self.out = os.path.realpath(options.out)
+        self.trees = [archive_claim.folder_named(tree) for tree in options.trees]
+        archive_claim.check_places(self.out, self.trees)
+        self.places = archive_places.Places(self.out)
+        archive_claim.claim(self.places, "trees")
+        self.store = archive_rows.Store(os.path.join(self.places.report, "rows"))
+        self.desk = Desk(self.trees, self.places, programs, options)
+
+    def items(self):
+        """The paths of this part. Folders without files are made at once."""
+        items = list(archive_trees.walk(self.trees))
+        paths = [item.path for item in items]
+        sums = self.desk.sums
+        if sums.of and not sums.fit(path for path in paths):
+            raise Refused(f"no name in {', '.join(map(archive_names.printable, self.options.sums))} is a path of the trees")
+        self.prune(paths)
+        items += [archive_trees.Item(path, {}) for path in sorted(sums.of.keys() - set(paths))]
+        for item in items:
+            if item.is_folder():
+                os.makedirs(self.places.path("out", item.path), exist_ok=True)
+        items = [item for item in items if not item.is_folder()]
+        index, parts = self.options.part
+        return items[index - 1 :: parts]
+
+    def prune(self, paths):
+        """Takes rows away of paths that no tree and no sum has any more."""
+        if self.options.part != (1, 1):
+            return
+        known = {*paths, *self.desk.sums.of}
+        for row in self.store.all():
+            if row.path not in known:
+                for output in row.outputs:
+                    self.places.drop(output)
+                self.store.remove(row.path)
+
+    def is_done(self, item):
+        """The row of an item that needs no work: nothing has changed since, and what was written is there."""
+        row = self.store.of(item.path)
+        if row and row.inputs == archive_item.inputs_of(self.desk, item) and all(map(self.places.has, row.outputs)):
+            return row
+        return None
+
+    def do(self, item, folder):
+        """Settles an item in a worker: the row is kept when all files are there."""
+        row = self.is_done(item)
+        if row:
+            return row
+        before = self.store.of(item.path)
+        self.store.remove(item.path)
+        for output in before.outputs if before else []:
+            self.places.drop(output)
+        self.desk.begin(folder)
+        row = archive_item.settle(self.desk, item)
+        self.store.save(row)
+        return row
+
+
+def write_report(job):
+    """The table and the page, of all rows that are there."""
+    rows = job.store.all()
+    archive_rows.write_whole(os.path.join(job.places.report, "pictures.csv"), archive_rows.table(rows))
+    archive_rows.write_whole(os.path.join(job.places.report, "report.html"), report_page.page(rows, job.places.out))
+    return rows
+
+
+def go_through(job, options):
+    """Does the work of this call, and answers its rows."""
+    items, rows = job.items(), []
+    work = archive_places.Work(job.places)
+    progress = archive_run.Progress(len(items), options.quiet)
+    try:
+        with contextlib.closing(archive_run.run(items, job.do, work.folder, options.jobs)) as done:
+            for _, row in done:
+                rows.append(row)
+                progress.step(row)
+    finally:
+        progress.end()
+        work.remove()
+    return rows
+
+
+def share(options):
+    """Lets GNU parallel give parts of the work to other machines; each makes its part by a call of its own."""
+    tool = shutil.which("parallel")
+    if not tool:
+        raise Refused("--ssh wants GNU parallel, and there is none", 127)
+    parts = 16 * len(options.ssh.split(","))
+    command = [os.path.realpath(sys.argv[0]), "--shared", "--jobs", "1", "--tries", str(options.tries), "--part", f"{{}}/{parts}"]
+    command += ["--folders"] if options.folders else []
+    for file in options.sums:
+        command += ["--sums", os.path.realpath(file)]
+    places = [os.path.realpath(word) for word in options.words]
+    words = [tool, "--will-cite", "--quote", "--sshlogin", options.ssh, "--halt", "now,fail=1"]
+    words += ["--env", "JLS_SALVAGE", "--env", "JLS_SPLICE"]
+    bar = ["--bar"] if sys.stderr.isatty() and not options.quiet else []
+    numbers = "".join(f"{number}\n" for number in range(1, parts + 1))
+    done = subprocess.run([*words, *bar, *command, "--", *places], input=numbers, text=True)
+    if done.returncode:
+        raise archive_run.Stopped("the work was stopped on a machine", done.returncode)
+
+
+def run(options):
+    programs = Programs()
+    if options.version:
+        print(programs.run([programs.salvage, "--version"]).printed, end="")
+        return 0
+    job = (archive_folders.Folders if options.folders else Trees)(options, programs)
+    if options.ssh:
+        share(options)
+        rows = job.store.all()
+    else:
+        rows = go_through(job, options)
+    if options.shared:
+        return 0
+    everything = write_report(job)
+    if not options.quiet:
+        named = options.out.rstrip("/") or options.out
+        print(report_page.summary(everything, named if options.folders else f"{named}.report"), end="")
+    return 1 if any(row.status for row in rows) else 0
+
+
+def main():
+    archive_run.catch_signals()
+    sys.stdout.reconfigure(errors="backslashreplace")
+    try:
+        return run(archive_words.read(sys.argv[1:]))
+    except Refused as fault:
+        say(fault)
+        return fault.status
+    except (archive_run.Stopped, ProgramFailed) as fault:
+        say(f"{fault}; the same call goes on from here")
+        return fault.status
+    except OSError as fault:
+        say(f"{archive_names.printable(fault.filename or 'a file')}: {fault.strerror}")
+        return 4

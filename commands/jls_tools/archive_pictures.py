@@ -1,0 +1,95 @@
+"""JPEG-LS files and partial pictures of the trees: whether one reads, and what comes of copies that differ."""
+import os
+
+from . import archive_desk
+
+PART = ".jlsp"
+
+
+def result_of(report, status):
+    """The words for a picture whose lines a report counts."""
+    if status == 3 or not report.shape:
+        return "does not read"
+    return "lines disputed" if report.disputed else "lines missing" if report.missing else "reads"
+
+
+def status_of(outcome, report):
+    """The row's status: a picture with lines missing is not whole whatever the call ended with."""
+    return outcome.status or (1 if report.missing or report.disputed else 0)
+
+
+def look(desk, row, copy):
+    """Says of a file that is copied through whether it reads. If it isn't whole, its partial picture is kept beside OUT."""
+    name = desk.links([copy])[0]
+    outcome = desk.programs.check(name, desk.folder)
+    report = outcome.report
+    row.take(report)
+    result = result_of(report, outcome.status)
+    row.end(result, status_of(outcome, report), outcome.faults.replace(name, "it"))
+    if result in ("lines missing", "lines disputed"):
+        partial = desk.name("partial")
+        if desk.programs.join(partial, [name], desk.folder).status <= 1:
+            desk.keep_partial(row, partial, row.path + PART)
+
+
+def log_of(desk, copies, names, outcome):
+    """What jls-splice or join printed, with the places of the copies."""
+    lines = [f"{name}: {archive_desk.shown(copy.path)}" for name, copy in zip(names, copies)]
+    return "\n".join(lines) + f"\nstatus {outcome.status}\n" + outcome.printed + outcome.faults
+
+
+def mend(desk, row, copies):
+    """JPEG-LS files that differ: OUT gets the mended file if it is promised to be the picture, or is the file of the sums."""
+    names, spliced, mended = desk.links(copies), desk.name("spliced"), desk.name("mended")
+    outcome = desk.programs.splice(spliced, names, mended, desk.folder, ["--tries", str(desk.options.tries)])
+    log = log_of(desk, copies, names, outcome)
+    row.take(outcome.report)
+    if outcome.status >= 2 or not os.path.exists(desk.place(spliced)):
+        row.say(outcome.faults)
+        keep_log(desk, row, log)
+        return desk.set_aside(row, copies, "does not read", outcome.status or 3)
+    fits = desk.judge(row, desk.place(mended)) if outcome.file_written else None
+    if fits or fits is None and outcome.promises_picture:
+        desk.put(row, mended, "out", row.path, copies[0].path)
+        return row.end("mended", 0)
+    desk.set_aside(row, copies)
+    return keep(desk, row, (spliced, mended, copies[0].path), outcome, log)
+
+
+def keep(desk, row, names, outcome, log):
+    """A picture that isn't whole, or isn't promised to be: what there is of it stands beside OUT."""
+    spliced, mended, model = names
+    result = result_of(outcome.report, outcome.status)
+    if result == "reads":
+        result = "not promised"
+        if not outcome.file_written:
+            wrote = desk.programs.write_jls(mended, spliced, desk.folder)
+            log += wrote.faults
+        if os.path.exists(desk.place(mended)):
+            desk.put(row, mended, "partial", row.path, model)
+    if row.sum == "differs":
+        row.say("what decodes is not the file of the sum")
+    desk.keep_partial(row, spliced, row.path + PART)
+    keep_log(desk, row, log)
+    return row.end(result, max(outcome.status, 1))
+
+
+def keep_log(desk, row, log):
+    desk.keep_log(row, log, row.path + ".log")
+
+
+def join(desk, row, copies):
+    """Partial pictures that differ, perhaps with copies among them: OUT gets all that they have."""
+    names, joined = desk.links(copies), desk.name("joined")
+    outcome = desk.programs.join(joined, names, desk.folder)
+    if not os.path.exists(desk.place(joined)):
+        keep_log(desk, row, log_of(desk, copies, names, outcome))
+        return desk.set_aside(row, copies, "does not read", outcome.status or 3)
+    report = desk.programs.show(joined, desk.folder).report
+    row.take(report)
+    if report.missing or report.disputed:
+        desk.draw(row, joined)
+    desk.judge(row, desk.place(joined))
+    desk.put(row, joined, "out", row.path, copies[0].path)
+    result = result_of(report, outcome.status)
+    return row.end("joined" if result == "reads" else result, status_of(outcome, report), outcome.faults)

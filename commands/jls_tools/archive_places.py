@@ -1,0 +1,152 @@
+"""Where results stand: OUT and the folders beside it. Every file gets its name when it is complete."""
+import fcntl
+import os
+import shutil
+import socket
+import stat
+import tempfile
+import time
+
+
+class Refused(Exception):
+    """The call can't be done as it is; the text is for the person, and `status` for the shell."""
+
+    def __init__(self, text, status=2):
+        super().__init__(text)
+        self.status = status
+
+
+def store(path):
+    """Asks the system to put the file's bytes on the disk."""
+    handle = os.open(path, os.O_RDONLY)
+    try:
+        os.fsync(handle)
+    finally:
+        os.close(handle)
+
+
+def make_like(path, model, times=True):
+    """Gives a file the permissions of another, and its times."""
+    try:
+        seen = os.stat(model)
+    except OSError:
+        return
+    os.chmod(path, stat.S_IMODE(seen.st_mode) & 0o777 | 0o600)
+    if times:
+        os.utime(path, ns=(seen.st_atime_ns, seen.st_mtime_ns))
+
+
+def remove(path):
+    """Removes a file, a link, or a folder with all that is in it; nothing there is well too."""
+    if os.path.isdir(path) and not os.path.islink(path):
+        shutil.rmtree(path)
+    else:
+        try:
+            os.unlink(path)
+        except FileNotFoundError:
+            pass
+
+
+class Places:
+    """OUT, OUT.differ, OUT.partial and OUT.report. Work is done in a folder of its own in OUT.report, which the owner alone can read."""
+
+    def __init__(self, out, report=None):
+        self.out = out
+        self.report = report or f"{out}.report"
+        self.roots = {"out": out, "differ": f"{out}.differ", "partial": f"{out}.partial"}
+        self.works = os.path.join(self.report, ".work")
+        self.mask = os.umask(0)  # what the person lets others do
+        os.umask(self.mask)
+
+    def path(self, root, name):
+        return os.path.join(self.roots[root], name)
+
+    def put(self, made, root, name, model=None, times=False):
+        """Moves a complete file or folder to its place, and answers what a row keeps of it."""
+        place = self.path(root, name)
+        self.make_folder(os.path.dirname(place))
+        if os.path.islink(made):
+            pass
+        elif os.path.isdir(made):
+            remove(place)
+            self.open_folder(made)
+        else:
+            os.chmod(made, 0o666 & ~self.mask)
+            if model:
+                make_like(made, model, times)
+            store(made)
+        os.replace(made, place)
+        return [root, name]
+
+    def make_folder(self, path):
+        """A folder with the permissions that the person's mask leaves."""
+        own = os.umask(self.mask)
+        try:
+            os.makedirs(path, exist_ok=True)
+        finally:
+            os.umask(own)
+
+    def open_folder(self, path):
+        """Gives a folder and the files in it the permissions that the person's mask leaves."""
+        for entry in os.scandir(path):
+            os.chmod(entry.path, 0o666 & ~self.mask)
+            store(entry.path)
+        os.chmod(path, 0o777 & ~self.mask)
+
+    def has(self, output):
+        return os.path.lexists(self.path(*output))
+
+    def drop(self, output):
+        """Removes what an earlier run wrote, and folders that are empty then."""
+        place = self.path(*output)
+        remove(place)
+        folder = os.path.dirname(place)
+        while folder not in self.roots.values() and output[0] != "out":
+            try:
+                os.rmdir(folder)
+            except OSError:
+                return
+            folder = os.path.dirname(folder)
+
+
+class Work:
+    """The folder of one run for what isn't complete. A lock on a file in it says that the run is alive."""
+
+    def __init__(self, places):
+        os.makedirs(places.works, mode=0o700, exist_ok=True)
+        self.places = places
+        tidy(places)
+        self.folder = tempfile.mkdtemp(prefix=f"{socket.gethostname()[:40]}-{os.getpid()}-", dir=places.works)
+        self.lock = open(os.path.join(self.folder, "lock"), "wb")
+        lock(self.lock)
+
+    def remove(self):
+        shutil.rmtree(self.folder, ignore_errors=True)
+        self.lock.close()
+        try:
+            os.rmdir(self.places.works)
+        except OSError:
+            pass  # another run works there
+
+
+def lock(file):
+    """Whether the lock on a file could be had. A disk that has no locks answers no."""
+    try:
+        fcntl.flock(file, fcntl.LOCK_EX | fcntl.LOCK_NB)
+        return True
+    except OSError:
+        return False
+
+
+def tidy(places):
+    """Removes what runs left that were killed."""
+    for entry in os.scandir(places.works):
+        try:
+            with open(os.path.join(entry.path, "lock"), "r+b") as file:
+                if not lock(file):
+                    continue
+        except OSError:
+            # killed before it had a lock, or about to have one
+            if entry.stat().st_mtime > time.time() - 60:
+                continue
+        shutil.rmtree(entry.path, ignore_errors=True)

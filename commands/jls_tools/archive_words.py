@@ -1,0 +1,94 @@
+"""The words of jls-archive."""
+import argparse
+import os
+import re
+
+from . import archive_places, sums
+
+TEXT = """\
+jls-archive mends an archive from backups of it. TREEs are backups of one folder. For each path that any of them has, OUT gets the
+file: as it is where all copies are equal, and mended from the copies where these are JPEG-LS pictures, DICOM files or partial
+pictures that differ. Nothing in a TREE is changed, and no symbolic link is followed.
+
+Beside OUT stand:
+  OUT.differ/TREE/..  copies that differ and could not be mended, or are no pictures
+  OUT.partial/..      what there is of pictures that aren't whole
+  OUT.report/         pictures.csv, a row for each path, and report.html, a page of those that aren't whole
+
+With --folders, each folder of IN has copies of one picture, and OUT gets a picture for each folder.
+
+A run that was stopped goes on if it is called again. The status is 0 if all is whole, and 1 if some path isn't; 2: the words are wrong;
+4: something can't be read or written; 5, 125, 127 and above: a program could not do its work, and the run stopped.
+"""
+
+
+class Parser(argparse.ArgumentParser):
+    def error(self, message):
+        raise archive_places.Refused(f"{message}\nTry jls-archive --help.")
+
+
+def number(text):
+    if not re.fullmatch(r"[1-9]\d{0,9}", text):
+        raise argparse.ArgumentTypeError(f"{text} is no number from 1 on")
+    return int(text)
+
+
+def part(text):
+    """(K, N) of K/N."""
+    found = re.fullmatch(r"(\d{1,9})/(\d{1,9})", text)
+    index, parts = (int(found.group(1)), int(found.group(2))) if found else (0, 0)
+    if not 1 <= index <= parts:
+        raise argparse.ArgumentTypeError(f"{text} is no part K/N with K from 1 to N")
+    return index, parts
+
+
+def parser():
+    made = Parser(
+        prog="jls-archive",
+        usage="jls-archive [OPTIONS] OUT TREE TREE..\n       jls-archive --folders [OPTIONS] IN OUT",
+        description=TEXT,
+        formatter_class=argparse.RawDescriptionHelpFormatter,
+        allow_abbrev=False,
+    )
+    made.add_argument("words", nargs="*", metavar="OUT TREE TREE..", help="the new folder, and the backups")
+    add = made.add_argument
+    add("--folders", action="store_true", help="each folder of IN has the copies of one picture")
+    add("--sums", action="append", default=[], metavar="FILE", help="lines of sha256sum, md5sum or BagIt: is each file the one?")
+    add("--jobs", type=number, default=len(os.sched_getaffinity(0)), metavar="N", help="how many at once; all processors unless told")
+    add("--tries", type=number, default=4096, metavar="N", help="how much jls-splice tries for a picture; 4096 unless told")
+    add("--part", type=part, default=(1, 1), metavar="K/N", help="only the Kth of N parts of the paths, for a job array")
+    add("--ssh", metavar="HOST,..", help="share the work with these machines, by GNU parallel")
+    add("--quiet", action="store_true", help="no progress on the terminal, and no summary")
+    add("--version", action="store_true", help="print the version of jls-salvage")
+    # a part that --ssh gave away: no table, and status 0 when the part is done
+    add("--shared", action="store_true", help=argparse.SUPPRESS)
+    return made
+
+
+def read(words):
+    """The options of a call. A Refused says what is wrong with them."""
+    options = parser().parse_args(words)
+    options.sums_read = sums.Sums()
+    if options.version:
+        return options
+    if options.folders:
+        if len(options.words) != 2:
+            raise archive_places.Refused("--folders takes IN and OUT")
+        if options.sums:
+            raise archive_places.Refused("--sums goes with trees, not with --folders")
+        options.out, options.trees = options.words[1], options.words[:1]
+    else:
+        if not options.words:
+            raise archive_places.Refused("it takes OUT and two TREEs or more; try jls-archive --help")
+        options.out, options.trees = options.words[0], options.words[1:]
+        if len(options.trees) < 2:
+            many = "one TREE alone is" if options.trees else "no TREE is"
+            raise archive_places.Refused(f"{many} named: it takes two or more backups")
+    for file in options.sums:
+        try:
+            options.sums_read.read(file)
+        except OSError as fault:
+            raise archive_places.Refused(f"{file}: {fault.strerror}", 4) from fault
+        except sums.BadManifest as fault:
+            raise archive_places.Refused(f"{file}: {fault}") from fault
+    return options

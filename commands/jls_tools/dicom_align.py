@@ -1,0 +1,214 @@
+"""Copies on one axis: each byte of the file has one offset, whatever a copy lost before it.
+
+A byte that a copy has not (it is cut, or lost bytes) is taken from another copy that has it; `absent` says where that was done. So all
+copies have one length then, and where they differ each has a byte of its own.
+"""
+import re
+from dataclasses import dataclass, field
+
+ANCHOR = 32  # so many bytes that are equal, and not all alike, show how two copies lie to each other
+ANCHOR_KINDS = 8
+STEPS = (0, 16, 48, 128, 256, 512, 768, 1024, 2048, 4096, 6144, 8192, 16384, 32768, 65536)
+REACH = 1 << 20  # no more bytes than that are lost in one place
+BLOCK = 1 << 16
+SHARE_APART = 64  # fewer than one in so many bytes differ where copies of one length were damaged in place
+
+
+@dataclass
+class Copy:
+    """A copy on the axis. `absent` are the ranges of the axis that it has not."""
+
+    path: str
+    data: bytes
+    absent: list = field(default_factory=list)
+
+    def lacks(self, begin, end):
+        return any(first < end and begin < last for first, last in self.absent)
+
+    def has_only(self, begin, end):
+        """The bytes of a range that it has itself."""
+        parts, at = [], begin
+        for first, last in self.absent:
+            if first < end and at < last:
+                parts.append(self.data[at : max(at, min(first, end))])
+                at = max(at, min(last, end))
+        return b"".join(parts) + self.data[at:end]
+
+
+def equal_length(one, other, at, beside):
+    """How many bytes are equal from here on."""
+    begin, most = at, min(len(one) - at, len(other) - beside)
+    done, size = 0, 64
+    while done < most:
+        size = min(size, most - done)
+        left, right = one[begin + done : begin + done + size], other[beside + done : beside + done + size]
+        if left != right:
+            if size == 1:
+                return done
+            size = max(1, size // 2) if size > 64 else 1 if size <= 2 else size // 2
+            continue
+        done += size
+        size = min(BLOCK, size * 2)
+    return done
+
+
+def same_way_on(one, other, at, beside):
+    """How far the next run of bytes that are equal at these offsets is, if most of what comes is equal; else nothing."""
+    window = min(256, len(one) - at, len(other) - beside)
+    left, right = one[at : at + window], other[beside : beside + window]
+    equal = sum(a == b for a, b in zip(left, right))
+    if equal * 2 < window or window < 16:
+        return None
+    for step in range(1, window):
+        if left[step : step + 4] == right[step : step + 4]:
+            return step
+    return None
+
+
+def anchor_at(data, at):
+    anchor = data[at : at + ANCHOR]
+    return anchor if len(anchor) == ANCHOR and len(set(anchor)) >= ANCHOR_KINDS else None
+
+
+def meet_again(one, other, at, beside):
+    """The next offsets (in both) from which they are equal again, with bytes lost between or not; nothing if there are none."""
+    for step in STEPS:
+        near, far = anchor_at(one, at + step), anchor_at(other, beside + step)
+        if near is not None and near == far:
+            return at + step, beside + step
+        found = other.find(near, beside, beside + step + REACH) if near is not None else -1
+        if found >= 0:
+            return back(one, other, at, beside, at + step, found)
+        found = one.find(far, at, at + step + REACH) if far is not None else -1
+        if found >= 0:
+            return back(one, other, at, beside, found, beside + step)
+    return None
+
+
+def back(one, other, at, beside, meet, meets):
+    """The first of the equal bytes before a place where both are equal."""
+    while meet > at and meets > beside and one[meet - 1] == other[meets - 1]:
+        meet, meets = meet - 1, meets - 1
+    return meet, meets
+
+
+def pieces(one, other, is_free=False):
+    """(bytes of one, bytes of the other) in turn: as many of both, or none of one.
+
+    Where as many bytes follow in both, they are taken by offset, unless the way is free.
+    """
+    at = beside = 0
+    while at < len(one) and beside < len(other):
+        count = equal_length(one, other, at, beside)
+        if count == 0 and (is_free or len(one) - at != len(other) - beside):
+            step = same_way_on(one, other, at, beside)
+            if step is None:
+                meet = meet_again(one, other, at, beside)
+                if meet is not None:
+                    both = min(meet[0] - at, meet[1] - beside)
+                    yield both, both
+                    yield meet[0] - at - both, meet[1] - beside - both
+                    at, beside = meet
+                    continue
+                step = min(len(one) - at, len(other) - beside)
+            count = step
+        elif count == 0:
+            count = len(one) - at
+        yield count, count
+        at, beside = at + count, beside + count
+    yield len(one) - at, 0
+    yield 0, len(other) - beside
+
+
+def insert_gaps(copy, gaps, source):
+    """Puts bytes into a copy that it has not: `gaps` are (its offset, count, offset in the source)."""
+    parts, absent, at = [], [], 0
+    shift, old = 0, copy.absent
+    for offset, count, place in gaps:
+        parts += [copy.data[at:offset], source[place : place + count]]
+        absent.append((offset + shift, offset + shift + count))
+        shift, at = shift + count, offset
+    parts.append(copy.data[at:])
+    moved = []
+    for begin, end in old:
+        move = sum(count for offset, count, _ in gaps if offset <= begin)
+        moved.append((begin + move, end + move))
+    return Copy(copy.path, b"".join(parts), merged(absent + moved))
+
+
+def merged(ranges):
+    found = []
+    for begin, end in sorted(ranges):
+        if found and found[-1][1] >= begin:
+            found[-1] = (found[-1][0], max(found[-1][1], end))
+        else:
+            found.append((begin, end))
+    return found
+
+
+def gaps_of(one, other, is_free):
+    """What each of two lacks of the other: for each a list as insert_gaps takes it."""
+    at = beside = 0
+    in_one, in_other = [], []
+    for count, counts in pieces(one, other, is_free):
+        if count > counts:
+            in_other.append((beside, count, at))
+        elif counts > count:
+            in_one.append((at, counts, beside))
+        at, beside = at + count, beside + counts
+    return in_one, in_other
+
+
+def size_of(ranges):
+    return sum(end - begin for begin, end in ranges)
+
+
+def aligned(one, other):
+    """(gaps in one, gaps in the other). Those of one length are taken by offset, unless they have far more in common when shifted."""
+    if len(one) != len(other):
+        return gaps_of(one, other, False)
+    apart = size_of(differing([one, other]))
+    if apart * SHARE_APART < len(one):
+        return [], []
+    gaps = gaps_of(one, other, True)
+    left, right = (insert_gaps(Copy("", text), gap, source) for text, gap, source in ((one, gaps[0], other), (other, gaps[1], one)))
+    left_apart = size_of(differing([left.data, right.data])) + size_of(left.absent) + size_of(right.absent)
+    return gaps if left_apart * 2 < apart else ([], [])
+
+
+def on_one_axis(copies):
+    """All copies on one axis, which the longest copy begins."""
+    order = sorted(range(len(copies)), key=lambda index: -len(copies[index].data))
+    placed = {order[0]: copies[order[0]]}
+    for index in order[1:]:
+        base = placed[order[0]]
+        in_base, in_copy = aligned(base.data, copies[index].data)
+        before = base.data
+        if in_base:
+            source = copies[index].data
+            placed = {key: insert_gaps(copy, in_base, source) for key, copy in placed.items()}
+        placed[index] = insert_gaps(copies[index], in_copy, before)
+    return [placed[index] for index in range(len(copies))]
+
+
+NOT_ZERO = re.compile(rb"[^\0]+")
+
+
+def differing(texts, begin=0, end=None):
+    """The ranges, of one byte or more, in which texts of one length differ. Each byte in them differs."""
+    end = len(texts[0]) if end is None else end
+    found = []
+    for at in range(begin, end, BLOCK):
+        blocks = [text[at : min(end, at + BLOCK)] for text in texts]
+        if all(block == blocks[0] for block in blocks[1:]):
+            continue
+        base = int.from_bytes(blocks[0], "big")
+        mask = 0
+        for block in blocks[1:]:
+            mask |= base ^ int.from_bytes(block, "big")
+        for run in NOT_ZERO.finditer(mask.to_bytes(len(blocks[0]), "big")):
+            if found and found[-1][1] == at + run.start():
+                found[-1] = (found[-1][0], at + run.end())
+            else:
+                found.append((at + run.start(), at + run.end()))
+    return found

@@ -1,0 +1,189 @@
+"""Where the frames of Pixel Data stand (PS3.5, A.4): fragments of a frame together, paired by place. A search comes last."""
+import re
+from dataclasses import dataclass
+
+from jls_tools.dicom_file import UNDEFINED
+
+# SOI, and then SOF55, LSE, APPn, COM, DRI or fill
+BEGIN = re.compile(rb"\xff\xd8(?=\xff[\xf7\xf8\xe0-\xef\xfe\xdd\xff])")
+DELIMITER = b"\xfe\xff\xdd\xe0\0\0\0\0"
+ITEM_TAG = b"\xfe\xff\x00\xe0"
+EXTENDED_TABLE, EXTENDED_LENGTHS = 0x7FE00001, 0x7FE00002
+
+
+@dataclass
+class FramePlace:
+    """A frame: its fragments as (begin, end) on the axis; `is_exact` where each of their headers reads."""
+
+    number: int
+    fragments: list
+    is_exact: bool = True
+
+    @property
+    def begin(self):
+        return self.fragments[0][0]
+
+    @property
+    def end(self):
+        return self.fragments[-1][1]
+
+    @property
+    def size(self):
+        return sum(end - begin for begin, end in self.fragments)
+
+    def stream(self, data):
+        return b"".join(data[begin:end] for begin, end in self.fragments)
+
+
+def table_of(data, begin, end, size):
+    return [int.from_bytes(data[at : at + size], "little") for at in range(begin, end - size + 1, size)]
+
+
+class Fragments:
+    """The fragments that a Structure has, and what the offset tables of the copies say."""
+
+    def __init__(self, structure, copies):
+        self.copies = copies
+        items = structure.items_of_pixels()
+        total = structure.walk.total
+        self.table = items[0] if items and not isinstance(items[0], tuple) else None
+        rest = items[1:] if self.table else items
+        # (where its header begins, where its value begins, where it ends, whether the header reads)
+        self.found = [
+            (item[0], min(item[0] + 8, item[1]), item[1], False)
+            if isinstance(item, tuple)
+            else (item.start, item.value, min(item.end, total), item.end <= total)
+            for item in rest
+        ]
+        if self.table:
+            self.first = self.table.end
+        else:
+            self.first = self.found[0][0] if self.found else total
+        self.extended = next((element for element in structure.elements if element.tag == EXTENDED_TABLE), None)
+        self.places = self.table_places()
+        self.split_unread()
+
+    def table_places(self):
+        """Offsets of items of frames that an offset table has, in some copy, and that can be true."""
+        found = set()
+        for copy in self.copies:
+            entries = table_of(copy.data, self.table.value, self.table.end, 4) if self.table else []
+            if self.extended and self.extended.length != UNDEFINED:
+                entries += table_of(copy.data, self.extended.value, self.extended.end, 8)
+            found.update(self.first + entry for entry in entries)
+        return found
+
+    def split_unread(self):
+        """Cuts what stands between two items that read at the places that the tables have."""
+        parts = []
+        for start, value, end, is_read in self.found:
+            borders = [start, *sorted(place for place in self.places if start < place < end), end]
+            if is_read or len(borders) == 2:
+                parts.append((start, value, end, is_read))
+                continue
+            parts += [(begin, min(begin + 8, until), until, False) for begin, until in zip(borders, borders[1:])]
+        self.found = parts
+
+    def begins_frame(self, fragment):
+        start, value, end, _ = fragment
+        return start in self.places or any(BEGIN.match(copy.data, value, end) for copy in self.copies)
+
+    def frames(self, count):
+        """FramePlaces, if the header says so many frames (None: it does not read)."""
+        if count == 1:
+            groups = [self.found] if self.found else []
+        elif count == len(self.found):
+            groups = [[fragment] for fragment in self.found]
+        else:
+            groups = []
+            for fragment in self.found:
+                if not groups or self.begins_frame(fragment):
+                    groups.append([])
+                groups[-1].append(fragment)
+        return [
+            FramePlace(number, [(value, end) for _, value, end, _ in group], all(fragment[3] for fragment in group))
+            for number, group in enumerate(groups)
+        ]
+
+
+def by_search(data):
+    """Streams of one copy that are found by their first bytes: (begin, end)."""
+    places = [found.start() for found in BEGIN.finditer(data)]
+    found = []
+    for begin, behind in zip(places, places[1:] + [None]):
+        end = len(data) if behind is None else behind - 8 if data[behind - 8 : behind - 4] == ITEM_TAG else behind
+        delimiter = data.find(DELIMITER, begin, end)
+        found.append((begin, delimiter if delimiter >= 0 else max(begin, end)))
+    return found
+
+
+def pieces_of(stream, size=32):
+    """What a stream can be known by: its pieces at whole steps."""
+    return {stream[at : at + size] for at in range(64, len(stream) - size, size)}
+
+
+def paired_by_bytes(streams):
+    """Streams of several copies, [[of the first], [of the second], ..], together where they have pieces in common: lists of streams."""
+    groups = []
+    for own in streams:
+        for stream in own:
+            mine = pieces_of(stream)
+            likeness, group = max(((len(mine & group[0]), at) for at, group in enumerate(groups)), default=(0, None))
+            if likeness and likeness * 4 >= min(len(mine), len(groups[group][0])):
+                groups[group][1].append(stream)
+                groups[group][0].update(mine)
+            else:
+                groups.append((set(mine), [stream]))
+    return [streams for _, streams in groups]
+
+
+@dataclass
+class Shape:
+    rows: int
+    columns: int
+    precision: int
+    components: int
+    near: int | None = None
+    interleave: int | None = None
+
+
+def shape_of(stream):
+    """What the frame header and the first scan header of a codestream say (T.87, C.2.2 and C.2.3), or nothing."""
+    at, found = 2, None
+    while at + 4 <= len(stream) and stream[at] == 0xFF:
+        code = stream[at + 1]
+        if code == 0xFF:
+            at += 1
+            continue
+        length = int.from_bytes(stream[at + 2 : at + 4], "big")
+        segment = stream[at + 4 : at + 2 + length]
+        if code == 0xF7 and len(segment) >= 6:
+            found = Shape(int.from_bytes(segment[1:3], "big"), int.from_bytes(segment[3:5], "big"), segment[0], segment[5])
+        if code == 0xDA:
+            if found and len(segment) >= 4:
+                found.near, found.interleave = segment[-3], segment[-2]
+            return found
+        if length < 2:
+            return found
+        at += 2 + length
+    return found
+
+
+def other_coding(stream):
+    """What a codestream is that is no JPEG-LS, by its first marker segments; None for JPEG-LS or what can't be told."""
+    if stream[:4] in (b"\xff\x4f\xff\x51", b"\0\0\0\x0c"):
+        return "JPEG 2000"
+    at = 2
+    while stream[:2] == b"\xff\xd8" and at + 4 <= len(stream) and stream[at] == 0xFF:
+        code = stream[at + 1]
+        if code == 0xFF:
+            at += 1
+            continue
+        if code == 0xC3:
+            return "lossless JPEG, which is another coding than JPEG-LS"
+        if 0xC0 <= code <= 0xCF and code not in (0xC4, 0xC8, 0xCC):
+            return "JPEG, lossy"
+        if code in (0xF7, 0xDA):
+            return None
+        at += 2 + int.from_bytes(stream[at + 2 : at + 4], "big")
+    return None

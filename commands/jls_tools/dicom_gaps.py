@@ -1,0 +1,101 @@
+"""A DICOM file whose lost lines are filled with one value: it has new UIDs, and says what it is and of which file it was made."""
+import struct
+import uuid
+
+from jls_tools import partial_picture
+from jls_tools.dicom_file import ITEM, UNDEFINED, tag_bytes
+
+IMAGE_TYPE, DESCRIPTION, SOURCES = 0x00080008, 0x00082111, 0x00082112
+CLASS, INSTANCE, INSTANCE_IN_META, META_LENGTH = 0x00080016, 0x00080018, 0x00020003, 0x00020000
+OF_CLASS, OF_INSTANCE = 0x00081150, 0x00081155
+LONGEST_DESCRIPTION = 1024
+
+
+def element(tag, vr, value, pad=b" "):
+    value += pad * (len(value) % 2)
+    if vr in (b"SQ", b"OB"):
+        return tag_bytes(tag) + vr + b"\0\0" + struct.pack("<I", len(value)) + value
+    return tag_bytes(tag) + vr + struct.pack("<H", len(value)) + value
+
+
+def value_of(elements, tag):
+    """The value of an element whose header has a length of two bytes."""
+    return next((value[8:] for own, value in elements if own == tag), b"")
+
+
+def put(elements, tag, value):
+    """The elements with this one in its place."""
+    rest = [pair for pair in elements if pair[0] != tag]
+    at = next((number for number, pair in enumerate(rest) if pair[0] > tag), len(rest))
+    return rest[:at] + [(tag, value)] + rest[at:]
+
+
+def sources(elements):
+    """Source Image Sequence with the old UID before what it had."""
+    kept = b""
+    for tag, value in elements:
+        if tag == SOURCES:
+            is_open = struct.unpack_from("<I", value, 8)[0] == UNDEFINED
+            kept = value[12:-8] if is_open else value[12:]
+    inner = element(OF_CLASS, b"UI", value_of(elements, CLASS).rstrip(b"\0"), b"\0")
+    inner += element(OF_INSTANCE, b"UI", value_of(elements, INSTANCE).rstrip(b"\0"), b"\0")
+    return element(SOURCES, b"SQ", tag_bytes(ITEM) + struct.pack("<I", len(inner)) + inner + kept)
+
+
+def derived(elements, description):
+    """The elements of a file that was made of this one."""
+    uid = f"2.25.{uuid.uuid4().int}".encode()
+    kind = value_of(elements, IMAGE_TYPE).rstrip(b" \0").split(b"\\")
+    kind = [b"DERIVED"] + (kind[1:] or [b"SECONDARY"])
+    said = value_of(elements, DESCRIPTION).rstrip(b" \0")
+    text = (said + b"; " if said else b"") + description.encode("ascii")
+    if len(text) > LONGEST_DESCRIPTION:
+        text = text[: LONGEST_DESCRIPTION - 3] + b"..."
+    for tag, value in (
+        (SOURCES, sources(elements)),
+        (IMAGE_TYPE, element(IMAGE_TYPE, b"CS", b"\\".join(kind))),
+        (DESCRIPTION, element(DESCRIPTION, b"ST", text)),
+        (INSTANCE, element(INSTANCE, b"UI", uid, b"\0")),
+        (INSTANCE_IN_META, element(INSTANCE_IN_META, b"UI", uid, b"\0")),
+    ):
+        elements = put(elements, tag, value)
+    size = sum(len(value) for tag, value in elements if tag >> 16 == 2 and tag != META_LENGTH)
+    return put(elements, META_LENGTH, element(META_LENGTH, b"UL", struct.pack("<I", size)))
+
+
+def description_of(frames):
+    """Which lines were filled, by frame and component."""
+    parts = [f"frame {number}: {', '.join(lines)}" for number, lines in frames]
+    return "lost lines were filled by jls-dicom: " + "; ".join(parts)
+
+
+def filled_lines(picture):
+    """The lines of a partial picture that have no reading, or several: words such as '1 2-3' of component 1."""
+    words = []
+    for index, name in enumerate(picture.ids):
+        lost = [line for line in range(picture.height) if len(picture.of_line(index, line)) != 1]
+        words += [f"{name} {first}-{last}" for first, last in partial_picture.ranges(lost)]
+    return words
+
+
+def filled_text(picture, value):
+    """The text of a whole picture, with one value in each lost line (docs/FORMAT.md, version 2)."""
+    lost = struct.pack(">H", value) * picture.width
+    head = struct.pack(">BHHB", picture.precision, picture.width, picture.height, len(picture.ids)) + bytes(picture.ids)
+    parts = [b"JLSP\2", head, struct.pack(">I", len(picture.ids) * picture.height)]
+    for index in range(len(picture.ids)):
+        for line in range(picture.height):
+            readings = picture.of_line(index, line)
+            samples = readings[0].samples if len(readings) == 1 else lost
+            parts.append(struct.pack(">BHQ", index, line, 1) + samples + struct.pack(">Q", 0))
+    return b"".join(parts)
+
+
+class Empty:
+    """A partial picture without any reading."""
+
+    def __init__(self, shape, ids):
+        self.precision, self.width, self.height, self.ids = shape.precision, shape.columns, shape.rows, ids
+
+    def of_line(self, component, line):
+        return []

@@ -1,0 +1,280 @@
+"""Decides what stands outside of frames where copies differ: the way that goes on, what the file says elsewhere, most copies."""
+import itertools
+import re
+import struct
+
+from jls_tools.dicom_file import JPEG_LS, UNDEFINED, tag_name, text_of
+from jls_tools.dicom_result import Place
+from jls_tools.dicom_values import NOT_IN_TEXT, allows
+
+STRINGS = frozenset(b"AE AS CS DA DS DT IS LO LT PN SH ST TM UC UI UR UT".split())
+GROUP_LENGTH, CLASS_IN_META, INSTANCE_IN_META, SYNTAX = 0x00020000, 0x00020002, 0x00020003, 0x00020010
+CLASS, INSTANCE = 0x00080016, 0x00080018
+FRAMES, SAMPLES, ROWS, COLUMNS = 0x00280008, 0x00280002, 0x00280010, 0x00280011
+PADDING = 0xFFFCFFFC  # it has no meaning (PS3.10, 7.2)
+ALLOCATED, STORED, HIGH, SIGN = 0x00280100, 0x00280101, 0x00280102, 0x00280103
+TWINS = ((CLASS_IN_META, CLASS), (INSTANCE_IN_META, INSTANCE))
+MOST_TOGETHER = 4096
+
+
+class Header:
+    """The runs outside of the frames, with the ways that are left for each. `ranges` of frames are (begin, end), in order."""
+
+    def __init__(self, copies, runs, structure, ranges):
+        self.copies = copies
+        self.runs = runs
+        self.structure = structure
+        self.ranges = ranges
+        self.left = {}  # run: the ways that are left
+        self.why = {}
+        self.parts = {}  # run: what of it is outside of the frames, (begin, end) each
+        for number, run in enumerate(runs.runs):
+            parts = list(self.outside(run.begin, run.end))
+            if parts:
+                self.parts[number] = parts
+                self.left[number] = self.first_ways(number, run)
+        self.elements = {element.tag: element for element in reversed(structure.elements)}
+        self.leaves = [step.element for step in structure.steps if step.kind == "leaf" and step.element]
+
+    def outside(self, begin, end):
+        """What of a range no frame has."""
+        for first, last in self.ranges:
+            if last <= begin or first >= end:
+                continue
+            if begin < first:
+                yield begin, first
+            begin = max(begin, last)
+        if begin < end:
+            yield begin, end
+
+    def first_ways(self, number, run):
+        found = self.structure.ways.get(number)
+        if found is not None:
+            self.why[number] = "it goes on so"
+            return sorted(found)
+        ways = [way for way in range(len(run.ways)) if not run.zeros[way]]
+        self.why[number] = "others are zeros"
+        return ways
+
+    # What is chosen --------------------------------------------------------------------
+
+    def chosen(self):
+        return {number: ways[0] for number, ways in self.left.items() if len(ways) == 1}
+
+    def open_runs(self, begin=0, end=None):
+        end = len(self.runs.data) if end is None else end
+        return [number for number in self.runs.touching(begin, end) if len(self.left.get(number, ())) > 1]
+
+    def keep(self, number, ways, why):
+        """Leaves these ways of a run, if there are any."""
+        ways = [way for way in self.left[number] if way in ways]
+        if ways and len(ways) < len(self.left[number]):
+            self.left[number] = ways
+            self.why[number] = why
+
+    def readings(self, begin, end):
+        """Each way through a range that is left: (its bytes, {run: way})."""
+        free = self.open_runs(begin, end)
+        chosen = self.chosen()
+        count = 1
+        for number in free:
+            count *= len(self.left[number])
+        if count > MOST_TOGETHER:
+            return []
+        return [
+            (self.runs.bytes_with(begin, end, {**chosen, **dict(zip(free, ways))}), dict(zip(free, ways)))
+            for ways in itertools.product(*(self.left[number] for number in free))
+        ]
+
+    def keep_readings(self, readings, why):
+        """Leaves the ways that some of these readings take."""
+        for number in {number for _, ways in readings for number in ways}:
+            self.keep(number, {ways[number] for _, ways in readings}, why)
+
+    def keep_values(self, tag, is_true, why):
+        """Leaves what makes the value of an element true, if anything does."""
+        element = self.elements.get(tag)
+        if element is None or element.length == UNDEFINED:
+            return
+        readings = [reading for reading in self.readings(element.value, element.end) if is_true(reading[0])]
+        if readings:
+            self.keep_readings(readings, why)
+
+    # What decides ----------------------------------------------------------------------
+
+    def decide(self, shape, frame_count, table):
+        """All that the file itself can say. `table` has what the offset tables should have, by tag; None is the tag of the basic one."""
+        self.by_values()
+        self.by_meta()
+        self.by_frames(shape, frame_count)
+        self.by_tables(table)
+        self.by_neighbours()
+        self.keep_values(PADDING, lambda value: not value.strip(b"\0"), "padding is zeros")
+        self.by_most()
+
+    def by_values(self):
+        """Drops what the VR of a value forbids, where it was not looked at on the way."""
+        for element in self.leaves:
+            if element.vr not in STRINGS:
+                continue
+            for number in self.open_runs(element.value, element.end):
+                run = self.runs.runs[number]
+                parts = {way: run.part(way, element.value, element.end) for way in self.left[number]}
+                allowed = {way for way, part in parts.items() if not NOT_IN_TEXT.search(part.rstrip(b"\0"))}
+                self.keep(number, allowed, "its VR forbids others")
+
+    def by_meta(self):
+        meta = [element for element in self.structure.elements if element.tag >> 16 == 2]
+        if meta and GROUP_LENGTH in self.elements:
+            size = struct.pack("<I", meta[-1].end - self.elements[GROUP_LENGTH].end)
+            self.keep_values(GROUP_LENGTH, lambda value: value == size, "so long is the meta information")
+        self.keep_values(SYNTAX, lambda value: text_of(value) == JPEG_LS, "the frames are JPEG-LS")
+        for first, second in TWINS:
+            self.by_twins(first, second)
+
+    def by_twins(self, first, second):
+        """Leaves the readings of two elements that are equal, as the standard has them."""
+        one, two = self.elements.get(first), self.elements.get(second)
+        if one is None or two is None:
+            return
+        ones = [reading for reading in self.readings(one.value, one.end) if allows(b"UI", reading[0])]
+        twos = [reading for reading in self.readings(two.value, two.end) if allows(b"UI", reading[0])]
+        both = {text_of(value) for value, _ in ones} & {text_of(value) for value, _ in twos}
+        if both:
+            why = f"{tag_name(first)} and {tag_name(second)} are equal so"
+            self.keep_readings([reading for reading in ones if text_of(reading[0]) in both], why)
+            self.keep_readings([reading for reading in twos if text_of(reading[0]) in both], why)
+
+    def by_frames(self, shape, frame_count):
+        """Leaves what agrees with the codestreams."""
+        if frame_count:
+            self.keep_values(FRAMES, lambda value: text_of(value).strip() == str(frame_count), "so many frames are there")
+        if shape is None:
+            return
+        for tag, number in ((SAMPLES, shape.components), (ROWS, shape.rows), (COLUMNS, shape.columns)):
+            self.keep_values(tag, lambda value, number=number: value == struct.pack("<H", number), "the frames say so")
+        allocated = 8 if shape.precision <= 8 else 16
+        self.keep_values(ALLOCATED, lambda value: value == struct.pack("<H", allocated), "the frames say so")
+        stored = self.short(STORED)
+        self.keep_values(STORED, lambda value: len(value) == 2 and 0 < struct.unpack("<H", value)[0] <= allocated, "no other can be")
+        if stored is None and self.short(HIGH) is not None:
+            self.keep_values(STORED, lambda value: value == struct.pack("<H", self.short(HIGH) + 1), "High Bit says so")
+        if self.short(STORED):
+            self.keep_values(HIGH, lambda value: value == struct.pack("<H", self.short(STORED) - 1), "Bits Stored says so")
+        self.keep_values(SIGN, lambda value: value in (b"\0\0", b"\1\0"), "no other can be")
+
+    def by_tables(self, table):
+        for tag, expected in table.items():
+            if tag is None:
+                begin, end = expected[0], expected[0] + len(expected[1])
+                self.keep_bytes(begin, end, expected[1])
+            elif tag in self.elements and self.elements[tag].length == len(expected[1]):
+                self.keep_bytes(self.elements[tag].value, self.elements[tag].end, expected[1])
+
+    def keep_bytes(self, begin, end, expected):
+        """Leaves for each run in a range the ways that have these bytes."""
+        for number in self.open_runs(begin, end):
+            run = self.runs.runs[number]
+            first, last = max(begin, run.begin), min(end, run.end)
+            wanted = expected[first - begin : last - begin]
+            self.keep(number, {way for way in self.left[number] if run.part(way, begin, end) == wanted}, "there the frames begin")
+
+    def by_neighbours(self):
+        """A range that was cut at borders of sectors, decided before and after a piece: the piece goes with them."""
+        wholes = {}
+        for number in self.parts:
+            wholes.setdefault(self.runs.runs[number].whole, []).append(number)
+        for numbers in wholes.values():
+            for number in numbers:
+                if len(self.left[number]) > 1:
+                    before = [other for other in numbers if other < number and len(self.left[other]) == 1]
+                    after = [other for other in numbers if other > number and len(self.left[other]) == 1]
+                    if before and after:
+                        both = self.holders(before[-1]) & self.holders(after[0])
+                        ways = {way for way in self.left[number] if set(self.runs.runs[number].holders[way]) & both}
+                        if len(ways) == 1:
+                            self.keep(number, ways, "the bytes around it are of that copy")
+
+    def holders(self, number):
+        return set(self.runs.runs[number].holders[self.left[number][0]])
+
+    def by_most(self):
+        """Three copies or more: what most of them have."""
+        for number in self.open_runs():
+            holders = self.runs.runs[number].holders
+            present = sum(len(each) for each in holders)
+            if present >= 3:
+                self.keep(number, {way for way in self.left[number] if len(holders[way]) * 2 > present}, "most copies have it")
+
+    def by_copy(self, copy):
+        """Takes what one copy has wherever it is open."""
+        for number in self.open_runs():
+            holders = self.runs.runs[number].holders
+            self.keep(number, {way for way in self.left[number] if copy in holders[way]}, "--header names this copy")
+
+    # What came out ---------------------------------------------------------------------
+
+    def short(self, tag):
+        """The value of an element of VR US, if it is decided."""
+        value = self.value(tag)
+        return struct.unpack("<H", value)[0] if value is not None and len(value) == 2 else None
+
+    def value(self, tag):
+        element = self.elements.get(tag)
+        if element is None or element.length == UNDEFINED or self.open_runs(element.value, element.end):
+            return None
+        return self.runs.bytes_with(element.value, element.end, self.chosen())
+
+    def text(self, tag):
+        value = self.value(tag)
+        return None if value is None else text_of(value).strip()
+
+    def element_at(self, place):
+        """The innermost element whose header or value has this place."""
+        found = None
+        for step in self.structure.steps:
+            element = step.element
+            if element is None or step.kind == "jump" or element.start > place:
+                continue
+            if step.kind in ("leaf", "fragment") and element.length != UNDEFINED and place >= element.end:
+                continue
+            found = element
+        return found
+
+    def name_at(self, place):
+        if place < 128:
+            return "preamble"
+        if place < 132:
+            return "DICM"
+        element = self.element_at(place)
+        if element is None:
+            return "nothing that reads"
+        return tag_name(element.tag)
+
+    def places(self):
+        """A Place for each run, in order, next to each other of one element and one decision together."""
+        found = []
+        for number in sorted(self.parts):
+            run, left = self.runs.runs[number], self.left[number]
+            values = [([self.copies[copy].path for copy in run.holders[way]], run.ways[way]) for way in range(len(run.ways))]
+            taken = left[0] if len(left) == 1 else None
+            why = self.why[number] if taken is not None else ""
+            found.append(Place(run.begin, run.end - run.begin, self.name_at(run.begin), values, taken, why))
+        return found
+
+    def merged(self):
+        """The file on the axis, with what was decided; frames as the first copy has them."""
+        data = bytearray(self.copies[0].data)
+        for number, way in self.chosen().items():
+            run = self.runs.runs[number]
+            for begin, end in self.parts[number]:
+                data[begin:end] = run.part(way, begin, end)
+        return data
+
+
+def printed_value(value):
+    """Bytes for a line: as text if they are some, else in hex, the first sixteen."""
+    short = value[:24]
+    if re.fullmatch(rb"[\x20-\x5b\x5d-\x7e]+", short):
+        return f"'{short.decode('ascii')}{'..' if len(value) > 24 else ''}'"
+    return f"{value[:16].hex(' ')}{' ..' if len(value) > 16 else ''}"

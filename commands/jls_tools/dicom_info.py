@@ -1,0 +1,133 @@
+"""What one DICOM file is, and its frames: `info` and `frames` of jls-dicom."""
+import os
+import shutil
+import tempfile
+
+from jls_tools.dicom_align import Copy
+from jls_tools.dicom_file import JPEG_LS, NEAR_LOSSLESS, PIXEL_DATA, SYNTAXES, syntax_name, syntax_of
+from jls_tools.dicom_frames import by_search, other_coding, shape_of
+from jls_tools.dicom_header import COLUMNS, FRAMES, ROWS, SAMPLES, STORED
+from jls_tools.dicom_instance import identity_of
+from jls_tools.dicom_layout import Layout
+from jls_tools.dicom_mend import read
+from jls_tools.dicom_result import FAILED, NOT_WHOLE, REFUSED, WHOLE, MendOptions
+from jls_tools.mending import FrameMender
+
+INTERLEAVES = {0: "a scan for each component", 1: "interleaved by line", 2: "interleaved by sample"}
+
+
+class OneFile:
+    """A file: its layout, its frames as (offset, stream), and how they were found."""
+
+    def __init__(self, path):
+        self.data = read(path)
+        self.syntax = syntax_of(self.data)
+        self.is_dicom = self.data[128:132] == b"DICM"
+        copy = Copy(path, self.data)
+        self.layout = Layout([copy])
+        self.how = "by items"
+        if self.layout.places:
+            self.frames = [(place.begin, unpadded(place.stream(self.data))) for place in self.layout.places]
+            if not self.layout.is_exact:
+                self.how = "by items, some of which don't read" if self.layout.breaks else "by items, until the file ends"
+        else:
+            self.how = "by search"
+            self.frames = [(begin, unpadded(self.data[begin:end])) for begin, end in by_search(self.data)]
+
+    def value(self, tag):
+        for element in self.layout.structure.elements:
+            if element.tag == tag:
+                return element.bytes_of(self.data)
+        return None
+
+    def number(self, tag):
+        value = self.value(tag)
+        return int.from_bytes(value, "little") if value is not None and len(value) == 2 else None
+
+
+def unpadded(stream):
+    return stream[:-1] if stream.endswith(b"\xff\xd9\0") else stream
+
+
+def refusal_of(path, file):
+    """Why a file is not for these tools, or nothing."""
+    if not file.is_dicom and not file.layout.has_header and not file.frames:
+        return f"{path}: it is no DICOM file"
+    if file.syntax not in (None, JPEG_LS) and file.syntax in SYNTAXES:
+        return f"{path}: no JPEG-LS lossless: {syntax_name(file.syntax)}"
+    if not file.frames:
+        has_pixels = any(element.tag == PIXEL_DATA for element in file.layout.structure.elements)
+        why = "Pixel Data has no frame" if has_pixels else "it has no Pixel Data that reads"
+        return f"{path}: {why}"
+    return None
+
+
+def header_lines(file):
+    meta, data = identity_of(file.data).in_meta, identity_of(file.data).in_data
+    yield "DICOM file" if file.is_dicom else "no DICOM file by its first bytes"
+    yield syntax_name(file.syntax) if file.syntax else "the transfer syntax does not read"
+    same = ", equal in both places" if meta and meta == data else f", and {data or 'none that reads'} in the data set"
+    yield f"instance {meta or 'none that reads'}{same}"
+    count = file.value(FRAMES)
+    said = count.decode("latin-1").strip(" \0") if count is not None else "1"
+    yield f"header: {file.number(COLUMNS)}x{file.number(ROWS)}, {file.number(STORED)} bits, samples {file.number(SAMPLES)}, frames {said}"
+    for begin, end in file.layout.breaks:
+        yield f"broken from {begin}; the next that reads is at {end}"
+    if file.layout.structure.is_cut:
+        yield "the file ends before its last element does"
+    yield f"frames {len(file.frames)}, found {file.how}"
+
+
+def coding_lines(stream):
+    shape = shape_of(stream)
+    if shape and shape.near is not None:
+        how = "near-lossless" if shape.near else "lossless"
+        yield f"coding: JPEG-LS {how}, {INTERLEAVES.get(shape.interleave, 'interleaved in no known way')}"
+    elif other_coding(stream):
+        yield f"coding: {other_coding(stream)}"
+
+
+def info(path, programs, progress=None):
+    """(lines, why it is refused or nothing, status)."""
+    file = OneFile(path)
+    refusal = refusal_of(path, file)
+    if refusal:
+        lines = list(header_lines(file)) if file.is_dicom and file.layout.structure.is_found else []
+        return lines, refusal, REFUSED
+    lines = [*header_lines(file), *coding_lines(file.frames[0][1])]
+    status = WHOLE
+    folder = tempfile.mkdtemp(prefix="jls-dicom-")
+    try:
+        mender = FrameMender(programs, folder, MendOptions())
+        for number, (offset, stream) in enumerate(file.frames):
+            result = mender.mend(number, [stream]).result
+            lines.append(f"{result.line()}, {len(stream)} bytes at {offset}")
+            status = status if result.kind == "whole" else NOT_WHOLE
+            if progress:
+                progress(number + 1, len(file.frames))
+    finally:
+        shutil.rmtree(folder, ignore_errors=True)
+    return lines, None, status
+
+
+def frames(path, folder):
+    """Takes the frames out: (lines, why it is refused or nothing, status)."""
+    if os.path.lexists(folder):
+        return [], f"{folder}: it is there already", FAILED
+    file = OneFile(path)
+    refusal = refusal_of(path, file)
+    if refusal and not (file.syntax == NEAR_LOSSLESS and file.frames):
+        return [], refusal, REFUSED
+    lines = []
+    parent = os.path.dirname(os.path.abspath(folder))
+    part = tempfile.mkdtemp(prefix=".jls-dicom-", dir=parent)
+    try:
+        for number, (offset, stream) in enumerate(file.frames):
+            name = f"frame-{number:04}.jls"
+            with open(os.path.join(part, name), "wb") as out:
+                out.write(stream)
+            lines.append(f"{os.path.join(folder, name)} {offset} {len(stream)} {file.how}")
+        os.rename(part, folder)
+    finally:
+        shutil.rmtree(part, ignore_errors=True)
+    return lines, None, WHOLE

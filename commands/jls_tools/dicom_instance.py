@@ -1,0 +1,118 @@
+"""Which copies are of one SOP instance (PS3.3, C.12.1): by their two UIDs, and those that a foreign file has overwritten."""
+import itertools
+from collections import Counter
+from dataclasses import dataclass
+
+from jls_tools.dicom_align import Copy, differing
+from jls_tools.dicom_file import instance_of
+from jls_tools.dicom_runs import Runs
+from jls_tools.dicom_structure import FIRST, Walk
+
+BLOCK = 128
+STRETCH, STEP = 256, 16
+DENSE = 8  # one byte in so many differs where another file's beginning was written
+SHARED = 4  # one block in so many of their second half is equal, at its place, in two files of which one was overwritten
+
+
+class TwoInstances(Exception):
+    """The copies are of different instances."""
+
+
+@dataclass
+class Identity:
+    """What a copy says that it is: `uid` where its two UIDs agree, else nothing."""
+
+    in_meta: str | None
+    in_data: str | None
+
+    @property
+    def uid(self):
+        return self.in_data if self.in_data is not None and self.in_meta == self.in_data else None
+
+
+def identity_of(data):
+    return Identity(*instance_of(data))
+
+
+def share_blocks(one, other):
+    """Whether many blocks of the second half of two files are equal at their places, not counting those of one value.
+
+    The first half does not count: slices of one series have much of their headers in common, and nothing of their codestreams.
+    """
+    equal = counted = 0
+    for at in range(min(len(one), len(other)) // 2, min(len(one), len(other)) - BLOCK + 1, BLOCK):
+        block = one[at : at + BLOCK]
+        if block != block[:1] * BLOCK:
+            counted += 1
+            equal += block == other[at : at + BLOCK]
+    return counted >= 2 and equal * SHARED >= counted
+
+
+def equal_from(one, other):
+    """Where two files begin to be equal for long, or nothing."""
+    for at in range(0, min(len(one), len(other)) - STRETCH + 1, STEP):
+        stretch = one[at : at + STRETCH]
+        if stretch == other[at : at + STRETCH] and stretch != stretch[:1] * STRETCH:
+            return at
+    return None
+
+
+def breaks_at(data, place):
+    """Whether the elements of a file break off at a place, and not before it: in the element or item that stands there."""
+    structure = Walk(Runs([Copy("", data)], 0, []), len(data)).solve([data])
+    begin = 0
+    for step in structure.steps:
+        if step.kind in ("jump", "cut"):
+            return begin <= place + STEP and place <= step.before[0] + STEP or step.kind == "cut" and step.before[0] <= place
+        begin = step.before[0]
+    return not structure.is_found
+
+
+def is_overwritten(data, other):
+    """Whether a file has a beginning of its own, breaks off where that ends, and is as the other one is from there on."""
+    place = equal_from(data, other)
+    if place is None or not share_blocks(data, other):
+        return False
+    apart = sum(end - begin for begin, end in differing([data[:place], other[:place]]))
+    return apart * DENSE >= place - FIRST and breaks_at(data, place) and not breaks_at(other, place)
+
+
+class Instances:
+    """Sorts copies, by index: `certain` are of the instance, `uncertain` may be. `left_out` are others, with the reason."""
+
+    def __init__(self, texts, is_same):
+        self.texts = texts
+        self.identities = [identity_of(data) for data in texts]
+        self.left_out = {}
+        self.uid = None
+        if is_same:
+            self.certain, self.uncertain = list(range(len(texts))), []
+            return
+        self.uid = self.choose()
+        self.certain = [at for at, each in enumerate(self.identities) if each.uid is not None and at not in self.left_out]
+        self.uncertain = [at for at, each in enumerate(self.identities) if each.uid is None]
+
+    def choose(self):
+        """The UID of the instance, if any copy has one; copies of others are left out where that is clear."""
+        counts = Counter(each.uid for each in self.identities if each.uid is not None)
+        if len(counts) <= 1:
+            return next(iter(counts), None)
+        self.leave_out_overwritten(counts)
+        counts = Counter(each.uid for at, each in enumerate(self.identities) if each.uid is not None and at not in self.left_out)
+        (most, count), *others = counts.most_common()
+        if others and (count < 2 or others[0][1] == count):
+            raise TwoInstances(f"the copies are of several instances: {', '.join(sorted(counts))}")
+        for at, each in enumerate(self.identities):
+            if each.uid not in (None, most) and at not in self.left_out:
+                self.left_out[at] = f"it is of another instance, {each.uid}"
+        return most
+
+    def leave_out_overwritten(self, counts):
+        """Leaves out copies whose beginning a foreign file has overwritten: further on they are as a copy of another instance is."""
+        for at, beside in itertools.permutations(range(len(self.texts)), 2):
+            own, other = self.identities[at].uid, self.identities[beside].uid
+            if None in (own, other) or own == other or {at, beside} & self.left_out.keys():
+                continue
+            is_odd = counts[own] == 1 and counts[other] > 1 and share_blocks(self.texts[at], self.texts[beside])
+            if is_odd or is_overwritten(self.texts[at], self.texts[beside]):
+                self.left_out[at] = f"a foreign file, of instance {own}, has overwritten its beginning"

@@ -1,0 +1,77 @@
+"""What stands where in a file of which there are several copies: its structure, its frames, and its header as far as it is decided."""
+from jls_tools.dicom_align import differing
+from jls_tools.dicom_frames import EXTENDED_LENGTHS, EXTENDED_TABLE, Fragments
+from jls_tools.dicom_header import FRAMES, Header
+from jls_tools.dicom_runs import FINEST, Runs
+from jls_tools.dicom_structure import Walk
+from jls_tools.dicom_write import expected_tables
+
+
+class Layout:
+    """The structure that the copies have together, and the places of the frames."""
+
+    def __init__(self, copies):
+        self.copies = copies
+        self.ranges = differing([copy.data for copy in copies])
+        self.runs, self.structure = self.find()
+        self.has_header = self.structure.is_found and self.structure.pixel_data is not None
+        self.fragments = Fragments(self.structure, copies) if self.has_header else None
+        self.places = self.fragments.frames(self.frame_count()) if self.has_header else []
+
+    def find(self):
+        """The way that reaches the end with the least strangeness; with finer runs where coarse ones are strange or lead nowhere."""
+        best = None
+        apart = sum(end - begin for begin, end in self.ranges)
+        for fineness in (0, 1, 2):
+            if fineness == 2 and apart > FINEST:
+                break
+            runs = Runs(self.copies, fineness, self.ranges)
+            structure = Walk(runs, len(self.copies[0].data)).solve([copy.data for copy in self.copies])
+            if best is None or structure.is_found and (not best[1].is_found or rank(structure) < rank(best[1])):
+                best = runs, structure
+            if fineness == 0 and rank(structure) == (False, False, 0) or fineness == 1 and is_through(best[1]):
+                break
+        return best
+
+    def frame_count(self):
+        """Number of Frames, as far as any copy has a number there that can be true; None if copies have several."""
+        element = next((element for element in self.structure.elements if element.tag == FRAMES), None)
+        if element is None:
+            return 1
+        found = set()
+        for copy in self.copies:
+            text = element.bytes_of(copy.data).strip(b" \0")
+            if text.isdigit() and not copy.lacks(element.value, element.end):
+                found.add(int(text))
+        return found.pop() if len(found) == 1 else None
+
+    @property
+    def breaks(self):
+        return self.structure.jumps if self.structure.is_found else []
+
+    @property
+    def is_exact(self):
+        """Whether each header reads, so that frames can be put where they were."""
+        return not self.breaks and not self.structure.is_cut and all(place.is_exact for place in self.places)
+
+    def header(self, shape, count):
+        """The Header, decided as far as the file can say."""
+        ranges = [fragment for place in self.places for fragment in place.fragments]
+        header = Header(self.copies, self.runs, self.structure, ranges)
+        table = {}
+        if self.places:
+            basic, extended, sizes = expected_tables(self.places, self.fragments.first)
+            table = {EXTENDED_TABLE: (0, extended), EXTENDED_LENGTHS: (0, sizes)}
+            if self.fragments.table and self.fragments.table.length == len(basic):
+                table[None] = (self.fragments.table.value, basic)
+        header.decide(shape, count, table)
+        return header
+
+
+def is_through(structure):
+    return structure.is_found and not structure.jumps
+
+
+def rank(structure):
+    """What is worse comes later: not found, jumps, cost."""
+    return (not structure.is_found, bool(structure.jumps), structure.cost or 0)

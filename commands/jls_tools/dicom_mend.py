@@ -1,0 +1,346 @@
+"""Mends a DICOM file of JPEG-LS frames from damaged copies of it: `mend` is what jls-dicom and jls-archive call."""
+import hashlib
+import os
+import shutil
+import tempfile
+
+from jls_tools import dicom_gaps, partial_picture
+from jls_tools.dicom_align import Copy, on_one_axis
+from jls_tools.dicom_file import JPEG_LS, syntax_name, syntax_of
+from jls_tools.dicom_frames import by_search, paired_by_bytes, shape_of
+from jls_tools.dicom_header import ALLOCATED, COLUMNS, FRAMES, ROWS, SAMPLES, STORED, SYNTAX
+from jls_tools.dicom_instance import Instances, TwoInstances
+from jls_tools.dicom_layout import Layout
+from jls_tools.dicom_result import FAILED, NOT_WHOLE, REFUSED, WHOLE, FrameResult, MendOptions, MendResult, Place
+from jls_tools.dicom_write import find_sum, in_fragments, packed, padding, put_frames, store, top_level, with_choices
+from jls_tools.mending import FrameMender, is_connected, is_spliced, shapes_of
+from jls_tools.programs import Programs
+
+__all__ = ["FrameResult", "MendOptions", "MendResult", "Place", "mend"]
+
+
+class Refused(Exception):
+    """Why nothing is written, and the status."""
+
+    def __init__(self, text, status=REFUSED):
+        super().__init__(text)
+        self.status = status
+
+
+def mend(paths, out, options=None, programs=None):
+    """Writes the file `out` from the copies `paths`, and answers a MendResult. Programs that fail raise a ProgramFailed.
+
+    `out` must not be there, nor a folder of its name with `.frames`. Nothing is printed. The copies are only read.
+    """
+    result = MendResult()
+    try:
+        Mending(paths, out, options or MendOptions(), programs or Programs(), result).run()
+    except Refused as refused:
+        result.status, result.refusal = refused.status, str(refused)
+    except OSError as fault:
+        result.status, result.refusal = FAILED, f"{fault.filename or out}: {fault.strerror}"
+    return result
+
+
+class Mending:
+    """One call of `mend`."""
+
+    def __init__(self, paths, out, options, programs, result):
+        self.paths = paths
+        self.out = out
+        self.options = options
+        self.programs = programs
+        self.result = result
+        self.place_of_frames = f"{out}.frames"
+
+    def run(self):
+        for path in (self.out, self.place_of_frames):
+            if os.path.lexists(path):
+                raise Refused(f"{path}: it is there already", FAILED)
+        if self.options.header is not None and self.options.header not in self.paths:
+            raise Refused(f"--header names {self.options.header}, which is none of the copies", 2)
+        self.texts = [read(path) for path in self.paths]
+        self.look_at_kinds()
+        try:
+            instances = Instances(self.texts, self.options.same)
+        except TwoInstances as fault:
+            raise Refused(f"{fault}; --same takes them as copies of one") from fault
+        self.result.left_out = [(self.paths[at], why) for at, why in sorted(instances.left_out.items())]
+        folder = tempfile.mkdtemp(prefix=".jls-dicom-", dir=os.path.dirname(os.path.abspath(self.out)))
+        try:
+            self.folder = folder
+            self.mender = FrameMender(self.programs, folder, self.options)
+            self.mend_all(instances)
+        finally:
+            shutil.rmtree(folder, ignore_errors=True)
+
+    def look_at_kinds(self):
+        """Refuses what is no DICOM file, or one of another transfer syntax."""
+        if not any(text[128:132] == b"DICM" or b"\xe0\x7f\x10\x00O" in text for text in self.texts):
+            raise Refused(f"{self.paths[0]}: it is no DICOM file, and none of the others is one")
+        syntaxes = [syntax for syntax in map(syntax_of, self.texts) if syntax is not None]
+        if syntaxes and JPEG_LS not in syntaxes:
+            raise Refused(f"{self.paths[0]}: no JPEG-LS lossless: {syntax_name(syntaxes[0])}")
+
+    # Copies ----------------------------------------------------------------------------
+
+    def mend_all(self, instances):
+        """Mends with all that may be copies; then again without those that turn out to be none."""
+        chosen = sorted(instances.certain + instances.uncertain)
+        while True:
+            self.take(chosen)
+            strangers = self.strangers(instances, chosen)
+            if not strangers:
+                break
+            for at in strangers:
+                why = "its UIDs don't agree or don't read, and no frame of it fits a copy of the instance"
+                self.result.left_out.append((self.paths[at], why))
+            chosen = [at for at in chosen if at not in strangers]
+        self.finish()
+
+    def strangers(self, instances, chosen):
+        """Of copies whose UIDs don't say what they are: those of which no frame equals, or is spliced with, one of a certain copy."""
+        certain = [chosen.index(at) for at in instances.certain if at in chosen]
+        if not certain:
+            return []
+        found = []
+        for at in instances.uncertain:
+            if at in chosen and not any(self.fits(chosen.index(at), frame, certain) for frame in range(len(self.streams))):
+                found.append(at)
+        return found
+
+    def fits(self, copy, frame, certain):
+        own, mended = self.own[frame].get(copy), self.mended[frame]
+        others = [self.own[frame][other] for other in certain if other in self.own[frame]]
+        if own is None:
+            return False
+        return any(is_connected(own, other) or mended.is_whole and is_spliced(mended.stream, own, other) for other in others)
+
+    def take(self, chosen):
+        """Lays these copies on one axis, finds their way and their frames, and mends each frame."""
+        self.copies = on_one_axis([Copy(self.paths[at], self.texts[at]) for at in chosen])
+        self.layout = Layout(self.copies)
+        self.own = [self.own_streams(place) for place in self.layout.places]
+        self.streams = [list(dict.fromkeys(own.values())) for own in self.own]
+        self.refuse_other_codings()
+        if not self.layout.places:
+            texts = [self.texts[at] for at in chosen]
+            self.streams = paired_by_bytes([[text[begin:end] for begin, end in by_search(text)] for text in texts])
+            self.own = [dict(enumerate(streams)) for streams in self.streams]
+        self.mended = []
+        for number, streams in enumerate(self.streams):
+            self.mended.append(self.mender.mend(number, streams))
+            if self.options.progress:
+                self.options.progress(number + 1, len(self.streams))
+
+    def own_streams(self, place):
+        """{copy: its stream of a frame}, of copies that have some of it."""
+        found = {}
+        for number, copy in enumerate(self.copies):
+            if any(copy.has_only(begin, end).strip(b"\0") for begin, end in place.fragments):
+                found[number] = place.stream(copy.data)
+        if any(stream.endswith(b"\xff\xd9\0") for stream in found.values()):
+            found = {number: stream[:-1] if len(stream) == place.size else stream for number, stream in found.items()}
+        return found
+
+    def refuse_other_codings(self):
+        shapes = [shape for streams in self.streams for shape in map(shape_of, streams) if shape and shape.near is not None]
+        is_near, is_by_sample = (all(shape.near > 0 for shape in shapes), all(shape.interleave == 2 for shape in shapes))
+        if shapes and (is_near or is_by_sample):
+            name = "near-lossless" if is_near else "interleaved by sample"
+            raise Refused(f"{self.copies[0].path}: JPEG-LS {name}; it is read by dcmdjpls of DCMTK")
+
+    # What comes of it --------------------------------------------------------------------
+
+    def finish(self):
+        self.shape = shapes_of(self.mended, self.streams)
+        self.name_counts()
+        self.header = self.layout.header(self.shape, len(self.mended))
+        if self.options.header is not None:
+            names = [copy.path for copy in self.copies]
+            if self.options.header not in names:
+                raise Refused(f"--header names {self.options.header}, which was left out", NOT_WHOLE)
+            self.header.by_copy(names.index(self.options.header))
+        self.result.frames = [frame.result for frame in self.mended]
+        self.note_breaks()
+        self.data = self.header.merged()
+        if self.options.sha256 is not None:
+            self.by_sum()
+        else:
+            self.without_sum()
+        self.result.places = self.header.places()
+
+    def name_counts(self):
+        """A frame of which there is nothing has as many lines missing as the others have."""
+        for frame in self.mended:
+            result = frame.result
+            if result.kind == "missing" and result.missing == 0 and self.shape:
+                result.missing = self.shape.rows * self.shape.components
+
+    def note_breaks(self):
+        for begin, end in self.layout.breaks:
+            self.result.notes.append(f"no copy has what stands at {begin}: the next that reads is at {end}")
+        if self.layout.structure.is_cut:
+            self.result.notes.append("the file ends before its last element does")
+
+    def can_write(self):
+        """Whether the header is decided and reads; why not, else."""
+        if not self.layout.has_header:
+            return "no copy has a header that leads to Pixel Data"
+        if self.header.open_runs():
+            return "a place is undecided"
+        return self.contradiction()
+
+    def contradiction(self):
+        """What the header says that the frames deny, or nothing."""
+        header, shape = self.header, self.shape
+        if header.text(SYNTAX) != JPEG_LS:
+            return f"the transfer syntax is {header.text(SYNTAX)}"
+        count = header.text(FRAMES)
+        if not (len(self.mended) == 1 and count is None) and count != str(len(self.mended)):
+            return f"Number of Frames is {count}, and {len(self.mended)} are there"
+        if shape is None:
+            return None
+        sizes = ((ROWS, "Rows", shape.rows), (COLUMNS, "Columns", shape.columns), (SAMPLES, "Samples per Pixel", shape.components))
+        for tag, name, wanted in sizes:
+            if header.short(tag) != wanted:
+                return f"{name} is {header.short(tag)}, and the frames have {wanted}"
+        allocated, stored = header.short(ALLOCATED), header.short(STORED)
+        if not (allocated and stored and stored <= allocated and shape.precision <= allocated):
+            return f"Bits Stored is {stored} of {allocated}, and the frames have {shape.precision}"
+        return None
+
+    def all_whole(self):
+        return all(frame.is_whole for frame in self.mended)
+
+    def without_sum(self):
+        fault = self.can_write()
+        if fault is None and self.all_whole():
+            self.write_whole([frame.stream for frame in self.mended])
+        elif fault is None and self.options.with_gaps is not None:
+            self.write_filled()
+        else:
+            if fault is not None:
+                self.result.notes.append(f"OUT is not written: {fault}")
+            self.write_frames()
+
+    def write_whole(self, streams):
+        data = bytearray(self.data)
+        self.result.in_place = self.layout.is_exact and put_frames(data, self.layout.places, streams, self.copies)
+        if not self.result.in_place:
+            data = packed(self.data, self.layout.structure, streams)
+        self.store(bytes(data), WHOLE)
+
+    def store(self, data, status):
+        store(data, self.out, self.folder)
+        self.result.written, self.result.status = True, status
+        self.result.sha256 = hashlib.sha256(data).hexdigest()
+
+    # With a sum ----------------------------------------------------------------------------
+
+    def by_sum(self):
+        """Tries what is open, until the file has the sum that is given."""
+        wanted = self.options.sha256.lower()
+        choices = self.choices()
+        taken = find_sum(bytes(self.data), choices, wanted) if choices is not None else None
+        if taken is None:
+            self.result.notes.append("OUT is not written: no combination of what is open has the SHA-256 that is given")
+            self.write_frames()
+            return
+        self.result.matched = self.result.in_place = True
+        for frame in self.mended:
+            if not frame.is_whole:
+                frame.result.kind, frame.result.note = "whole", "the SHA-256 matched"
+        self.take_choices(choices, taken)
+        self.store(with_choices(bytes(self.data), choices, taken), WHOLE)
+
+    def choices(self):
+        """[(begin, end, ways)] of frames and of open places outside of them, in order; nothing if a frame has no stream that fits."""
+        found = []
+        for place, frame in zip(self.layout.places, self.mended):
+            ways = self.frame_ways(place, frame)
+            if not ways:
+                return None
+            found.append((place.begin, place.end, ways))
+        for number in self.header.open_runs():
+            run = self.header.runs.runs[number]
+            for begin, end in self.header.parts[number]:
+                if not any(first < end and begin < last for first, last, _ in found):
+                    found.append((begin, end, [run.part(way, begin, end) for way in self.header.left[number]]))
+        return sorted(found, key=lambda choice: choice[0])
+
+    def frame_ways(self, place, frame):
+        """The bytes from a frame's begin to its end, for each stream that decodes and fits."""
+        found = []
+        for stream in dict.fromkeys(([frame.stream] if frame.stream is not None else []) + frame.others):
+            pad = padding(place, stream, self.copies)
+            if pad is not None:
+                data = bytearray(self.data[place.begin : place.end])
+                for begin, part in in_fragments(place, stream + pad):
+                    data[begin - place.begin : begin - place.begin + len(part)] = part
+                found.append(bytes(data))
+        return found
+
+    def take_choices(self, choices, taken):
+        for (begin, end, ways), way in zip(choices, taken):
+            for number in self.header.open_runs(begin, end):
+                run = self.header.runs.runs[number]
+                kept = {own for own in self.header.left[number] if run.part(own, begin, end) == ways[way]}
+                self.header.keep(number, kept, "the SHA-256 matched")
+
+    # Where not all is there ----------------------------------------------------------------
+
+    def write_frames(self):
+        """All frames that came back, in a folder."""
+        self.result.status = NOT_WHOLE
+        kept = [frame for frame in self.mended if frame.is_whole or frame.partial]
+        if not kept:
+            return
+        part = os.path.join(self.folder, "frames")
+        os.mkdir(part)
+        for frame in kept:
+            name = os.path.join(part, f"frame-{frame.result.number:04}")
+            if frame.is_whole:
+                with open(f"{name}.jls", "wb") as file:
+                    file.write(frame.stream)
+            else:
+                shutil.copyfile(frame.partial, f"{name}.jlsp")
+        os.rename(part, self.place_of_frames)
+        self.result.folder = self.place_of_frames
+
+    def write_filled(self):
+        """OUT with one value in each line that is lost, as a file of its own."""
+        if self.shape is None:
+            raise Refused("no frame says what shape the picture has", NOT_WHOLE)
+        if not 0 <= self.options.with_gaps < 1 << self.shape.precision:
+            raise Refused(f"--with-gaps {self.options.with_gaps}: the samples have {self.shape.precision} bits", 2)
+        ids = self.component_ids()
+        streams, lost = [], []
+        for frame in self.mended:
+            if frame.is_whole:
+                streams.append(frame.stream)
+                continue
+            picture = partial_picture.read(frame.partial) if frame.partial else dicom_gaps.Empty(self.shape, ids)
+            lost.append((frame.result.number, dicom_gaps.filled_lines(picture)))
+            streams.append(self.filled(frame.result.number, picture))
+        elements = dicom_gaps.derived(top_level(self.data, self.layout.structure), dicom_gaps.description_of(lost))
+        self.store(packed(self.data, self.layout.structure, streams, elements), NOT_WHOLE)
+
+    def component_ids(self):
+        for frame in self.mended:
+            if frame.shape:
+                return [int(name) for name in frame.shape.rpartition(" ")[2].split(",")]
+        return list(range(1, self.shape.components + 1))
+
+    def filled(self, number, picture):
+        text, stream = f"{number}.filled", f"{number}.written"
+        self.mender.put(text, dicom_gaps.filled_text(picture, self.options.with_gaps))
+        outcome = self.programs.write_jls(stream, text, self.folder, by_line=len(picture.ids) > 1)
+        if outcome.status != 0:
+            raise Refused(f"frame {number} can't be written: {outcome.faults.strip()}", FAILED)
+        return self.mender.get(stream)
+
+
+def read(path):
+    with open(path, "rb") as file:
+        return file.read()

@@ -1,0 +1,90 @@
+"""What mending a DICOM file came to: the words between `jls-dicom mend` and whoever calls it."""
+from dataclasses import dataclass, field
+
+# The statuses that a MendResult has; a ProgramFailed of programs.py stands for all others
+WHOLE, NOT_WHOLE, USAGE, REFUSED, FAILED = 0, 1, 2, 3, 4
+
+
+@dataclass
+class MendOptions:
+    """What the command line says. `header` is the path of the copy whose header counts; `with_gaps` is the sample of lost lines."""
+
+    most: int | None = None  # --max N, handed on to jls-splice
+    header: str | None = None
+    same: bool = False
+    sha256: str | None = None
+    with_gaps: int | None = None
+    tries: int | None = None
+    progress: object = None  # called with (frames done, frames)
+
+
+@dataclass
+class FrameResult:
+    """A frame, counted from 0: `kind` is whole, lines (some are missing), disputed or missing (there is nothing of it)."""
+
+    number: int
+    kind: str
+    settled: int = 0
+    missing: int = 0
+    disputed: int = 0
+    promise: str = ""  # the words that jls-splice printed, or what stands for them
+    note: str = ""
+
+    def line(self):
+        counts = f"settled {self.settled}, missing {self.missing}, disputed {self.disputed}"
+        words = [f"frame {self.number} {self.kind}, {counts}"]
+        words += [f"promise {self.promise}"] if self.promise else []
+        words += [self.note] if self.note else []
+        return ", ".join(words)
+
+
+@dataclass
+class Place:
+    """A place outside of the frames where the copies differ: what each copy has there, and which was taken (None: undecided)."""
+
+    offset: int
+    length: int
+    tag: str
+    values: list  # (names of the copies, the bytes that they have)
+    taken: int | None = None  # an index of values
+    why: str = ""
+
+    @property
+    def is_decided(self):
+        return self.taken is not None
+
+
+@dataclass
+class MendResult:
+    """Status 0: OUT is written and whole. 1: not whole, or undecided. 3: refused, as `refusal` says. 4: a file can't be read or written."""
+
+    status: int = FAILED
+    written: bool = False
+    in_place: bool = False  # OUT is the merged file, with each byte where it was
+    frames: list = field(default_factory=list)
+    places: list = field(default_factory=list)
+    folder: str | None = None  # where the frames stand that came back, if OUT isn't written
+    sha256: str | None = None  # the sum of OUT
+    matched: bool = False  # --sha256 matched
+    left_out: list = field(default_factory=list)  # (path, why)
+    notes: list = field(default_factory=list)
+    refusal: str | None = None
+
+    def count(self, kind):
+        return sum(frame.kind == kind for frame in self.frames)
+
+    @property
+    def settled(self):
+        return sum(frame.settled for frame in self.frames)
+
+    @property
+    def missing(self):
+        return sum(frame.missing for frame in self.frames)
+
+    @property
+    def disputed(self):
+        return sum(frame.disputed for frame in self.frames)
+
+    @property
+    def undecided(self):
+        return [place for place in self.places if not place.is_decided]

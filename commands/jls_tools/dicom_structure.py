@@ -1,0 +1,364 @@
+"""The way of elements and items through copies that differ: a walk of all ways at once, of which those remain that go on to the end.
+
+Where copies differ in the header of an element or item, each way that a copy has is gone. A way is dead where no element or item can
+begin. Of the ways that reach the end those count that are least strange: tags in order, lengths that are even, VRs as PS3.6 has them,
+values that their VRs allow. `Structure` says what the ways that are left have in common, and `ways` where they part.
+"""
+import heapq
+import itertools
+import math
+import re
+
+from jls_tools.dicom_file import ITEM, ITEM_END, PIXEL_DATA, SEQUENCE_END, UNDEFINED, Element, header_of
+from jls_tools.dicom_values import allows, strangeness
+
+FIRST = 132  # the first element
+MOST_COMBINATIONS = 64
+MOST_NODES = 400000
+MOST_JUMPS = 40
+MOST_JUMPERS = 12
+FORBIDDEN, ZEROED, UNORDERED, ODD, CUT, JUMP = 3, 2, 8, 4, 4, 1000
+# what stands on the stack: the data set, a sequence, an item; s and i are those with an implicit VR; P is Pixel Data
+DATA_SET, SEQUENCE, OBJECT, PIXELS = "D", "S", "I", "P"
+ITEM_OR_END = re.compile(rb"\xfe\xff(?:\x00\xe0|\xdd\xe0\0\0\0\0)")
+SHORT = rb"AE|AS|AT|CS|DA|DS|DT|FD|FL|IS|LO|LT|PN|SH|SL|SS|ST|TM|UI|UL|US"
+ELEMENT = re.compile(rb"[\x00-\xff]{4}(?:" + SHORT + rb"|(?:OB|OW|SQ|UN|UT)\0\0)", re.S)
+PIXELS_BEGIN = re.compile(rb"\xe0\x7f\x10\x00O[BW]\x00\x00\xff\xff\xff\xff")
+
+
+class Step:
+    """From one state to the next: its cost, the ways that it takes, and the element or item that it passes (None: a jump)."""
+
+    __slots__ = ("before", "after", "cost", "chosen", "element", "kind", "depth")
+
+    def __init__(self, before, after, cost, chosen, element, kind, depth=0):
+        self.before = before
+        self.after = after
+        self.cost = cost
+        self.chosen = chosen
+        self.element = element
+        self.kind = kind  # leaf, open, item, end, fragment, jump, cut
+        self.depth = depth
+
+
+class Walk:
+    """States are (place, stack, last tag, ways of the run that goes on). A stack is ((kind, end, the tag before), ..)."""
+
+    def __init__(self, runs, total):
+        self.runs = runs
+        self.total = total
+        self.steps = {}  # state: the steps from it
+        self.goals = set()
+        self.cuts = []
+        self.jumps = 0
+
+    # Where copies differ ---------------------------------------------------------
+
+    def choices(self, begin, end, chosen):
+        """Each way through a range: (its bytes, {run: way} of all that was chosen, the cost of what is new)."""
+        end = min(end, self.total)
+        touched = self.runs.touching(begin, end)
+        if len(touched) == 0:
+            yield self.runs.data[begin:end], chosen, 0
+            return
+        free = [number for number in touched if number not in chosen]
+        for ways in itertools.product(*(range(len(self.runs.runs[number].ways)) for number in free)):
+            both = {**chosen, **dict(zip(free, ways))}
+            cost = sum(ZEROED for number, way in zip(free, ways) if self.runs.runs[number].zeros[way])
+            yield self.runs.bytes_with(begin, end, both), both, cost
+
+    def is_small(self, begin, end, chosen):
+        sizes = [len(self.runs.runs[number].ways) for number in self.runs.touching(begin, end) if number not in chosen]
+        return len(sizes) <= 12 and math.prod(sizes) <= MOST_COMBINATIONS
+
+    def going_on(self, place, chosen):
+        """The ways of runs that go across a place."""
+        return tuple(sorted((number, way) for number, way in chosen.items() if self.runs.runs[number].end > place))
+
+    # States ------------------------------------------------------------------------
+
+    def settle(self, place, stack, last, chosen):
+        """The state at a place, after what ends there."""
+        while len(stack) > 1 and stack[-1][1] == place:
+            last = stack[-1][2]
+            stack = stack[:-1]
+        return place, stack, last, self.going_on(place, chosen)
+
+    def explore(self):
+        """Goes all ways. Where all are dead before the end, it jumps to what can begin after them."""
+        start = (FIRST, ((DATA_SET, self.total, 0),), 0, ())
+        seen, dead = {start}, []
+        self.go_on([start], seen, dead)
+        while not self.goals and dead and self.jumps < MOST_JUMPS:
+            self.jumps += 1
+            furthest = max(state[0] for state in dead)
+            if self.cuts and max(step.before[0] for step in self.cuts) >= furthest:
+                break
+            begins = []
+            for state in sorted(dead, key=lambda state: -state[0])[:MOST_JUMPERS]:
+                self.steps[state] = list(self.jumps_from(state))
+                begins += [step.after for step in self.steps[state] if step.after not in seen]
+            dead.clear()
+            seen.update(begins)
+            self.go_on(begins, seen, dead)
+        return start
+
+    def go_on(self, begins, seen, dead):
+        """Goes all ways from these states; `dead` gets those from which none goes on."""
+        count = itertools.count()
+        heap = [(state[0], next(count), state) for state in dict.fromkeys(begins)]
+        heapq.heapify(heap)
+        while heap and len(self.steps) < MOST_NODES:
+            _, _, state = heapq.heappop(heap)
+            if state[0] == self.total and len(state[1]) == 1:
+                self.goals.add(state)
+                continue
+            self.steps[state] = list(self.steps_from(state))
+            if not self.steps[state]:
+                dead.append(state)
+            for step in self.steps[state]:
+                if step.after not in seen:
+                    seen.add(step.after)
+                    heapq.heappush(heap, (step.after[0], next(count), step.after))
+
+    def steps_from(self, state):
+        place, stack, last, carried = state
+        for head, chosen, cost in self.choices(place, place + 8, dict(carried)):
+            if len(head) < 8:
+                self.cut(state, cost, chosen, None)
+                continue
+            yield from self.steps_after(state, head, chosen, cost)
+
+    def cut(self, state, cost, chosen, element):
+        """The file ends inside this header or value."""
+        self.cuts.append(Step(state, None, cost + CUT, chosen, element, "cut", len(state[1]) - 1))
+
+    def steps_after(self, state, head, chosen, cost):
+        kind = state[1][-1][0]
+        tag = int.from_bytes(head[:2], "little") << 16 | int.from_bytes(head[2:4], "little")
+        length = int.from_bytes(head[4:8], "little")
+        if tag >> 16 == 0xFFFE:
+            yield from self.item_steps(state, tag, length, chosen, cost)
+        elif kind in "DI":
+            yield from self.element_steps(state, head, chosen, cost)
+        elif kind == "i":
+            element = Element(tag, b"UN", state[0], state[0] + 8, length)
+            yield from self.passing(state, element, chosen, cost)
+
+    def item_steps(self, state, tag, length, chosen, cost):
+        place, stack, last, _ = state
+        kind, end, before = stack[-1]
+        element = Element(tag, b"", place, place + 8, length)
+        depth = len(stack) - 1
+        if tag == ITEM and kind in "Ss":
+            inner = "I" if kind == "S" else "i"
+            until = None if length == UNDEFINED else place + 8 + length
+            if until is not None and until > (end if end is not None else self.total):
+                return
+            after = self.settle(place + 8, stack + ((inner, until, 0),), 0, chosen)
+            yield Step(state, after, cost, chosen, element, "item", depth)
+        elif tag == ITEM and kind == PIXELS and length != UNDEFINED:
+            if element.end > self.total:
+                self.cut(state, cost, chosen, element)
+                return
+            after = self.settle(element.end, stack, last, chosen)
+            yield Step(state, after, cost + ODD * (length % 2), chosen, element, "fragment", depth)
+        elif end is None and length == 0 and (tag == SEQUENCE_END and kind in "SsP" or tag == ITEM_END and kind in "Ii"):
+            after = self.settle(place + 8, stack[:-1], before, chosen)
+            yield Step(state, after, cost, chosen, element, "end", depth)
+
+    def element_steps(self, state, head, chosen, cost):
+        place = state[0]
+        if header_of(head + b"\0" * 4, place) is None:
+            return
+        if head[4:6] in (b"OB", b"OD", b"OF", b"OL", b"OV", b"OW", b"SQ", b"SV", b"UC", b"UN", b"UR", b"UT", b"UV"):
+            for rest, both, more in self.choices(place + 8, place + 12, chosen):
+                if len(rest) < 4:
+                    self.cut(state, cost, chosen, None)
+                else:
+                    yield from self.passing(state, header_of(head + rest, place), both, cost + more)
+        else:
+            yield from self.passing(state, header_of(head, place), chosen, cost)
+
+    def passing(self, state, element, chosen, cost):
+        """The steps along an element whose header is read."""
+        place, stack, last, _ = state
+        kind, end, _ = stack[-1]
+        cost += UNORDERED * (element.tag <= last) + (strangeness(element.tag, element.vr) if kind != "i" else 0)
+        depth = len(stack) - 1
+        if element.length == UNDEFINED:
+            inner = self.opens(element, kind, depth)
+            if inner:
+                after = self.settle(element.value, stack + ((inner, None, element.tag),), 0, chosen)
+                yield Step(state, after, cost, chosen, element, "open", depth)
+            return
+        cost += ODD * (element.length % 2)
+        if element.end > (end if end is not None else self.total):
+            if all(frame[1] in (None, self.total) for frame in stack):
+                self.cut(state, cost, chosen, element)
+            return
+        if element.vr == b"SQ":
+            after = self.settle(element.value, stack + ((SEQUENCE, element.end, element.tag),), 0, chosen)
+            yield Step(state, after, cost, chosen, element, "open", depth)
+            return
+        yield from self.values(state, element, chosen, cost)
+
+    def opens(self, element, kind, depth):
+        if kind == "i":
+            return "s"
+        if element.vr == b"SQ":
+            return SEQUENCE
+        if element.vr == b"UN":
+            return "s"
+        return PIXELS if depth == 0 and element.tag == PIXEL_DATA and element.vr in (b"OB", b"OW") else None
+
+    def values(self, state, element, chosen, cost):
+        _, stack, _, _ = state
+        depth = len(stack) - 1
+        if not self.runs.touching(element.value, element.end) or not self.is_small(element.value, element.end, chosen):
+            after = self.settle(element.end, stack, element.tag, chosen)
+            yield Step(state, after, cost, chosen, element, "leaf", depth)
+            return
+        for value, both, more in self.choices(element.value, element.end, chosen):
+            more += FORBIDDEN * (not allows(element.vr, value))
+            after = self.settle(element.end, stack, element.tag, both)
+            yield Step(state, after, cost + more, both, element, "leaf", depth)
+
+    # Where no way goes on ------------------------------------------------------------
+
+    def jumps_from(self, state):
+        """Steps to the next places where something can begin."""
+        place, stack, last, _ = state
+        inner = stack[-1][0] == PIXELS
+        form, until = (ITEM_OR_END, 2) if inner else (ELEMENT, 3)
+        found = sorted({next_place for text in self.texts for next_place in self.likely(text, form, place + 1, inner, until)})
+        for next_place in found[:until]:
+            after = (next_place, stack if inner else stack[:1], last, ())
+            yield Step(state, after, JUMP + min(JUMP - 1, (next_place - place) // 256), {}, None, "jump", len(stack) - 1)
+
+    def likely(self, text, form, begin, inner, until):
+        """Places where an item, or three elements after each other, can begin."""
+        count = 0
+        for found in form.finditer(text, begin):
+            place = found.start()
+            if inner or PIXELS_BEGIN.match(text, place) or follows(text, place, 3):
+                yield place
+                count += 1
+                if count == until:
+                    return
+
+    def solve(self, texts):
+        """The Structure, from the bytes of each copy."""
+        self.texts = set(texts)
+        start = self.explore()
+        return Structure(self, start)
+
+
+def follows(text, place, count):
+    """Whether so many elements follow each other here, with ascending tags of one group or the next."""
+    last = 0
+    for _ in range(count):
+        element = header_of(text[place : place + 12], place)
+        if element is None or element.tag <= last or element.tag >> 16 > 0x7FE0 or strangeness(element.tag, element.vr) > 2:
+            return False
+        if element.length == UNDEFINED:
+            return element.vr == b"SQ"
+        last, place = element.tag, element.end
+    return True
+
+
+class Structure:
+    """What the best ways come to. `ways` is {run: the ways that best ways have}; `steps` are those of one of the best."""
+
+    def __init__(self, walk, start):
+        self.walk = walk
+        self.is_cut = False
+        ends = {state: 0 for state in walk.goals}
+        if not ends and walk.cuts:
+            ends = self.furthest_cuts()
+        self.costs = self.costs_to(ends)
+        self.cost = self.costs.get(start)
+        self.is_found = self.cost is not None
+        self.ways = {}
+        self.steps = self.best_steps(start) if self.is_found else []
+        if self.is_found:
+            self.collect(start)
+
+    def furthest_cuts(self):
+        """Where no way reaches the end: the ways that get furthest before they are cut."""
+        walk = self.walk
+        self.is_cut = True
+        furthest = max(step.before[0] for step in walk.cuts)
+        ends = {}
+        for step in walk.cuts:
+            if step.before[0] == furthest:
+                end = ("cut", step.element.start if step.element else furthest, step.element.length if step.element else 0)
+                step.after = end
+                walk.steps.setdefault(step.before, []).append(step)
+                ends[end] = 0
+        return ends
+
+    def costs_to(self, ends):
+        """{state: the least cost from it to an end}."""
+        costs = dict(ends)
+        for state in sorted(self.walk.steps, key=lambda state: (-state[0], len(state[1]))):
+            best = min((step.cost + costs[step.after] for step in self.walk.steps[state] if step.after in costs), default=None)
+            if best is not None:
+                costs[state] = best
+        return costs
+
+    def best(self, state):
+        """The steps from a state that the best ways take."""
+        steps = self.walk.steps.get(state, ())
+        return [step for step in steps if step.after in self.costs and step.cost + self.costs[step.after] == self.costs[state]]
+
+    def best_steps(self, start):
+        found, state = [], start
+        while steps := self.best(state):
+            found.append(steps[0])
+            state = steps[0].after
+        return found
+
+    def collect(self, start):
+        waiting, seen = [start], {start}
+        while waiting:
+            for step in self.best(waiting.pop()):
+                for number, way in step.chosen.items():
+                    self.ways.setdefault(number, set()).add(way)
+                if step.after not in seen:
+                    seen.add(step.after)
+                    waiting.append(step.after)
+
+    # What stands where -----------------------------------------------------------------
+
+    @property
+    def jumps(self):
+        """Places from which no way goes on: (from, to)."""
+        return [(step.before[0], step.after[0]) for step in self.steps if step.kind == "jump"]
+
+    @property
+    def elements(self):
+        """The elements of the top level, in order."""
+        return [step.element for step in self.steps if step.depth == 0 and step.kind in ("leaf", "open") and step.element]
+
+    @property
+    def pixel_data(self):
+        return next((element for element in self.elements if element.tag == PIXEL_DATA), None)
+
+    def items_of_pixels(self):
+        """The items of Pixel Data, as Elements, the offset table first; jumps as pairs."""
+        found = []
+        for step in self.steps:
+            is_inner = step.before[1][-1][0] == PIXELS
+            if is_inner and step.kind in ("fragment", "cut") and step.element and step.element.tag == ITEM:
+                found.append(step.element)
+            elif is_inner and step.kind == "jump":
+                found.append((step.before[0], step.after[0]))
+        return found
+
+    def end_of_pixels(self):
+        """Where what follows Pixel Data begins."""
+        for step in self.steps:
+            if step.before[1][-1][0] == PIXELS and step.kind == "end":
+                return step.element.value
+        return self.walk.total

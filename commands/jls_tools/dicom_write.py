@@ -1,0 +1,155 @@
+"""Builds the mended DICOM file: with each byte in its place, or packed anew; and stores it whole or not at all."""
+import hashlib
+import os
+import struct
+
+from jls_tools.dicom_file import ITEM, PIXEL_DATA, SEQUENCE_END, UNDEFINED, tag_bytes
+from jls_tools.dicom_frames import EXTENDED_LENGTHS, EXTENDED_TABLE
+
+MOST_TRIED = 4096
+NO_TABLE_FROM = 1 << 32
+
+
+def padding(place, stream, copies):
+    """The bytes between the end of a frame's stream and the end of its place, or None if the frame does not fit there."""
+    count = place.size - len(stream)
+    if count < 0:
+        return None
+    tails = {place.stream(copy.data)[len(stream) :] for copy in copies}
+    if b"\0" * count in tails:
+        return b"\0" * count
+    return tails.pop() if len(tails) == 1 and count <= 1 else None
+
+
+def in_fragments(place, stream):
+    """The parts of a stream for the fragments of its place: (begin, bytes)."""
+    at = 0
+    for begin, end in place.fragments:
+        yield begin, stream[at : at + end - begin]
+        at += end - begin
+
+
+def put_frames(data, places, streams, copies):
+    """Puts streams into their places; answers whether all of them fit there."""
+    for place, stream in zip(places, streams):
+        pad = padding(place, stream, copies)
+        if pad is None:
+            return False
+        for begin, part in in_fragments(place, stream + pad):
+            data[begin : begin + len(part)] = part
+    return True
+
+
+def item(value):
+    return tag_bytes(ITEM) + struct.pack("<I", len(value)) + value
+
+
+def even(stream):
+    return stream + b"\0" * (len(stream) % 2)
+
+
+def pixel_data(streams, vr):
+    """Pixel Data with an offset table, a fragment for each frame."""
+    offsets, at = [], 0
+    for stream in streams:
+        offsets.append(at)
+        at += 8 + len(even(stream))
+    table = b"" if at >= NO_TABLE_FROM else struct.pack(f"<{len(offsets)}I", *offsets)
+    parts = [tag_bytes(PIXEL_DATA), vr, b"\0\0", struct.pack("<I", UNDEFINED), item(table)]
+    parts += [item(even(stream)) for stream in streams]
+    return b"".join(parts) + tag_bytes(SEQUENCE_END) + b"\0\0\0\0"
+
+
+def top_level(data, structure):
+    """[(tag, bytes)] of the elements before Pixel Data, each with all that it has inside."""
+    elements = structure.elements
+    found = []
+    for element, following in zip(elements, elements[1:]):
+        if element.tag == PIXEL_DATA:
+            break
+        found.append((element.tag, bytes(data[element.start : following.start])))
+    return found
+
+
+def packed(data, structure, streams, elements=None):
+    """The file with these streams as its frames. `elements` stand for those before Pixel Data, where they were changed."""
+    elements = top_level(data, structure) if elements is None else elements
+    head = b"".join(value for tag, value in elements if tag not in (EXTENDED_TABLE, EXTENDED_LENGTHS))
+    preamble = bytes(data[:128]) + b"DICM"
+    return preamble + head + pixel_data(streams, structure.pixel_data.vr) + bytes(data[structure.end_of_pixels() :])
+
+
+def expected_tables(places, first):
+    """What offset tables should have, for frames whose places are known: {tag or None: (where it begins, bytes)} without the places."""
+    starts = [place.begin - 8 - first for place in places]
+    basic = struct.pack(f"<{len(starts)}I", *(start & 0xFFFFFFFF for start in starts))
+    extended = struct.pack(f"<{len(starts)}Q", *starts)
+    sizes = struct.pack(f"<{len(places)}Q", *(place.size for place in places))
+    return basic, extended, sizes
+
+
+# Sums ----------------------------------------------------------------------------------
+
+
+def find_sum(data, choices, wanted):
+    """The combination of choices with which a file has this SHA-256, as a list of indices; None if none of those that are tried has.
+
+    `choices` are (begin, end, [bytes]) in order, not overlapping.
+    """
+    tried = 0
+    ends = [begin for begin, _, _ in choices[1:]] + [len(data)]
+    first = hashlib.sha256(data[: choices[0][0] if choices else len(data)])
+    if not choices:
+        return [] if first.hexdigest() == wanted else None
+    waiting = [(first, [])]
+    while waiting and tried < MOST_TRIED:
+        before, taken = waiting.pop()
+        if len(taken) == len(choices):
+            tried += 1
+            if before.hexdigest() == wanted:
+                return taken
+            continue
+        _, end, ways = choices[len(taken)]
+        following = data[end : ends[len(taken)]]
+        for number in reversed(range(len(ways))):
+            sums = before.copy()
+            sums.update(ways[number])
+            sums.update(following)
+            waiting.append((sums, [*taken, number]))
+    return None
+
+
+def with_choices(data, choices, taken):
+    parts, at = [], 0
+    for (begin, end, ways), number in zip(choices, taken):
+        parts += [data[at:begin], ways[number]]
+        at = end
+    return b"".join([*parts, data[at:]])
+
+
+# Storing -------------------------------------------------------------------------------
+
+
+def store(data, out, folder):
+    """Stores a new file: whole, or not at all. `folder` is one for temporary files in the same file system. It replaces nothing."""
+    part = os.path.join(folder, "out")
+    with open(part, "xb") as file:
+        file.write(data)
+        file.flush()
+        os.fsync(file.fileno())
+    os.chmod(part, 0o666 & ~USER_MASK)
+    try:
+        os.link(part, out)
+    except PermissionError:  # a file system without links
+        if os.path.lexists(out):
+            raise FileExistsError(17, "it is there already", out) from None
+        os.rename(part, out)
+
+
+def user_mask():
+    mask = os.umask(0o077)
+    os.umask(mask)
+    return mask
+
+
+USER_MASK = user_mask()  # as the user has it; commands may set a stricter one for temporary files

@@ -1,0 +1,200 @@
+"""Mends one frame from its copies, by jls-splice and jls-salvage."""
+import os
+import re
+from dataclasses import dataclass, field
+
+from jls_tools.dicom_frames import other_coding, shape_of
+from jls_tools.dicom_result import FrameResult
+
+# A frame is known by what stands after its headers
+HEADERS, LEAST_SHARED, LEAST_SPLICED = 64, 128, 16
+SOI = b"\xff\xd8\xff"  # and the first byte of the next marker
+ZERO_RUN = re.compile(rb"\0{8,}")
+EQUAL_RUN = re.compile(rb"\0{4,}")
+FAULT = re.compile(r"end fault (\d+)")
+FAULTS = {6: "near-lossless coding", 7: "colour interleaved by sample", 8: "a mapping table", 15: "an interval that is too large"}
+
+
+@dataclass
+class Mended:
+    """What a frame came to: its FrameResult, the stream if there is one, further streams that decode, and its partial picture."""
+
+    result: FrameResult
+    stream: bytes | None = None
+    others: list = field(default_factory=list)
+    partial: str | None = None  # the path of the partial picture
+    shape: str = ""
+
+    @property
+    def is_whole(self):
+        return self.result.kind == "whole"
+
+
+def equal_bytes(one, other):
+    """How many bytes of two streams are equal at equal offsets."""
+    size = min(len(one), len(other))
+    apart = int.from_bytes(one[:size], "big") ^ int.from_bytes(other[:size], "big")
+    return apart.to_bytes(size, "big").count(0)
+
+
+def is_zeros(stream, other):
+    """Whether a stream is zeros wherever it differs from the other one, nearly."""
+    size = min(len(stream), len(other))
+    apart = [one for one, two in zip(stream[:size], other[:size]) if one != two]
+    return len(apart) == 0 or apart.count(0) * 10 >= len(apart) * 9
+
+
+def shares_little(stream, other):
+    """Whether another copy has a codestream at this place with less than half of these bytes.
+
+    What is zeros wherever it differs is none, nor is what does not begin as a codestream: it is no frame, but damage.
+    """
+    return other[:3] == SOI and equal_bytes(stream, other) * 2 < min(len(stream), len(other)) and not is_zeros(other, stream)
+
+
+def without_zeros(stream):
+    """How many bytes stand outside of long runs of zeros, which may be damage."""
+    return len(ZERO_RUN.sub(b"", stream))
+
+
+def is_connected(one, other):
+    """Whether two streams at one place are of one picture: most bytes after their headers are equal, and these are many."""
+    left, right = one[HEADERS:], other[HEADERS:]
+    apart = int.from_bytes(left[: len(right)], "big") ^ int.from_bytes(right[: len(left)], "big")
+    mask = apart.to_bytes(min(len(left), len(right)), "big")
+    equal = sum(without_zeros(left[run.start() : run.end()]) for run in EQUAL_RUN.finditer(mask))
+    least = min(without_zeros(left), without_zeros(right))
+    return one == other or (equal >= LEAST_SHARED and equal * 2 >= least)
+
+
+def is_spliced(stream, one, other):
+    """Whether a mended stream has bytes of each of two copies that the other has not."""
+    if not len(stream) == len(one) == len(other):
+        return False
+    triples = [(own, left, right) for own, left, right in zip(stream, one, other) if left != right]
+    of_one, of_other = (sum(triple[0] == triple[at] for triple in triples) for at in (1, 2))
+    return of_one >= LEAST_SPLICED and of_other >= LEAST_SPLICED
+
+
+class FrameMender:
+    """Mends frames in a folder for temporary files."""
+
+    def __init__(self, programs, folder, options):
+        self.programs = programs
+        self.folder = folder
+        self.words = []
+        if options.most is not None:
+            self.words += ["--max", str(options.most)]
+        if options.tries is not None:
+            self.words += ["--tries", str(options.tries)]
+        self.has_files = "--files" in programs.run([programs.splice_program, "--help"]).printed
+        self.wants_all = options.sha256 is not None
+
+    def name(self, number, ending):
+        return f"{number}{ending}"
+
+    def path(self, name):
+        return os.path.join(self.folder, name)
+
+    def put(self, name, data):
+        with open(self.path(name), "wb") as file:
+            file.write(data)
+        return name
+
+    def get(self, name):
+        with open(self.path(name), "rb") as file:
+            return file.read()
+
+    def drop(self, names):
+        for name in names:
+            if os.path.exists(self.path(name)):
+                os.remove(self.path(name))
+
+    def mend(self, number, streams):
+        """A Mended from the streams of a frame, which differ from each other; those of zeros alone are left out."""
+        usable = [stream for stream in dict.fromkeys(streams) if stream.strip(b"\0")]
+        if not usable:
+            return Mended(FrameResult(number, "missing", note="no copy has it"))
+        names = [self.put(self.name(number, f"-{at}.jls"), stream) for at, stream in enumerate(usable)]
+        try:
+            if len(usable) == 1:
+                return self.of_one(number, usable[0], names[0])
+            return self.of_several(number, usable, names)
+        finally:
+            self.drop(names)
+
+    def check(self, name):
+        return self.programs.check(name, self.folder)
+
+    def result(self, number, kind, report, promise="", note=""):
+        return FrameResult(number, kind, report.settled, report.missing, report.disputed, promise, note)
+
+    def of_one(self, number, stream, name):
+        outcome = self.check(name)
+        if outcome.status == 0:
+            return Mended(self.result(number, "whole", outcome.report), stream, [], None, outcome.report.shape)
+        if outcome.status == 3 or not outcome.report.width:
+            return Mended(FrameResult(number, "missing", note=self.why_unread(stream, outcome.faults)))
+        partial = self.name(number, ".jlsp")
+        self.programs.join(partial, [name], self.folder)
+        found = FAULT.search(outcome.printed)
+        note = FAULTS.get(int(found.group(1)), "") if found else ""
+        kind = "missing" if outcome.report.settled + outcome.report.disputed == 0 else "lines"
+        return Mended(self.result(number, kind, outcome.report, note=note), None, [], self.path(partial), outcome.report.shape)
+
+    def why_unread(self, stream, faults):
+        """Why there is no picture: another coding, or the fault as the program names it."""
+        coding = other_coding(stream)
+        if coding:
+            return f"it is {coding}"
+        found = re.search(r"no picture, (fault .*)", faults)
+        return found.group(1) if found else "no copy reads"
+
+    def of_several(self, number, streams, names):
+        partial, file, prefix = (self.name(number, ending) for ending in (".jlsp", ".mended", ".other"))
+        words = list(self.words)
+        if self.has_files and self.wants_all:
+            words += ["--files", prefix]
+        splice = self.programs.splice(partial, names, file, self.folder, words)
+        stream = self.get(file) if splice.file_written else None
+        others = self.others(prefix, streams, names)
+        self.drop([file])
+        report = splice.report
+        if splice.status == 3 or not report.width:
+            return Mended(FrameResult(number, "missing", note=self.why_unread(streams[0], splice.faults)), None, others)
+        promise = report.promise or ("picture" if splice.promises_picture else "lines")
+        kind = self.kind_of(splice, report)
+        note = ""
+        if kind == "whole" and any(shares_little(stream, other) for other in streams):
+            if stream in streams:
+                kind, note = "disputed", "another copy has less than half of these bytes here"
+        return Mended(self.result(number, kind, report, promise, note), stream, others, self.path(partial), report.shape)
+
+    def kind_of(self, splice, report):
+        if splice.status == 0 and splice.promises_picture:
+            return "whole"
+        if report.disputed:
+            return "disputed"
+        return "missing" if report.settled == 0 else "lines"
+
+    def others(self, prefix, streams, names):
+        """Streams that decode and may be the one that a checksum is of, where one is given."""
+        if not self.wants_all:
+            return []
+        if not self.has_files:
+            return [stream for stream, name in zip(streams, names) if self.check(name).status == 0]
+        found, number = [], 1
+        while os.path.exists(self.path(f"{prefix}-{number}")):
+            found.append(self.get(f"{prefix}-{number}"))
+            self.drop([f"{prefix}-{number}"])
+            number += 1
+        return found
+
+
+def shapes_of(mended, streams):
+    """The Shape that frames have: of those that are whole, else of what any copy says of them."""
+    for frame in mended:
+        if frame.stream is not None and frame.is_whole:
+            return shape_of(frame.stream)
+    found = [shape_of(stream) for several in streams for stream in several]
+    return next((shape for shape in found if shape), None)

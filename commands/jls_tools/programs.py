@@ -1,0 +1,150 @@
+"""Finds jls-salvage and jls-splice, calls them, and takes apart what they print (docs/OUTPUT.md)."""
+import os
+import re
+import shutil
+import subprocess
+import sys
+
+PICTURE = re.compile(r"picture (\d+)x(\d+), (\d+) bits, components (\d+(?:,\d+)*)$")
+COUNTS = re.compile(r"settled (\d+), missing (\d+), disputed (\d+)$")
+# No verdict on a picture: out of memory, not built, not executable, not there
+NO_VERDICT = {5, 125, 126, 127}
+
+
+class ProgramFailed(Exception):
+    """A program could not say anything of a picture: it is not there, had no memory, or was stopped. `status` is what it ended with."""
+
+    def __init__(self, text, status):
+        super().__init__(text)
+        self.status = status
+
+
+class Report:
+    """The lines that check, show and jls-splice print. Counts are 0 and the shape is empty if the lines have no report."""
+
+    def __init__(self, text):
+        self.lines = text.splitlines()
+        self.width = self.height = self.bits = 0
+        self.components = []
+        self.settled = self.missing = self.disputed = 0
+        self.missing_lines = []  # (component, first, last)
+        self.disputed_lines = []  # (component, line, readings)
+        self.promise = None  # the words after "promise", if that line is there
+        self.before = None  # the offset of the line "before", if it is there
+        self.end = None  # the words after "end"
+        for line in self.lines:
+            self.take(line)
+
+    def take(self, line):
+        word, _, rest = line.partition(" ")
+        picture, counts = PICTURE.match(line), COUNTS.match(line)
+        if picture:
+            self.width, self.height, self.bits = (int(picture.group(at)) for at in (1, 2, 3))
+            self.components = [int(name) for name in picture.group(4).split(",")]
+        elif counts:
+            self.settled, self.missing, self.disputed = map(int, counts.groups())
+        elif word == "missing":
+            component, lines = rest.split()
+            self.missing_lines.append((int(component), *map(int, lines.split("-"))))
+        elif word == "disputed":
+            self.disputed_lines.append(tuple(map(int, rest.split())))
+        elif word in ("promise", "end"):
+            setattr(self, word, rest)
+        elif word == "before":
+            self.before = int(re.match(r"\d+", rest).group())
+
+    @property
+    def shape(self):
+        """The words after "picture", or nothing."""
+        if not self.width:
+            return ""
+        return f"{self.width}x{self.height}, {self.bits} bits, components {','.join(map(str, self.components))}"
+
+    def has(self, begin):
+        """Whether a line begins so."""
+        return any(line.startswith(begin) for line in self.lines)
+
+
+class Outcome:
+    """How a call ended: its status, what it printed as text and as a report, and its fault lines."""
+
+    def __init__(self, status, printed, faults):
+        self.status = status
+        self.printed = printed
+        self.faults = faults
+        self.report = Report(printed)
+
+
+class Splice(Outcome):
+    """What jls-splice came to. `promises_picture` says whether its mended file is promised to be the picture."""
+
+    def __init__(self, outcome, file_written):
+        super().__init__(outcome.status, outcome.printed, outcome.faults)
+        self.file_written = file_written
+
+    @property
+    def promises_picture(self):
+        """What the line "promise" says. Without that line: the whole search was done, and exactly one file decodes."""
+        if self.status != 0:
+            return False
+        if self.report.promise is not None:
+            return self.report.promise.split()[:1] == ["picture"]
+        cut_off = self.report.has("tries used up") or self.report.has("by groups")
+        return self.file_written and not cut_off
+
+
+def find(name):
+    """The path of a program: what JLS_SALVAGE or JLS_SPLICE names, the one beside the command, in bin, or on PATH."""
+    named = os.environ.get(name.upper().replace("-", "_"))
+    if named:
+        return os.path.abspath(named)
+    top = os.path.dirname(os.path.dirname(os.path.dirname(os.path.realpath(__file__))))
+    folders = [os.path.dirname(os.path.realpath(sys.argv[0])), os.path.dirname(os.path.abspath(sys.argv[0])), os.path.join(top, "bin")]
+    for path in [*(os.path.join(folder, name) for folder in folders), shutil.which(name)]:
+        if path and os.path.isfile(path) and os.access(path, os.X_OK):
+            return os.path.abspath(path)
+    raise ProgramFailed(f"{name} is neither beside this command nor on PATH", 127)
+
+
+class Programs:
+    """The two programs. Names of files are taken from `folder`: they have to be UTF-8, and not to begin with a hyphen."""
+
+    def __init__(self):
+        self.salvage = find("jls-salvage")
+        self.splice_program = find("jls-splice")
+
+    def run(self, words, folder=None, given=None):
+        """Runs words, of which the first is a path of a program. A ProgramFailed is raised where it can't say anything of a picture."""
+        name = os.path.basename(words[0])
+        try:
+            stdin = {"stdin": subprocess.DEVNULL} if given is None else {"input": given}
+            done = subprocess.run(words, cwd=folder, capture_output=True, **stdin)
+        except OSError as fault:
+            raise ProgramFailed(f"{words[0]}: {fault.strerror}", 127) from fault
+        printed, faults = (text.decode("utf-8", "surrogateescape") for text in (done.stdout, done.stderr))
+        if done.returncode < 0:
+            raise ProgramFailed(f"{name} was stopped by signal {-done.returncode}", 128 - done.returncode)
+        if done.returncode in NO_VERDICT:
+            raise ProgramFailed(faults.strip() or f"{name} ended with status {done.returncode}", done.returncode)
+        return Outcome(done.returncode, printed, faults)
+
+    def check(self, name, folder=None):
+        return self.run([self.salvage, "check", name], folder)
+
+    def show(self, name, folder=None):
+        return self.run([self.salvage, "show", name], folder)
+
+    def join(self, out, names, folder=None):
+        return self.run([self.salvage, "join", out, *names], folder)
+
+    def write_jls(self, out, name, folder=None, by_line=False):
+        """Writes a whole picture as JPEG-LS; by line, if its components shall be interleaved so."""
+        ways = ["--ilv", "line"] if by_line else []
+        return self.run([self.salvage, "write", "--as", "jls", *ways, out, name], folder)
+
+    def splice(self, out, names, file=None, folder=None, options=()):
+        """Mends copies: OUT gets the partial picture, and `file` the mended file. Options are further words, such as --tries 100."""
+        words = [self.splice_program, *options, *(["--file", file] if file else []), out, *names]
+        outcome = self.run(words, folder)
+        written = bool(file) and os.path.exists(os.path.join(folder or ".", file))
+        return Splice(outcome, written)

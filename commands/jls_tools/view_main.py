@@ -1,0 +1,139 @@
+"""jls-view: from the words to the exit status."""
+import argparse
+import os
+import shutil
+import sys
+import tempfile
+
+from . import archive_names, archive_run, partial_picture, png, view_canvas, view_input
+from .programs import ProgramFailed, Programs
+
+TEXT = """\
+jls-view draws IN as a PNG: a partial picture, a JPEG-LS copy, damaged or not, or a frame of a DICOM file.
+
+A line without a reading is orange. A line on which copies disagree is striped with blue, over the first of its readings. The bar on the
+right has the same colours, line by line, and is gray where a line is settled. People who are colour-blind can tell them apart.
+
+Three components are shown as red, green and blue. Other components stand below one another. Up to 8 bits all that the precision allows
+is shown. Above, the least sample of the settled lines is black and the greatest white, unless --window says else.
+"""
+
+
+class Unusable(Exception):
+    """The call can't be done; the text is for the person, and `status` for the shell."""
+
+    def __init__(self, text, status):
+        super().__init__(text)
+        self.status = status
+
+
+class Parser(argparse.ArgumentParser):
+    def error(self, message):
+        raise Unusable(f"{message}\nTry jls-view --help.", 2)
+
+
+def number(text):
+    try:
+        value = float(text)
+    except ValueError:
+        value = float("nan")
+    if not abs(value) <= 1 << 20:
+        raise argparse.ArgumentTypeError(f"{text} is no number of samples")
+    return value
+
+
+def count(text):
+    if not text.isascii() or not text.isdigit() or len(text) > 9:
+        raise argparse.ArgumentTypeError(f"{text} is no number of a frame")
+    return int(text)
+
+
+def parser():
+    made = Parser(
+        prog="jls-view",
+        usage="jls-view [OPTIONS] IN OUT.png",
+        description=TEXT,
+        formatter_class=argparse.RawDescriptionHelpFormatter,
+        allow_abbrev=False,
+    )
+    made.add_argument("source", nargs="?", metavar="IN", help="a partial picture, a copy, or a DICOM file")
+    made.add_argument("out", nargs="?", metavar="OUT.png", help="the picture with its holes")
+    made.add_argument("--window", nargs=2, type=number, metavar=("CENTRE", "WIDTH"), help="which samples are shown, as DICOM defines it")
+    made.add_argument("--signed", action="store_true", help="samples are signed, as in some DICOM files; the header of one is believed")
+    made.add_argument("--frame", type=count, default=0, metavar="N", help="which frame of a DICOM file, counted from 0")
+    made.add_argument("--mask", metavar="MASK.png", help="of each line a gray: 0 settled, 128 disputed, 255 missing")
+    made.add_argument("--map", action="store_true", help="print a line of text for each component: . settled, ? disputed, # missing")
+    made.add_argument("--version", action="store_true", help="print the version of jls-salvage")
+    return made
+
+
+def check(words):
+    if words.source is None:
+        raise Unusable("it takes IN and OUT.png; try jls-view --help", 2)
+    if not (words.out or words.mask or words.map):
+        raise Unusable("nothing to do: name OUT.png, --mask or --map", 2)
+    if words.window and words.window[1] < 1:
+        raise Unusable("the WIDTH of --window is 1 or more", 2)
+    for place in (words.out, words.mask):
+        if place and os.path.exists(place):
+            if os.path.samefile(place, words.source) if os.path.exists(words.source) else False:
+                raise Unusable(f"{archive_names.printable(place)} is IN", 2)
+            with open(place, "rb") as file:
+                if file.read(2) in (b"\xff\xd8", b"JL") or view_input.is_dicom(place):
+                    raise Unusable(f"{archive_names.printable(place)} is a picture to salvage, and is not replaced", 4)
+
+
+def window_of(picture, words, is_signed):
+    if words.window:
+        return view_canvas.centred(picture, *words.window, is_signed)
+    return view_canvas.default(picture, is_signed)
+
+
+def draw(words, picture, is_signed):
+    if words.out:
+        canvas = view_canvas.Canvas(picture, window_of(picture, words, is_signed))
+        png.write(words.out, png.Form(canvas.width(), canvas.height(), 8, png.RGB), canvas.rows())
+    if words.mask:
+        form = png.Form(picture.width, picture.height * len(picture.ids), 8, png.GRAY)
+        png.write(words.mask, form, view_canvas.mask_rows(picture))
+    if words.map:
+        for component in range(len(picture.ids)):
+            print(view_canvas.map_line(picture, component))
+
+
+def run(words):
+    if words.version:
+        programs = Programs()
+        print(programs.run([programs.salvage, "--version"]).printed, end="")
+        return 0
+    check(words)
+    # what isn't complete holds pictures: it stands where the result will, for the owner alone
+    beside = os.path.dirname(os.path.abspath(words.out or words.mask)) if words.out or words.mask else None
+    folder = None
+    try:
+        folder = tempfile.mkdtemp(prefix=".jls-view-", dir=beside)
+        picture, is_signed = view_input.read(words.source, words.frame, folder)
+        draw(words, picture, words.signed or is_signed)
+    finally:
+        if folder:
+            shutil.rmtree(folder, ignore_errors=True)
+    return 0
+
+
+def main():
+    archive_run.catch_signals()
+    sys.stdout.reconfigure(errors="backslashreplace")
+    try:
+        return run(parser().parse_args())
+    except (Unusable, view_input.NoPicture) as fault:
+        text, status = str(fault), fault.status
+    except partial_picture.NotAPartialPicture as fault:
+        text, status = str(fault), 3
+    except ProgramFailed as fault:
+        text, status = str(fault), fault.status
+    except OSError as fault:
+        text, status = f"{archive_names.printable(fault.filename or 'a file')}: {fault.strerror}", 4
+    except MemoryError:
+        text, status = "out of memory", 5
+    print(f"jls-view: {text}", file=sys.stderr)
+    return status

@@ -1,0 +1,101 @@
+"""DICOM files of JPEG-LS frames for interop/dicom, made of test data of Debian's packages: of pydicom, nibabel and GDCM.
+
+What these packages have in another coding is coded by DCMTK (dcmcjpls) or GDCM (gdcmconv). Files of several frames are made of one
+picture: its tiles are the frames, as in a mosaic.
+"""
+import glob
+import gzip
+import os
+import shutil
+import subprocess
+
+import numpy
+import pydicom
+from pydicom.uid import ExplicitVRLittleEndian
+
+PACKAGES = "/usr/lib/python3/dist-packages"
+SINGLE = [
+    f"{PACKAGES}/pydicom/data/test_files/{name}.dcm"
+    for name in (
+        "MR_small_jpeg_ls_lossless CT_small MR_small MR_small_padded MR_small_jp2klossless 693_J2KI JPEG2000 "
+        "J2K_pixelrep_mismatch SC_rgb_rle SC_rgb_rle_16bit SC_rgb_rle_2frame SC_rgb_rle_16bit_2frame SC_rgb_small_odd SC_rgb_jpeg_gdcm "
+        "SC_rgb_jpeg_dcmtk GDCMJ2K_TextGBR image_dfl MR_small_bigendian MR_small_implicit ExplVR_BigEnd"
+    ).split()
+]
+SINGLE += [f"{PACKAGES}/nibabel/nicom/tests/data/{name}" for name in ("0.dcm", "1.dcm", "decimal_rescale.dcm")]
+SINGLE += [f"{PACKAGES}/nibabel/nicom/tests/data/{name}.dcm.gz" for name in ("siemens_dwi_0", "siemens_dwi_1000", "philips_mprage")]
+SINGLE += ["/usr/share/doc/libgdcm3.0/examples/00191113.dcm"]
+# (a file, columns and rows of a tile, frames)
+TILED = [("CT_small", 32, 16), ("CT_small", 16, 60), ("MR_small", 16, 15), ("MR_small", 32, 4), ("SC_rgb_small_odd", 3, 1)]
+TILED += [("siemens_dwi_0", 128, 12), ("siemens_dwi_1000", 64, 60), ("philips_mprage", 64, 20), ("J2K_pixelrep_mismatch", 64, 30)]
+LARGEST = 1 << 20  # bytes of a file that is taken, so that the run stays short
+
+
+def unpacked(path, folder):
+    if not path.endswith(".gz"):
+        return path
+    name = os.path.join(folder, os.path.basename(path)[:-3])
+    with gzip.open(path) as packed, open(name, "wb") as out:
+        shutil.copyfileobj(packed, out)
+    return name
+
+
+def run(*words):
+    return subprocess.run(words, capture_output=True).returncode == 0
+
+
+def coded(plain, name):
+    """Codes a file as JPEG-LS lossless; answers whether a DICOM program could."""
+    for words in (["dcmcjpls", "--interleave-line", plain, name], ["gdcmconv", "--jpegls", plain, name]):
+        if run(*words) and pydicom.dcmread(name, stop_before_pixels=True).file_meta.TransferSyntaxUID == "1.2.840.10008.1.2.4.80":
+            return True
+    return False
+
+
+def plain_of(path, name):
+    """Writes a file without compression."""
+    return run("gdcmconv", "--raw", path, name) or run("dcmconv", "+te", path, name)
+
+
+def tiled(path, name, size, frames):
+    """Writes a file whose frames are tiles of one picture, not compressed."""
+    data = pydicom.dcmread(path)
+    samples = data.pixel_array
+    if samples.ndim != 2:
+        return False
+    ups, lefts = (range(0, length - size + 1, size) for length in samples.shape)
+    tiles = [samples[y : y + size, x : x + size] for y in ups for x in lefts]
+    tiles = sorted(tiles, key=lambda tile: -int(tile.astype(numpy.int64).std()))[:frames]
+    data.Rows = data.Columns = size
+    data.NumberOfFrames = len(tiles)
+    data.PixelData = numpy.stack(tiles).astype(samples.dtype).tobytes()
+    data["PixelData"].VR = "OW"
+    data.file_meta.TransferSyntaxUID = ExplicitVRLittleEndian
+    data.is_little_endian, data.is_implicit_VR = True, False
+    data.save_as(name)
+    return True
+
+
+def make(folder):
+    """The paths of JPEG-LS files, made in this folder."""
+    found = []
+    for path in SINGLE:
+        if not os.path.exists(path):
+            continue
+        base = os.path.basename(path).split(".")[0]
+        plain, name = f"{folder}/{base}.raw", f"{folder}/{len(found):02}-{base}.dcm"
+        if base.endswith("jpeg_ls_lossless"):
+            shutil.copyfile(path, name)
+        elif not (plain_of(unpacked(path, folder), plain) and coded(plain, name)):
+            continue
+        if os.path.getsize(name) <= LARGEST:
+            found.append(name)
+    for base, size, frames in TILED:
+        plain = f"{folder}/{base}.raw"
+        name = f"{folder}/{len(found):02}-{base}-{size}.dcm"
+        if os.path.exists(plain) and tiled(plain, f"{plain}.tiles", size, frames) and coded(f"{plain}.tiles", name):
+            if os.path.getsize(name) <= LARGEST:
+                found.append(name)
+    for name in glob.glob(f"{folder}/*.raw*"):
+        os.remove(name)
+    return found
