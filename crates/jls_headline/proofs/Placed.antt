@@ -2,40 +2,22 @@
 use Rattle.std.proofs.Common.{◌≡◌, ℕ, zero, suc, ◌+◌, ◌<◌, ◌≤◌, List, [], ◌∷◌, length, take, refl, sym, subst, arith, inl, inr}
 use Rattle.std.specs.Prelude.{◌==◌, get_or, if◌then◌else◌}
 use Rattle.std.specs.List.{flat_map, AllByRecursion, Contains, range_with_len}
-use Rattle.std.proofs.lemmas.Bool.{cases_eq}
 use Rattle.jls_partial.specs.Reading.{Reading, reading_of}
-use Rattle.jls_marker.specs.Scan.{Scan, IsScan, IsScanOf, first_row, row_count, intervals, HasRow}
+use Rattle.jls_marker.specs.Scan.{Scan, IsScan, IsScanOf, first_row, row_count, intervals}
 use Rattle.jls_marker.proofs.Intervals.{part_the_lines}
 use Rattle.jls_copy.specs.Pieces.{placed}
 use Rattle.jls_picture.specs.Picture.{WholePicture, line_of}
 use Rattle.jls_file.specs.WrittenFile.{interval_lines}
 use Rattle.jls_file_law.specs.Covering.{row_readings, IsLineOf}
 use Rattle.jls_file_law.proofs.Covering.{rows_from, placed_rows}
-use Rattle.jls_headline.specs.Damaged.{picture_reading}
-use Rattle.jls_copy_law.proofs.Members.{none_in, in_rest, first_or_rest, all_at, all_append, in_map, in_flat_map}
+use Rattle.jls_copy_law.proofs.Members.{none_in, in_rest, first_or_rest, all_at, all_append}
 
 -- lines of interval k of a scan, from its first one on, as readings
 abbrev pub placed_in_interval : Scan → ℕ → List (List ℕ) → List Reading
 placed_in_interval s k lines = placed s.components (first_row s k) 0 lines
 
 module _ (pic : WholePicture) where
-  -- each line of the rows is among their readings
-  in_range : (row n line : ℕ) → row ≤ line → line < row + n → Contains (range_with_len row n) line
-  in_range row zero line low high = absurd (omega arith)
-  in_range row (suc n) line low high =
-      elim (cases_eq row line) [
-        | inl e ↦ (0, omega arith, e)
-        | inr ne ↦ in_rest line row (range_with_len (row + 1) n) (in_range (row + 1) n line (omega (arith, ne)) (omega arith))
-      ]
-
-  line_among : (components : List ℕ) (component row n line : ℕ) → Contains components component → row ≤ line → line < row + n
-      → Contains (placed components row 0 (rows_from pic components row n)) (picture_reading pic component line)
-  line_among [] component row n line c low high = absurd (none_in component c)
-  line_among (d ∷ ds) component row n line c low high =
-      subst (λ rs. Contains rs (picture_reading pic component line)) (sym (placed_rows pic d ds row n))
-      (in_flat_map (row_readings pic (d ∷ ds)) (range_with_len row n) line (picture_reading pic component line) (in_range row n line low high) (in_map (λ x. picture_reading pic x line) (d ∷ ds) component c))
-
-  -- and each reading is a line of them
+  -- each reading of the rows is a line of them
   IsIn : (ℕ → Type 0) → ℕ → ℕ → Reading → Type 0
   IsIn P row n r = P r.component × (row ≤ r.line) × (r.line < row + n) × (r.samples ≡ line_of pic r.component r.line)
 
@@ -67,11 +49,6 @@ first_among components (suc n) (line ∷ lines) row place r c =
       | inl e ↦ (0, omega arith, e)
       | inr later ↦ in_rest r (reading_of (get_or components place 0) row line) _ (first_among components n lines (if place + 1 == length components then row + 1 else row) (if place + 1 == length components then 0 else place + 1) r later)
     ]
-
--- the interval's line is among its readings
-pub line_is_among : (pic : WholePicture) (s : Scan) (k component line : ℕ) → Contains s.components component → HasRow s k line
-    → Contains (placed_in_interval s k (interval_lines pic s k)) (picture_reading pic component line)
-line_is_among pic s k component line c h = line_among pic s.components component (first_row s k) (row_count s k) line c h.0 h.1
 
 -- a reading of the interval's lines is a line of the picture
 pub are_lines_of : (pic : WholePicture) (s : Scan) (k : ℕ) (r : Reading) → IsScan s → IsScanOf pic.shape s → k < intervals s

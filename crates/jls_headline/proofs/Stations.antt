@@ -23,10 +23,6 @@ is_read p r = set.contains p.readings r
 pub union_read : (p q : PartialPicture) (r : Reading) → is_read (union p q) r ≡ (is_read p r || is_read q r)
 union_read p q r = contains-union reading_total p.readings q.readings r
 
--- copies of one shape
-abbrev pub AreCopies : PictureShape → List (List ℕ) → Type 0
-AreCopies shape copies = AllByRecursion (HasShape shape) copies
-
 -- what was read of a copy, from whatever source, holds exactly the copy's readings
 pub copy_holds : (taken : PartialPicture) (copy : List ℕ) (read : ReadCopy) → AllByRecursion (λ b. b < 256) copy → CopyReads copy read
     → taken.shape ≡ read.partial.shape → taken.readings ≡ read.partial.readings → HoldsExactly taken (copy ∷ [])

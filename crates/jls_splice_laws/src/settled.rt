@@ -23,9 +23,9 @@ pub fn faultless_splices_are_taken()
     searches_come_to_each_splice();
 }
 
-/// A law: a station for which public calls read the files taken holds exactly their readings. Where every line of a picture survives in them, it settles
-/// that picture or none. Let some copy have, at each part where the copies are found to differ, what an undamaged file has there. If the
-/// tries of the search are enough, what is settled is that file's picture and no other.
+/// A law: a station for which public calls read the files taken holds exactly their readings. Where every line of a picture survives in
+/// them, it settles that picture or none. Let some copy have, at each part where the copies are found to differ, what an undamaged file has
+/// there. If the tries of the search are enough, what is settled is that file's picture and no other.
 pub fn splices_give_no_other()
     ensures surviving { SplicesGiveNoOther }
     ensures all { WholeSplicesGiveNoOther }
