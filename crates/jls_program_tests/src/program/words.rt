@@ -79,6 +79,9 @@ fn says_where_the_report_stopped(rt: HostRuntime) -> Result<(), Fail> {
 #[test]
 fn tells_its_version(rt: HostRuntime) -> Result<(), Fail> {
     let found = run_words(rt.alloc(), "--version", GOOD)?;
-    assert!(rt; found.report.as_slice() == b"jls-salvage 1.1.0 (rattle-kit-13f logic dac8208d650f15bf)\n".as_slice());
+    assert!(rt;
+        found.report.as_slice()
+            == b"jls-salvage 1.1.0 (rattle-kit-13f logic dac8208d650f15bf)\n".as_slice()
+    );
     Ok(())
 }
