@@ -18,7 +18,7 @@ pub record IsModuloReduced (p : CodingParameters) (difference e : ℤ) : Type 0 
   pub is_error : IsError p e
   pub congruent : IsCongruent (range p) difference e
 
--- that error: the remainder from 0 to RANGE - 1, less RANGE if it is at least ceil(RANGE/2) (T.87 A.4.5)
+-- a difference, reduced modulo RANGE: the remainder from 0 to RANGE - 1, less RANGE if it is at least ceil(RANGE/2) (T.87 A.4.5)
 unfoldable pub modulo_reduced : CodingParameters → ℤ → ℤ
 modulo_reduced p difference =
     let remainder = int_rem_euclid difference (pos (range p)) in

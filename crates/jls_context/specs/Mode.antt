@@ -64,12 +64,11 @@ is_first_negative (negsuc n ∷ later) = true
 unfoldable pub is_negative : CodingParameters → Neighbours → Bool
 is_negative p near = let q = quantized_gradients p near in is_first_negative (q.q1 ∷ q.q2 ∷ q.q3 ∷ [])
 
--- 81*Q1 + 9*Q2 + Q3, which is another number for any other three from -4 to 4 (`ContextsAreApart`)
+-- 81*Q1 + 9*Q2 + Q3 (T.87 A.3.4)
 abbrev pub weighed : ℤ → ℤ → ℤ → ℤ
 weighed q1 q2 q3 = pos 81 *ℤ q1 +ℤ pos 9 *ℤ q2 +ℤ q3
 
--- the number of the context: the quantized gradients, each with SIGN, weighed (T.87 A.3.4). The sum is never negative, so that
--- `unsigned_abs` changes nothing
+-- the number of the context: the quantized gradients, each with SIGN, weighed, and the size of that sum (T.87 A.3.4)
 unfoldable pub context : CodingParameters → Neighbours → ℕ
 context p near =
     let q = quantized_gradients p near in let negative = is_negative p near in

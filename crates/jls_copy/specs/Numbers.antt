@@ -9,7 +9,8 @@ pub record IsNextNumber (last m number : ℕ) : Type 0 where
   pub mark : (number - 1) % 8 ≡ m
   pub least : (other : ℕ) → last < other → (other - 1) % 8 ≡ m → number ≤ other
 
--- the same number, computed (T.81 B.2.1)
+-- the number of the piece behind the mark m, where the number `last` was given last: the least one above `last` from which m is one less,
+-- modulo 8, if m is at most 7 (T.81 B.2.1)
 abbrev pub next_number : ℕ → ℕ → ℕ
 next_number last m = last + 1 + (m + 8 - last % 8) % 8
 
@@ -31,8 +32,7 @@ abbrev pub given_last : ℕ → PieceNumber → ℕ
 given_last last (Interval number) = number
 given_last last (BeyondLast number) = last
 
--- the numbers that these marks give, one after the other. The pieces of a course get theirs by the same rule (`pieces_from` of `Pieces`)
--- (T.81 B.2.1)
+-- the numbers that these marks give, one after the other, where `last` was given last (T.81 B.2.1)
 abbrev pub numbers_behind : ℕ → ℕ → List ℕ → List PieceNumber
 numbers_behind intervals last [] = []
 numbers_behind intervals last (m ∷ marks) =

@@ -27,7 +27,7 @@ abbrev pub are_values_of : Result CodingParameters ParamFault → CodingParamete
 are_values_of (Ok d) p = (p.maxval == d.maxval) && ((p.t1 == d.t1) && ((p.t2 == d.t2) && ((p.t3 == d.t3) && (p.reset == d.reset))))
 are_values_of (Err fault) p = false
 
--- whether they are the defaults of the precision (T.87 C.2.4.1.1; T.81 B.2.4.4)
+-- whether they are the defaults of the precision (T.87 C.2.4.1.1). If `params_of` has a fault there, they are not, whichever fault it is
 abbrev pub are_defaults : CodingParameters → Bool
 are_defaults p = are_values_of (params_of p.precision no_presets) p
 

@@ -1,6 +1,6 @@
 -- Damaged copies of a picture, and the lines that survive in them. Before each restart marker that is seen, a damaged copy has lost at most
--- seven in a row, with what stood between them (T.81 B.2.1); at the end of a scan it may have lost any number. None of its pieces, damaged
--- or not, gives lines that the picture doesn't have there.
+-- seven of its scan in a row, with what stood between them (T.81 B.2.1). At the end of a scan it may have lost any number of them, and of
+-- scans it may have lost any number. None of its pieces, damaged or not, gives lines that the picture doesn't have there.
 use Rattle.std.specs.Prelude.{◌≡◌, ℕ, ◌<◌, List, ◌∷◌, length, map, take}
 use Rattle.std.specs.List.{AllByRecursion, Contains, zip}
 use Rattle.jls_partial.specs.Reading.{Reading, reading_of}

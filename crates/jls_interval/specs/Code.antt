@@ -50,7 +50,6 @@ unfoldable pub bits_of_events : CodingParameters → List Event → List Event �
 bits_of_events p earlier [] = []
 bits_of_events p earlier (event ∷ later) = event_bits p earlier event ++ bits_of_events p (earlier ++ event ∷ []) later
 
--- the code of an interval's lines: the bits of all its events. It means something for lines as `AreLines` has them, if the events are those
--- of `AreEvents` (T.87 A.5.3, A.7)
+-- the code of an interval's lines: the bits of all its events. It means something for lines as `AreLines` has them (T.87 A.5.3, A.7)
 unfoldable pub code : CodingParameters → ℕ → ℕ → List (List ℕ) → List Bool
 code p width components lines = bits_of_events p [] (events width components lines)

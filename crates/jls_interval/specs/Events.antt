@@ -86,7 +86,9 @@ pub record Above : Type 0 where
   pub line_above : List ℕ
   pub line_two_above : List ℕ
 
--- `neighbours_at` for a line whose samples before column x are known
+-- the samples round column x of a line whose samples before column x are known, below two lines of its component. Ra stands to the left, Rb
+-- above, Rc above to the left, Rd above to the right. In the first column Ra is Rb, and Rc is the Ra that the line above had there. In the
+-- last column Rd is Rb (T.87 A.2, A.3)
 abbrev pub neighbours : ℕ → Above → List ℕ → ℕ → Neighbours
 neighbours width up line zero =
     record {
@@ -150,7 +152,7 @@ events_after width components before (line ∷ lines) =
     line_events width (length before % components) (above components before) line
     ++ events_after width components (before ++ line ∷ []) lines
 
--- the events of an interval, computed. For lines as in `AreLines` they are those of `AreEvents`. If a line is too short, zeros are added,
--- which has no meaning
+-- the events of an interval, computed: those of each line, in order. For lines as in `AreLines` they are those of `AreEvents`, which stands
+-- in this file, jls_interval/specs/Events.antt. If a line is too short, zeros are added, which has no meaning
 abbrev pub events : ℕ → ℕ → List (List ℕ) → List Event
 events width components lines = events_after width components [] lines

@@ -20,8 +20,8 @@ pub record AreWholeLines (i : IntervalShape) (given : List Bool) (lines whole : 
   pub begins : BeginsWithFirst i given lines whole
   pub longest : (first : List (List ℕ)) → BeginsWithFirst i given lines first → length first ≤ length whole
 
--- the head of bits, where `count` lines are to come. If they are a proper prefix of the code of some lines, it is those of these lines that
--- are complete. Else it is empty
+-- the head of bits, where the lines of an interval are to come. If they are a proper prefix of the code of some lines, it is those of these
+-- lines that are complete. Else it is empty
 abbrev pub IsHead : IntervalShape → List Bool → List (List ℕ) → Type 0
 IsHead i given head =
     ((cut : IsCutCode i given) × AreWholeLines i given cut.lines head) ⊎ ((IsCutCode i given → ⊥) × (head ≡ []))

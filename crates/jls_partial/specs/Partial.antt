@@ -9,8 +9,8 @@ use Rattle.jls_partial.specs.Marks.{mark_cmp, marks_of, sources_of}
 use Rattle.jls_partial.specs.Reading.{Reading, reading_of, reading_cmp, coded_reading}
 
 -- A shape, readings of its lines, and the source numbers of these readings: a mark is a reading with one such number. The record alone does
--- not say that the readings fit the shape, nor that a line has few of them, nor that each mark is of a reading that is held: IsFitting,
--- IsCountable and AreMarksHeld do, and each value of the program's type meets them
+-- not say that the readings fit the shape, nor that a line has few of them, nor that each mark is of a reading that is held. `IsFitting`,
+-- `IsCountable` and `AreMarksHeld` of this file, jls_partial/specs/Partial.antt, do, and each value of the program's type meets them
 pub record PartialPicture : Type 0 where
   pub shape : PictureShape
   pub readings : set.OrderedSet reading_cmp
