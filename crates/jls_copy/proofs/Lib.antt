@@ -3,6 +3,10 @@ mod OneCut
 mod UnitsCut
 pub mod NumbersGiven
 mod CutExamples
+mod DefinitionExamples
+pub mod TwoScanExamples
+pub mod ByLineExamples
+pub mod CutCopyExamples
 pub mod OneCourse
 mod Fitting
 mod HeaderFacts
