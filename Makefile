@@ -37,8 +37,8 @@ all: $(PROGRAMS) $(addprefix $(BUILD)/,$(COMMANDS) $(MODULES))
 
 # The programs ----------------------------------------------------------------
 
-# In what `make dist` packs there are no sources, and the programs are there
-ifneq ($(wildcard crates.txt),)
+# In what `make dist` packs there are no sources, and the programs are there: they are linked again only for another folder
+ifneq ($(wildcard crates.txt)$(filter-out bin,$(BUILD)),)
 MACHINE := $(shell $(CC) -dumpmachine 2> /dev/null)
 PROCESSOR = $(patsubst amd64,x86_64,$(patsubst arm64,aarch64,$(firstword $(subst -, ,$(MACHINE)))))
 LINK = $(CC) $(CFLAGS) -fno-lto $(LDFLAGS) $(if $(STATIC),-static) -Wl,--wrap=main
