@@ -56,7 +56,7 @@ ready:
 	@case '$(MACHINE)' in *linux*) ;; *) echo 'make: $(CC) makes programs for $(MACHINE), and dist/ has objects for Linux alone' >&2; exit 1 ;; esac
 	@test -d 'dist/$(PROCESSOR)' \
 	    || { echo 'make: dist/ has no objects for $(PROCESSOR); it has them for $(notdir $(patsubst %/,%,$(wildcard dist/*/)))' >&2; exit 1; }
-	@cd dist && sums=$$(sha256sum -c SHA256SUMS 2>&1) \
+	@cd dist && sums=$$(LC_ALL=C sha256sum -c SHA256SUMS 2>&1) \
 	    || { printf '%s\n' "$$sums" | grep -v ': OK$$' >&2; echo 'make: dist/ is damaged: its files are not those of dist/SHA256SUMS' >&2; exit 1; }
 
 # How the programs were built last: another compiler, or other flags, build them anew
