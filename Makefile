@@ -37,8 +37,8 @@ all: $(PROGRAMS) $(addprefix $(BUILD)/,$(COMMANDS) $(MODULES))
 
 # The programs ----------------------------------------------------------------
 
-# In what `make dist` packs there are no sources, and the programs are there
-ifneq ($(wildcard crates.txt),)
+# In what `make dist` packs there are no sources, and the programs are there: they are linked again only for another folder
+ifneq ($(wildcard crates.txt)$(filter-out bin,$(BUILD)),)
 MACHINE := $(shell $(CC) -dumpmachine 2> /dev/null)
 PROCESSOR = $(patsubst amd64,x86_64,$(patsubst arm64,aarch64,$(firstword $(subst -, ,$(MACHINE)))))
 LINK = $(CC) $(CFLAGS) -fno-lto $(LDFLAGS) $(if $(STATIC),-static) -Wl,--wrap=main
@@ -56,7 +56,7 @@ ready:
 	@case '$(MACHINE)' in *linux*) ;; *) echo 'make: $(CC) makes programs for $(MACHINE), and dist/ has objects for Linux alone' >&2; exit 1 ;; esac
 	@test -d 'dist/$(PROCESSOR)' \
 	    || { echo 'make: dist/ has no objects for $(PROCESSOR); it has them for $(notdir $(patsubst %/,%,$(wildcard dist/*/)))' >&2; exit 1; }
-	@cd dist && sums=$$(sha256sum -c SHA256SUMS 2>&1) \
+	@cd dist && sums=$$(LC_ALL=C sha256sum -c SHA256SUMS 2>&1) \
 	    || { printf '%s\n' "$$sums" | grep -v ': OK$$' >&2; echo 'make: dist/ is damaged: its files are not those of dist/SHA256SUMS' >&2; exit 1; }
 
 # How the programs were built last: another compiler, or other flags, build them anew

@@ -75,10 +75,11 @@ ssize_t rattle_arg(size_t i, char *buf, size_t len) {
 
 #ifdef __x86_64__
 /* What cpuid says of the processor in eax, ebx, ecx and edx, and which of that may be used, which is the same for what is asked here. 0
-   asks for leaf 1, and 2 for leaf 0x80000001; `main` asks for no other. glibc has it from 2.33 on, and then its own can be taken. */
+   asks for leaf 1, and 2 for leaf 0x80000001; `main` asks for no other. glibc has it too, from 2.33 on. This one is hidden, so that no
+   library takes it for glibc's; and weak, as a static program may have both. */
 struct leaf { unsigned said[4], usable[4]; };
 
-__attribute__((weak)) const struct leaf *__x86_get_cpuid_feature_leaf(unsigned which) {
+__attribute__((weak, visibility("hidden"))) const struct leaf *__x86_get_cpuid_feature_leaf(unsigned which) {
     static struct leaf leaves[2];
     struct leaf *found = &leaves[which == 0 ? 0 : 1];
     unsigned *in = found->usable;
