@@ -6,7 +6,7 @@
 # make dist, make deb, make release     archives for each processor, a Debian package for each, and both
 #
 # CC=.. another compiler, also one for another processor; STATIC=1 programs that need no library of the system; BUILD=.. another folder
-# than bin. docs/INSTALL.md says more.
+# than bin. docs/GUIDE.md, Installing, says more.
 
 PREFIX ?= /usr/local
 DESTDIR ?=

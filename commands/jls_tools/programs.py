@@ -1,4 +1,4 @@
-"""Finds jls-salvage and jls-splice, calls them, and takes apart what they print (docs/OUTPUT.md)."""
+"""Finds jls-salvage and jls-splice, calls them, and takes apart what they print (docs/GUIDE.md)."""
 import os
 import re
 import shutil
