@@ -68,22 +68,27 @@ def breaks_at(data, place):
     return not structure.is_found
 
 
-def is_overwritten(data, other):
-    """Whether a file has a beginning of its own, breaks off where that ends, and is as the other one is from there on."""
+def overwritten_until(data, other):
+    """Where the beginning of its own ends that a file has, if it breaks off there and is as the other one is from there on; else nothing."""
     place = equal_from(data, other)
     if place is None or not share_blocks(data, other):
-        return False
+        return None
     apart = sum(end - begin for begin, end in differing([data[:place], other[:place]]))
-    return apart * DENSE >= place - FIRST and breaks_at(data, place) and not breaks_at(other, place)
+    is_so = apart * DENSE >= place - FIRST and breaks_at(data, place) and not breaks_at(other, place)
+    return place if is_so else None
 
 
 class Instances:
-    """Sorts copies, by index: `certain` are of the instance, `uncertain` may be. `left_out` are others, with the reason."""
+    """Sorts copies, by index: `certain` are of the instance, `uncertain` may be. `left_out` are others, with the reason.
+
+    `rests` are copies whose beginning a foreign file has overwritten: where that ends, and the copy from which that was seen.
+    """
 
     def __init__(self, texts, is_same):
         self.texts = texts
         self.identities = [identity_of(data) for data in texts]
         self.left_out = {}
+        self.rests = {}
         self.uid = None
         if is_same:
             self.certain, self.uncertain = list(range(len(texts))), []
@@ -114,5 +119,9 @@ class Instances:
             if None in (own, other) or own == other or {at, beside} & self.left_out.keys():
                 continue
             is_odd = counts[own] == 1 and counts[other] > 1 and share_blocks(self.texts[at], self.texts[beside])
-            if is_odd or is_overwritten(self.texts[at], self.texts[beside]):
+            until = overwritten_until(self.texts[at], self.texts[beside])
+            if is_odd or until is not None:
                 self.left_out[at] = f"a foreign file, of instance {own}, has overwritten its beginning"
+            if until is not None and len(self.texts[at]) == len(self.texts[beside]):
+                self.rests[at] = until, beside
+                self.left_out[at] += f"; what follows from {until} on is used"
