@@ -44,16 +44,30 @@ def elements_alone(header):
             yield element, end
 
 
+def is_repeated(header, strangers, begin, end):
+    """Whether a copy that was left out, or the foreign beginning of one, has the same bytes: then they are not damaged."""
+    own = header.copies[0].data[begin:end]
+    texts = [copy.foreign for copy in header.copies] + [text for _, text in strangers]
+    return any(text[begin:end] == own for text in texts)
+
+
+def values_alone(header, strangers, begin, end):
+    """What each copy has in a range: [(paths, bytes)]."""
+    values = {}
+    for copy in header.copies:
+        value = copy.foreign[begin:end] if copy.lacks(begin, end) else b""
+        values.setdefault(value or copy.has_only(begin, end), []).append(copy.path)
+    for path, text in strangers:
+        values.setdefault(text[begin:end], []).append(path)
+    return [(paths, value) for value, paths in values.items()]
+
+
 def places_alone(header, strangers):
     """A Place for each of these elements. `strangers` are (path, bytes) of copies that were left out."""
     found = []
     for element, end in elements_alone(header):
-        values = {}
-        for copy in header.copies:
-            own = copy.foreign[element.value : end] if copy.lacks(element.value, max(end, element.value + 1)) else b""
-            values.setdefault(own or copy.has_only(element.value, end), []).append(copy.path)
-        for path, text in strangers:
-            values.setdefault(text[element.value : end], []).append(path)
-        pairs = [(names, value) for value, names in values.items()]
-        found.append(Place(element.start, end - element.start, tag_name(element.tag), pairs))
+        if not is_repeated(header, strangers, element.start, end):
+            begin = element.value if element.value < end else element.start
+            values = values_alone(header, strangers, begin, end)
+            found.append(Place(element.start, end - element.start, tag_name(element.tag), values))
     return found

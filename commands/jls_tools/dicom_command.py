@@ -33,6 +33,8 @@ class Stopped(Exception):
 
 
 def stop(number, _):
+    for each in SIGNALS:  # a second one must not stop the removal of temporary files
+        signal.signal(each, signal.SIG_IGN)
     raise Stopped(number)
 
 

@@ -9,7 +9,7 @@ from jls_tools.dicom_runs import Runs
 from jls_tools.dicom_structure import FIRST, Walk
 
 BLOCK = 128
-STRETCH, STEP = 256, 16
+STRETCH, SHORT, STEP, REACH = 256, 64, 16, 1024
 DENSE = 8  # one byte in so many differs where another file's beginning was written
 SHARED = 4  # one block in so many of their second half is equal, at its place, in two files of which one was overwritten
 
@@ -57,6 +57,18 @@ def equal_from(one, other):
     return None
 
 
+def border_of(data, other, place):
+    """Where two files that are equal from a place on begin to be so, if a smaller damage of one stands before the place."""
+    found = place
+    for at in range(place - STEP, max(place - REACH, 0), -STEP):
+        stretch = data[at : at + SHORT]
+        if stretch == other[at : at + SHORT] and stretch != stretch[:1] * SHORT:
+            found = at
+    while found > 0 and data[found - 1] == other[found - 1]:
+        found -= 1
+    return found
+
+
 def breaks_at(data, place):
     """Whether the elements of a file break off at a place, and not before it: in the element or item that stands there."""
     structure = Walk(Runs([Copy("", data)], 0, []), len(data)).solve([data])
@@ -74,8 +86,9 @@ def overwritten_until(data, other):
     if place is None or not share_blocks(data, other):
         return None
     apart = sum(end - begin for begin, end in differing([data[:place], other[:place]]))
-    is_so = apart * DENSE >= place - FIRST and breaks_at(data, place) and not breaks_at(other, place)
-    return place if is_so else None
+    if apart * DENSE < place - FIRST or breaks_at(other, place):
+        return None
+    return next((at for at in (border_of(data, other, place), place) if breaks_at(data, at)), None)
 
 
 class Instances:
