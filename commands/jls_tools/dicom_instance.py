@@ -81,7 +81,7 @@ def breaks_at(data, place):
 
 
 def overwritten_until(data, other):
-    """Where the beginning of its own ends that a file has, if it breaks off there and is as the other one is from there on; else nothing."""
+    """Where the beginning of its own ends that a file has, if it breaks off there and goes on as the other one; else nothing."""
     place = equal_from(data, other)
     if place is None or not share_blocks(data, other):
         return None
