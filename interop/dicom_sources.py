@@ -1,7 +1,7 @@
 """DICOM files of JPEG-LS frames for interop/dicom, made of test data of Debian's packages: of pydicom, nibabel and GDCM.
 
 What these packages have in another coding is coded by DCMTK (dcmcjpls) or GDCM (gdcmconv). Files of several frames are made of one
-picture: its tiles are the frames, as in a mosaic.
+picture: its tiles are the frames, as in a mosaic. Where the packages are unpacked and not installed, DEBIAN_ROOT names the folder.
 """
 import glob
 import gzip
@@ -13,7 +13,8 @@ import numpy
 import pydicom
 from pydicom.uid import ExplicitVRLittleEndian
 
-PACKAGES = "/usr/lib/python3/dist-packages"
+ROOT = os.environ.get("DEBIAN_ROOT", "")
+PACKAGES = f"{ROOT}/usr/lib/python3/dist-packages"
 SINGLE = [
     f"{PACKAGES}/pydicom/data/test_files/{name}.dcm"
     for name in (
@@ -24,7 +25,7 @@ SINGLE = [
 ]
 SINGLE += [f"{PACKAGES}/nibabel/nicom/tests/data/{name}" for name in ("0.dcm", "1.dcm", "decimal_rescale.dcm")]
 SINGLE += [f"{PACKAGES}/nibabel/nicom/tests/data/{name}.dcm.gz" for name in ("siemens_dwi_0", "siemens_dwi_1000", "philips_mprage")]
-SINGLE += ["/usr/share/doc/libgdcm3.0/examples/00191113.dcm"]
+SINGLE += [f"{ROOT}/usr/share/doc/libgdcm3.0/examples/00191113.dcm"]
 # (a file, columns and rows of a tile, frames)
 TILED = [("CT_small", 32, 16), ("CT_small", 16, 60), ("MR_small", 16, 15), ("MR_small", 32, 4), ("SC_rgb_small_odd", 3, 1)]
 TILED += [("siemens_dwi_0", 128, 12), ("siemens_dwi_1000", 64, 60), ("philips_mprage", 64, 20), ("J2K_pixelrep_mismatch", 64, 30)]

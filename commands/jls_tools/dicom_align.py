@@ -16,11 +16,12 @@ SHARE_APART = 64  # fewer than one in so many bytes differ where copies of one l
 
 @dataclass
 class Copy:
-    """A copy on the axis. `absent` are the ranges of the axis that it has not."""
+    """A copy on the axis. `absent` are the ranges of the axis that it has not; `foreign` is what was written over its beginning."""
 
     path: str
     data: bytes
     absent: list = field(default_factory=list)
+    foreign: bytes = b""
 
     def lacks(self, begin, end):
         return any(first < end and begin < last for first, last in self.absent)
@@ -133,7 +134,7 @@ def insert_gaps(copy, gaps, source):
     for begin, end in old:
         move = sum(count for offset, count, _ in gaps if offset <= begin)
         moved.append((begin + move, end + move))
-    return Copy(copy.path, b"".join(parts), merged(absent + moved))
+    return Copy(copy.path, b"".join(parts), merged(absent + moved), copy.foreign)
 
 
 def merged(ranges):

@@ -33,6 +33,8 @@ class Stopped(Exception):
 
 
 def stop(number, _):
+    for each in SIGNALS:  # a second one must not stop the removal of temporary files
+        signal.signal(each, signal.SIG_IGN)
     raise Stopped(number)
 
 
@@ -118,7 +120,8 @@ def print_mended(result, out, is_quiet):
     for note in result.notes:
         print(note)
     if result.written:
-        how = "each byte in its place" if result.in_place else "packed anew"
+        in_place = "header and frames in their places" if result.is_guessed else "each byte in its place"
+        how = in_place if result.in_place else "packed anew"
         print(f"{printable(out)} {how}, sha256 {result.sha256}{', which matched' if result.matched else ''}")
     if result.folder:
         print(f"frames are in {printable(result.folder)}")

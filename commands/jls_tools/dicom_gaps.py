@@ -1,6 +1,8 @@
 """A DICOM file whose lost lines are filled with one value: it has new UIDs, and says what it is and of which file it was made."""
+import re
 import struct
 import uuid
+from collections import Counter
 
 from jls_tools import partial_picture
 from jls_tools.dicom_file import ITEM, UNDEFINED, tag_bytes
@@ -9,6 +11,8 @@ IMAGE_TYPE, DESCRIPTION, SOURCES = 0x00080008, 0x00082111, 0x00082112
 CLASS, INSTANCE, INSTANCE_IN_META, META_LENGTH = 0x00080016, 0x00080018, 0x00020003, 0x00020000
 OF_CLASS, OF_INSTANCE = 0x00081150, 0x00081155
 LONGEST_DESCRIPTION = 1024
+TRANSFORM = re.compile(rb"\xff\xe8\0\x07mrfx.", re.S)  # APP8 that names a colour transform
+HEADERS = 256
 
 
 def element(tag, vr, value, pad=b" "):
@@ -89,6 +93,17 @@ def filled_text(picture, value):
             samples = readings[0].samples if len(readings) == 1 else lost
             parts.append(struct.pack(">BHQ", index, line, 1) + samples + struct.pack(">Q", 0))
     return b"".join(parts)
+
+
+def transform_of(streams):
+    """The segment that names a colour transform, as most of these codestreams have it among their headers; or nothing."""
+    found = Counter(match.group() for match in (TRANSFORM.search(stream[:HEADERS]) for stream in streams) if match)
+    return found.most_common(1)[0][0] if found else b""
+
+
+def with_transform(stream, segment):
+    """A codestream with this segment after SOI. Its samples are those before the inverse transform, as in the other frames."""
+    return stream[:2] + segment + stream[2:]
 
 
 class Empty:

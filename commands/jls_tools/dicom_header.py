@@ -1,20 +1,23 @@
 """Decides what stands outside of frames where copies differ: the way that goes on, what the file says elsewhere, most copies."""
+import bisect
 import itertools
 import re
 import struct
 
+from jls_tools.dicom_alone import PADDING, held_by_one, places_alone
 from jls_tools.dicom_file import JPEG_LS, UNDEFINED, tag_name, text_of
 from jls_tools.dicom_result import Place
-from jls_tools.dicom_values import NOT_IN_TEXT, allows
+from jls_tools.dicom_values import NOT_IN_TEXT, TEXTS, allows
 
-STRINGS = frozenset(b"AE AS CS DA DS DT IS LO LT PN SH ST TM UC UI UR UT".split())
 GROUP_LENGTH, CLASS_IN_META, INSTANCE_IN_META, SYNTAX = 0x00020000, 0x00020002, 0x00020003, 0x00020010
 CLASS, INSTANCE = 0x00080016, 0x00080018
 FRAMES, SAMPLES, ROWS, COLUMNS = 0x00280008, 0x00280002, 0x00280010, 0x00280011
-PADDING = 0xFFFCFFFC  # it has no meaning (PS3.10, 7.2)
 ALLOCATED, STORED, HIGH, SIGN = 0x00280100, 0x00280101, 0x00280102, 0x00280103
 TWINS = ((CLASS_IN_META, CLASS), (INSTANCE_IN_META, INSTANCE))
 MOST_TOGETHER = 4096
+PREAMBLE = 128
+ZEROS, IS_PADDING, NO_MEANING = "others are zeros", "padding is zeros", "the preamble has no meaning"
+GUESSES = (ZEROS, IS_PADDING, NO_MEANING)
 
 
 class Header:
@@ -28,13 +31,14 @@ class Header:
         self.left = {}  # run: the ways that are left
         self.why = {}
         self.parts = {}  # run: what of it is outside of the frames, (begin, end) each
+        self.leaves = [step.element for step in structure.steps if step.kind == "leaf" and step.element]
+        self.alone = []  # a Place for each element that one copy alone has, and that nothing confirms
         for number, run in enumerate(runs.runs):
             parts = list(self.outside(run.begin, run.end))
             if parts:
                 self.parts[number] = parts
                 self.left[number] = self.first_ways(number, run)
         self.elements = {element.tag: element for element in reversed(structure.elements)}
-        self.leaves = [step.element for step in structure.steps if step.kind == "leaf" and step.element]
 
     def outside(self, begin, end):
         """What of a range no frame has."""
@@ -52,9 +56,13 @@ class Header:
         if found is not None:
             self.why[number] = "it goes on so"
             return sorted(found)
-        ways = [way for way in range(len(run.ways)) if not run.zeros[way]]
-        self.why[number] = "others are zeros"
-        return ways
+        self.why[number] = ZEROS
+        return [way for way in range(len(run.ways)) if not (run.zeros[way] and self.is_in_text(run))]
+
+    def is_in_text(self, run):
+        """Whether a run lies in a text. In other values zeros can be true: nothing tells them from damage."""
+        at = bisect.bisect_right(self.leaves, run.begin, key=lambda element: element.value) - 1
+        return at >= 0 and run.end <= self.leaves[at].end and self.leaves[at].vr in TEXTS
 
     # What is chosen --------------------------------------------------------------------
 
@@ -109,13 +117,14 @@ class Header:
         self.by_frames(shape, frame_count)
         self.by_tables(table)
         self.by_neighbours()
-        self.keep_values(PADDING, lambda value: not value.strip(b"\0"), "padding is zeros")
+        self.keep_values(PADDING, lambda value: not value.strip(b"\0"), IS_PADDING)
         self.by_most()
+        self.by_preamble()
 
     def by_values(self):
         """Drops what the VR of a value forbids, where it was not looked at on the way."""
         for element in self.leaves:
-            if element.vr not in STRINGS:
+            if element.vr not in TEXTS:
                 continue
             for number in self.open_runs(element.value, element.end):
                 run = self.runs.runs[number]
@@ -182,18 +191,29 @@ class Header:
     def by_neighbours(self):
         """A range that was cut at borders of sectors, decided before and after a piece: the piece goes with them."""
         wholes = {}
-        for number in self.parts:
+        for number in sorted(self.parts):
             wholes.setdefault(self.runs.runs[number].whole, []).append(number)
         for numbers in wholes.values():
+            settled = [number for number in numbers if len(self.left[number]) == 1]
             for number in numbers:
-                if len(self.left[number]) > 1:
-                    before = [other for other in numbers if other < number and len(self.left[other]) == 1]
-                    after = [other for other in numbers if other > number and len(self.left[other]) == 1]
-                    if before and after:
-                        both = self.holders(before[-1]) & self.holders(after[0])
-                        ways = {way for way in self.left[number] if set(self.runs.runs[number].holders[way]) & both}
-                        if len(ways) == 1:
-                            self.keep(number, ways, "the bytes around it are of that copy")
+                at = bisect.bisect_left(settled, number)
+                if len(self.left[number]) > 1 and 0 < at < len(settled):
+                    self.by_both(number, settled[at - 1], settled[at])
+
+    def by_both(self, number, before, after):
+        """Leaves the one way of a run that the copies have from which the runs around it were taken."""
+        both = self.holders(before) & self.holders(after)
+        ways = {way for way in self.left[number] if set(self.runs.runs[number].holders[way]) & both}
+        if len(ways) == 1:
+            self.keep(number, ways, "the bytes around it are of that copy")
+
+    def by_preamble(self):
+        """Zeros in the preamble, or else what the first copy has. It has no meaning (PS3.10, 7.1)."""
+        for number in self.open_runs(0, PREAMBLE):
+            run = self.runs.runs[number]
+            if run.end <= PREAMBLE:
+                zeros = {way for way in self.left[number] if not run.ways[way].strip(b"\0")}
+                self.keep(number, zeros or {self.left[number][0]}, NO_MEANING)
 
     def holders(self, number):
         return set(self.runs.runs[number].holders[self.left[number][0]])
@@ -211,8 +231,29 @@ class Header:
         for number in self.open_runs():
             holders = self.runs.runs[number].holders
             self.keep(number, {way for way in self.left[number] if copy in holders[way]}, "--header names this copy")
+        for place in self.alone:
+            if not self.copies[copy].lacks(place.offset, place.offset + place.length):
+                self.take_alone(place, copy, "--header names this copy")
+
+    def take_alone(self, place, copy, why):
+        path = self.copies[copy].path
+        place.taken, place.why = next(at for at, (names, _) in enumerate(place.values) if path in names), why
+
+    def find_alone(self, strangers):
+        """Finds what one copy alone has. `strangers` are (path, bytes) of copies that were left out."""
+        self.alone = places_alone(self, strangers)
 
     # What came out ---------------------------------------------------------------------
+
+    @property
+    def is_open(self):
+        return bool(self.open_runs()) or any(not place.is_decided for place in self.alone)
+
+    @property
+    def is_guessed(self):
+        """Whether bytes outside of the elements were taken for which nothing speaks."""
+        guessed = any(self.why[number] in GUESSES for number in self.parts)
+        return guessed or any(first < PREAMBLE for first, _ in held_by_one(self.copies))
 
     def short(self, tag):
         """The value of an element of VR US, if it is decided."""
@@ -260,7 +301,7 @@ class Header:
             taken = left[0] if len(left) == 1 else None
             why = self.why[number] if taken is not None else ""
             found.append(Place(run.begin, run.end - run.begin, self.name_at(run.begin), values, taken, why))
-        return found
+        return sorted(found + self.alone, key=lambda place: place.offset)
 
     def merged(self):
         """The file on the axis, with what was decided; frames as the first copy has them."""
@@ -274,6 +315,8 @@ class Header:
 
 def printed_value(value):
     """Bytes for a line: as text if they are some, else in hex, the first sixteen."""
+    if not value:
+        return "nothing"
     short = value[:24]
     if re.fullmatch(rb"[\x20-\x5b\x5d-\x7e]+", short):
         return f"'{short.decode('ascii')}{'..' if len(value) > 24 else ''}'"

@@ -9,7 +9,7 @@ from jls_tools.dicom_runs import Runs
 from jls_tools.dicom_structure import FIRST, Walk
 
 BLOCK = 128
-STRETCH, STEP = 256, 16
+STRETCH, SHORT, STEP, REACH = 256, 64, 16, 1024
 DENSE = 8  # one byte in so many differs where another file's beginning was written
 SHARED = 4  # one block in so many of their second half is equal, at its place, in two files of which one was overwritten
 
@@ -57,6 +57,18 @@ def equal_from(one, other):
     return None
 
 
+def border_of(data, other, place):
+    """Where two files that are equal from a place on begin to be so, if a smaller damage of one stands before the place."""
+    found = place
+    for at in range(place - STEP, max(place - REACH, 0), -STEP):
+        stretch = data[at : at + SHORT]
+        if stretch == other[at : at + SHORT] and stretch != stretch[:1] * SHORT:
+            found = at
+    while found > 0 and data[found - 1] == other[found - 1]:
+        found -= 1
+    return found
+
+
 def breaks_at(data, place):
     """Whether the elements of a file break off at a place, and not before it: in the element or item that stands there."""
     structure = Walk(Runs([Copy("", data)], 0, []), len(data)).solve([data])
@@ -68,22 +80,28 @@ def breaks_at(data, place):
     return not structure.is_found
 
 
-def is_overwritten(data, other):
-    """Whether a file has a beginning of its own, breaks off where that ends, and is as the other one is from there on."""
+def overwritten_until(data, other):
+    """Where the beginning of its own ends that a file has, if it breaks off there and goes on as the other one; else nothing."""
     place = equal_from(data, other)
     if place is None or not share_blocks(data, other):
-        return False
+        return None
     apart = sum(end - begin for begin, end in differing([data[:place], other[:place]]))
-    return apart * DENSE >= place - FIRST and breaks_at(data, place) and not breaks_at(other, place)
+    if apart * DENSE < place - FIRST or breaks_at(other, place):
+        return None
+    return next((at for at in (border_of(data, other, place), place) if breaks_at(data, at)), None)
 
 
 class Instances:
-    """Sorts copies, by index: `certain` are of the instance, `uncertain` may be. `left_out` are others, with the reason."""
+    """Sorts copies, by index: `certain` are of the instance, `uncertain` may be. `left_out` are others, with the reason.
+
+    `rests` are copies whose beginning a foreign file has overwritten: where that ends, and the copy from which that was seen.
+    """
 
     def __init__(self, texts, is_same):
         self.texts = texts
         self.identities = [identity_of(data) for data in texts]
         self.left_out = {}
+        self.rests = {}
         self.uid = None
         if is_same:
             self.certain, self.uncertain = list(range(len(texts))), []
@@ -114,5 +132,9 @@ class Instances:
             if None in (own, other) or own == other or {at, beside} & self.left_out.keys():
                 continue
             is_odd = counts[own] == 1 and counts[other] > 1 and share_blocks(self.texts[at], self.texts[beside])
-            if is_odd or is_overwritten(self.texts[at], self.texts[beside]):
+            until = overwritten_until(self.texts[at], self.texts[beside])
+            if is_odd or until is not None:
                 self.left_out[at] = f"a foreign file, of instance {own}, has overwritten its beginning"
+            if until is not None and len(self.texts[at]) == len(self.texts[beside]):
+                self.rests[at] = until, beside
+                self.left_out[at] += f"; what follows from {until} on is used"

@@ -70,6 +70,7 @@ class Mending:
         try:
             self.folder = folder
             self.mender = FrameMender(self.programs, folder, self.options)
+            self.rests = instances.rests
             self.mend_all(instances)
         finally:
             shutil.rmtree(folder, ignore_errors=True)
@@ -86,7 +87,7 @@ class Mending:
 
     def mend_all(self, instances):
         """Mends with all that may be copies; then again without those that turn out to be none."""
-        chosen = sorted(instances.certain + instances.uncertain)
+        chosen = sorted([*instances.certain, *instances.uncertain, *instances.rests])
         while True:
             self.take(chosen)
             strangers = self.strangers(instances, chosen)
@@ -118,7 +119,8 @@ class Mending:
 
     def take(self, chosen):
         """Lays these copies on one axis, finds their way and their frames, and mends each frame."""
-        self.copies = on_one_axis([Copy(self.paths[at], self.texts[at]) for at in chosen])
+        self.copies = on_one_axis([self.copy_at(at) for at in chosen])
+        self.strange = [(path, text) for at, (path, text) in enumerate(zip(self.paths, self.texts)) if at not in chosen]
         self.layout = Layout(self.copies)
         self.own = [self.own_streams(place) for place in self.layout.places]
         self.streams = [list(dict.fromkeys(own.values())) for own in self.own]
@@ -132,6 +134,14 @@ class Mending:
             self.mended.append(self.mender.mend(number, streams))
             if self.options.progress:
                 self.options.progress(number + 1, len(self.streams))
+
+    def copy_at(self, at):
+        """A copy. One whose beginning a foreign file has overwritten has only the rest."""
+        text = self.texts[at]
+        if at not in self.rests:
+            return Copy(self.paths[at], text)
+        until, beside = self.rests[at]
+        return Copy(self.paths[at], self.texts[beside][:until] + text[until:], [(0, until)], text[:until])
 
     def own_streams(self, place):
         """{copy: its stream of a frame}, of copies that have some of it."""
@@ -156,6 +166,7 @@ class Mending:
         self.shape = shapes_of(self.mended, self.streams)
         self.name_counts()
         self.header = self.layout.header(self.shape, len(self.mended))
+        self.header.find_alone(self.strange)
         if self.options.header is not None:
             names = [copy.path for copy in self.copies]
             if self.options.header not in names:
@@ -187,9 +198,15 @@ class Mending:
         """Whether the header is decided and reads; why not, else."""
         if not self.layout.has_header:
             return "no copy has a header that leads to Pixel Data"
-        if self.header.open_runs():
+        if self.header.is_open:
             return "a place is undecided"
+        if any(not self.is_in_pixels(begin, end) for begin, end in self.layout.breaks):
+            return "the header is broken where no copy has it"
         return self.contradiction()
+
+    def is_in_pixels(self, begin, end):
+        structure = self.layout.structure
+        return structure.pixel_data.value <= begin and end <= structure.end_of_pixels()
 
     def contradiction(self):
         """What the header says that the frames deny, or nothing."""
@@ -229,6 +246,7 @@ class Mending:
         self.result.in_place = self.layout.is_exact and put_frames(data, self.layout.places, streams, self.copies)
         if not self.result.in_place:
             data = packed(self.data, self.layout.structure, streams)
+        self.result.is_guessed = self.header.is_guessed
         self.store(bytes(data), WHOLE)
 
     def store(self, data, status):
@@ -287,6 +305,13 @@ class Mending:
                 run = self.header.runs.runs[number]
                 kept = {own for own in self.header.left[number] if run.part(own, begin, end) == ways[way]}
                 self.header.keep(number, kept, "the SHA-256 matched")
+        for place in self.header.alone:
+            self.header.take_alone(place, self.copy_of(place), "the SHA-256 matched")
+
+    def copy_of(self, place):
+        """A copy that has a place itself; the first of all, if each lacks some of it."""
+        end = place.offset + place.length
+        return next((number for number, copy in enumerate(self.copies) if not copy.lacks(place.offset, end)), 0)
 
     # Where not all is there ----------------------------------------------------------------
 
@@ -338,7 +363,8 @@ class Mending:
         outcome = self.programs.write_jls(stream, text, self.folder, by_line=len(picture.ids) > 1)
         if outcome.status != 0:
             raise Refused(f"frame {number} can't be written: {outcome.faults.strip()}", FAILED)
-        return self.mender.get(stream)
+        segment = dicom_gaps.transform_of([stream for streams in self.streams for stream in streams])
+        return dicom_gaps.with_transform(self.mender.get(stream), segment)
 
 
 def read(path):

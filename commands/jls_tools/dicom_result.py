@@ -61,6 +61,7 @@ class MendResult:
     status: int = FAILED
     written: bool = False
     in_place: bool = False  # OUT is the merged file, with each byte where it was
+    is_guessed: bool = False  # bytes of no element, as of the preamble, were taken for which nothing speaks
     frames: list = field(default_factory=list)
     places: list = field(default_factory=list)
     folder: str | None = None  # where the frames stand that came back, if OUT isn't written

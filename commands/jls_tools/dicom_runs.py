@@ -20,7 +20,7 @@ class Run:
     ways: list
     holders: list
     zeros: list  # for each way whether it is to be dropped as a run of zeros
-    whole: int  # the number of the range before it was cut at borders of sectors
+    whole: int  # the number of the cluster that it is a part of
 
     def part(self, way, begin, end):
         """What a way has in a range, as far as the run goes."""
@@ -88,13 +88,15 @@ class Runs:
 
     def __init__(self, copies, fineness, ranges=None):
         ranges = differing([copy.data for copy in copies]) if ranges is None else ranges
+        wholes = list(clusters(ranges))
+        begins = [begin for begin, _ in wholes]
         if fineness == 0:
-            ranges = list(clusters(ranges))
+            ranges = wholes
         elif fineness == 2:
             ranges = [(at, at + 1) for begin, end in ranges for at in range(begin, end)]
         self.runs = [
-            run_at(copies, first, last, (begin, end), number)
-            for number, (begin, end) in enumerate(ranges)
+            run_at(copies, first, last, (begin, end), bisect.bisect_right(begins, begin) - 1)
+            for begin, end in ranges
             for first, last in cut_at_sectors(begin, end)
         ]
         self.begins = [run.begin for run in self.runs]

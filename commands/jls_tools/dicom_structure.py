@@ -10,11 +10,11 @@ import math
 import re
 
 from jls_tools.dicom_file import ITEM, ITEM_END, PIXEL_DATA, SEQUENCE_END, UNDEFINED, Element, header_of
-from jls_tools.dicom_values import allows, strangeness
+from jls_tools.dicom_values import TEXTS, allows, strangeness
 
 FIRST = 132  # the first element
 MOST_COMBINATIONS = 64
-MOST_NODES = 400000
+MOST_NODES = 100000  # a state and its steps take some kilobytes
 MOST_JUMPS = 40
 MOST_JUMPERS = 12
 FORBIDDEN, ZEROED, UNORDERED, ODD, CUT, JUMP = 3, 2, 8, 4, 4, 1000
@@ -220,6 +220,7 @@ class Walk:
             yield Step(state, after, cost, chosen, element, "leaf", depth)
             return
         for value, both, more in self.choices(element.value, element.end, chosen):
+            more = more if element.vr in TEXTS else 0  # zeros can be true in all other values
             more += FORBIDDEN * (not allows(element.vr, value))
             after = self.settle(element.end, stack, element.tag, both)
             yield Step(state, after, cost + more, both, element, "leaf", depth)
@@ -246,6 +247,10 @@ class Walk:
                 count += 1
                 if count == until:
                     return
+
+    def forget(self):
+        """Lets the states go, which take far more room than the file."""
+        self.steps, self.goals, self.cuts = {}, set(), []
 
     def solve(self, texts):
         """The Structure, from the bytes of each copy."""
@@ -283,6 +288,8 @@ class Structure:
         self.steps = self.best_steps(start) if self.is_found else []
         if self.is_found:
             self.collect(start)
+        self.costs = {}
+        walk.forget()
 
     def furthest_cuts(self):
         """Where no way reaches the end: the ways that get furthest before they are cut."""

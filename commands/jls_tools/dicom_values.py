@@ -17,6 +17,7 @@ NOT_IN_TEXT = re.compile(rb"[\x00-\x08\x0b\x0e-\x1a\x1c-\x1f\x7f\xff]")
 NOT_IN_STRING = re.compile(rb"[\x00-\x1a\x1c-\x1f\x7f\xff]")
 SIZES = {b"AT": 4, b"FD": 8, b"FL": 4, b"OD": 8, b"OF": 4, b"OL": 4, b"OV": 8, b"OW": 2, b"SL": 4, b"SS": 2, b"SV": 8, b"UL": 4, b"US": 2}
 SIZES[b"UV"] = 8
+TEXTS = frozenset(b"AE AS CS DA DS DT IS LO LT PN SH ST TM UC UI UR UT".split())
 # Longest values of one element of a kind (PS3.5, Table 6.2-1); PN has three groups
 LONGEST = {b"AE": 16, b"LO": 64, b"SH": 16, b"PN": 324}
 
@@ -29,7 +30,9 @@ def is_uid(value):
 
 
 def each_matches(form, value):
-    return all(not part.strip() or form.match(part.strip()) for part in value.rstrip(b"\0").split(b"\\"))
+    """Whether each value of a text has a form. One byte 0 at the end is taken for padding; more are not (PS3.5, 6.2)."""
+    value = value[:-1] if value.endswith(b"\0") else value
+    return all(not part.strip(b" ") or form.match(part.strip(b" ")) for part in value.split(b"\\"))
 
 
 def is_string(vr, value):

@@ -4,7 +4,8 @@ import re
 from dataclasses import dataclass, field
 
 from jls_tools.dicom_frames import other_coding, shape_of
-from jls_tools.dicom_result import FrameResult
+from jls_tools.dicom_result import FAILED, FrameResult
+from jls_tools.programs import ProgramFailed
 
 # A frame is known by what stands after its headers
 HEADERS, LEAST_SHARED, LEAST_SPLICED = 64, 128, 16
@@ -124,7 +125,13 @@ class FrameMender:
             self.drop(names)
 
     def check(self, name):
-        return self.programs.check(name, self.folder)
+        return self.sure(self.programs.check(name, self.folder))
+
+    def sure(self, outcome):
+        """The outcome, unless a file of this folder could not be read or written: then nothing is said of the picture."""
+        if outcome.status == FAILED:
+            raise ProgramFailed(outcome.faults.strip(), FAILED)
+        return outcome
 
     def result(self, number, kind, report, promise="", note=""):
         return FrameResult(number, kind, report.settled, report.missing, report.disputed, promise, note)
@@ -136,7 +143,7 @@ class FrameMender:
         if outcome.status == 3 or not outcome.report.width:
             return Mended(FrameResult(number, "missing", note=self.why_unread(stream, outcome.faults)))
         partial = self.name(number, ".jlsp")
-        self.programs.join(partial, [name], self.folder)
+        self.sure(self.programs.join(partial, [name], self.folder))
         found = FAULT.search(outcome.printed)
         note = FAULTS.get(int(found.group(1)), "") if found else ""
         kind = "missing" if outcome.report.settled + outcome.report.disputed == 0 else "lines"
@@ -155,7 +162,7 @@ class FrameMender:
         words = list(self.words)
         if self.has_files and self.wants_all:
             words += ["--files", prefix]
-        splice = self.programs.splice(partial, names, file, self.folder, words)
+        splice = self.sure(self.programs.splice(partial, names, file, self.folder, words))
         stream = self.get(file) if splice.file_written else None
         others = self.others(prefix, streams, names)
         self.drop([file])
