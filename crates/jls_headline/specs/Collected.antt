@@ -77,7 +77,7 @@ pub data Collected : PartialPicture → List SourcedCopy → List SourcedCopy �
       → Collected old copies over → Collected other more further → IsTextOf bytes other → IsBetween union old new (union old other)
       → Collected new copies (over ++ (more ++ further))
   -- It answered a fault for other bytes, and something collected holds each entry before their fault. Such is a text that was cut short. A
-  -- station that refused any other text has no history from then on
+  -- station that refused any other text has no history from then on, unless it refused the text for its shape
   text_cut_short : (old new other : PartialPicture) (copies over more further : List SourcedCopy) (bytes : List ℕ)
       → Collected old copies over → Collected other more further → HoldsFront other bytes → TakesFront old new (text_front bytes)
       → Collected new copies (over ++ (more ++ further))

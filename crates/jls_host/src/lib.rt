@@ -7,7 +7,7 @@
 //! - `host`: opens the files and standard streams of the machine (`HostFiles`), and holds the descriptors of closed standard streams
 //!   (`hold_streams`)
 //!
-//! What `host` and `output` do to a file is trusted, as `docs/TRUST.md` says. Definitions: `Choices`.
+//! What `host` and `output` do to a file is trusted, as `docs/AUDIT.md` says. Definitions: `Choices`.
 //!
 //! Not proved:
 //!
