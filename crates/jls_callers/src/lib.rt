@@ -10,5 +10,5 @@ mod writing;
 
 pub use reading::{read_any, read_in_memory};
 pub use taking::{take_first, take_next, take_other};
-pub use texts::{read_back, take_cut_text, take_its_text, text_of};
+pub use texts::{read_back, take_cut_text, take_its_text, take_text_of_another_shape, text_of};
 pub use writing::write_station;

@@ -1,7 +1,8 @@
 //! Callers that hand on what a station holds as its text.
 
-ghost use Rattle.std.specs.Prelude.{◌++◌, ℕ, List, OnOk, OnErr, IfOk};
+ghost use Rattle.std.specs.Prelude.{◌++◌, ℕ, List, OnOk, OnErr, IfOk, IsErrOf};
 ghost use Rattle.jls_partial.specs.Text.{IsTextOf};
+ghost use Rattle.jls_partial.specs.declared.text_merging.MergeTextFault.TheVariants.{ShapeDiffers};
 ghost use Rattle.jls_headline.specs.Collected.{Collected};
 ghost use Rattle.jls_headline.specs.Sources.{SourcedCopy};
 
@@ -58,4 +59,12 @@ pub fn take_cut_text(
     cut_texts_are_held();
     let _other = other.partial();
     station.take_text(front)
+}
+
+/// A station refuses a text of another shape, whatever text it is.
+pub fn take_text_of_another_shape(station: &mut Station, text: &[u8]) -> Result<(), MergeTextFault>
+    ensures { (copies over : List SourcedCopy) → Collected station.old copies over
+        → IsErrOf result ShapeDiffers → Collected station.new copies over }
+{
+    station.take_text(text)
 }

@@ -27,6 +27,7 @@ mod WrittenInputs
 pub mod TwoLineCopies
 pub mod TwoLineExamples
 mod CollectedExamples
+mod WrongCallExamples
 pub mod FileExamples
 mod PremiseExamples
 mod SameCopyExamples
