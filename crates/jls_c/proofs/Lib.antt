@@ -1,0 +1,5 @@
+pub mod Rows
+pub mod Shown
+pub mod Sizes
+pub mod Told
+pub mod Fitting

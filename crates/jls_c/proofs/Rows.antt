@@ -1,0 +1,100 @@
+-- Rows of one length, one after the other, and a list whose front they take row by row.
+use Rattle.std.proofs.Common.{◌≡◌, ℕ, zero, suc, ◌+◌, ◌*◌, ◌<◌, ◌≤◌, List, [], ◌∷◌, ◌++◌, length, map, take, drop, ap, sym, ◌∙◌, arith, add-zero, zero-add}
+use Rattle.std.proofs.Math.Nat.{suc-mul}
+use Rattle.std.specs.List.{range_with_len, flat_map}
+use Rattle.std.proofs.lemmas.Grind.{flat_map-append}
+use Rattle.std.proofs.lemmas.List.{append-nil, append_assoc, length-append, take_at, drop_at, drop-drop, drop_all, length-map, length-take, take_all}
+use Rattle.std.proofs.lemmas.List.FromFn.{map-range_with_len_more}
+use borrow.Rule.Slice.PartMut.{put_mid}
+
+pub range-append : (a m n : ℕ) → range_with_len a (m + n) ≡ range_with_len a m ++ range_with_len (a + m) n
+range-append a zero n = ap (range_with_len a) (zero-add n) ∙ ap (λ k. range_with_len k n) (sym (add-zero a))
+range-append a (suc m) n =
+    let more : suc m + n ≡ suc (m + n) = omega arith in
+    let same : a + 1 + m ≡ a + suc m = omega arith in
+    ap (range_with_len a) more ∙ ap (λ t. a ∷ t) (range-append (a + 1) m n) ∙ ap (λ k. a ∷ (range_with_len (a + 1) m ++ range_with_len k n)) same
+
+-- one row more
+pub rows_more : {X : Type 0} (f : ℕ → List X) (n : ℕ) → flat_map f (range_with_len 0 (n + 1)) ≡ flat_map f (range_with_len 0 n) ++ f n
+rows_more f n =
+    let from : 0 + n ≡ n = omega arith in
+    ap (flat_map f) (range-append 0 n 1) ∙ flat_map-append f (range_with_len 0 n) (range_with_len (0 + n) 1)
+    ∙ ap (λ k. flat_map f (range_with_len 0 n) ++ flat_map f (range_with_len k 1)) from
+    ∙ ap (λ t. flat_map f (range_with_len 0 n) ++ t) (append-nil (f n))
+
+-- how long they are
+pub length_rows : {X : Type 0} (f : ℕ → List X) (w n : ℕ) → ((k : ℕ) → k < n → length (f k) ≡ w)
+    → length (flat_map f (range_with_len 0 n)) ≡ n * w
+length_rows f w zero each = omega arith
+length_rows f w (suc n) each =
+    let more : suc n ≡ n + 1 = omega arith in
+    let here = each n (omega arith) in
+    let rest = length_rows f w n (λ k below. each k (omega arith)) in
+    let both = ap (λ m. length (flat_map f (range_with_len 0 m))) more ∙ (ap length (rows_more f n) ∙ length-append (flat_map f (range_with_len 0 n)) (f n)) in
+    let product = suc-mul n w in
+    let all : length (flat_map f (range_with_len 0 n)) + length (f n) ≡ suc n * w = omega (arith, here, rest, product) in
+    both ∙ all
+
+-- the front of a list is taken by no row
+pub no_rows : {X : Type 0} (w : ℕ) (old : List X) → old ≡ drop (0 * w) old
+no_rows w old = let none : 0 ≡ 0 * w = omega arith in ap (λ n. drop n old) none
+
+-- and by one row more, which is written behind those before it
+pub put_row : {X : Type 0} (f : ℕ → List X) (w k a m : ℕ) (old now new row : List X) → length (flat_map f (range_with_len 0 k)) ≡ k * w
+    → now ≡ flat_map f (range_with_len 0 k) ++ drop (k * w) old → row ≡ f k → a ≡ k * w → m ≡ w → new ≡ put_mid a m now row
+    → new ≡ flat_map f (range_with_len 0 (k + 1)) ++ drop ((k + 1) * w) old
+put_row f w k a m old now new row long so_far is at wide put =
+    let front = flat_map f (range_with_len 0 k) in
+    let here : length front ≡ a = long ∙ sym at in
+    let before : take a now ≡ front = ap (take a) so_far ∙ take_at front (drop (k * w) old) a here in
+    let behind : drop a now ≡ drop (k * w) old = ap (drop a) so_far ∙ drop_at front (drop (k * w) old) a here in
+    let end : k * w + m ≡ (k + 1) * w = let one : k + 1 ≡ suc k = omega arith in ap (λ n. k * w + n) wide ∙ (sym (suc-mul k w) ∙ ap (λ n. n * w) (sym one)) in
+    let rest : drop m (drop a now) ≡ drop ((k + 1) * w) old = ap (drop m) behind ∙ (drop-drop m (k * w) old ∙ ap (λ n. drop n old) end) in
+    put ∙ (ap (λ t. t ++ (row ++ drop m (drop a now))) before ∙ (ap (λ t. front ++ (row ++ t)) rest
+    ∙ (ap (λ t. front ++ (t ++ drop ((k + 1) * w) old)) is ∙ (sym (append_assoc front (f k) (drop ((k + 1) * w) old))
+    ∙ ap (λ t. t ++ drop ((k + 1) * w) old) (sym (rows_more f k))))))
+
+-- and by all of them
+pub all_rows : {X : Type 0} (f : ℕ → List X) (w n k : ℕ) (old now : List X) → now ≡ flat_map f (range_with_len 0 k) ++ drop (k * w) old
+    → k ≡ n → length old ≡ n * w → now ≡ flat_map f (range_with_len 0 n)
+all_rows f w n k old now so_far all long =
+    let past : length old ≤ k * w = let same : n * w ≡ k * w = ap (λ i. i * w) (sym all) in omega (arith, same) in
+    so_far ∙ (ap (λ t. flat_map f (range_with_len 0 k) ++ t) (drop_all (k * w) old past)
+    ∙ (append-nil (flat_map f (range_with_len 0 k)) ∙ ap (λ i. flat_map f (range_with_len 0 i)) all))
+
+-- one row more, and how long they are then
+pub length_rows_more : {X : Type 0} (f : ℕ → List X) (w k : ℕ) (row : List X) → length (flat_map f (range_with_len 0 k)) ≡ k * w
+    → row ≡ f k → length row ≡ w → length (flat_map f (range_with_len 0 (k + 1))) ≡ (k + 1) * w
+length_rows_more f w k row long is wide =
+    let both = ap length (rows_more f k) ∙ length-append (flat_map f (range_with_len 0 k)) (f k) in
+    let here : length (f k) ≡ w = sym (ap length is) ∙ wide in
+    let one : k + 1 ≡ suc k = omega arith in
+    let product = ap (λ n. n * w) one ∙ suc-mul k w in
+    let all : length (flat_map f (range_with_len 0 k)) + length (f k) ≡ (k + 1) * w = omega (arith, here, long, product) in
+    both ∙ all
+
+-- one number more, for lists of one element each
+pub numbers_more : (f : ℕ → ℕ) (n : ℕ) → map f (range_with_len 0 (n + 1)) ≡ map f (range_with_len 0 n) ++ f n ∷ []
+numbers_more f n = map-range_with_len_more f 0 n n (zero-add n)
+
+-- what is written to the front of a list leaves the rest
+pub front_put : {X : Type 0} (k m : ℕ) (old row new : List X) → k ≡ 0 → length row ≡ m → new ≡ put_mid k m old row → new ≡ row ++ drop (length row) old
+front_put k m old row new first long put =
+    let front : take k old ≡ [] = ap (λ n. take n old) first in
+    let rest : drop k old ≡ old = ap (λ n. drop n old) first in
+    put ∙ (ap (λ t. t ++ (row ++ drop m (drop k old))) front ∙ (ap (λ t. row ++ drop m t) rest ∙ ap (λ n. row ++ drop n old) (sym long)))
+
+-- so many elements of a shorter list are all of them
+pub take_whole : {X : Type 0} (xs : List X) (n : ℕ) → length xs ≤ n → xs ≡ take n xs
+take_whole xs n few = sym (take_all n xs few)
+
+-- what is made of the first elements is no longer than they are many
+pub few_taken : {X Y : Type 0} (f : X → Y) (n : ℕ) (xs : List X) → length (map f (take n xs)) ≤ n
+few_taken f n xs = let long = length-map (take n xs) f in let few = length-take n xs in omega (arith, long, few)
+
+-- a number more, put behind those before it
+pub numbers_pushed : (f : ℕ → ℕ) (k : ℕ) (before new : List ℕ) (x : ℕ) → new ≡ (before ++ map f (range_with_len 0 k)) ++ x ∷ []
+    → x ≡ f k → new ≡ before ++ map f (range_with_len 0 (k + 1))
+numbers_pushed f k before new x put is =
+    put ∙ (append_assoc before (map f (range_with_len 0 k)) (x ∷ []) ∙ (ap (λ z. before ++ (map f (range_with_len 0 k) ++ z ∷ [])) is
+    ∙ ap (λ t. before ++ t) (sym (numbers_more f k))))

@@ -1,0 +1,10 @@
+//! What the exported functions answer, by number.
+
+/// All was done.
+pub const DONE: u32 = 0;
+/// Memory was refused.
+pub const OUT_OF_MEMORY: u32 = 1;
+/// The copy has no frame.
+pub const NO_PICTURE: u32 = 2;
+/// A buffer of the caller is too short.
+pub const SHORT_ROOM: u32 = 3;

@@ -1,0 +1,80 @@
+//! Checking a copy.
+
+ghost use Rattle.jls_c.specs.Answers.{BeginsWith, IsChecked, HasNoPicture};
+ghost use Rattle.jls_c.specs.Info as told;
+ghost use Rattle.std.specs.Prelude.{◌≡◌, ◌≢◌, ◌≤◌, length, map, take, IfOk};
+
+use crate::answer::{DONE, NO_PICTURE, OUT_OF_MEMORY};
+use crate::info::{JlsInfo, JlsPiece, info_of, piece_of, refuse};
+use crate::read::read_copy;
+use crate::statuses::statuses_of;
+use jls_copy::{CopyRead, PieceRecord};
+use std::alloc::{AllocError, Global};
+
+/// The first records, and at most so many.
+#[tactic(auto, using(crate::proofs::Rows::take_whole))]
+fn front(records: &[PieceRecord], most: usize) -> &[PieceRecord]
+    ensures { result.now ≡ take most records.now }
+{
+    if records.len() <= most {
+        records
+    } else {
+        &records[..most]
+    }
+}
+
+/// What is told of these records.
+fn pieces_of(alloc: Global, records: &[PieceRecord]) -> Result<Vec<JlsPiece>, AllocError>
+    ensures { IfOk result (λ pieces. pieces.items ≡ map told.piece_of records.now) }
+{
+    let mut pieces = Vec::new(alloc);
+    for record in records {
+        pieces.push(piece_of(*record))?;
+    }
+    Ok(pieces)
+}
+
+/// Tells what was read.
+#[tactic(auto, using(crate::proofs::Rows::front_put, crate::proofs::Rows::few_taken))]
+fn tell(alloc: Global, read: &CopyRead, info: &mut JlsInfo, pieces: &mut [JlsPiece]) -> u32
+    ensures known { result ≤ 1 }
+    ensures info { result ≡ DONE → info.new ≡ told.info_of read.now }
+    ensures pieces { result ≡ DONE
+        → BeginsWith (map told.piece_of (take (length pieces.old) read.now.pieces)) pieces.old pieces.new }
+    ensures out_of_memory { result ≡ OUT_OF_MEMORY → info.new ≡ info.old }
+    ensures pieces_kept { result ≢ DONE → pieces.new ≡ pieces.old }
+{
+    let Ok(statuses) = statuses_of(alloc, read.partial()) else {
+        return OUT_OF_MEMORY;
+    };
+    let Ok(first) = pieces_of(alloc, front(read.pieces(), pieces.len())) else {
+        return OUT_OF_MEMORY;
+    };
+    *info = info_of(read, &statuses);
+    let count = first.len();
+    pieces[..count].copy_from_slice(&first);
+    DONE
+}
+
+/// Tells what a copy says of its picture, how many of its lines it gives, and how it ended. `pieces` takes the records of the first faulty
+/// pieces, as many as there is room for, and at most 4,096. At `NO_PICTURE` `info` says why there is none. At any answer but `DONE` no
+/// piece is written, and at `OUT_OF_MEMORY` nothing at all.
+#[tactic(auto, using(crate::proofs::Told::copy_shown, crate::proofs::Told::room_short, crate::proofs::Told::checked, crate::proofs::Told::no_picture, crate::proofs::Told::kept, crate::proofs::Told::refused))]
+#[unsafe(no_mangle)]
+pub extern "C" fn jls_check(
+    alloc: Global,
+    copy: &[u8],
+    info: &mut JlsInfo,
+    pieces: &mut [JlsPiece],
+) -> u32
+    ensures known { result ≤ 2 }
+    ensures done { result ≡ DONE → IsChecked copy.now info.new pieces.old pieces.new }
+    ensures no_picture { result ≡ NO_PICTURE → HasNoPicture copy.now info.new }
+    ensures out_of_memory { result ≡ OUT_OF_MEMORY → info.new ≡ info.old }
+    ensures pieces_kept { result ≢ DONE → pieces.new ≡ pieces.old }
+{
+    match read_copy(alloc, copy) {
+        Ok(read) => tell(alloc, &read, info, pieces),
+        Err(fault) => refuse(fault, info),
+    }
+}
