@@ -66,6 +66,14 @@ $(BUILD)/.how: FORCE
 	@echo '$(LINK) $(PROCESSOR)' | cmp -s - $@ || echo '$(LINK) $(PROCESSOR)' > $@
 endif
 
+# The library, where dist/ has its object
+ifneq ($(wildcard dist/$(PROCESSOR)/libjls_salvage.o.gz),)
+all: library
+install: install-library
+uninstall: uninstall-library
+include library/library.mk
+endif
+
 $(addprefix $(BUILD)/,$(COMMANDS) $(MODULES)): $(BUILD)/%: commands/%
 	@mkdir -p $(@D)
 	cp -p $< $@

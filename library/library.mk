@@ -1,0 +1,40 @@
+# The library, for the Makefile: libjls_salvage.a and libjls_salvage.so.1, from its object in dist/ with a C compiler. Where dist/ has
+# no such object, it is left out.
+
+AR ?= ar
+SONAME = libjls_salvage.so.1
+INCLUDEDIR = $(DESTDIR)$(PREFIX)/include
+LIBRARYDIR = $(DESTDIR)$(PREFIX)/lib
+FUNCTIONSDIR = $(DESTDIR)$(PREFIX)/share/man/man3
+LIBRARIES = $(addprefix $(BUILD)/,libjls_salvage.a $(SONAME))
+
+.PHONY: library install-library uninstall-library
+library: $(LIBRARIES)
+
+$(BUILD)/libjls_salvage.o: library/memory.c dist/SHA256SUMS $(BUILD)/.how | ready
+	gzip -dc dist/$(PROCESSOR)/libjls_salvage.o.gz > $(BUILD)/.libjls_salvage.o
+	$(CC) $(CFLAGS) -fPIC -fno-lto -c -o $(BUILD)/.memory.o library/memory.c
+	$(CC) -r -nostdlib -o $@ $(BUILD)/.memory.o $(BUILD)/.libjls_salvage.o
+	@rm -f $(BUILD)/.memory.o $(BUILD)/.libjls_salvage.o
+
+$(BUILD)/libjls_salvage.a: $(BUILD)/libjls_salvage.o
+	rm -f $@
+	$(AR) rcs $@ $<
+
+# Its functions are all that the shared object shows, and no text of it is changed when it is loaded
+$(BUILD)/$(SONAME): $(BUILD)/libjls_salvage.o library/symbols.map
+	$(CC) $(CFLAGS) $(LDFLAGS) -shared -Wl,-soname,$(SONAME) -Wl,--version-script=library/symbols.map -Wl,-z,text -Wl,-z,defs -o $@ $<
+	ln -sf $(SONAME) $(BUILD)/libjls_salvage.so
+
+install-library: $(if $(filter-out $(wildcard $(LIBRARIES)),$(LIBRARIES)),library)
+	install -d "$(INCLUDEDIR)" "$(LIBRARYDIR)/pkgconfig" "$(FUNCTIONSDIR)"
+	install -m 644 include/jls_salvage.h "$(INCLUDEDIR)"
+	install -m 644 $(BUILD)/libjls_salvage.a "$(LIBRARYDIR)"
+	install -m 755 $(BUILD)/$(SONAME) "$(LIBRARYDIR)"
+	ln -sf $(SONAME) "$(LIBRARYDIR)/libjls_salvage.so"
+	sed 's#@PREFIX@#$(PREFIX)#; s#@VERSION@#$(VERSION)#' library/jls_salvage.pc > "$(LIBRARYDIR)/pkgconfig/jls_salvage.pc"
+	install -m 644 $(wildcard man/*.3) "$(FUNCTIONSDIR)"
+
+uninstall-library:
+	rm -f "$(INCLUDEDIR)/jls_salvage.h" "$(LIBRARYDIR)/pkgconfig/jls_salvage.pc" $(patsubst man/%,"$(FUNCTIONSDIR)/%",$(wildcard man/*.3))
+	rm -f "$(LIBRARYDIR)/libjls_salvage.a" "$(LIBRARYDIR)/libjls_salvage.so" "$(LIBRARYDIR)/$(SONAME)"
