@@ -1,0 +1,230 @@
+"""The functions of libjls_salvage, by ctypes."""
+from __future__ import annotations
+
+import array
+import ctypes
+import ctypes.util
+import enum
+import functools
+import os
+from dataclasses import dataclass
+from typing import Any, List, Optional, Sequence, Union
+
+Bytes = Union[bytes, bytearray, memoryview]
+
+DONE, OUT_OF_MEMORY, NO_PICTURE, SHORT_ROOM = range(4)
+
+#: The statuses of a line: it has no reading, one, or several that differ.
+MISSING, SETTLED, DISPUTED = range(3)
+
+#: The kinds of a faulty piece: no code of lines, more bits after such code, or a number beyond the last interval.
+BROKEN, LONG, BEYOND = range(3)
+
+FAULTS = (
+    "none", "bad length", "bad shape", "a component is subsampled", "no frame", "a second frame", "not lossless",
+    "interleave mode not supported", "a mapping table", "a point transform", "unknown component", "a component stands twice",
+    "preset parameters out of range", "unknown kind of preset parameters", "unknown marker", "a restart interval is too large",
+    "too many scans", "no marker", "no start of image", "the input ends too early",
+)  # fmt: skip
+
+MOST_PIECES = 4096
+
+
+class Error(Exception):
+    """What the library refuses."""
+
+
+class MissingLibrary(Error, OSError):
+    """libjls_salvage.so is not there. The variable JLS_SALVAGE_LIBRARY can name it."""
+
+
+class NoPicture(Error, ValueError):
+    """A copy has no frame. `fault` is its first fault in words, and `offset` the place of it."""
+
+    def __init__(self, fault: str, offset: int) -> None:
+        super().__init__(f"no picture: {fault} at offset {offset}")
+        self.fault, self.offset = fault, offset
+
+
+class End(enum.IntEnum):
+    """Where a copy ends: at the marker EOI, with the input, or at the first fault of its headers."""
+
+    EOI = 0
+    INPUT = 1
+    HEADER = 2
+
+
+class _Info(ctypes.Structure):
+    _fields_ = [
+        *((name, ctypes.c_uint64) for name in ("samples", "faulty_pieces", "end_offset", "lines", "missing", "settled", "disputed")),
+        *((name, ctypes.c_uint16) for name in ("width", "height")),
+        *((name, ctypes.c_uint8) for name in ("precision", "components", "end", "fault")),
+    ]
+
+
+class _Piece(ctypes.Structure):
+    _fields_ = [("offset", ctypes.c_uint64), ("interval", ctypes.c_uint32), ("scan", ctypes.c_uint8), ("kind", ctypes.c_uint8)]
+
+
+@dataclass(frozen=True)
+class Piece:
+    """A piece of scan data between restart markers that didn't read as the lines of its interval."""
+
+    offset: int
+    interval: int
+    scan: int
+    kind: int
+
+
+@dataclass(frozen=True)
+class Info:
+    """What a copy says of its picture, how many lines it gives, and how it ended."""
+
+    width: int
+    height: int
+    precision: int
+    components: int
+    lines: int
+    missing: int
+    settled: int
+    disputed: int
+    faulty_pieces: int
+    end: End
+    end_offset: int
+    fault: Optional[str]
+    pieces: Sequence[Piece] = ()
+
+
+@dataclass(frozen=True)
+class Picture:
+    """The lines of a copy: `statuses` has a byte for each, and `samples` a number of 16 bits for each sample. Line y of component c is
+    number c * height + y. The samples of a line that is missing or disputed are zeros."""
+
+    info: Info
+    statuses: bytearray
+    samples: Any
+
+    def number(self, component: int, line: int) -> int:
+        """The number of a line among all."""
+        if not (0 <= component < self.info.components and 0 <= line < self.info.height):
+            raise IndexError(f"no line {line} of component {component}")
+        return component * self.info.height + line
+
+    def line(self, component: int, line: int) -> Any:
+        """The samples of a line, or None where it is missing or disputed."""
+        at = self.number(component, line)
+        width = self.info.width
+        return self.samples[at * width : (at + 1) * width] if self.statuses[at] == SETTLED else None
+
+    def unsettled(self) -> List[tuple]:
+        """The component and the line of each line that is missing or disputed, in order."""
+        return [divmod(at, self.info.height) for at, status in enumerate(self.statuses) if status != SETTLED]
+
+    def array(self) -> Any:
+        """The samples as a numpy array: (height, width), or with several components (height, width, components)."""
+        import numpy
+
+        planes = numpy.asarray(self.samples, dtype=numpy.uint16).reshape(self.info.components, self.info.height, self.info.width)
+        return planes[0] if self.info.components == 1 else numpy.moveaxis(planes, 0, -1)
+
+    def mask(self) -> Any:
+        """An array like that of `array`, true where no sample is known."""
+        import numpy
+
+        rows = numpy.frombuffer(self.statuses, dtype=numpy.uint8).reshape(self.info.components, self.info.height) != SETTLED
+        planes = numpy.repeat(rows[:, :, None], self.info.width, axis=2)
+        return planes[0] if self.info.components == 1 else numpy.moveaxis(planes, 0, -1)
+
+
+@functools.lru_cache(maxsize=None)
+def _library() -> ctypes.CDLL:
+    name = os.environ.get("JLS_SALVAGE_LIBRARY") or ctypes.util.find_library("jls_salvage") or "libjls_salvage.so.1"
+    try:
+        library = ctypes.CDLL(name)
+    except OSError as why:
+        raise MissingLibrary(str(why)) from None
+    size, info, nothing = ctypes.c_size_t, ctypes.POINTER(_Info), ctypes.c_void_p
+    library.jls_check.argtypes = [nothing, size, info, ctypes.POINTER(_Piece), size]
+    library.jls_read.argtypes = [nothing, size, info, nothing, size, nothing, size]
+    library.jls_check.restype = library.jls_read.restype = ctypes.c_uint32
+    return library
+
+
+def _view(data: Bytes) -> bytes:
+    """The bytes of a buffer, which is not copied where it is `bytes` already."""
+    return data if isinstance(data, bytes) else bytes(data)
+
+
+def _info(found: _Info, pieces: Sequence[Piece] = ()) -> Info:
+    fault = FAULTS[found.fault] if found.fault else None
+    return Info(
+        found.width, found.height, found.precision, found.components, found.lines, found.missing, found.settled, found.disputed,
+        found.faulty_pieces, End(found.end), found.end_offset, fault, pieces,
+    )  # fmt: skip
+
+
+def _judge(answer: int, found: _Info) -> None:
+    if answer == OUT_OF_MEMORY:
+        raise MemoryError("libjls_salvage: out of memory")
+    if answer == NO_PICTURE:
+        raise NoPicture(FAULTS[found.fault], found.end_offset)
+
+
+def _checked(copy: bytes, room: int) -> tuple:
+    found, pieces = _Info(), (_Piece * room)()
+    _judge(_library().jls_check(copy, len(copy), ctypes.byref(found), pieces, room), found)
+    return found, pieces
+
+
+def check(copy: Bytes) -> Info:
+    """Tells what a copy, which may be damaged, says of its picture, how many of its lines it gives, and how it ended. `pieces` has the
+    first 4,096 of its faulty pieces. Raises `NoPicture` where there is no frame, and MemoryError."""
+    copy = _view(copy)
+    found, pieces = _checked(copy, MOST_PIECES)
+    kept = min(found.faulty_pieces, MOST_PIECES)
+    return _info(found, tuple(Piece(it.offset, it.interval, it.scan, it.kind) for it in pieces[:kept]))
+
+
+def _room(count: int) -> tuple:
+    """Room for so many numbers of 16 bits, with its address: a numpy array, or an array of the standard library."""
+    try:
+        import numpy
+    except ImportError:
+        room = array.array("H", bytes(2 * count))
+        return room, room.buffer_info()[0]
+    samples = numpy.zeros(count, dtype=numpy.uint16)
+    return samples, samples.ctypes.data
+
+
+def _likely_room(copy: bytes) -> tuple:
+    """The samples and lines that the first frame header promises, or 0: where the guess is right, it saves a second reading."""
+    at = copy.find(b"\xff\xf7", 0, 65536)
+    if at < 0 or at + 10 > len(copy):
+        return 0, 0
+    height, width, components = int.from_bytes(copy[at + 5 : at + 7], "big"), int.from_bytes(copy[at + 7 : at + 9], "big"), copy[at + 9]
+    lines = height * min(components, 4)
+    # data that is damaged can promise anything: then the library says what is needed
+    return (lines * width, lines) if lines * width <= 4096 * len(copy) else (0, 0)
+
+
+def _read_into(copy: bytes, found: _Info, count: int, lines: int) -> tuple:
+    samples, address = _room(count)
+    statuses = bytearray(lines)
+    held = (ctypes.c_uint8 * lines).from_buffer(statuses)
+    answer = _library().jls_read(copy, len(copy), ctypes.byref(found), address, count, ctypes.addressof(held), lines)
+    _judge(answer, found)
+    return answer, samples, statuses
+
+
+def read(copy: Bytes) -> Picture:
+    """Reads a copy, which may be damaged. Raises `NoPicture` where there is no frame, and MemoryError."""
+    copy, found = _view(copy), _Info()
+    count, lines = _likely_room(copy)
+    answer, samples, statuses = _read_into(copy, found, count, lines)
+    if answer == DONE:
+        return Picture(_info(found), statuses[: found.lines], samples[: found.samples])
+    count, lines = found.samples, found.lines
+    answer, samples, statuses = _read_into(copy, found, count, lines)
+    if answer != DONE:
+        raise Error(f"libjls_salvage: answer {answer}")
+    return Picture(_info(found), statuses, samples)
