@@ -13,6 +13,8 @@ import sys
 
 TOP = os.path.dirname(os.path.dirname(os.path.realpath(__file__)))
 PROGRAMS = ("jls-salvage", "jls-splice")
+LIBRARY = "libjls_salvage"  # for C: its crate is a static library
+LIBRARY_CRATE = "jls_c"
 PROCESSORS = ("x86_64", "aarch64")
 PARTS = ("src", "specs", "proofs")
 
@@ -44,8 +46,15 @@ def libraries():
     return found
 
 
+def made():
+    """What dist/ has objects of: the programs, and the library if crates.txt lists its crate."""
+    return (*PROGRAMS, LIBRARY) if LIBRARY_CRATE in libraries() else PROGRAMS
+
+
 def crate_of(program):
-    """The crate of a program: the one with a main whose name begins with the program's."""
+    """The crate of a program: the one with a main whose name begins with the program's. Of the library it is its own."""
+    if program == LIBRARY:
+        return LIBRARY_CRATE
     begin = program.replace("-", "_")
     found = [name for name in libraries() if name.startswith(begin) and os.path.isfile(path("crates", name, "src", "main.rt"))]
     if len(found) != 1:
@@ -106,7 +115,7 @@ def toolchain():
 def sources():
     """What dist/SOURCES says if dist/ is made of these sources by this toolchain."""
     lines = [f"toolchain  {toolchain()}\n"]
-    for program in PROGRAMS:
+    for program in made():
         total, crates, files = sum_of(program)
         lines.append(f"{program}  {total}  {files} files of {crates} crates\n")
     return "".join(lines)
@@ -121,10 +130,10 @@ def said():
     return rows
 
 
-def newer():
-    """What is newer than dist/, in words: the sources of a program, or the toolchain. Without a toolchain only sources are compared."""
+def newer(names=PROGRAMS):
+    """What is newer than dist/, in words: the sources of one of these, or the toolchain. Without a toolchain only sources are compared."""
     rows, here = said(), toolchain()
-    found = [f"the sources of {program}" for program in PROGRAMS if rows.get(program) != sum_of(program)[0]]
+    found = [f"the sources of {program}" for program in names if rows.get(program) != sum_of(program)[0]]
     return found + (["the toolchain"] if here and rows.get("toolchain") != here else [])
 
 
@@ -138,8 +147,21 @@ def is_made_after(made, crate):
 
 def proved(crate, end=""):
     """The program of a crate as the proof left it, or with the end ".o" its object. None if it is not there or older than a source."""
-    made = path("crates", crate, "out", crate + end)
-    return made if is_made_after(made, crate) else None
+    found = path("crates", crate, "out", crate + end)
+    return found if is_made_after(found, crate) else None
+
+
+def member_of(archive):
+    """The object in an archive of one object, as that of a static library is."""
+    data, at, found = content(archive), 8, []
+    while at + 60 <= len(data):
+        name, size = data[at : at + 16], int(data[at + 48 : at + 58])
+        if not name.startswith((b"/ ", b"// ", b"/SYM64/")):
+            found.append(data[at + 60 : at + 60 + size])
+        at += 60 + size + size % 2
+    if len(found) != 1:
+        raise Missing(f"{archive} has {len(found)} objects, and not one")
+    return found[0]
 
 
 def packed(processor, program):
@@ -174,9 +196,10 @@ def lacks_libraries(crate):
 
 
 def words(crate, processor, to):
-    """The toolchain's command that proves a program's crate over the libraries as they were built, and makes its object."""
+    """The toolchain's command that proves a crate over the libraries as they were built, and makes its object, or the library's archive."""
     home, named, below = kit(), libraries(), crates_of(crate)[:-1]
-    found = [f"{home}/bin/rattle", "build", "--crate-name", crate, "src/main.rt"]
+    kind = ["src/lib.rt", "--crate-type", "staticlib"] if crate == LIBRARY_CRATE else ["src/main.rt"]
+    found = [f"{home}/bin/rattle", "build", "--crate-name", crate, *kind]
     for name in ["std", *(low for low in named[crate] if low not in named)]:
         found += ["--extern", f"{name}={home}/rlibs/{name}.rlib"]
     found += ["-L", f"dependency={home}/rlibs"]
@@ -189,11 +212,15 @@ def words(crate, processor, to):
 
 
 def make_object(program, processor, to):
-    """Makes the object of a program for a processor. The libraries below have to be built."""
+    """Makes the object of a program or of the library for a processor. The libraries below have to be built."""
     crate = crate_of(program)
     ran = subprocess.run(words(crate, processor, to), cwd=path("crates", crate), capture_output=True, text=True, errors="replace")
     if ran.returncode:
         raise Missing(f"{program} for {processor} could not be built: {(ran.stdout + ran.stderr).strip()[-1500:]}")
+    if crate == LIBRARY_CRATE:
+        inside = member_of(to)
+        with open(to, "wb") as file:
+            file.write(inside)
 
 
 def link(made, to):
