@@ -62,7 +62,7 @@ def refusal_of(path, file):
     return None
 
 
-def header_lines(file):
+def data_set_lines(file):
     meta, data = identity_of(file.data).in_meta, identity_of(file.data).in_data
     yield "DICOM file" if file.is_dicom else "no DICOM file by its first bytes"
     yield syntax_name(file.syntax) if file.syntax else "the transfer syntax does not read"
@@ -71,6 +71,13 @@ def header_lines(file):
     count = file.value(FRAMES)
     said = count.decode("latin-1").strip(" \0") if count is not None else "1"
     yield f"header: {file.number(COLUMNS)}x{file.number(ROWS)}, {file.number(STORED)} bits, samples {file.number(SAMPLES)}, frames {said}"
+
+
+def header_lines(file):
+    if file.data[:3] == b"\xff\xd8\xff":
+        yield "a bare JPEG file, and no DICOM file"
+    else:
+        yield from data_set_lines(file)
     for begin, end in file.layout.breaks:
         yield f"broken from {begin}; the next that reads is at {end}"
     if file.layout.structure.is_cut:
