@@ -30,7 +30,7 @@ install-library: $(if $(filter-out $(wildcard $(LIBRARIES)),$(LIBRARIES)),librar
 	install -d "$(INCLUDEDIR)" "$(LIBRARYDIR)/pkgconfig" "$(FUNCTIONSDIR)"
 	install -m 644 include/jls_salvage.h "$(INCLUDEDIR)"
 	install -m 644 $(BUILD)/libjls_salvage.a "$(LIBRARYDIR)"
-	install -m 755 $(BUILD)/$(SONAME) "$(LIBRARYDIR)"
+	install -m 644 $(BUILD)/$(SONAME) "$(LIBRARYDIR)"
 	ln -sf $(SONAME) "$(LIBRARYDIR)/libjls_salvage.so"
 	sed 's#@PREFIX@#$(PREFIX)#; s#@VERSION@#$(VERSION)#' library/jls_salvage.pc > "$(LIBRARYDIR)/pkgconfig/jls_salvage.pc"
 	install -m 644 $(wildcard man/*.3) "$(FUNCTIONSDIR)"
