@@ -1,14 +1,14 @@
 //! Callers that read a copy, or an input.
 
 ghost use Rattle.std.specs.Prelude.{◌≡◌, ◌∷◌, [], List, None, IfOk};
-ghost use Rattle.jls_device.specs.Event.{GrewBy, bytes_given};
+ghost use Rattle.jls_io.specs.Event.{GrewBy, bytes_given};
 ghost use Rattle.jls_partial.specs.Partial.{PartialPicture};
 ghost use Rattle.jls_partial.specs.Text.{IsTextOf};
 ghost use Rattle.jls_headline.specs.Collected.{Collected};
 ghost use Rattle.jls_headline.specs.Sources.{SourcedCopy, sourced_copy};
 
 use jls_copy::{CopyFault, CopyReader};
-use jls_device::Source;
+use jls_io::Source;
 use jls_partial::Partial;
 use jls_station::{InputFault, InputRead, read_input};
 use std::alloc::Global;

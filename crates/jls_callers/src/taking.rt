@@ -1,13 +1,13 @@
 //! Callers of stations that take copies and partial pictures.
 
 ghost use Rattle.std.specs.Prelude.{◌≡◌, ◌++◌, ◌∷◌, [], List, OnOk, IfOk, IfErr, IsErrOf};
-ghost use Rattle.jls_device.specs.Event.{GrewBy, bytes_given};
+ghost use Rattle.jls_io.specs.Event.{GrewBy, bytes_given};
 ghost use Rattle.jls_values.specs.declared.merge.MergeFault.TheVariants.{ShapeDiffers, OutOfMemory};
 ghost use Rattle.jls_station.specs.declared.take_copy.TakeFault.TheVariants as TakeFault;
 ghost use Rattle.jls_headline.specs.Collected.{Collected};
 ghost use Rattle.jls_headline.specs.Sources.{SourcedCopy, sourced_copy};
 
-use jls_device::Source;
+use jls_io::Source;
 use jls_station::{Station, TakeFault, TakeReport};
 use jls_values::{MergeFault, Shape};
 use std::alloc::Global;

@@ -2,22 +2,21 @@
 
 ghost use Rattle.std.specs.Prelude.{◌≡◌, ℕ, List, IsTrue};
 ghost use Rattle.std.specs.List.{AllByRecursion};
-ghost use Rattle.jls_device.specs.Event.{GrewBy};
-ghost use Rattle.jls_device.specs.Writing.{Wrote};
-ghost use Rattle.jls_picture.specs.Outcomes.{HandedOut};
-ghost use Rattle.jls_picture.specs.Picture.{WholePicture, picture_of};
-ghost use Rattle.jls_picture.specs.WholePictures.{IsPicture};
-ghost use Rattle.jls_file.specs.WrittenFile.{written_file};
+ghost use Rattle.jls_io.specs.Event.{GrewBy};
+ghost use Rattle.jls_io.specs.Writing.{Wrote};
+ghost use Rattle.jls_write.specs.Outcomes.{HandedOut};
+ghost use Rattle.jls_write.specs.Picture.{WholePicture, picture_of};
+ghost use Rattle.jls_write.specs.WholePictures.{IsPicture};
+ghost use Rattle.jls_write.specs.WrittenFile.{written_file};
 ghost use Rattle.jls_headline.specs.Collected.{CollectedFrom};
 ghost use Rattle.jls_headline.specs.Damaged.{Damaged, EachLineSurvives};
 ghost use Rattle.jls_headline.specs.ReadsAs.{ReadsAsOnly};
 ghost use Rattle.jls_headline.specs.Sources.{SourcedCopy, copies_of};
 
-use jls_device::Sink;
-use jls_file::write_jls;
 use jls_headline::same_copies_give_the_picture;
-use jls_picture::{Options, Picture};
+use jls_io::Sink;
 use jls_station::Station;
+use jls_write::{Options, Picture, write_jls};
 use std::alloc::Global;
 
 /// Writes the picture of a station as JPEG-LS, if each line is settled and the options fit. It answers whether the sink took all of it.

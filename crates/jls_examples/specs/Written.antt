@@ -1,12 +1,12 @@
 -- Why a JPEG-LS file was not handed out whole.
 use Rattle.std.specs.Prelude.{◌≡◌, ℕ, List, Option}
-use Rattle.jls_device.specs.Event.{History}
+use Rattle.jls_io.specs.Event.{History}
 use Rattle.jls_examples.specs.declared.writing.WriteFault.{WriteFault}
 use Rattle.jls_examples.specs.declared.writing.WriteFault.TheVariants.{DoesNotFit, Output}
-use Rattle.jls_file.specs.Stops.{StopsIn}
-use Rattle.jls_file.specs.WrittenFile.{written_file}
-use Rattle.jls_picture.specs.Options.{OptionsFit, WriteOptions}
-use Rattle.jls_picture.specs.Picture.{WholePicture}
+use Rattle.jls_write.specs.Stops.{StopsIn}
+use Rattle.jls_write.specs.WrittenFile.{written_file}
+use Rattle.jls_write.specs.Options.{OptionsFit, WriteOptions}
+use Rattle.jls_write.specs.Picture.{WholePicture}
 
 -- the options don't fit and the sink is as before, or the file stopped within its bytes
 abbrev pub StopsAt : WholePicture → WriteOptions → History → History → Option (List ℕ) → Option (List ℕ) → WriteFault → Type 0

@@ -1,16 +1,16 @@
 //! What is known of a picture.
 
 ghost use Rattle.jls_partial.specs.Status.{IsSettled};
-ghost use Rattle.jls_picture.specs.Picture.{picture_of};
-ghost use Rattle.jls_picture.specs.Unsettled.{NamesFirstUnsettled};
+ghost use Rattle.jls_write.specs.Picture.{picture_of};
+ghost use Rattle.jls_write.specs.Unsettled.{NamesFirstUnsettled};
 ghost use Rattle.jls_report.specs.Report.{report_of};
 ghost use Rattle.jls_report.specs.ReportText.{report_text};
 ghost use Rattle.std.specs.Prelude.{◌≡◌, IfOk, IfErr, OnOk};
 
 use jls_partial::Partial;
-use jls_picture::{Picture, PictureFault};
 use jls_report::Report;
 use jls_station::Station;
+use jls_write::{Picture, PictureFault};
 use std::alloc::{AllocError, Global};
 
 /// The lines that the program prints of a partial picture. The only refusal is want of memory.

@@ -1,15 +1,14 @@
 //! Pictures that are written to a sink.
 
 ghost use Rattle.jls_examples.specs.Written.{StopsAt};
-ghost use Rattle.jls_file.specs.WrittenFile.{written_file};
-ghost use Rattle.jls_picture.specs.Options.{OptionsFit};
-ghost use Rattle.jls_picture.specs.Outcomes.{HandedOut, HandedFront, StoppedBy};
-ghost use Rattle.jls_picture.specs.Pnm.{pnm};
+ghost use Rattle.jls_write.specs.WrittenFile.{written_file};
+ghost use Rattle.jls_write.specs.Options.{OptionsFit};
+ghost use Rattle.jls_write.specs.Outcomes.{HandedOut, HandedFront, StoppedBy};
+ghost use Rattle.jls_write.specs.Pnm.{pnm};
 ghost use Rattle.std.specs.Prelude.{IfErr, OnOk};
 
-use jls_device::Sink;
-use jls_file::write_jls;
-use jls_picture::{Options, OutputFault, Picture, write_pnm};
+use jls_io::Sink;
+use jls_write::{Options, OutputFault, Picture, write_jls, write_pnm};
 use std::alloc::Global;
 
 /// Why a JPEG-LS file was not handed out whole.

@@ -1,7 +1,7 @@
 //! Writers of bits.
 
+use crate::met::{Met, Stopped, Tally};
 use jls_bits::{BitWriter, write_golomb};
-use jls_growth::{Met, Stopped, Tally};
 use std::alloc::{AllocError, Global};
 use std::process::Abort;
 

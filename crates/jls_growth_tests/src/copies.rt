@@ -2,10 +2,11 @@
 
 ghost use Rattle.std.specs.Prelude.{◌≡◌};
 
+use crate::met::{Met, Stopped, Tally};
 use crate::readings::{CASES, Case, check_between};
+use crate::ten::{copy_of, lines_of};
 use jls_copy::{CopyFault, CopyReader};
-use jls_device::Counted;
-use jls_growth::{Met, Stopped, Tally, copy_of, lines_of};
+use jls_io::Counted;
 use jls_partial::Partial;
 use jls_station::{InputFault, InputRead, Station, TakeFault, read_input};
 use jls_values::{Merge, MergeFault};

@@ -2,7 +2,8 @@
 
 ghost use Rattle.std.specs.Prelude.{◌*◌, ◌^◌, ◌≤◌};
 
-use jls_growth::{FOUR_LINES, FOUR_LINES_CODE, Met, Stopped, Tally};
+use crate::four::{FOUR_LINES, FOUR_LINES_CODE};
+use crate::met::{Met, Stopped, Tally};
 use jls_interval::{CutEnd, IntervalDecoder, PieceFault, decode_interval, encode_interval, fits};
 use jls_values::Params;
 use std::alloc::{AllocError, Global};

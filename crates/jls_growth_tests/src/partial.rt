@@ -1,7 +1,7 @@
 //! Partial pictures and their texts.
 
+use crate::met::{Met, Stopped, Tally};
 use crate::readings::{CASES, Case, Readings, check_between};
-use jls_growth::{Met, Stopped, Tally};
 use jls_partial::{InsertFault, MergeTextFault, Partial, TextFault};
 use jls_values::{Merge, MergeFault, merge_all};
 use std::alloc::{AllocError, Global};

@@ -1,6 +1,6 @@
 //! Partial pictures whose readings are lines of equal samples, and their texts.
 
-use jls_growth::Stopped;
+use crate::met::Stopped;
 use jls_partial::Partial;
 use jls_values::{Merge, Shape};
 use std::alloc::{AllocError, Global};

@@ -1,6 +1,6 @@
 //! Sets of source numbers, and sets of lines.
 
-use jls_growth::{Met, Stopped, Tally};
+use crate::met::{Met, Stopped, Tally};
 use jls_partial::{InsertFault, LineSet};
 use jls_values::{Merge, MergeFault, SourceSet, merge_all};
 use std::alloc::{AllocError, Global};

@@ -1,13 +1,14 @@
 //! What is written of a picture: segments, reports and files.
 
-use jls_device::Counted;
-use jls_file::write_jls;
-use jls_growth::{Met, Room, Stopped, Tally, copy_of, lines_of};
+use crate::met::{Met, Stopped, Tally};
+use crate::room::Room;
+use crate::ten::{copy_of, lines_of};
+use jls_io::Counted;
 use jls_marker::{Segment, write_segment};
 use jls_partial::Partial;
-use jls_picture::{Options, OutputFault, Picture};
 use jls_report::Report;
 use jls_values::{Params, Shape};
+use jls_write::{Options, OutputFault, Picture, write_jls};
 use std::alloc::{AllocError, Global};
 use std::fmt::Write;
 use std::process::Abort;

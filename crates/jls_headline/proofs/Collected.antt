@@ -17,7 +17,7 @@ use Rattle.jls_partial.specs.Text.{IsTextOf}
 use Rattle.jls_partial.proofs.TextLaws.{one_text}
 use Rattle.jls_copy.specs.CopyReads.{CopyReads}
 use Rattle.jls_copy.specs.ReadCopy.{ReadCopy}
-use Rattle.jls_device.specs.Event.{Event, bytes_given}
+use Rattle.jls_io.specs.Event.{Event, bytes_given}
 use Rattle.jls_station.specs.Given.{CopyReport, Given, Gives, by_text, by_copy, marked}
 use Rattle.jls_station.specs.Inputs.{IsCopyDone, IsEnough}
 use Rattle.jls_station.specs.Reading.{AreBytes}
@@ -25,9 +25,9 @@ use Rattle.jls_station.specs.Texts.{is_text}
 use Rattle.jls_station.specs.TakingCopies.{CopyGives, RefusesCopy, gives_none, other_shape, no_memory}
 use Rattle.jls_station.specs.declared.take_copy.TakeFault.{TakeFault}
 use Rattle.jls_station.specs.declared.take_copy.TakeFault.TheVariants as fault
-use Rattle.jls_copy_law.specs.Gives.{GivesReading}
-use Rattle.jls_copy_law.proofs.Members.{none_in, in_map, of_map, all_at, all_append, all_front}
-use Rattle.jls_commands.proofs.InputBytes.{all_reads}
+use Rattle.jls_copy_laws.specs.Gives.{GivesReading}
+use Rattle.jls_copy_laws.proofs.Members.{none_in, in_map, of_map, all_at, all_append, all_front}
+use Rattle.jls_salvage_run.proofs.InputBytes.{all_reads}
 use Rattle.jls_headline.specs.Stations.{HasShape, ReadingsOf}
 use Rattle.jls_headline.specs.Sources.{SourcedCopy, copies_of}
 use Rattle.jls_headline.specs.Sources.{sourced_copy}

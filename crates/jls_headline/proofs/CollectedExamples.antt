@@ -8,7 +8,7 @@ use Rattle.jls_partial.specs.PartialLaws.{shape_itself}
 use Rattle.jls_partial.specs.Partial.{PartialPicture, nothing_known, union, has_same_shape, with_source}
 use Rattle.jls_copy.specs.CopyReads.{CopyReads}
 use Rattle.jls_copy.specs.ReadCopy.{ReadCopy}
-use Rattle.jls_copy_law.proofs.Members.{is_first, first_or_rest, none_in}
+use Rattle.jls_copy_laws.proofs.Members.{is_first, first_or_rest, none_in}
 use Rattle.jls_headline.specs.Headline.{WritesThePicture}
 use Rattle.jls_headline.specs.Damaged.{picture_reading}
 use Rattle.jls_headline.specs.Sources.{SourcedCopy, copies_of}

@@ -4,13 +4,13 @@ use Rattle.std.specs.Prelude.{IfOk, IfErr}
 use Rattle.jls_partial.specs.Partial.{PartialPicture}
 use Rattle.jls_partial.specs.Text.{text}
 use Rattle.jls_partial.specs.Status.{IsSettled}
-use Rattle.jls_picture.specs.Picture.{WholePicture, picture_of}
-use Rattle.jls_picture.specs.Options.{OptionsFit}
-use Rattle.jls_picture.specs.Pnm.{pnm}
-use Rattle.jls_picture.specs.Unsettled.{NamesFirstUnsettled}
-use Rattle.jls_picture.specs.declared.picture.PictureFault.{PictureFault}
-use Rattle.jls_picture.specs.declared.picture.PictureFault.TheVariants.{Unsettled}
-use Rattle.jls_file.specs.WrittenFile.{written_file}
+use Rattle.jls_write.specs.Picture.{WholePicture, picture_of}
+use Rattle.jls_write.specs.Options.{OptionsFit}
+use Rattle.jls_write.specs.Pnm.{pnm}
+use Rattle.jls_write.specs.Unsettled.{NamesFirstUnsettled}
+use Rattle.jls_write.specs.declared.picture.PictureFault.{PictureFault}
+use Rattle.jls_write.specs.declared.picture.PictureFault.TheVariants.{Unsettled}
+use Rattle.jls_write.specs.WrittenFile.{written_file}
 use Rattle.jls_report.specs.ReportText.{report_text}
 use Rattle.jls_headline.specs.Sources.{copies_of}
 use Rattle.jls_headline.specs.ReadsAs.{ReadsAsOnly}

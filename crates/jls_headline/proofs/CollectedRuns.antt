@@ -11,10 +11,10 @@ use Rattle.jls_partial.specs.Text.{IsTextOf}
 use Rattle.jls_station.specs.Given.{Given, Gives, by_text, by_copy, GivesPartial}
 use Rattle.jls_station.specs.Reading.{AreBytes}
 use Rattle.jls_station.specs.Texts.{is_text}
-use Rattle.jls_commands.specs.AllInputs.{partials, AreOfOneShape, IsUnionOf}
-use Rattle.jls_commands.specs.Laws.{input_bytes}
-use Rattle.jls_commands.proofs.InputBytes.{AreGiven, inputs_of_join}
-use Rattle.jls_copy_law.proofs.Members.{none_in}
+use Rattle.jls_salvage_run.specs.AllInputs.{partials, AreOfOneShape, IsUnionOf}
+use Rattle.jls_salvage_run.specs.CommandLaws.{input_bytes}
+use Rattle.jls_salvage_run.proofs.InputBytes.{AreGiven, inputs_of_join}
+use Rattle.jls_copy_laws.proofs.Members.{none_in}
 use Rattle.jls_headline.specs.Stations.{HoldsExactly, AreAmong, IsSameCopy}
 use Rattle.jls_headline.specs.Sources.{SourcedCopy, sourced_copy, copies_of, IsSameUnder}
 use Rattle.jls_headline.specs.Collected.{Collected, reader_finished, text_back, partial_taken, CollectedFrom, CollectedUnder}

@@ -16,13 +16,13 @@ use Rattle.jls_copy.specs.ReadCopy.{ReadCopy}
 use Rattle.jls_copy.specs.Pieces.{FoundPiece, PieceOutcome, Lines, Fault, IsOutcome, outcome_readings, readings_of, AreOutcomes, readings, pieces}
 use Rattle.jls_copy.proofs.ScansOfCourse.{HasScan, course_has}
 use Rattle.jls_copy.proofs.BytesDecide.{one_outcome, one_head_of_cut, cut_has}
-use Rattle.jls_copy_law.specs.CourseGives.{FoundPieceGives, FoundHeadGives, CourseGives}
-use Rattle.jls_copy_law.specs.Gives.{GivesReading}
-use Rattle.jls_copy_law.proofs.CopyScans.{course_has_scans}
-use Rattle.jls_copy_law.proofs.Gives.{readings_are_of_the_course}
+use Rattle.jls_copy_laws.specs.CourseGives.{FoundPieceGives, FoundHeadGives, CourseGives}
+use Rattle.jls_copy_laws.specs.Gives.{GivesReading}
+use Rattle.jls_copy_laws.proofs.CopyScans.{course_has_scans}
+use Rattle.jls_copy_laws.proofs.Gives.{readings_are_of_the_course}
 use Rattle.jls_headline.specs.Stations.{HasShape}
-use Rattle.jls_copy_law.proofs.Members.{is_first, in_rest, none_in, first_or_rest}
-use Rattle.jls_copy_law.proofs.CutOff.{last_short}
+use Rattle.jls_copy_laws.proofs.Members.{is_first, in_rest, none_in, first_or_rest}
+use Rattle.jls_copy_laws.proofs.CutOff.{last_short}
 use Rattle.jls_headline.proofs.Held.{made_holds}
 
 abbrev some_shape : PictureShape → Option PictureShape

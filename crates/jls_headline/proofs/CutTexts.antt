@@ -24,7 +24,7 @@ use Rattle.jls_partial.specs.TextFront.{unless_fault, readings_front, entry_fron
 use Rattle.jls_partial.specs.TextInto.{head_fields}
 use Rattle.jls_partial.specs.TextReading.{◌>>=◌, offset, byte_field, bytes_field, number_field, magic_field, version_field, unless_bad_shape, shape_or_fault, shape_fields, sample_field, samples_fields, is_above, reading_fields, is_source_above, source_field, sources_fields, own_sources_fields, kept_fields, readings_fields, place_fields, count_field, entry_fields}
 use Rattle.jls_partial.proofs.TextMerges.{text_between}
-use Rattle.jls_copy_law.proofs.Members.{in_rest, none_in, first_or_rest, in_map, of_map, all_from}
+use Rattle.jls_copy_laws.proofs.Members.{in_rest, none_in, first_or_rest, in_map, of_map, all_from}
 use Rattle.jls_headline.specs.Collected.{HoldsEntry}
 use Rattle.jls_headline.specs.CollectedLaws.{CutTextsAreHeld}
 use Rattle.jls_headline.proofs.Held.{or_first, or_second, either, any_of_item}

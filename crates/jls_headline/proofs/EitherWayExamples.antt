@@ -8,13 +8,13 @@ use Rattle.jls_values.specs.OrderedSetLaws.{contains-empty}
 use Rattle.jls_values.specs.Shape.{PictureShape}
 use Rattle.jls_partial.specs.Reading.{Reading, reading_of, reading_cmp}
 use Rattle.jls_partial.specs.Partial.{PartialPicture, without_sources, nothing_known}
-use Rattle.jls_picture.specs.Options.{OptionsFit}
-use Rattle.jls_file_law.specs.Covering.{IsLineOf}
+use Rattle.jls_write.specs.Options.{OptionsFit}
+use Rattle.jls_file_laws.specs.Covering.{IsLineOf}
 use Rattle.jls_marker.specs.Scan.{first_row}
 use Rattle.jls_copy.specs.Numbers.{Interval, numbers_behind}
 use Rattle.jls_copy.specs.Pieces.{placed}
-use Rattle.jls_copy_law.specs.Gives.{ScanGives, GivesReading}
-use Rattle.jls_copy_law.proofs.CopyScans.{one_list_of_scans}
+use Rattle.jls_copy_laws.specs.Gives.{ScanGives, GivesReading}
+use Rattle.jls_copy_laws.proofs.CopyScans.{one_list_of_scans}
 use Rattle.jls_headline.specs.Damaged.{AreNumbers, numbered_pieces, HasPictureLines, DamagedScan, Damaged, SurvivesInScan, picture_reading, Survives, EachLineSurvives}
 use Rattle.jls_headline.specs.Stations.{ReadingsOf, HasShape, HoldsExactly, IsSameCopy, AreAmong, SameCopies}
 use Rattle.jls_headline.specs.Collected.{Collected, new_station, CollectedFrom, CollectedUnder}
@@ -22,7 +22,7 @@ use Rattle.jls_headline.specs.ReadsAs.{GivesPicture, ReadsAs, ReadsAsOnly, Files
 use Rattle.jls_headline.specs.HeadlineLaws.{SayTheSame}
 use Rattle.jls_headline.specs.Sources.{sourced_copy}
 use Rattle.jls_headline.specs.Sources.{copies_of, GivesUnder, SourcesOf, HoldsExactlyUnder, IsSameUnder, SameCopiesUnder}
-use Rattle.jls_copy_law.proofs.Members.{is_first, none_in, all_at}
+use Rattle.jls_copy_laws.proofs.Members.{is_first, none_in, all_at}
 use Rattle.jls_headline.proofs.Held.{made_holds}
 use Rattle.jls_headline.proofs.LostIntervals.{damaged_copies_give_no_other, surviving_lines_are_given}
 use Rattle.jls_headline.proofs.SameCopies.{same_copy_gives}

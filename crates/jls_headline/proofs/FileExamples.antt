@@ -16,9 +16,9 @@ use Rattle.jls_interval.specs.Runs.{block_columns, full_blocks, blocks, run_inde
 use Rattle.jls_interval.specs.Code.{event_bits, bits_of_events, code}
 use Rattle.jls_copy.specs.CopyReads.{CopyReads}
 use Rattle.jls_copy.specs.ReadCopy.{ReadCopy}
-use Rattle.jls_picture.specs.Picture.{line_of, picture_of}
-use Rattle.jls_picture.specs.Options.{WriteOptions, OptionsFit}
-use Rattle.jls_file.specs.WrittenFile.{written_file}
+use Rattle.jls_write.specs.Picture.{line_of, picture_of}
+use Rattle.jls_write.specs.Options.{WriteOptions, OptionsFit}
+use Rattle.jls_write.specs.WrittenFile.{written_file}
 use Rattle.jls_headline.specs.ReadsAs.{ReadsAsOnly}
 use Rattle.jls_headline.proofs.WrittenFiles.{files_read_back}
 use Rattle.jls_headline.proofs.TwoLineCopies.{pic, is_picture, bits_8, parameters_8, first, second}

@@ -22,10 +22,10 @@ use Rattle.jls_marker.specs.HeaderState.{HeaderState, no_headers}
 use Rattle.jls_marker.specs.Headers.{headers_after}
 use Rattle.jls_copy.specs.Course.{by_input, CopyUnit, segment, scan, Course, IsCourse, with_soi, with_the_input}
 use Rattle.jls_copy.specs.declared.end.End.TheVariants.{Input}
-use Rattle.jls_picture.specs.Picture.{WholePicture}
-use Rattle.jls_copy_law.specs.CopyScans.{ScanPiece, ScanWithData, HasScans}
-use Rattle.jls_copy_law.specs.Gives.{GivesReading}
-use Rattle.jls_copy_law.proofs.CopyScans.{course_has_scans}
+use Rattle.jls_write.specs.Picture.{WholePicture}
+use Rattle.jls_copy_laws.specs.CopyScans.{ScanPiece, ScanWithData, HasScans}
+use Rattle.jls_copy_laws.specs.Gives.{GivesReading}
+use Rattle.jls_copy_laws.proofs.CopyScans.{course_has_scans}
 use Rattle.jls_headline.specs.Damaged.{Damaged, picture_reading, Survives}
 use Rattle.jls_headline.specs.Trimmed.{front, TrimmedCopy}
 use Rattle.jls_headline.proofs.LostIntervals.{damaged_copies_give_no_other, surviving_lines_are_given}

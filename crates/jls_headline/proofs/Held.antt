@@ -17,7 +17,7 @@ use Rattle.jls_values.specs.OrderedSetLaws.{contains-items, contains-insert_all,
 use Rattle.jls_partial.specs.Partial.{PartialPicture, readings_at}
 use Rattle.jls_partial.specs.Reading.{Reading, reading_cmp, reading_of}
 use Rattle.jls_partial.specs.ReadingOrder.{reading_total, reading_exact}
-use Rattle.jls_copy_law.proofs.Members.{is_first, in_rest, none_in, first_or_rest, in_map}
+use Rattle.jls_copy_laws.proofs.Members.{is_first, in_rest, none_in, first_or_rest, in_map}
 
 abbrev pub ReadingSet : Type 0
 ReadingSet = set.OrderedSet reading_cmp

@@ -9,13 +9,13 @@ use Rattle.jls_partial.specs.ReadingOrder.{reading_total, marks_total}
 use Rattle.jls_partial.specs.Partial.{PartialPicture, union}
 use Rattle.jls_station.specs.Given.{Given, Gives, by_text, by_copy, GivesPartial}
 use Rattle.jls_station.specs.Reading.{AreBytes}
-use Rattle.jls_commands.specs.AllInputs.{IsUnionOf}
-use Rattle.jls_commands.proofs.InputBytes.{AreGiven}
-use Rattle.jls_copy_law.specs.Gives.{GivesReading}
+use Rattle.jls_salvage_run.specs.AllInputs.{IsUnionOf}
+use Rattle.jls_salvage_run.proofs.InputBytes.{AreGiven}
+use Rattle.jls_copy_laws.specs.Gives.{GivesReading}
 use Rattle.jls_headline.specs.Sources.{SourcedCopy}
 use Rattle.jls_headline.specs.Sources.{sourced_copy}
 use Rattle.jls_headline.proofs.Held.{either, or_first, or_second}
-use Rattle.jls_copy_law.proofs.Members.{is_first, none_in, first_or_rest}
+use Rattle.jls_copy_laws.proofs.Members.{is_first, none_in, first_or_rest}
 use Rattle.jls_headline.proofs.SourcedStations.{copy_holds_under}
 
 -- each source is of a reading that is held, and has 32 bits

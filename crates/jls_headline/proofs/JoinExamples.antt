@@ -17,21 +17,21 @@ use Rattle.jls_partial.specs.Text.{text, IsTextOf}
 use Rattle.jls_copy.specs.CopyReads.{CopyReads, IsDone}
 use Rattle.jls_copy.specs.ReadCopy.{ReadCopy}
 use Rattle.jls_copy.proofs.OneCourse.{one_course}
-use Rattle.jls_device.specs.Event.{Event, opened, gave, created, took}
-use Rattle.jls_picture.specs.Picture.{WholePicture, line_of, picture_of}
-use Rattle.jls_picture.specs.Pnm.{pnm}
+use Rattle.jls_io.specs.Event.{Event, opened, gave, created, took}
+use Rattle.jls_write.specs.Picture.{WholePicture, line_of, picture_of}
+use Rattle.jls_write.specs.Pnm.{pnm}
 use Rattle.jls_station.specs.Texts.{is_text}
 use Rattle.jls_station.specs.Given.{Given, given_by_text, given_by_copy, by_text, by_copy}
 use Rattle.jls_station.specs.Inputs.{IsEnough}
-use Rattle.jls_commands.specs.AllInputs.{IsTaken}
-use Rattle.jls_commands.specs.Joining.{JoinIsDone}
-use Rattle.jls_commands.specs.Laws.{AreInputsOf, input_bytes}
+use Rattle.jls_salvage_run.specs.AllInputs.{IsTaken}
+use Rattle.jls_salvage_run.specs.Joining.{JoinIsDone}
+use Rattle.jls_salvage_run.specs.CommandLaws.{AreInputsOf, input_bytes}
 use Rattle.jls_station.specs.Reading.{IsRead, AreBytes}
 use Rattle.jls_station.specs.declared.input.ReadStop.TheVariants.{Whole}
-use Rattle.jls_commands.specs.Outcomes.{finished}
+use Rattle.jls_salvage_run.specs.Outcomes.{finished}
 use Rattle.jls_station.proofs.OneInput.{empty_goes_on}
-use Rattle.jls_commands.specs.WritingFiles.{done}
-use Rattle.jls_commands.specs.declared.writing.Format.TheVariants.{Pnm}
+use Rattle.jls_salvage_run.specs.WritingFiles.{done}
+use Rattle.jls_salvage_run.specs.declared.writing.Format.TheVariants.{Pnm}
 use Rattle.jls_headline.specs.JoinThenWrite.{JoinsDamagedCopies, JoinsForDamagedCopies, WritesWhatWasJoined}
 use Rattle.jls_headline.specs.NoOtherLaws.{SomeInputHasEachLine}
 use Rattle.jls_headline.specs.Damaged.{picture_reading, Survives}
@@ -46,7 +46,7 @@ use Rattle.jls_headline.proofs.CollectedRuns.{collected_aside, union_under}
 use Rattle.jls_headline.proofs.JoinThenWrite.{text_of_copies}
 use Rattle.jls_headline.proofs.LostIntervals.{surviving_lines_are_given}
 use Rattle.jls_headline.proofs.Held.{is_at_line, or_first, or_second}
-use Rattle.jls_copy_law.proofs.Members.{in_rest, is_first, none_in}
+use Rattle.jls_copy_laws.proofs.Members.{in_rest, is_first, none_in}
 use Rattle.jls_headline.proofs.StationPictures.{exactly_gives_the_picture}
 use Rattle.jls_headline.proofs.Stations.{copy_holds}
 use Rattle.jls_headline.proofs.TwoLineCopies.{shape, pic, is_picture, first, second, first_course, second_course, course_with, lost_first, bytes_of_test, first_data, second_data, first_scans, second_scans}

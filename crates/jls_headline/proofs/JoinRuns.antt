@@ -6,28 +6,28 @@ use Rattle.jls_values.specs.Shape.{PictureShape}
 use Rattle.jls_partial.specs.Partial.{PartialPicture}
 use Rattle.jls_partial.specs.Text.{text}
 use Rattle.jls_copy.specs.ScanData.{fill_bytes}
-use Rattle.jls_copy_law.specs.CopyScans.{ScanWithData, HasScans}
-use Rattle.jls_copy_law.proofs.CopyScans.{one_list_of_scans}
-use Rattle.jls_device.specs.Event.{Event}
+use Rattle.jls_copy_laws.specs.CopyScans.{ScanWithData, HasScans}
+use Rattle.jls_copy_laws.proofs.CopyScans.{one_list_of_scans}
+use Rattle.jls_io.specs.Event.{Event}
 use Rattle.jls_station.specs.Given.{marked}
 use Rattle.jls_station.specs.Texts.{is_text}
-use Rattle.jls_commands.specs.AllInputs.{partials, IsUnionOf}
-use Rattle.jls_commands.specs.Joining.{JoinIsDone}
-use Rattle.jls_commands.specs.Laws.{input_bytes}
+use Rattle.jls_salvage_run.specs.AllInputs.{partials, IsUnionOf}
+use Rattle.jls_salvage_run.specs.Joining.{JoinIsDone}
+use Rattle.jls_salvage_run.specs.CommandLaws.{input_bytes}
 use Rattle.jls_headline.specs.Damaged.{Damaged}
 use Rattle.jls_headline.specs.Stations.{HasShape, HoldsExactly, IsSameCopy, AreAmong}
 use Rattle.jls_headline.specs.Sources.{SourcedCopy, copies_of, IsSameUnder}
 use Rattle.jls_headline.specs.Sources.{sourced_copy}
 use Rattle.jls_headline.specs.RunLaws.{AreNoTexts, InputsStandFor, InputsStandUnder, RunsHoldExactly, RunsWithTextsHoldExactly, RunsSayTheSame, RunsWithTextsSayTheSame, RunsGiveThePicture, RunsWithTextsGiveThePicture, RunsHoldExactlyUnder, RunsUnderSourcesHandOutTheSame}
 use Rattle.jls_partial.specs.Reading.{Reading}
-use Rattle.jls_copy_law.proofs.Members.{is_first, all_at, all_map, in_map, of_map}
+use Rattle.jls_copy_laws.proofs.Members.{is_first, all_at, all_map, in_map, of_map}
 use Rattle.jls_headline.proofs.SameCopies.{same_copy_has_shape}
 use Rattle.jls_headline.proofs.Stations.{same_readings}
 use Rattle.jls_headline.proofs.SourcedStations.{same_under}
 use Rattle.jls_headline.proofs.StationPictures.{say_the_same, exactly_gives_the_picture}
 use Rattle.jls_headline.proofs.Collected.{collected_holds, collected_holds_under}
 use Rattle.jls_headline.proofs.CollectedRuns.{runs_are_collected, runs_are_collected_under}
-use Rattle.jls_commands.proofs.InputBytes.{AreGiven, inputs_of_join, output_of_join}
+use Rattle.jls_salvage_run.proofs.InputBytes.{AreGiven, inputs_of_join, output_of_join}
 
 -- copies stand for themselves
 copies_stand : (source : Option ℕ) (inputs : List (List ℕ)) → AreNoTexts inputs

@@ -12,33 +12,33 @@ use Rattle.jls_partial.specs.Partial.{PartialPicture}
 use Rattle.jls_partial.specs.Status.{IsSettled}
 use Rattle.jls_partial.specs.Text.{text, IsTextOf}
 use Rattle.jls_partial.proofs.BareEntries.{first_none}
-use Rattle.jls_device.specs.Event.{Event}
-use Rattle.jls_picture.specs.Picture.{WholePicture, picture_of}
-use Rattle.jls_picture.specs.Options.{OptionsFit}
-use Rattle.jls_picture.specs.Unsettled.{NamesFirstUnsettled}
-use Rattle.jls_picture.specs.declared.picture.PictureFault.{PictureFault}
-use Rattle.jls_picture.specs.declared.picture.PictureFault.TheVariants as picture_fault
+use Rattle.jls_io.specs.Event.{Event}
+use Rattle.jls_write.specs.Picture.{WholePicture, picture_of}
+use Rattle.jls_write.specs.Options.{OptionsFit}
+use Rattle.jls_write.specs.Unsettled.{NamesFirstUnsettled}
+use Rattle.jls_write.specs.declared.picture.PictureFault.{PictureFault}
+use Rattle.jls_write.specs.declared.picture.PictureFault.TheVariants as picture_fault
 use Rattle.jls_station.specs.Texts.{is_text}
 use Rattle.jls_station.specs.Given.{Given}
-use Rattle.jls_picture.specs.WholePictures.{IsPicture}
-use Rattle.jls_commands.specs.AllInputs.{partials, IsTaken, StopsAt, not_there, refused, other_shape, no_memory}
-use Rattle.jls_commands.specs.Outputs as output
-use Rattle.jls_commands.specs.Laws.{input_bytes, output_bytes}
-use Rattle.jls_commands.specs.Outcomes.{Outcome, finished}
-use Rattle.jls_commands.specs.declared.outcome.Refusal.{Refusal}
-use Rattle.jls_commands.specs.declared.outcome.Refusal.TheVariants.{Unsettled}
-use Rattle.jls_commands.specs.WritingFiles as writing
-use Rattle.jls_commands.specs.WritingFiles.{file, FitsFormat, options_for, WritesFile, StopsAtFile}
-use Rattle.jls_commands.specs.declared.writing.Format.{Format}
-use Rattle.jls_commands.specs.declared.writing.Format.TheVariants.{Jls}
-use Rattle.jls_commands.proofs.Defaults.{defaults_are}
+use Rattle.jls_write.specs.WholePictures.{IsPicture}
+use Rattle.jls_salvage_run.specs.AllInputs.{partials, IsTaken, StopsAt, not_there, refused, other_shape, no_memory}
+use Rattle.jls_salvage_run.specs.Outputs as output
+use Rattle.jls_salvage_run.specs.CommandLaws.{input_bytes, output_bytes}
+use Rattle.jls_salvage_run.specs.Outcomes.{Outcome, finished}
+use Rattle.jls_salvage_run.specs.declared.outcome.Refusal.{Refusal}
+use Rattle.jls_salvage_run.specs.declared.outcome.Refusal.TheVariants.{Unsettled}
+use Rattle.jls_salvage_run.specs.WritingFiles as writing
+use Rattle.jls_salvage_run.specs.WritingFiles.{file, FitsFormat, options_for, WritesFile, StopsAtFile}
+use Rattle.jls_salvage_run.specs.declared.writing.Format.{Format}
+use Rattle.jls_salvage_run.specs.declared.writing.Format.TheVariants.{Jls}
+use Rattle.jls_salvage_run.proofs.Defaults.{defaults_are}
 use Rattle.jls_headline.specs.Damaged.{Damaged}
 use Rattle.jls_headline.specs.ReadsAs.{GivesPicture, ReadsAsOnly}
 use Rattle.jls_headline.specs.RunLaws.{AreNoTexts}
 use Rattle.jls_headline.specs.Sources.{copies_of}
 use Rattle.jls_headline.specs.JoinThenWrite.{JoinsDamagedCopies, JoinsForDamagedCopies, WritesWhatWasJoined, WrittenJoinsAreThePicture, WrittenJoinsReadAsThePicture, WrittenJoinsAreSettled, WrittenTextJoinsAreThePicture, WrittenTextJoinsReadAsThePicture, WrittenTextJoinsAreSettled}
-use Rattle.jls_copy_law.proofs.Members.{all_map}
-use Rattle.jls_commands.proofs.InputBytes.{ReadsNone, one_input, handed_out, inputs_of_join, output_of_join}
+use Rattle.jls_copy_laws.proofs.Members.{all_map}
+use Rattle.jls_salvage_run.proofs.InputBytes.{ReadsNone, one_input, handed_out, inputs_of_join, output_of_join}
 use Rattle.jls_headline.proofs.JoinRuns.{scans_are_no_text, marks_of_run, runs_hold_exactly, runs_with_texts_hold_exactly, runs_give_the_picture, runs_with_texts_give_the_picture}
 use Rattle.jls_headline.proofs.JoinedTexts.{held_are_lines, its_text, text_given}
 use Rattle.jls_headline.proofs.InputMarks.{marks_of_inputs}

@@ -16,15 +16,15 @@ use Rattle.jls_partial.specs.Text.{text, IsPartial, IsTextOf}
 use Rattle.jls_partial.specs.TextReading.{byte_field, version_field}
 use Rattle.jls_partial.proofs.TextEntries.{fits_there}
 use Rattle.jls_partial.proofs.TextLaws.{one_text}
-use Rattle.jls_picture.specs.Picture.{WholePicture, line_of}
-use Rattle.jls_file_law.specs.Covering.{IsLineOf}
+use Rattle.jls_write.specs.Picture.{WholePicture, line_of}
+use Rattle.jls_file_laws.specs.Covering.{IsLineOf}
 use Rattle.jls_station.specs.Texts.{is_text}
 use Rattle.jls_station.specs.Given.{Given, Gives, by_text, by_copy}
 use Rattle.jls_headline.specs.Damaged.{Damaged}
 use Rattle.jls_headline.specs.Stations.{HoldsExactly}
-use Rattle.jls_picture.specs.WholePictures.{IsLineIn, IsPicture}
+use Rattle.jls_write.specs.WholePictures.{IsLineIn, IsPicture}
 use Rattle.jls_headline.specs.ReadsAs.{GivesPicture}
-use Rattle.jls_copy_law.proofs.Members.{is_first, in_rest, all_at}
+use Rattle.jls_copy_laws.proofs.Members.{is_first, in_rest, all_at}
 use Rattle.jls_headline.proofs.Held.{any_of_member}
 use Rattle.jls_headline.proofs.LostIntervals.{damaged_copies_give_no_other}
 use Rattle.jls_headline.proofs.Pictures.{heights}

@@ -4,13 +4,13 @@ use Rattle.std.specs.List.{AllByRecursion, Contains}
 use Rattle.jls_values.specs.Shape.{PictureShape}
 use Rattle.jls_partial.specs.Reading.{Reading}
 use Rattle.jls_marker.specs.Scan.{first_row}
-use Rattle.jls_picture.specs.Picture.{WholePicture}
-use Rattle.jls_file.specs.WrittenFile.{interval_lines}
-use Rattle.jls_file_law.specs.Covering.{IsLineOf}
-use Rattle.jls_copy_law.specs.CopyScans.{ScanPiece, ScanWithData, HasScans}
-use Rattle.jls_copy_law.specs.Gives.{PieceGives, ScanGives, GivesReading}
-use Rattle.jls_copy_law.proofs.CopyScans.{one_list_of_scans}
-use Rattle.jls_copy_law.proofs.Members.{all_at}
+use Rattle.jls_write.specs.Picture.{WholePicture}
+use Rattle.jls_write.specs.WrittenFile.{interval_lines}
+use Rattle.jls_file_laws.specs.Covering.{IsLineOf}
+use Rattle.jls_copy_laws.specs.CopyScans.{ScanPiece, ScanWithData, HasScans}
+use Rattle.jls_copy_laws.specs.Gives.{PieceGives, ScanGives, GivesReading}
+use Rattle.jls_copy_laws.proofs.CopyScans.{one_list_of_scans}
+use Rattle.jls_copy_laws.proofs.Members.{all_at}
 use Rattle.jls_headline.specs.Damaged.{AreNumbers, numbered_pieces, HasPictureLines, DamagedScan, picture_reading, SurvivesInScan}
 use Rattle.jls_headline.specs.ScanLaws.{IsScanUnder}
 use Rattle.jls_headline.specs.LostIntervalLaws.{DamagedCopiesGiveExactly, DamagedCopiesGiveNoOther, SurvivingLinesAreGiven}

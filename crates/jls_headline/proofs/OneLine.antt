@@ -10,15 +10,15 @@ use Rattle.jls_partial.specs.Reading.{Reading, reading_of}
 use Rattle.jls_partial.specs.ReadingOrder.{reading_total, reading_exact}
 use Rattle.jls_partial.specs.Status.{status_of}
 use Rattle.jls_partial.specs.declared.status.Status.TheVariants.{Settled}
-use Rattle.jls_picture.specs.Picture.{WholePicture, line_of}
+use Rattle.jls_write.specs.Picture.{WholePicture, line_of}
 use Rattle.jls_report.specs.Lines.{is_settled_line}
 use Rattle.jls_report.specs.Report.{PictureReport, report_entries}
 use Rattle.jls_report.specs.Ranges.{speaks_of}
 use Rattle.jls_report.proofs.EachLine.{each_line_once}
-use Rattle.jls_copy_law.specs.CopyScans.{ScanWithData}
-use Rattle.jls_copy_law.specs.Gives.{GivesReading}
-use Rattle.jls_copy_law.proofs.CopyScans.{one_list_of_scans}
-use Rattle.jls_copy_law.proofs.Members.{is_first, in_rest, none_in, first_or_rest, all_at, all_from, of_map}
+use Rattle.jls_copy_laws.specs.CopyScans.{ScanWithData}
+use Rattle.jls_copy_laws.specs.Gives.{GivesReading}
+use Rattle.jls_copy_laws.proofs.CopyScans.{one_list_of_scans}
+use Rattle.jls_copy_laws.proofs.Members.{is_first, in_rest, none_in, first_or_rest, all_at, all_from, of_map}
 use Rattle.jls_headline.specs.Damaged.{numbered_pieces, picture_reading, DamagedScan, Survives}
 use Rattle.jls_headline.specs.ScanLaws.{IsScanUnder}
 use Rattle.jls_headline.specs.Stations.{HasShape, HoldsExactly}

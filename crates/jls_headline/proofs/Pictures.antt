@@ -5,9 +5,9 @@ use Rattle.std.specs.List.{AllByRecursion, range_with_len}
 use Rattle.jls_values.specs.Shape.{PictureShape}
 use Rattle.jls_partial.specs.Partial.{PartialPicture, readings_at}
 use Rattle.jls_partial.specs.Status.{status_of, IsSettled}
-use Rattle.jls_picture.specs.Picture.{WholePicture, line_of, settled_line}
-use Rattle.jls_picture.specs.WholePictures.{IsComponentIn, IsPicture}
-use Rattle.jls_copy_law.proofs.CopyScans.{one_list_of_scans}
+use Rattle.jls_write.specs.Picture.{WholePicture, line_of, settled_line}
+use Rattle.jls_write.specs.WholePictures.{IsComponentIn, IsPicture}
+use Rattle.jls_copy_laws.proofs.CopyScans.{one_list_of_scans}
 use Rattle.jls_headline.specs.Damaged.{picture_reading}
 use Rattle.jls_headline.specs.ReadsAs.{GivesPicture}
 use Rattle.jls_headline.specs.HeadlineLaws.{FilesReadAsOne}

@@ -6,11 +6,11 @@ use Rattle.jls_partial.specs.Reading.{Reading, reading_of}
 use Rattle.jls_marker.specs.Scan.{Scan, IsScan, IsScanOf, first_row, row_count, intervals}
 use Rattle.jls_marker.proofs.Intervals.{part_the_lines}
 use Rattle.jls_copy.specs.Pieces.{placed}
-use Rattle.jls_picture.specs.Picture.{WholePicture, line_of}
-use Rattle.jls_file.specs.WrittenFile.{interval_lines}
-use Rattle.jls_file_law.specs.Covering.{row_readings, IsLineOf}
-use Rattle.jls_file_law.proofs.Covering.{rows_from, placed_rows}
-use Rattle.jls_copy_law.proofs.Members.{none_in, in_rest, first_or_rest, all_at, all_append}
+use Rattle.jls_write.specs.Picture.{WholePicture, line_of}
+use Rattle.jls_write.specs.WrittenFile.{interval_lines}
+use Rattle.jls_file_laws.specs.Covering.{row_readings, IsLineOf}
+use Rattle.jls_file_laws.proofs.Covering.{rows_from, placed_rows}
+use Rattle.jls_copy_laws.proofs.Members.{none_in, in_rest, first_or_rest, all_at, all_append}
 
 -- lines of interval k of a scan, from its first one on, as readings
 abbrev pub placed_in_interval : Scan → ℕ → List (List ℕ) → List Reading

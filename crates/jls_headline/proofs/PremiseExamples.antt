@@ -32,13 +32,13 @@ use Rattle.jls_marker.specs.Scan.{Scan}
 use Rattle.jls_copy.specs.CopyReads.{CopyReads}
 use Rattle.jls_copy.specs.IntervalOf.{interval_of}
 use Rattle.jls_copy.specs.ReadCopy.{ReadCopy}
-use Rattle.jls_picture.specs.Picture.{WholePicture, line_of, settled_line, picture_of}
+use Rattle.jls_write.specs.Picture.{WholePicture, line_of, settled_line, picture_of}
 use Rattle.jls_headline.specs.Damaged.{HasPictureLines, picture_reading}
 use Rattle.jls_headline.specs.Stations.{HoldsExactly}
 use Rattle.jls_headline.specs.Sources.{sourced_copy}
 use Rattle.jls_headline.specs.Collected.{Collected, new_station, reader_finished, partial_ran_out, CollectedFrom}
 use Rattle.jls_headline.specs.ReadsAs.{GivesPicture, ReadsAs}
-use Rattle.jls_copy_law.proofs.Members.{none_in}
+use Rattle.jls_copy_laws.proofs.Members.{none_in}
 use Rattle.jls_headline.proofs.CopyGives.{copy_gives}
 use Rattle.jls_headline.proofs.LostIntervals.{surviving_lines_are_given}
 use Rattle.jls_headline.proofs.TwoLineCopies.{shape, bits_8, parameters_8, pic_and, pic, first, bytes_of_test, piece_of, first_data, first_scans}

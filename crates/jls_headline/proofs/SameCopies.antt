@@ -2,11 +2,11 @@
 use Rattle.std.proofs.Common.{ℕ, ◌<◌, List, ◌++◌, sym, subst, inl, inr}
 use Rattle.jls_values.specs.Shape.{PictureShape}
 use Rattle.jls_partial.specs.Reading.{Reading}
-use Rattle.jls_copy_law.specs.CopyScans.{HasScans}
-use Rattle.jls_copy_law.specs.Gives.{GivesReading}
+use Rattle.jls_copy_laws.specs.CopyScans.{HasScans}
+use Rattle.jls_copy_laws.specs.Gives.{GivesReading}
 use Rattle.jls_copy.proofs.FinalEnds.{final_ends_stay}
-use Rattle.jls_copy_law.proofs.CopyScans.{course_has_scans, scans_of_course, one_list_of_scans}
-use Rattle.jls_copy_law.proofs.Members.{all_append, all_front}
+use Rattle.jls_copy_laws.proofs.CopyScans.{course_has_scans, scans_of_course, one_list_of_scans}
+use Rattle.jls_copy_laws.proofs.Members.{all_append, all_front}
 use Rattle.jls_headline.specs.Stations.{ReadingsOf, HasShape, IsSameCopy, AreAmong}
 use Rattle.jls_headline.specs.HeadlineLaws.{BytesBehindTheEndChangeNothing}
 use Rattle.jls_headline.proofs.LostIntervals.{given_by_scan}

@@ -3,9 +3,9 @@ use Rattle.std.proofs.Common.{ℕ, zero, suc, List, [], ◌∷◌, ◌++◌, Som
 use Rattle.std.specs.List.{Contains}
 use Rattle.jls_copy.specs.Course.{IsCourse}
 use Rattle.jls_copy.proofs.FinalEnds.{final_ends_stay}
-use Rattle.jls_copy_law.specs.CopyScans.{HasScans}
-use Rattle.jls_copy_law.proofs.CopyScans.{course_has_scans}
-use Rattle.jls_commands.specs.Laws.{HaveSameMembers}
+use Rattle.jls_copy_laws.specs.CopyScans.{HasScans}
+use Rattle.jls_copy_laws.proofs.CopyScans.{course_has_scans}
+use Rattle.jls_salvage_run.specs.CommandLaws.{HaveSameMembers}
 use Rattle.jls_headline.specs.Stations.{IsSameCopy, AreAmong, SameCopies}
 use Rattle.jls_headline.specs.Sources.{SourcedCopy, IsSameUnder, SameCopiesUnder}
 use Rattle.jls_headline.specs.Sources.{sourced_copy}

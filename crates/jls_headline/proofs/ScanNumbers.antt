@@ -6,10 +6,10 @@ use Rattle.std.proofs.lemmas.Bool.Decides.{nat_tests}
 use Rattle.jls_marker.specs.Scan.{intervals}
 use Rattle.jls_copy.specs.Numbers.{PieceNumber, Interval, next_number, number_behind, given_last, RiseByEightAtMost, mark_before, numbers_behind}
 use Rattle.jls_copy.specs.Pieces.{value_of}
-use Rattle.jls_copy_law.specs.CopyScans.{ScanPiece, ScanWithData}
+use Rattle.jls_copy_laws.specs.CopyScans.{ScanPiece, ScanWithData}
 use Rattle.jls_headline.specs.Damaged.{AreNumbers, numbered_pieces}
 use Rattle.jls_headline.specs.LostIntervalLaws.{NumbersComeBack, NumberedPiecesGive}
-use Rattle.jls_copy_law.proofs.Members.{is_first, in_rest, none_in, first_or_rest}
+use Rattle.jls_copy_laws.proofs.Members.{is_first, in_rest, none_in, first_or_rest}
 
 given_back : (number next : ℕ) → number < next → next ≤ number + 8 → next_number number (mark_before next) ≡ next
 given_back number next above near = omega arith

@@ -9,9 +9,9 @@ use Rattle.jls_marker.proofs.HeaderSteps.{frame_stays, scans_begin, scans_are_in
 use Rattle.jls_marker.proofs.HeadersKept.{no_headers_kept}
 use Rattle.jls_copy.specs.ScanData.{fill_bytes}
 use Rattle.jls_copy.specs.Course.{CopyUnit, segment, scan, unit_bytes, IsUnit}
-use Rattle.jls_copy_law.specs.CopyScans.{AreCopyUnits, ScanWithData, scans_of_unit}
-use Rattle.jls_copy_law.proofs.CopyScans.{unit_of_copy, unit_keeps, unit_parts, scan_payload_bytes}
-use Rattle.jls_copy_law.proofs.Members.{all_back, all_append}
+use Rattle.jls_copy_laws.specs.CopyScans.{AreCopyUnits, ScanWithData, scans_of_unit}
+use Rattle.jls_copy_laws.proofs.CopyScans.{unit_of_copy, unit_keeps, unit_parts, scan_payload_bytes}
+use Rattle.jls_copy_laws.proofs.Members.{all_back, all_append}
 use Rattle.jls_headline.specs.ScanLaws.{IsScanUnder, ScansAreOfTheFrame}
 
 abbrev some_frame : PictureShape → Option PictureShape

@@ -11,14 +11,14 @@ use Rattle.jls_partial.specs.Partial.{PartialPicture, has_same_shape, union, rea
 use Rattle.jls_partial.specs.PartialLaws.{one_shape}
 use Rattle.jls_partial.specs.Status.{IsSettled}
 use Rattle.jls_partial.proofs.TextLaws.{one_text}
-use Rattle.jls_picture.specs.Picture.{WholePicture, line_of}
-use Rattle.jls_picture.specs.WholePictures.{IsPicture}
+use Rattle.jls_write.specs.Picture.{WholePicture, line_of}
+use Rattle.jls_write.specs.WholePictures.{IsPicture}
 use Rattle.jls_station.specs.Given.{Given, Gives, by_text, by_copy, GivesPartial}
 use Rattle.jls_station.specs.Texts.{is_text, IsTextOf}
 use Rattle.jls_station.specs.Reading.{AreBytes}
-use Rattle.jls_commands.specs.AllInputs.{partials, AreOfOneShape, IsUnionOf}
-use Rattle.jls_commands.specs.Laws.{input_bytes}
-use Rattle.jls_commands.proofs.InputBytes.{AreGiven, inputs_of_join, output_of_join}
+use Rattle.jls_salvage_run.specs.AllInputs.{partials, AreOfOneShape, IsUnionOf}
+use Rattle.jls_salvage_run.specs.CommandLaws.{input_bytes}
+use Rattle.jls_salvage_run.proofs.InputBytes.{AreGiven, inputs_of_join, output_of_join}
 use Rattle.jls_headline.specs.NoOtherLaws.{InputHasLine, SomeInputHasEachLine, SettledJoinsAreThePicture}
 use Rattle.jls_headline.specs.Damaged.{picture_reading, Survives}
 use Rattle.jls_headline.specs.ReadsAs.{GivesPicture}
@@ -28,7 +28,7 @@ use Rattle.jls_headline.proofs.Collected.{no_text}
 use Rattle.jls_headline.proofs.CollectedRuns.{given_holds, all_of_shape}
 use Rattle.jls_headline.proofs.JoinRuns.{scans_are_no_text, one_shape_of}
 use Rattle.jls_headline.proofs.LostIntervals.{surviving_lines_are_given}
-use Rattle.jls_copy_law.proofs.Members.{is_first, none_in}
+use Rattle.jls_copy_laws.proofs.Members.{is_first, none_in}
 use Rattle.jls_headline.proofs.Pictures.{gives_picture}
 use Rattle.jls_headline.proofs.StationPictures.{only_one}
 use Rattle.jls_headline.proofs.WrittenFiles.{files_read_as}

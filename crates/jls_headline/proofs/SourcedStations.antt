@@ -12,10 +12,10 @@ use Rattle.jls_partial.specs.Partial.{PartialPicture, union}
 use Rattle.jls_copy.specs.CopyReads.{CopyReads}
 use Rattle.jls_copy.specs.ReadCopy.{ReadCopy}
 use Rattle.jls_station.specs.Given.{marked}
-use Rattle.jls_copy_law.specs.Gives.{GivesReading}
+use Rattle.jls_copy_laws.specs.Gives.{GivesReading}
 use Rattle.jls_headline.specs.Stations.{IsSameCopy, AreAmong}
 use Rattle.jls_headline.specs.Sources.{SourcedCopy, copies_of, GivesUnder, HoldsExactlyUnder, IsSameUnder}
-use Rattle.jls_copy_law.proofs.Members.{in_map, of_map}
+use Rattle.jls_copy_laws.proofs.Members.{in_map, of_map}
 use Rattle.jls_headline.proofs.Held.{set_of_list_holds, set_holds_items}
 use Rattle.jls_headline.proofs.CopyGives.{copy_gives}
 use Rattle.jls_headline.proofs.SameCopies.{same_copy_gives}

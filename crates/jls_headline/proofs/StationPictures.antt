@@ -8,18 +8,18 @@ use Rattle.jls_partial.specs.Partial.{PartialPicture, readings_at}
 use Rattle.jls_partial.specs.Status.{status_of, IsSettled}
 use Rattle.jls_partial.specs.Text.{text}
 use Rattle.jls_partial.specs.declared.status.Status.TheVariants.{Settled}
-use Rattle.jls_picture.specs.Picture.{WholePicture, line_of, picture_of}
-use Rattle.jls_picture.specs.Pnm.{pnm}
-use Rattle.jls_file.specs.WrittenFile.{written_file}
+use Rattle.jls_write.specs.Picture.{WholePicture, line_of, picture_of}
+use Rattle.jls_write.specs.Pnm.{pnm}
+use Rattle.jls_write.specs.WrittenFile.{written_file}
 use Rattle.jls_report.specs.Report.{report_of}
 use Rattle.jls_report.specs.ReportText.{report_text}
-use Rattle.jls_copy_law.proofs.CopyScans.{one_list_of_scans}
+use Rattle.jls_copy_laws.proofs.CopyScans.{one_list_of_scans}
 use Rattle.jls_headline.specs.Damaged.{Damaged, picture_reading, EachLineSurvives}
 use Rattle.jls_headline.specs.Stations.{HasShape, HoldsExactly}
-use Rattle.jls_picture.specs.WholePictures.{IsPicture}
+use Rattle.jls_write.specs.WholePictures.{IsPicture}
 use Rattle.jls_headline.specs.ReadsAs.{GivesPicture, FilesReadAs}
 use Rattle.jls_headline.specs.HeadlineLaws.{SameReadingsSayTheSame}
-use Rattle.jls_copy_law.proofs.Members.{all_at}
+use Rattle.jls_copy_laws.proofs.Members.{all_at}
 use Rattle.jls_headline.proofs.LostIntervals.{damaged_copies_give_no_other, surviving_lines_are_given}
 use Rattle.jls_headline.proofs.Held.{one_reading, is_at_line}
 use Rattle.jls_headline.proofs.Pictures.{gives_picture}

@@ -11,7 +11,7 @@ use Rattle.jls_partial.specs.ReadingOrder.{reading_total, reading_exact}
 use Rattle.jls_partial.specs.Partial.{PartialPicture, union}
 use Rattle.jls_copy.specs.CopyReads.{CopyReads}
 use Rattle.jls_copy.specs.ReadCopy.{ReadCopy}
-use Rattle.jls_copy_law.specs.Gives.{GivesReading}
+use Rattle.jls_copy_laws.specs.Gives.{GivesReading}
 use Rattle.jls_headline.specs.Stations.{HasShape, HoldsExactly, AreAmong, IsSameCopy}
 use Rattle.jls_headline.proofs.CopyGives.{copy_gives, copy_has_shape}
 use Rattle.jls_headline.proofs.SameCopies.{among_gives}

@@ -11,10 +11,10 @@ use Rattle.jls_marker.specs.Scan.{Scan}
 use Rattle.jls_copy.specs.ScanData.{ClosedPiece}
 use Rattle.jls_copy.specs.Course.{by_marker, CopyUnit, segment, scan, Course, IsCourse, with_soi, at_eoi, for_good}
 use Rattle.jls_copy.specs.declared.end.End.TheVariants.{Eoi}
-use Rattle.jls_picture.specs.Picture.{WholePicture}
-use Rattle.jls_copy_law.specs.CopyScans.{ScanWithData, HasScans}
-use Rattle.jls_copy_law.specs.Gives.{GivesReading}
-use Rattle.jls_copy_law.proofs.CopyScans.{course_has_scans}
+use Rattle.jls_write.specs.Picture.{WholePicture}
+use Rattle.jls_copy_laws.specs.CopyScans.{ScanWithData, HasScans}
+use Rattle.jls_copy_laws.specs.Gives.{GivesReading}
+use Rattle.jls_copy_laws.proofs.CopyScans.{course_has_scans}
 use Rattle.jls_headline.specs.Damaged.{AreNumbers, Damaged, Survives}
 use Rattle.jls_headline.specs.Trimmed.{whole, TrimmedCopy}
 use Rattle.jls_headline.proofs.LostIntervals.{damaged_copies_give_no_other}

@@ -6,12 +6,12 @@ use Rattle.std.proofs.lemmas.Bool.{cases_eq, cases_Bool, eqb-true, eq-eqb}
 use Rattle.jls_partial.specs.Reading.{Reading, reading_of}
 use Rattle.jls_marker.specs.Scan.{Scan, first_row, row_count, HasRow}
 use Rattle.jls_copy.specs.Pieces.{placed}
-use Rattle.jls_picture.specs.Picture.{WholePicture}
-use Rattle.jls_file.specs.WrittenFile.{interval_lines}
-use Rattle.jls_file_law.specs.Covering.{IsLineOf}
-use Rattle.jls_copy_law.specs.CopyScans.{ScanPiece, ScanWithData}
-use Rattle.jls_copy_law.specs.Gives.{GivesLines, PieceGives}
-use Rattle.jls_copy_law.proofs.Members.{none_in, first_or_rest, all_at, all_from}
+use Rattle.jls_write.specs.Picture.{WholePicture}
+use Rattle.jls_write.specs.WrittenFile.{interval_lines}
+use Rattle.jls_file_laws.specs.Covering.{IsLineOf}
+use Rattle.jls_copy_laws.specs.CopyScans.{ScanPiece, ScanWithData}
+use Rattle.jls_copy_laws.specs.Gives.{GivesLines, PieceGives}
+use Rattle.jls_copy_laws.proofs.Members.{none_in, first_or_rest, all_at, all_from}
 use Rattle.jls_headline.specs.Damaged.{numbered_pieces}
 use Rattle.jls_headline.specs.ScanLaws.{IsScanUnder}
 use Rattle.jls_headline.specs.LineLaws.{HasPictureLine, DamagedScanAt, TrimmedScanAt, TrimmedAtIsDamagedAt}

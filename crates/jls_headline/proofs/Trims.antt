@@ -16,10 +16,10 @@ use Rattle.jls_interval.proofs.PiecesReadOnce.{reads_once}
 use Rattle.jls_interval.proofs.HeadLines.{front_lines, code_parts}
 use Rattle.jls_interval.proofs.StepwiseCodes.{one_begins}
 use Rattle.jls_marker.specs.Scan.{row_count}
-use Rattle.jls_picture.specs.Picture.{WholePicture}
-use Rattle.jls_file.specs.WrittenFile.{interval_lines}
-use Rattle.jls_copy_law.specs.CopyScans.{ScanPiece, ScanWithData}
-use Rattle.jls_copy_law.proofs.Members.{all_map}
+use Rattle.jls_write.specs.Picture.{WholePicture}
+use Rattle.jls_write.specs.WrittenFile.{interval_lines}
+use Rattle.jls_copy_laws.specs.CopyScans.{ScanPiece, ScanWithData}
+use Rattle.jls_copy_laws.proofs.Members.{all_map}
 use Rattle.jls_headline.specs.Damaged.{numbered_pieces, HasPictureLines, DamagedScan}
 use Rattle.jls_headline.specs.Trimmed.{Trimmed, whole, front, longer, IsTrimmed, TrimmedScan}
 use Rattle.jls_headline.specs.ScanLaws.{IsScanUnder}

@@ -26,10 +26,10 @@ use Rattle.jls_marker.specs.Scan.{Scan}
 use Rattle.jls_copy.specs.ScanData.{ClosedPiece}
 use Rattle.jls_copy.specs.Course.{by_marker, CopyUnit, segment, scan, Course, IsCourse, with_soi, at_eoi, for_good}
 use Rattle.jls_copy.specs.declared.end.End.TheVariants.{Eoi}
-use Rattle.jls_picture.specs.Picture.{WholePicture}
-use Rattle.jls_copy_law.specs.CopyScans.{ScanPiece, ScanWithData, HasScans}
-use Rattle.jls_copy_law.proofs.CopyScans.{course_has_scans}
-use Rattle.jls_picture.specs.WholePictures.{IsPicture}
+use Rattle.jls_write.specs.Picture.{WholePicture}
+use Rattle.jls_copy_laws.specs.CopyScans.{ScanPiece, ScanWithData, HasScans}
+use Rattle.jls_copy_laws.proofs.CopyScans.{course_has_scans}
+use Rattle.jls_write.specs.WholePictures.{IsPicture}
 
 -- The picture ----------------------------------------------------------------------------------------------------
 

@@ -10,13 +10,13 @@ use Rattle.jls_copy.specs.Numbers.{PieceNumber, Interval, mark_before, numbers_b
 use Rattle.jls_copy.specs.Pieces.{placed, value_of}
 use Rattle.jls_copy.specs.CopyReads.{CopyReads}
 use Rattle.jls_copy.specs.ReadCopy.{ReadCopy}
-use Rattle.jls_file_law.specs.Covering.{IsLineOf}
-use Rattle.jls_copy_law.specs.CopyScans.{ScanPiece, ScanWithData, HasScans}
-use Rattle.jls_copy_law.specs.Gives.{PieceGives, ScanGives, GivesReading}
-use Rattle.jls_copy_law.proofs.CopyScans.{one_list_of_scans}
+use Rattle.jls_file_laws.specs.Covering.{IsLineOf}
+use Rattle.jls_copy_laws.specs.CopyScans.{ScanPiece, ScanWithData, HasScans}
+use Rattle.jls_copy_laws.specs.Gives.{PieceGives, ScanGives, GivesReading}
+use Rattle.jls_copy_laws.proofs.CopyScans.{one_list_of_scans}
 use Rattle.jls_headline.specs.Damaged.{Damaged, picture_reading, Survives, EachLineSurvives}
 use Rattle.jls_headline.specs.Trimmed.{whole, front, TrimmedCopy}
-use Rattle.jls_copy_law.proofs.Members.{none_in, first_or_rest}
+use Rattle.jls_copy_laws.proofs.Members.{none_in, first_or_rest}
 use Rattle.jls_headline.proofs.CopyGives.{copy_has_shape}
 use Rattle.jls_headline.proofs.LostIntervals.{given_by_scan, surviving_lines_are_given}
 use Rattle.jls_headline.proofs.Trims.{trimmed_copies_are_damaged}

@@ -5,7 +5,7 @@ use Rattle.std.specs.List.{Contains}
 use Rattle.std.proofs.lemmas.List.Elements.{Contains-append_left, Contains-append_right, Contains-append_cases}
 use Rattle.jls_values.specs.Join.{IsBetween}
 use Rattle.jls_partial.specs.Partial.{PartialPicture, union}
-use Rattle.jls_copy_law.proofs.Members.{is_first, first_or_rest, none_in}
+use Rattle.jls_copy_laws.proofs.Members.{is_first, first_or_rest, none_in}
 use Rattle.jls_headline.proofs.Held.{either, or_first, or_second}
 
 -- copies give items of this kind, and this tells which of them a partial picture holds; a union holds those of both

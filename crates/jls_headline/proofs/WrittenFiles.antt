@@ -7,20 +7,20 @@ use Rattle.jls_values.specs.Shape.{PictureShape}
 use Rattle.jls_partial.specs.Reading.{Reading}
 use Rattle.jls_partial.specs.Partial.{PartialPicture}
 use Rattle.jls_copy.specs.Pieces.{FoundPiece, PieceOutcome, Lines, pieces, AreOutcomes, readings_of, readings}
-use Rattle.jls_picture.specs.Picture.{WholePicture, line_of, picture_of}
-use Rattle.jls_file.specs.WrittenFile.{written_file}
-use Rattle.jls_file_law.specs.Covering.{AreThePicture}
-use Rattle.jls_file_law.specs.FileLaw.{IsWritable, ReadsBack}
-use Rattle.jls_file_law.proofs.Covering.{contains_the_picture}
-use Rattle.jls_file_law.proofs.FileRead.{file_law}
-use Rattle.jls_file_law.proofs.WrittenBytes.{written_bytes}
-use Rattle.jls_copy_law.specs.CourseGives.{FoundPieceGives, CourseGives}
-use Rattle.jls_copy_law.specs.Gives.{GivesReading}
-use Rattle.jls_copy_law.proofs.CopyScans.{course_has_scans}
-use Rattle.jls_copy_law.proofs.Gives.{readings_are_of_the_course}
-use Rattle.jls_picture.specs.WholePictures.{IsLineIn, IsComponentIn, IsPicture, IsWholePicture}
+use Rattle.jls_write.specs.Picture.{WholePicture, line_of, picture_of}
+use Rattle.jls_write.specs.WrittenFile.{written_file}
+use Rattle.jls_file_laws.specs.Covering.{AreThePicture}
+use Rattle.jls_file_laws.specs.FileLaw.{IsWritable, ReadsBack}
+use Rattle.jls_file_laws.proofs.Covering.{contains_the_picture}
+use Rattle.jls_file_laws.proofs.FileRead.{file_law}
+use Rattle.jls_file_laws.proofs.WrittenBytes.{written_bytes}
+use Rattle.jls_copy_laws.specs.CourseGives.{FoundPieceGives, CourseGives}
+use Rattle.jls_copy_laws.specs.Gives.{GivesReading}
+use Rattle.jls_copy_laws.proofs.CopyScans.{course_has_scans}
+use Rattle.jls_copy_laws.proofs.Gives.{readings_are_of_the_course}
+use Rattle.jls_write.specs.WholePictures.{IsLineIn, IsComponentIn, IsPicture, IsWholePicture}
 use Rattle.jls_headline.specs.ReadsAs.{ReadsAs, ReadsAsOnly, FilesReadBack, FilesReadAs}
-use Rattle.jls_copy_law.proofs.Members.{none_in, first_or_rest}
+use Rattle.jls_copy_laws.proofs.Members.{none_in, first_or_rest}
 use Rattle.jls_headline.proofs.CopyGives.{listed}
 use Rattle.jls_headline.proofs.Pictures.{heights, files_read_as_one}
 

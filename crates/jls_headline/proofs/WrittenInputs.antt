@@ -1,17 +1,17 @@
 -- What comes of a `write` whose input has each line of a picture.
 use Rattle.std.proofs.Common.{◌≡◌, ℕ, List, [], ◌∷◌, None, refl, ap, ◌∙◌, subst, inl, inr}
 use Rattle.std.specs.List.{Contains}
-use Rattle.jls_device.specs.Event.{Event}
-use Rattle.jls_picture.specs.Picture.{WholePicture, picture_of}
-use Rattle.jls_picture.specs.WholePictures.{IsPicture}
-use Rattle.jls_commands.specs.Laws.{input_bytes}
-use Rattle.jls_commands.specs.Outcomes.{finished}
-use Rattle.jls_commands.specs.WritingFiles.{file}
-use Rattle.jls_commands.specs.declared.writing.Format.{Format}
-use Rattle.jls_commands.specs.declared.writing.Format.TheVariants.{Jls}
+use Rattle.jls_io.specs.Event.{Event}
+use Rattle.jls_write.specs.Picture.{WholePicture, picture_of}
+use Rattle.jls_write.specs.WholePictures.{IsPicture}
+use Rattle.jls_salvage_run.specs.CommandLaws.{input_bytes}
+use Rattle.jls_salvage_run.specs.Outcomes.{finished}
+use Rattle.jls_salvage_run.specs.WritingFiles.{file}
+use Rattle.jls_salvage_run.specs.declared.writing.Format.{Format}
+use Rattle.jls_salvage_run.specs.declared.writing.Format.TheVariants.{Jls}
 use Rattle.jls_headline.specs.NoOtherLaws.{SomeInputHasEachLine, WrittenInputsAreThePicture, WrittenInputsReadAsThePicture}
 use Rattle.jls_headline.proofs.JoinThenWrite.{DidWrite, did_write, read_as_the_picture}
-use Rattle.jls_copy_law.proofs.Members.{none_in, first_or_rest}
+use Rattle.jls_copy_laws.proofs.Members.{none_in, first_or_rest}
 use Rattle.jls_headline.proofs.SettledInputs.{IsJoined, settled_is_the_picture}
 
 -- what was written is the picture

@@ -10,7 +10,7 @@ use Rattle.jls_partial.specs.Reading.{Reading, reading_of, reading_cmp}
 use Rattle.jls_partial.specs.Partial.{PartialPicture, nothing_known, has_same_shape, union}
 use Rattle.jls_copy.specs.CopyReads.{CopyReads}
 use Rattle.jls_copy.specs.ReadCopy.{ReadCopy}
-use Rattle.jls_copy_law.proofs.Members.{is_first, none_in}
+use Rattle.jls_copy_laws.proofs.Members.{is_first, none_in}
 use Rattle.jls_station.specs.Given.{marked}
 use Rattle.jls_headline.specs.Damaged.{picture_reading}
 use Rattle.jls_headline.specs.ReadsAs.{ReadsAs}

@@ -11,7 +11,7 @@ use Rattle.jls_partial.specs.Merging.{TakesFront}
 use Rattle.jls_partial.specs.Text.{IsTextOf}
 use Rattle.jls_partial.specs.TextFront.{text_front}
 use Rattle.jls_partial.specs.TextMerging.{MergesText}
-use Rattle.jls_device.specs.Event.{Event, bytes_given}
+use Rattle.jls_io.specs.Event.{Event, bytes_given}
 use Rattle.jls_copy.specs.CopyReads.{CopyReads}
 use Rattle.jls_copy.specs.ReadCopy.{ReadCopy}
 use Rattle.jls_station.specs.Given.{CopyReport, Given, marked}

@@ -6,10 +6,10 @@ use Rattle.std.specs.List.{AllByRecursion, Contains, zip}
 use Rattle.jls_partial.specs.Reading.{Reading, reading_of}
 use Rattle.jls_marker.specs.Scan.{Scan, intervals}
 use Rattle.jls_copy.specs.Numbers.{RiseByEightAtMost, mark_before}
-use Rattle.jls_picture.specs.Picture.{WholePicture, line_of}
-use Rattle.jls_file.specs.WrittenFile.{interval_lines}
-use Rattle.jls_copy_law.specs.CopyScans.{ScanPiece, ScanWithData, HasScans}
-use Rattle.jls_copy_law.specs.Gives.{GivesLines, PieceGives}
+use Rattle.jls_write.specs.Picture.{WholePicture, line_of}
+use Rattle.jls_write.specs.WrittenFile.{interval_lines}
+use Rattle.jls_copy_laws.specs.CopyScans.{ScanPiece, ScanWithData, HasScans}
+use Rattle.jls_copy_laws.specs.Gives.{GivesLines, PieceGives}
 
 -- These are the numbers of the pieces after the first: each is one to eight above the one before, and is that of an interval. The restart
 -- markers are those before these intervals

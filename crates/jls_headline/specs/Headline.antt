@@ -4,16 +4,16 @@ use Rattle.std.specs.List.{AllByRecursion}
 use Rattle.jls_values.specs.Params.{AreCodingParameters}
 use Rattle.jls_partial.specs.Partial.{PartialPicture, readings_at}
 use Rattle.jls_partial.specs.Text.{text}
-use Rattle.jls_device.specs.Event.{History, GrewBy}
-use Rattle.jls_device.specs.Writing.{Wrote}
-use Rattle.jls_picture.specs.Picture.{WholePicture, line_of, picture_of}
-use Rattle.jls_picture.specs.WholePictures.{IsPicture}
-use Rattle.jls_picture.specs.Options.{WriteOptions, OptionsFit}
-use Rattle.jls_picture.specs.Outcomes.{HandedOut}
-use Rattle.jls_picture.specs.Pnm.{pnm}
-use Rattle.jls_picture.specs.Unsettled.{NamesFirstUnsettled}
-use Rattle.jls_picture.specs.declared.picture.PictureFault.{PictureFault}
-use Rattle.jls_file.specs.WrittenFile.{written_file}
+use Rattle.jls_io.specs.Event.{History, GrewBy}
+use Rattle.jls_io.specs.Writing.{Wrote}
+use Rattle.jls_write.specs.Picture.{WholePicture, line_of, picture_of}
+use Rattle.jls_write.specs.WholePictures.{IsPicture}
+use Rattle.jls_write.specs.Options.{WriteOptions, OptionsFit}
+use Rattle.jls_write.specs.Outcomes.{HandedOut}
+use Rattle.jls_write.specs.Pnm.{pnm}
+use Rattle.jls_write.specs.Unsettled.{NamesFirstUnsettled}
+use Rattle.jls_write.specs.declared.picture.PictureFault.{PictureFault}
+use Rattle.jls_write.specs.WrittenFile.{written_file}
 use Rattle.jls_report.specs.Report.{PictureReport, report_of}
 use Rattle.jls_report.specs.ReportText.{report_text}
 use Rattle.jls_headline.specs.Damaged.{Damaged, EachLineSurvives}

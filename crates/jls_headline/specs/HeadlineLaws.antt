@@ -5,16 +5,16 @@ use Rattle.jls_values.specs.Shape.{PictureShape}
 use Rattle.jls_partial.specs.Partial.{PartialPicture}
 use Rattle.jls_partial.specs.Text.{text}
 use Rattle.jls_copy.specs.CopyReads.{IsDone}
-use Rattle.jls_picture.specs.Picture.{WholePicture, picture_of}
-use Rattle.jls_picture.specs.Options.{WriteOptions}
-use Rattle.jls_picture.specs.Pnm.{pnm}
-use Rattle.jls_file.specs.WrittenFile.{written_file}
+use Rattle.jls_write.specs.Picture.{WholePicture, picture_of}
+use Rattle.jls_write.specs.Options.{WriteOptions}
+use Rattle.jls_write.specs.Pnm.{pnm}
+use Rattle.jls_write.specs.WrittenFile.{written_file}
 use Rattle.jls_report.specs.Report.{report_of}
 use Rattle.jls_report.specs.ReportText.{report_text}
 use Rattle.jls_headline.specs.Stations.{HasShape, IsSameCopy, SameCopies}
 use Rattle.jls_headline.specs.Sources.{SourcedCopy, copies_of, SameCopiesUnder}
 use Rattle.jls_headline.specs.Collected.{CollectedFrom, CollectedUnder}
-use Rattle.jls_picture.specs.WholePictures.{IsPicture}
+use Rattle.jls_write.specs.WholePictures.{IsPicture}
 use Rattle.jls_headline.specs.ReadsAs.{ReadsAs}
 
 -- Bytes behind the end of a copy change nothing: copies that differ there alone are one copy

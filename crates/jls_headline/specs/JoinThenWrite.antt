@@ -3,17 +3,17 @@ use Rattle.std.specs.Borrow.{Bor}
 use Rattle.std.specs.Prelude.{Err, ◌≡◌, ℕ, ◌<◌, ◌^◌, Bool, List, [], ◌∷◌, Option, Some}
 use Rattle.std.specs.List.{AllByRecursion}
 use Rattle.jls_partial.specs.Partial.{PartialPicture}
-use Rattle.jls_device.specs.Event.{Event}
-use Rattle.jls_picture.specs.Picture.{WholePicture}
-use Rattle.jls_commands.specs.Joining.{JoinIsDone}
-use Rattle.jls_commands.specs.Laws.{input_bytes, output_bytes}
-use Rattle.jls_commands.specs.Outcomes.{Outcome, finished}
-use Rattle.jls_commands.specs.declared.outcome.Refusal.TheVariants.{Unsettled}
-use Rattle.jls_commands.specs.WritingFiles.{file, WritesFile}
-use Rattle.jls_commands.specs.declared.writing.Format.{Format}
-use Rattle.jls_commands.specs.declared.writing.Format.TheVariants.{Jls}
+use Rattle.jls_io.specs.Event.{Event}
+use Rattle.jls_write.specs.Picture.{WholePicture}
+use Rattle.jls_salvage_run.specs.Joining.{JoinIsDone}
+use Rattle.jls_salvage_run.specs.CommandLaws.{input_bytes, output_bytes}
+use Rattle.jls_salvage_run.specs.Outcomes.{Outcome, finished}
+use Rattle.jls_salvage_run.specs.declared.outcome.Refusal.TheVariants.{Unsettled}
+use Rattle.jls_salvage_run.specs.WritingFiles.{file, WritesFile}
+use Rattle.jls_salvage_run.specs.declared.writing.Format.{Format}
+use Rattle.jls_salvage_run.specs.declared.writing.Format.TheVariants.{Jls}
 use Rattle.jls_headline.specs.Damaged.{Damaged, EachLineSurvives}
-use Rattle.jls_picture.specs.WholePictures.{IsPicture}
+use Rattle.jls_write.specs.WholePictures.{IsPicture}
 use Rattle.jls_headline.specs.ReadsAs.{ReadsAsOnly}
 use Rattle.jls_headline.specs.RunLaws.{InputsStandFor}
 use Rattle.jls_headline.specs.Sources.{SourcedCopy, copies_of}

@@ -6,15 +6,15 @@ use Rattle.jls_partial.specs.Partial.{PartialPicture, readings_at}
 use Rattle.jls_partial.specs.Status.{status_of, IsSettled}
 use Rattle.jls_partial.specs.declared.status.Status.TheVariants.{Settled}
 use Rattle.jls_marker.specs.Scan.{Scan, HasRow}
-use Rattle.jls_device.specs.Event.{Event}
-use Rattle.jls_picture.specs.Picture.{WholePicture, line_of, picture_of}
-use Rattle.jls_picture.specs.WholePictures.{IsPicture}
+use Rattle.jls_io.specs.Event.{Event}
+use Rattle.jls_write.specs.Picture.{WholePicture, line_of, picture_of}
+use Rattle.jls_write.specs.WholePictures.{IsPicture}
 use Rattle.jls_report.specs.Report.{PictureReport, report_of}
 use Rattle.jls_report.specs.Ranges.{speaks_of}
-use Rattle.jls_commands.specs.Joining.{JoinIsDone}
-use Rattle.jls_commands.specs.Laws.{input_bytes}
-use Rattle.jls_copy_law.specs.CopyScans.{ScanPiece, ScanWithData, HasScans}
-use Rattle.jls_copy_law.specs.Gives.{PieceGives, GivesReading}
+use Rattle.jls_salvage_run.specs.Joining.{JoinIsDone}
+use Rattle.jls_salvage_run.specs.CommandLaws.{input_bytes}
+use Rattle.jls_copy_laws.specs.CopyScans.{ScanPiece, ScanWithData, HasScans}
+use Rattle.jls_copy_laws.specs.Gives.{PieceGives, GivesReading}
 use Rattle.jls_headline.specs.Damaged.{AreNumbers, numbered_pieces, picture_reading, Damaged, Survives, EachLineSurvives}
 use Rattle.jls_headline.specs.Sources.{SourcedCopy, copies_of}
 use Rattle.jls_headline.specs.Trimmed.{IsTrimmed}

@@ -8,11 +8,11 @@ use Rattle.jls_partial.specs.Reading.{Reading}
 use Rattle.jls_marker.specs.Scan.{Scan, IsScan, intervals}
 use Rattle.jls_copy.specs.IntervalOf.{interval_of}
 use Rattle.jls_copy.specs.Numbers.{Interval, numbers_behind}
-use Rattle.jls_picture.specs.Picture.{WholePicture}
-use Rattle.jls_file.specs.WrittenFile.{interval_lines}
-use Rattle.jls_file_law.specs.Covering.{IsLineOf}
-use Rattle.jls_copy_law.specs.CopyScans.{ScanPiece, ScanWithData, HasScans}
-use Rattle.jls_copy_law.specs.Gives.{PieceGives, ScanGives, GivesReading}
+use Rattle.jls_write.specs.Picture.{WholePicture}
+use Rattle.jls_write.specs.WrittenFile.{interval_lines}
+use Rattle.jls_file_laws.specs.Covering.{IsLineOf}
+use Rattle.jls_copy_laws.specs.CopyScans.{ScanPiece, ScanWithData, HasScans}
+use Rattle.jls_copy_laws.specs.Gives.{PieceGives, ScanGives, GivesReading}
 use Rattle.jls_headline.specs.Damaged.{AreNumbers, numbered_pieces, HasPictureLines, DamagedScan, Damaged, SurvivesInScan, picture_reading, Survives}
 use Rattle.jls_headline.specs.Trimmed.{IsTrimmed, LacksABit, TrimmedCopy}
 

@@ -4,16 +4,16 @@ use Rattle.std.specs.List.{Contains}
 use Rattle.jls_values.specs.OrderedSet as set
 use Rattle.jls_partial.specs.Partial.{PartialPicture}
 use Rattle.jls_partial.specs.Text.{text}
-use Rattle.jls_device.specs.Event.{Event}
-use Rattle.jls_picture.specs.Picture.{WholePicture}
-use Rattle.jls_picture.specs.WholePictures.{IsPicture}
+use Rattle.jls_io.specs.Event.{Event}
+use Rattle.jls_write.specs.Picture.{WholePicture}
+use Rattle.jls_write.specs.WholePictures.{IsPicture}
 use Rattle.jls_station.specs.Texts.{IsTextOf}
-use Rattle.jls_commands.specs.Joining.{JoinIsDone}
-use Rattle.jls_commands.specs.Laws.{input_bytes, output_bytes}
-use Rattle.jls_commands.specs.Outcomes.{finished}
-use Rattle.jls_commands.specs.WritingFiles.{file, WritesFile}
-use Rattle.jls_commands.specs.declared.writing.Format.{Format}
-use Rattle.jls_commands.specs.declared.writing.Format.TheVariants.{Jls}
+use Rattle.jls_salvage_run.specs.Joining.{JoinIsDone}
+use Rattle.jls_salvage_run.specs.CommandLaws.{input_bytes, output_bytes}
+use Rattle.jls_salvage_run.specs.Outcomes.{finished}
+use Rattle.jls_salvage_run.specs.WritingFiles.{file, WritesFile}
+use Rattle.jls_salvage_run.specs.declared.writing.Format.{Format}
+use Rattle.jls_salvage_run.specs.declared.writing.Format.TheVariants.{Jls}
 use Rattle.jls_headline.specs.Damaged.{picture_reading, Survives}
 use Rattle.jls_headline.specs.ReadsAs.{GivesPicture, FilesReadAs, ReadsAsOnly}
 

@@ -4,12 +4,12 @@ use Rattle.jls_values.specs.Params.{AreCodingParameters}
 use Rattle.jls_partial.specs.Reading.{Reading}
 use Rattle.jls_partial.specs.Partial.{PartialPicture}
 use Rattle.jls_partial.specs.Status.{IsSettled}
-use Rattle.jls_picture.specs.Picture.{WholePicture, picture_of}
-use Rattle.jls_picture.specs.WholePictures.{IsPicture}
-use Rattle.jls_picture.specs.Options.{WriteOptions, OptionsFit}
-use Rattle.jls_file.specs.WrittenFile.{written_file}
-use Rattle.jls_file_law.specs.Covering.{IsLineOf}
-use Rattle.jls_copy_law.specs.Gives.{GivesReading}
+use Rattle.jls_write.specs.Picture.{WholePicture, picture_of}
+use Rattle.jls_write.specs.WholePictures.{IsPicture}
+use Rattle.jls_write.specs.Options.{WriteOptions, OptionsFit}
+use Rattle.jls_write.specs.WrittenFile.{written_file}
+use Rattle.jls_file_laws.specs.Covering.{IsLineOf}
+use Rattle.jls_copy_laws.specs.Gives.{GivesReading}
 use Rattle.jls_headline.specs.Stations.{HasShape}
 
 -- each line of the station has exactly one reading, and together these readings are the picture

@@ -3,14 +3,14 @@ use Rattle.std.specs.Prelude.{◌≡◌, ℕ, Bool, false, List, [], ◌∷◌, 
 use Rattle.std.specs.List.{AllByRecursion}
 use Rattle.jls_partial.specs.Partial.{PartialPicture}
 use Rattle.jls_partial.specs.Text.{text}
-use Rattle.jls_device.specs.Event.{Event}
-use Rattle.jls_picture.specs.Picture.{WholePicture}
+use Rattle.jls_io.specs.Event.{Event}
+use Rattle.jls_write.specs.Picture.{WholePicture}
 use Rattle.jls_station.specs.Texts.{is_text, IsTextOf}
-use Rattle.jls_commands.specs.Joining.{JoinIsDone}
-use Rattle.jls_commands.specs.Laws.{input_bytes, output_bytes}
+use Rattle.jls_salvage_run.specs.Joining.{JoinIsDone}
+use Rattle.jls_salvage_run.specs.CommandLaws.{input_bytes, output_bytes}
 use Rattle.jls_headline.specs.Damaged.{Damaged, EachLineSurvives}
 use Rattle.jls_headline.specs.Stations.{HoldsExactly, SameCopies}
-use Rattle.jls_picture.specs.WholePictures.{IsPicture}
+use Rattle.jls_write.specs.WholePictures.{IsPicture}
 use Rattle.jls_headline.specs.ReadsAs.{GivesPicture, FilesReadAs}
 use Rattle.jls_headline.specs.HeadlineLaws.{SayTheSame}
 use Rattle.jls_headline.specs.Sources.{SourcedCopy, sourced_copy, copies_of, HoldsExactlyUnder, SameCopiesUnder}

@@ -3,7 +3,7 @@ use Rattle.std.specs.Prelude.{ℕ, List}
 use Rattle.std.specs.List.{AllByRecursion}
 use Rattle.jls_values.specs.Shape.{PictureShape, IsShape}
 use Rattle.jls_marker.specs.Scan.{Scan, IsScan, IsScanOf}
-use Rattle.jls_copy_law.specs.CopyScans.{ScanWithData, HasScans}
+use Rattle.jls_copy_laws.specs.CopyScans.{ScanWithData, HasScans}
 
 -- a scan is in its ranges, and is one of this frame
 abbrev pub IsScanUnder : PictureShape → Scan → Type 0

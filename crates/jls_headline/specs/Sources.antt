@@ -4,7 +4,7 @@ use Rattle.std.specs.List.{Contains}
 use Rattle.jls_values.specs.OrderedSet as set
 use Rattle.jls_partial.specs.Reading.{Reading}
 use Rattle.jls_partial.specs.Partial.{PartialPicture}
-use Rattle.jls_copy_law.specs.Gives.{GivesReading}
+use Rattle.jls_copy_laws.specs.Gives.{GivesReading}
 use Rattle.jls_headline.specs.Stations.{HoldsExactly, AreSame, IsSameCopy}
 
 -- a copy, and the source that it was read under, where there is one

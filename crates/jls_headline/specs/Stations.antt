@@ -5,8 +5,8 @@ use Rattle.jls_values.specs.OrderedSet as set
 use Rattle.jls_values.specs.Shape.{PictureShape}
 use Rattle.jls_partial.specs.Reading.{Reading}
 use Rattle.jls_partial.specs.Partial.{PartialPicture}
-use Rattle.jls_copy_law.specs.CopyScans.{ScanWithData, HasScans}
-use Rattle.jls_copy_law.specs.Gives.{GivesReading}
+use Rattle.jls_copy_laws.specs.CopyScans.{ScanWithData, HasScans}
+use Rattle.jls_copy_laws.specs.Gives.{GivesReading}
 
 -- Exactly the readings of copies -------------------------------------------------------------------------------
 

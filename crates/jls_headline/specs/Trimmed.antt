@@ -6,9 +6,9 @@ use Rattle.jls_interval.specs.Code.{code}
 use Rattle.jls_interval.specs.Reads.{Reads}
 use Rattle.jls_marker.specs.Scan.{Scan}
 use Rattle.jls_copy.specs.IntervalOf.{interval_of}
-use Rattle.jls_picture.specs.Picture.{WholePicture}
-use Rattle.jls_file.specs.WrittenFile.{interval_lines}
-use Rattle.jls_copy_law.specs.CopyScans.{ScanPiece, ScanWithData, HasScans}
+use Rattle.jls_write.specs.Picture.{WholePicture}
+use Rattle.jls_write.specs.WrittenFile.{interval_lines}
+use Rattle.jls_copy_laws.specs.CopyScans.{ScanPiece, ScanWithData, HasScans}
 use Rattle.jls_headline.specs.Damaged.{AreNumbers, numbered_pieces}
 
 -- the whole of the bytes, so many of them from the front on, or all of them and at least one more

@@ -7,7 +7,7 @@ ghost use Rattle.jls_headline.specs.HeadlineLaws.{SameReadingsSayTheSame, SameCo
 ghost use Rattle.jls_headline.specs.HeadlineLaws.{FilesReadAsOne, SameSourcesSameText};
 ghost use Rattle.jls_headline.specs.ReadsAs.{FilesReadBack};
 
-use jls_picture::{Picture, pictures_are_whole};
+use jls_write::{Picture, pictures_are_whole};
 
 /// A law, the one that this product is trusted for. It speaks of stations for which public calls read copies (`Collected`).
 ///

@@ -4,7 +4,7 @@ use crate::choice::{Ending, Standing, begins_as_jpeg};
 use crate::machine::Machine;
 use crate::name::Name;
 use crate::output::Output;
-use jls_device::Open;
+use jls_io::Open;
 use std::fs::{File, OpenOptions};
 use std::io::{Read, Write};
 use std::os::fd::AsRawFd;

@@ -12,7 +12,7 @@
 //! Not proved:
 //!
 //! - What `HostFiles` and `Output` do with files. No contract says what file a name has after a call. `output.rt` shows that OUT is whole
-//!   or not at all. `jls_host_tests` and `interop/faults` test it.
+//!   or not at all. `jls_program_tests` and `interop/faults` test it.
 #![tactic(auto)]
 
 mod choice;

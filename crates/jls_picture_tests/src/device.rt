@@ -1,6 +1,6 @@
 //! Calls that succeed and calls that fail, counted.
 
-use jls_device::{Counted, Sink, SinkFault, Source, SourceFault, write_all};
+use jls_io::{Counted, Sink, SinkFault, Source, SourceFault, write_all};
 use std::io;
 use std::io::{Read, Write};
 use std::process::Abort;

@@ -2,10 +2,9 @@
 
 use crate::limited::Limited;
 use crate::lines::{Lines, settled};
-use jls_device::Counted;
-use jls_file::write_jls;
-use jls_picture::{Options, OutputFault, Picture};
+use jls_io::Counted;
 use jls_values::Params;
+use jls_write::{Options, OutputFault, Picture, write_jls};
 use std::alloc::Global;
 use std::process::Abort;
 use std::test::Fail;

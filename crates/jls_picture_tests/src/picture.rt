@@ -2,10 +2,10 @@
 
 use crate::limited::Limited;
 use crate::lines::{Lines, settled};
-use jls_device::Counted;
+use jls_io::Counted;
 use jls_partial::Partial;
-use jls_picture::{Options, OutputFault, Picture, PictureFault, write_pnm};
 use jls_values::{Params, Shape};
+use jls_write::{Options, OutputFault, Picture, PictureFault, write_pnm};
 use std::alloc::Global;
 use std::process::Abort;
 use std::test::Fail;

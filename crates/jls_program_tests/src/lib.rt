@@ -1,7 +1,9 @@
-//! Tests of the crates of the station, of command lines and of the program. They stand apart, so that those crates are proved once,
-//! without them.
+//! Tests of the station, of command lines, of the run of `jls-salvage`, and of the machine's files. They stand apart, so that those
+//! crates are proved once, without them.
 #![tactic(auto)]
 
+#[cfg(test)]
+mod outputs;
 #[cfg(test)]
 mod program;
 #[cfg(test)]

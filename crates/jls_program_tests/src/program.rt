@@ -10,8 +10,8 @@ mod pictures;
 mod telling;
 mod words;
 
-use jls_device::{Counted, Sink};
-use jls_program::run;
+use jls_io::{Counted, Sink};
+use jls_salvage_run::run;
 use memory::{Manners, MemoryFiles};
 use pictures::FILES;
 use std::alloc::{AllocError, Global};

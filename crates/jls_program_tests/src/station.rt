@@ -2,7 +2,7 @@
 
 mod copies;
 
-use jls_device::Counted;
+use jls_io::Counted;
 use jls_partial::Partial;
 use jls_station::{InputFault, ReadStop, Station, read_input};
 use jls_values::MergeFault;

@@ -1,6 +1,6 @@
 //! That words are read: no clause says that memory is left for it.
 
-use jls_words::{Asked, asked_command, matches};
+use jls_cli::salvage::{Asked, asked_command, matches};
 use std::alloc::Global;
 use std::test::Fail;
 

@@ -5,10 +5,10 @@ use Rattle.clap.specs.Words.{Text}
 use Rattle.clap.proofs.OnLiterals.{clap_on_literals}
 use Rattle.jls_copy.specs.CopyReads.{CopyReads}
 use Rattle.jls_copy.specs.ReadCopy.{ReadCopy}
-use Rattle.jls_commands.specs.Joining as joining
-use Rattle.jls_commands.specs.Outcomes.{finished}
-use Rattle.jls_words.specs.Asking.{AskFor, join}
-use Rattle.jls_program.specs.Runs.{came_of}
+use Rattle.jls_salvage_run.specs.Joining as joining
+use Rattle.jls_salvage_run.specs.Outcomes.{finished}
+use Rattle.jls_cli.specs.SalvageAsking.{AskFor, join}
+use Rattle.jls_salvage_run.specs.Runs.{came_of}
 use Rattle.jls_headline.proofs.JoinExamples as runs
 use Rattle.jls_headline.proofs.TwoLineCopies.{pic, is_picture, first, second}
 use Rattle.jls_headline.proofs.TwoLineExamples.{both_are_damaged, each_line_survives}

@@ -3,15 +3,15 @@ use Rattle.std.proofs.Common.{◌≡◌, ◌≤◌, ℕ, Bool, true, List, ◌++
 use Rattle.std.proofs.lemmas.List.{append_cancel_left}
 use Rattle.clap.specs.Words.{Text}
 use Rattle.jls_partial.specs.Partial.{PartialPicture}
-use Rattle.jls_device.specs.Event.{Event, History}
-use Rattle.jls_picture.specs.Picture.{WholePicture}
-use Rattle.jls_commands.specs.Joining.{JoinIsDone}
-use Rattle.jls_commands.specs.Outcomes.{finished}
-use Rattle.jls_commands.specs.WritingFiles as writing
-use Rattle.jls_commands.specs.declared.writing.Format.{Format}
-use Rattle.jls_commands.specs.declared.writing.Format.TheVariants.{Jls}
-use Rattle.jls_words.specs.Asking.{AskFor, join}
-use Rattle.jls_program.specs.Laws.{DoneJoinsRan, DoneWritesRan}
+use Rattle.jls_io.specs.Event.{Event, History}
+use Rattle.jls_write.specs.Picture.{WholePicture}
+use Rattle.jls_salvage_run.specs.Joining.{JoinIsDone}
+use Rattle.jls_salvage_run.specs.Outcomes.{finished}
+use Rattle.jls_salvage_run.specs.WritingFiles as writing
+use Rattle.jls_salvage_run.specs.declared.writing.Format.{Format}
+use Rattle.jls_salvage_run.specs.declared.writing.Format.TheVariants.{Jls}
+use Rattle.jls_cli.specs.SalvageAsking.{AskFor, join}
+use Rattle.jls_salvage_run.specs.RunLaws.{DoneJoinsRan, DoneWritesRan}
 use Rattle.jls_headline.specs.JoinThenWrite as headline
 use Rattle.jls_headline.specs.NoOtherLaws.{SettledJoinsAreThePicture, WrittenInputsAreThePicture}
 use Rattle.jls_headline.specs.RunLaws.{RunsGiveThePicture}

@@ -4,16 +4,16 @@ use Rattle.std.specs.List.{AllByRecursion}
 use Rattle.clap.specs.Words.{Text}
 use Rattle.jls_partial.specs.Partial.{PartialPicture}
 use Rattle.jls_partial.specs.Text.{text}
-use Rattle.jls_device.specs.Event.{Event, History}
-use Rattle.jls_picture.specs.Picture.{WholePicture}
-use Rattle.jls_picture.specs.WholePictures.{IsPicture}
-use Rattle.jls_commands.specs.Laws.{input_bytes, output_bytes}
-use Rattle.jls_commands.specs.WritingFiles.{file}
-use Rattle.jls_commands.specs.declared.writing.Format.{Format}
-use Rattle.jls_commands.specs.declared.writing.Format.TheVariants.{Jls}
-use Rattle.jls_words.specs.Asking.{AskFor, join}
-use Rattle.jls_program.specs.Laws.{written_as}
-use Rattle.jls_program.specs.Runs.{Ran}
+use Rattle.jls_io.specs.Event.{Event, History}
+use Rattle.jls_write.specs.Picture.{WholePicture}
+use Rattle.jls_write.specs.WholePictures.{IsPicture}
+use Rattle.jls_salvage_run.specs.CommandLaws.{input_bytes, output_bytes}
+use Rattle.jls_salvage_run.specs.WritingFiles.{file}
+use Rattle.jls_salvage_run.specs.declared.writing.Format.{Format}
+use Rattle.jls_salvage_run.specs.declared.writing.Format.TheVariants.{Jls}
+use Rattle.jls_cli.specs.SalvageAsking.{AskFor, join}
+use Rattle.jls_salvage_run.specs.RunLaws.{written_as}
+use Rattle.jls_salvage_run.specs.Runs.{Ran}
 use Rattle.jls_headline.specs.Damaged.{Damaged, EachLineSurvives}
 use Rattle.jls_headline.specs.NoOtherLaws.{SomeInputHasEachLine}
 use Rattle.jls_headline.specs.ReadsAs.{GivesPicture, ReadsAsOnly}

@@ -7,7 +7,7 @@ use jls_headline::{
     joined_copies_give_the_picture, settled_joins_are_the_picture, written_inputs_are_the_picture,
     written_joins_read_as_the_picture,
 };
-use jls_program::{done_joins_ran, done_writes_ran};
+use jls_salvage_run::{done_joins_ran, done_writes_ran};
 
 /// A law: the words of a run ask for a join, and it ends with status 0 or 1. Its inputs gave damaged copies of one picture in which every
 /// line survives. The words of another run ask for a file, and it ends with status 0. Its one input gave the bytes that the first run

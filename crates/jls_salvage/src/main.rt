@@ -4,9 +4,9 @@
 //! ends OUT after the run. It answers 4 if OUT could not be kept, else the status of the run. It has no contract, so read it.
 #![tactic(auto)]
 
-use jls_device::{Counted, Sink};
 use jls_host::{Guard, HostFiles, ending_of_run, hold_streams};
-use jls_program::{print_not_created, print_not_replaced, run};
+use jls_io::{Counted, Sink};
+use jls_salvage_run::{print_not_created, print_not_replaced, run};
 use std::io;
 use std::process::ExitCode;
 

@@ -16,11 +16,11 @@ use Rattle.jls_copy.specs.ScanData.{ClosedPiece}
 use Rattle.jls_copy.specs.Course.{by_marker, CopyUnit, segment, scan, Course, IsCourse, with_soi, with_no_marker, without_units, at_eoi, for_good}
 use Rattle.jls_copy.specs.declared.end.End.TheVariants.{Eoi, Header}
 use Rattle.jls_copy.proofs.OneCourse.{one_course}
-use Rattle.jls_copy_law.proofs.Members.{none_in}
+use Rattle.jls_copy_laws.proofs.Members.{none_in}
 use Rattle.jls_headline.proofs.FileExamples.{file_reads}
 use Rattle.jls_headline.proofs.TwoLineCopies.{shape, pic, bits_8, frame_payload, scan_payload, pieces_read, bytes_of_test}
-use Rattle.jls_parts.specs.Parts.{Part, Same, Differ, made, AreParts, IsSplice}
-use Rattle.jls_splice.specs.Faultless.{Gives, GivesEachLine, EndsWell, IsFaultless}
+use Rattle.jls_diff.specs.Parts.{Part, Same, Differ, made, AreParts, IsSplice}
+use Rattle.jls_search.specs.Faultless.{Gives, GivesEachLine, EndsWell, IsFaultless}
 use Rattle.jls_splice_laws.specs.Searches.{done, Searched, along, given_up}
 use Rattle.jls_splice_laws.specs.WholeFiles.{IsWholeFile}
 

@@ -1,4 +1,8 @@
+-- Lemmas of this crate.
 mod WholeFiles
 mod Searching
 mod TakenFiles
 mod FaultlessExamples
+pub mod HeldFiles
+pub mod SplicedCopies
+pub mod DoneRuns

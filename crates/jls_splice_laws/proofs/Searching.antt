@@ -8,11 +8,11 @@ use Rattle.jls_copy.specs.CopyLaws.{FinalEndsStay}
 use Rattle.jls_copy.specs.Fronts.{FrontsStayBroken}
 use Rattle.jls_copy.specs.Pieces.{pieces}
 use Rattle.jls_copy.proofs.OneCourse.{one_course}
-use Rattle.jls_copy_law.proofs.Members.{is_first, none_in, first_or_rest, all_at, all_append, all_map}
-use Rattle.jls_parts.proofs.Members.{in_map, of_map, in_flat_map, of_flat_map}
-use Rattle.jls_parts.specs.Parts.{Part, Same, Differ, HasWays, IsSplice, splices}
-use Rattle.jls_parts.specs.SpliceLaws.{SplicesAreListed}
-use Rattle.jls_splice.specs.Faultless.{HasLines, GivesEachLine, EndsWell, IsFaultless}
+use Rattle.jls_copy_laws.proofs.Members.{is_first, none_in, first_or_rest, all_at, all_append, all_map}
+use Rattle.jls_diff.proofs.Members.{in_map, of_map, in_flat_map, of_flat_map}
+use Rattle.jls_diff.specs.Parts.{Part, Same, Differ, HasWays, IsSplice, splices}
+use Rattle.jls_diff.specs.SpliceLaws.{SplicesAreListed}
+use Rattle.jls_search.specs.Faultless.{HasLines, GivesEachLine, EndsWell, IsFaultless}
 use Rattle.jls_splice_laws.specs.Searches.{CanBeGivenUp, broken, done, Searched, found, has_fault, along, no_way, last_way, way_again, given_up}
 use Rattle.jls_splice_laws.specs.Searches.{SearchesFindSplices, SearchesLoseNothing}
 

@@ -8,11 +8,11 @@ use Rattle.jls_headline.specs.Headline.{SameCopiesHoldTheSame}
 use Rattle.jls_headline.specs.LineLaws.{NeverAnotherPicture}
 use Rattle.jls_headline.specs.Sources.{copies_of}
 use Rattle.jls_headline.specs.Stations.{HoldsExactly, SameCopies}
-use Rattle.jls_copy_law.proofs.Members.{is_first, in_rest, none_in, first_or_rest, all_map}
-use Rattle.jls_parts.specs.Parts.{Part, HasWays, IsSplice}
-use Rattle.jls_splice.specs.Faultless.{IsFaultless}
-use Rattle.jls_splice.specs.Search.{HasEachSplice, files_of}
-use Rattle.jls_splice.specs.SearchLaws.{SearchesComeToEachSplice}
+use Rattle.jls_copy_laws.proofs.Members.{is_first, in_rest, none_in, first_or_rest, all_map}
+use Rattle.jls_diff.specs.Parts.{Part, HasWays, IsSplice}
+use Rattle.jls_search.specs.Faultless.{IsFaultless}
+use Rattle.jls_search.specs.Search.{HasEachSplice, files_of}
+use Rattle.jls_search.specs.SearchLaws.{SearchesComeToEachSplice}
 use Rattle.jls_splice_laws.specs.SpliceLaws.{FaultlessSplicesAreTaken, SearchedFilesAreTaken, SearchedSplicesGiveNoOther, SplicesGiveNoOther, WholeSplicesGiveNoOther}
 use Rattle.jls_splice_laws.specs.Taken.{HasFrame, FilesTaken, SearchTaken, AreOfShape, none_left, taken, passed_over}
 use Rattle.jls_splice_laws.proofs.WholeFiles.{whole_files_are_faultless, whole_files_survive}

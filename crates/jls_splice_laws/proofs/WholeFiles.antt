@@ -12,16 +12,16 @@ use Rattle.jls_copy.specs.Numbers.{PieceNumber, Interval, BeyondLast, next_numbe
 use Rattle.jls_copy.specs.Course.{CopyUnit, segment, scan, segment_unit_bytes, unit_bytes, IsUnit, AreUnits, Course, IsCourse, with_soi, with_another_marker, with_no_marker, with_fill_alone}
 use Rattle.jls_copy.specs.Pieces.{FoundPiece, pieces_from, unit_pieces, pieces, piece_begun}
 use Rattle.jls_copy.specs.declared.end.End.{End}
-use Rattle.jls_picture.specs.Picture.{line_of}
-use Rattle.jls_copy_law.specs.CopyScans.{ScanWithData, scans_of_unit}
-use Rattle.jls_copy_law.specs.CourseGives.{CourseGives}
-use Rattle.jls_copy_law.proofs.CopyScans.{scans_of_course}
-use Rattle.jls_copy_law.proofs.Gives.{unit_stands, readings_are_of_the_course}
-use Rattle.jls_copy_law.proofs.Members.{none_in, first_or_rest, all_at, all_from, of_flat_map}
+use Rattle.jls_write.specs.Picture.{line_of}
+use Rattle.jls_copy_laws.specs.CopyScans.{ScanWithData, scans_of_unit}
+use Rattle.jls_copy_laws.specs.CourseGives.{CourseGives}
+use Rattle.jls_copy_laws.proofs.CopyScans.{scans_of_course}
+use Rattle.jls_copy_laws.proofs.Gives.{unit_stands, readings_are_of_the_course}
+use Rattle.jls_copy_laws.proofs.Members.{none_in, first_or_rest, all_at, all_from, of_flat_map}
 use Rattle.jls_headline.specs.Damaged.{AreNumbers, picture_reading}
 use Rattle.jls_headline.proofs.LostIntervals.{given_by_scan}
 use Rattle.jls_headline.proofs.ScanNumbers.{numbered_pieces_give}
-use Rattle.jls_splice.specs.Faultless.{HasLines, Gives}
+use Rattle.jls_search.specs.Faultless.{HasLines, Gives}
 use Rattle.jls_splice_laws.specs.WholeFiles.{WholeFilesAreFaultless, WholeFilesSurvive}
 
 -- Numbers ----------------------------------------------------------------------------------------------------------
@@ -126,7 +126,7 @@ whole_files_survive pic file low reads_as no_fault component line l k =
 
 -- Its frame --------------------------------------------------------------------------------------------------------
 
--- what a course gives, as jls_splice has it
+-- what a course gives, as jls_search has it
 given_by : (c : Course) (r : Reading) → CourseGives c r → Gives c r
 given_by c r (inl (p, m, g)) = inl (p, m, g.lines, g.reads, g.among)
 given_by c r (inr (p, m, g)) = inr (p, m, g.head, g.is_head, g.among)

@@ -1,4 +1,7 @@
+-- What the contracts of this crate cite.
 pub mod WholeFiles
 pub mod Searches
 pub mod Taken
 pub mod SpliceLaws
+pub mod SplicingLaws
+pub mod RunLaws

@@ -3,9 +3,9 @@ use Rattle.std.specs.Prelude.{ℕ, ◌<◌, true, List, [], ◌∷◌, ◌++◌,
 use Rattle.std.specs.List.{AllByRecursion, Contains}
 use Rattle.jls_copy.specs.CopyReads.{IsDone}
 use Rattle.jls_copy.specs.Fronts.{IsPieceBroken}
-use Rattle.jls_parts.specs.Parts.{Part, Same, Differ, AreParts, IsSplice}
-use Rattle.jls_splice.specs.Faultless.{IsFaultless}
-use Rattle.jls_splice.specs.Search.{HasEachSplice}
+use Rattle.jls_diff.specs.Parts.{Part, Same, Differ, AreParts, IsSplice}
+use Rattle.jls_search.specs.Faultless.{IsFaultless}
+use Rattle.jls_search.specs.Search.{HasEachSplice}
 
 -- a prefix that can be given up: its current piece is broken, whatever follows; or bytes after it leave its course as it is, and it has a
 -- fault

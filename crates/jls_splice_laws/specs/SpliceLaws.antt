@@ -1,17 +1,17 @@
--- The laws of splices that speak of readings and pictures. That the copies are splices of the parts that are found is a law of jls_parts.
+-- The laws of splices that speak of readings and pictures. That the copies are splices of the parts that are found is a law of jls_diff.
 use Rattle.std.specs.Prelude.{◌≡◌, ℕ, ◌<◌, Bool, false, List, length}
 use Rattle.std.specs.List.{AllByRecursion, Contains}
 use Rattle.jls_values.specs.Shape.{PictureShape}
 use Rattle.jls_partial.specs.Partial.{PartialPicture}
 use Rattle.jls_partial.specs.Status.{IsSettled}
-use Rattle.jls_picture.specs.Picture.{WholePicture, picture_of}
-use Rattle.jls_picture.specs.WholePictures.{IsPicture}
+use Rattle.jls_write.specs.Picture.{WholePicture, picture_of}
+use Rattle.jls_write.specs.WholePictures.{IsPicture}
 use Rattle.jls_headline.specs.Stations.{HoldsExactly}
 use Rattle.jls_headline.specs.Sources.{SourcedCopy, copies_of}
 use Rattle.jls_headline.specs.Collected.{CollectedFrom}
 use Rattle.jls_headline.specs.Damaged.{EachLineSurvives}
-use Rattle.jls_parts.specs.Parts.{Part, IsSplice}
-use Rattle.jls_splice.specs.Faultless.{IsFaultless}
+use Rattle.jls_diff.specs.Parts.{Part, IsSplice}
+use Rattle.jls_search.specs.Faultless.{IsFaultless}
 use Rattle.jls_splice_laws.specs.Taken.{FilesTaken, AllTaken, SearchTaken}
 use Rattle.jls_splice_laws.specs.WholeFiles.{IsWholeFile}
 

@@ -3,9 +3,9 @@ use Rattle.std.specs.Prelude.{◌≡◌, ℕ, ◌<◌, Bool, List, [], ◌∷◌
 use Rattle.std.specs.List.{AllByRecursion, Contains}
 use Rattle.jls_values.specs.Shape.{PictureShape}
 use Rattle.jls_copy.specs.Course.{Course, IsCourse}
-use Rattle.jls_parts.specs.Parts.{Part, AreParts, IsSplice}
-use Rattle.jls_splice.specs.Faultless.{IsFaultless}
-use Rattle.jls_splice.specs.Search.{HasEachSplice, CameTo, files_of}
+use Rattle.jls_diff.specs.Parts.{Part, AreParts, IsSplice}
+use Rattle.jls_search.specs.Faultless.{IsFaultless}
+use Rattle.jls_search.specs.Search.{HasEachSplice, CameTo, files_of}
 
 -- Shapes -----------------------------------------------------------------------------------------------------------
 

@@ -3,10 +3,10 @@ use Rattle.std.specs.Prelude.{ℕ, ◌<◌, List, length}
 use Rattle.std.specs.List.{AllByRecursion}
 use Rattle.jls_copy.specs.Course.{Course, IsCourse}
 use Rattle.jls_copy.specs.Pieces.{pieces}
-use Rattle.jls_picture.specs.Picture.{WholePicture}
+use Rattle.jls_write.specs.Picture.{WholePicture}
 use Rattle.jls_headline.specs.ReadsAs.{ReadsAs}
 use Rattle.jls_headline.specs.Damaged.{Survives}
-use Rattle.jls_splice.specs.Faultless.{HasLines, EndsWell, IsFaultless}
+use Rattle.jls_search.specs.Faultless.{HasLines, EndsWell, IsFaultless}
 
 -- each piece of the file reads as lines
 abbrev pub NoPieceIsFaulty : List ℕ → Type 0

@@ -1,12 +1,20 @@
-//! The laws of splices that speak of readings and pictures. They say what a search for files without a fault finds, what survives in
-//! such a file, and what the files that are taken settle. This crate has definitions and laws alone. Each law is a function that does
-//! nothing: its contract is the law.
+//! The laws of splices that speak of readings, pictures and runs. They say what a search for files without a fault finds, what survives
+//! in such a file, what the files that are taken settle, and what a run of `jls-splice` writes. This crate has definitions and laws
+//! alone. Each law is a function that does nothing: its contract is the law.
 //!
-//! Definitions: `WholeFiles`, `Searches`, `Taken`, `SpliceLaws`.
+//! - `searches`, `settled`: searches, and files taken
+//! - `splicing`: stations of files taken, in the words of the laws of stations and pictures
+//! - `runs`: runs of `jls-splice`
+//!
+//! Definitions: `WholeFiles`, `Searches`, `Taken`, `SpliceLaws`, `SplicingLaws`, `RunLaws`.
 #![tactic(auto)]
 
+mod runs;
 mod searches;
 mod settled;
+mod splicing;
 
+pub use runs::spliced_runs_give_no_other;
 pub use searches::searches_lose_nothing;
 pub use settled::{faultless_splices_are_taken, splices_give_no_other, whole_files_survive};
+pub use splicing::{files_are_held, spliced_copies_give_no_other};

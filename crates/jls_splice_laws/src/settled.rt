@@ -5,7 +5,7 @@ ghost use Rattle.jls_splice_laws.specs.SpliceLaws.{FaultlessSplicesAreTaken, Sea
 ghost use Rattle.jls_splice_laws.specs.WholeFiles.{WholeFilesAreFaultless, WholeFilesSurvive};
 
 use jls_headline::{never_another_picture, same_copies_give_the_picture};
-use jls_splice::searches_come_to_each_splice;
+use jls_search::searches_come_to_each_splice;
 
 /// A law: each line of a picture survives in a file that reads as it and has no faulty piece. If no fault of its headers ended it either,
 /// it is a file without a fault.
@@ -15,7 +15,7 @@ pub fn whole_files_survive()
 {}
 
 /// A law: where the tries of the search were enough, each splice without a fault is among the files taken. What is taken of what
-/// `search_copies` of jls_splice came to are files taken.
+/// `search_copies` of jls_search came to are files taken.
 pub fn faultless_splices_are_taken()
     ensures taken { FaultlessSplicesAreTaken }
     ensures searched { SearchedFilesAreTaken }

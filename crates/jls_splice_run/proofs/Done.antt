@@ -2,12 +2,12 @@
 use Rattle.std.proofs.Common.{◌≡◌, ℕ, Bool, suc, List, [], ◌∷◌, ◌++◌, length, refl, sym, ap, subst}
 use Rattle.std.specs.Prelude.{◌↔◌, IsTrue}
 use Rattle.std.proofs.lemmas.List.{append-nil}
-use Rattle.jls_device.specs.Event.{Event, History, GrewBy}
-use Rattle.jls_device.proofs.Growing.{grew_twice}
-use Rattle.jls_copy_files.specs.CopyFiles.{AreCopiesRead, CopyBytes}
-use Rattle.jls_splice_words.specs.Asking.{Asked}
-use Rattle.jls_splice_answers.specs.declared.outcome.Outcome.TheVariants.{Done, Refused}
-use Rattle.jls_splice_answers.specs.declared.outcome.Refusal.{Refusal}
+use Rattle.jls_io.specs.Event.{Event, History, GrewBy}
+use Rattle.jls_io.proofs.Growing.{grew_twice}
+use Rattle.jls_station.specs.CopyFiles.{AreCopiesRead, CopyBytes}
+use Rattle.jls_cli.specs.SpliceAsking.{Asked}
+use Rattle.jls_splice_run.specs.declared.outcome.Outcome.TheVariants.{Done, Refused}
+use Rattle.jls_splice_run.specs.declared.outcome.Refusal.{Refusal}
 use Rattle.jls_splice_run.specs.Copies.{AreWhole, bytes_read, StopsAtCopies}
 use Rattle.jls_splice_run.specs.Handing.{HandsAll, StopsInHanding, Texts}
 use Rattle.jls_splice_run.specs.Making.{AreTextsOf, CantMake, HoldsMade, Made}

@@ -1,11 +1,11 @@
 -- What is handed out, put together.
 use Rattle.std.proofs.Common.{◌≡◌, List, [], ◌∷◌, ◌++◌, refl, sym, subst}
 use Rattle.std.proofs.lemmas.List.{append-nil}
-use Rattle.jls_device.specs.Event.{Event, History, GrewBy}
-use Rattle.jls_device.specs.Writing.{Wrote}
-use Rattle.jls_device.proofs.Growing.{grew_on, grew_twice}
-use Rattle.jls_commands.specs.Outputs.{HandsOut}
-use Rattle.jls_splice_answers.specs.declared.outcome.Refusal.{Refusal}
+use Rattle.jls_io.specs.Event.{Event, History, GrewBy}
+use Rattle.jls_io.specs.Writing.{Wrote}
+use Rattle.jls_io.proofs.Growing.{grew_on, grew_twice}
+use Rattle.jls_io.specs.Outputs.{HandsOut}
+use Rattle.jls_splice_run.specs.declared.outcome.Refusal.{Refusal}
 use Rattle.jls_splice_run.specs.Handing.{HandsAll, HandsFile, StopsAtFile, StopsAtOutput, StopsAtReport, StopsInHanding, Texts, at_file, at_output, at_report}
 use Rattle.jls_splice_run.specs.Runs.{GrewBoth}
 

@@ -1,3 +1,9 @@
+-- Lemmas of this crate.
+mod PrintedLineExamples
+mod Offsets
+pub mod Rounds
+mod FaultLineExamples
+mod StatusExamples
 mod Done
 mod Handed
 mod MakingLemmas

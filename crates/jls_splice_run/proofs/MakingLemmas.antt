@@ -3,10 +3,10 @@ use Rattle.std.proofs.Common.{◌≡◌, ℕ, zero, suc, ◌<◌, ◌≤◌, ◌
 use Rattle.std.specs.Prelude.{◌^◌, option_map}
 use Rattle.std.specs.List.{sum_by}
 use Rattle.std.proofs.lemmas.List.Sums.{sum_by-cons}
-use Rattle.jls_parts.specs.Parts.{AreParts, Part, Same, made, way}
-use Rattle.jls_splice.proofs.Fronts.{front_more}
-use Rattle.jls_splice.specs.Choices.{IsFirstWay, IsPath, front_of}
-use Rattle.jls_splice.specs.SearchLaws.{AreShort}
+use Rattle.jls_diff.specs.Parts.{AreParts, Part, Same, made, way}
+use Rattle.jls_search.proofs.Fronts.{front_more}
+use Rattle.jls_search.specs.Choices.{IsFirstWay, IsPath, front_of}
+use Rattle.jls_search.specs.SearchLaws.{AreShort}
 use Rattle.jls_splice_run.specs.Making.{lacks_single}
 use Rattle.jls_splice_run.specs.Single.{IsSingleAsked}
 

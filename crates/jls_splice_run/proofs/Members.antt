@@ -1,11 +1,11 @@
 -- Members of the lists that the code holds.
 use Rattle.std.proofs.Common.{◌≡◌, ℕ, zero, suc, ◌<◌, ◌||◌, Bool, true, false, List, [], ◌∷◌, length, get_or, Bor, refl, ap, ◌∙◌, arith, inl, inr}
 use Rattle.std.specs.Str.{bytes_eq}
-use Rattle.jls_copy_files.specs.CopyFiles.{copies_of}
-use Rattle.jls_copy_files.specs.declared.copy.CopyFile.{CopyFile}
-use Rattle.jls_parts.specs.PartsOf.{bytes_of}
+use Rattle.jls_station.specs.CopyFiles.{copies_of}
+use Rattle.jls_station.specs.declared.copy.CopyFile.{CopyFile}
+use Rattle.jls_diff.specs.PartsOf.{bytes_of}
 use Rattle.jls_station.specs.declared.input.ReadStop.TheVariants.{Whole}
-use Rattle.jls_splicing.specs.Shapes.{IsCopyNamed}
+use Rattle.jls_search.specs.Shapes.{IsCopyNamed}
 use Rattle.jls_splice_run.specs.Copies.{AreWhole, bytes_read, stops_read}
 use Rattle.jls_splice_run.specs.Files.{is_copy}
 use Rattle.jls_splice_run.specs.Tasks.{texts_of}

@@ -5,16 +5,16 @@ use Rattle.std.proofs.lemmas.List.{append-nil}
 use Rattle.clap.specs.Words.{Text}
 use Rattle.clap.specs.declared.error.kind.ErrorKind.{ErrorKind}
 use Rattle.clap.specs.declared.error.kind.ErrorKind.TheVariants as kind
-use Rattle.jls_device.specs.Event.{Event, History, GrewBy}
-use Rattle.jls_device.specs.Writing.{Printed}
-use Rattle.jls_device.proofs.Growing.{grew_twice}
-use Rattle.jls_splice_words.specs.Asking.{Asked, AskFor, AskForNothing}
-use Rattle.jls_splice_words.specs.Words.{AreRefused}
-use Rattle.jls_answers.specs.Answers.{is_help, is_want_of_memory, Answer, Answered, ran_out, usage, help, cut}
-use Rattle.jls_printing.specs.FaultLines.{out_of_memory_line}
-use Rattle.jls_splice_answers.specs.FaultLines.{fault_line, named_twice_line, not_understood_line, program}
-use Rattle.jls_splice_answers.specs.Outcomes.{exit_status}
-use Rattle.jls_splice_answers.specs.declared.outcome.Outcome.{Outcome}
+use Rattle.jls_io.specs.Event.{Event, History, GrewBy}
+use Rattle.jls_io.specs.Writing.{Printed}
+use Rattle.jls_io.proofs.Growing.{grew_twice}
+use Rattle.jls_cli.specs.SpliceAsking.{Asked, AskFor, AskForNothing}
+use Rattle.jls_cli.specs.SpliceWords.{AreRefused}
+use Rattle.jls_cli.specs.Answers.{is_help, is_want_of_memory, Answer, Answered, ran_out, usage, help, cut}
+use Rattle.jls_io.specs.FaultLines.{out_of_memory_line}
+use Rattle.jls_splice_run.specs.FaultLines.{fault_line, named_twice_line, not_understood_line, program}
+use Rattle.jls_splice_run.specs.Outcomes.{exit_status}
+use Rattle.jls_splice_run.specs.declared.outcome.Outcome.{Outcome}
 use Rattle.jls_splice_run.specs.Runs.{GrewAll, IsFileOut, Performs, Ran, Run, Splices, came_of, no_names, performed, named_twice, misused, helped, help_cut, nothing_begun, nothing_asked}
 
 -- an answer is a run, where the kind is one of those that clap has for the words

@@ -1,16 +1,16 @@
 -- The copies that a run reads.
 use Rattle.std.specs.Prelude.{◌≡◌, ℕ, List, map}
 use Rattle.std.specs.List.{AllByRecursion}
-use Rattle.jls_device.specs.Event.{Event}
+use Rattle.jls_io.specs.Event.{Event}
 use Rattle.jls_station.specs.declared.input.ReadStop.{ReadStop}
 use Rattle.jls_station.specs.declared.input.ReadStop.TheVariants.{Whole}
-use Rattle.jls_copy_files.specs.CopyFiles.{CopyBytes, StopsAmongCopies}
-use Rattle.jls_copy_files.specs.declared.copy.CopyCause.{CopyCause}
-use Rattle.jls_copy_files.specs.declared.copy.CopyCause.TheVariants as copy
-use Rattle.jls_copy_files.specs.declared.copy.CopyRefusal.{CopyRefusal}
-use Rattle.jls_splice_answers.specs.declared.outcome.Cause.{Cause}
-use Rattle.jls_splice_answers.specs.declared.outcome.Cause.TheVariants as cause
-use Rattle.jls_splice_answers.specs.declared.outcome.Refusal.{Refusal}
+use Rattle.jls_station.specs.CopyFiles.{CopyBytes, StopsAmongCopies}
+use Rattle.jls_station.specs.declared.copy.CopyCause.{CopyCause}
+use Rattle.jls_station.specs.declared.copy.CopyCause.TheVariants as copy
+use Rattle.jls_station.specs.declared.copy.CopyRefusal.{CopyRefusal}
+use Rattle.jls_splice_run.specs.declared.outcome.Cause.{Cause}
+use Rattle.jls_splice_run.specs.declared.outcome.Cause.TheVariants as cause
+use Rattle.jls_splice_run.specs.declared.outcome.Refusal.{Refusal}
 
 -- the bytes of each copy
 abbrev pub bytes_read : List CopyBytes → List (List ℕ)

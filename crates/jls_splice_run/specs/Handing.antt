@@ -1,10 +1,10 @@
 -- What was made, handed out.
 use Rattle.std.specs.Prelude.{◌≡◌, ℕ, List, [], ◌∷◌, ◌++◌, Option, Some, codes}
-use Rattle.jls_device.specs.Event.{Event, created, not_created}
-use Rattle.jls_device.specs.Writing.{Wrote, WroteFront}
-use Rattle.jls_commands.specs.Outputs.{HandsOut}
-use Rattle.jls_splice_answers.specs.declared.outcome.Cause.TheVariants as cause
-use Rattle.jls_splice_answers.specs.declared.outcome.Refusal.{Refusal}
+use Rattle.jls_io.specs.Event.{Event, created, not_created}
+use Rattle.jls_io.specs.Writing.{Wrote, WroteFront}
+use Rattle.jls_io.specs.Outputs.{HandsOut}
+use Rattle.jls_splice_run.specs.declared.outcome.Cause.TheVariants as cause
+use Rattle.jls_splice_run.specs.declared.outcome.Refusal.{Refusal}
 
 -- the report output stops the run: it was handed so many of the bytes when a write failed
 pub record StopsAtReport (bytes : List ℕ) (r : Refusal) (events : List Event) : Type 0 where

@@ -1,4 +1,9 @@
 -- What the contracts of this crate cite.
+pub mod Differences
+pub mod Lines
+pub mod Telling
+pub mod FaultLines
+pub mod Outcomes
 pub mod Copies
 pub mod Files
 pub mod Handing

@@ -1,32 +1,32 @@
 -- What is made of the copies.
 use Rattle.std.specs.Prelude.{◌≡◌, ◌≤◌, ◌↔◌, ◌⊎◌, ℕ, Bool, true, false, IsTrue, List, [], ◌++◌, Option, Some, None, IfSome, codes, get_or, length, option_map, if◌then◌else◌}
 use Rattle.std.specs.Str.{bytes_eq}
-use Rattle.jls_device.specs.Event.{Event}
+use Rattle.jls_io.specs.Event.{Event}
 use Rattle.jls_marker.specs.declared.fault.MarkerFault.{MarkerFault}
 use Rattle.jls_partial.specs.Partial.{PartialPicture, nothing_known}
 use Rattle.jls_partial.specs.Status.{IsSettled}
 use Rattle.jls_partial.specs.Text.{text}
-use Rattle.jls_parts.specs.Parts.{Part}
-use Rattle.jls_splice.specs.Search.{WereTried}
-use Rattle.jls_group_search.specs.Found.{AreGroupTries, ByGroups, Found, IsFound, found_of, splices_in}
-use Rattle.jls_group_search.specs.declared.found.FoundSplices.{FoundSplices}
+use Rattle.jls_diff.specs.Parts.{Part}
+use Rattle.jls_search.specs.Search.{WereTried}
+use Rattle.jls_search.specs.Found.{AreGroupTries, ByGroups, Found, IsFound, found_of, splices_in}
+use Rattle.jls_search.specs.declared.found.FoundSplices.{FoundSplices}
 use Rattle.jls_report.specs.Report.{report_of}
 use Rattle.jls_report.specs.ReportText.{report_text}
-use Rattle.jls_splice_lines.specs.Differences.{differences}
-use Rattle.jls_splice_lines.specs.Lines.{differ_lines, groups_line, single_line, splices_line, used_up_line}
-use Rattle.jls_splice_lines.specs.declared.found.GroupSearch.{GroupSearch}
-use Rattle.jls_splice_progress.specs.Telling.{IsTold, ToldSome}
+use Rattle.jls_splice_run.specs.Differences.{differences}
+use Rattle.jls_splice_run.specs.Lines.{differ_lines, groups_line, single_line, splices_line, used_up_line}
+use Rattle.jls_splice_run.specs.declared.found.GroupSearch.{GroupSearch}
+use Rattle.jls_splice_run.specs.Telling.{IsTold, ToldSome}
 use Rattle.jls_station.specs.declared.input.ReadStop.{ReadStop}
 use Rattle.jls_station.specs.declared.input.ReadStop.TheVariants.{Whole}
-use Rattle.jls_copy_files.specs.CopyFiles.{CopyBytes}
-use Rattle.jls_splicing.specs.Shapes.{IsShapeFound, IsShapeTaken}
-use Rattle.jls_splicing.specs.Stations.{TakesFiles}
-use Rattle.jls_splicing.specs.declared.shape_found.ShapeFound.{ShapeFound}
-use Rattle.jls_splicing.specs.declared.shape_found.ShapeFound.TheVariants.{Taken, Differ, NoFrame}
-use Rattle.jls_splice_words.specs.Asking.{Asked}
-use Rattle.jls_splice_answers.specs.declared.outcome.Cause.{Cause}
-use Rattle.jls_splice_answers.specs.declared.outcome.Cause.TheVariants as cause
-use Rattle.jls_splice_answers.specs.declared.outcome.Refusal.{Refusal}
+use Rattle.jls_station.specs.CopyFiles.{CopyBytes}
+use Rattle.jls_search.specs.Shapes.{IsShapeFound, IsShapeTaken}
+use Rattle.jls_search.specs.Stations.{TakesFiles}
+use Rattle.jls_search.specs.declared.shape_found.ShapeFound.{ShapeFound}
+use Rattle.jls_search.specs.declared.shape_found.ShapeFound.TheVariants.{Taken, Differ, NoFrame}
+use Rattle.jls_cli.specs.SpliceAsking.{Asked}
+use Rattle.jls_splice_run.specs.declared.outcome.Cause.{Cause}
+use Rattle.jls_splice_run.specs.declared.outcome.Cause.TheVariants as cause
+use Rattle.jls_splice_run.specs.declared.outcome.Refusal.{Refusal}
 use Rattle.jls_splice_run.specs.Copies.{bytes_read, stops_read}
 use Rattle.jls_splice_run.specs.Files.{count_new}
 use Rattle.jls_splice_run.specs.Single.{IsSingleAsked}

@@ -2,20 +2,20 @@
 use Rattle.std.specs.Prelude.{◌≡◌, ◌↔◌, ℕ, Bool, true, false, IsTrue, List, [], ◌++◌, codes, option_map, Some}
 use Rattle.clap.specs.Words.{Text}
 use Rattle.clap.specs.declared.error.kind.ErrorKind.{ErrorKind}
-use Rattle.jls_device.specs.Event.{Event, History}
-use Rattle.jls_device.specs.Writing.{Wrote, WroteFront, Printed}
+use Rattle.jls_io.specs.Event.{Event, History}
+use Rattle.jls_io.specs.Writing.{Wrote, WroteFront, Printed}
 use Rattle.jls_partial.specs.Status.{IsSettled}
 use Rattle.jls_partial.specs.Text.{text}
-use Rattle.jls_copy_files.specs.CopyFiles.{AreCopiesRead, CopyBytes}
-use Rattle.jls_splice_words.specs.Asking.{Asked, AskFor, AskForNothing}
-use Rattle.jls_splice_words.specs.Words.{AreRefused}
-use Rattle.jls_answers.specs.Answers.{is_help}
-use Rattle.jls_printing.specs.FaultLines.{not_written_line, out_of_memory_line}
-use Rattle.jls_splice_answers.specs.FaultLines.{fault_line, named_twice_line, not_understood_line, program}
-use Rattle.jls_splice_answers.specs.Outcomes.{exit_status}
-use Rattle.jls_splice_answers.specs.declared.outcome.Outcome.{Outcome}
-use Rattle.jls_splice_answers.specs.declared.outcome.Outcome.TheVariants.{Done, Refused}
-use Rattle.jls_splice_answers.specs.declared.outcome.Refusal.{Refusal}
+use Rattle.jls_station.specs.CopyFiles.{AreCopiesRead, CopyBytes}
+use Rattle.jls_cli.specs.SpliceAsking.{Asked, AskFor, AskForNothing}
+use Rattle.jls_cli.specs.SpliceWords.{AreRefused}
+use Rattle.jls_cli.specs.Answers.{is_help}
+use Rattle.jls_io.specs.FaultLines.{not_written_line, out_of_memory_line}
+use Rattle.jls_splice_run.specs.FaultLines.{fault_line, named_twice_line, not_understood_line, program}
+use Rattle.jls_splice_run.specs.Outcomes.{exit_status}
+use Rattle.jls_splice_run.specs.declared.outcome.Outcome.{Outcome}
+use Rattle.jls_splice_run.specs.declared.outcome.Outcome.TheVariants.{Done, Refused}
+use Rattle.jls_splice_run.specs.declared.outcome.Refusal.{Refusal}
 use Rattle.jls_splice_run.specs.Copies.{AreWhole, bytes_read, StopsAtCopies}
 use Rattle.jls_splice_run.specs.Handing.{HandsAll, StopsInHanding, Texts}
 use Rattle.jls_splice_run.specs.Making.{CantMake, IsMade, Made, Tells, lines}

@@ -1,7 +1,7 @@
 -- The single file without a fault.
 use Rattle.std.specs.Prelude.{◌≡◌, ℕ, List, Option, Some, None}
 use Rattle.std.specs.List.{Contains}
-use Rattle.jls_splice.specs.Faultless.{IsFaultless}
+use Rattle.jls_search.specs.Faultless.{IsFaultless}
 use Rattle.jls_splice_run.specs.declared.single.Faultless.{Faultless}
 use Rattle.jls_splice_run.specs.declared.single.Faultless.TheVariants.{Nothing, One, Several}
 

@@ -1,7 +1,7 @@
 -- What a run is to do, as the words ask for it.
 use Rattle.std.specs.Prelude.{ℕ, List, map}
 use Rattle.std.specs.Borrow.{Bor}
-use Rattle.jls_splice_words.specs.Asking.{Asked, options_in}
+use Rattle.jls_cli.specs.SpliceAsking.{Asked, options_in}
 use Rattle.jls_splice_run.specs.declared.task.Task.{Task}
 
 -- the texts that slices of strings show

@@ -1,18 +1,17 @@
 //! The copies that a run reads.
 
 ghost use Rattle.std.specs.Prelude.{◌≡◌, ◌↔◌, IfOk, IfErr, IsTrue};
-ghost use Rattle.jls_copy_files.specs.CopyFiles.{AreCopiesRead, copies_of};
-ghost use Rattle.jls_device.specs.Event.{GrewBy};
-ghost use Rattle.jls_parts.specs.PartsOf as parts;
+ghost use Rattle.jls_station.specs.CopyFiles.{AreCopiesRead, copies_of};
+ghost use Rattle.jls_io.specs.Event.{GrewBy};
+ghost use Rattle.jls_diff.specs.PartsOf as parts;
 ghost use Rattle.jls_station.specs.declared.input.ReadStop.TheVariants.{Whole};
 ghost use Rattle.jls_splice_run.specs.Copies.{AreWhole, bytes_read, StopsAtCopies};
 ghost use Rattle.jls_splice_run.specs.Copies as spec;
 ghost use Rattle.jls_splice_run.specs.Tasks.{texts_of};
 
-use jls_copy_files::{CopyCause, CopyFile, CopyRefusal, read_copies};
-use jls_device::Desk;
-use jls_splice_answers::{Cause, Refusal};
-use jls_station::ReadStop;
+use crate::outcome::{Cause, Refusal};
+use jls_io::Desk;
+use jls_station::{CopyCause, CopyFile, CopyRefusal, ReadStop, read_copies};
 use std::alloc::{AllocError, Global};
 
 /// Why a copy stops a run.

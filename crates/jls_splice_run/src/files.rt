@@ -2,13 +2,13 @@
 
 ghost use Rattle.std.specs.Prelude.{◌≡◌, ◌-◌, ◌^◌, ◌≤◌, ◌<◌, length, IfOk, get_or, []};
 ghost use Rattle.std.specs.List.{AllByRecursion};
-ghost use Rattle.jls_parts.specs.Parts.{Same, way};
-ghost use Rattle.jls_parts.specs.PartsOf.{bytes_of, part_of, parts_of};
-ghost use Rattle.jls_splice.specs.Choices.{IsFirstWay, IsPath, IsWhole, front_of};
-ghost use Rattle.jls_splice.specs.Search.{files_of, lists_of};
+ghost use Rattle.jls_diff.specs.Parts.{Same, way};
+ghost use Rattle.jls_diff.specs.PartsOf.{bytes_of, part_of, parts_of};
+ghost use Rattle.jls_search.specs.Choices.{IsFirstWay, IsPath, IsWhole, front_of};
+ghost use Rattle.jls_search.specs.Search.{files_of, lists_of};
 ghost use Rattle.jls_splice_run.specs.Files as spec;
 
-use jls_parts::Part;
+use jls_diff::Part;
 use std::alloc::{AllocError, Global};
 
 /// What a choice takes of a part.

@@ -1,13 +1,13 @@
 //! What was made, handed out.
 
 ghost use Rattle.std.specs.Prelude.{IfErr, OnOk, option_map};
-ghost use Rattle.jls_device.specs.Event.{GrewBy};
-ghost use Rattle.jls_device.specs.Writing.{Wrote};
-ghost use Rattle.jls_commands.specs.Outputs.{HandsOut};
+ghost use Rattle.jls_io.specs.Event.{GrewBy};
+ghost use Rattle.jls_io.specs.Writing.{Wrote};
+ghost use Rattle.jls_io.specs.Outputs.{HandsOut};
 ghost use Rattle.jls_splice_run.specs.Handing.{HandsFile, StopsAtFile, StopsAtOutput, StopsAtReport};
 
-use jls_device::{Desk, Sink, write_all};
-use jls_splice_answers::{Cause, Refusal};
+use crate::outcome::{Cause, Refusal};
+use jls_io::{Desk, Sink, write_all};
 
 /// Prints lines to the report output.
 pub(crate) fn print_lines<'a, W: Sink>(report: &mut W, lines: &[u8]) -> Result<(), Refusal<'a>>

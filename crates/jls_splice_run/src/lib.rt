@@ -5,27 +5,51 @@
 //! - `splicing`: a run that is asked for: copies are read, files made, and all is handed out
 //! - `copies`, `made`, `settling`: the copies that are read; what is made of them; their station
 //! - `files`, `single`: the files that were found, as bytes; the single one without a fault
-//! - `lines`, `handing`: the lines that are printed; the events that hand out all
+//! - `printed_lines`, `handing`: the lines that are printed; the events that hand out all
+//! - `options`, `searching`: how a search is made; a search that goes on 64 tries at a time, and tells how far it is
+//! - `differences`: where copies differ: the offset in the first copy, and how many bytes that one has there
+//! - `found`, `lines`: what a run found, as one value; its lines, and the line that says how far a search is
+//! - `outcome`, `printing`: what came of a run, why it stopped, and the exit status; the fault line
 //!
-//! Definitions: `Tasks`, `Copies`, `Making`, `Single`, `Files`, `Handing`, `Runs`.
+//! Definitions: `Tasks`, `Copies`, `Making`, `Single`, `Files`, `Handing`, `Runs`; `Telling`; `Differences`, `Lines`; `Outcomes`,
+//! `FaultLines`. `PrintedLineExamples` of `proofs/` has each line, and all lines of two runs, worked by hand. `FaultLineExamples` has a
+//! fault line of each kind.
 //!
 //! Not proved:
 //!
 //! - At which try a file is found, and that groups find all such splices.
+//! - How many files are found by a line before the last.
 #![tactic(auto)]
 
 mod copies;
+mod differences;
 mod files;
+mod found;
 mod handing;
 mod lines;
 mod made;
+mod options;
+mod outcome;
+mod printed_lines;
+mod printing;
 mod program;
+mod searching;
 mod settling;
 mod single;
 mod splicing;
 mod task;
 
+pub use differences::{Difference, differences_of};
+pub use found::{Found, GroupSearch};
+pub use lines::{put_found, put_progress};
 pub use made::Made;
+pub use options::SearchOptions;
+pub use outcome::{Cause, Outcome, Refusal};
+pub use printing::{
+    PROGRAM, print_named_twice, print_not_created, print_not_replaced, print_not_understood,
+    print_outcome,
+};
 pub use program::run;
+pub use searching::search_and_tell;
 pub use splicing::splice;
 pub use task::Task;

@@ -1,75 +1,143 @@
-//! The lines that a run prints.
+//! The lines of what was found.
 
-ghost use Rattle.std.specs.Prelude.{◌≡◌, ◌++◌, ◌<◌, ◌^◌, [], length, IfOk, codes, if◌then◌else◌};
-ghost use Rattle.std.specs.Str.{bytes_eq};
-ghost use Rattle.jls_parts.specs.Parts.{made};
-ghost use Rattle.jls_parts.specs.PartsOf.{parts_of};
-ghost use Rattle.jls_report.specs.Report.{report_of};
-ghost use Rattle.jls_report.specs.ReportText.{report_text};
-ghost use Rattle.jls_splice_run.specs.Making.{told_lines};
+ghost use Rattle.std.specs.Prelude.{◌≡◌, ◌++◌, codes, decimal, OnOk, take};
+ghost use Rattle.std.specs.List.{flat_map};
+ghost use Rattle.jls_splice_run.specs.Lines.{differ_line, differ_lines, found_text, groups_end as spec_groups_end, groups_line, more_line, progress_line, single_line, splices_line, used_up_line};
 
-use jls_partial::Partial;
-use jls_parts::Part;
-use jls_report::Report;
-use jls_splice_lines::{Found, GroupSearch, differences_of, put_found};
-use std::alloc::{AllocError, Global};
+use crate::differences::Difference;
+use crate::found::{Found, GroupSearch};
+use jls_report::put_number;
+use std::alloc::AllocError;
 
-/// What the search came to, as the lines tell it.
-#[derive(Clone, Copy)]
-pub(crate) struct Told {
-    /// How many of the files that were found are no copies.
-    pub splices: usize,
-    pub is_used_up: bool,
-    /// What is told of the search by groups, if there was one.
-    pub by_groups: Option<GroupSearch>,
-    pub lacks_single_file: bool,
+/// How many differences have a line.
+const MOST_LINES: usize = 4096;
+
+/// Appends the line of a difference.
+fn put_difference(out: &mut Vec<u8>, difference: Difference) -> Result<(), AllocError>
+    ensures { OnOk result (out.new.items ≡ out.old.items ++ differ_line difference) }
+{
+    out.extend_from_slice(b"differ ")?;
+    put_number(out, difference.offset)?;
+    out.extend_from_slice(b" ")?;
+    put_number(out, difference.length)?;
+    out.extend_from_slice(b"\n")?;
+    Ok(())
 }
 
-/// The lines of what was found.
-fn found_lines(alloc: Global, parts: &[Part<'_>], told: Told) -> Result<Vec<u8>, AllocError>
-    requires { length (made 0 (parts_of parts.now)) < 2 ^ 64 }
-    ensures { IfOk result (λ lines.
-        lines.items ≡ told_lines (parts_of parts.now) told.splices told.is_used_up told.by_groups told.lacks_single_file) }
+/// Appends a line for each of these differences.
+#[tactic(auto, using(jls_report::proofs::OneMore::flat_map_take_more))]
+fn put_each(out: &mut Vec<u8>, differences: &[Difference]) -> Result<(), AllocError>
+    ensures { OnOk result (out.new.items ≡ out.old.items ++ flat_map differ_line differences.now) }
 {
-    let differences = differences_of(alloc, parts)?;
-    let found = Found {
-        differences: &differences,
-        splices: told.splices,
-        is_used_up: told.is_used_up,
-        by_groups: told.by_groups,
-        lacks_single_file: told.lacks_single_file,
-    };
-    let mut out = Vec::new(alloc);
-    put_found(&mut out, &found)?;
-    Ok(out)
-}
-
-/// The lines of the report of a partial picture.
-fn report_lines(alloc: Global, partial: &Partial) -> Result<Vec<u8>, AllocError>
-    ensures { IfOk result (λ lines. lines.items ≡ report_text (report_of partial.now)) }
-{
-    let report = Report::of(alloc, partial)?;
-    report.to_text(alloc)
-}
-
-/// All lines: those of what was found, and then the report. None, where the output is standard output.
-pub(crate) fn lines_of(
-    alloc: Global,
-    out: &str,
-    parts: &[Part<'_>],
-    told: Told,
-    partial: &Partial,
-) -> Result<Vec<u8>, AllocError>
-    requires { length (made 0 (parts_of parts.now)) < 2 ^ 64 }
-    ensures { IfOk result (λ lines. lines.items ≡ (if bytes_eq out.now (codes "-") then []
-        else told_lines (parts_of parts.now) told.splices told.is_used_up told.by_groups told.lacks_single_file
-        ++ report_text (report_of partial.now))) }
-{
-    if out == "-" {
-        return Ok(Vec::new(alloc));
+    for difference in differences {
+        put_difference(out, *difference)?;
     }
-    let mut lines = found_lines(alloc, parts, told)?;
-    let report = report_lines(alloc, partial)?;
-    lines.extend_from_slice(&report)?;
-    Ok(lines)
+    Ok(())
+}
+
+/// Appends how many differences have no line, if there are such.
+fn put_more(out: &mut Vec<u8>, count: usize) -> Result<(), AllocError>
+    ensures { OnOk result (out.new.items ≡ out.old.items ++ more_line count) }
+{
+    if count > MOST_LINES {
+        out.extend_from_slice(b"differ more ")?;
+        put_number(out, (count - MOST_LINES) as u64)?;
+        out.extend_from_slice(b"\n")?;
+    }
+    Ok(())
+}
+
+/// The first of these differences, each of which has a line.
+fn first_ones(differences: &[Difference]) -> &[Difference]
+    ensures { result.now ≡ take 4096 differences.now }
+{
+    if differences.len() > MOST_LINES {
+        &differences[..MOST_LINES]
+    } else {
+        differences
+    }
+}
+
+/// Appends the lines of the first differences, and how many more there are.
+fn put_differences(out: &mut Vec<u8>, differences: &[Difference]) -> Result<(), AllocError>
+    ensures { OnOk result (out.new.items ≡ out.old.items ++ differ_lines differences.now) }
+{
+    put_each(out, first_ones(differences))?;
+    put_more(out, differences.len())
+}
+
+/// Appends how many splices were taken.
+fn put_splices(out: &mut Vec<u8>, splices: usize) -> Result<(), AllocError>
+    ensures { OnOk result (out.new.items ≡ out.old.items ++ splices_line splices) }
+{
+    out.extend_from_slice(b"splices ")?;
+    put_number(out, splices as u64)?;
+    out.extend_from_slice(b"\n")?;
+    Ok(())
+}
+
+/// Appends that the search of all splices was cut off, if it was.
+fn put_used_up(out: &mut Vec<u8>, is_used_up: bool) -> Result<(), AllocError>
+    ensures { OnOk result (out.new.items ≡ out.old.items ++ used_up_line is_used_up) }
+{
+    if is_used_up {
+        out.extend_from_slice(b"tries used up\n")?;
+    }
+    Ok(())
+}
+
+/// How the line of the search by groups ends.
+fn groups_end(is_used_up: bool) -> &'static [u8]
+    ensures { result.now ≡ spec_groups_end is_used_up }
+{
+    if is_used_up {
+        b", tries used up\n"
+    } else {
+        b"\n"
+    }
+}
+
+/// Appends what the search by groups came to, if there was one.
+fn put_groups(out: &mut Vec<u8>, by_groups: Option<GroupSearch>) -> Result<(), AllocError>
+    ensures { OnOk result (out.new.items ≡ out.old.items ++ groups_line by_groups) }
+{
+    let Some(search) = by_groups else {
+        return Ok(());
+    };
+    out.extend_from_slice(b"by groups ")?;
+    put_number(out, search.groups as u64)?;
+    out.extend_from_slice(groups_end(search.is_used_up))?;
+    Ok(())
+}
+
+/// Appends that there is no single file, if one was asked for.
+fn put_single(out: &mut Vec<u8>, lacks_single_file: bool) -> Result<(), AllocError>
+    ensures { OnOk result (out.new.items ≡ out.old.items ++ single_line lacks_single_file) }
+{
+    if lacks_single_file {
+        out.extend_from_slice(b"no single file\n")?;
+    }
+    Ok(())
+}
+
+/// Appends the lines of what was found, in ASCII. Each ends with a newline. At `Err` a prefix of them may have been appended.
+pub fn put_found(out: &mut Vec<u8>, found: &Found<'_>) -> Result<(), AllocError>
+    ensures { OnOk result (out.new.items ≡ out.old.items ++ found_text found.now) }
+{
+    put_differences(out, found.differences)?;
+    put_splices(out, found.splices)?;
+    put_used_up(out, found.is_used_up)?;
+    put_groups(out, found.by_groups)?;
+    put_single(out, found.lacks_single_file)
+}
+
+/// Appends the line that says how far a search is: how many prefixes and files were tried, and how many files were found.
+pub fn put_progress(out: &mut Vec<u8>, tries: u32, files: usize) -> Result<(), AllocError>
+    ensures { OnOk result (out.new.items ≡ out.old.items ++ progress_line tries files) }
+{
+    put_number(out, u64::from(tries))?;
+    out.extend_from_slice(b" tries, ")?;
+    put_number(out, files as u64)?;
+    out.extend_from_slice(b" files\n")?;
+    Ok(())
 }

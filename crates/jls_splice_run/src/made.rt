@@ -2,15 +2,15 @@
 
 ghost use Rattle.std.specs.Prelude.{◌≡◌, ◌⊎◌, ◌<◌, ◌≤◌, ◌^◌, ℕ, List, length, true, IfOk, IfErr, IfSome, IsTrue, OnErr, option_map};
 ghost use Rattle.std.specs.List.{AllByRecursion};
-ghost use Rattle.jls_copy_files.specs.CopyFiles.{copies_of};
-ghost use Rattle.jls_device.specs.Event.{GrewBy};
-ghost use Rattle.jls_parts.specs.Parts.{made};
-ghost use Rattle.jls_parts.specs.PartsOf.{bytes_of, parts_of};
-ghost use Rattle.jls_splice.specs.Choices.{IsWhole};
-ghost use Rattle.jls_splice.specs.Search.{IsShort, WereTried, files_of, lists_of};
-ghost use Rattle.jls_group_search.specs.Found.{AreGroupTries, IsFound, by_groups_of, found_of, splices_in};
-ghost use Rattle.jls_splicing.specs.Files as given;
-ghost use Rattle.jls_splice_progress.specs.Telling.{IsTold, ToldSome};
+ghost use Rattle.jls_station.specs.CopyFiles.{copies_of};
+ghost use Rattle.jls_io.specs.Event.{GrewBy};
+ghost use Rattle.jls_diff.specs.Parts.{made};
+ghost use Rattle.jls_diff.specs.PartsOf.{bytes_of, parts_of};
+ghost use Rattle.jls_search.specs.Choices.{IsWhole};
+ghost use Rattle.jls_search.specs.Search.{IsShort, WereTried, files_of, lists_of};
+ghost use Rattle.jls_search.specs.Found.{AreGroupTries, IsFound, by_groups_of, found_of, splices_in};
+ghost use Rattle.jls_search.specs.Files as given;
+ghost use Rattle.jls_splice_run.specs.Telling.{IsTold, ToldSome};
 ghost use Rattle.jls_splice_run.specs.Making.{AreTextsOf, CantMake, HoldsMade, files_taken, lacks_single, made_of};
 ghost use Rattle.jls_splice_run.specs.Making as spec;
 ghost use Rattle.jls_splice_run.specs.Single.{IsSingleAsked};
@@ -18,19 +18,20 @@ ghost use Rattle.jls_splice_run.specs.Tasks.{task_of};
 
 use crate::copies::slices_of;
 use crate::files::count_new;
-use crate::lines::{Told, lines_of};
+use crate::found::GroupSearch;
+use crate::options::SearchOptions;
+use crate::outcome::Refusal;
+use crate::printed_lines::{Told, lines_of};
+use crate::searching::search_and_tell;
 use crate::settling::settle;
 use crate::single::single_file;
 use crate::task::{Task, want_of_memory};
-use jls_copy_files::CopyFile;
-use jls_device::Sink;
-use jls_group_search::{FoundSplices, GroupsTold, complete_by_groups};
+use jls_io::Sink;
 use jls_partial::Partial;
-use jls_splice::{are_short, parts_can_be_searched};
-use jls_splice_answers::Refusal;
-use jls_splice_lines::GroupSearch;
-use jls_splice_progress::{SearchOptions, search_and_tell};
-use jls_splicing::Files;
+use jls_search::{
+    Files, FoundSplices, GroupsTold, are_short, complete_by_groups, parts_can_be_searched,
+};
+use jls_station::CopyFile;
 use std::alloc::{AllocError, Global};
 
 /// What a run hands out, and whether each line of its picture is settled.

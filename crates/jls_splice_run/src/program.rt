@@ -2,16 +2,15 @@
 
 ghost use Rattle.std.specs.Prelude.{map};
 ghost use Rattle.std.specs.String.{string_bytes};
-ghost use Rattle.jls_splice_words.specs.Asking.{asked_of};
+ghost use Rattle.jls_cli.specs.SpliceAsking.{asked_of};
 ghost use Rattle.jls_splice_run.specs.Runs.{GrewAll, Performs, Ran};
 
+use crate::printing::{PROGRAM, print_named_twice, print_not_understood, print_outcome};
 use crate::splicing::splice;
 use crate::task::{Task, is_file_out, names_of};
-use jls_answers::answer;
-use jls_device::{Desk, Sink};
-use jls_printing::print_out_of_memory;
-use jls_splice_answers::{PROGRAM, print_named_twice, print_not_understood, print_outcome};
-use jls_splice_words::{Asked, asked_splice, matches};
+use jls_cli::answer;
+use jls_cli::splice::{Asked, asked_splice, matches};
+use jls_io::{Desk, Sink, print_out_of_memory};
 use std::alloc::Global;
 
 /// Does what is asked for, and prints the line of what came of it.

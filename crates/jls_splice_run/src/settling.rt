@@ -2,22 +2,21 @@
 
 ghost use Rattle.std.specs.Prelude.{◌≡◌, ◌<◌, length, IfOk, IfErr};
 ghost use Rattle.std.specs.List.{AllByRecursion};
-ghost use Rattle.jls_copy_files.specs.CopyFiles.{copies_of};
-ghost use Rattle.jls_parts.specs.PartsOf.{bytes_of, parts_of};
-ghost use Rattle.jls_splice.specs.Choices.{IsWhole};
-ghost use Rattle.jls_splice.specs.Search.{IsShort, lists_of};
-ghost use Rattle.jls_splicing.specs.Files.{splices_found};
+ghost use Rattle.jls_station.specs.CopyFiles.{copies_of};
+ghost use Rattle.jls_diff.specs.PartsOf.{bytes_of, parts_of};
+ghost use Rattle.jls_search.specs.Choices.{IsWhole};
+ghost use Rattle.jls_search.specs.Search.{IsShort, lists_of};
+ghost use Rattle.jls_search.specs.Files.{splices_found};
 ghost use Rattle.jls_splice_run.specs.Copies.{bytes_read};
 ghost use Rattle.jls_splice_run.specs.Making.{IsPictureOf, IsUnsettled};
 ghost use Rattle.jls_splice_run.specs.Making as spec;
 ghost use Rattle.jls_splice_run.specs.Tasks.{task_of};
 
+use crate::outcome::{Cause, Refusal};
 use crate::task::{Task, want_of_memory};
-use jls_copy_files::CopyFile;
 use jls_marker::MarkerFault;
-use jls_splice_answers::{Cause, Refusal};
-use jls_splicing::{Files, Settled, settle_files};
-use jls_station::{ReadStop, Station};
+use jls_search::{Files, Settled, settle_files};
+use jls_station::{CopyFile, ReadStop, Station};
 use std::alloc::Global;
 
 /// Why a run stops over whose files no frame was found, by how the reading of the first copy stopped.

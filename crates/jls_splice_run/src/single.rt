@@ -2,18 +2,17 @@
 
 ghost use Rattle.std.specs.Prelude.{◌↔◌, ◌++◌, ◌∷◌, [], ℕ, List, IfOk, IsTrue, option_map};
 ghost use Rattle.std.specs.List.{AllByRecursion};
-ghost use Rattle.jls_parts.specs.PartsOf.{bytes_of, parts_of};
-ghost use Rattle.jls_splice.specs.Faultless.{IsFaultless};
-ghost use Rattle.jls_splice.specs.Choices.{IsWhole};
-ghost use Rattle.jls_splice.specs.Search.{files_of, lists_of};
-ghost use Rattle.jls_splicing.specs.Files.{files_taken};
+ghost use Rattle.jls_diff.specs.PartsOf.{bytes_of, parts_of};
+ghost use Rattle.jls_search.specs.Faultless.{IsFaultless};
+ghost use Rattle.jls_search.specs.Choices.{IsWhole};
+ghost use Rattle.jls_search.specs.Search.{files_of, lists_of};
+ghost use Rattle.jls_search.specs.Files.{files_taken};
 ghost use Rattle.jls_splice_run.specs.Single.{AreSeenSo, IsSingle};
 
 use crate::files::file_of;
 use jls_copy::CopyReader;
-use jls_parts::Part;
-use jls_splice::is_faultless;
-use jls_splicing::Files;
+use jls_diff::Part;
+use jls_search::{Files, is_faultless};
 use std::alloc::{AllocError, Global};
 
 /// The files without a fault among some files.

@@ -8,9 +8,9 @@ ghost use Rattle.jls_splice_run.specs.Tasks.{task_of};
 use crate::copies::{are_whole, read_all};
 use crate::handing::{print_lines, write_file, write_output};
 use crate::made::{Made, make};
+use crate::outcome::{Outcome, Refusal};
 use crate::task::Task;
-use jls_device::{Desk, Sink};
-use jls_splice_answers::{Outcome, Refusal};
+use jls_io::{Desk, Sink};
 use std::alloc::Global;
 
 /// The bytes of a file, if there is one.

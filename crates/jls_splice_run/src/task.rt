@@ -1,13 +1,13 @@
 //! What a run is to do.
 
 ghost use Rattle.std.specs.Prelude.{◌≡◌, ◌<◌, ◌↔◌, length, IfOk, IsTrue, map};
-ghost use Rattle.jls_splice_answers.specs.declared.outcome.Cause.TheVariants.{OutOfMemory};
-ghost use Rattle.jls_splice_words.specs.Asking.{asked_of};
+ghost use Rattle.jls_splice_run.specs.declared.outcome.Cause.TheVariants.{OutOfMemory};
+ghost use Rattle.jls_cli.specs.SpliceAsking.{asked_of};
 ghost use Rattle.jls_splice_run.specs.Runs.{IsFileOut};
 ghost use Rattle.jls_splice_run.specs.Tasks.{texts_of};
 
-use jls_splice_answers::{Cause, Refusal};
-use jls_splice_words::{Asked, Options};
+use crate::outcome::{Cause, Refusal};
+use jls_cli::splice::{Asked, Options};
 use std::alloc::{AllocError, Global};
 
 /// What a run is to do: its options, the output, and the copies in their order.

@@ -3,7 +3,7 @@
 use crate::damage::copy_of;
 use crate::files::file_of;
 use jls_copy::CopyReader;
-use jls_splice::{are_short, is_dead, is_faultless, parts_can_be_searched, search_copies};
+use jls_search::{are_short, is_dead, is_faultless, parts_can_be_searched, search_copies};
 use std::alloc::Global;
 use std::process::Abort;
 use std::test::Fail;

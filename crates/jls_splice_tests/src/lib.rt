@@ -1,7 +1,13 @@
-//! Tests of the crates of `jls-splice`: the search, its command line, and a run over files in memory. They stand apart, so that those
-//! crates are proved once, without them.
+//! Tests of `jls-splice` and of what it is made of. They stand apart, so that those crates are proved once, without them.
+//!
+//! - `parts`, `groups`: where copies differ
+//! - `fronts`, `group_search`, `stations`: the searches, and stations of the files taken
+//! - `copy_files`, `lines`, `words`: copies that are read, printed lines, the command line
+//! - `memory`, `files`, `damage`, `program`: runs over files in memory
 #![tactic(auto)]
 
+#[cfg(test)]
+mod copy_files;
 #[cfg(test)]
 mod damage;
 #[cfg(test)]
@@ -9,8 +15,18 @@ mod files;
 #[cfg(test)]
 mod fronts;
 #[cfg(test)]
+mod group_search;
+#[cfg(test)]
+mod groups;
+#[cfg(test)]
+mod lines;
+#[cfg(test)]
 mod memory;
 #[cfg(test)]
+mod parts;
+#[cfg(test)]
 mod program;
+#[cfg(test)]
+mod stations;
 #[cfg(test)]
 mod words;

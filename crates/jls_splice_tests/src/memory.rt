@@ -1,6 +1,6 @@
 //! Files in memory: copies, which are numbered from 1 on, and the outputs that were created. No copy is replaced.
 
-use jls_device::Open;
+use jls_io::Open;
 use std::alloc::Global;
 use std::io;
 use std::io::{Read, Write};

@@ -4,7 +4,7 @@ use crate::damage::copies_of;
 use crate::files::{file_of, text_of};
 use crate::memory::MemoryFiles;
 use crate::words::words_of;
-use jls_device::Counted;
+use jls_io::Counted;
 use jls_splice_run::run;
 use std::alloc::{AllocError, Global};
 use std::process::Abort;

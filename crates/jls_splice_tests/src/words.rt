@@ -1,6 +1,6 @@
 //! That words are read: no clause says that memory is left for it.
 
-use jls_splice_words::{Asked, Options, asked_splice, matches};
+use jls_cli::splice::{Asked, Options, asked_splice, matches};
 use std::alloc::{AllocError, Global};
 use std::test::Fail;
 

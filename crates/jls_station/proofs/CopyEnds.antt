@@ -9,8 +9,8 @@ use Rattle.jls_copy.specs.declared.piece.PieceRecord.{PieceRecord}
 use Rattle.jls_copy.specs.declared.reader.CopyFault.{CopyFault}
 use Rattle.jls_copy.specs.declared.reader.CopyFault.TheVariants as copy
 use Rattle.jls_partial.specs.declared.text_fault.TextFault.{TextFault}
-use Rattle.jls_device.specs.Event.{History, GrewBy}
-use Rattle.jls_device.proofs.Growing.{grew_as}
+use Rattle.jls_io.specs.Event.{History, GrewBy}
+use Rattle.jls_io.proofs.Growing.{grew_as}
 use Rattle.jls_station.specs.Given.{Given, CopyReport, by_copy, given_by_copy, given_of, marked, report_of}
 use Rattle.jls_station.specs.InputFaults.{input_fault_of_copy, IsCopyRefused}
 use Rattle.jls_station.specs.Inputs.{IsCopyDone, ReadsGive, ReadsRefuse}

@@ -4,7 +4,7 @@ use Rattle.std.specs.Prelude.{◌↔◌, IsTrue, IfSome, IsSomeAnd}
 use Rattle.std.proofs.lemmas.Bool.{false≢true}
 use Rattle.std.proofs.lemmas.List.{length-append}
 use Rattle.jls_copy.specs.ReadCopy.{after}
-use Rattle.jls_device.specs.Event.{History, GrewBy, gave}
+use Rattle.jls_io.specs.Event.{History, GrewBy, gave}
 use Rattle.jls_station.specs.Inputs.{IsCopyDone}
 use Rattle.jls_station.specs.Reading.{AreBytes, ReadSoFar}
 use Rattle.jls_station.specs.Texts.{is_text}

@@ -15,8 +15,8 @@ use Rattle.jls_copy.specs.CourseLaws.{OneCourse}
 use Rattle.jls_copy.specs.declared.end.End.TheVariants.{Header}
 use Rattle.jls_copy.specs.declared.reader.CopyFault.{CopyFault}
 use Rattle.jls_copy.specs.declared.reader.CopyFault.TheVariants as copy
-use Rattle.jls_device.specs.Event.{Event, History, GrewBy, opened, not_opened, gave, read_failed, created, not_created, took, write_failed, bytes_given}
-use Rattle.jls_device.proofs.Growing.{grew_as, grew_twice}
+use Rattle.jls_io.specs.Event.{Event, History, GrewBy, opened, not_opened, gave, read_failed, created, not_created, took, write_failed, bytes_given}
+use Rattle.jls_io.proofs.Growing.{grew_as, grew_twice}
 use Rattle.jls_station.specs.Forms.{IsForm}
 use Rattle.jls_station.specs.Given.{Given, Gives, by_text, given_by_text}
 use Rattle.jls_station.specs.Inputs.{IsCopyDone, IsEnough, IsRefused, no_text, no_picture, copy_not_read, between_reads, behind_the_last, ReadsGive, ReadsRefuse, for_fault, for_memory}

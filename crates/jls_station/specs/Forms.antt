@@ -1,6 +1,6 @@
 -- What is read of an input, where the bytes of a text are not judged yet.
 use Rattle.std.specs.Prelude.{◌≡◌, ℕ, true, List, Option, None, IfSome}
-use Rattle.jls_device.specs.Event.{Event}
+use Rattle.jls_io.specs.Event.{Event}
 use Rattle.jls_station.specs.Inputs.{IsEnough, ReadsGive}
 use Rattle.jls_station.specs.Reading.{IsRead}
 use Rattle.jls_station.specs.Texts.{is_text}

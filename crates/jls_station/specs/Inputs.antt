@@ -4,7 +4,7 @@ use Rattle.jls_marker.specs.declared.fault.MarkerFault.{MarkerFault}
 use Rattle.jls_partial.specs.declared.text_fault.TextFault.{TextFault}
 use Rattle.jls_copy.specs.CopyReads.{CopyGivesNone, IsDone}
 use Rattle.jls_copy.specs.declared.reader.CopyFault.TheVariants.{NoPicture}
-use Rattle.jls_device.specs.Event.{Event}
+use Rattle.jls_io.specs.Event.{Event}
 use Rattle.jls_station.specs.Given.{Given, Gives}
 use Rattle.jls_station.specs.Reading.{IsRead, IsReadInPart}
 use Rattle.jls_station.specs.Texts.{is_text, IsNoText}

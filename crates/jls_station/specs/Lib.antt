@@ -6,3 +6,4 @@ pub mod Inputs
 pub mod Reading
 pub mod TakingCopies
 pub mod Texts
+pub mod CopyFiles

@@ -1,7 +1,7 @@
 -- How an input is read: as long as there is reason to, and no longer.
 use Rattle.std.specs.Prelude.{◌≡◌, ℕ, ◌<◌, ◌≤◌, List, [], ◌∷◌, ◌++◌, length}
 use Rattle.std.specs.List.{AllByRecursion}
-use Rattle.jls_device.specs.Event.{Event, gave, read_failed, bytes_given}
+use Rattle.jls_io.specs.Event.{Event, gave, read_failed, bytes_given}
 use Rattle.jls_station.specs.declared.input.ReadStop.{ReadStop}
 use Rattle.jls_station.specs.declared.input.ReadStop.TheVariants.{Whole, Failed, Turns}
 

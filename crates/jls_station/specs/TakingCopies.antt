@@ -6,7 +6,7 @@ use Rattle.jls_partial.specs.Partial.{PartialPicture, has_same_shape, union}
 use Rattle.jls_copy.specs.CopyReads.{CopyReads, CopyGivesNone}
 use Rattle.jls_copy.specs.ReadCopy.{ReadCopy}
 use Rattle.jls_copy.specs.declared.reader.CopyFault.TheVariants as copy
-use Rattle.jls_device.specs.Event.{Event}
+use Rattle.jls_io.specs.Event.{Event}
 use Rattle.jls_station.specs.Given.{CopyReport, found_in, marked}
 use Rattle.jls_station.specs.Inputs.{IsCopyDone}
 use Rattle.jls_station.specs.Reading.{IsRead, IsReadInPart}

@@ -2,7 +2,7 @@
 
 ghost use Rattle.std.specs.Prelude.{◌≡◌, ◌↔◌, ◌<◌, ◌≤◌, ℕ, IsTrue, List, Option, None, Some, true, false, length, IfOk, IfErr, IfSome, OnOk, MatchOption};
 ghost use Rattle.std.specs.Io.KnownBytes.{Consumes};
-ghost use Rattle.jls_device.specs.Event.{History, GrewBy};
+ghost use Rattle.jls_io.specs.Event.{History, GrewBy};
 ghost use Rattle.jls_station.specs.Forms.{IsForm, IsAllOf};
 ghost use Rattle.jls_station.specs.Given.{given_by_text, given_of};
 ghost use Rattle.jls_station.specs.Inputs.{IsEnough, IsCopyDone, ReadsGive, ReadsRefuse};
@@ -16,7 +16,7 @@ use crate::copy_end::{CopyGiven, read_of_copy};
 use crate::reading::{front, read_copy_on, read_text_on};
 use crate::take_report::TakeReport;
 use jls_copy::{CopyReader, copies_have_one_course};
-use jls_device::Source;
+use jls_io::Source;
 use jls_marker::MarkerFault;
 use jls_partial::{Partial, TextFault};
 use std::alloc::{AllocError, Global};

@@ -1,12 +1,15 @@
-//! Stations, the copies that they take, and the reading of one input.
+//! Stations, the copies that they take, the reading of one input, and copies of one file read whole into memory.
 //!
 //! - `input`, `reading`, `copy_end`: read one input. `read_form` gives the bytes of a text, not judged yet, or what a copy gives.
 //!   `read_input` gives what either gives. `reading` has the two loops, `copy_end` what a copy gives where they stop
 //! - `take_report`: what is said of a copy that was taken
 //! - `station`, `take_copy`: take partial pictures of one shape, texts of them, and copies
+//! - `whole_reading`: reads a copy to its end, also after its EOI. It stops if the bytes begin like a partial picture
+//! - `copy`: opens, reads and keeps one copy, or gives the cause why not
+//! - `copies`: all copies in turn, until one is not taken
 //!
 //! Definitions: `Reading` (how an input is read), `Texts`, `Given` (what an input gives), `Inputs` and `InputFaults` (why one is refused),
-//! `TakingCopies`. Inside the crate: `Forms`.
+//! `TakingCopies`, `CopyFiles`. Inside the crate: `Forms`.
 //!
 //! Not proved:
 //!
@@ -14,14 +17,20 @@
 //!   refusal.
 #![tactic(auto)]
 
+mod copies;
+mod copy;
 mod copy_end;
 mod input;
 mod reading;
 mod station;
 mod take_copy;
 mod take_report;
+mod whole_reading;
 
+pub use copies::read_copies;
+pub use copy::{CopyCause, CopyFile, CopyRefusal, open_and_read_copy};
 pub use input::{InputFault, InputForm, InputRead, ReadStop, input_fault, read_form, read_input};
 pub use station::Station;
 pub use take_copy::TakeFault;
 pub use take_report::TakeReport;
+pub use whole_reading::read_to_end;

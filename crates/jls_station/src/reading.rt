@@ -2,7 +2,7 @@
 
 ghost use Rattle.std.specs.Prelude.{◌≡◌, ◌≤◌, ◌<◌, ◌*◌, ◌↔◌, ℕ, List, Option, Some, true, IsTrue, length, IfOk, OnErr, IfSome, IsSomeAnd, take};
 ghost use Rattle.std.specs.Io.KnownBytes.{Consumes, IsAtEnd};
-ghost use Rattle.jls_device.specs.Event.{History, GrewBy};
+ghost use Rattle.jls_io.specs.Event.{History, GrewBy};
 ghost use Rattle.jls_station.specs.Inputs.{IsEnough, IsCopyDone};
 ghost use Rattle.jls_station.specs.Reading.{AreBytes, ReadSoFar, IsRead, IsReadInPart};
 ghost use Rattle.jls_station.specs.Texts.{is_text};
@@ -10,7 +10,7 @@ ghost use Rattle.jls_station.specs.declared.input.ReadStop.TheVariants.{Whole};
 
 use crate::input::ReadStop;
 use jls_copy::{CopyReader, copies_have_one_course};
-use jls_device::Source;
+use jls_io::Source;
 use std::alloc::AllocError;
 
 /// The most reads of one input.

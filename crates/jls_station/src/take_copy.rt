@@ -1,7 +1,7 @@
 //! Copies that a station takes.
 
 ghost use Rattle.std.specs.Prelude.{IfOk, IfErr};
-ghost use Rattle.jls_device.specs.Event.{GrewBy};
+ghost use Rattle.jls_io.specs.Event.{GrewBy};
 ghost use Rattle.jls_station.specs.TakingCopies.{IsTakenFor, CopyGives, CopyStops, TakesCopy, RefusesCopy};
 
 use crate::copy_end::{CopyGiven, read_of_copy};
@@ -10,7 +10,7 @@ use crate::reading::read_copy_on;
 use crate::station::Station;
 use crate::take_report::TakeReport;
 use jls_copy::CopyReader;
-use jls_device::Source;
+use jls_io::Source;
 use jls_marker::MarkerFault;
 use jls_values::MergeFault;
 use std::alloc::Global;

@@ -3,7 +3,7 @@
 use super::failing::{lines_in, report_of_front};
 use super::memory::{GOOD, Manners, MemoryFiles};
 use super::{copies, run_line};
-use jls_device::Counted;
+use jls_io::Counted;
 use std::alloc::Global;
 use std::fmt::Write;
 use std::process::Abort;

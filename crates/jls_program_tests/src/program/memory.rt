@@ -1,6 +1,6 @@
 //! Files in memory, which do as they are told.
 
-use jls_device::Open;
+use jls_io::Open;
 use std::alloc::Global;
 use std::io;
 use std::io::{Read, Write};

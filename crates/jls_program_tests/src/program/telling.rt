@@ -2,7 +2,7 @@
 
 use super::memory::{GOOD, Manners, MemoryFiles};
 use super::{copies, run_line, run_words};
-use jls_device::Counted;
+use jls_io::Counted;
 use std::alloc::Global;
 use std::fmt::Write;
 use std::process::Abort;

@@ -3,7 +3,7 @@
 use super::memory::{GOOD, MemoryFiles};
 use super::pictures::FILES;
 use super::{run_line, run_words};
-use jls_device::Counted;
+use jls_io::Counted;
 use std::io;
 use std::io::Write;
 use std::test::Fail;

@@ -1,6 +1,6 @@
 //! Damaged copies as inputs, from sources that give so many bytes a read at most, and that end or fail behind the last one.
 
-use jls_device::Counted;
+use jls_io::Counted;
 use jls_partial::Partial;
 use jls_station::{Station, TakeReport, read_input};
 use jls_values::Shape;

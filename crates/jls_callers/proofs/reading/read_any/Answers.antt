@@ -1,4 +1,4 @@
-use Rattle.jls_device.specs.Event.{GrewBy}
+use Rattle.jls_io.specs.Event.{GrewBy}
 use Rattle.jls_station.specs.Given.{Given}
 use Rattle.jls_station.specs.Inputs.{ReadsGive}
 use Rattle.jls_headline.specs.Collected.{copy_input, text_input}

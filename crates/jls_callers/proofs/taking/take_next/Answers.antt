@@ -1,5 +1,5 @@
 use Rattle.std.proofs.Common.{subst}
-use Rattle.jls_device.specs.Event.{GrewBy}
+use Rattle.jls_io.specs.Event.{GrewBy}
 use Rattle.jls_station.specs.Given.{CopyReport}
 use Rattle.jls_station.specs.TakingCopies.{TakesCopy, RefusesCopy}
 use Rattle.jls_station.specs.declared.take_copy.TakeFault.{TakeFault}

@@ -1,9 +1,9 @@
 use Rattle.std.proofs.Common.{ℕ, ◌<◌, ◌^◌, refl, ap, ◌∙◌, subst, arith}
 use Rattle.jls_values.specs.Params.{CodingParameters, AreCodingParameters}
-use Rattle.jls_picture.specs.Outcomes.{HandedOut}
-use Rattle.jls_picture.specs.Picture.{WholePicture, picture_of}
-use Rattle.jls_file.specs.WrittenFile.{written_file}
-use Rattle.jls_picture.specs.Options.{OptionsFit}
+use Rattle.jls_write.specs.Outcomes.{HandedOut}
+use Rattle.jls_write.specs.Picture.{WholePicture, picture_of}
+use Rattle.jls_write.specs.WrittenFile.{written_file}
+use Rattle.jls_write.specs.Options.{OptionsFit}
 use Rattle.jls_headline.specs.Headline.{SinkCall}
 use Rattle.jls_callers.proofs.writing.write_station.Goals as goal
 

@@ -1,5 +1,5 @@
 use Rattle.std.proofs.Common.{take}
-use Rattle.jls_copy_files.specs.CopyFiles.{copies_of}
+use Rattle.jls_station.specs.CopyFiles.{copies_of}
 use Rattle.jls_splice_run.specs.Copies.{AreWhole}
 use Rattle.jls_splice_run.proofs.copies.are_whole.Given as goal
 

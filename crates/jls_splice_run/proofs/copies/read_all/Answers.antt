@@ -1,5 +1,5 @@
-use Rattle.jls_device.proofs.Growing.{grew_as}
-use Rattle.jls_copy_files.specs.CopyFiles.{StopsAmongCopies}
+use Rattle.jls_io.proofs.Growing.{grew_as}
+use Rattle.jls_station.specs.CopyFiles.{StopsAmongCopies}
 use Rattle.jls_splice_run.specs.Copies.{StopsAtCopies}
 use Rattle.jls_splice_run.specs.Tasks.{texts_of}
 use Rattle.jls_splice_run.proofs.copies.read_all.Goals as goal

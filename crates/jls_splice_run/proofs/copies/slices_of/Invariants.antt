@@ -1,6 +1,6 @@
 use Rattle.std.proofs.Common.{◌≡◌, take}
-use Rattle.jls_copy_files.specs.CopyFiles.{copies_of}
-use Rattle.jls_parts.specs.PartsOf.{bytes_of}
+use Rattle.jls_station.specs.CopyFiles.{copies_of}
+use Rattle.jls_diff.specs.PartsOf.{bytes_of}
 use Rattle.jls_splice_run.specs.Copies.{bytes_read}
 use Rattle.jls_splice_run.proofs.copies.slices_of.Given as goal
 

@@ -1,7 +1,7 @@
 use Rattle.std.proofs.Common.{sym, subst}
-use Rattle.jls_parts.specs.PartsOf.{parts_of}
-use Rattle.jls_splice.specs.Choices.{IsPath}
-use Rattle.jls_splicing.proofs.Members.{whole_at}
+use Rattle.jls_diff.specs.PartsOf.{parts_of}
+use Rattle.jls_search.specs.Choices.{IsPath}
+use Rattle.jls_search.proofs.Members.{whole_at}
 use Rattle.jls_splice_run.proofs.files.count_new.Goals as goal
 
 pub file_of-requires : goal.file_of-requires

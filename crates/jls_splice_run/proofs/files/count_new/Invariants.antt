@@ -1,6 +1,6 @@
 use Rattle.std.proofs.Common.{◌≡◌, ◌≤◌, take}
-use Rattle.jls_parts.specs.PartsOf.{bytes_of, parts_of}
-use Rattle.jls_splice.specs.Search.{files_of, lists_of}
+use Rattle.jls_diff.specs.PartsOf.{bytes_of, parts_of}
+use Rattle.jls_search.specs.Search.{files_of, lists_of}
 use Rattle.jls_splice_run.specs.Files as spec
 use Rattle.jls_splice_run.proofs.files.count_new.Given as goal
 

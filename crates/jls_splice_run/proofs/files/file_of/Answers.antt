@@ -1,6 +1,6 @@
 use Rattle.std.proofs.Common.{List, ◌∙◌}
-use Rattle.jls_parts.specs.Parts.{Part}
-use Rattle.jls_parts.specs.PartsOf.{parts_of}
+use Rattle.jls_diff.specs.Parts.{Part}
+use Rattle.jls_diff.specs.PartsOf.{parts_of}
 use Rattle.jls_splice_run.proofs.MakingLemmas.{front_one_more, length-map, path_at}
 use Rattle.jls_splice_run.proofs.files.file_of.Goals as goal
 

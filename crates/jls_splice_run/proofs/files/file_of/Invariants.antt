@@ -1,6 +1,6 @@
 use Rattle.std.proofs.Common.{◌≡◌, take}
-use Rattle.jls_parts.specs.PartsOf.{parts_of}
-use Rattle.jls_splice.specs.Choices.{front_of}
+use Rattle.jls_diff.specs.PartsOf.{parts_of}
+use Rattle.jls_search.specs.Choices.{front_of}
 use Rattle.jls_splice_run.proofs.files.file_of.Given as goal
 
 abbrev pub invariant-loop-place : goal.invariant-loop-place

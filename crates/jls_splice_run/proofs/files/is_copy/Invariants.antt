@@ -1,5 +1,5 @@
 use Rattle.std.proofs.Common.{◌≡◌, false, take}
-use Rattle.jls_parts.specs.PartsOf.{bytes_of}
+use Rattle.jls_diff.specs.PartsOf.{bytes_of}
 use Rattle.jls_splice_run.specs.Files as spec
 use Rattle.jls_splice_run.proofs.files.is_copy.Given as goal
 

@@ -1,6 +1,6 @@
 use Rattle.std.proofs.Common.{refl}
-use Rattle.jls_device.specs.Writing.{WroteFront}
-use Rattle.jls_device.proofs.Growing.{grew_as}
+use Rattle.jls_io.specs.Writing.{WroteFront}
+use Rattle.jls_io.proofs.Growing.{grew_as}
 use Rattle.jls_splice_run.specs.Handing.{StopsAtReport}
 use Rattle.jls_splice_run.proofs.handing.print_lines.Goals as goal
 

@@ -1,7 +1,7 @@
 use Rattle.std.proofs.Common.{◌∷◌, [], refl}
-use Rattle.jls_device.specs.Event.{created, not_created}
-use Rattle.jls_device.specs.Writing.{Wrote, WroteFront}
-use Rattle.jls_commands.specs.Outputs.{HandsOut}
+use Rattle.jls_io.specs.Event.{created, not_created}
+use Rattle.jls_io.specs.Writing.{Wrote, WroteFront}
+use Rattle.jls_io.specs.Outputs.{HandsOut}
 use Rattle.jls_splice_run.specs.Handing.{StopsAtOutput, cut, not_there}
 use Rattle.jls_splice_run.proofs.Handed.{grew_behind}
 use Rattle.jls_splice_run.proofs.handing.write_output.Goals as goal

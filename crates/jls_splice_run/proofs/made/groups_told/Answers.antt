@@ -1,7 +1,7 @@
 use Rattle.std.proofs.Common.{Option, ap, sym}
 use Rattle.std.specs.Prelude.{option_map}
-use Rattle.jls_group_search.specs.Found.{by_groups_of}
-use Rattle.jls_group_search.specs.declared.found.GroupsTold.{GroupsTold}
+use Rattle.jls_search.specs.Found.{by_groups_of}
+use Rattle.jls_search.specs.declared.found.GroupsTold.{GroupsTold}
 use Rattle.jls_splice_run.specs.Making.{groups_told}
 use Rattle.jls_splice_run.proofs.made.groups_told.Goals as goal
 

@@ -1,13 +1,13 @@
 use Rattle.std.proofs.Common.{◌≡◌, ℕ, arith, List, length, inl, inr, ap, sym, ◌∙◌, subst}
-use Rattle.jls_copy_files.specs.CopyFiles.{CopyBytes, copies_of}
-use Rattle.jls_device.proofs.Growing.{grew_as, grew_not}
+use Rattle.jls_station.specs.CopyFiles.{CopyBytes, copies_of}
+use Rattle.jls_io.proofs.Growing.{grew_as, grew_not}
 use Rattle.jls_partial.specs.Partial.{PartialPicture}
-use Rattle.jls_parts.specs.PartsOf.{bytes_of, parts_of}
-use Rattle.jls_splice.specs.Search.{files_of, lists_of}
-use Rattle.jls_splice_progress.specs.Telling.{IsTold, ToldSome}
-use Rattle.jls_splice_progress.proofs.Rounds.{none_told}
+use Rattle.jls_diff.specs.PartsOf.{bytes_of, parts_of}
+use Rattle.jls_search.specs.Search.{files_of, lists_of}
+use Rattle.jls_splice_run.specs.Telling.{IsTold, ToldSome}
+use Rattle.jls_splice_run.proofs.Rounds.{none_told}
 use Rattle.jls_splice_run.specs.Copies.{bytes_read}
-use Rattle.jls_group_search.specs.Found.{IsFound, found_of, splices_in}
+use Rattle.jls_search.specs.Found.{IsFound, found_of, splices_in}
 use Rattle.jls_splice_run.specs.Making.{AreTextsOf, AreTries, CantMake, HoldsMade, IsPictureOf, IsUnsettled, files_taken, made_of}
 use Rattle.jls_splice_run.specs.Single.{IsSingleAsked}
 use Rattle.jls_splice_run.specs.Tasks.{task_of}

@@ -1,13 +1,13 @@
 use Rattle.std.proofs.Common.{◌≡◌, ℕ, ◌<◌, arith, true, List, length, ap, sym, ◌∙◌, subst, inl, inr}
-use Rattle.jls_device.specs.Event.{GrewBy}
-use Rattle.jls_device.proofs.Growing.{grew_as, grew_not}
-use Rattle.jls_parts.proofs.Slices.{count_of_slices}
-use Rattle.jls_parts.specs.PartsOf.{bytes_of, parts_of}
-use Rattle.jls_splice.specs.Search.{WereTried, lists_of}
-use Rattle.jls_splice.specs.SearchLaws.{AreShort}
-use Rattle.jls_group_search.specs.Found.{found_of}
-use Rattle.jls_splice_progress.specs.Telling.{IsTold, ToldSome}
-use Rattle.jls_splice_progress.proofs.Rounds.{none_told, on_err_anyway}
+use Rattle.jls_io.specs.Event.{GrewBy}
+use Rattle.jls_io.proofs.Growing.{grew_as, grew_not}
+use Rattle.jls_diff.proofs.Slices.{count_of_slices}
+use Rattle.jls_diff.specs.PartsOf.{bytes_of, parts_of}
+use Rattle.jls_search.specs.Search.{WereTried, lists_of}
+use Rattle.jls_search.specs.SearchLaws.{AreShort}
+use Rattle.jls_search.specs.Found.{found_of}
+use Rattle.jls_splice_run.specs.Telling.{IsTold, ToldSome}
+use Rattle.jls_splice_run.proofs.Rounds.{none_told, on_err_anyway}
 use Rattle.jls_splice_run.proofs.MakingLemmas.{first_is_short}
 use Rattle.jls_splice_run.proofs.made.search.Goals as goal
 

@@ -1,11 +1,11 @@
 use Rattle.std.proofs.Common.{◌≡◌, ℕ, List, [], ◌++◌, drop, Vec, Global, Bor, ap, refl, sym, ◌∙◌, subst}
 use Rattle.std.specs.Prelude.{codes, option_map, if◌then◌else◌}
 use Rattle.std.specs.Str.{bytes_eq}
-use Rattle.jls_parts.specs.PartsOf.{bytes_of, parts_of}
+use Rattle.jls_diff.specs.PartsOf.{bytes_of, parts_of}
 use Rattle.jls_report.specs.Report.{report_of}
 use Rattle.jls_report.specs.ReportText.{report_text}
-use Rattle.jls_splice.specs.Search.{files_of, lists_of}
-use Rattle.jls_group_search.specs.Found.{found_of, splices_in}
+use Rattle.jls_search.specs.Search.{files_of, lists_of}
+use Rattle.jls_search.specs.Found.{found_of, splices_in}
 use Rattle.jls_splice_run.specs.Files.{count_new}
 use Rattle.jls_splice_run.specs.Making.{groups_told, lacks_single, told_lines}
 use Rattle.jls_splice_run.specs.Single.{IsSingleAsked}

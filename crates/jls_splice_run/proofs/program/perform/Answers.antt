@@ -1,5 +1,5 @@
 use Rattle.std.proofs.Common.{ℕ, List, ap, ◌∙◌, subst}
-use Rattle.jls_splice_words.specs.Asking.{Asked, asked_of, options_in}
+use Rattle.jls_cli.specs.SpliceAsking.{Asked, asked_of, options_in}
 use Rattle.jls_splice_run.specs.Runs.{GrewAll, Splices}
 use Rattle.jls_splice_run.specs.Tasks.{texts_of}
 use Rattle.jls_splice_run.proofs.Running.{performs, performs_nothing}

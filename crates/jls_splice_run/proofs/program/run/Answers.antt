@@ -1,6 +1,6 @@
 use Rattle.std.proofs.Common.{◌∙◌, inr, map, sym, ap}
 use Rattle.std.specs.String.{string_bytes}
-use Rattle.jls_splice_words.specs.Asking.{asked_by, asked_of}
+use Rattle.jls_cli.specs.SpliceAsking.{asked_by, asked_of}
 use Rattle.jls_splice_run.proofs.Running.{ran, ran_named_twice, ran_nothing, ran_refused}
 use Rattle.jls_splice_run.proofs.program.run.Goals as goal
 

@@ -1,9 +1,9 @@
 use Rattle.std.proofs.Common.{◌<◌, ℕ, List, length, inr, refl, ap, ◌∙◌, subst, arith}
-use Rattle.jls_parts.specs.PartsOf.{bytes_of}
-use Rattle.jls_splicing.specs.Files.{splices_found}
-use Rattle.jls_splicing.specs.Settling.{SettlesFiles}
-use Rattle.jls_splicing.specs.Shapes.{IsShapeFound}
-use Rattle.jls_splicing.specs.declared.shape_found.ShapeFound.TheVariants as found
+use Rattle.jls_diff.specs.PartsOf.{bytes_of}
+use Rattle.jls_search.specs.Files.{splices_found}
+use Rattle.jls_search.specs.Settling.{SettlesFiles}
+use Rattle.jls_search.specs.Shapes.{IsShapeFound}
+use Rattle.jls_search.specs.declared.shape_found.ShapeFound.TheVariants as found
 use Rattle.jls_station.specs.declared.input.ReadStop.{ReadStop}
 use Rattle.jls_splice_run.specs.Making.{no_picture_cause}
 use Rattle.jls_splice_run.proofs.Members.{first_stop, name_at, named_within}

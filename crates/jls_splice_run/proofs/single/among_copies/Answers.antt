@@ -1,7 +1,7 @@
 use Rattle.std.proofs.Common.{ℕ, List, take, sym, subst, Bor, arith}
 use Rattle.std.proofs.lemmas.List.{take_all}
-use Rattle.jls_parts.specs.PartsOf.{bytes_of}
-use Rattle.jls_splicing.proofs.Members.{map_one_more}
+use Rattle.jls_diff.specs.PartsOf.{bytes_of}
+use Rattle.jls_search.proofs.Members.{map_one_more}
 use Rattle.jls_splice_run.specs.Single.{AreSeenSo}
 use Rattle.jls_splice_run.proofs.single.among_copies.Goals as goal
 

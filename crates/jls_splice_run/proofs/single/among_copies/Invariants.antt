@@ -1,5 +1,5 @@
 use Rattle.std.proofs.Common.{take}
-use Rattle.jls_parts.specs.PartsOf.{bytes_of}
+use Rattle.jls_diff.specs.PartsOf.{bytes_of}
 use Rattle.jls_splice_run.specs.Single.{AreSeenSo}
 use Rattle.jls_splice_run.proofs.single.among_copies.Given as goal
 

@@ -1,5 +1,5 @@
-use Rattle.jls_parts.specs.PartsOf.{bytes_of}
-use Rattle.jls_splicing.specs.Files.{files_taken}
+use Rattle.jls_diff.specs.PartsOf.{bytes_of}
+use Rattle.jls_search.specs.Files.{files_taken}
 use Rattle.jls_splice_run.proofs.single.single_file.Goals as goal
 
 pub returns : goal.returns

@@ -1,6 +1,6 @@
 use Rattle.std.proofs.Common.{ℕ, List, ◌∷◌, [], ◌++◌, sym, subst}
 use Rattle.std.specs.Prelude.{IsTrue}
-use Rattle.jls_splice.specs.Faultless.{IsFaultless}
+use Rattle.jls_search.specs.Faultless.{IsFaultless}
 use Rattle.jls_splice_run.specs.Single.{AreSeenSo}
 use Rattle.jls_splice_run.proofs.Seen.{faulty_more}
 use Rattle.jls_splice_run.proofs.single.with_copy.Goals as goal

@@ -1,9 +1,9 @@
 use Rattle.std.proofs.Common.{◌≡◌, ℕ, List, [], ◌∷◌, ◌++◌, Vec, Global, take, sym, ap, ◌∙◌, subst, append_assoc, arith}
 use Rattle.std.proofs.lemmas.List.{take_all}
-use Rattle.jls_parts.specs.PartsOf.{parts_of}
-use Rattle.jls_splice.specs.Choices.{IsPath, front_of}
-use Rattle.jls_splice.specs.Search.{files_of, lists_of}
-use Rattle.jls_splicing.proofs.Members.{splices_one_more, whole_at}
+use Rattle.jls_diff.specs.PartsOf.{parts_of}
+use Rattle.jls_search.specs.Choices.{IsPath, front_of}
+use Rattle.jls_search.specs.Search.{files_of, lists_of}
+use Rattle.jls_search.proofs.Members.{splices_one_more, whole_at}
 use Rattle.jls_splice_run.specs.Single.{AreSeenSo}
 use Rattle.jls_splice_run.proofs.single.with_splices.Goals as goal
 

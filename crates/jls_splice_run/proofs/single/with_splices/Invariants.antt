@@ -1,6 +1,6 @@
 use Rattle.std.proofs.Common.{ℕ, List, ◌++◌, take}
-use Rattle.jls_parts.specs.PartsOf.{parts_of}
-use Rattle.jls_splice.specs.Search.{files_of, lists_of}
+use Rattle.jls_diff.specs.PartsOf.{parts_of}
+use Rattle.jls_search.specs.Search.{files_of, lists_of}
 use Rattle.jls_splice_run.specs.Single.{AreSeenSo}
 use Rattle.jls_splice_run.proofs.single.with_splices.Given as goal
 

@@ -1,7 +1,7 @@
 use Rattle.std.proofs.Common.{ℕ, List, Option, subst}
-use Rattle.jls_device.specs.Event.{GrewBy}
-use Rattle.jls_device.specs.Writing.{Wrote}
-use Rattle.jls_commands.specs.Outputs.{HandsOut}
+use Rattle.jls_io.specs.Event.{GrewBy}
+use Rattle.jls_io.specs.Writing.{Wrote}
+use Rattle.jls_io.specs.Outputs.{HandsOut}
 use Rattle.jls_splice_run.specs.Handing.{HandsFile, StopsAtFile, StopsAtOutput, StopsAtReport}
 use Rattle.jls_splice_run.specs.Runs.{texts_held}
 use Rattle.jls_splice_run.specs.Tasks.{task_of}

@@ -1,7 +1,7 @@
 use Rattle.std.proofs.Common.{◌≡◌, ◌<◌, ℕ, List, length, Bor, subst, sym, arith}
-use Rattle.jls_device.specs.Event.{Event, GrewBy}
-use Rattle.jls_copy_files.specs.CopyFiles.{AreCopiesRead, copies_of, copy_of}
-use Rattle.jls_copy_files.specs.declared.copy.CopyFile.{CopyFile}
+use Rattle.jls_io.specs.Event.{Event, GrewBy}
+use Rattle.jls_station.specs.CopyFiles.{AreCopiesRead, copies_of, copy_of}
+use Rattle.jls_station.specs.declared.copy.CopyFile.{CopyFile}
 use Rattle.jls_splice_run.specs.Copies.{AreWhole}
 use Rattle.jls_splice_run.specs.Making.{CantMake, HoldsMade}
 use Rattle.jls_splice_run.specs.Tasks.{task_of, texts_of}

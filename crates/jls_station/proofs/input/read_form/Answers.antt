@@ -2,7 +2,7 @@ use Rattle.std.proofs.Common.{rules, ◌≡◌, ◌<◌, ℕ, List, [], ap, refl
 use Rattle.std.proofs.lemmas.List.{length-take}
 use Rattle.std.proofs.lemmas.Result.{IfErr-at_err, IfOk-at_ok, err_from_is_err_and}
 use Rattle.jls_marker.specs.declared.fault.MarkerFault.TheVariants as marker
-use Rattle.jls_device.specs.Event.{GrewBy}
+use Rattle.jls_io.specs.Event.{GrewBy}
 use Rattle.jls_station.specs.Inputs.{IsEnough, IsCopyDone, no_picture, copy_not_read}
 use Rattle.jls_station.specs.Reading.{AreBytes, ReadSoFar}
 use Rattle.jls_station.specs.declared.input.ReadStop.TheVariants.{Whole, Failed}

@@ -3,7 +3,7 @@ use Rattle.std.proofs.lemmas.Result.{IfOk-at_ok, err_from_is_err_and}
 use Rattle.jls_partial.specs.Partial.{PartialPicture}
 use Rattle.jls_partial.specs.TextReading.{GivesText, read_text}
 use Rattle.jls_partial.specs.declared.text_fault.TextFault.{TextFault}
-use Rattle.jls_device.specs.Event.{GrewBy}
+use Rattle.jls_io.specs.Event.{GrewBy}
 use Rattle.jls_station.specs.Forms.{IsForm}
 use Rattle.jls_station.specs.Given.{Given}
 use Rattle.jls_station.specs.Inputs.{ReadsGive}

@@ -1,6 +1,6 @@
 use Rattle.std.proofs.Common.{rules, ◌≡◌, ◌∙◌, ◌++◌, ℕ, List, [], ap, sym, subst, arith, length}
 use Rattle.std.proofs.lemmas.Result.{err_from_is_err_and}
-use Rattle.jls_device.specs.Event.{GrewBy}
+use Rattle.jls_io.specs.Event.{GrewBy}
 use Rattle.jls_station.specs.Inputs.{IsEnough, text_not_read, ReadsRefuse}
 use Rattle.jls_station.specs.Reading.{IsRead}
 use Rattle.jls_station.specs.declared.input.ReadStop.{ReadStop}

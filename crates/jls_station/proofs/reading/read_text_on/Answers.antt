@@ -1,7 +1,7 @@
 use Rattle.std.proofs.Common.{rules, ◌≡◌, ◌<◌, ◌+◌, ◌++◌, ◌∙◌, ap, sym, subst, List, ℕ, true, arith, take, length}
 use Rattle.std.proofs.lemmas.List.{length-take}
 use Rattle.std.specs.Io.KnownBytes.{Consumes}
-use Rattle.jls_device.specs.Event.{GrewBy}
+use Rattle.jls_io.specs.Event.{GrewBy}
 use Rattle.jls_station.specs.Inputs.{IsEnough}
 use Rattle.jls_station.specs.Reading.{AreBytes, IsReadInPart, ReadSoFar}
 use Rattle.jls_station.specs.Texts.{is_text}

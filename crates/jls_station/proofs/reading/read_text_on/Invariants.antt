@@ -1,6 +1,6 @@
 use Rattle.std.proofs.Common.{◌≡◌, ℕ, List, Option, true}
 use Rattle.std.specs.Io.KnownBytes.{Consumes}
-use Rattle.jls_device.specs.Event.{History, GrewBy}
+use Rattle.jls_io.specs.Event.{History, GrewBy}
 use Rattle.jls_station.specs.Inputs.{IsEnough}
 use Rattle.jls_station.specs.Reading.{ReadSoFar}
 use Rattle.jls_station.specs.Texts.{is_text}

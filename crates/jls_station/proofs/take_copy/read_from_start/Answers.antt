@@ -1,6 +1,6 @@
 use Rattle.std.proofs.Common.{rules, []}
 use Rattle.std.proofs.lemmas.Result.{IfErr-at_err, IfOk-at_ok, err_from_is_err_and}
-use Rattle.jls_device.proofs.Growing.{grew_as}
+use Rattle.jls_io.proofs.Growing.{grew_as}
 use Rattle.jls_station.specs.Inputs.{IsCopyDone}
 use Rattle.jls_station.specs.Reading.{IsReadInPart}
 use Rattle.jls_station.specs.TakingCopies.{CopyStops, between_reads}

@@ -3,8 +3,8 @@ use Rattle.std.proofs.lemmas.Result.{err_from_is_err_and}
 use Rattle.jls_values.specs.declared.merge.MergeFault.{MergeFault}
 use Rattle.jls_values.specs.declared.merge.MergeFault.TheVariants as merge
 use Rattle.jls_partial.specs.Partial.{PartialPicture, has_same_shape}
-use Rattle.jls_device.specs.Event.{GrewBy}
-use Rattle.jls_device.proofs.Growing.{grew_as}
+use Rattle.jls_io.specs.Event.{GrewBy}
+use Rattle.jls_io.proofs.Growing.{grew_as}
 use Rattle.jls_station.specs.TakingCopies.{CopyGives, CopyStops, TakesCopy, RefusesCopy, gives_none, other_shape, no_memory}
 use Rattle.jls_station.specs.declared.take_copy.TakeFault.TheVariants as take
 use Rattle.jls_station.proofs.station.Station.take_copy.Goals as goal

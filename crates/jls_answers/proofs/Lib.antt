@@ -1,2 +1,0 @@
-mod AnswerExamples
-mod RefusedWords

@@ -1,0 +1,11 @@
+-- Lemmas of this crate.
+mod SalvageNumbers
+mod SalvageSimpleCommand
+pub mod SalvageWordsRead
+mod SalvageWordsTakenExamples
+mod SpliceNumbers
+mod SpliceSimpleCommand
+mod SpliceWordsRead
+mod SpliceWordsTakenExamples
+mod AnswerExamples
+mod RefusedWords

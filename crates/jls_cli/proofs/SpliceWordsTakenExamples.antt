@@ -1,0 +1,76 @@
+-- Words that clap reads, and words that it refuses: the premises of the theorems on `run` hold of them.
+use Rattle.std.proofs.Common.{◌≡◌, true, false, List, [], ◌∷◌, ◌++◌, Some, None, refl, inl}
+use Rattle.std.specs.Prelude.{codes}
+use Rattle.clap.specs.Words.{Text, Kinds, fault_of}
+use Rattle.clap.specs.declared.error.kind.ErrorKind.TheVariants as kind
+use Rattle.clap.proofs.OnLiterals.{clap_on_literals}
+use Rattle.jls_cli.specs.SpliceAsking.{Asked, AskFor, Options}
+use Rattle.jls_cli.specs.SpliceWords.{splice_app}
+
+-- `jls-splice WORDS.. OUT A B`
+abbrev with_words : List Text → List Text
+with_words words = codes "jls-splice" ∷ (words ++ codes "OUT" ∷ codes "A" ∷ codes "B" ∷ [])
+
+-- these options, OUT, and the copies A and B
+abbrev two_copies : Options → Asked
+two_copies options = record { options = options; out = codes "OUT"; copies = codes "A" ∷ codes "B" ∷ [] }
+
+-- 4096 tries, where there is no option
+abbrev default : Options
+default = record { source = None; tries = 4096; progress = false; file = None }
+
+no_option-asked : AskFor (with_words []) (two_copies default)
+unfolding clap_on_literals
+no_option-asked = record { taken = inl refl; asks = refl }
+
+-- `jls-splice - A B C`
+three_copies-asked : AskFor (codes "jls-splice" ∷ codes "-" ∷ codes "A" ∷ codes "B" ∷ codes "C" ∷ [])
+    (record { options = default; out = codes "-"; copies = codes "A" ∷ codes "B" ∷ codes "C" ∷ [] })
+unfolding clap_on_literals
+three_copies-asked = record { taken = inl refl; asks = refl }
+
+-- `jls-splice --tries 4294967295 OUT A B`
+most_tries-asked : AskFor (with_words (codes "--tries" ∷ codes "4294967295" ∷ [])) (two_copies (record default { tries = 4294967295 }))
+unfolding clap_on_literals
+most_tries-asked = record { taken = inl refl; asks = refl }
+
+-- all options
+all_options-asked : AskFor
+    (with_words (codes "--source" ∷ codes "7" ∷ codes "--progress" ∷ codes "--file" ∷ codes "M" ∷ codes "--tries=1" ∷ []))
+    (two_copies (record { source = Some 7; tries = 1; progress = true; file = Some (codes "M") }))
+unfolding clap_on_literals
+all_options-asked = record { taken = inl refl; asks = refl }
+
+-- clap finds these faults alone
+abbrev finds : List Text → Kinds → Type 0
+finds words kinds = fault_of splice_app words ≡ kinds
+
+-- `jls-splice --tries 0 OUT A B`
+no_tries-refused : finds (with_words (codes "--tries" ∷ codes "0" ∷ [])) (kind.ValueValidation ∷ [])
+unfolding clap_on_literals
+no_tries-refused = refl
+
+-- `jls-splice --tries 4294967296 OUT A B`
+too_many_tries-refused : finds (with_words (codes "--tries" ∷ codes "4294967296" ∷ [])) (kind.ValueValidation ∷ [])
+unfolding clap_on_literals
+too_many_tries-refused = refl
+
+-- `jls-splice OUT A`
+one_copy-refused : finds (codes "jls-splice" ∷ codes "OUT" ∷ codes "A" ∷ []) (kind.MissingRequiredArgument ∷ [])
+unfolding clap_on_literals
+one_copy-refused = refl
+
+-- `jls-splice`
+no_word-refused : finds (codes "jls-splice" ∷ []) (kind.MissingRequiredArgument ∷ [])
+unfolding clap_on_literals
+no_word-refused = refl
+
+-- `jls-splice --best OUT A B`: there is no such option
+other_option-refused : finds (with_words (codes "--best" ∷ [])) (kind.UnknownArgument ∷ [])
+unfolding clap_on_literals
+other_option-refused = refl
+
+-- `jls-splice --help`
+help-refused : finds (codes "jls-splice" ∷ codes "--help" ∷ []) (kind.DisplayHelp ∷ [])
+unfolding clap_on_literals
+help-refused = refl

@@ -1,0 +1,18 @@
+use Rattle.std.proofs.Common.{◌∙◌, codes}
+use Rattle.clap.specs.Words.{found_of}
+use Rattle.clap.proofs.WalkLemmas.{first_value-rows, raw_values-rows}
+use Rattle.jls_cli.specs.SpliceAsking as spec
+use Rattle.jls_cli.proofs.splice.asked.asked_splice.Goals as goal
+
+pub returns : goal.returns
+returns c =
+    let found = found_of c.args.matches.now in
+    let source = c.get_str.ensures ∙ first_value-rows found (codes "source") in
+    let tries = c.get_str-2.ensures ∙ first_value-rows found (codes "tries") in
+    let progress = c.get_str-3.ensures ∙ first_value-rows found (codes "progress") in
+    let file = c.get_str-4.ensures ∙ first_value-rows found (codes "file") in
+    let out = c.get_str-out.ensures ∙ first_value-rows found (codes "OUT") in
+    let copy = c.get_str-first.ensures ∙ first_value-rows found (codes "COPY") in
+    let others = c.get_strs.ensures ∙ raw_values-rows found (codes "OTHERS") in
+    let options = c.options_of-options.ensures ∙ (λ i. spec.options_of (source i) (tries i) (progress i) (file i)) in
+    c.asked_with.ensures ∙ (λ i. spec.asked_with (options i) (out i) (copy i) (others i))

@@ -1,0 +1,95 @@
+-- What the words of a command line of `jls-splice` ask for.
+use Rattle.std.specs.Prelude.{◌≡◌, ℕ, Bool, false, List, ◌∷◌, Option, Some, None, map, codes, if◌then◌else◌, option_map, option_and_then}
+use Rattle.std.specs.Str.{bytes_eq}
+use Rattle.std.specs.Str.Parse.{digits_value, without_leading_plus}
+use Rattle.clap.specs.ValueTests.{is_unsigned_in}
+use Rattle.clap.specs.Words.{Row, Text, all_of, first_of, matches_of}
+use Rattle.jls_cli.specs.SpliceWords.{splice_app, AreTaken}
+use Rattle.jls_cli.specs.declared.splice.asked.Asked.{Asked as AskedValue}
+use Rattle.jls_cli.specs.declared.splice.asked.Options.{Options as OptionsValue}
+
+-- what the words ask for beside files: the source of the readings, if one is given; how much each search tries; whether it tells how far it
+-- is; and where the mended file goes, if that is asked for
+pub record Options : Type 0 where
+  pub source : Option ℕ
+  pub tries : ℕ
+  pub progress : Bool
+  pub file : Option Text
+
+-- the output, and the copies in their order
+pub record Asked : Type 0 where
+  pub options : Options
+  pub out : Text
+  pub copies : List Text
+
+-- ---- by the values of the arguments
+
+-- the number that a text is, in decimal, from a least to a greatest
+abbrev pub number_in : ℕ → ℕ → Text → Option ℕ
+number_in least most value = if is_unsigned_in least most value then Some (digits_value 10 (without_leading_plus value)) else None
+
+-- the source, if one is given; nothing, if what is given is no such number
+abbrev pub source_of : Option Text → Option (Option ℕ)
+source_of None = Some None
+source_of (Some value) = option_map (λ n. Some n) (number_in 0 4294967295 value)
+
+-- the number of tries
+abbrev pub tries_of : Option Text → Option ℕ
+tries_of None = None
+tries_of (Some value) = number_in 1 4294967295 value
+
+-- whether a flag is given: clap's value for it is then `true`
+abbrev pub is_set : Option Text → Bool
+is_set None = false
+is_set (Some value) = bytes_eq value (codes "true")
+
+-- the options, if all of their values are there
+abbrev pub options_with : Bool → Option Text → Option (Option ℕ) → Option ℕ → Option Options
+options_with progress file (Some source) (Some tries) =
+    Some (record { source = source; tries = tries; progress = progress; file = file })
+options_with progress file _ _ = None
+
+-- the options that the words give
+abbrev pub options_of : Option Text → Option Text → Option Text → Option Text → Option Options
+options_of source tries progress file = options_with (is_set progress) file (source_of source) (tries_of tries)
+
+-- OUT, the first COPY, and the others, of which there is one at least
+abbrev pub asked_with : Option Options → Option Text → Option Text → Option (List Text) → Option Asked
+asked_with (Some options) (Some out) (Some first) (Some (second ∷ others)) =
+    Some (record { options = options; out = out; copies = first ∷ second ∷ others })
+asked_with _ _ _ _ = None
+
+-- ---- by what clap reads
+
+-- the arguments have these values
+abbrev pub asked_by : List Row → Option Asked
+asked_by rows =
+    asked_with (options_of (first_of (codes "source") rows) (first_of (codes "tries") rows)
+    (first_of (codes "progress") rows) (first_of (codes "file") rows))
+    (first_of (codes "OUT") rows) (first_of (codes "COPY") rows) (all_of (codes "OTHERS") rows)
+
+-- what the words ask for, by the values that clap reads in them
+abbrev pub asked_in : List Text → Option Asked
+asked_in words = asked_by (matches_of splice_app words)
+
+-- clap takes the words, and they ask for this
+pub record AskFor (words : List Text) (a : Asked) : Type 0 where
+  pub taken : AreTaken words
+  pub asks : asked_in words ≡ Some a
+
+-- clap takes the words, and they ask for nothing that there is
+pub record AskForNothing (words : List Text) : Type 0 where
+  pub taken : AreTaken words
+  pub asks : asked_in words ≡ None
+
+-- the options, as the code has them
+abbrev pub options_in : OptionsValue → Options
+options_in o = record { source = o.source; tries = o.tries; progress = o.progress; file = option_map (λ s. s.now) o.file }
+
+-- what is asked, as the code has it
+abbrev pub asked_of : AskedValue → Asked
+asked_of a = record {
+  options = options_in a.options;
+  out = a.out.now;
+  copies = a.first.now ∷ a.second.now ∷ map (λ f. f.now) a.others.now;
+}

@@ -1,0 +1,8 @@
+//! The words of `jls-splice`. The modules are as in `salvage`.
+
+mod asked;
+mod command;
+mod texts;
+
+pub use asked::{Asked, Options, asked_splice};
+pub use command::matches;

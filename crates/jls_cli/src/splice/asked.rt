@@ -1,0 +1,124 @@
+//! What the words ask for.
+
+ghost use Rattle.std.specs.Prelude.{◌≡◌, map, option_map};
+ghost use Rattle.clap.specs.Words.{found_of, rows_of};
+ghost use Rattle.jls_cli.specs.SpliceAsking as spec;
+ghost use Rattle.jls_cli.specs.SpliceAsking.{asked_of, number_in, options_in};
+
+use clap::ArgMatches;
+
+/// What the options say.
+#[derive(Clone, Copy, Debug, PartialEq, Eq)]
+pub struct Options<'a> {
+    /// The number of the source under which readings are taken, if one is given.
+    pub source: Option<u32>,
+    /// How many prefixes and files each search tries at most: at least 1.
+    pub tries: u32,
+    /// Whether each search tells how far it is.
+    pub progress: bool,
+    /// The name of the file to which the mended file goes, if one is given.
+    pub file: Option<&'a str>,
+}
+
+/// The output, and the copies to splice, of which there are two or more.
+#[derive(Clone, Copy, Debug, PartialEq, Eq)]
+pub struct Asked<'m, 'a> {
+    pub options: Options<'a>,
+    pub out: &'a str,
+    pub first: &'a str,
+    pub second: &'a str,
+    pub others: &'m [&'a str],
+}
+
+/// The number of a source.
+fn source_number(value: &str) -> Option<u32>
+    ensures { result ≡ number_in 0 4294967295 value.now }
+{
+    match value.parse::<u32>() {
+        Ok(number) => Some(number),
+        Err(_) => None,
+    }
+}
+
+/// A number of tries.
+fn tries_number(value: &str) -> Option<u32>
+    ensures { result ≡ number_in 1 4294967295 value.now }
+{
+    match value.parse::<u32>() {
+        Ok(number) => { if number == 0 { None } else { Some(number) } }
+        Err(_) => None,
+    }
+}
+
+/// Whether a flag has the value that it gets where it is given.
+fn is_set(value: Option<&str>) -> bool
+    ensures { result ≡ spec.is_set (option_map (λ s. s.now) value.entry) }
+{
+    match value {
+        Some(value) => value == "true",
+        None => false,
+    }
+}
+
+fn options_of<'a>(
+    source: Option<&str>,
+    tries: Option<&str>,
+    progress: Option<&str>,
+    file: Option<&'a str>,
+) -> Option<Options<'a>>
+    ensures { option_map options_in result
+        ≡ spec.options_of (option_map (λ s. s.now) source.entry) (option_map (λ s. s.now) tries.entry)
+        (option_map (λ s. s.now) progress.entry) (option_map (λ s. s.now) file.entry) }
+{
+    let source = match source {
+        Some(value) => Some(source_number(value)?),
+        None => None,
+    };
+    let tries = tries_number(tries?)?;
+    let progress = is_set(progress);
+    Some(Options {
+        source,
+        tries,
+        progress,
+        file,
+    })
+}
+
+fn asked_with<'m, 'a>(
+    options: Option<Options<'a>>,
+    out: Option<&'a str>,
+    copy: Option<&'a str>,
+    others: Option<&'m [&'a str]>,
+) -> Option<Asked<'m, 'a>>
+    ensures { option_map asked_of result
+        ≡ spec.asked_with (option_map options_in options.entry) (option_map (λ s. s.now) out.entry)
+        (option_map (λ s. s.now) copy.entry) (option_map (λ s. map (λ f. f.now) s.now) others.entry) }
+{
+    let (Some(options), Some(out), Some(first), Some([second, others @ ..])) = (
+        options, out, copy, others,
+    ) else {
+        return None;
+    };
+    Some(Asked {
+        options,
+        out,
+        first,
+        second,
+        others,
+    })
+}
+
+/// What the words ask for. `None` if a value is none that its option has.
+pub fn asked_splice<'m, 'a>(matches: &'m ArgMatches<'a>) -> Option<Asked<'m, 'a>>
+    ensures { option_map asked_of result ≡ spec.asked_by (rows_of (found_of matches.now)) }
+{
+    let options = options_of(
+        matches.get_str("source"),
+        matches.get_str("tries"),
+        matches.get_str("progress"),
+        matches.get_str("file"),
+    );
+    let out = matches.get_str("OUT");
+    let first = matches.get_str("COPY");
+    asked_with(options, out, first, matches.get_strs("OTHERS"))
+}

@@ -1,0 +1,111 @@
+//! The command line.
+
+ghost use Rattle.std.specs.Prelude.{◌≡◌, ◌⊎◌, false, [], IfOk, IfErr, map};
+ghost use Rattle.std.specs.String.{string_bytes};
+ghost use Rattle.clap.specs.Words.{app_of, fault_of, found_of, kind_of, matches_of, rows_of, rule_of};
+ghost use Rattle.clap.specs.declared.builder.command.Command.TheViews.{out-Command};
+ghost use Rattle.jls_cli.specs.SpliceWords.{AreRefused, AreTaken, bare_app, file_rule, options_app, others_rule, progress_rule, source_rule, splice_app, tries_rule, word_rule};
+
+use crate::splice::texts;
+use crate::version::VERSION;
+use clap::builder::ValueParser;
+use clap::error::ErrorKind;
+use clap::{Arg, ArgAction, ArgMatches, Command, Error};
+use std::alloc::{AllocError, Global};
+
+/// One word that has to be there.
+fn word<'a>(alloc: Global, id: &'a str, help: &'a str) -> Arg<'a>
+    ensures rule { rule_of result ≡ word_rule id.entry.now }
+    ensures local { result.global ≡ false }
+{
+    Arg::new(alloc, id).required(true).help(help)
+}
+
+/// The copies behind the first, one at least.
+fn others<'a>(alloc: Global) -> Arg<'a>
+    ensures rule { rule_of result ≡ others_rule }
+    ensures local { result.global ≡ false }
+{
+    let other = word(alloc, "OTHERS", texts::OTHERS_HELP).value_name("COPY");
+    other.action(ArgAction::Append)
+}
+
+/// The source of the readings.
+fn source<'a>(alloc: Global) -> Arg<'a>
+    ensures rule { rule_of result ≡ source_rule }
+    ensures local { result.global ≡ false }
+{
+    let number = Arg::new(alloc, "source").long("source").value_name("N");
+    let bounded = number.value_parser(ValueParser::unsigned(0, 4_294_967_295));
+    bounded.help(texts::SOURCE_HELP)
+}
+
+/// How much each search tries.
+fn tries<'a>(alloc: Global) -> Arg<'a>
+    ensures rule { rule_of result ≡ tries_rule }
+    ensures local { result.global ≡ false }
+{
+    let number = Arg::new(alloc, "tries").long("tries").value_name("N");
+    let bounded = number.value_parser(ValueParser::unsigned(1, 4_294_967_295));
+    bounded.default_value("4096").help(texts::TRIES_HELP)
+}
+
+/// Whether the searches tell how far they are.
+fn progress<'a>(alloc: Global) -> Arg<'a>
+    ensures rule { rule_of result ≡ progress_rule }
+    ensures local { result.global ≡ false }
+{
+    let flag = Arg::new(alloc, "progress").long("progress");
+    flag.action(ArgAction::SetTrue).help(texts::PROGRESS_HELP)
+}
+
+/// The file for the mended file.
+fn file<'a>(alloc: Global) -> Arg<'a>
+    ensures rule { rule_of result ≡ file_rule }
+    ensures local { result.global ≡ false }
+{
+    let name = Arg::new(alloc, "file").long("file").value_name("NAME");
+    name.help(texts::FILE_HELP)
+}
+
+/// The command without arguments.
+fn bare<'a>(alloc: Global) -> Command<'a>
+    ensures app { app_of result ≡ bare_app }
+    ensures local { (out-Command result).has_globals ≡ false }
+{
+    let named = Command::new(alloc, "jls-splice").about(texts::ABOUT);
+    named.after_help(texts::NOTES).version(VERSION)
+}
+
+/// The command with its options.
+fn with_options<'a>(alloc: Global) -> Result<Command<'a>, AllocError>
+    ensures app { IfOk result (λ c. app_of c ≡ options_app) }
+    ensures local { IfOk result (λ c. (out-Command c).has_globals ≡ false) }
+{
+    let sourced = bare(alloc).arg(source(alloc))?;
+    let bounded = sourced.arg(tries(alloc))?;
+    let told = bounded.arg(progress(alloc))?;
+    told.arg(file(alloc))
+}
+
+/// The command of the program.
+fn command<'a>(alloc: Global) -> Result<Command<'a>, AllocError>
+    ensures { IfOk result (λ c. app_of c ≡ splice_app) }
+{
+    let options = with_options(alloc)?;
+    let writing = options.arg(word(alloc, "OUT", texts::OUT_HELP))?;
+    let reading = writing.arg(word(alloc, "COPY", texts::COPY_HELP))?;
+    reading.arg(others(alloc))
+}
+
+/// Parses the words with `clap`; the first word is the program's name. If clap's definition accepts the words, the only
+/// error is out of memory. Otherwise the error is out of memory, or of a kind that clap's definition finds in the words. If
+/// they are parsed, the definition finds no fault in them, and the rows are those that it gives.
+pub fn matches<'a>(alloc: Global, words: &'a [String]) -> Result<ArgMatches<'a>, Error>
+    ensures rows { IfOk result (λ m. rows_of (found_of m) ≡ matches_of splice_app (map string_bytes words.entry.now)) }
+    ensures no_fault { IfOk result (λ m. fault_of splice_app (map string_bytes words.entry.now) ≡ []) }
+    ensures passes { IfErr result (λ e. AreTaken (map string_bytes words.entry.now) → kind_of e ≡ ErrorKind.OutOfMemory) }
+    ensures refused { IfErr result (λ e. (kind_of e ≡ ErrorKind.OutOfMemory) ⊎ AreRefused (map string_bytes words.entry.now) (kind_of e)) }
+{
+    command(alloc)?.try_get_matches_from(words)
+}

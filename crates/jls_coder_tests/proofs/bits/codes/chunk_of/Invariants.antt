@@ -1,5 +1,0 @@
-use Rattle.std.proofs.Common.{◌≤◌, length}
-use Rattle.jls_coder_tests.proofs.bits.codes.chunk_of.Given as goal
-
-abbrev pub invariant-loop-digit : goal.invariant-loop-digit
-invariant-loop-digit l = length l.chunk ≤ 50

@@ -1,2 +1,0 @@
-pub mod CopiesInTurn
-pub mod CopyReads

@@ -1,0 +1,375 @@
+-- The readings of a copy are those that its course gives.
+use Rattle.std.proofs.Common.{◌≡◌, ℕ, ◌+◌, Bool, true, false, List, [], ◌∷◌, ◌++◌, length, map, Some, refl, sym, ap, ◌∙◌, subst, inl, inr}
+use Rattle.std.specs.List.{AllByRecursion, Contains, flat_map, zip}
+use Rattle.std.proofs.lemmas.List.Elements.{Contains-append_left, Contains-append_right, Contains-append_cases}
+use Rattle.jls_values.specs.Shape.{PictureShape}
+use Rattle.jls_partial.specs.Reading.{Reading}
+use Rattle.jls_marker.specs.Scan.{Scan, intervals}
+use Rattle.jls_marker.specs.SegmentLaws.{AreBytes}
+use Rattle.jls_copy.specs.ScanData.{ClosedPiece, closed_bytes}
+use Rattle.jls_copy.specs.Numbers.{PieceNumber, Interval, BeyondLast, number_behind, given_last, numbers_behind}
+use Rattle.jls_copy.specs.Course.{LastClosed, by_input, by_marker, CopyUnit, segment, scan, segment_unit_bytes, unit_bytes}
+use Rattle.jls_copy.specs.Course.{Course, IsCourse}
+use Rattle.jls_copy.specs.Pieces.{FoundPiece, pieces_from, unit_pieces, scans_in, pieces_in, piece_begun}
+use Rattle.jls_copy.specs.CutPieces.{is_cut, last_piece, cut_pieces}
+use Rattle.jls_copy_laws.specs.CopyScans.{ScanPiece, ScanWithData, scans_of_unit, is_by_input, HasScans}
+use Rattle.jls_copy_laws.specs.CopyLaws.{OneListOfScans, ReadingsAreOfTheCourse}
+use Rattle.jls_copy_laws.specs.CourseGives.{FoundPieceGives, FoundHeadGives, CourseGives}
+use Rattle.jls_copy_laws.specs.Gives.{PieceGives, ScanGives, GivesReading}
+use Rattle.jls_copy_laws.proofs.CopyScans.{course_has_scans, one_list_of_scans}
+use Rattle.jls_copy_laws.proofs.CutOff.{all_cut, cut_stands, units_of}
+use Rattle.jls_copy_laws.proofs.Members.{is_first, in_rest, none_in, first_or_rest, all_at, in_flat_map, of_flat_map, all_from}
+
+-- Members ----------------------------------------------------------------------------------------------------------
+
+-- One scan ---------------------------------------------------------------------------------------------------------
+
+-- the piece of this number, found at this offset
+abbrev found : ℕ → Scan → PieceNumber → ℕ → List ℕ → FoundPiece
+found index s number at bytes = record { scan = index; plan = s; number = number; offset = at; bytes = bytes }
+
+-- a piece that is not the last one
+abbrev whole_piece : ClosedPiece → ScanPiece
+whole_piece c = record { bytes = c.piece; ended_by_input = false }
+
+-- the pieces of scan data, the last of them cut or not
+abbrev scan_pieces : List ClosedPiece → List ℕ → Bool → List ScanPiece
+scan_pieces closed last cut = map (λ c. record { bytes = c.piece; ended_by_input = false }) closed ++ record { bytes = last; ended_by_input = cut } ∷ []
+
+-- these pieces with their numbers, of which this is the first, where `given` was given last
+abbrev numbered_pieces : Scan → PieceNumber → ℕ → List ClosedPiece → List ℕ → Bool → List (PieceNumber × ScanPiece)
+numbered_pieces s number given closed last cut =
+    zip (number ∷ numbers_behind (intervals s) given (map (λ c. c.mark) closed)) (scan_pieces closed last cut)
+
+-- a piece that is found is one of them
+record Corresponds (index : ℕ) (s : Scan) (numbered : List (PieceNumber × ScanPiece)) (p : FoundPiece) : Type 0 where
+  number : PieceNumber
+  piece : ScanPiece
+  offset : ℕ
+  among : Contains numbered (number, piece)
+  same : p ≡ found index s number offset piece.bytes
+
+found_corresponds : (index : ℕ) (s : Scan) (number : PieceNumber) (given at : ℕ) (closed : List ClosedPiece) (last : List ℕ) (cut : Bool)
+    (p : FoundPiece) → Contains (pieces_from (piece_begun index s number at) given closed last) p
+    → Corresponds index s (numbered_pieces s number given closed last cut) p
+found_corresponds index s number given at [] last cut p m =
+    elim (first_or_rest p (found index s number at last) [] m) [
+      | inl e ↦ record {
+        number = number;
+        piece = record { bytes = last; ended_by_input = cut };
+        offset = at;
+        among = is_first (number, record { bytes = last; ended_by_input = cut }) [];
+        same = sym e;
+      }
+      | inr later ↦ absurd (none_in p later)
+    ]
+found_corresponds index s number given at (c ∷ closed) last cut p m =
+    let next = number_behind (intervals s) given c.mark in
+    let behind = at + length (closed_bytes c) in
+    let others = numbered_pieces s next (given_last given next) closed last cut in
+    let found_behind = pieces_from (piece_begun index s next behind) (given_last given next) closed last in
+    elim (first_or_rest p (found index s number at c.piece) found_behind m) [
+      | inl e ↦ record {
+        number = number;
+        piece = whole_piece c;
+        offset = at;
+        among = is_first (number, whole_piece c) others;
+        same = sym e;
+      }
+      | inr later ↦ (
+          let r = found_corresponds index s next (given_last given next) behind closed last cut p later in
+          record {
+            number = r.number;
+            piece = r.piece;
+            offset = r.offset;
+            among = in_rest (r.number, r.piece) (number, whole_piece c) others r.among;
+            same = r.same;
+          })
+    ]
+
+-- the last piece that is found is the last of them
+record IsLastOf (index : ℕ) (s : Scan) (last : List ℕ) (cut : Bool) (numbered : List (PieceNumber × ScanPiece)) (p : FoundPiece)
+    : Type 0 where
+  number : PieceNumber
+  offset : ℕ
+  among : Contains numbered (number, record { bytes = last; ended_by_input = cut })
+  same : p ≡ found index s number offset last
+
+last_corresponds : (index : ℕ) (s : Scan) (number : PieceNumber) (given at : ℕ) (closed : List ClosedPiece) (last : List ℕ) (cut : Bool)
+    (p : FoundPiece) → Contains (last_piece (pieces_from (piece_begun index s number at) given closed last)) p
+    → IsLastOf index s last cut (numbered_pieces s number given closed last cut) p
+last_corresponds index s number given at [] last cut p m =
+    elim (first_or_rest p (found index s number at last) [] m) [
+      | inl e ↦ record {
+        number = number;
+        offset = at;
+        among = is_first (number, record { bytes = last; ended_by_input = cut }) [];
+        same = sym e;
+      }
+      | inr later ↦ absurd (none_in p later)
+    ]
+last_corresponds index s number given at (c ∷ closed) last cut p m =
+    let next = number_behind (intervals s) given c.mark in
+    let behind = at + length (closed_bytes c) in
+    let others = numbered_pieces s next (given_last given next) closed last cut in
+    let later = behind_first (found index s number at c.piece) (piece_begun index s next behind) (given_last given next) closed last p m in
+    let r = last_corresponds index s next (given_last given next) behind closed last cut p later in
+    record {
+      number = r.number;
+      offset = r.offset;
+      among = in_rest (r.number, record { bytes = last; ended_by_input = cut }) (number, whole_piece c) others r.among;
+      same = r.same;
+    }
+  where
+    -- the last piece is behind the first
+    behind_first : (q begun : FoundPiece) (given : ℕ) (closed : List ClosedPiece) (last : List ℕ) (p : FoundPiece)
+        → Contains (last_piece (q ∷ pieces_from begun given closed last)) p → Contains (last_piece (pieces_from begun given closed last)) p
+    behind_first q begun given [] last p m = m
+    behind_first q begun given (d ∷ closed) last p m = m
+
+-- each of them is found
+number_found : (index : ℕ) (s : Scan) (number : PieceNumber) (given at : ℕ) (closed : List ClosedPiece) (last : List ℕ) (cut : Bool)
+    (n : PieceNumber) (piece : ScanPiece) → Contains (numbered_pieces s number given closed last cut) (n, piece)
+    → (offset : ℕ) × Contains (pieces_from (piece_begun index s number at) given closed last) (found index s n offset piece.bytes)
+number_found index s number given at [] last cut n piece m =
+    elim (first_or_rest (n, piece) (number, record { bytes = last; ended_by_input = cut }) [] m) [
+      | inl e ↦ (
+        at,
+        subst (λ (q : PieceNumber × ScanPiece). Contains (found index s number at last ∷ []) (found index s q.0 at q.1.bytes)) e
+            (is_first (found index s number at last) []),
+      )
+      | inr later ↦ absurd (none_in (n, piece) later)
+    ]
+number_found index s number given at (c ∷ closed) last cut n piece m =
+    let next = number_behind (intervals s) given c.mark in
+    let behind = at + length (closed_bytes c) in
+    let others = pieces_from (piece_begun index s next behind) (given_last given next) closed last in
+    elim (first_or_rest (n, piece) (number, whole_piece c) (numbered_pieces s next (given_last given next) closed last cut) m) [
+      | inl e ↦ (
+        at,
+        subst (λ (q : PieceNumber × ScanPiece). Contains (found index s number at c.piece ∷ others) (found index s q.0 at q.1.bytes)) e
+            (is_first (found index s number at c.piece) others),
+      )
+      | inr later ↦ (
+          let r = number_found index s next (given_last given next) behind closed last cut n piece later in
+          (r.0, in_rest (found index s n r.0 piece.bytes) (found index s number at c.piece) others r.1))
+    ]
+
+-- one that is cut is found last, and only where the last is cut
+cut_found : (index : ℕ) (s : Scan) (number : PieceNumber) (given at : ℕ) (closed : List ClosedPiece) (last : List ℕ) (cut : Bool)
+    (n : PieceNumber) (piece : ScanPiece) → Contains (numbered_pieces s number given closed last cut) (n, piece) → piece.ended_by_input ≡ true
+    → (offset : ℕ) × (cut ≡ true)
+    × Contains (last_piece (pieces_from (piece_begun index s number at) given closed last)) (found index s n offset piece.bytes)
+cut_found index s number given at [] last cut n piece m is =
+    elim (first_or_rest (n, piece) (number, record { bytes = last; ended_by_input = cut }) [] m) [
+      | inl e ↦ (
+        at,
+        ap (λ (q : PieceNumber × ScanPiece). q.1.ended_by_input) e ∙ is,
+        subst (λ (q : PieceNumber × ScanPiece). Contains (found index s number at last ∷ []) (found index s q.0 at q.1.bytes)) e
+            (is_first (found index s number at last) []),
+      )
+      | inr later ↦ absurd (none_in (n, piece) later)
+    ]
+cut_found index s number given at (c ∷ closed) last cut n piece m is =
+    let next = number_behind (intervals s) given c.mark in
+    let behind = at + length (closed_bytes c) in
+    elim (first_or_rest (n, piece) (number, whole_piece c) (numbered_pieces s next (given_last given next) closed last cut) m) [
+      | inl e ↦ absurd (not_both (ap (λ (q : PieceNumber × ScanPiece). q.1.ended_by_input) e ∙ is))
+      | inr later ↦ (
+          let r = cut_found index s next (given_last given next) behind closed last cut n piece later is in
+          let p = found index s n r.0 piece.bytes in
+          let q = found index s number at c.piece in
+          (r.0, r.1, last_behind_one q (piece_begun index s next behind) (given_last given next) closed last p r.2))
+    ]
+  where
+    not_both : false ≡ true → ⊥
+    not_both e = cc
+
+    -- the last piece is the last behind the first
+    last_behind_one : (q begun : FoundPiece) (given : ℕ) (closed : List ClosedPiece) (last : List ℕ) (p : FoundPiece)
+        → Contains (last_piece (pieces_from begun given closed last)) p → Contains (last_piece (q ∷ pieces_from begun given closed last)) p
+    last_behind_one q begun given [] last p m = m
+    last_behind_one q begun given (d ∷ closed) last p m = m
+
+-- What a piece gives -----------------------------------------------------------------------------------------------
+
+-- a piece that is found and gives the reading has the number of an interval, and gives it as a piece of the scan
+piece_gives : (index : ℕ) (s : Scan) (n : PieceNumber) (offset : ℕ) (piece : ScanPiece) (r : Reading)
+    → FoundPieceGives (found index s n offset piece.bytes) r → (k : ℕ) × (n ≡ Interval k) × PieceGives s k piece r
+piece_gives index s (Interval k) offset piece r g = (k, refl, (g.lines, inl g.reads, g.among))
+piece_gives index s (BeyondLast k) offset piece r g = absurd g.reads
+
+-- and so does one whose head gives it, where it is cut
+head_gives : (index : ℕ) (s : Scan) (n : PieceNumber) (offset : ℕ) (piece : ScanPiece) (r : Reading) → piece.ended_by_input ≡ true
+    → FoundHeadGives (found index s n offset piece.bytes) r → (k : ℕ) × (n ≡ Interval k) × PieceGives s k piece r
+head_gives index s (Interval k) offset piece r is g = (k, refl, (g.head, inr (is, g.is_head), g.among))
+head_gives index s (BeyondLast k) offset piece r is g = absurd (none_in r g.among)
+
+-- Units ------------------------------------------------------------------------------------------------------------
+
+-- the scan of a unit
+abbrev scan_with : Scan → List ClosedPiece → List ℕ → LastClosed → ScanWithData
+scan_with s closed last closing = record {
+  scan = s;
+  marks = map (λ c. c.mark) closed;
+  pieces = scan_pieces closed last (is_by_input closing);
+}
+
+-- a piece of the unit gives the reading as one of the unit's scan
+unit_gives : (index at : ℕ) (u : CopyUnit) (p : FoundPiece) (r : Reading) → Contains (unit_pieces index at u) p → FoundPieceGives p r
+    → (d : ScanWithData) × Contains (scans_of_unit u) d × ScanGives d r
+unit_gives index at (segment fill code payload) p r m g = absurd (none_in p m)
+unit_gives index at (scan fill code payload s closed last closing) p r m g =
+    let begin = at + length (segment_unit_bytes fill code payload) in
+    let cut = is_by_input closing in
+    let f = found_corresponds index s (Interval 0) 0 begin closed last cut p m in
+    let told = piece_gives index s f.number f.offset f.piece r (subst (λ x. FoundPieceGives x r) f.same g) in (
+      scan_with s closed last closing,
+      is_first (scan_with s closed last closing) [],
+      (
+        told.0,
+        f.piece,
+        subst (λ n. Contains (numbered_pieces s (Interval 0) 0 closed last cut) (n, f.piece)) told.1 f.among,
+        told.2,
+      ),
+    )
+
+-- so does the head of its last piece, where the input's end closes it
+cut_unit_gives : (index at : ℕ) (u : CopyUnit) (p : FoundPiece) (r : Reading) → is_cut u ≡ true
+    → Contains (last_piece (unit_pieces index at u)) p → FoundHeadGives p r
+    → (d : ScanWithData) × Contains (scans_of_unit u) d × ScanGives d r
+cut_unit_gives index at (segment fill code payload) p r is m g = absurd (none_in p m)
+cut_unit_gives index at (scan fill code payload s closed last by_marker) p r is m g = absurd cc
+cut_unit_gives index at (scan fill code payload s closed last (by_input n)) p r is m g =
+    let begin = at + length (segment_unit_bytes fill code payload) in
+    let piece : ScanPiece = record { bytes = last; ended_by_input = true } in
+    let f = last_corresponds index s (Interval 0) 0 begin closed last true p m in
+    let told = head_gives index s f.number f.offset piece r refl (subst (λ x. FoundHeadGives x r) f.same g) in (
+      scan_with s closed last (by_input n),
+      is_first (scan_with s closed last (by_input n)) [],
+      (
+        told.0,
+        piece,
+        subst (λ k. Contains (numbered_pieces s (Interval 0) 0 closed last true) (k, piece)) told.1 f.among,
+        told.2,
+      ),
+    )
+
+-- a piece of units is one of some of them
+in_some_unit : (us : List CopyUnit) (index at : ℕ) (p : FoundPiece) → Contains (pieces_in index at us) p
+    → (u : CopyUnit) × Contains us u × (i : ℕ) × (offset : ℕ) × Contains (unit_pieces i offset u) p
+in_some_unit [] index at p m = absurd (none_in p m)
+in_some_unit (u ∷ us) index at p m =
+    elim (Contains-append_cases (unit_pieces index at u) (pieces_in (index + scans_in u) (at + length (unit_bytes u)) us) p m) [
+      | inl here ↦ (u, is_first u us, index, at, here)
+      | inr later ↦ (
+          let r = in_some_unit us (index + scans_in u) (at + length (unit_bytes u)) p later in
+          (r.0, in_rest r.0 u us r.1, r.2, r.3, r.4))
+    ]
+
+-- each unit stands somewhere, with all its pieces
+pub unit_stands : (us : List CopyUnit) (index at : ℕ) (u : CopyUnit) → Contains us u
+    → (i : ℕ) × (offset : ℕ) × ((p : FoundPiece) → Contains (unit_pieces i offset u) p → Contains (pieces_in index at us) p)
+unit_stands [] index at u m = absurd (none_in u m)
+unit_stands (v ∷ us) index at u m =
+    let others = pieces_in (index + scans_in v) (at + length (unit_bytes v)) us in
+    elim (first_or_rest u v us m) [
+      | inl same ↦ (
+        index,
+        at,
+        λ p here.
+            Contains-append_left (unit_pieces index at v) others p (subst (λ x. Contains (unit_pieces index at x) p) (sym same) here),
+      )
+      | inr later ↦ (
+          let r = unit_stands us (index + scans_in v) (at + length (unit_bytes v)) u later in
+          (r.0, r.1, λ p there. Contains-append_right (unit_pieces index at v) others p (r.2 p there)))
+    ]
+
+-- What a course gives ----------------------------------------------------------------------------------------------
+
+-- some scan of these units gives the reading
+abbrev pub UnitsGive : List CopyUnit → Reading → Type 0
+UnitsGive us r = (d : ScanWithData) × Contains (flat_map scans_of_unit us) d × ScanGives d r
+
+-- where the head of the piece gives the reading, a scan of these units does
+abbrev HeadTells : List CopyUnit → Reading → FoundPiece → Type 0
+HeadTells us r p = FoundHeadGives p r → UnitsGive us r
+
+-- as the piece of a unit that is cut does
+cut_tells : (us : List CopyUnit) (r : Reading) (index at : ℕ) (u : CopyUnit) → Contains us u → is_cut u ≡ true
+    → AllByRecursion (HeadTells us r) (last_piece (unit_pieces index at u))
+cut_tells us r index at u among is =
+    all_from (HeadTells us r) (last_piece (unit_pieces index at u)) (λ p there gives.
+    let told = cut_unit_gives index at u p r is there gives in
+    (told.0, in_flat_map scans_of_unit us u told.0 among told.1, told.2))
+
+-- what a course gives is given by a scan of its units
+pub units_give : (c : Course) (r : Reading) → CourseGives c r
+    → (d : ScanWithData) × Contains (flat_map scans_of_unit c.units) d × ScanGives d r
+units_give c r (inl (p, m, g)) =
+    let i = in_some_unit c.units 0 c.begin p m in
+    let told = unit_gives i.2 i.3 i.0 p r i.4 g in
+    (told.0, in_flat_map scans_of_unit c.units i.0 told.0 i.1 told.1, told.2)
+units_give c r (inr (p, m, g)) = all_at (HeadTells c.units r) (cut_pieces c) p each m g
+  where
+    each : AllByRecursion (HeadTells c.units r) (cut_pieces c)
+    each =
+        all_cut (HeadTells c.units r) (Contains c.units) (cut_tells c.units r) c.units 0 c.begin
+        (all_from (Contains c.units) c.units (λ u among. among))
+
+-- what a scan of a unit gives is given by a piece of the course, or by the head of the one that is cut
+by_unit_of : (copy : List ℕ) (c : Course) (r : Reading) → IsCourse copy c → (u : CopyUnit) → Contains c.units u
+    → (d : ScanWithData) → Contains (scans_of_unit u) d → ScanGives d r → CourseGives c r
+by_unit_of copy c r is (segment fill code payload) among d here g = absurd (none_in d here)
+by_unit_of copy c r is (scan fill code payload s closed last closing) among d here g =
+    elim (first_or_rest d (scan_with s closed last closing) [] here) [
+      | inl same ↦ by (subst (λ x. ScanGives x r) (sym same) g)
+      | inr later ↦ absurd (none_in d later)
+    ]
+  where
+    u : CopyUnit
+    u = scan fill code payload s closed last closing
+
+    closed_so : (by : LastClosed) → is_by_input by ≡ true → is_cut (scan fill code payload s closed last by) ≡ true
+    closed_so (by_input n) e = refl
+    closed_so by_marker e = absurd cc
+
+    by : ScanGives (scan_with s closed last closing) r → CourseGives c r
+    by (k, piece, m, (lines, inl reads, line)) =
+        let stands = unit_stands c.units 0 c.begin u among in
+        let begin = stands.1 + length (segment_unit_bytes fill code payload) in
+        let f = number_found stands.0 s (Interval 0) 0 begin closed last (is_by_input closing) (Interval k) piece m in
+        let p = found stands.0 s (Interval k) f.0 piece.bytes in
+        inl (p, stands.2 p f.1, record { lines = lines; reads = reads; among = line })
+    by (k, piece, m, (lines, inr (cut, head), line)) =
+        let units = units_of copy c u is among in
+        let closes = (cut_found 0 s (Interval 0) 0 0 closed last (is_by_input closing) (Interval k) piece m cut).1 in
+        let stands = cut_stands c.units 0 c.begin _ units.0 units.1 c.headers c.end u units.2 among (closed_so closing closes) in
+        let begin = stands.1 + length (segment_unit_bytes fill code payload) in
+        let f = cut_found stands.0 s (Interval 0) 0 begin closed last (is_by_input closing) (Interval k) piece m cut in
+        let p = found stands.0 s (Interval k) f.0 piece.bytes in
+        inr (p, stands.2 p f.2, record { head = lines; is_head = head; among = line })
+
+-- what a scan of the units of a copy's course gives is given by the course
+pub given_by_units : (copy : List ℕ) (c : Course) (r : Reading) → IsCourse copy c → (d : ScanWithData)
+    → Contains (flat_map scans_of_unit c.units) d → ScanGives d r → CourseGives c r
+given_by_units copy c r is d m g =
+    let from = of_flat_map scans_of_unit c.units d m in by_unit_of copy c r is from.0 from.1 d from.2 g
+
+-- The law ----------------------------------------------------------------------------------------------------------
+
+-- where a copy has the scans of its course and no others, it gives what the course gives
+pub by_course : (has : (copy : List ℕ) (c : Course) (shape : PictureShape) → AreBytes copy → IsCourse copy c → c.headers.frame ≡ Some shape
+    → HasScans copy shape (flat_map scans_of_unit c.units)) (one : OneListOfScans) → ReadingsAreOfTheCourse
+by_course has one copy c shape r low is framed = (there, back)
+  where
+    there : GivesReading copy r → CourseGives c r
+    there (shape', scans, scanned, d, m, g) =
+        let same = (one copy shape' shape scans (flat_map scans_of_unit c.units) scanned (has copy c shape low is framed)).1 in
+        given_by_units copy c r is d (subst (λ ds. Contains ds d) same m) g
+
+    back : CourseGives c r → GivesReading copy r
+    back g = let told = units_give c r g in (shape, flat_map scans_of_unit c.units, has copy c shape low is framed, told.0, told.1, told.2)
+
+pub readings_are_of_the_course : ReadingsAreOfTheCourse
+readings_are_of_the_course = by_course course_has_scans one_list_of_scans

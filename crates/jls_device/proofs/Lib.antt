@@ -1,4 +1,0 @@
-pub mod CellMade
-pub mod Growing
-pub mod Known
-pub mod Writes

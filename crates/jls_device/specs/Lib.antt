@@ -1,8 +1,0 @@
--- What the contracts of this crate cite.
-pub mod Asked
-pub mod Counts
-pub mod Event
-pub mod EventCode
-pub mod Noted
-pub mod Remaining
-pub mod Writing

@@ -1,0 +1,6 @@
+-- Lemmas of this crate.
+pub mod Members
+pub mod Slices
+mod Splices
+mod PartsExamples
+pub mod GroupSteps

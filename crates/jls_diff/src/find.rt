@@ -1,0 +1,39 @@
+//! The parts of some copies.
+
+ghost use Rattle.std.specs.Prelude.{IfOk};
+ghost use Rattle.jls_diff.specs.Parts.{AreParts};
+ghost use Rattle.jls_diff.specs.PartsOf.{bytes_of, parts_of};
+
+use crate::checking::are_parts;
+use crate::part::Part;
+use crate::propose::proposed;
+use std::alloc::{AllocError, Global};
+
+/// All of the copies as one part: no part, where there are no copies.
+fn one_part<'a>(alloc: Global, copies: &[&'a [u8]]) -> Result<Vec<Part<'a>>, AllocError>
+    ensures { IfOk result (λ parts. AreParts (bytes_of copies.now) (parts_of parts.items)) }
+{
+    let mut parts = Vec::new(alloc);
+    if !copies.is_empty() {
+        parts.push(Part::Differ(Vec::from_slice(alloc, copies)?))?;
+    }
+    Ok(parts)
+}
+
+/// The parts of some copies of one file. `Err` comes if memory is refused.
+///
+/// A search proposes them and they are checked, so the contract holds however they are found. It goes along all copies while they
+/// agree. After a difference it looks for the next 24 bytes that agree again, with a shift if bytes were lost or added.
+///
+/// Inside a difference, one agreeing byte divides two stretches. Between two restart markers or scan headers, more than 11 stretches
+/// are too many. Then the nearest are joined, if fewer than 8 bytes agree between them. A run of 8 zeros or more in some copies begins
+/// a stretch and ends it. If copies have different lengths in a stretch, those of the most frequent length divide it.
+pub fn find_parts<'a>(alloc: Global, copies: &[&'a [u8]]) -> Result<Vec<Part<'a>>, AllocError>
+    ensures { IfOk result (λ parts. AreParts (bytes_of copies.now) (parts_of parts.items)) }
+{
+    let parts = proposed(alloc, copies)?;
+    if are_parts(copies, &parts) {
+        return Ok(parts);
+    }
+    one_part(alloc, copies)
+}

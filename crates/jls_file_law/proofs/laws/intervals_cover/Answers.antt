@@ -1,8 +1,0 @@
-use Rattle.jls_file_law.proofs.Covering as covering
-use Rattle.jls_file_law.proofs.laws.intervals_cover.Goals as goal
-
-pub returns-clause-cover : goal.returns-clause-cover
-returns-clause-cover c = covering.intervals_cover
-
-pub returns-clause-contains : goal.returns-clause-contains
-returns-clause-contains c = covering.contains_the_picture

@@ -1,5 +1,0 @@
-use Rattle.jls_file_law.proofs.FileRead.{file_law}
-use Rattle.jls_file_law.proofs.laws.written_files_read_back.Goals as goal
-
-pub returns : goal.returns
-returns c = file_law

@@ -1,6 +1,0 @@
-use Rattle.std.proofs.Common.{take}
-use Rattle.jls_group_search.proofs.Records.{NoneBetween}
-use Rattle.jls_group_search.proofs.reading.has_record_between.Given as goal
-
-abbrev pub invariant-loop-told : goal.invariant-loop-told
-invariant-loop-told l = NoneBetween l.from l.to (take l.told-index l.records)

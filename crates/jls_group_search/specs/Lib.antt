@@ -1,4 +1,0 @@
-pub mod Places
-pub mod ReadsBetween
-pub mod OfGroups
-pub mod Found

@@ -1,0 +1,130 @@
+//! Runs of `jls-splice` over two damaged copies.
+
+use crate::four::FOUR_LINES;
+use crate::met::{Met, Stopped, Tally};
+use crate::pairs::{half_lost_pair, mended_pair};
+use crate::running::{Wanted, run_one};
+use jls_partial::Partial;
+use jls_values::Shape;
+use std::alloc::Global;
+use std::process::Abort;
+
+/// A run over the copies of a pair, and what comes of it.
+#[derive(Clone, Copy)]
+struct Row {
+    line: &'static str,
+    /// Whether it is the pair that is mended, or the one that is half lost.
+    is_mended: bool,
+    status: u8,
+    source: Option<u32>,
+    /// The lines of OUT, and the number of the first.
+    lines: &'static [&'static [u16]],
+    begin: u16,
+    /// Whether the file is written to NAME.
+    has_file: bool,
+    report: &'static str,
+    faults: &'static str,
+}
+
+/// Four lines come back.
+const FOUR_BACK: Row = Row {
+    line: "jls-splice OUT 1 2",
+    is_mended: true,
+    status: 0,
+    source: None,
+    lines: FOUR_LINES,
+    begin: 0,
+    has_file: false,
+    report: "differ 25 1\ndiffer 53 1\nsplices 1\npicture 4x4, 8 bits, components 1\n\
+        settled 4, missing 0, disputed 0\n",
+    faults: "",
+};
+
+/// What OUT holds.
+fn lines_of(alloc: Global, row: &Row) -> Result<Partial, Stopped> {
+    let (width, height) = if row.is_mended { (4, 4) } else { (1, 2) };
+    let mut partial = Partial::empty(alloc, Shape::new(8, width, height, &[1])?);
+    let mut number = row.begin;
+    for line in row.lines {
+        partial.insert(0, number, line)?;
+        number = number.saturating_add(1);
+    }
+    if let Some(source) = row.source {
+        partial.mark(source)?;
+    }
+    Ok(partial)
+}
+
+fn run_over(rt: &impl Abort, alloc: Global, row: &Row) -> Result<Met, Stopped> {
+    let pair = if row.is_mended {
+        mended_pair(alloc)?
+    } else {
+        half_lost_pair(alloc)?
+    };
+    let mut output = lines_of(alloc, row)?.to_bytes(alloc)?;
+    if row.has_file {
+        output.extend_from_slice(&pair.file)?;
+    }
+    let wanted = Wanted {
+        status: row.status,
+        created: if row.has_file { 2 } else { 1 },
+        output,
+        report: Some(String::from_str(alloc, row.report)?),
+        faults: row.faults,
+    };
+    let files: [(&str, &[u8]); 2] = [("1", &pair.first), ("2", &pair.second)];
+    run_one(rt, alloc, row.line, &files, &wanted)
+}
+
+fn run_row(rt: &(impl Abort + Print), alloc: Global, call: &'static str, row: &Row) {
+    let mut tally = Tally::of(call);
+    tally.note(rt, run_over(rt, alloc, row));
+    assert!(rt; tally.is_single());
+}
+
+#[test]
+fn splice(rt: HostRuntime) {
+    run_row(&rt, rt.alloc(), "run of jls-splice", &FOUR_BACK);
+}
+
+/// The lines come back under a source, and the file does.
+#[test]
+fn splice_with_options(rt: HostRuntime) {
+    let row = Row {
+        line: "jls-splice --source 7 --file NAME OUT 1 2",
+        source: Some(7),
+        has_file: true,
+        ..FOUR_BACK
+    };
+    run_row(&rt, rt.alloc(), "run of jls-splice --source --file", &row);
+}
+
+/// Both searches are cut off before they come to a file.
+#[test]
+fn splice_cut_off(rt: HostRuntime) {
+    let row = Row {
+        line: "jls-splice --tries 2 --progress OUT 1 2",
+        status: 1,
+        lines: &[],
+        report: "differ 25 1\ndiffer 53 1\nsplices 0\ntries used up\nby groups 1, tries used up\n\
+            picture 4x4, 8 bits, components 1\nsettled 0, missing 4, disputed 0\nmissing 1 0-3\n",
+        faults: "2 tries, 0 files\n",
+        ..FOUR_BACK
+    };
+    run_row(&rt, rt.alloc(), "run of jls-splice --progress", &row);
+}
+
+/// One line of two comes back.
+#[test]
+fn splice_by_groups(rt: HostRuntime) {
+    let row = Row {
+        is_mended: false,
+        status: 1,
+        lines: &[&[1]],
+        begin: 1,
+        report: "differ 31 1\ndiffer 34 1\nsplices 1\nby groups 2\n\
+            picture 1x2, 8 bits, components 1\nsettled 1, missing 1, disputed 0\nmissing 1 0-0\n",
+        ..FOUR_BACK
+    };
+    run_row(&rt, rt.alloc(), "run of jls-splice by groups", &row);
+}

@@ -1,4 +1,0 @@
-pub mod Members
-pub mod Slices
-mod Splices
-mod PartsExamples

@@ -1,8 +1,0 @@
-use Rattle.std.proofs.Common.{take}
-use Rattle.std.specs.List.{AllByRecursion}
-use Rattle.jls_parts.specs.Parts.{HasWays}
-use Rattle.jls_parts.specs.PartsOf.{parts_of}
-use Rattle.jls_parts.proofs.checking.have_ways.Given as goal
-
-abbrev pub invariant-loop-part : goal.invariant-loop-part
-invariant-loop-part l = AllByRecursion (HasWays l.count) (parts_of (take l.part-index l.parts))

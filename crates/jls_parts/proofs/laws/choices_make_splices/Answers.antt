@@ -1,5 +1,0 @@
-use Rattle.jls_parts.proofs.Splices.{choices_make_splices}
-use Rattle.jls_parts.proofs.laws.choices_make_splices.Goals as goal
-
-pub returns : goal.returns
-returns c = choices_make_splices

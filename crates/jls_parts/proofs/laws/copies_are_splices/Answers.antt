@@ -1,5 +1,0 @@
-use Rattle.jls_parts.proofs.Splices.{copies_are_splices}
-use Rattle.jls_parts.proofs.laws.copies_are_splices.Goals as goal
-
-pub returns : goal.returns
-returns c = copies_are_splices

@@ -1,5 +1,0 @@
-use Rattle.jls_parts.proofs.Splices.{splices_are_listed}
-use Rattle.jls_parts.proofs.laws.splices_are_listed.Goals as goal
-
-pub returns : goal.returns
-returns c = splices_are_listed

@@ -1,7 +1,0 @@
-use Rattle.std.proofs.Common.{◌<◌, ◌≤◌, ℕ}
-use Rattle.std.specs.List.{All}
-use Rattle.jls_picture.specs.Picture.{line_of}
-use Rattle.jls_picture.proofs.options.is_within.Given as goal
-
-abbrev pub invariant-loop-component : goal.invariant-loop-component
-invariant-loop-component l = (k : ℕ) → k < l.component → (line : ℕ) → line < l.picture.shape.height → All (λ sample. sample ≤ l.most) (line_of l.picture k line)

@@ -1,4 +1,0 @@
-use Rattle.jls_picture.proofs.picture.unsettled.Goals as goal
-
-pub returns-in-Some : goal.returns-in-Some
-returns-in-Some c = record { first_line = c.in-Some.ensures; components_before = c.loop-component.invariant }

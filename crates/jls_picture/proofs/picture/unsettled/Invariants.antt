@@ -1,6 +1,0 @@
-use Rattle.std.proofs.Common.{◌<◌, ℕ}
-use Rattle.jls_partial.specs.Status.{IsComponentSettled}
-use Rattle.jls_picture.proofs.picture.unsettled.Given as goal
-
-abbrev pub invariant-loop-component : goal.invariant-loop-component
-invariant-loop-component l = (component : ℕ) → component < l.component → IsComponentSettled l.partial component

@@ -1,4 +1,0 @@
--- Lemmas of this crate.
-pub mod Handed
-mod LineExamples
-mod NameExamples

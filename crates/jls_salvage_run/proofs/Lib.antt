@@ -1,0 +1,21 @@
+-- Lemmas of this crate.
+pub mod Defaults
+pub mod Held
+pub mod InTurn
+pub mod InputBytes
+pub mod JoinSteps
+pub mod NextInputs
+mod StatusExamples
+pub mod Told
+mod TooLarge
+mod TraceExamples
+pub mod WholeRuns
+pub mod Written
+mod BrokenReads
+mod FaultLineExamples
+pub mod Finished
+mod RefusedRuns
+pub mod RefusedWords
+pub mod Running
+mod Statuses
+mod WordStatuses

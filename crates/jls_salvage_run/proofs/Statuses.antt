@@ -1,0 +1,394 @@
+-- What stands behind the exit statuses 2 to 5 of a run.
+use Rattle.std.proofs.Common.{◌≡◌, ◌≤◌, ◌+◌, ◌⊎◌, inl, inr, ℕ, Bool, true, false, List, [], ◌∷◌, ◌++◌, Option, None, Ok, Err, length, filter, sym, subst, ap, ◌∙◌, refl, arith}
+use Rattle.std.specs.Prelude.{◌||◌, All}
+use Rattle.std.specs.List.{list_any}
+use Rattle.std.proofs.lemmas.List.{append-nil, length-append}
+use Rattle.std.proofs.lemmas.List.Elements.{All-cons, All-nil, filter-append}
+use Rattle.std.proofs.lemmas.List.Folds.{list_any-append}
+use Rattle.jls_io.specs.Event.{Event, opened, not_opened, gave, read_failed, created, not_created, took, write_failed, is_creation, is_read}
+use Rattle.jls_io.specs.Writing.{WroteFront, Printed}
+use Rattle.jls_station.specs.Given.{Given}
+use Rattle.jls_station.specs.Reading.{GoesOn, StopsWith, IsRead}
+use Rattle.jls_station.specs.Inputs.{IsEnough, IsRefused, no_text, no_picture, text_not_read, copy_not_read, between_reads, behind_the_last, ReadsRefuse, for_fault, for_memory}
+use Rattle.jls_salvage_run.specs.AllInputs.{IsTaken, TakesInTurn, StopsAt, not_there, refused, other_shape, no_memory}
+use Rattle.jls_salvage_run.specs.Joining as joining
+use Rattle.jls_salvage_run.specs.Joining.{Joins}
+use Rattle.jls_salvage_run.specs.Outputs as outputs
+use Rattle.jls_salvage_run.specs.Outputs.{StopsAtOutput}
+use Rattle.jls_salvage_run.specs.Outcomes.{Outcome, exit_status, finished, status_of_done, status_of_input, status_of_refusal}
+use Rattle.jls_station.specs.declared.input.ReadStop.{ReadStop}
+use Rattle.jls_station.specs.declared.input.ReadStop.TheVariants.{Whole, Failed, Turns}
+use Rattle.jls_station.specs.declared.input.InputFault.{InputFault}
+use Rattle.jls_station.specs.declared.input.InputFault.TheVariants as fault
+use Rattle.jls_salvage_run.specs.declared.outcome.Refusal.{Refusal}
+use Rattle.jls_salvage_run.specs.declared.outcome.Refusal.TheVariants as refusal
+use Rattle.jls_salvage_run.specs.Reporting as reporting
+use Rattle.jls_salvage_run.specs.Reporting.{PrintsReport, lines}
+use Rattle.jls_salvage_run.specs.WritingFiles as writing
+use Rattle.jls_salvage_run.specs.WritingFiles.{WritesFile, StopsAtFile}
+use Rattle.jls_salvage_run.specs.declared.writing.Format.{Format}
+use Rattle.jls_salvage_run.specs.declared.writing.Format.TheVariants.{Pnm, Jls}
+use Rattle.jls_cli.specs.SalvageAsking.{Asked, check, join, show, write_pnm, write_jls}
+use Rattle.jls_io.specs.FaultLines.{out_of_memory_line}
+use Rattle.jls_salvage_run.specs.FaultLines.{fault_line, input_fault_line, program, refusal_line}
+use Rattle.jls_salvage_run.specs.Runs.{CameOf, Run, came_of, misused, helped, help_cut, nothing_begun, nothing_asked}
+use Rattle.jls_salvage_run.specs.Statuses.{is_failure, HadFailure, FailuresAreBehindStatus4, RefusedRunsCreateNothing, WantOfMemoryIsTold}
+use Rattle.jls_salvage_run.proofs.Finished.{status_of_unsettled}
+
+-- ---- failures among events
+
+or_left : (a b : Bool) → a ≡ true → (a || b) ≡ true
+or_left true b e = refl
+or_left false b e = absurd cc
+
+or_right : (a b : Bool) → b ≡ true → (a || b) ≡ true
+or_right true b e = refl
+or_right false b e = e
+
+reads_both : (a b : List Event) → length (filter is_read (a ++ b)) ≡ length (filter is_read a) + length (filter is_read b)
+reads_both a b = ap length (filter-append is_read a b) ∙ length-append (filter is_read a) (filter is_read b)
+
+failed_left : (a b : List Event) → HadFailure a → HadFailure (a ++ b)
+failed_left a b (inl e) = inl (list_any-append is_failure a b ∙ or_left (list_any is_failure a) (list_any is_failure b) e)
+failed_left a b (inr le) = inr (omega (arith, reads_both a b, le))
+
+failed_right : (a b : List Event) → HadFailure b → HadFailure (a ++ b)
+failed_right a b (inl e) = inl (list_any-append is_failure a b ∙ or_right (list_any is_failure a) (list_any is_failure b) e)
+failed_right a b (inr le) = inr (omega (arith, reads_both a b, le))
+
+failed_as : (a b : List Event) → a ≡ b → HadFailure b → HadFailure a
+failed_as a b e h = subst HadFailure (sym e) h
+
+-- ---- one input
+
+all_reads : (E : List ℕ → Type 0) (fed : List ℕ) (reads : List Event) → GoesOn E fed reads → length (filter is_read reads) ≡ length reads
+all_reads E fed [] h = refl
+all_reads E fed (gave room bytes ∷ more) h = let r = all_reads E (fed ++ bytes) more h.3 in omega (arith, r)
+all_reads E fed (opened name ∷ more) h = absurd h
+all_reads E fed (not_opened name ∷ more) h = absurd h
+all_reads E fed (read_failed ∷ more) h = absurd h
+all_reads E fed (created name ∷ more) h = absurd h
+all_reads E fed (not_created name ∷ more) h = absurd h
+all_reads E fed (took bytes ∷ more) h = absurd h
+all_reads E fed (write_failed ∷ more) h = absurd h
+
+module _ (E : List ℕ → Type 0) where
+  last_failed : (bytes : List ℕ) (on last : List Event) (stop : ReadStop) → StopsWith E bytes last stop → (stop ≡ Whole → ⊥)
+      → GoesOn E [] on
+      → (stop ≡ Turns → length (on ++ last) ≡ 4294967295) → HadFailure (on ++ last)
+  last_failed bytes on [] Whole h not g all = absurd (not refl)
+  last_failed bytes on [] Turns h not g all =
+      failed_left on [] (inr (let n = all refl in omega (arith, all_reads E [] on g, length-append on [], n)))
+  last_failed bytes on [] Failed h not g all = absurd h
+  last_failed bytes on (gave room [] ∷ []) Whole h not g all = absurd (not refl)
+  last_failed bytes on (gave room [] ∷ []) Failed h not g all = absurd h
+  last_failed bytes on (gave room [] ∷ []) Turns h not g all = absurd h
+  last_failed bytes on (gave room [] ∷ e ∷ more) stop h not g all = absurd h
+  last_failed bytes on (gave room (b ∷ bs) ∷ more) stop h not g all = absurd h
+  last_failed bytes on (read_failed ∷ []) Failed h not g all = failed_right on (read_failed ∷ []) (inl refl)
+  last_failed bytes on (read_failed ∷ []) Whole h not g all = absurd h
+  last_failed bytes on (read_failed ∷ []) Turns h not g all = absurd h
+  last_failed bytes on (read_failed ∷ e ∷ more) stop h not g all = absurd h
+  last_failed bytes on (opened name ∷ more) stop h not g all = absurd h
+  last_failed bytes on (not_opened name ∷ more) stop h not g all = absurd h
+  last_failed bytes on (created name ∷ more) stop h not g all = absurd h
+  last_failed bytes on (not_created name ∷ more) stop h not g all = absurd h
+  last_failed bytes on (took b ∷ more) stop h not g all = absurd h
+  last_failed bytes on (write_failed ∷ more) stop h not g all = absurd h
+
+  read_in_part : (reads : List Event) (bytes : List ℕ) (stop : ReadStop) → IsRead E reads bytes stop → (stop ≡ Whole → ⊥) → HadFailure reads
+  read_in_part reads bytes stop h not =
+      failed_as reads (h.on ++ h.last) h.reads_are
+      (last_failed bytes h.on h.last stop h.stops not h.goes_on (λ e. ap length (sym h.reads_are) ∙ h.used_up e))
+
+refused_failed : (bytes : List ℕ) (stop : ReadStop) (f : InputFault) (reads : List Event) → IsRead IsEnough reads bytes stop
+    → IsRefused bytes stop f
+    → status_of_input f ≡ 4 → HadFailure reads
+refused_failed bytes _ _ reads is (no_text _ f t wrong) e = absurd (omega (arith, e))
+refused_failed bytes stop _ reads is (text_not_read _ _ t not) e = read_in_part IsEnough reads bytes stop is not
+refused_failed bytes _ _ reads is (no_picture _ f offset t none) e = absurd (omega (arith, e))
+refused_failed bytes stop _ reads is (copy_not_read _ _ f offset t not none) e = read_in_part IsEnough reads bytes stop is not
+
+reads_failed : (f : InputFault) (reads : List Event) → ReadsRefuse f reads → status_of_input f ≡ 4 → HadFailure reads
+reads_failed f reads (for_fault _ bytes stop _ is h) e = refused_failed bytes stop f reads is h e
+reads_failed _ reads (for_memory _ h) e = absurd (omega (arith, e))
+
+failed_at_input : (source : Option ℕ) (before : List Given) (r : Refusal) (events : List Event)
+    → StopsAt source before r events
+    → status_of_refusal r ≡ 4 → HadFailure events
+failed_at_input source before _ _ (not_there _ _ _) e = inl refl
+failed_at_input source before _ _ (refused _ _ n f reads h) e = failed_right (opened n.now ∷ []) reads (reads_failed f reads h e)
+failed_at_input source before _ _ (other_shape _ _ _ g events h other) e = absurd (omega (arith, e))
+failed_at_input source before _ _ (no_memory _ _ _ g events h other) e = absurd (omega (arith, e))
+
+taken_in_part : (source : Option ℕ) (name : List ℕ) (g : Given) (events : List Event) → IsTaken source name g events → (g.stop ≡ Whole → ⊥)
+    → HadFailure events
+taken_in_part source name g events h not =
+    failed_as events (opened name ∷ h.reads) h.events_are
+    (failed_right (opened name ∷ []) h.reads (read_in_part IsEnough h.reads h.give.bytes g.stop h.give.is_read not))
+
+whole_or_not : (stop : ReadStop) → (stop ≡ Whole) ⊎ (stop ≡ Whole → ⊥)
+whole_or_not Whole = inl refl
+whole_or_not Failed = inr (λ e. absurd cc)
+whole_or_not Turns = inr (λ e. absurd cc)
+
+-- one of some inputs was not read whole
+failed_in_turn : (source : Option ℕ) (names : List (List ℕ)) (givens : List Given) (events : List Event)
+    → TakesInTurn source names givens events
+    → (All (λ g. g.stop ≡ Whole) givens → ⊥) → HadFailure events
+failed_in_turn source [] [] events h not = absurd (not (All-nil (λ (g : Given). g.stop ≡ Whole)))
+failed_in_turn source [] (g ∷ givens) events h not = absurd h
+failed_in_turn source (name ∷ names) [] events h not = absurd h
+failed_in_turn source (name ∷ names) (g ∷ givens) events h not =
+    let others = failed_in_turn source names givens h.1 h.4 in
+    failed_as events (h.0 ++ h.1) h.2 (by_stop others (whole_or_not g.stop))
+  where
+    by_stop : ((All (λ x. x.stop ≡ Whole) givens → ⊥) → HadFailure h.1) → (g.stop ≡ Whole) ⊎ (g.stop ≡ Whole → ⊥) → HadFailure (h.0 ++ h.1)
+    by_stop others (inl is) = failed_right h.0 h.1 (others (λ all. not (All-cons (λ (x : Given). x.stop ≡ Whole) g givens is all)))
+    by_stop others (inr part) = failed_left h.0 h.1 (taken_in_part source name g h.0 h.3 part)
+
+-- ---- outputs
+
+failed_at_output : (bytes : List ℕ) (r : Refusal) (events : List Event) → StopsAtOutput bytes r events → HadFailure events
+failed_at_output bytes _ _ (outputs.not_there _ _) = inl refl
+failed_at_output bytes _ _ (outputs.cut n _ count writes h) =
+    failed_right (created n.now ∷ []) writes (failed_as writes (h.writes ++ write_failed ∷ []) h.events_are (failed_right h.writes (write_failed ∷ []) (inl refl)))
+
+front_failed : (bytes : List ℕ) (count : ℕ) (events : List Event) → WroteFront bytes count events → HadFailure events
+front_failed bytes count events h = failed_as events (h.writes ++ write_failed ∷ []) h.events_are (failed_right h.writes (write_failed ∷ []) (inl refl))
+
+-- ---- commands that end with 4
+
+not_whole : (settled whole : Bool) → exit_status (finished settled whole) ≡ 4 → whole ≡ true → ⊥
+not_whole settled false e is = cc
+not_whole true true e is = absurd (omega (arith, e))
+not_whole false true e is = absurd (omega (arith, e))
+
+join_failed : (source : Option ℕ) (out : List ℕ) (names : List (List ℕ)) (outcome : Outcome) (events : List Event)
+    → Joins source out names outcome events
+    → exit_status outcome ≡ 4 → HadFailure events
+join_failed source out names _ events (joining.done _ _ _ p settled whole _ h) e =
+    failed_as events (h.reading ++ h.writing) h.events_are
+    (failed_left h.reading h.writing (failed_in_turn source names h.taken.givens h.reading h.taken.taken.in_turn (λ all. not_whole settled whole e (h.taken.whole_is.1 all))))
+join_failed source out names _ events (joining.at_input _ _ _ r _ h) e =
+    failed_as events (h.reading ++ h.last) h.events_are (failed_right h.reading h.last (failed_at_input source h.givens r h.last h.stops e))
+join_failed source out names _ events (joining.no_memory _ _ _ n p whole _ named h) e =
+    absurd (omega (arith, e))
+join_failed source out names _ _ (joining.at_output _ _ _ r p whole reading written named h stops) e = failed_right reading written (failed_at_output _ r written stops)
+
+tell_failed : (traced : Bool) (name : List ℕ) (outcome : Outcome) (events reported : List Event)
+    → PrintsReport (lines traced) name outcome events reported
+    → exit_status outcome ≡ 4 → HadFailure events ⊎ HadFailure reported
+tell_failed traced name _ events reported (reporting.done _ g settled whole _ _ taken says wrote) e =
+    inl (taken_in_part None name g events taken (λ is. not_whole settled whole e (says.whole_is.1 is)))
+tell_failed traced name _ events _ (reporting.at_input _ r _ named h) e = inl (failed_at_input None [] r events h e)
+tell_failed traced name _ events _ (reporting.no_memory _ n g _ named taken) e =
+    absurd (omega (arith, e))
+tell_failed traced name _ events reported (reporting.not_printed _ n g count _ _ named taken wrote) e = inr (front_failed (lines traced g) count reported wrote)
+
+file_failed : (F L : Type 0) (takes : Bool) (bytes : List ℕ) (r : Refusal) (events : List Event) → StopsAtFile F L takes bytes r events
+    → status_of_refusal r ≡ 4 → HadFailure events
+file_failed F L takes bytes _ _ (writing.too_large _ _ large) e = absurd (omega (arith, e))
+file_failed F L takes bytes r _ (writing.at_output _ _ events fit h) e = failed_at_output bytes r events h
+file_failed F L takes bytes _ _ (writing.no_memory _ _ count writes fit is lt h) e = absurd (omega (arith, e))
+
+write_failed_so : (format : Format) (out name : List ℕ) (outcome : Outcome) (events : List Event)
+    → WritesFile format out name outcome events
+    → exit_status outcome ≡ 4 → HadFailure events
+write_failed_so format out name _ _ (writing.done _ _ _ g whole reading written taken settled says fit handed) e =
+    failed_left reading written (taken_in_part None name g reading taken (λ is. not_whole true whole e (says.whole_is.1 is)))
+write_failed_so format out name _ events (writing.at_input _ _ _ r _ named h) e = failed_at_input None [] r events h e
+write_failed_so format out name _ events (writing.unsettled _ _ _ r n g f _ named taken first because) e =
+    let k = status_of_unsettled n g.partial f r because in absurd (omega (arith, k, e))
+write_failed_so format out name _ _ (writing.at_file _ _ _ r g reading written named taken settled stops) e =
+    failed_right reading written (file_failed _ _ _ _ r written stops e)
+
+came_failed : (asked : Asked) (outcome : Outcome) (desk report : List Event) → CameOf asked outcome desk report → exit_status outcome ≡ 4
+    → HadFailure desk ⊎ HadFailure report
+came_failed (check name) outcome desk report h e = tell_failed true name outcome desk report h e
+came_failed (join source out names) outcome desk report h e = inl (join_failed source out names outcome desk h.0 e)
+came_failed (show name) outcome desk report h e = tell_failed false name outcome desk report h e
+came_failed (write_pnm out name) outcome desk report h e = inl (write_failed_so Pnm out name outcome desk h.0 e)
+came_failed (write_jls line ri out name) outcome desk report h e = inl (write_failed_so (Jls line ri) out name outcome desk h.0 e)
+
+run_failed : (words : List (List ℕ)) (status : ℕ) (desk report faults : List Event) → Run words status desk report faults → status ≡ 4
+    → HadFailure desk ⊎ HadFailure report
+run_failed words _ desk report faults (came_of _ asked outcome _ _ _ reads came line) e = came_failed asked outcome desk report came e
+run_failed words _ _ _ faults (misused _ kind usage _ r n line) e = absurd (omega (arith, e))
+run_failed words _ _ report _ (helped _ kind help _ r n wrote) e = absurd (omega (arith, e))
+run_failed words _ _ report faults (help_cut _ kind help count _ _ r n wrote line) e = inr (front_failed help count report wrote)
+run_failed words _ _ _ faults (nothing_begun _ _ line) e = absurd (omega (arith, e))
+run_failed words _ _ _ faults (nothing_asked _ _ asks line) e = absurd (omega (arith, e))
+
+pub failures_behind : FailuresAreBehindStatus4
+failures_behind words status desk desk' report report' faults faults' ran e = run_failed words status ran.desk_events ran.report_events ran.fault_events ran.run e
+
+-- ---- no creation
+
+none_both : (a b : List Event) → list_any is_creation a ≡ false → list_any is_creation b ≡ false → list_any is_creation (a ++ b) ≡ false
+none_both a b h k = list_any-append is_creation a b ∙ (ap (λ (x : Bool). x || list_any is_creation b) h ∙ k)
+
+none_as : (a b : List Event) → a ≡ b → list_any is_creation b ≡ false → list_any is_creation a ≡ false
+none_as a b e h = ap (list_any is_creation) e ∙ h
+
+module _ (E : List ℕ → Type 0) where
+  none_on : (fed : List ℕ) (reads : List Event) → GoesOn E fed reads → list_any is_creation reads ≡ false
+  none_on fed [] h = refl
+  none_on fed (gave room bytes ∷ more) h = none_on (fed ++ bytes) more h.3
+  none_on fed (opened name ∷ more) h = absurd h
+  none_on fed (not_opened name ∷ more) h = absurd h
+  none_on fed (read_failed ∷ more) h = absurd h
+  none_on fed (created name ∷ more) h = absurd h
+  none_on fed (not_created name ∷ more) h = absurd h
+  none_on fed (took bytes ∷ more) h = absurd h
+  none_on fed (write_failed ∷ more) h = absurd h
+
+  none_last : (bytes : List ℕ) (last : List Event) (stop : ReadStop) → StopsWith E bytes last stop → list_any is_creation last ≡ false
+  none_last bytes [] stop h = refl
+  none_last bytes (gave room [] ∷ []) stop h = refl
+  none_last bytes (gave room [] ∷ e ∷ more) stop h = absurd h
+  none_last bytes (gave room (b ∷ bs) ∷ more) stop h = absurd h
+  none_last bytes (read_failed ∷ []) stop h = refl
+  none_last bytes (read_failed ∷ e ∷ more) stop h = absurd h
+  none_last bytes (opened name ∷ more) stop h = absurd h
+  none_last bytes (not_opened name ∷ more) stop h = absurd h
+  none_last bytes (created name ∷ more) stop h = absurd h
+  none_last bytes (not_created name ∷ more) stop h = absurd h
+  none_last bytes (took b ∷ more) stop h = absurd h
+  none_last bytes (write_failed ∷ more) stop h = absurd h
+
+  none_read : (reads : List Event) (bytes : List ℕ) (stop : ReadStop) → IsRead E reads bytes stop → list_any is_creation reads ≡ false
+  none_read reads bytes stop h = none_as reads (h.on ++ h.last) h.reads_are (none_both h.on h.last (none_on [] h.on h.goes_on) (none_last bytes h.last stop h.stops))
+
+none_refused : (f : InputFault) (reads : List Event) → ReadsRefuse f reads → list_any is_creation reads ≡ false
+none_refused f reads (for_fault _ bytes stop _ is h) = none_read IsEnough reads bytes stop is
+none_refused _ reads (for_memory _ (between_reads _ is)) = none_on IsEnough [] reads is.0
+none_refused _ reads (for_memory _ (behind_the_last bytes stop _ is t)) = none_read IsEnough reads bytes stop is
+
+none_taken : (source : Option ℕ) (name : List ℕ) (g : Given) (events : List Event) → IsTaken source name g events
+    → list_any is_creation events ≡ false
+none_taken source name g events h = none_as events (opened name ∷ h.reads) h.events_are (none_read IsEnough h.reads h.give.bytes g.stop h.give.is_read)
+
+none_at_input : (source : Option ℕ) (before : List Given) (r : Refusal) (events : List Event)
+    → StopsAt source before r events → list_any is_creation events ≡ false
+none_at_input source before _ _ (not_there _ _ _) = refl
+none_at_input source before _ _ (refused _ _ _ f reads h) = none_refused f reads h
+none_at_input source before _ events (other_shape _ _ n g _ h other) = none_taken source n.now g events h
+none_at_input source before _ events (no_memory _ _ n g _ h other) = none_taken source n.now g events h
+
+none_in_turn : (source : Option ℕ) (names : List (List ℕ)) (givens : List Given) (events : List Event)
+    → TakesInTurn source names givens events → list_any is_creation events ≡ false
+none_in_turn source [] [] events h = none_as events [] h refl
+none_in_turn source [] (g ∷ givens) events h = absurd h
+none_in_turn source (name ∷ names) [] events h = absurd h
+none_in_turn source (name ∷ names) (g ∷ givens) events h =
+    none_as events (h.0 ++ h.1) h.2 (none_both h.0 h.1 (none_taken source name g h.0 h.3) (none_in_turn source names givens h.1 h.4))
+
+-- ---- commands that end with 2 or 3
+
+done_else : (settled whole : Bool) → 2 ≤ exit_status (finished settled whole) → exit_status (finished settled whole) ≤ 3 → ⊥
+done_else settled false ge le = absurd (omega (arith, le))
+done_else true true ge le = absurd (omega (arith, ge))
+done_else false true ge le = absurd (omega (arith, ge))
+
+output_else : (bytes : List ℕ) (r : Refusal) (events : List Event) → StopsAtOutput bytes r events → status_of_refusal r ≤ 3 → ⊥
+output_else bytes _ _ (outputs.not_there _ _) le = absurd (omega (arith, le))
+output_else bytes _ _ (outputs.cut _ _ count writes h) le = absurd (omega (arith, le))
+
+join_creates_none : (source : Option ℕ) (out : List ℕ) (names : List (List ℕ)) (outcome : Outcome) (events : List Event)
+    → Joins source out names outcome events
+    → 2 ≤ exit_status outcome → exit_status outcome ≤ 3 → list_any is_creation events ≡ false
+join_creates_none source out names _ events (joining.done _ _ _ p settled whole _ h) ge le = absurd (done_else settled whole ge le)
+join_creates_none source out names _ events (joining.at_input _ _ _ r _ h) ge le =
+    none_as events (h.reading ++ h.last) h.events_are
+    (none_both h.reading h.last (none_in_turn source h.before h.givens h.reading h.taken.in_turn) (none_at_input source h.givens r h.last h.stops))
+join_creates_none source out names _ events (joining.no_memory _ _ _ n p whole _ named h) ge le = none_in_turn source names h.givens events h.taken.in_turn
+join_creates_none source out names _ _ (joining.at_output _ _ _ r p whole reading written named h stops) ge le = absurd (output_else _ r written stops le)
+
+tell_creates_none : (traced : Bool) (name : List ℕ) (outcome : Outcome) (events reported : List Event)
+    → PrintsReport (lines traced) name outcome events reported
+    → 2 ≤ exit_status outcome → exit_status outcome ≤ 3 → (list_any is_creation events ≡ false) × (reported ≡ [])
+tell_creates_none traced name _ events reported (reporting.done _ g settled whole _ _ taken says wrote) ge le = absurd (done_else settled whole ge le)
+tell_creates_none traced name _ events _ (reporting.at_input _ r _ named h) ge le = (none_at_input None [] r events h, refl)
+tell_creates_none traced name _ events _ (reporting.no_memory _ n g _ named taken) ge le = (none_taken None name g events taken, refl)
+tell_creates_none traced name _ events reported (reporting.not_printed _ n g count _ _ named taken wrote) ge le =
+    absurd (omega (arith, le))
+
+file_creates_none : (F L : Type 0) (takes : Bool) (bytes : List ℕ) (r : Refusal) (events : List Event)
+    → StopsAtFile F L takes bytes r events
+    → status_of_refusal r ≤ 3 → list_any is_creation events ≡ false
+file_creates_none F L takes bytes _ _ (writing.too_large _ _ large) le = refl
+file_creates_none F L takes bytes r _ (writing.at_output _ _ events fit h) le = absurd (output_else bytes r events h le)
+file_creates_none F L takes bytes _ _ (writing.no_memory _ _ count writes fit is lt h) le = absurd (omega (arith, le))
+
+write_creates_none : (format : Format) (out name : List ℕ) (outcome : Outcome) (events : List Event)
+    → WritesFile format out name outcome events
+    → 2 ≤ exit_status outcome → exit_status outcome ≤ 3 → list_any is_creation events ≡ false
+write_creates_none format out name _ _ (writing.done _ _ _ g whole reading written taken settled says fit handed) ge le = absurd (done_else true whole ge le)
+write_creates_none format out name _ events (writing.at_input _ _ _ r _ named h) ge le = none_at_input None [] r events h
+write_creates_none format out name _ events (writing.unsettled _ _ _ r n g f _ named taken first because) ge le = none_taken None name g events taken
+write_creates_none format out name _ _ (writing.at_file _ _ _ r g reading written named taken settled stops) ge le =
+    none_both reading written (none_taken None name g reading taken) (file_creates_none _ _ _ _ r written stops le)
+
+came_creates_none : (asked : Asked) (outcome : Outcome) (desk report : List Event) → CameOf asked outcome desk report
+    → 2 ≤ exit_status outcome → exit_status outcome ≤ 3
+    → (list_any is_creation desk ≡ false) × (report ≡ [])
+came_creates_none (check name) outcome desk report h ge le = tell_creates_none true name outcome desk report h ge le
+came_creates_none (join source out names) outcome desk report h ge le = (join_creates_none source out names outcome desk h.0 ge le, h.1)
+came_creates_none (show name) outcome desk report h ge le = tell_creates_none false name outcome desk report h ge le
+came_creates_none (write_pnm out name) outcome desk report h ge le = (write_creates_none Pnm out name outcome desk h.0 ge le, h.1)
+came_creates_none (write_jls line ri out name) outcome desk report h ge le = (write_creates_none (Jls line ri) out name outcome desk h.0 ge le, h.1)
+
+run_creates_none : (words : List (List ℕ)) (status : ℕ) (desk report faults : List Event) → Run words status desk report faults → 2 ≤ status
+    → status ≤ 3
+    → (list_any is_creation desk ≡ false) × (report ≡ [])
+run_creates_none words _ desk report faults (came_of _ asked outcome _ _ _ reads came line) ge le = came_creates_none asked outcome desk report came ge le
+run_creates_none words _ _ _ faults (misused _ kind usage _ r n line) ge le = (refl, refl)
+run_creates_none words _ _ report _ (helped _ kind help _ r n wrote) ge le = absurd (omega (arith, ge))
+run_creates_none words _ _ report faults (help_cut _ kind help count _ _ r n wrote line) ge le = absurd (omega (arith, le))
+run_creates_none words _ _ _ faults (nothing_begun _ _ line) ge le = absurd (omega (arith, le))
+run_creates_none words _ _ _ faults (nothing_asked _ _ asks line) ge le = (refl, refl)
+
+pub nothing_created : RefusedRunsCreateNothing
+nothing_created words status desk desk' report report' faults faults' ran ge le =
+    let h = run_creates_none words status ran.desk_events ran.report_events ran.fault_events ran.run ge le in
+    (h.0, ran.report_is ∙ (ap (λ (es : List Event). report ++ es) h.1 ∙ append-nil report))
+
+-- ---- runs that end with 5
+
+line_of_input : (name : List ℕ) (f : InputFault) → status_of_input f ≡ 5 → input_fault_line name f ≡ out_of_memory_line program
+line_of_input name (fault.Text f) e = absurd (omega (arith, e))
+line_of_input name (fault.NoPicture f offset) e = absurd (omega (arith, e))
+line_of_input name (fault.Read stop offset) e = absurd (omega (arith, e))
+line_of_input name fault.OutOfMemory e = refl
+
+line_of_memory : (r : Refusal) → status_of_refusal r ≡ 5 → refusal_line r ≡ out_of_memory_line program
+line_of_memory (refusal.NotOpened name) e = absurd (omega (arith, e))
+line_of_memory (refusal.Input name f) e = line_of_input name.now f e
+line_of_memory (refusal.ShapeDiffers name) e = absurd (omega (arith, e))
+line_of_memory (refusal.Unsettled name id line disputed) e = absurd (omega (arith, e))
+line_of_memory (refusal.TooLarge name) e = absurd (omega (arith, e))
+line_of_memory (refusal.NotCreated name) e = absurd (omega (arith, e))
+line_of_memory (refusal.NotWritten name count) e = absurd (omega (arith, e))
+line_of_memory (refusal.OutOfMemory name) e = refl
+
+done_not_5 : (settled whole : Bool) → status_of_done settled whole ≡ 5 → ⊥
+done_not_5 settled false e = absurd (omega (arith, e))
+done_not_5 true true e = absurd (omega (arith, e))
+done_not_5 false true e = absurd (omega (arith, e))
+
+memory_line : (outcome : Outcome) → exit_status outcome ≡ 5 → fault_line outcome ≡ out_of_memory_line program
+memory_line (Ok d) e = absurd (done_not_5 d.settled d.whole e)
+memory_line (Err r) e = line_of_memory r e
+
+run_out_of_memory : (words : List (List ℕ)) (status : ℕ) (desk report faults : List Event) → Run words status desk report faults
+    → status ≡ 5 → Printed (out_of_memory_line program) faults
+run_out_of_memory words _ desk report faults (came_of _ asked outcome _ _ _ reads came line) e = subst (λ (l : List ℕ). Printed l faults) (memory_line outcome e) line
+run_out_of_memory words _ _ _ faults (misused _ kind usage _ r n line) e = absurd (omega (arith, e))
+run_out_of_memory words _ _ report _ (helped _ kind help _ r n wrote) e = absurd (omega (arith, e))
+run_out_of_memory words _ _ report faults (help_cut _ kind help count _ _ r n wrote line) e = absurd (omega (arith, e))
+run_out_of_memory words _ _ _ faults (nothing_begun _ _ line) e = line
+run_out_of_memory words _ _ _ faults (nothing_asked _ _ asks line) e = absurd (omega (arith, e))
+
+pub memory_told : WantOfMemoryIsTold
+memory_told words status desk desk' report report' faults faults' ran e = run_out_of_memory words status ran.desk_events ran.report_events ran.fault_events ran.run e

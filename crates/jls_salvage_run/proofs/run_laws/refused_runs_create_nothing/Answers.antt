@@ -1,0 +1,5 @@
+use Rattle.jls_salvage_run.proofs.Statuses.{nothing_created}
+use Rattle.jls_salvage_run.proofs.run_laws.refused_runs_create_nothing.Goals as goal
+
+pub returns : goal.returns
+returns c = nothing_created

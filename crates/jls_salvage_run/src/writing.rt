@@ -1,0 +1,154 @@
+//! The command `write`.
+
+ghost use Rattle.std.specs.Prelude.{◌≡◌, true, OnOk, IfErr};
+ghost use Rattle.jls_io.specs.Event.{GrewBy};
+ghost use Rattle.jls_salvage_run.specs.Outcomes.{name_of};
+ghost use Rattle.jls_io.specs.Outputs.{HandsOut};
+ghost use Rattle.jls_salvage_run.specs.Outputs.{StopsAtOutput};
+ghost use Rattle.jls_write.specs.Unsettled.{NamesFirstUnsettled};
+ghost use Rattle.jls_write.specs.WrittenFile.{written_file};
+ghost use Rattle.jls_write.specs.Options.{OptionsFit};
+ghost use Rattle.jls_write.specs.Pnm.{pnm};
+ghost use Rattle.jls_salvage_run.specs.WritingFiles.{file, cut_refusal, FitsFormat, IsTooLarge, options_for, StopsAtFile, takes_memory, unsettled_refusal, WritesFile};
+
+use crate::inputs::open_and_read;
+use crate::outcome::{Done, Refusal};
+use crate::output::create;
+use jls_io::Desk;
+use jls_partial::Partial;
+use jls_values::Params;
+use jls_write::{
+    Options, OutputFault, Picture, PictureFault, pictures_are_whole, write_jls, write_pnm,
+};
+use std::alloc::Global;
+
+/// The format of a written picture.
+#[derive(Clone, Copy, Debug, PartialEq, Eq)]
+pub enum Format {
+    /// PGM for one component, PPM for three, and PAM for two and four.
+    Pnm,
+    /// JPEG-LS with the default parameters of the precision (ITU-T T.87, C.2.4.1.1.1). With `line` all components stand in one
+    /// scan, line by line, and else each in one of its own. `ri` is the restart interval in rows, and 0 means that there are
+    /// no restart markers.
+    Jls { line: bool, ri: u16 },
+}
+
+/// The refusal that tells of a line of an input which isn't settled.
+fn unsettled<'a>(name: &'a str, partial: &Partial, fault: PictureFault) -> Refusal<'a>
+    requires { NamesFirstUnsettled partial.now fault }
+    ensures { result ≡ unsettled_refusal name.entry partial.now fault }
+{
+    let PictureFault::Unsettled(component, line) = fault;
+    Refusal::Unsettled {
+        name,
+        id: partial.shape().ids()[component as usize],
+        line,
+        disputed: partial.count(component, line) > 1,
+    }
+}
+
+/// The refusal that tells what became of an output.
+fn cut<'a>(name: &'a str, fault: OutputFault) -> Refusal<'a>
+    ensures { result ≡ cut_refusal name.entry fault }
+{
+    match fault {
+        OutputFault::Write(count) => Refusal::NotWritten(name, count),
+        OutputFault::OutOfMemory(_) => Refusal::OutOfMemory(name),
+    }
+}
+
+/// How a picture is written as JPEG-LS.
+fn jls_options(picture: &Picture<'_>, line: bool, ri: u16) -> Options
+    ensures { result ≡ options_for line ri picture.now }
+{
+    let params = match Params::new(picture.shape().precision(), 0, 0, 0, 0, 0) {
+        Ok(params) => params,
+        Err(_) => unreachable!(),
+    };
+    Options::new(line, ri, params)
+}
+
+/// Creates the output of this name and hands the PNM file of the picture to it.
+fn hand_out_pnm<'a, D: Desk>(
+    desk: &mut D,
+    name: &'a str,
+    picture: &Picture<'_>,
+) -> Result<(), Refusal<'a>>
+    ensures written { OnOk result (GrewBy (HandsOut name.now (pnm picture.now)) (D.history desk.old) (D.history desk.new)) }
+    ensures stopped { IfErr result (λ refusal.
+        GrewBy (StopsAtOutput (pnm picture.now) refusal) (D.history desk.old) (D.history desk.new)) }
+    ensures named { IfErr result (λ refusal. name_of refusal ≡ name.now) }
+{
+    create(desk, name)?;
+    write_pnm(picture, desk).map_err(|fault| cut(name, fault))
+}
+
+/// Creates the output of this name and hands the JPEG-LS file of the picture to it, if the options fit.
+fn hand_out_jls<'a, D: Desk>(
+    alloc: Global,
+    desk: &mut D,
+    options: &Options,
+    name: &'a str,
+    picture: &Picture<'_>,
+) -> Result<(), Refusal<'a>>
+    ensures fit { OnOk result (OptionsFit picture.now options.now) }
+    ensures written { OnOk result (GrewBy (HandsOut name.now (written_file picture.now options.now)) (D.history desk.old)
+        (D.history desk.new)) }
+    ensures stopped { IfErr result (λ refusal. GrewBy (StopsAtFile (OptionsFit picture.now options.now)
+        (OptionsFit picture.now options.now → ⊥) true (written_file picture.now options.now) refusal)
+        (D.history desk.old) (D.history desk.new)) }
+    ensures named { IfErr result (λ refusal. name_of refusal ≡ name.now) }
+{
+    if !options.fits(picture) {
+        return Err(Refusal::TooLarge(name));
+    }
+    create(desk, name)?;
+    write_jls(alloc, picture, options, desk).map_err(|fault| cut(name, fault))
+}
+
+/// Creates the output of this name and hands the file of the picture to it, if it can be written so.
+fn hand_out<'a, D: Desk>(
+    alloc: Global,
+    desk: &mut D,
+    format: Format,
+    name: &'a str,
+    picture: &Picture<'_>,
+) -> Result<(), Refusal<'a>>
+    ensures fit { OnOk result (FitsFormat format picture.now) }
+    ensures written { OnOk result (GrewBy (HandsOut name.now (file format picture.now)) (D.history desk.old) (D.history desk.new)) }
+    ensures stopped { IfErr result (λ refusal. GrewBy (StopsAtFile (FitsFormat format picture.now) (IsTooLarge format picture.now)
+        (takes_memory format) (file format picture.now) refusal) (D.history desk.old) (D.history desk.new)) }
+    ensures named { IfErr result (λ refusal. name_of refusal ≡ name.now) }
+{
+    match format {
+        Format::Pnm => hand_out_pnm(desk, name, picture),
+        Format::Jls { line, ri } => {
+            // All else about default parameters fits.
+            pictures_are_whole(picture);
+            let options = jls_options(picture, line, ri);
+            hand_out_jls(alloc, desk, &options, name, picture)
+        }
+    }
+}
+
+/// The command `write`: reads one input and writes its picture, each line of which has to be settled. The output is
+/// created only when that is known.
+pub fn write<'a, D: Desk>(
+    alloc: Global,
+    desk: &mut D,
+    format: Format,
+    out: &'a str,
+    file: &'a str,
+) -> Result<Done, Refusal<'a>>
+    ensures { GrewBy (WritesFile format out.now file.now result) (D.history desk.old) (D.history desk.new) }
+{
+    let input = open_and_read(alloc, desk, file)?;
+    let partial = input.partial();
+    let picture = Picture::of(partial).map_err(|fault| unsettled(file, partial, fault))?;
+    hand_out(alloc, desk, format, out, &picture)?;
+    let whole = input.is_whole();
+    Ok(Done {
+        settled: true,
+        whole,
+    })
+}

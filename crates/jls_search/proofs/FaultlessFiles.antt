@@ -1,0 +1,141 @@
+-- What a reader tells of files without a fault.
+use Rattle.std.proofs.Common.{◌≡◌, ℕ, ◌<◌, Bool, true, false, List, [], ◌∷◌, ◌++◌, length, Option, Some, None, Result, Ok, Err, refl, sym, ap, ◌∙◌, subst, arith, zero, suc}
+use Rattle.std.specs.Prelude.{IfSome, IfOk}
+use Rattle.std.specs.declared.alloc.AllocError.{AllocError}
+use Rattle.std.specs.List.{AllByRecursion, Contains}
+use Rattle.jls_copy.specs.Course.{Course, IsCourse}
+use Rattle.jls_copy.specs.Pieces.{FoundPiece, Lines, Fault, IsOutcome, pieces}
+use Rattle.jls_copy.specs.ReadCopy.{ReadCopy}
+use Rattle.jls_copy.specs.CopyReads.{CopyReads, CopyGivesNone, IsDone}
+use Rattle.jls_copy.specs.CopyLaws.{FinalEndsStay}
+use Rattle.jls_copy.specs.TellingLaws.{AreRecordsOf, of_none, reads, faulty, RecordsAreOfFaultyPieces}
+use Rattle.jls_copy.specs.Fronts.{IsPieceBroken, FrontsStayBroken}
+use Rattle.jls_copy.specs.declared.piece.PieceKind.{PieceKind}
+use Rattle.jls_copy.specs.declared.piece.PieceRecord.{PieceRecord}
+use Rattle.jls_copy.specs.declared.reader.CopyFault.TheVariants.{NoPicture, OutOfMemory}
+use Rattle.jls_copy.specs.declared.reader.CopyFault.{CopyFault}
+use Rattle.jls_marker.specs.declared.fault.MarkerFault.{MarkerFault}
+use Rattle.jls_copy.proofs.OneCourse.{one_course}
+use Rattle.jls_copy.proofs.BytesDecide.{one_outcome}
+use Rattle.jls_copy.proofs.ScansOfCourse.{HasScan, course_has}
+use Rattle.jls_values.specs.Shape.{PictureShape}
+use Rattle.jls_search.specs.Faultless.{HasLines, GivesEachLine, EndsWell, IsFaultless, IsDead, IsEachLineRead, IsAnswerWithoutFrame}
+use Rattle.jls_search.proofs.LinesRead.{lines_given, lines_read}
+
+-- Lists ------------------------------------------------------------------------------------------------------------
+
+module _ {X : Type 0} where
+  pub all_at : (P : X → Type 0) (xs : List X) (x : X) → AllByRecursion P xs → Contains xs x → P x
+  all_at P [] x h (k, l, e) = absurd (omega (arith, l))
+  all_at P (y ∷ ys) x h (zero, l, e) = subst P e h.0
+  all_at P (y ∷ ys) x h (suc k, l, e) = all_at P ys x h.1 (k, omega (arith, l), e)
+
+  pub all_front : (P : X → Type 0) (xs ys : List X) → AllByRecursion P (xs ++ ys) → AllByRecursion P xs
+  all_front P [] ys h = tt
+  all_front P (x ∷ xs) ys h = (h.0, all_front P xs ys h.1)
+
+-- Pieces -----------------------------------------------------------------------------------------------------------
+
+lines_or_fault : (p : FoundPiece) (lines : List (List ℕ)) (kind : PieceKind) → HasScan p → IsOutcome p (Lines lines) → IsOutcome p (Fault kind) → ⊥
+lines_or_fault p lines kind scan a b =
+    let e = one_outcome p.plan p.number p.bytes (Lines lines) (Fault kind) scan a b in absurd cc
+
+all_read : (ps : List FoundPiece) (rs : List PieceRecord) → AreRecordsOf ps rs → length rs ≡ 0 → AllByRecursion HasLines ps
+all_read _ _ of_none e = tt
+all_read _ _ (reads p ps rs lines is rest) e = ((lines, is), all_read ps rs rest e)
+all_read _ _ (faulty p ps r rs is rest) e = absurd (omega (arith, e))
+
+none_faulty : (ps : List FoundPiece) (rs : List PieceRecord) → AllByRecursion HasScan ps → AllByRecursion HasLines ps → AreRecordsOf ps rs
+    → length rs ≡ 0
+none_faulty _ _ scans all of_none = refl
+none_faulty _ _ scans all (reads p ps rs lines is rest) = none_faulty ps rs scans.1 all.1 rest
+none_faulty _ _ scans all (faulty p ps r rs is rest) = absurd (lines_or_fault p all.0.0 r.kind scans.0 all.0.1 is.kind)
+
+-- What was read ----------------------------------------------------------------------------------------------------
+
+module _ (law : RecordsAreOfFaultyPieces) (bytes : List ℕ) (read : ReadCopy) (h : CopyReads bytes read) where
+  pub read_faultless : read.piece_count ≡ 0 → EndsWell read.ended → IsEachLineRead read.partial → IsFaultless bytes
+  read_faultless none ends lines =
+      let r = law bytes read h in
+      record {
+        course = h.course;
+        is_course = h.is_course;
+        shape = h.shape;
+        framed = h.framed;
+        ends = subst EndsWell h.ended_is ends;
+        each = all_read (pieces h.course) r.0 r.1 (sym r.3 ∙ none);
+        whole = lines_given bytes read h lines;
+      }
+
+  same_shape : (f : IsFaultless bytes) → f.course ≡ h.course → f.shape ≡ h.shape
+  same_shape f e = (let framed : Some f.shape ≡ Some h.shape = sym f.framed ∙ ap (λ (c : Course). c.headers.frame) e ∙ h.framed in cc)
+
+  pub faultless_read : AllByRecursion (λ b. b < 256) bytes → IsFaultless bytes
+      → (read.piece_count ≡ 0) × EndsWell read.ended × IsEachLineRead read.partial
+  faultless_read low f =
+      let r = law bytes read h in
+      let e : f.course ≡ h.course = one_course bytes f.course h.course f.is_course h.is_course in
+      let each : AllByRecursion HasLines (pieces h.course) = subst (λ (c : Course). AllByRecursion HasLines (pieces c)) e f.each in (
+        r.3 ∙ none_faulty (pieces h.course) r.0 (course_has bytes h.course low h.is_course) each r.1,
+        subst EndsWell (sym h.ended_is) (subst (λ (c : Course). EndsWell c.end) e f.ends),
+        lines_read bytes read h low (subst (λ (s : PictureShape). GivesEachLine s h.course) (same_shape f e) (subst (GivesEachLine f.shape) e f.whole)),
+      )
+
+-- what holds of the file that was fed, if there is one
+pub of_file : (fed : Option (List ℕ)) (P Q : List ℕ → Type 0) → ((file : List ℕ) → P file → Q file) → IfSome fed P → IfSome fed Q
+of_file None P Q f h = tt
+of_file (Some file) P Q f h = f file h
+
+pub faulty_without_frame : (fed : Option (List ℕ)) (f : MarkerFault) (n : ℕ) → IfSome fed (λ bytes. CopyGivesNone bytes (NoPicture f n))
+    → IfSome fed (λ bytes. AllByRecursion (λ b. b < 256) bytes → IsFaultless bytes → ⊥)
+faulty_without_frame None f n h = tt
+faulty_without_frame (Some bytes) f n h = λ low faultless.
+    let e : h.0 ≡ faultless.course = one_course bytes h.0 faultless.course h.1 faultless.is_course in
+    let framed : h.0.headers.frame ≡ Some faultless.shape = ap (λ (c : Course). c.headers.frame) e ∙ faultless.framed in
+    let none = h.2 in absurd cc
+
+-- Fronts -----------------------------------------------------------------------------------------------------------
+
+pub dead_if_broken : FrontsStayBroken → (fed : Option (List ℕ)) → IfSome fed (λ bytes. IsPieceBroken bytes) → IfSome fed (λ bytes. IsDead bytes)
+dead_if_broken stay None h = tt
+dead_if_broken stay (Some front) h = λ more low f.
+    let p = stay front more low h f.course f.is_course in
+    let reads = all_at HasLines (pieces f.course) p.0 f.each p.1 in p.5 reads.0 reads.1
+
+pub dead_if_done : FinalEndsStay → (fed : Option (List ℕ)) (done : Bool) → done ≡ true → IfSome fed (λ bytes. IsDone bytes done)
+    → IfSome fed (λ bytes. AllByRecursion (λ b. b < 256) bytes → IsFaultless bytes → ⊥) → IfSome fed (λ bytes. IsDead bytes)
+dead_if_done stay None done t h has_fault = tt
+dead_if_done stay (Some front) done t h has_fault = λ more low f.
+    let longer : IsCourse (front ++ more) h.0 = stay front more h.0 h.1 (sym h.2 ∙ t) in
+    let e : f.course ≡ h.0 = one_course (front ++ more) f.course h.0 f.is_course longer in
+    has_fault (all_front (λ b. b < 256) front more low) (record {
+      course = h.0;
+      is_course = h.1;
+      shape = f.shape;
+      framed = subst (λ (c : Course). c.headers.frame ≡ Some f.shape) e f.framed;
+      ends = subst (λ (c : Course). EndsWell c.end) e f.ends;
+      each = subst (λ (c : Course). AllByRecursion HasLines (pieces c)) e f.each;
+      whole = subst (GivesEachLine f.shape) e f.whole;
+    })
+
+-- Answers ----------------------------------------------------------------------------------------------------------
+
+pub never_faultless : (fed : Option (List ℕ)) (fault : CopyFault) (r : Result Bool AllocError) → IfOk r (λ answer. IsAnswerWithoutFrame fault answer)
+    → IfOk r (λ answer. answer ≡ true → IfSome fed (λ bytes. IsFaultless bytes))
+never_faultless fed (NoPicture f n) (Ok answer) h = λ t. absurd cc
+never_faultless fed OutOfMemory (Ok answer) h = absurd h
+never_faultless fed fault (Err e) h = tt
+
+pub ever_faulty : (fed : Option (List ℕ)) (fault : CopyFault) (r : Result Bool AllocError) → IfOk r (λ answer. IsAnswerWithoutFrame fault answer)
+    → IfSome fed (λ bytes. CopyGivesNone bytes fault)
+    → IfOk r (λ answer. answer ≡ false → IfSome fed (λ bytes. AllByRecursion (λ b. b < 256) bytes → IsFaultless bytes → ⊥))
+ever_faulty fed (NoPicture f n) (Ok answer) h none = λ _. faulty_without_frame fed f n none
+ever_faulty fed OutOfMemory (Ok answer) h none = absurd h
+ever_faulty fed fault (Err e) h none = tt
+
+pub dead_when_done : FinalEndsStay → (fed : Option (List ℕ)) (done : Bool) → done ≡ true → IfSome fed (λ bytes. IsDone bytes done)
+    → (r : Result Bool AllocError)
+    → IfOk r (λ answer. answer ≡ true → IfSome fed (λ bytes. AllByRecursion (λ b. b < 256) bytes → IsFaultless bytes → ⊥))
+    → IfOk r (λ dead. dead ≡ true → IfSome fed (λ bytes. IsDead bytes))
+dead_when_done stay fed done t h (Ok answer) has_fault = λ yes. dead_if_done stay fed done t h (has_fault yes)
+dead_when_done stay fed done t h (Err e) has_fault = tt

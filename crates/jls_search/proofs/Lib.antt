@@ -1,0 +1,23 @@
+-- Lemmas of this crate.
+pub mod Paths
+pub mod Fronts
+mod LinesRead
+mod FaultlessFiles
+mod Searching
+pub mod Walks
+mod Lengths
+mod KeptReaders
+pub mod FoundFiles
+mod Lists
+mod Sets
+mod Records
+mod BorderOffsets
+pub mod FoundMore
+pub mod NoGroups
+pub mod FilesExamples
+pub mod Members
+pub mod OneFile
+pub mod ReadFiles
+pub mod SearchedCopies
+pub mod SeenFiles
+pub mod TakenFiles

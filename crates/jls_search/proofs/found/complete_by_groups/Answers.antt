@@ -1,0 +1,105 @@
+use Rattle.std.proofs.Common.{◌≡◌, ℕ, true, false, List, length, take, drop, Some, Vec, Global, ap, sym, ◌∙◌, subst, arith, length-append, inl, inr}
+use Rattle.std.specs.List.{AllByRecursion}
+use Rattle.jls_diff.specs.Parts.{AreParts}
+use Rattle.jls_diff.specs.PartsOf.{bytes_of, parts_of}
+use Rattle.jls_search.specs.Choices.{IsWhole}
+use Rattle.jls_search.specs.Search.{lists_of}
+use Rattle.jls_diff.specs.Groups.{CoverParts, IsGroup}
+use Rattle.jls_search.specs.Found.{AreGroupTries, IsFound, by_groups_of}
+use Rattle.jls_search.specs.OfGroups.{IsOfGroup}
+use Rattle.jls_search.specs.declared.found.GroupsTold.{GroupsTold}
+use Rattle.jls_search.proofs.FoundMore.{all_is, front_is, group_tries, found_whole, found_groups, files_whole, files_groups, whole_of_found, whole_of_both}
+use Rattle.jls_search.proofs.found.complete_by_groups.Goals as goal
+
+pub returns-then-not-wants-clause-found : goal.returns-then-not-wants-clause-found
+returns-then-not-wants-clause-found c =
+    let vs = c.args.found.searched.splices.items in
+    let at : c.len-whole.result ≡ length vs = c.len-whole.ensures ∙ c.args.found.searched.splices.ok.0 in
+    let no = c.wants_groups-wants.ensures.no c.if-not-wants.true in
+    found_whole (bytes_of c.args.copies.now) (parts_of c.args.found.parts.items) vs c.len-whole.result c.args.found.searched.is_used_up
+    c.requires.parts c.requires.searched at no.0 no.1
+
+pub returns-then-not-wants-clause-splices : goal.returns-then-not-wants-clause-splices
+returns-then-not-wants-clause-splices c =
+    let vs = c.args.found.searched.splices.items in
+    let at : c.len-whole.result ≡ length vs = c.len-whole.ensures ∙ c.args.found.searched.splices.ok.0 in
+    files_whole (parts_of c.args.found.parts.items) vs c.len-whole.result at
+
+pub returns-then-not-wants-clause-kept : goal.returns-then-not-wants-clause-kept
+returns-then-not-wants-clause-kept c =
+    let vs = c.args.found.searched.splices.items in
+    all_is vs c.len-whole.result (c.len-whole.ensures ∙ c.args.found.searched.splices.ok.0)
+
+pub returns-then-not-wants-clause-each : goal.returns-then-not-wants-clause-each
+returns-then-not-wants-clause-each c =
+    whole_of_found (parts_of c.args.found.parts.items) (lists_of c.args.found.searched.splices.items) c.requires.searched.files
+
+pub search_groups-requires-clause-parts : goal.search_groups-requires-clause-parts
+search_groups-requires-clause-parts c =
+    subst (λ ps. AreParts (bytes_of c.args.copies.now) (parts_of ps)) (sym c.deref.ensures.value) c.requires.parts
+
+pub returns-clause-found : goal.returns-clause-found
+returns-clause-found c =
+    let ps = parts_of c.args.found.parts.items in
+    let vs = c.args.found.searched.splices.items in
+    let n = c.len-whole.result in
+    let used = c.args.found.searched.is_used_up in
+    let at : n ≡ length vs = c.len-whole.ensures ∙ c.args.found.searched.splices.ok.0 in
+    let by = c.in_ok-by.by in
+    let told : GroupsTold = c.told_of-told.result in
+    let count : told.groups ≡ length by.groups.items = c.told_of-told.ensures.groups in
+    let needed : used ≡ false → n ≡ 0 =
+    λ done. elim (c.wants_groups-wants.ensures.yes c.if-not-wants.false) [ inl e ↦ absurd cc | inr z ↦ z ] in
+    let e = c.in_ok-by.ensures in
+    let groups = subst (λ qs. AllByRecursion (IsGroup (parts_of qs)) by.groups.items) c.deref.ensures.value e.groups in
+    let cover = subst (λ qs. CoverParts (parts_of qs) by.groups.items) c.deref.ensures.value e.cover in
+    let each = subst (λ qs. AllByRecursion (IsOfGroup (parts_of qs)) (lists_of by.searched.splices.items)) c.deref.ensures.value e.splices in
+    subst (λ (xs : List (Vec ℕ Global)). IsFound (bytes_of c.args.copies.now) (record {
+      parts = ps;
+      choices = take n (lists_of xs);
+      is_used_up = used;
+      by_groups = Some (by_groups_of (drop n (lists_of xs)) told);
+    })) (sym c.in_ok-append.ensures.items)
+    (found_groups (bytes_of c.args.copies.now) ps vs n used c.requires.parts c.requires.searched at by.searched.splices.items by.groups.items told
+    needed groups cover count each)
+
+pub returns-clause-of_groups : goal.returns-clause-of_groups
+returns-clause-of_groups c =
+    let vs = c.args.found.searched.splices.items in
+    let n = c.len-whole.result in
+    let at : n ≡ length vs = c.len-whole.ensures ∙ c.args.found.searched.splices.ok.0 in
+    let by = c.in_ok-by.by in
+    let told : GroupsTold = c.told_of-told.result in
+    let e = c.in_ok-by.ensures in
+    let t = c.told_of-told.ensures.tries in
+    subst (λ (xs : List (Vec ℕ Global)). AreGroupTries c.args.limit (by_groups_of (drop n (lists_of xs)) told)) (sym c.in_ok-append.ensures.items)
+    (group_tries vs by.searched.splices.items n at c.args.limit told (omega (arith, t, e.few.0))
+    (λ u. elim (e.used_up (sym c.told_of-told.ensures.is_used_up ∙ u)) [ inl all ↦ inl (t ∙ all) | inr found ↦ inr found ]))
+
+pub returns-clause-splices : goal.returns-clause-splices
+returns-clause-splices c =
+    files_groups (parts_of c.args.found.parts.items) (lists_of c.append.new.self.items) c.len-whole.result
+
+pub returns-clause-each : goal.returns-clause-each
+returns-clause-each c =
+    let ps = parts_of c.args.found.parts.items in
+    let vs = c.args.found.searched.splices.items in
+    let more = c.in_ok-by.by.searched.splices.items in
+    let each = subst (λ qs. AllByRecursion (IsOfGroup (parts_of qs)) (lists_of more)) c.deref.ensures.value c.in_ok-by.ensures.splices in
+    subst (λ (xs : List (Vec ℕ Global)). AllByRecursion (IsWhole ps) (lists_of xs)) (sym c.in_ok-append.ensures.items)
+    (whole_of_both ps vs more c.requires.searched.files each)
+
+pub returns-clause-kept : goal.returns-clause-kept
+returns-clause-kept c =
+    let vs = c.args.found.searched.splices.items in
+    let n = c.len-whole.result in
+    let at : n ≡ length vs = c.len-whole.ensures ∙ c.args.found.searched.splices.ok.0 in
+    ap (λ (xs : List (Vec ℕ Global)). take n (lists_of xs)) c.in_ok-append.ensures.items
+    ∙ front_is vs c.in_ok-by.by.searched.splices.items n at
+
+pub returns-clause-whole : goal.returns-clause-whole
+returns-clause-whole c =
+    let vs = c.args.found.searched.splices.items in
+    let at : c.len-whole.result ≡ length vs = c.len-whole.ensures ∙ c.args.found.searched.splices.ok.0 in
+    let a = ap length c.in_ok-append.ensures.items ∙ length-append vs c.in_ok-by.by.searched.splices.items in
+    omega (arith, a, at)

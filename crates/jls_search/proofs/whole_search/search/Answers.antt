@@ -1,0 +1,49 @@
+use Rattle.std.proofs.Common.{◌≡◌, ℕ, length, Vec, Global, sym, ap, ◌∙◌, arith, inl, inr}
+use Rattle.jls_diff.specs.PartsOf.{parts_of}
+use Rattle.jls_search.specs.Search.{lists_of}
+use Rattle.jls_search.proofs.Paths.{length-map}
+use Rattle.jls_search.proofs.Walks.{used_up}
+use Rattle.jls_search.proofs.whole_search.search.Goals as goal
+
+pub returns-clause-files : goal.returns-clause-files
+returns-clause-files c = (c.into_searched.ensures.came_to (parts_of c.args.parts.now) c.in_ok-go_on.ensures.stands).files
+
+pub returns-clause-all : goal.returns-clause-all
+returns-clause-all c = (c.into_searched.ensures.came_to (parts_of c.args.parts.now) c.in_ok-go_on.ensures.stands).all
+
+pub returns-clause-used_up : goal.returns-clause-used_up
+returns-clause-used_up c = λ yes.
+    let walk = c.go_on.new.self in
+    let same = c.into_searched.ensures in
+    let went = c.in_ok-go_on.ensures.went.within in
+    let none = c.in_ok-begun.ensures.untried.0 in
+    let all = length-map (λ (v : Vec ℕ Global). v.items) walk.splices.items in
+    elim (used_up walk c.args.limit c.in_ok-go_on.ensures.stops (omega (arith, went, none)) c.in_ok-go_on.ensures.stands.1 (sym same.used_up ∙ yes)) [
+      | inl made ↦ inl (same.tries ∙ made)
+      | inr full ↦ inr (ap (λ (v : Vec (Vec ℕ Global) Global). length v.items) same.splices ∙ omega (arith, all, full))
+    ]
+
+pub returns-clause-few : goal.returns-clause-few
+returns-clause-few c =
+    let walk = c.go_on.new.self in
+    let same = c.into_searched.ensures in
+    let went = c.in_ok-go_on.ensures.went.within in
+    let none = c.in_ok-begun.ensures.untried.0 in
+    let tries = same.tries in
+    let all = length-map (λ (v : Vec ℕ Global). v.items) walk.splices.items in
+    let few = c.in_ok-go_on.ensures.stands.1 in
+    let found = ap (λ (v : Vec (Vec ℕ Global) Global). length v.items) same.splices in
+    (omega (arith, went, none, tries), omega (arith, all, few, found))
+
+pub returns-clause-tried : goal.returns-clause-tried
+returns-clause-tried c =
+    let same = c.into_searched.ensures in
+    record {
+      begun = c.in_ok-begun.begun;
+      is_begun = c.in_ok-begun.ensures.untried;
+      stands = c.in_ok-begun.ensures.stands;
+      last = c.go_on.new.self;
+      tried = c.in_ok-go_on.ensures.went.tried;
+      tries_are = sym same.tries;
+      found_are = ap (λ (v : Vec (Vec ℕ Global) Global). lists_of v.items) (sym same.splices);
+    }

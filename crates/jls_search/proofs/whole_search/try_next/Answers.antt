@@ -1,0 +1,78 @@
+use Rattle.std.specs.Prelude.{IfSome}
+use Rattle.std.proofs.Common.{◌≡◌, ℕ, ◌+◌, ◌<◌, ◌≤◌, List, length, refl, sym, subst, arith, inl}
+use Rattle.jls_diff.specs.PartsOf.{parts_of}
+use Rattle.jls_diff.specs.Parts.{Part}
+use Rattle.jls_search.specs.Choices.{IsPath}
+use Rattle.jls_search.specs.Search.{IsKept, IsSeen, Keeps, lists_of}
+use Rattle.jls_search.specs.declared.looking.Sight.{Sight}
+use Rattle.jls_search.specs.declared.looking.Sight.TheVariants.{Dead, Open, Found}
+use Rattle.jls_search.proofs.Fronts.{on_ok as anyway}
+use Rattle.jls_search.proofs.KeptReaders.{still_kept}
+use Rattle.jls_search.proofs.Paths.{length-map}
+use Rattle.jls_search.proofs.Searching.{descended, turned_on, turned_step, dead_behind, on_ok}
+use Rattle.jls_search.proofs.whole_search.try_next.Goals as goal
+
+seen : (ps : List Part) (path there : List ℕ) (sight is : Sight) → there ≡ path → sight ≡ is → IsSeen ps there sight → IsSeen ps path is
+seen ps path there sight is e f h = subst (IsSeen ps path) f (subst (λ p. IsSeen ps p sight) e h)
+
+pub look-requires : goal.look-requires
+look-requires c = record {
+  kept = c.requires.kept;
+  path = subst (IsPath (parts_of c.args.parts.now)) (sym c.deref.ensures.value) c.requires.stands.is_path;
+  few = c.requires.short c.deref.result.now (subst (IsPath (parts_of c.args.parts.now)) (sym c.deref.ensures.value) c.requires.stands.is_path);
+}
+
+pub descend-requires : goal.descend-requires
+descend-requires c =
+    let more : length c.args.path.now.items < length (parts_of c.args.parts.now) =
+    (seen (parts_of c.args.parts.now) c.args.path.now.items c.deref.result.now c.in_ok-sight.sight (Open c.in-Open.reader) c.deref.ensures.value c.in-Open.is c.in_ok-sight.ensures).0 in
+    record { path = c.requires.stands.is_path; more = rw length-map at more; some_way = c.requires.some_way }
+
+pub returns-in_ok-descend-in-Open-clause-next : goal.returns-in_ok-descend-in-Open-clause-next
+returns-in_ok-descend-in-Open-clause-next c =
+    descended (parts_of c.args.parts.now) c.args.path.now.items c.descend.new.path.items (lists_of c.args.found.now.items) c.requires.stands
+    c.in_ok-descend-in-Open.ensures.path c.in_ok-descend-in-Open.ensures.front c.in_ok-descend-in-Open.ensures.kept
+
+pub pass_found-requires : goal.pass_found-requires
+pass_found-requires c =
+    let r = seen (parts_of c.args.parts.now) c.args.path.now.items c.deref.result.now c.in_ok-sight.sight Found c.deref.ensures.value c.in-Found.is c.in_ok-sight.ensures in
+    record { stands = c.requires.stands; whole = r.0; faultless = r.1 }
+
+pub turn-requires : goal.turn-requires
+turn-requires c = c.requires.stands.is_path
+
+pub returns-in-Dead-clause-next : goal.returns-in-Dead-clause-next
+returns-in-Dead-clause-next c =
+    let ps : List Part = parts_of c.args.parts.now in let path : List ℕ = c.args.path.now.items in let next : List ℕ = c.turn.new.path.items in
+    let F : List (List ℕ) = lists_of c.args.found.now.items in
+    turned_on ps path next F c.requires.stands F c.requires.stands.files
+    (dead_behind ps path next F c.requires.stands (seen ps path c.deref.result.now c.in_ok-sight.sight Dead c.deref.ensures.value c.in-Dead.is c.in_ok-sight.ensures))
+    c.turn.result c.turn.ensures.path c.turn.ensures.front c.turn.ensures.to_come c.turn.ensures.none
+
+pub returns-in-Dead-clause-count : goal.returns-in-Dead-clause-count
+returns-in-Dead-clause-count c =
+    let F : List (List ℕ) = lists_of c.args.found.now.items in
+    on_ok c.turn.result ((length F ≤ length F) × (length F ≤ length F + 1)) (omega arith, omega arith)
+
+pub returns-in_ok-descend-in-Open-clause-step : goal.returns-in_ok-descend-in-Open-clause-step
+returns-in_ok-descend-in-Open-clause-step c = (inl refl, λ _. inl c.in_ok-descend-in-Open.ensures.grew)
+
+pub returns-in-Dead-clause-step : goal.returns-in-Dead-clause-step
+returns-in-Dead-clause-step c =
+    let F : List (List ℕ) = lists_of c.args.found.now.items in
+    turned_step c.turn.result c.args.path.now.items c.turn.new.path.items F F (inl refl) c.turn.ensures.behind
+
+pub returns-in_ok-descend-in-Open-clause-kept : goal.returns-in_ok-descend-in-Open-clause-kept
+returns-in_ok-descend-in-Open-clause-kept c =
+    let ps : List Part = parts_of c.args.parts.now in
+    let path : List ℕ = c.args.path.now.items in
+    let reader = c.in-Open.reader in
+    let fed = (seen ps path c.deref.result.now c.in_ok-sight.sight (Open reader) c.deref.ensures.value c.in-Open.is c.in_ok-sight.ensures).1 in
+    still_kept ps c.args.kept.now c.keep.new.kept reader path c.requires.kept fed
+    (subst (λ p. Keeps c.args.kept.now reader p c.keep.new.kept) c.deref-in-Open.ensures.value c.in_ok-keep-in-Open.ensures)
+
+pub returns-in-Found-clause-kept : goal.returns-in-Found-clause-kept
+returns-in-Found-clause-kept c = anyway c.pass_found.result (IfSome c.args.kept.now (IsKept (parts_of c.args.parts.now))) c.requires.kept
+
+pub returns-in-Dead-clause-kept : goal.returns-in-Dead-clause-kept
+returns-in-Dead-clause-kept c = anyway c.turn.result (IfSome c.args.kept.now (IsKept (parts_of c.args.parts.now))) c.requires.kept

@@ -1,0 +1,76 @@
+-- What was found in some copies: by the search of all splices, and by groups where that was cut off or came to nothing.
+use Rattle.std.specs.Prelude.{◌≡◌, ◌≤◌, ℕ, ◌↔◌, Bool, true, List, [], ◌++◌, length, take, drop, Option, Some, None, IsSome, IfSome, option_map, ◌⊎◌}
+use Rattle.std.specs.List.{AllByRecursion}
+use Rattle.jls_diff.specs.Parts.{Part, AreParts}
+use Rattle.jls_diff.specs.PartsOf.{parts_of}
+use Rattle.jls_search.specs.Search.{CameTo, files_of, lists_of}
+use Rattle.jls_diff.specs.Groups.{CoverParts, IsGroup}
+use Rattle.jls_search.specs.OfGroups.{IsOfGroup}
+use Rattle.jls_diff.specs.declared.group.Group.{Group}
+use Rattle.jls_search.specs.declared.found.GroupsTold.{GroupsTold}
+use Rattle.jls_search.specs.declared.found.FoundSplices.{FoundSplices}
+
+-- what a search by groups came to: how many groups there are, how much it tried, the splices, each as its choices, and whether it was cut
+-- off
+pub record ByGroups : Type 0 where
+  pub groups : ℕ
+  pub tries : ℕ
+  pub choices : List (List ℕ)
+  pub is_used_up : Bool
+
+-- the parts of the copies; the splices that the search of all came to, each as its choices, and whether it was cut off; and what a search
+-- by groups came to, if there was one
+pub record Found : Type 0 where
+  pub parts : List Part
+  pub choices : List (List ℕ)
+  pub is_used_up : Bool
+  pub by_groups : Option ByGroups
+
+-- the groups take in each part in which copies differ; and outside of some group each splice is what one copy has, and reads in that group
+pub record IsByGroups (parts : List Part) (b : ByGroups) : Type 0 where
+  pub groups : List Group
+  pub are_groups : AllByRecursion (IsGroup parts) groups
+  pub cover : CoverParts parts groups
+  pub count_is : b.groups ≡ length groups
+  pub each : AllByRecursion (IsOfGroup parts) b.choices
+
+-- a search by groups tried so much at most; and where it was cut off, it tried all of that, or it found 64 splices
+pub record AreGroupTries (limit : ℕ) (b : ByGroups) : Type 0 where
+  pub within : b.tries ≤ limit
+  pub used_up : b.is_used_up ≡ true → (b.tries ≡ limit) ⊎ (length b.choices ≡ 64)
+
+-- a search over these copies found it; groups were searched where the search of all splices was cut off or came to nothing, and only there
+pub record IsFound (copies : List (List ℕ)) (f : Found) : Type 0 where
+  pub are_parts : AreParts copies f.parts
+  pub came_to : CameTo f.parts f.choices f.is_used_up
+  pub searched : IsSome f.by_groups ↔ ((f.is_used_up ≡ true) ⊎ (f.choices ≡ []))
+  pub by_groups : IfSome f.by_groups (IsByGroups f.parts)
+
+-- the splices that groups gave
+abbrev pub choices_by : Option ByGroups → List (List ℕ)
+choices_by None = []
+choices_by (Some b) = b.choices
+
+-- all splices that were found: those of the search of all, and then those that groups gave
+abbrev pub splices_in : Found → List (List ℕ)
+splices_in f = files_of f.parts (f.choices ++ choices_by f.by_groups)
+
+-- As the code has it -----------------------------------------------------------------------------------------------
+
+-- what the search by groups came to, from what the code tells of it and the choices of its splices
+abbrev pub by_groups_of : List (List ℕ) → GroupsTold → ByGroups
+by_groups_of choices told = record {
+  groups = told.groups;
+  tries = told.tries;
+  choices = choices;
+  is_used_up = told.is_used_up;
+}
+
+-- what a search found, from the value of the code: its first `whole` splices are those of the search of all, the others those of groups
+abbrev pub found_of : FoundSplices → Found
+found_of s = record {
+  parts = parts_of s.parts.items;
+  choices = take s.whole (lists_of s.splices.items);
+  is_used_up = s.is_used_up;
+  by_groups = option_map (by_groups_of (drop s.whole (lists_of s.splices.items))) s.by_groups;
+}

@@ -1,0 +1,94 @@
+//! Files without a fault, and fronts that no such file begins with.
+
+ghost use Rattle.std.specs.Prelude.{◌≡◌, ℕ, List, ◌<◌, ◌↔◌, true, false, IsTrue, IfOk, IfSome};
+ghost use Rattle.std.specs.List.{AllByRecursion};
+ghost use Rattle.jls_copy.specs.CopyReads.{CopyReads};
+ghost use Rattle.jls_search.specs.Faultless.{EndsWell, IsFaultless, IsDead, IsAnswerWithoutFrame};
+
+use crate::lines::is_each_line_read;
+use jls_copy::{
+    CopyFault, CopyRead, CopyReader, End, final_ends_stay, fronts_stay_broken,
+    records_are_of_faulty_pieces,
+};
+use std::alloc::AllocError;
+
+/// Whether no fault of the headers ended the file.
+fn ends_well(end: End) -> bool
+    ensures { IsTrue result ↔ EndsWell end }
+{
+    match end {
+        End::Eoi(_) => true,
+        End::Input(_) => true,
+        End::Header(_, _) => false,
+    }
+}
+
+/// Whether what was read is a file without a fault: no fault of the headers ended it, no piece of it is faulty, and each line of its frame
+/// is read.
+pub fn is_read_faultless(read: &CopyRead) -> bool
+    ensures faultless { result ≡ true → (file : List ℕ) → CopyReads file read.now → IsFaultless file }
+    ensures faulty { result ≡ false
+        → (file : List ℕ) → CopyReads file read.now → AllByRecursion (λ b. b < 256) file → IsFaultless file → ⊥ }
+{
+    records_are_of_faulty_pieces();
+    if read.piece_count() != 0 {
+        return false;
+    }
+    let well_ended = ends_well(read.ended());
+    if !well_ended {
+        return false;
+    }
+    is_each_line_read(read.partial())
+}
+
+/// The answer where no frame was taken. The only refusal is out of memory.
+fn without_frame(fault: CopyFault) -> Result<bool, AllocError>
+    ensures { IfOk result (λ answer. IsAnswerWithoutFrame fault answer) }
+{
+    match fault {
+        CopyFault::NoPicture(_, _) => Ok(false),
+        CopyFault::OutOfMemory => Err(AllocError),
+    }
+}
+
+/// Whether what was fed is a file without a fault, if it ends here. The only refusal is out of memory.
+pub fn is_faultless(reader: CopyReader) -> Result<bool, AllocError>
+    ensures faultless { IfOk result (λ answer. answer ≡ true → IfSome reader (λ bytes. IsFaultless bytes)) }
+    ensures faulty { IfOk result
+        (λ answer. answer ≡ false → IfSome reader (λ bytes. AllByRecursion (λ b. b < 256) bytes → IsFaultless bytes → ⊥)) }
+{
+    match reader.finish() {
+        Ok(read) => Ok(is_read_faultless(&read)),
+        Err(fault) => without_frame(fault),
+    }
+}
+
+/// Whether it is a file with a fault.
+fn has_fault(reader: CopyReader) -> Result<bool, AllocError>
+    ensures { IfOk result
+        (λ answer. answer ≡ true → IfSome reader (λ bytes. AllByRecursion (λ b. b < 256) bytes → IsFaultless bytes → ⊥)) }
+{
+    let faultless = is_faultless(reader)?;
+    if faultless {
+        return Ok(false);
+    }
+    Ok(true)
+}
+
+/// Whether it is known that no file without a fault begins with the bytes fed. Either the piece in hand is broken, or the copy has ended
+/// and has a fault. `false` says nothing. The only refusal is out of memory.
+pub fn is_dead(reader: CopyReader) -> Result<bool, AllocError>
+    ensures { IfOk result (λ dead. dead ≡ true → IfSome reader (λ front. IsDead front)) }
+{
+    fronts_stay_broken();
+    final_ends_stay();
+    let broken = reader.is_piece_broken();
+    if broken {
+        return Ok(true);
+    }
+    let done = reader.is_done();
+    if done {
+        return has_fault(reader);
+    }
+    Ok(false)
+}

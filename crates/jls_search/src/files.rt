@@ -1,0 +1,15 @@
+//! The files that are taken.
+
+use jls_diff::Part;
+
+/// The copies of a picture, and the splices of them that a search found. The files taken are the copies, in their order, and then the
+/// splices.
+#[derive(Clone, Copy)]
+pub struct Files<'f, 'a> {
+    /// The copies, in their order.
+    pub copies: &'f [&'a [u8]],
+    /// The parts of the copies.
+    pub parts: &'f [Part<'a>],
+    /// Each splice as its choices, one for each part.
+    pub splices: &'f [Vec<usize>],
+}

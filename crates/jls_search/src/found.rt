@@ -1,0 +1,124 @@
+//! What is found in some copies by both searches.
+
+ghost use Rattle.std.specs.Prelude.{◌≡◌, ◌≢◌, ◌<◌, ◌≤◌, ◌⊎◌, true, false, length, IfOk, IfSome};
+ghost use Rattle.std.specs.List.{AllByRecursion};
+ghost use Rattle.jls_diff.specs.Parts.{AreParts};
+ghost use Rattle.jls_diff.specs.PartsOf.{bytes_of, parts_of};
+ghost use Rattle.jls_search.specs.Choices.{IsWhole};
+ghost use Rattle.jls_search.specs.Search.{CameTo, files_of, lists_of};
+ghost use Rattle.jls_search.specs.SearchLaws.{AreShort};
+ghost use Rattle.jls_search.specs.Found.{AreGroupTries, IsFound, found_of, splices_in};
+
+use crate::copies::SearchedCopies;
+use crate::search::{SearchedGroups, search_groups};
+use crate::whole_search::Searched;
+use jls_diff::Part;
+use std::alloc::{AllocError, Global};
+
+/// What is told of a search by groups.
+#[derive(Clone, Copy, Debug, PartialEq, Eq)]
+pub struct GroupsTold {
+    /// How many groups there are.
+    pub groups: usize,
+    /// How many prefixes and files were tried.
+    pub tries: u32,
+    /// Whether the search was cut off.
+    pub is_used_up: bool,
+}
+
+/// The parts of some copies, and the splices that were found.
+#[derive(Drop)]
+pub struct FoundSplices<'a> {
+    /// The parts that were found.
+    pub parts: Vec<Part<'a>>,
+    /// The splices, each as its choices, one for each part: those of the search of all, and behind them those that groups gave.
+    pub splices: Vec<Vec<usize>>,
+    /// How many of them the search of all came to.
+    pub whole: usize,
+    /// How many fronts and files the search of all tried.
+    pub tries: u32,
+    /// Whether the search of all was cut off.
+    pub is_used_up: bool,
+    /// What is told of the search by groups, if there was one.
+    pub by_groups: Option<GroupsTold>,
+}
+
+/// Whether groups are searched, where the search of all splices was cut off or was not, and came to so many.
+fn wants_groups(is_used_up: bool, whole: usize) -> bool
+    ensures yes { result ≡ true → (is_used_up ≡ true) ⊎ (whole ≡ 0) }
+    ensures no { result ≡ false → (is_used_up ≡ false) × (whole ≢ 0) }
+{
+    is_used_up || whole == 0
+}
+
+/// What is told of a search by groups.
+fn told_of(by: &SearchedGroups) -> GroupsTold
+    ensures groups { result.groups ≡ length by.now.groups.items }
+    ensures tries { result.tries ≡ by.now.searched.tries }
+    ensures is_used_up { result.is_used_up ≡ by.now.searched.is_used_up }
+{
+    GroupsTold {
+        groups: by.groups.len(),
+        tries: by.searched.tries,
+        is_used_up: by.searched.is_used_up,
+    }
+}
+
+/// What the search of all splices found, and what groups give where it was cut off or came to nothing. That search has its own tries, so
+/// many at most. `Err` comes where memory is refused.
+pub fn complete_by_groups<'a>(
+    alloc: Global,
+    copies: &[&'a [u8]],
+    found: SearchedCopies<'a>,
+    limit: u32,
+) -> Result<FoundSplices<'a>, AllocError>
+    requires some_copy { 0 < length copies.now }
+    requires short { AreShort (bytes_of copies.now) }
+    requires parts { AreParts (bytes_of copies.now) (parts_of found.parts.items) }
+    requires searched { CameTo (parts_of found.parts.items) (lists_of found.searched.splices.items) found.searched.is_used_up }
+    ensures found { IfOk result (λ more. IsFound (bytes_of copies.now) (found_of more)) }
+    ensures parts_kept { IfOk result (λ more. more.parts.items ≡ found.entry.parts.items) }
+    ensures tries { IfOk result (λ more. more.tries ≡ found.entry.searched.tries) }
+    ensures used_up { IfOk result (λ more. more.is_used_up ≡ found.entry.searched.is_used_up) }
+    ensures kept { IfOk result (λ more. (found_of more).choices ≡ lists_of found.entry.searched.splices.items) }
+    ensures splices { IfOk result
+        (λ more. files_of (parts_of more.parts.items) (lists_of more.splices.items) ≡ splices_in (found_of more)) }
+    ensures each { IfOk result (λ more. AllByRecursion (IsWhole (parts_of more.parts.items)) (lists_of more.splices.items)) }
+    ensures whole { IfOk result (λ more. more.whole ≤ length more.splices.items) }
+    ensures of_groups { IfOk result (λ more. IfSome (found_of more).by_groups (AreGroupTries limit)) }
+{
+    let SearchedCopies { parts, searched } = found;
+    let Searched {
+        mut splices,
+        tries,
+        is_used_up,
+    } = searched;
+    let whole = splices.len();
+    let wants = wants_groups(is_used_up, whole);
+    if !wants {
+        return Ok(FoundSplices {
+            parts,
+            splices,
+            whole,
+            tries,
+            is_used_up,
+            by_groups: None,
+        });
+    }
+    let by = search_groups(alloc, copies, &parts, limit)?;
+    let told = told_of(&by);
+    let SearchedGroups { searched, .. } = by;
+    let Searched {
+        splices: mut given,
+        ..
+    } = searched;
+    splices.append(&mut given)?;
+    Ok(FoundSplices {
+        parts,
+        splices,
+        whole,
+        tries,
+        is_used_up,
+        by_groups: Some(told),
+    })
+}

@@ -1,0 +1,76 @@
+//! The reader that a search keeps, and readers that go on from it.
+
+ghost use Rattle.std.specs.Prelude.{◌≡◌, ◌-◌, ◌^◌, ◌≤◌, length, take, Some, IfOk, IfSome, OnOk};
+ghost use Rattle.jls_diff.specs.PartsOf.{parts_of};
+ghost use Rattle.jls_search.specs.Choices.{IsPath, front_of};
+ghost use Rattle.jls_search.specs.Search.{IsKept, Keeps};
+
+use crate::feeding::{feed_front, reader_of};
+use jls_copy::CopyReader;
+use jls_diff::Part;
+use std::alloc::{AllocError, Global};
+
+/// A reader that a search keeps, with the choices that it was fed.
+#[derive(Drop)]
+pub struct KeptReader {
+    /// The reader. It was fed what the choices make.
+    pub reader: CopyReader,
+    /// A choice for each of the first parts.
+    pub choices: Vec<usize>,
+}
+
+/// A clone of a reader, fed on to all that the path makes. That reader was fed what the first `from` choices of the path make.
+fn fed_on(
+    last: &CopyReader,
+    parts: &[Part<'_>],
+    path: &[usize],
+    from: usize,
+) -> Result<CopyReader, AllocError>
+    requires within { from ≤ length parts.now }
+    requires begun { from ≤ length path.now }
+    requires path { IsPath (parts_of parts.now) path.now }
+    requires few { length (front_of (parts_of parts.now) path.now) ≤ 2 ^ 63 - 1 }
+    requires fed { last.now ≡ Some (front_of (parts_of parts.now) (take from path.now)) }
+    ensures { IfOk result (λ reader. reader ≡ Some (front_of (parts_of parts.now) path.now)) }
+{
+    let mut reader = last.try_clone()?;
+    feed_front(&mut reader, &parts[from..], &path[from..])?;
+    Ok(reader)
+}
+
+/// A reader that was fed what the path makes: a clone of the kept one, if its choices begin the path, and else a new one.
+pub(crate) fn reader_on(
+    alloc: Global,
+    parts: &[Part<'_>],
+    kept: &Option<KeptReader>,
+    path: &[usize],
+) -> Result<CopyReader, AllocError>
+    requires kept { IfSome kept.now (IsKept (parts_of parts.now)) }
+    requires path { IsPath (parts_of parts.now) path.now }
+    requires few { length (front_of (parts_of parts.now) path.now) ≤ 2 ^ 63 - 1 }
+    ensures { IfOk result (λ reader. reader ≡ Some (front_of (parts_of parts.now) path.now)) }
+{
+    if let Some(last) = kept {
+        if path.starts_with(&last.choices) {
+            let from = last.choices.len();
+            return fed_on(&last.reader, parts, path, from);
+        }
+    }
+    reader_of(alloc, parts, path)
+}
+
+/// Keeps a reader that was fed what the path makes, if there is one. The reader that was kept before is let go.
+pub(crate) fn keep(
+    alloc: Global,
+    kept: &mut Option<KeptReader>,
+    reader: Option<CopyReader>,
+    path: &[usize],
+) -> Result<(), AllocError>
+    ensures { OnOk result (Keeps kept.old reader path.now kept.new) }
+{
+    if let Some(reader) = reader {
+        let choices: Vec<usize> = path.iter().copied().collect(alloc)?;
+        *kept = Some(KeptReader { reader, choices });
+    }
+    Ok(())
+}

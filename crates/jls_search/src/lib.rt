@@ -1,0 +1,81 @@
+//! Splices of copies: files each of whose stretches is what one of the copies has there. The search for those without a fault, of whole
+//! files and by groups, and the station of the files taken.
+//!
+//! - `path`: goes through choices in depth-first order
+//! - `feeding`: feeds what they make to a `CopyReader`
+//! - `faultless`: judges it: a file without a fault, or a prefix that none begins with
+//! - `lines`: whether each line of a picture was read
+//! - `kept`: the reader that a search keeps, and readers that go on from it
+//! - `looking`: what is seen of a path
+//! - `whole_search`: the search of whole files, as a value that goes on as far as its caller wants
+//!
+//! The search by groups: splices that read between two markers, where no splice is without a fault.
+//!
+//! - `setting`: what is searched at a time: a group, and the copy that the rest of the file is taken from
+//! - `choosing`: goes through choices for such a group
+//! - `offsets`, `reading_between`: the offsets of a group in the file that choices make; whether the file decodes between them
+//! - `trying`: one try
+//! - `order`, `search`: all groups in turn, each with each copy
+//! - `found`: what both searches found
+//!
+//! The station of the files taken, which are the copies and the splices that a search found, or why there is none.
+//!
+//! - `files`: the copies and the splices that a search found, as one value
+//! - `seen`: what is seen of each file: its shape, and whether it has a fault
+//! - `reading_files`: each file is read once: what is seen of it is kept, and a station of the first frame's shape takes it
+//! - `shape_rule`: the shape that is taken, or the copy that is named
+//! - `file`, `taking`: a station takes one file; all files
+//! - `settling`: the station of the shape that is taken, or why there is none
+//!
+//! Each file is decoded once. If the shape that is taken is not the first frame's, as after a damaged header, each is decoded once more.
+//!
+//! Definitions: `Choices`, `Faultless`, `Search`, `Order`; `Places`, `ReadsBetween`, `OfGroups`, `Found`; `Files`, `Shapes`, `Stations`,
+//! `Settling`. Inside the crate: `Seen`, `Reading`.
+//!
+//! Not proved:
+//!
+//! - That a search gives up choices as soon as it could. So the exact number of tries is open.
+//! - How often a file is decoded.
+#![tactic(auto)]
+
+mod choosing;
+mod copies;
+mod faultless;
+mod feeding;
+mod file;
+mod files;
+mod found;
+mod kept;
+mod laws;
+mod lines;
+mod looking;
+mod offsets;
+mod order;
+mod path;
+mod reading_between;
+mod reading_files;
+mod search;
+mod seen;
+mod setting;
+mod settling;
+mod shape_found;
+mod shape_rule;
+mod short;
+mod taking;
+mod trying;
+mod whole_search;
+
+pub use copies::{SearchedCopies, search_copies};
+pub use faultless::{is_dead, is_faultless, is_read_faultless};
+pub use feeding::{feed_front, reader_of, way_at};
+pub use files::Files;
+pub use found::{FoundSplices, GroupsTold, complete_by_groups};
+pub use kept::KeptReader;
+pub use laws::{parts_can_be_searched, searches_come_to_each_splice};
+pub use path::next_way_at;
+pub use reading_between::reads_between;
+pub use search::{SearchedGroups, search_groups};
+pub use settling::{Settled, settle_files};
+pub use shape_found::ShapeFound;
+pub use short::are_short;
+pub use whole_search::{MOST_FOUND, Searched, WholeSearch, search};

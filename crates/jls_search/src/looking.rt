@@ -1,0 +1,88 @@
+//! What is seen of a path of the search.
+
+ghost use Rattle.std.specs.Prelude.{◌≡◌, ◌-◌, ◌^◌, ◌<◌, ◌≤◌, length, IfOk, IfSome};
+ghost use Rattle.jls_diff.specs.PartsOf.{parts_of};
+ghost use Rattle.jls_search.specs.Choices.{IsPath, front_of};
+ghost use Rattle.jls_search.specs.Search.{IsKept, IsSeen};
+
+use crate::faultless::{is_dead, is_faultless};
+use crate::kept::{KeptReader, reader_on};
+use jls_copy::CopyReader;
+use jls_diff::Part;
+use std::alloc::{AllocError, Global};
+
+/// What is seen of a path.
+#[derive(Drop)]
+pub(crate) enum Sight {
+    /// No choices that begin so make a file without a fault.
+    Dead,
+    /// Such choices may come. The reader was fed what the path makes. There is none where its copy has ended.
+    Open(Option<CopyReader>),
+    /// The path has a choice for each part, and makes a file without a fault.
+    Found,
+}
+
+/// What is seen of a path that has a choice for each part.
+fn look_at_file(
+    alloc: Global,
+    parts: &[Part<'_>],
+    kept: &Option<KeptReader>,
+    path: &[usize],
+) -> Result<Sight, AllocError>
+    requires kept { IfSome kept.now (IsKept (parts_of parts.now)) }
+    requires path { IsPath (parts_of parts.now) path.now }
+    requires few { length (front_of (parts_of parts.now) path.now) ≤ 2 ^ 63 - 1 }
+    requires whole { length path.now ≡ length (parts_of parts.now) }
+    ensures { IfOk result (λ sight. IsSeen (parts_of parts.now) path.now sight) }
+{
+    let reader = reader_on(alloc, parts, kept, path)?;
+    let faultless = is_faultless(reader)?;
+    if faultless {
+        return Ok(Sight::Found);
+    }
+    Ok(Sight::Dead)
+}
+
+/// What is seen of a shorter one.
+fn look_at_front(
+    alloc: Global,
+    parts: &[Part<'_>],
+    kept: &Option<KeptReader>,
+    path: &[usize],
+) -> Result<Sight, AllocError>
+    requires kept { IfSome kept.now (IsKept (parts_of parts.now)) }
+    requires path { IsPath (parts_of parts.now) path.now }
+    requires few { length (front_of (parts_of parts.now) path.now) ≤ 2 ^ 63 - 1 }
+    requires more { length path.now < length (parts_of parts.now) }
+    ensures { IfOk result (λ sight. IsSeen (parts_of parts.now) path.now sight) }
+{
+    let reader = reader_on(alloc, parts, kept, path)?;
+    let goes_on = !reader.is_piece_broken() && !reader.is_done();
+    if goes_on {
+        return Ok(Sight::Open(Some(reader)));
+    }
+    let dead = is_dead(reader)?;
+    if dead {
+        return Ok(Sight::Dead);
+    }
+    Ok(Sight::Open(None))
+}
+
+/// Feeds what the path makes to a reader, and tells what is seen. The kept reader saves it the bytes of its own choices.
+pub(crate) fn look(
+    alloc: Global,
+    parts: &[Part<'_>],
+    kept: &Option<KeptReader>,
+    path: &[usize],
+) -> Result<Sight, AllocError>
+    requires kept { IfSome kept.now (IsKept (parts_of parts.now)) }
+    requires path { IsPath (parts_of parts.now) path.now }
+    requires few { length (front_of (parts_of parts.now) path.now) ≤ 2 ^ 63 - 1 }
+    ensures { IfOk result (λ sight. IsSeen (parts_of parts.now) path.now sight) }
+{
+    if path.len() < parts.len() {
+        look_at_front(alloc, parts, kept, path)
+    } else {
+        look_at_file(alloc, parts, kept, path)
+    }
+}

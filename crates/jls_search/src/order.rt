@@ -1,0 +1,182 @@
+//! The order in which groups are searched.
+
+ghost use Rattle.std.specs.Prelude.{◌≡◌, ◌<◌, length, IfOk, OnOk};
+ghost use Rattle.std.specs.List.{AllByRecursion};
+ghost use Rattle.jls_diff.specs.Parts.{HasWays};
+ghost use Rattle.jls_diff.specs.PartsOf.{parts_of};
+ghost use Rattle.jls_search.specs.Choices.{IsWhole};
+ghost use Rattle.jls_search.specs.Search.{IsShort};
+ghost use Rattle.jls_diff.specs.Groups.{IsGroup};
+ghost use Rattle.jls_search.specs.OfGroups.{HasCopy, IsSetting};
+
+use crate::choosing::choice_at;
+use crate::feeding::reader_of;
+use crate::offsets::{border_offset, end_offset};
+use crate::reading_between::reads_between;
+use crate::setting::Setting;
+use jls_copy::{CopyFault, CopyRead};
+use jls_diff::{Group, Part};
+use std::alloc::{AllocError, Global};
+
+/// The choices that make a copy.
+fn copy_path(alloc: Global, parts: &[Part<'_>], copy: usize) -> Result<Vec<usize>, AllocError>
+    requires { AllByRecursion (HasCopy copy) (parts_of parts.now) }
+    ensures { IfOk result (λ path. IsWhole (parts_of parts.now) path.items) }
+{
+    let mut path = Vec::new(alloc);
+    for place in 0..parts.len() {
+        path.push(choice_at(parts, place, copy))?;
+    }
+    Ok(path)
+}
+
+/// What the choices make, read; `None` where it has no frame.
+fn read_file(
+    alloc: Global,
+    parts: &[Part<'_>],
+    path: &[usize],
+) -> Result<Option<CopyRead>, AllocError>
+    requires whole { IsWhole (parts_of parts.now) path.now }
+    requires short { IsShort (parts_of parts.now) }
+{
+    let reader = reader_of(alloc, parts, path)?;
+    match reader.finish() {
+        Ok(read) => Ok(Some(read)),
+        Err(CopyFault::NoPicture(_, _)) => Ok(None),
+        Err(CopyFault::OutOfMemory) => Err(AllocError),
+    }
+}
+
+/// Whether what was read reads in a group.
+fn reads_group(parts: &[Part<'_>], path: &[usize], read: &CopyRead, group: Group) -> bool
+    requires whole { IsWhole (parts_of parts.now) path.now }
+    requires short { IsShort (parts_of parts.now) }
+    requires group { IsGroup (parts_of parts.now) group }
+{
+    let from = border_offset(parts, path, group.begin);
+    let to = end_offset(parts, path, group.end);
+    reads_between(read, from, to)
+}
+
+/// Whether this was noted of the group of this number.
+fn is_noted(notes: &[bool], number: usize) -> bool {
+    match notes.get(number) {
+        Some(note) => *note,
+        None => false,
+    }
+}
+
+/// Of each group, whether this copy reads in it, or another did, as was noted.
+fn with_copy(
+    alloc: Global,
+    parts: &[Part<'_>],
+    copy: usize,
+    groups: &[Group],
+    noted: Vec<bool>,
+) -> Result<Vec<bool>, AllocError>
+    requires copy { AllByRecursion (HasCopy copy) (parts_of parts.now) }
+    requires short { IsShort (parts_of parts.now) }
+    requires groups { AllByRecursion (IsGroup (parts_of parts.now)) groups.now }
+{
+    let path = copy_path(alloc, parts, copy)?;
+    let Some(read) = read_file(alloc, parts, &path)? else {
+        return Ok(noted);
+    };
+    let mut notes = Vec::new(alloc);
+    for number in 0..groups.len() {
+        let reads = reads_group(parts, &path, &read, groups[number]);
+        notes.push(reads || is_noted(&noted, number))?;
+    }
+    Ok(notes)
+}
+
+/// Of each group, whether some copy reads in it.
+fn groups_that_read(
+    alloc: Global,
+    parts: &[Part<'_>],
+    copies: usize,
+    groups: &[Group],
+) -> Result<Vec<bool>, AllocError>
+    requires ways { AllByRecursion (HasWays copies) (parts_of parts.now) }
+    requires short { IsShort (parts_of parts.now) }
+    requires groups { AllByRecursion (IsGroup (parts_of parts.now)) groups.now }
+{
+    let mut notes = Vec::new(alloc);
+    for copy in 0..copies {
+        notes = with_copy(alloc, parts, copy, groups, notes)?;
+    }
+    Ok(notes)
+}
+
+/// Adds a group, with each copy outside of it.
+fn add_group(
+    parts: &[Part<'_>],
+    copies: usize,
+    group: Group,
+    settings: &mut Vec<Setting>,
+) -> Result<(), AllocError>
+    requires ways { AllByRecursion (HasWays copies) (parts_of parts.now) }
+    requires group { IsGroup (parts_of parts.now) group }
+    requires settings { AllByRecursion (IsSetting (parts_of parts.now)) settings.old.items }
+    ensures { OnOk result (AllByRecursion (IsSetting (parts_of parts.now)) settings.new.items) }
+{
+    for copy in 0..copies {
+        settings.push(Setting { group, copy })?;
+    }
+    Ok(())
+}
+
+/// Of each group whether some copy reads in it, and whether those are wanted or the others.
+#[derive(Clone, Copy)]
+struct Wanted<'n> {
+    notes: &'n [bool],
+    reads: bool,
+}
+
+/// Adds the groups that are wanted.
+fn add_groups(
+    parts: &[Part<'_>],
+    copies: usize,
+    groups: &[Group],
+    wanted: Wanted<'_>,
+    settings: &mut Vec<Setting>,
+) -> Result<(), AllocError>
+    requires ways { AllByRecursion (HasWays copies) (parts_of parts.now) }
+    requires groups { AllByRecursion (IsGroup (parts_of parts.now)) groups.now }
+    requires settings { AllByRecursion (IsSetting (parts_of parts.now)) settings.old.items }
+    ensures { OnOk result (AllByRecursion (IsSetting (parts_of parts.now)) settings.new.items) }
+{
+    for number in 0..groups.len() {
+        if is_noted(wanted.notes, number) == wanted.reads {
+            add_group(parts, copies, groups[number], settings)?;
+        }
+    }
+    Ok(())
+}
+
+/// All groups, each with each copy outside of it: first those in which no copy reads, and of these and of the others each in their order.
+pub(crate) fn settings_of(
+    alloc: Global,
+    parts: &[Part<'_>],
+    copies: usize,
+    groups: &[Group],
+) -> Result<Vec<Setting>, AllocError>
+    requires ways { AllByRecursion (HasWays copies) (parts_of parts.now) }
+    requires short { IsShort (parts_of parts.now) }
+    requires groups { AllByRecursion (IsGroup (parts_of parts.now)) groups.now }
+    ensures { IfOk result (λ settings. AllByRecursion (IsSetting (parts_of parts.now)) settings.items) }
+{
+    let notes = groups_that_read(alloc, parts, copies, groups)?;
+    let mut settings = Vec::new(alloc);
+    let unread = Wanted {
+        notes: &notes,
+        reads: false,
+    };
+    let read = Wanted {
+        notes: &notes,
+        reads: true,
+    };
+    add_groups(parts, copies, groups, unread, &mut settings)?;
+    add_groups(parts, copies, groups, read, &mut settings)?;
+    Ok(settings)
+}

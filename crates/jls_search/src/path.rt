@@ -1,0 +1,154 @@
+//! Paths of the search: a way for each of the first parts.
+
+ghost use Rattle.std.specs.Prelude.{◌≡◌, ℕ, List, ◌<◌, ◌≤◌, ◌↔◌, ◌++◌, map, length, get_or, [], true, false, IsTrue, IfOk, IfSome, IfNone, OnOk};
+ghost use Rattle.std.specs.List.{AllByRecursion};
+ghost use Rattle.jls_diff.specs.PartsOf.{part_of, parts_of};
+ghost use Rattle.jls_diff.specs.Parts.{Same};
+ghost use Rattle.jls_search.specs.Choices.{IsDiffer, IsFirstWay, IsFront, IsNew, IsPath, IsWhole, HasSomeWay};
+ghost use Rattle.jls_search.specs.Order.{Goes, IsToCome, IsBehind};
+
+use jls_diff::Part;
+use std::alloc::AllocError;
+
+/// Whether no way before this one has the same bytes.
+fn is_new(ways: &[&[u8]], choice: usize) -> bool
+    requires { choice < length ways.now }
+    ensures { IsTrue result ↔ IsNew (map (λ way. way.now) ways.now) choice }
+{
+    for other in 0..choice {
+        if *ways[other] == *ways[choice] {
+            return false;
+        }
+    }
+    true
+}
+
+/// The next of these ways behind one, before which none has the same bytes.
+fn next_new(ways: &[&[u8]], behind: usize) -> Option<usize>
+    requires { behind < length ways.now }
+    ensures some { IfSome result (λ choice. (behind < choice) × (choice < length ways.now) × IsNew (map (λ way. way.now) ways.now) choice
+        × ((other : ℕ) → behind < other → other < choice → ¬ IsNew (map (λ way. way.now) ways.now) other)) }
+    ensures none { IfNone result ((other : ℕ) → behind < other → other < length ways.now → ¬ IsNew (map (λ way. way.now) ways.now) other) }
+{
+    let mut choice = behind + 1;
+    while choice < ways.len() {
+        if is_new(ways, choice) {
+            return Some(choice);
+        }
+        choice += 1;
+    }
+    None
+}
+
+/// The next way of a part behind one, before which none has the same bytes.
+fn next_way(part: &Part<'_>, behind: usize) -> Option<usize>
+    requires { IsFirstWay (part_of part.now) behind }
+    ensures some { IfSome result (λ choice. IsFirstWay (part_of part.now) choice
+        × ((other : ℕ) → behind < other → other < choice → ¬ IsFirstWay (part_of part.now) other)) }
+    ensures rises { IfSome result (λ choice. behind < choice) }
+    ensures none { IfNone result ((other : ℕ) → behind < other → ¬ IsFirstWay (part_of part.now) other) }
+{
+    match part {
+        Part::Same(_) => None,
+        Part::Differ(ways) => next_new(ways, behind),
+    }
+}
+
+/// The next way of the part at this place behind one, before which none has the same bytes.
+pub fn next_way_at(parts: &[Part<'_>], place: usize, behind: usize) -> Option<usize>
+    requires place { place < length parts.now }
+    requires first { IsFirstWay (get_or (parts_of parts.now) place (Same [])) behind }
+    ensures some { IfSome result (λ choice. IsFirstWay (get_or (parts_of parts.now) place (Same [])) choice
+        × ((other : ℕ) → behind < other → other < choice → ¬ IsFirstWay (get_or (parts_of parts.now) place (Same [])) other)) }
+    ensures rises { IfSome result (λ choice. behind < choice) }
+    ensures none { IfNone result ((other : ℕ) → behind < other → ¬ IsFirstWay (get_or (parts_of parts.now) place (Same [])) other) }
+{
+    next_way(&parts[place], behind)
+}
+
+/// Whether all copies have the part alike.
+fn is_same(part: &Part<'_>) -> bool
+    ensures same { result ≡ true → IsFirstWay (part_of part.now) 0 }
+    ensures differ { result ≡ false → IsDiffer (part_of part.now) }
+{
+    match part {
+        Part::Same(_) => true,
+        Part::Differ(_) => false,
+    }
+}
+
+/// The same, of the part at this place.
+fn is_same_at(parts: &[Part<'_>], place: usize) -> bool
+    requires { place < length parts.now }
+    ensures same { result ≡ true → IsFirstWay (get_or (parts_of parts.now) place (Same [])) 0 }
+    ensures differ { result ≡ false → IsDiffer (get_or (parts_of parts.now) place (Same [])) }
+{
+    is_same(&parts[place])
+}
+
+/// Goes on along parts that all copies have alike.
+pub(crate) fn follow_same(parts: &[Part<'_>], path: &mut Vec<usize>) -> Result<(), AllocError>
+    requires { IsPath (parts_of parts.now) path.old.items }
+    ensures path { OnOk result (IsPath (parts_of parts.now) path.new.items) }
+    ensures front { OnOk result (IsFront (parts_of parts.now) path.new.items) }
+    ensures grew { OnOk result ((more : List ℕ) × (path.new.items ≡ path.old.items ++ more)) }
+    ensures kept { OnOk result
+        ((choices : List ℕ) → IsWhole (parts_of parts.now) choices → IsToCome path.old.items choices → IsToCome path.new.items choices) }
+{
+    while path.len() < parts.len() && is_same_at(parts, path.len()) {
+        path.push(0)?;
+    }
+    Ok(())
+}
+
+/// Goes on with the first way of the next part, up to the next part in which the copies differ.
+pub(crate) fn descend(parts: &[Part<'_>], path: &mut Vec<usize>) -> Result<(), AllocError>
+    requires path { IsPath (parts_of parts.now) path.old.items }
+    requires more { length path.old.items < length parts.now }
+    requires some_way { AllByRecursion HasSomeWay (parts_of parts.now) }
+    ensures path { OnOk result (IsPath (parts_of parts.now) path.new.items) }
+    ensures front { OnOk result (IsFront (parts_of parts.now) path.new.items) }
+    ensures grew { OnOk result (Goes path.old.items path.new.items) }
+    ensures kept { OnOk result
+        ((choices : List ℕ) → IsWhole (parts_of parts.now) choices → IsToCome path.old.items choices → IsToCome path.new.items choices) }
+{
+    path.push(0)?;
+    follow_same(parts, path)
+}
+
+/// Gives up all choices that begin with the path, and takes the next way of the last part that has one; `false` where there is none.
+fn pass(parts: &[Part<'_>], path: &mut Vec<usize>) -> Result<bool, AllocError>
+    requires { IsPath (parts_of parts.now) path.old.items }
+    ensures path { IfOk result (λ more. more ≡ true → IsPath (parts_of parts.now) path.new.items) }
+    ensures behind { IfOk result (λ more. more ≡ true → IsBehind path.old.items path.new.items) }
+    ensures to_come { IfOk result (λ more. more ≡ true →
+        (choices : List ℕ) → IsWhole (parts_of parts.now) choices → IsBehind path.old.items choices → IsToCome path.new.items choices) }
+    ensures none { IfOk result (λ more. more ≡ false →
+        (choices : List ℕ) → IsWhole (parts_of parts.now) choices → ¬ IsBehind path.old.items choices) }
+{
+    while let Some(choice) = path.pop() {
+        if let Some(next) = next_way_at(parts, path.len(), choice) {
+            path.push(next)?;
+            return Ok(true);
+        }
+    }
+    Ok(false)
+}
+
+/// Gives up all choices that begin with the path, and goes to the next front; `false` where there is none.
+pub(crate) fn turn(parts: &[Part<'_>], path: &mut Vec<usize>) -> Result<bool, AllocError>
+    requires { IsPath (parts_of parts.now) path.old.items }
+    ensures path { IfOk result (λ more. more ≡ true → IsPath (parts_of parts.now) path.new.items) }
+    ensures front { IfOk result (λ more. more ≡ true → IsFront (parts_of parts.now) path.new.items) }
+    ensures behind { IfOk result (λ more. more ≡ true → IsBehind path.old.items path.new.items) }
+    ensures to_come { IfOk result (λ more. more ≡ true →
+        (choices : List ℕ) → IsWhole (parts_of parts.now) choices → IsBehind path.old.items choices → IsToCome path.new.items choices) }
+    ensures none { IfOk result (λ more. more ≡ false →
+        (choices : List ℕ) → IsWhole (parts_of parts.now) choices → ¬ IsBehind path.old.items choices) }
+{
+    if pass(parts, path)? {
+        follow_same(parts, path)?;
+        return Ok(true);
+    }
+    Ok(false)
+}

@@ -1,0 +1,76 @@
+//! Whether files read between two offsets.
+
+ghost use Rattle.std.specs.Prelude.{◌≡◌, ℕ, List, ◌↔◌, true, false, IsTrue, IfOk, IfSome};
+ghost use Rattle.std.specs.List.{AllByRecursion};
+ghost use Rattle.jls_copy.specs.CopyReads.{CopyReads};
+ghost use Rattle.jls_search.specs.ReadsBetween.{IsBetween, Reaches, ReadsBetween};
+
+use jls_copy::{CopyFault, CopyRead, CopyReader, End, PieceRecord, records_are_of_faulty_pieces};
+use std::alloc::AllocError;
+
+/// Whether an offset is the first of these or behind it, and before the second, if there is one.
+fn is_between(from: u64, to: Option<u64>, offset: u64) -> bool
+    ensures { IsTrue result ↔ IsBetween from to offset }
+{
+    match to {
+        Some(to) => from <= offset && offset < to,
+        None => from <= offset,
+    }
+}
+
+/// Whether one of the records is of a piece that begins there.
+fn has_record_between(records: &[PieceRecord], from: u64, to: Option<u64>) -> bool
+    ensures { result ≡ false → AllByRecursion (λ told. IsBetween from to told.offset → ⊥) records.now }
+{
+    for told in records {
+        if is_between(from, to, told.offset) {
+            return true;
+        }
+    }
+    false
+}
+
+/// Whether a file that ends so reaches over what stands there.
+fn reaches(from: u64, to: Option<u64>, end: End) -> bool
+    ensures { IsTrue result ↔ Reaches from to end }
+{
+    match end {
+        End::Eoi(offset) => from <= offset,
+        End::Input(offset) => from <= offset,
+        End::Header(_, offset) => match to {
+            Some(to) => to <= offset,
+            None => false,
+        },
+    }
+}
+
+/// Whether what was read is a file that reads between two offsets: no piece that begins at the first or behind it, and before the second,
+/// is faulty. Without a second one it goes to the file's end. `false` comes too where the file has more than 4,096 faulty pieces.
+pub fn reads_between(read: &CopyRead, from: u64, to: Option<u64>) -> bool
+    ensures { result ≡ true → (file : List ℕ) → CopyReads file read.now → ReadsBetween from to file }
+{
+    records_are_of_faulty_pieces();
+    let records = read.pieces();
+    if read.piece_count() != records.len() as u64 {
+        return false;
+    }
+    if has_record_between(records, from, to) {
+        return false;
+    }
+    reaches(from, to, read.ended())
+}
+
+/// Whether what was fed reads there, if it ends here. The only refusal is out of memory.
+pub(crate) fn is_read_between(
+    reader: CopyReader,
+    from: u64,
+    to: Option<u64>,
+) -> Result<bool, AllocError>
+    ensures { IfOk result (λ answer. answer ≡ true → IfSome reader (λ file. ReadsBetween from to file)) }
+{
+    match reader.finish() {
+        Ok(read) => Ok(reads_between(&read, from, to)),
+        Err(CopyFault::NoPicture(_, _)) => Ok(false),
+        Err(CopyFault::OutOfMemory) => Err(AllocError),
+    }
+}

@@ -1,0 +1,148 @@
+//! The files, each of which is read once.
+
+ghost use Rattle.std.specs.Prelude.{◌-◌, ◌^◌, ◌≤◌, ◌∷◌, [], ℕ, List, Some, length, Option, IfOk, IfSome};
+ghost use Rattle.std.specs.List.{AllByRecursion};
+ghost use Rattle.jls_diff.specs.PartsOf.{bytes_of, parts_of};
+ghost use Rattle.jls_search.specs.Choices.{IsPath, IsWhole, front_of};
+ghost use Rattle.jls_search.specs.Search.{IsShort, files_of, lists_of};
+ghost use Rattle.jls_station.specs.Reading.{AreBytes};
+ghost use Rattle.jls_search.specs.Files.{files_taken};
+ghost use Rattle.jls_search.specs.Reading.{AreRead, HasTaken, ReadsMore};
+
+use crate::feeding::feed_front;
+use crate::file::take_read;
+use crate::files::Files;
+use crate::seen::{Seen, see};
+use jls_copy::{CopyFault, CopyRead, CopyReader};
+use jls_diff::Part;
+use jls_station::Station;
+use std::alloc::{AllocError, Global};
+
+/// What is kept of files that were read.
+#[derive(Drop)]
+pub(crate) struct FilesRead {
+    /// What is seen of each.
+    pub(crate) seen: Vec<Seen>,
+    /// The station that took them. It has the shape of the first frame. There is none before that.
+    pub(crate) station: Option<Station>,
+}
+
+/// The station that takes what was read of a file: the one that there is, or one of the file's shape.
+fn station_for(alloc: Global, station: Option<Station>, read: &CopyRead) -> Station
+    ensures { (source : Option ℕ) (files : List (List ℕ)) → HasTaken source files station → HasTaken source files (Some result) }
+{
+    match station {
+        Some(station) => station,
+        None => Station::new(alloc, read.partial().shape().to_owned()),
+    }
+}
+
+/// Adds the file that was fed.
+fn read_file(
+    alloc: Global,
+    source: Option<u32>,
+    before: FilesRead,
+    reader: CopyReader,
+) -> Result<FilesRead, AllocError>
+    ensures { IfOk result (λ read. IfSome reader (λ file. AreBytes file → ReadsMore source (file ∷ []) before read)) }
+{
+    let FilesRead { mut seen, station } = before;
+    match reader.finish() {
+        Ok(read) => {
+            seen.push(see(&read))?;
+            let mut station = station_for(alloc, station, &read);
+            take_read(&mut station, source, read)?;
+            Ok(FilesRead {
+                seen,
+                station: Some(station),
+            })
+        }
+        Err(CopyFault::NoPicture(fault, offset)) => {
+            seen.push(Seen::NoFrame(fault, offset))?;
+            Ok(FilesRead { seen, station })
+        }
+        Err(CopyFault::OutOfMemory) => Err(AllocError),
+    }
+}
+
+/// Adds a copy.
+fn read_copy(
+    alloc: Global,
+    source: Option<u32>,
+    before: FilesRead,
+    copy: &[u8],
+) -> Result<FilesRead, AllocError>
+    ensures { IfOk result (λ read. ReadsMore source (copy.now ∷ []) before read) }
+{
+    let mut reader = CopyReader::new(alloc);
+    reader.feed(copy)?;
+    read_file(alloc, source, before, reader)
+}
+
+/// Adds the splice of these choices, which is read part by part.
+fn read_splice(
+    alloc: Global,
+    source: Option<u32>,
+    before: FilesRead,
+    parts: &[Part<'_>],
+    choices: &[usize],
+) -> Result<FilesRead, AllocError>
+    requires path { IsPath (parts_of parts.now) choices.now }
+    requires few { length (front_of (parts_of parts.now) choices.now) ≤ 2 ^ 63 - 1 }
+    ensures { IfOk result (λ read. ReadsMore source (front_of (parts_of parts.now) choices.now ∷ []) before read) }
+{
+    let mut reader = CopyReader::new(alloc);
+    feed_front(&mut reader, parts, choices)?;
+    read_file(alloc, source, before, reader)
+}
+
+/// Reads the copies, in turn.
+fn read_copies(
+    alloc: Global,
+    source: Option<u32>,
+    copies: &[&[u8]],
+) -> Result<FilesRead, AllocError>
+    ensures { IfOk result (λ read. AreRead source (bytes_of copies.now) read) }
+{
+    let mut read = FilesRead {
+        seen: Vec::new(alloc),
+        station: None,
+    };
+    for copy in copies {
+        read = read_copy(alloc, source, read, copy)?;
+    }
+    Ok(read)
+}
+
+/// Adds the splices, in turn.
+fn read_splices(
+    alloc: Global,
+    source: Option<u32>,
+    before: FilesRead,
+    parts: &[Part<'_>],
+    splices: &[Vec<usize>],
+) -> Result<FilesRead, AllocError>
+    requires whole { AllByRecursion (IsWhole (parts_of parts.now)) (lists_of splices.now) }
+    requires short { IsShort (parts_of parts.now) }
+    ensures { IfOk result (λ read. ReadsMore source (files_of (parts_of parts.now) (lists_of splices.now)) before read) }
+{
+    let mut read = before;
+    for choices in splices {
+        read = read_splice(alloc, source, read, parts, choices)?;
+    }
+    Ok(read)
+}
+
+/// Reads the copies and then the splices, each once.
+pub(crate) fn read_files(
+    alloc: Global,
+    source: Option<u32>,
+    files: &Files<'_, '_>,
+) -> Result<FilesRead, AllocError>
+    requires whole { AllByRecursion (IsWhole (parts_of files.now.parts.now)) (lists_of files.now.splices.now) }
+    requires short { IsShort (parts_of files.now.parts.now) }
+    ensures { IfOk result (λ read. AreRead source (files_taken files.now) read) }
+{
+    let copies = read_copies(alloc, source, files.copies)?;
+    read_splices(alloc, source, copies, files.parts, files.splices)
+}

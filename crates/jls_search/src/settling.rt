@@ -1,0 +1,81 @@
+//! What comes of the files taken.
+
+ghost use Rattle.std.specs.Prelude.{◌≡◌, ◌<◌, length, IfOk};
+ghost use Rattle.std.specs.List.{AllByRecursion};
+ghost use Rattle.jls_partial.specs.Partial.{nothing_known};
+ghost use Rattle.jls_diff.specs.PartsOf.{bytes_of, parts_of};
+ghost use Rattle.jls_search.specs.Choices.{IsWhole};
+ghost use Rattle.jls_search.specs.Search.{IsShort, lists_of};
+ghost use Rattle.jls_search.specs.Files.{files_taken, splices_found};
+ghost use Rattle.jls_search.specs.Reading.{HasTaken};
+ghost use Rattle.jls_search.specs.Settling.{SettlesFiles};
+ghost use Rattle.jls_search.specs.Stations.{TakesFiles};
+
+use crate::files::Files;
+use crate::reading_files::{FilesRead, read_files};
+use crate::shape_found::ShapeFound;
+use crate::shape_rule::find_shape;
+use crate::taking::take_files;
+use jls_marker::MarkerFault;
+use jls_station::Station;
+use jls_values::Shape;
+use std::alloc::{AllocError, Global};
+
+/// What comes of the files taken: their station, or why there is none.
+#[derive(Drop)]
+pub enum Settled {
+    /// A station of the shape that is taken. It took the files.
+    Held(Station),
+    /// Two files without a fault differ in shape: the copy to name, by its number. The first copy's is 0.
+    Differ(usize),
+    /// No file is without a fault, and no copy has a frame: the fault of the first copy, and its offset.
+    NoFrame(MarkerFault, u64),
+}
+
+/// The station of this shape that took the files: the one that took them as they were read, if it has the shape. Otherwise they are
+/// read again.
+fn station_of(
+    alloc: Global,
+    source: Option<u32>,
+    files: &Files<'_, '_>,
+    first: Option<Station>,
+    shape: Shape,
+) -> Result<Station, AllocError>
+    requires whole { AllByRecursion (IsWhole (parts_of files.now.parts.now)) (lists_of files.now.splices.now) }
+    requires short { IsShort (parts_of files.now.parts.now) }
+    requires taken { HasTaken source (files_taken files.now) first }
+    ensures shape { IfOk result (λ station. station.shape ≡ shape) }
+    ensures readings { IfOk result (λ station. TakesFiles source (files_taken files.now) (nothing_known shape) station) }
+{
+    if let Some(station) = first {
+        if *station.partial().shape() == shape {
+            return Ok(station);
+        }
+    }
+    take_files(alloc, shape, source, files)
+}
+
+/// What comes of the files taken, which are the copies and then the splices. Each file that has no fault has the shape that is taken. Where
+/// there is no such file it is that of the first copy with a frame. A station of it takes all files, under the source if there is one. Each
+/// file is decoded once, unless the first frame has another shape: then each is decoded twice. `Err` comes where memory is refused.
+pub fn settle_files(
+    alloc: Global,
+    source: Option<u32>,
+    files: &Files<'_, '_>,
+) -> Result<Settled, AllocError>
+    requires some_copy { 0 < length files.now.copies.now }
+    requires whole { AllByRecursion (IsWhole (parts_of files.now.parts.now)) (lists_of files.now.splices.now) }
+    requires short { IsShort (parts_of files.now.parts.now) }
+    ensures { IfOk result (λ settled.
+        SettlesFiles source (bytes_of files.now.copies.now) (splices_found files.now) settled) }
+{
+    let FilesRead { seen, station } = read_files(alloc, source, files)?;
+    match find_shape(&seen, files) {
+        ShapeFound::Taken(shape) => {
+            let station = station_of(alloc, source, files, station, shape)?;
+            Ok(Settled::Held(station))
+        }
+        ShapeFound::Differ(copy) => Ok(Settled::Differ(copy)),
+        ShapeFound::NoFrame(fault, offset) => Ok(Settled::NoFrame(fault, offset)),
+    }
+}

@@ -1,0 +1,188 @@
+//! The whole search.
+
+ghost use Rattle.std.specs.Prelude.{◌≡◌, ◌↔◌, List, ◌+◌, ◌≤◌, ◌⊎◌, ◌∷◌, ◌++◌, [], true, false, length, IsTrue, IfOk, IfSome, OnOk};
+ghost use Rattle.std.specs.List.{AllByRecursion};
+ghost use Rattle.jls_diff.specs.Parts.{Part as SpecPart};
+ghost use Rattle.jls_diff.specs.PartsOf.{parts_of};
+ghost use Rattle.jls_search.specs.Choices.{HasSomeWay, front_of};
+ghost use Rattle.jls_search.specs.Faultless.{IsFaultless};
+ghost use Rattle.jls_search.specs.Search.{IsShort, IsBegun, IsKept, IsSearch, IsStep, CanGoOn, GoesFrom, GoesOn, WereTried, StandsAt};
+ghost use Rattle.jls_search.specs.Search.{CameTo, HasEachSplice, MakeFiles, files_of, lists_of};
+
+use crate::kept::{KeptReader, keep};
+use crate::looking::{Sight, look};
+use crate::path::{descend, follow_same, turn};
+use jls_diff::Part;
+use std::alloc::{AllocError, Global};
+
+/// How many splices a search finds at most.
+pub const MOST_FOUND: usize = 64;
+
+/// What a search came to.
+#[derive(Drop)]
+pub struct Searched {
+    /// The splices without a fault, each as its choices, one for each part.
+    pub splices: Vec<Vec<usize>>,
+    /// How many prefixes and files were tried.
+    pub tries: u32,
+    /// Whether the search ended before it had come to all splices.
+    pub is_used_up: bool,
+}
+
+/// Adds the choices of a path to those that were found.
+fn take_found(alloc: Global, path: &[usize], found: &mut Vec<Vec<usize>>) -> Result<(), AllocError>
+    ensures { OnOk result (lists_of found.new.items ≡ lists_of found.old.items ++ path.now ∷ []) }
+{
+    let choices: Vec<usize> = path.iter().copied().collect(alloc)?;
+    found.push(choices)?;
+    Ok(())
+}
+
+/// Adds them, and goes to the next path; `false` where there is none.
+fn pass_found(
+    alloc: Global,
+    parts: &[Part<'_>],
+    path: &mut Vec<usize>,
+    found: &mut Vec<Vec<usize>>,
+) -> Result<bool, AllocError>
+    requires stands { StandsAt (parts_of parts.now) path.old.items (lists_of found.old.items) }
+    requires whole { length path.old.items ≡ length (parts_of parts.now) }
+    requires faultless { IsFaultless (front_of (parts_of parts.now) path.old.items) }
+    ensures next { IfOk result (λ more. GoesOn (parts_of parts.now) path.new.items (lists_of found.new.items) more) }
+    ensures count { IfOk result (λ more. (length (lists_of found.old.items) ≤ length (lists_of found.new.items))
+        × (length (lists_of found.new.items) ≤ length (lists_of found.old.items) + 1)) }
+    ensures step { IfOk result (λ more. IsStep path.old.items (lists_of found.old.items) path.new.items (lists_of found.new.items) more) }
+{
+    take_found(alloc, path, found)?;
+    turn(parts, path)
+}
+
+/// Tries the path, and goes to the next; `false` where there is none.
+fn try_next(
+    alloc: Global,
+    parts: &[Part<'_>],
+    path: &mut Vec<usize>,
+    found: &mut Vec<Vec<usize>>,
+    kept: &mut Option<KeptReader>,
+) -> Result<bool, AllocError>
+    requires some_way { AllByRecursion HasSomeWay (parts_of parts.now) }
+    requires short { IsShort (parts_of parts.now) }
+    requires stands { StandsAt (parts_of parts.now) path.old.items (lists_of found.old.items) }
+    requires kept { IfSome kept.old (IsKept (parts_of parts.now)) }
+    ensures next { IfOk result (λ more. GoesOn (parts_of parts.now) path.new.items (lists_of found.new.items) more) }
+    ensures count { IfOk result (λ more. (length (lists_of found.old.items) ≤ length (lists_of found.new.items))
+        × (length (lists_of found.new.items) ≤ length (lists_of found.old.items) + 1)) }
+    ensures step { IfOk result (λ more. IsStep path.old.items (lists_of found.old.items) path.new.items (lists_of found.new.items) more) }
+    ensures kept { OnOk result (IfSome kept.new (IsKept (parts_of parts.now))) }
+{
+    let sight = look(alloc, parts, kept, path)?;
+    match sight {
+        Sight::Open(reader) => {
+            keep(alloc, kept, reader, path)?;
+            descend(parts, path)?;
+            Ok(true)
+        }
+        Sight::Found => pass_found(alloc, parts, path, found),
+        Sight::Dead => turn(parts, path),
+    }
+}
+
+/// A search that goes on as far as its caller wants, depth first, part by part. Ways are tried in the order of the copies, and ways with
+/// equal bytes once. Choices are given up if no file without a fault begins with what they make. Each prefix and each file that is tried
+/// counts.
+#[derive(Drop)]
+pub struct WholeSearch {
+    /// The splices without a fault that it has found, each as its choices, one for each part.
+    pub splices: Vec<Vec<usize>>,
+    /// How many prefixes and files were tried.
+    pub tries: u32,
+    /// Whether there is more to try.
+    pub goes_on: bool,
+    /// What is tried next: a choice for each of the first parts.
+    pub path: Vec<usize>,
+    /// The reader of the last path that was left open. Paths that begin so are read from there on, and not from their first byte.
+    pub kept: Option<KeptReader>,
+}
+
+impl WholeSearch {
+    /// A search that has tried nothing.
+    pub fn begin(alloc: Global, parts: &[Part<'_>]) -> Result<WholeSearch, AllocError>
+        ensures stands { IfOk result (λ begun. IsSearch (parts_of parts.now) begun) }
+        ensures untried { IfOk result (λ begun. IsBegun begun) }
+    {
+        let mut path = Vec::new(alloc);
+        follow_same(parts, &mut path)?;
+        Ok(WholeSearch {
+            splices: Vec::new(alloc),
+            tries: 0,
+            goes_on: true,
+            path,
+            kept: None,
+        })
+    }
+
+    /// Whether it can go on: there is more to try, fewer tries than these were made, and fewer than 64 files were found.
+    pub fn can_go_on(&self, limit: u32) -> bool
+        ensures { IsTrue result ↔ CanGoOn self.now limit }
+    {
+        self.goes_on && self.tries < limit && self.splices.len() < MOST_FOUND
+    }
+
+    /// Goes on until so many tries were made in all, or it can't. It is over these parts. `Err` comes where memory is refused.
+    pub fn go_on(&mut self, alloc: Global, parts: &[Part<'_>], limit: u32) -> Result<(), AllocError>
+        requires some_way { AllByRecursion HasSomeWay (parts_of parts.now) }
+        requires short { IsShort (parts_of parts.now) }
+        requires stands { IsSearch (parts_of parts.now) self.old }
+        ensures stands { OnOk result (IsSearch (parts_of parts.now) self.new) }
+        ensures stops { OnOk result (CanGoOn self.new limit → ⊥) }
+        ensures went { OnOk result (GoesFrom (parts_of parts.now) self.old self.new limit) }
+    {
+        while self.can_go_on(limit) {
+            self.tries += 1;
+            self.goes_on = try_next(
+                alloc,
+                parts,
+                &mut self.path,
+                &mut self.splices,
+                &mut self.kept,
+            )?;
+        }
+        Ok(())
+    }
+
+    /// What it came to. Its tries are used up where there is more to try.
+    pub fn into_searched(self) -> Searched
+        ensures came_to { (parts : List SpecPart) → IsSearch parts self
+            → CameTo parts (lists_of result.splices.items) result.is_used_up }
+        ensures tries { result.tries ≡ self.tries }
+        ensures splices { result.splices ≡ self.splices }
+        ensures used_up { result.is_used_up ≡ self.goes_on }
+    {
+        Searched {
+            splices: self.splices,
+            tries: self.tries,
+            is_used_up: self.goes_on,
+        }
+    }
+}
+
+/// Searches the splices of some copies for files without a fault, as `WholeSearch` does.
+///
+/// Parts of short copies are as it requires them (`parts_can_be_searched`).
+///
+/// `is_used_up` says that the search ended with its tries, or with its 64th file, while there was more to try.
+pub fn search(alloc: Global, parts: &[Part<'_>], limit: u32) -> Result<Searched, AllocError>
+    requires some_way { AllByRecursion HasSomeWay (parts_of parts.now) }
+    requires short { IsShort (parts_of parts.now) }
+    ensures files { IfOk result (λ searched. MakeFiles (parts_of parts.now) (lists_of searched.splices.items)) }
+    ensures all { IfOk result (λ searched. searched.is_used_up ≡ false
+        → HasEachSplice (parts_of parts.now) (files_of (parts_of parts.now) (lists_of searched.splices.items))) }
+    ensures used_up { IfOk result
+        (λ searched. searched.is_used_up ≡ true → (searched.tries ≡ limit) ⊎ (length searched.splices.items ≡ 64)) }
+    ensures few { IfOk result (λ searched. (searched.tries ≤ limit) × (length searched.splices.items ≤ 64)) }
+    ensures tried { IfOk result (λ searched. WereTried (parts_of parts.now) searched.tries (lists_of searched.splices.items)) }
+{
+    let mut begun = WholeSearch::begin(alloc, parts)?;
+    begun.go_on(alloc, parts, limit)?;
+    Ok(begun.into_searched())
+}

@@ -1,5 +1,0 @@
-use Rattle.jls_splice.proofs.Lengths.{parts_can_be_searched}
-use Rattle.jls_splice.proofs.laws.parts_can_be_searched.Goals as goal
-
-pub returns : goal.returns
-returns c = parts_can_be_searched

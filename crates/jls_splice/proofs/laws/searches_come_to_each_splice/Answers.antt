@@ -1,5 +1,0 @@
-use Rattle.jls_splice.proofs.FoundFiles.{searches_come_to_each_splice}
-use Rattle.jls_splice.proofs.laws.searches_come_to_each_splice.Goals as goal
-
-pub returns : goal.returns
-returns c = searches_come_to_each_splice

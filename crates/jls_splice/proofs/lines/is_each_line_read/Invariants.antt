@@ -1,6 +1,0 @@
-use Rattle.std.proofs.Common.{◌<◌, ℕ}
-use Rattle.jls_splice.specs.Faultless.{IsComponentRead}
-use Rattle.jls_splice.proofs.lines.is_each_line_read.Given as goal
-
-abbrev pub invariant-loop-component : goal.invariant-loop-component
-invariant-loop-component l = (component : ℕ) → component < l.component → IsComponentRead l.partial component

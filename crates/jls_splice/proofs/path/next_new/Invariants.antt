@@ -1,9 +1,0 @@
-use Rattle.std.proofs.Common.{length, ◌-◌, ℕ, ◌<◌, map}
-use Rattle.jls_splice.specs.Choices.{IsNew}
-use Rattle.jls_splice.proofs.path.next_new.Given as goal
-
-abbrev pub invariant-loop-choice : goal.invariant-loop-choice
-invariant-loop-choice l = (l.behind < l.choice) × ((other : ℕ) → l.behind < other → other < l.choice → IsNew (map (λ way. way.now) l.ways) other → ⊥)
-
-abbrev pub decreases-loop-choice : goal.decreases-loop-choice
-decreases-loop-choice l = length l.ways - l.choice

@@ -1,5 +1,0 @@
-pub mod Choices
-pub mod Order
-pub mod Faultless
-pub mod Search
-pub mod SearchLaws

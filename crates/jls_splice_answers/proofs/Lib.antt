@@ -1,2 +1,0 @@
-mod FaultLineExamples
-mod StatusExamples

@@ -1,0 +1,68 @@
+-- What a station holds that took files.
+use Rattle.std.proofs.Common.{◌≡◌, ℕ, true, List, [], ◌∷◌, ◌++◌, Option, refl, sym, ap, ◌∙◌, subst, append_assoc}
+use Rattle.std.specs.Prelude.{fold}
+use Rattle.std.proofs.lemmas.List.{append-nil}
+use Rattle.jls_values.specs.SameShape.{same_shape}
+use Rattle.jls_values.specs.Shape.{PictureShape}
+use Rattle.jls_partial.specs.Partial.{PartialPicture, nothing_known, has_same_shape, union}
+use Rattle.jls_partial.specs.PartialLaws.{shape_itself}
+use Rattle.jls_station.specs.Given.{marked}
+use Rattle.jls_headline.specs.Collected.{Collected, new_station, reader_finished, partial_taken, CollectedUnder}
+use Rattle.jls_headline.specs.CollectedLaws.{CollectedHoldsExactlyUnder}
+use Rattle.jls_headline.specs.Sources.{SourcedCopy, sourced_copy, copies_of}
+use Rattle.jls_copy_laws.proofs.Members.{none_in}
+use Rattle.jls_headline.proofs.SourcedStations.{marked_shape}
+use Rattle.jls_splice_laws.specs.Taken.{AreOfShape, none_left, taken, passed_over}
+use Rattle.jls_search.specs.Stations.{Give, no_file, gives, gives_nothing}
+use Rattle.jls_search.specs.Shapes.{HasShape}
+use Rattle.jls_search.proofs.OneFile.{shape_read}
+use Rattle.jls_splice_laws.specs.SplicingLaws.{under, FilesAreHeld}
+
+-- what was read for the station behind files
+record Read (source : Option ℕ) (copies : List SourcedCopy) (shape : PictureShape) (files : List (List ℕ)) (new : PartialPicture) : Type 0 where
+  given : List (List ℕ)
+  of_shape : AreOfShape shape files given
+  collected : Collected new (copies ++ under source given) []
+
+read_files : (source : Option ℕ) (shape : PictureShape) (copies : List SourcedCopy) (old : PartialPicture) (files : List (List ℕ))
+    (given : List PartialPicture) → old.shape ≡ shape → Collected old copies [] → Give source shape files given
+    → Read source copies shape files (fold union old given)
+read_files source shape copies old _ _ e h no_file = record {
+  given = [];
+  of_shape = none_left;
+  collected = subst (λ xs. Collected old xs []) (sym (append-nil copies)) h;
+}
+read_files source shape copies old _ _ e h (gives file read files given low reads is rest) =
+    let p : PartialPicture = marked source read.partial in
+    let one : List SourcedCopy = sourced_copy source file ∷ [] in
+    let same : has_same_shape old p ≡ true =
+    subst (λ (s : PictureShape). same_shape old.shape s ≡ true) (sym (marked_shape source read.partial ∙ is ∙ sym e)) (shape_itself old.shape) in
+    let more : Collected (union old p) (copies ++ one) [] =
+    partial_taken old (union old p) p copies [] one [] h (reader_finished source file read p low reads refl) same refl in
+    let r = read_files source shape (copies ++ one) (union old p) files given e more rest in
+    record {
+      given = file ∷ r.given;
+      of_shape = taken file files r.given (subst (λ s. HasShape s file) is (shape_read file read reads)) r.of_shape;
+      collected = subst (λ xs. Collected (fold union (union old p) given) xs []) (append_assoc copies one (under source r.given)) r.collected;
+    }
+read_files source shape copies old _ _ e h (gives_nothing file files given not rest) =
+    let r = read_files source shape copies old files given e h rest in
+    record { given = r.given; of_shape = passed_over file files r.given not r.of_shape; collected = r.collected }
+
+-- the files alone
+pub files_alone : (source : Option ℕ) (files : List (List ℕ)) → copies_of (under source files) ≡ files
+files_alone source [] = refl
+files_alone source (file ∷ files) = ap (λ fs. file ∷ fs) (files_alone source files)
+
+pub files_are_held : CollectedHoldsExactlyUnder → FilesAreHeld
+files_are_held holds source shape files station t =
+    let r = read_files source shape [] (nothing_known shape) files t.given refl (new_station shape (nothing_known shape) refl) t.give in
+    let collected : Collected station (under source r.given) [] =
+    subst (λ (p : PartialPicture). Collected p (under source r.given) []) (sym t.union_is) r.collected in
+    let read : CollectedUnder station (under source r.given) = ([], collected, λ copy c. absurd (none_in copy c)) in
+    record {
+      taken = r.given;
+      of_shape = r.of_shape;
+      read = read;
+      exactly = holds station (under source r.given) read;
+    }

@@ -1,2 +1,0 @@
-mod Examples
-mod Offsets

@@ -1,0 +1,105 @@
+-- Parts of two copies, and what is printed of them, worked out by hand.
+use Rattle.std.proofs.Common.{◌≡◌, true, false, List, [], ◌∷◌, Some, None, refl, lit<}
+use Rattle.std.specs.Prelude.{codes, decimal}
+use Rattle.std.proofs.lemmas.Fmt.{decimal_digit, decimal-digits_of}
+use Rattle.jls_diff.specs.Parts.{Part, Same, Differ}
+use Rattle.jls_splice_run.specs.Differences.{differences}
+use Rattle.jls_splice_run.specs.Lines.{differ_lines, found_text, groups_line, more_line, progress_line, single_line, splices_line, used_up_line}
+use Rattle.jls_splice_run.specs.declared.differences.Difference.{Difference}
+use Rattle.jls_splice_run.specs.declared.found.Found.{Found}
+
+-- the numbers in the lines
+d0 : decimal 0 ≡ codes "0"
+d0 = decimal_digit 0 (lit< tt)
+
+d1 : decimal 1 ≡ codes "1"
+d1 = decimal_digit 1 (lit< tt)
+
+d2 : decimal 2 ≡ codes "2"
+d2 = decimal_digit 2 (lit< tt)
+
+d3 : decimal 3 ≡ codes "3"
+d3 = decimal_digit 3 (lit< tt)
+
+d4 : decimal 4 ≡ codes "4"
+d4 = decimal_digit 4 (lit< tt)
+
+d12 : decimal 12 ≡ codes "12"
+d12 = decimal-digits_of 12 (lit< tt) (lit< tt)
+
+d128 : decimal 128 ≡ codes "128"
+d128 = decimal-digits_of 128 (lit< tt) (lit< tt)
+
+-- "abXc" and "abYcZZ": one byte differs, and two stand behind the end of the first
+abbrev parts : List Part
+parts = Same (codes "ab") ∷ Differ (codes "X" ∷ codes "Y" ∷ []) ∷ Same (codes "c") ∷ Differ ([] ∷ codes "ZZ" ∷ []) ∷ []
+
+abbrev two : List Difference
+two = record { offset = 2; length = 1 } ∷ record { offset = 4; length = 0 } ∷ []
+
+their_differences : differences parts ≡ two
+their_differences = refl
+
+their_lines : differ_lines two ≡ codes "differ 2 1\ndiffer 4 0\n"
+their_lines = rw (d0, d1, d2, d4) refl
+
+-- copies that are equal
+no_difference : differences (Same (codes "ab") ∷ []) ≡ []
+no_difference = refl
+
+no_line : differ_lines [] ≡ []
+no_line = refl
+
+-- 4,096 differences have lines, and of 4,100 four have none
+none_more : more_line 4096 ≡ []
+none_more = refl
+
+four_more : more_line 4100 ≡ codes "differ more 4\n"
+four_more = rw d4 refl
+
+three_splices : splices_line 3 ≡ codes "splices 3\n"
+three_splices = rw d3 refl
+
+cut_off : used_up_line true ≡ codes "tries used up\n"
+cut_off = refl
+
+all_groups : groups_line (Some (record { groups = 2; is_used_up = false })) ≡ codes "by groups 2\n"
+all_groups = rw d2 refl
+
+some_groups : groups_line (Some (record { groups = 12; is_used_up = true })) ≡ codes "by groups 12, tries used up\n"
+some_groups = rw d12 refl
+
+no_groups : groups_line None ≡ []
+no_groups = refl
+
+how_far : progress_line 128 2 ≡ codes "128 tries, 2 files\n"
+how_far = rw (d2, d128) refl
+
+lacking : single_line true ≡ codes "no single file\n"
+lacking = refl
+
+-- all lines of a run whose searches were cut off, and of one that found all that it asked for
+abbrev cut_short : Found
+cut_short = record {
+  differences = record { ref_ptr = (0, 0); now = two };
+  splices = 3;
+  is_used_up = true;
+  by_groups = Some (record { groups = 2; is_used_up = true });
+  lacks_single_file = true;
+}
+
+its_text : found_text cut_short
+    ≡ codes "differ 2 1\ndiffer 4 0\nsplices 3\ntries used up\nby groups 2, tries used up\nno single file\n"
+its_text = rw (d0, d1, d2, d3, d4) refl
+
+abbrev complete : Found
+complete = record {
+  differences = record { ref_ptr = (0, 0); now = two };
+  splices = 1;
+  is_used_up = false;
+  by_groups = None;
+  lacks_single_file = false;
+}
+
+text_of_complete : found_text complete ≡ codes "differ 2 1\ndiffer 4 0\nsplices 1\n"
+text_of_complete = rw (d0, d1, d2, d4) refl

@@ -1,0 +1,79 @@
+-- Lines of a search, one behind the other.
+use Rattle.std.proofs.Common.{◌≡◌, ℕ, suc, ◌+◌, ◌*◌, ◌<◌, ◌≤◌, Bool, true, false, List, [], ◌∷◌, ◌++◌, length, map, Result, Ok, Err, refl, ap, ◌∙◌, subst, arith, inl, inr}
+use Rattle.std.specs.Prelude.{min, OnOk, OnErr}
+use Rattle.std.proofs.lemmas.Bool.{cases_lt}
+use Rattle.jls_io.specs.Event.{Event}
+use Rattle.jls_diff.specs.Parts.{Part}
+use Rattle.jls_search.specs.Search.{CanGoOn, GoesFrom, Tried, lists_of, nothing, one_more}
+use Rattle.jls_search.specs.declared.whole_search.WholeSearch.{WholeSearch}
+use Rattle.jls_splice_run.specs.Telling.{line, nothing_tried, GoesOn, HasTold, IsTold, TellsLine}
+use Rattle.jls_splice_run.specs.declared.options.SearchOptions.{SearchOptions}
+
+pub length-map : {X Y : Type 0} (f : X → Y) (xs : List X) → length (map f xs) ≡ length xs
+length-map f [] = refl
+length-map f (x ∷ xs) = ap suc (length-map f xs)
+
+-- what holds where something else does
+pub on_ok : {T E : Type 0} (r : Result T E) (P Q : Type 0) → (P → Q) → OnOk r P → OnOk r Q
+on_ok (Ok x) P Q f h = f h
+on_ok (Err e) P Q f h = tt
+
+pub on_ok_anyway : {T E : Type 0} (r : Result T E) (P : Type 0) → P → OnOk r P
+on_ok_anyway (Ok x) P h = h
+on_ok_anyway (Err e) P h = tt
+
+-- nothing is told before anything was tried
+pub none_told : (tells : Bool) → IsTold tells 0 0 []
+none_told true = nothing_tried
+none_told false = refl
+
+pub on_err_anyway : {T E : Type 0} (r : Result T E) (P : Type 0) → P → OnErr r P
+on_err_anyway (Ok x) P h = tt
+on_err_anyway (Err e) P h = h
+
+-- one line more
+told_more : (tells : Bool) (rounds found tries files : ℕ) (events more : List Event) → IsTold tells (64 * rounds) found events
+    → 64 * rounds < tries → tries ≤ 64 * rounds + 64 → found ≤ files → TellsLine tells tries files more
+    → IsTold tells tries files (events ++ more)
+told_more true rounds found tries files events more told less near le printed = line rounds found tries files events more told less near le printed
+told_more false rounds found tries files events more told less near le none = ap (λ (xs : List Event). xs ++ more) told ∙ none
+
+pub told_on : (options : SearchOptions) (old new : WholeSearch) (events more : List Event) → CanGoOn old options.tries → HasTold options old events
+    → GoesOn options old new more → HasTold options new (events ++ more)
+told_on options old new events more can h g =
+    let p = h.paused can in
+    let before = length (lists_of old.splices.items) in
+    let now = length (lists_of new.splices.items) in
+    let at = p.1 in let less = g.tries in let near = g.near in
+    let told : IsTold options.tells (64 * p.0) before events = subst (λ n. IsTold options.tells n before events) at h.told in
+    record {
+      told = told_more options.tells p.0 before new.tries now events more told (omega (arith, at, less)) (omega (arith, at, near)) g.files g.told;
+      within = g.within;
+      paused = λ again. (let e = g.paused again in (p.0 + 1, omega (arith, at, e)));
+    }
+
+-- a search that went on to a pause
+pub went_on : (parts : List Part) (options : SearchOptions) (old new : WholeSearch) (pause : ℕ) → pause ≡ min (old.tries + 64) options.tries
+    → CanGoOn old options.tries → (CanGoOn new pause → ⊥) → GoesFrom parts old new pause → (events : List Event)
+    → TellsLine options.tells new.tries (length (lists_of new.splices.items)) events → GoesOn options old new events
+went_on parts options old new pause at can stops went events told =
+    let below = can.1 in
+    let within = went.within in
+    let less = went.some (can.0, omega (arith, at, below), can.2) in
+    record {
+      tries = less;
+      near = omega (arith, at, below, within);
+      within = omega (arith, at, below, within);
+      files = went.files;
+      paused = λ again.
+          elim (cases_lt new.tries pause) [
+            | inl before ↦ absurd (stops (again.0, before, again.2))
+            | inr behind ↦ (let more = again.1 in omega (arith, at, below, within, behind, more))
+          ];
+      told = told;
+    }
+
+-- tries behind tries
+pub tried_on : (parts : List Part) (a b c : WholeSearch) → Tried parts a b → Tried parts b c → Tried parts a c
+tried_on parts a _ _ t (nothing b) = t
+tried_on parts a _ _ t (one_more b mid c u more) = one_more a mid c (tried_on parts a b mid t u) more

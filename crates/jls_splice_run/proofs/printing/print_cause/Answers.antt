@@ -1,0 +1,21 @@
+use Rattle.std.proofs.Common.{sym, subst}
+use Rattle.jls_io.specs.Event.{GrewBy}
+use Rattle.jls_io.specs.Writing.{Printed}
+use Rattle.jls_splice_run.specs.FaultLines.{cause_line}
+use Rattle.jls_splice_run.specs.declared.outcome.Cause.{Cause}
+use Rattle.jls_splice_run.proofs.printing.print_cause.Goals as goal
+
+pub returns-in-NoPicture : goal.returns-in-NoPicture
+returns-in-NoPicture g c =
+    let history = g.E.Device.history in
+    subst (λ (cause : Cause). GrewBy (Printed (cause_line c.args.name.now cause)) (history c.args.faults.now) (history c.print_no_frame.new.faults)) (sym c.in-NoPicture.is) c.print_no_frame.ensures
+
+pub returns-in-NotCreated : goal.returns-in-NotCreated
+returns-in-NotCreated g c =
+    let history = g.E.Device.history in
+    subst (λ (cause : Cause). GrewBy (Printed (cause_line c.args.name.now cause)) (history c.args.faults.now) (history c.print_not_created.new.faults)) (sym c.in-NotCreated.is) c.print_not_created.ensures
+
+pub returns-in-NotWritten : goal.returns-in-NotWritten
+returns-in-NotWritten g c =
+    let history = g.E.Device.history in
+    subst (λ (cause : Cause). GrewBy (Printed (cause_line c.args.name.now cause)) (history c.args.faults.now) (history c.print_not_written.new.faults)) (sym c.in-NotWritten.is) c.print_not_written.ensures

@@ -1,0 +1,37 @@
+use Rattle.std.proofs.Common.{◌<◌, length, arith}
+use Rattle.jls_io.specs.Event.{GrewBy}
+use Rattle.jls_io.proofs.Growing.{grew_as}
+use Rattle.jls_diff.specs.PartsOf.{parts_of}
+use Rattle.jls_search.specs.Search.{IsSearch, Tried, lists_of}
+use Rattle.jls_splice_run.specs.Telling.{GoesOn, TellsLine}
+use Rattle.jls_splice_run.proofs.Rounds.{on_ok, on_ok_anyway, went_on}
+use Rattle.jls_splice_run.proofs.searching.go_on.Goals as goal
+
+pub next_pause-pause-requires : goal.next_pause-pause-requires
+next_pause-pause-requires g c = c.requires.can.1
+
+pub returns-clause-stands : goal.returns-clause-stands
+returns-clause-stands g c = on_ok_anyway c.tell.result (IsSearch (parts_of c.args.parts.now) c.go_on.new.self) c.in_ok-go_on.ensures.stands
+
+pub returns-clause-fewer : goal.returns-clause-fewer
+returns-clause-fewer g c =
+    let can = c.requires.can in let pause = c.next_pause-pause.ensures in let below = can.1 in
+    on_ok_anyway c.tell.result (c.args.walk.now.tries < c.go_on.new.self.tries) (c.in_ok-go_on.ensures.went.some (can.0, omega (arith, pause, below), can.2))
+
+pub returns-clause-told : goal.returns-clause-told
+returns-clause-told g c =
+    let history = g.E.Device.history in
+    let old = c.args.walk.now in
+    let new = c.go_on.new.self in
+    let options = c.args.options in
+    let tells = TellsLine options.tells new.tries (length (lists_of new.splices.items)) in
+    let h = history c.args.faults.now in
+    let h' = history c.tell.new.faults in
+    on_ok c.tell.result (GrewBy tells h h') (GrewBy (GoesOn options old new) h h')
+    (grew_as tells (GoesOn options old new) h h'
+    (λ events told. went_on (parts_of c.args.parts.now) options old new c.next_pause-pause.result c.next_pause-pause.ensures c.requires.can c.in_ok-go_on.ensures.stops c.in_ok-go_on.ensures.went events told))
+    c.tell.ensures.told
+
+pub returns-clause-tried : goal.returns-clause-tried
+returns-clause-tried g c =
+    on_ok_anyway c.tell.result (Tried (parts_of c.args.parts.now) c.args.walk.now c.go_on.new.self) c.in_ok-go_on.ensures.went.tried

@@ -1,0 +1,18 @@
+use Rattle.std.proofs.Common.{◌-◌}
+use Rattle.jls_io.specs.Event.{GrewBy}
+use Rattle.jls_diff.specs.PartsOf.{parts_of}
+use Rattle.jls_search.specs.Search.{IsSearch}
+use Rattle.jls_splice_run.specs.Telling.{HasTold, WasBegun}
+use Rattle.jls_splice_run.proofs.searching.search_parts.Given as goal
+
+abbrev pub invariant-loop-alloc : goal.invariant-loop-alloc
+invariant-loop-alloc g l =
+    let history = g.E.Device.history in
+    record {
+      stands : IsSearch (parts_of l.parts) l.walk;
+      tried : WasBegun (parts_of l.parts) l.walk;
+      told : GrewBy (HasTold l.options l.walk) (history l.fn.faults) (history l.faults);
+    }
+
+abbrev pub decreases-loop-alloc : goal.decreases-loop-alloc
+decreases-loop-alloc g l = l.options.tries - l.walk.tries

@@ -1,0 +1,49 @@
+-- The lines that are printed of what was found: ASCII, each with a newline at its end, and numbers in decimal.
+use Rattle.std.specs.Prelude.{ℕ, ◌-◌, Bool, List, [], ◌++◌, Option, Some, None, codes, decimal, length, take, nat_lt, if◌then◌else◌}
+use Rattle.std.specs.List.{flat_map}
+use Rattle.jls_splice_run.specs.declared.differences.Difference.{Difference}
+use Rattle.jls_splice_run.specs.declared.found.Found.{Found}
+use Rattle.jls_splice_run.specs.declared.found.GroupSearch.{GroupSearch}
+
+-- the line of a difference: its offset in the first copy, and how many bytes that copy has there
+abbrev pub differ_line : Difference → List ℕ
+differ_line d = codes "differ " ++ decimal d.offset ++ codes " " ++ decimal d.length ++ codes "\n"
+
+-- the line of how many differences have no line; no line if there are none
+abbrev pub more_line : ℕ → List ℕ
+more_line count = if nat_lt 4096 count then codes "differ more " ++ decimal (count - 4096) ++ codes "\n" else []
+
+-- the lines of differences: the first 4,096, then how many more there are
+abbrev pub differ_lines : List Difference → List ℕ
+differ_lines ds = flat_map differ_line (take 4096 ds) ++ more_line (length ds)
+
+-- the line of how many files were taken that are no copies
+abbrev pub splices_line : ℕ → List ℕ
+splices_line count = codes "splices " ++ decimal count ++ codes "\n"
+
+-- the line of a search that was cut off; no line if it was not
+abbrev pub used_up_line : Bool → List ℕ
+used_up_line is_used_up = if is_used_up then codes "tries used up\n" else []
+
+-- how the line of the search by groups ends. It says if that search was cut off
+abbrev pub groups_end : Bool → List ℕ
+groups_end is_used_up = if is_used_up then codes ", tries used up\n" else codes "\n"
+
+-- the line of the search by groups; no line if there was none
+abbrev pub groups_line : Option GroupSearch → List ℕ
+groups_line None = []
+groups_line (Some found) = codes "by groups " ++ decimal found.groups ++ groups_end found.is_used_up
+
+-- the line of a run that was asked for a single file and has none
+abbrev pub single_line : Bool → List ℕ
+single_line lacks_single_file = if lacks_single_file then codes "no single file\n" else []
+
+-- all lines of what was found, in their order
+abbrev pub found_text : Found → List ℕ
+found_text f =
+    differ_lines f.differences.now ++ splices_line f.splices ++ used_up_line f.is_used_up ++ groups_line f.by_groups
+    ++ single_line f.lacks_single_file
+
+-- the line of how far a search is: how many prefixes and files were tried, and how many files were found
+abbrev pub progress_line : ℕ → ℕ → List ℕ
+progress_line tries files = decimal tries ++ codes " tries, " ++ decimal files ++ codes " files\n"

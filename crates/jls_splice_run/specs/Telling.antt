@@ -1,0 +1,51 @@
+-- What a search tells of how far it is.
+use Rattle.std.specs.Prelude.{◌≡◌, ℕ, ◌+◌, ◌*◌, ◌<◌, ◌≤◌, Bool, true, false, List, [], ◌++◌, length}
+use Rattle.jls_io.specs.Event.{Event}
+use Rattle.jls_io.specs.Writing.{Printed}
+use Rattle.jls_search.specs.Search.{CanGoOn, IsBegun, IsSearch, Tried, lists_of}
+use Rattle.jls_diff.specs.Parts.{Part}
+use Rattle.jls_search.specs.declared.whole_search.WholeSearch.{WholeSearch}
+use Rattle.jls_splice_run.specs.Lines.{progress_line}
+use Rattle.jls_splice_run.specs.declared.options.SearchOptions.{SearchOptions}
+
+-- The lines of a search of so many tries, which found so many files: one after each 64 tries, and one after the last. Each has how many
+-- tries there were. The last has how many files were found, and those before it no more than the next
+pub data Lines : ℕ → ℕ → List Event → Type 0 where
+  nothing_tried : Lines 0 0 []
+  line : (rounds found tries files : ℕ) (events more : List Event) → Lines (64 * rounds) found events → 64 * rounds < tries
+      → tries ≤ 64 * rounds + 64 → found ≤ files → Printed (progress_line tries files) more → Lines tries files (events ++ more)
+
+-- the lines of a search of so many tries, which found so many files, if they are asked for, and else nothing
+abbrev pub IsTold : Bool → ℕ → ℕ → List Event → Type 0
+IsTold true tries files events = Lines tries files events
+IsTold false tries files events = events ≡ []
+
+-- the lines of a search that ended because memory ran out, after so many tries at most
+abbrev pub ToldSome : ℕ → Bool → List Event → Type 0
+ToldSome limit tells events = (tries : ℕ) × (files : ℕ) × (tries ≤ limit) × IsTold tells tries files events
+
+-- Inside the crate -------------------------------------------------------------------------------------------------
+
+-- one line is told, if that is asked for
+abbrev pub TellsLine : Bool → ℕ → ℕ → List Event → Type 0
+TellsLine true tries files events = Printed (progress_line tries files) events
+TellsLine false tries files events = events ≡ []
+
+-- it went on to the next pause, and told a line there
+pub record GoesOn (options : SearchOptions) (old new : WholeSearch) (events : List Event) : Type 0 where
+  pub tries : old.tries < new.tries
+  pub near : new.tries ≤ old.tries + 64
+  pub within : new.tries ≤ options.tries
+  pub files : length (lists_of old.splices.items) ≤ length (lists_of new.splices.items)
+  pub paused : CanGoOn new options.tries → new.tries ≡ old.tries + 64
+  pub told : TellsLine options.tells new.tries (length (lists_of new.splices.items)) events
+
+-- it has told all so far, and where it can go on it stands at a pause
+pub record HasTold (options : SearchOptions) (walk : WholeSearch) (events : List Event) : Type 0 where
+  pub told : IsTold options.tells walk.tries (length (lists_of walk.splices.items)) events
+  pub within : walk.tries ≤ options.tries
+  pub paused : CanGoOn walk options.tries → (rounds : ℕ) × (walk.tries ≡ 64 * rounds)
+
+-- tries have taken it here from its begin
+abbrev pub WasBegun : List Part → WholeSearch → Type 0
+WasBegun parts walk = (begun : WholeSearch) × IsBegun begun × IsSearch parts begun × Tried parts begun walk

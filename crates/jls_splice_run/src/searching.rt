@@ -1,0 +1,149 @@
+//! A search that goes on 64 tries at a time, and tells how far it is.
+
+ghost use Rattle.std.specs.Prelude.{◌≡◌, ◌⊎◌, ◌+◌, ◌<◌, ◌≤◌, true, length, min, IfOk, OnOk, OnErr};
+ghost use Rattle.std.specs.List.{AllByRecursion};
+ghost use Rattle.jls_io.specs.Event.{GrewBy};
+ghost use Rattle.jls_io.specs.Writing.{Printed};
+ghost use Rattle.jls_diff.specs.Parts.{AreParts};
+ghost use Rattle.jls_diff.specs.PartsOf.{bytes_of, parts_of};
+ghost use Rattle.jls_search.specs.Choices.{HasSomeWay};
+ghost use Rattle.jls_search.specs.Search.{CameTo, CanGoOn, IsSearch, IsShort, Tried, WereTried, lists_of};
+ghost use Rattle.jls_search.specs.SearchLaws.{AreShort};
+ghost use Rattle.jls_splice_run.specs.Lines.{progress_line};
+ghost use Rattle.jls_splice_run.specs.Telling.{GoesOn, HasTold, IsTold, TellsLine, ToldSome, WasBegun};
+
+use crate::lines::put_progress;
+use crate::options::SearchOptions;
+use jls_diff::{Part, find_parts};
+use jls_io::{Sink, write_all};
+use jls_search::{SearchedCopies, WholeSearch, parts_can_be_searched};
+use std::alloc::{AllocError, Global};
+
+/// After how many tries a search tells how far it is.
+const TRIES_A_LINE: u32 = 64;
+
+/// How many tries there are to be in all when it tells that next.
+fn next_pause(tries: u32, limit: u32) -> u32
+    requires { tries < limit }
+    ensures { result ≡ min (tries + 64) limit }
+{
+    if limit - tries < TRIES_A_LINE {
+        limit
+    } else {
+        tries + TRIES_A_LINE
+    }
+}
+
+/// The line that tells how many tries there were, and how many files were found.
+fn line_of(alloc: Global, tries: u32, files: usize) -> Result<Vec<u8>, AllocError>
+    ensures { IfOk result (λ line. line.items ≡ progress_line tries files) }
+{
+    let mut line = Vec::new(alloc);
+    put_progress(&mut line, tries, files)?;
+    Ok(line)
+}
+
+/// Prints a line. A write that fails ends it, and is ignored.
+fn print_line<E: Sink>(faults: &mut E, line: &[u8])
+    ensures { GrewBy (Printed line.now) (E.history faults.old) (E.history faults.new) }
+{
+    let _ = write_all(faults, line);
+}
+
+/// Tells how far it is, if that is asked for.
+fn tell<E: Sink>(
+    alloc: Global,
+    options: SearchOptions,
+    walk: &WholeSearch,
+    faults: &mut E,
+) -> Result<(), AllocError>
+    ensures told { OnOk result (GrewBy (TellsLine options.tells walk.now.tries (length (lists_of walk.now.splices.items)))
+        (E.history faults.old) (E.history faults.new)) }
+    ensures untold { OnErr result (E.history faults.new ≡ E.history faults.old) }
+{
+    let tells = options.tells;
+    if !tells {
+        return Ok(());
+    }
+    let line = line_of(alloc, walk.tries, walk.splices.len())?;
+    print_line(faults, &line);
+    Ok(())
+}
+
+/// Goes on to the next pause, and tells how far it is there.
+fn go_on<E: Sink>(
+    alloc: Global,
+    parts: &[Part<'_>],
+    options: SearchOptions,
+    walk: &mut WholeSearch,
+    faults: &mut E,
+) -> Result<(), AllocError>
+    requires some_way { AllByRecursion HasSomeWay (parts_of parts.now) }
+    requires short { IsShort (parts_of parts.now) }
+    requires stands { IsSearch (parts_of parts.now) walk.old }
+    requires can { CanGoOn walk.old options.tries }
+    ensures stands { OnOk result (IsSearch (parts_of parts.now) walk.new) }
+    ensures fewer { OnOk result (walk.old.tries < walk.new.tries) }
+    ensures tried { OnOk result (Tried (parts_of parts.now) walk.old walk.new) }
+    ensures told { OnOk result (GrewBy (GoesOn options walk.old walk.new) (E.history faults.old) (E.history faults.new)) }
+    ensures untold { OnErr result (E.history faults.new ≡ E.history faults.old) }
+{
+    let pause = next_pause(walk.tries, options.tries);
+    walk.go_on(alloc, parts, pause)?;
+    tell(alloc, options, walk, faults)
+}
+
+/// Searches the splices of these parts, and tells how far it is.
+fn search_parts<E: Sink>(
+    alloc: Global,
+    parts: &[Part<'_>],
+    options: SearchOptions,
+    faults: &mut E,
+) -> Result<WholeSearch, AllocError>
+    requires some_way { AllByRecursion HasSomeWay (parts_of parts.now) }
+    requires short { IsShort (parts_of parts.now) }
+    ensures stands { IfOk result (λ walk. IsSearch (parts_of parts.now) walk) }
+    ensures stops { IfOk result (λ walk. CanGoOn walk options.tries → ⊥) }
+    ensures tried { IfOk result (λ walk. WasBegun (parts_of parts.now) walk) }
+    ensures told { IfOk result (λ walk. GrewBy (HasTold options walk) (E.history faults.old) (E.history faults.new)) }
+    ensures told_some { OnErr result (GrewBy (ToldSome options.tries options.tells) (E.history faults.old) (E.history faults.new)) }
+{
+    let mut walk = WholeSearch::begin(alloc, parts)?;
+    while walk.can_go_on(options.tries) {
+        go_on(alloc, parts, options, &mut walk, faults)?;
+    }
+    Ok(walk)
+}
+
+/// Finds the parts of copies and searches their splices, with so many tries at most, as `search_copies` of jls_search does. If that is
+/// asked for, it prints a line on how far it is, each time that 64 more were tried, and when it is over. A write that fails is ignored.
+/// `are_short` of jls_search tells whether copies are short enough. `Err` comes where memory is refused.
+pub fn search_and_tell<'a, E: Sink>(
+    alloc: Global,
+    copies: &[&'a [u8]],
+    options: SearchOptions,
+    faults: &mut E,
+) -> Result<SearchedCopies<'a>, AllocError>
+    requires some_copy { 0 < length copies.now }
+    requires short { AreShort (bytes_of copies.now) }
+    ensures parts { IfOk result (λ found. AreParts (bytes_of copies.now) (parts_of found.parts.items)) }
+    ensures searched { IfOk result (λ found.
+        CameTo (parts_of found.parts.items) (lists_of found.searched.splices.items) found.searched.is_used_up) }
+    ensures used_up { IfOk result (λ found. found.searched.is_used_up ≡ true
+        → (found.searched.tries ≡ options.tries) ⊎ (length (lists_of found.searched.splices.items) ≡ 64)) }
+    ensures few { IfOk result (λ found. found.searched.tries ≤ options.tries) }
+    ensures tried { IfOk result (λ found.
+        WereTried (parts_of found.parts.items) found.searched.tries (lists_of found.searched.splices.items)) }
+    ensures told { IfOk result (λ found.
+        GrewBy (IsTold options.tells found.searched.tries (length (lists_of found.searched.splices.items)))
+        (E.history faults.old) (E.history faults.new)) }
+    ensures told_some { OnErr result (GrewBy (ToldSome options.tries options.tells) (E.history faults.old) (E.history faults.new)) }
+{
+    parts_can_be_searched();
+    let parts = find_parts(alloc, copies)?;
+    let walk = search_parts(alloc, &parts, options, faults)?;
+    Ok(SearchedCopies {
+        parts,
+        searched: walk.into_searched(),
+    })
+}

@@ -1,4 +1,0 @@
-mod Numbers
-mod SimpleCommand
-mod WordsRead
-mod WordsTakenExamples

@@ -1,9 +1,0 @@
-use Rattle.std.proofs.Common.{arith}
-use Rattle.jls_splice_words.proofs.Numbers.{number_read, number_refused}
-use Rattle.jls_splice_words.proofs.asked.source_number.Goals as goal
-
-pub returns-in-Ok : goal.returns-in-Ok
-returns-in-Ok c = number_read 0 c.args.value.now c.parse.result c.in-Ok.number c.parse.ensures.value.0 c.in-Ok.is (omega arith)
-
-pub returns-in-Err : goal.returns-in-Err
-returns-in-Err c = number_refused 0 c.args.value.now c.parse.result c.in-Err.field-0 c.parse.ensures.value.0 c.in-Err.is

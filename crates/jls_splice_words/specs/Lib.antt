@@ -1,3 +1,0 @@
--- What the contracts of this crate cite.
-pub mod Asking
-pub mod Words

@@ -1,7 +1,0 @@
-use Rattle.std.proofs.Common.{take}
-use Rattle.std.specs.List.{AllByRecursion}
-use Rattle.jls_splicing.specs.Seen.{IsNotFaultless}
-use Rattle.jls_splicing.proofs.shape_rule.first_faultless.Given as goal
-
-abbrev pub invariant-loop-file : goal.invariant-loop-file
-invariant-loop-file l = AllByRecursion IsNotFaultless (take l.file-index l.seen)

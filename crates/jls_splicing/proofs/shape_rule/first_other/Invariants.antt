@@ -1,7 +1,0 @@
-use Rattle.std.proofs.Common.{take}
-use Rattle.std.specs.List.{AllByRecursion}
-use Rattle.jls_splicing.specs.Seen.{HasOtherFrame}
-use Rattle.jls_splicing.proofs.shape_rule.first_other.Given as goal
-
-abbrev pub invariant-loop-copy : goal.invariant-loop-copy
-invariant-loop-copy l = AllByRecursion (λ file. HasOtherFrame l.shape file → ⊥) (take l.copy l.seen)

@@ -1,2 +1,0 @@
-pub mod HeldFiles
-pub mod SplicedCopies

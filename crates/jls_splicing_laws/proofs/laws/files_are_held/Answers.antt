@@ -1,5 +1,0 @@
-use Rattle.jls_splicing_laws.proofs.HeldFiles.{files_are_held}
-use Rattle.jls_splicing_laws.proofs.laws.files_are_held.Goals as goal
-
-pub returns : goal.returns
-returns c = files_are_held c.collected_copies_are_held.ensures.sources

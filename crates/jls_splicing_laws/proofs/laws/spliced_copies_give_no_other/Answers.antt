@@ -1,5 +1,0 @@
-use Rattle.jls_splicing_laws.proofs.SplicedCopies.{spliced_copies_give_no_other}
-use Rattle.jls_splicing_laws.proofs.laws.spliced_copies_give_no_other.Goals as goal
-
-pub returns : goal.returns
-returns c = spliced_copies_give_no_other c.splices_give_no_other.ensures.searched c.collected_copies_are_held.ensures.sources

@@ -1,4 +1,0 @@
-mod Numbers
-mod SimpleCommand
-pub mod WordsRead
-mod WordsTakenExamples

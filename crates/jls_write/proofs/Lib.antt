@@ -1,0 +1,14 @@
+-- Lemmas of this crate.
+pub mod Columns
+pub mod Handing
+pub mod Lending
+pub mod OneMore
+pub mod Sizes
+pub mod WholePictures
+mod CopiedLines
+mod FileLength
+mod FileHanding
+mod PackedLength
+mod ScanIds
+mod Scans
+mod WrittenFileExamples

@@ -1,0 +1,42 @@
+//! Whole pictures, and the files that they are written as: PNM, and JPEG-LS interval by interval.
+//!
+//! - `picture`: a picture lent from a settled partial picture
+//! - `options`: how it is to be written as JPEG-LS, and which pictures can be
+//! - `pnm`, `pnm_header`, `pixels`, `waiting`: the PNM file. The lines of a row are lent once, and their columns go into a buffer on the
+//!   stack, handed out at 4,096 bytes or more
+//! - `output`: hands bytes to a sink, and counts all that have gone out
+//! - `write`: `write_jls`: the header segments, then each scan, interval by interval
+//! - `headers`: makes SOI and the segments before the scans
+//! - `scan_part`: a scan in work
+//! - `intervals`: copies the lines of an interval, encodes them, and makes what precedes them
+//!
+//! The code of an interval, and the marker or header before it, are both made before either is handed out. So lack of memory never leaves
+//! half of them. The counts in faults have 64 bits. `proofs/PackedLength.antt` bounds the code of an interval by 2^38 bytes, so they can't
+//! overflow.
+//!
+//! Definitions: `Picture`, `WholePictures`, `Unsettled`, `Options`, `Pnm`, `Outcomes`, `WrittenFile`, `Stops`. Inside the crate:
+//! `Waiting`, `Parts`.
+//!
+//! Not proved:
+//!
+//! - That `write_pnm` lends each line once for its row, and how large its writes are. Its code shows both.
+//! - That `write_jls` holds no more than one interval's lines and bytes beside the picture. Its code shows that.
+#![tactic(auto)]
+
+mod headers;
+mod intervals;
+mod options;
+mod output;
+mod picture;
+mod pixels;
+mod pnm;
+mod pnm_header;
+mod scan_part;
+mod waiting;
+mod write;
+
+pub use options::Options;
+pub use output::{OutputFault, write_part};
+pub use picture::{Picture, PictureFault, pictures_are_whole};
+pub use pnm::write_pnm;
+pub use write::write_jls;
