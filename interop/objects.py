@@ -52,14 +52,8 @@ def made():
 
 
 def crate_of(program):
-    """The crate of a program: the one with a main whose name begins with the program's. Of the library it is its own."""
-    if program == LIBRARY:
-        return LIBRARY_CRATE
-    begin = program.replace("-", "_")
-    found = [name for name in libraries() if name.startswith(begin) and os.path.isfile(path("crates", name, "src", "main.rt"))]
-    if len(found) != 1:
-        raise Missing(f"crates.txt names {len(found)} programs that begin with {begin}, and not one")
-    return found[0]
+    """The crate of a program has its name. That of the library is its own."""
+    return LIBRARY_CRATE if program == LIBRARY else program.replace("-", "_")
 
 
 def crates_of(crate):

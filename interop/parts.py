@@ -1,4 +1,4 @@
-"""Where each copy is parted, as `find_parts` of jls_parts says, and whether a file is a splice of these parts.
+"""Where each copy is parted, as `find_parts` of jls_diff says, and whether a file is a splice of these parts.
 
 `jls-splice` prints where the first copy is parted, and not where the others are. So a small program over the crate prints it of all.
 `rt try` builds it from the crate's sources each time, which proves nothing.
@@ -21,7 +21,7 @@ PROGRAM = """\
 //! A part is a line: `same` and a length, or `differ` and a length for each copy. The last line of a group is a full stop.
 #![tactic(auto)]
 
-use jls_parts::{Part, find_parts};
+use jls_diff::{Part, find_parts};
 use std::io;
 use std::io::Read;
 
@@ -73,11 +73,11 @@ fn main(rt: HostRuntime) -> io::Result<()> {
 
 
 def make_crates(folder):
-    """A copy of jls_parts, with one crate more, whose folder it gives."""
+    """A copy of jls_diff, with one crate more, whose folder it gives."""
     for source in ("src", "specs", "proofs"):
-        shutil.copytree(os.path.join(TOP, "crates", "jls_parts", source), os.path.join(folder, "crates", "jls_parts", source))
+        shutil.copytree(os.path.join(TOP, "crates", "jls_diff", source), os.path.join(folder, "crates", "jls_diff", source))
     with open(os.path.join(folder, "crates.txt"), "w") as file:
-        file.write(f"jls_parts:\n{NAME}: jls_parts\n")
+        file.write(f"jls_diff:\n{NAME}: jls_diff\n")
     crate = os.path.join(folder, "crates", NAME)
     os.makedirs(os.path.join(crate, "src"))
     with open(os.path.join(crate, "src", "main.rt"), "w") as file:
@@ -105,7 +105,7 @@ def answers(groups):
         words = ["rt", "try", "--steps", "1", "--cases", cases]
         done = subprocess.run(words, cwd=crate, stdin=subprocess.DEVNULL, stdout=subprocess.PIPE, stderr=subprocess.PIPE, text=True)
     if done.returncode != 0:
-        sys.exit(f"{done.stderr}the program over jls_parts could not be built or run")
+        sys.exit(f"{done.stderr}the program over jls_diff could not be built or run")
     told = [[]]
     for line in done.stdout.splitlines():
         if line == ".":
