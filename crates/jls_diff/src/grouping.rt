@@ -57,7 +57,7 @@ fn first_border(parts: &[Part<'_>]) -> Option<Border>
 }
 
 /// Adds the group that is open, if one is, and that ends there.
-#[tactic(auto, using(crate::proofs::Steps::closed_before, crate::proofs::Steps::closed_now))]
+#[tactic(auto, using(crate::proofs::GroupSteps::closed_before, crate::proofs::GroupSteps::closed_now))]
 fn close(found: &mut Found, end: Option<Border>) -> Result<(), AllocError>
     ensures { OnOk result (IsClosed found.old end found.new) }
 {
