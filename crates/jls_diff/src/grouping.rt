@@ -75,7 +75,7 @@ fn close(found: &mut Found, end: Option<Border>) -> Result<(), AllocError>
 }
 
 /// Goes on over one part.
-#[tactic(auto, using(crate::proofs::Steps::pass_differ, crate::proofs::Steps::pass_same, crate::proofs::Steps::pass_borders))]
+#[tactic(auto, using(crate::proofs::GroupSteps::pass_differ, crate::proofs::GroupSteps::pass_same, crate::proofs::GroupSteps::pass_borders))]
 fn pass(found: &mut Found, parts: &[Part<'_>], part: usize) -> Result<(), AllocError>
     requires within { part < length parts.now }
     requires found { IsFound (parts_of parts.now) part found.old }
@@ -94,7 +94,7 @@ fn pass(found: &mut Found, parts: &[Part<'_>], part: usize) -> Result<(), AllocE
 }
 
 /// What is found in all parts, from the first border on.
-#[tactic(auto, using(crate::proofs::Steps::found_first, crate::proofs::Steps::before_first, crate::proofs::Steps::found_all))]
+#[tactic(auto, using(crate::proofs::GroupSteps::found_first, crate::proofs::GroupSteps::before_first, crate::proofs::GroupSteps::found_all))]
 fn found_in(alloc: Global, parts: &[Part<'_>], first: Border) -> Result<Found, AllocError>
     requires { IsBorder (parts_of parts.now) first }
     ensures { IfOk result (λ found. IsFound (parts_of parts.now) (length parts.now) found) }
@@ -116,7 +116,7 @@ fn found_in(alloc: Global, parts: &[Part<'_>], first: Border) -> Result<Found, A
 /// behind SOS, or where SOS stands in no such part. `Err` comes where memory is refused.
 ///
 /// Which markers are taken is a proposal, as bytes that look like one can stand in a segment. SOS is taken where a scan header follows.
-#[tactic(auto, using(crate::proofs::Steps::are_groups, crate::proofs::Steps::groups_cover))]
+#[tactic(auto, using(crate::proofs::GroupSteps::are_groups, crate::proofs::GroupSteps::groups_cover))]
 pub fn find_groups(alloc: Global, parts: &[Part<'_>]) -> Result<Vec<Group>, AllocError>
     ensures groups { IfOk result (λ groups. AllByRecursion (IsGroup (parts_of parts.now)) groups.items) }
     ensures cover { IfOk result (λ groups. CoverParts (parts_of parts.now) groups.items) }
