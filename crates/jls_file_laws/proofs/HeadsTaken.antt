@@ -1,5 +1,5 @@
 -- The header segments of a written file are taken: each reads as what was meant, and no test of a scan fails.
-use Rattle.std.proofs.Common.{◌≡◌, ℕ, zero, suc, ◌+◌, ◌-◌, ◌*◌, ◌^◌, ◌<◌, ◌≤◌, Bool, true, false, cond, List, [], ◌∷◌, ◌++◌, map, length, get_or, Some, None, Result, Ok, Err, refl, sym, ◌∙◌, ap, append_assoc, arith, inl, inr, length-append}
+use Rattle.std.proofs.Common.{◌≡◌, ℕ, zero, suc, ◌+◌, ◌-◌, ◌*◌, ◌^◌, ◌<◌, ◌≤◌, Bool, true, false, cond, List, [], ◌∷◌, ◌++◌, map, length, get_or, Some, None, Ok, refl, sym, ◌∙◌, ap, append_assoc, arith, inl, inr, length-append}
 use Rattle.std.specs.Prelude.{◌==◌, ◌&&◌, ◌||◌, nat_lt, min, max, is_ok, if◌then◌else◌}
 use Rattle.std.specs.Int.{w32, to_be_bytes}
 use Rattle.std.specs.List.{flat_map, AllByRecursion, list_any, list_all, range_with_len}
@@ -12,7 +12,6 @@ use Rattle.std.proofs.lemmas.Bool.Decides.{nat_tests}
 use Rattle.jls_values.specs.Shape.{PictureShape, has_repeat}
 use Rattle.jls_values.specs.Params.{CodingParameters, AreCodingParameters}
 use Rattle.jls_values.specs.ParamsOf.{or_default, in_force, param_fault, params_of, params_in_range}
-use Rattle.jls_values.specs.declared.params.ParamFault.{ParamFault}
 use Rattle.jls_context.proofs.Sizes.{maxval_small}
 use Rattle.jls_marker.specs.MarkerCodes.{has_segment}
 use Rattle.jls_marker.specs.ComponentIndex.{index_of}
@@ -188,19 +187,14 @@ given p precision i e =
 asked : (p q : CodingParameters) → AreCodingParameters q → p ≡ q → params_in_range p (param_fault p) ≡ Ok q
 asked p q i e = ap (λ (r : CodingParameters). params_in_range r (param_fault r)) e ∙ ap (params_in_range q) (in_range q i)
 
--- the values are those of the parameters that the defaults give
-same_values : (r : Result CodingParameters ParamFault) (p : CodingParameters) → are_values_of r p ≡ true
-    → ((d : CodingParameters) → r ≡ Ok d → d.precision ≡ p.precision) → r ≡ Ok p
-same_values (Err fault) p h precision = absurd cc
-same_values (Ok d) p h precision =
+-- parameters of one precision with the same values are the same
+same_values : (d p : CodingParameters) → are_values_of d p ≡ true → d.precision ≡ p.precision → d ≡ p
+same_values d p h precision =
     let a = and_left _ _ h in let h1 = and_right _ _ h in
     let b = and_left _ _ h1 in let h2 = and_right _ _ h1 in
     let c = and_left _ _ h2 in let h3 = and_right _ _ h2 in
     let e = and_left _ _ h3 in let f = and_right _ _ h3 in
-    ap (λ (q : CodingParameters). Ok q) (params_eq d p (precision d refl) (sym (eqb-true p.maxval d.maxval a)) (sym (eqb-true p.t1 d.t1 b)) (sym (eqb-true p.t2 d.t2 c)) (sym (eqb-true p.t3 d.t3 e)) (sym (eqb-true p.reset d.reset f)))
-
-defaults_precision : (precision : ℕ) (d : CodingParameters) → params_of precision no_presets ≡ Ok d → d.precision ≡ precision
-defaults_precision precision d e = ap (λ (q : CodingParameters). q.precision) (params_there precision no_presets d e).0
+    params_eq d p precision (sym (eqb-true p.maxval d.maxval a)) (sym (eqb-true p.t1 d.t1 b)) (sym (eqb-true p.t2 d.t2 c)) (sym (eqb-true p.t3 d.t3 e)) (sym (eqb-true p.reset d.reset f))
 
 -- what is written of them asks for them
 abbrev written_presets : CodingParameters → Bool → PresetParameters
@@ -210,7 +204,8 @@ written_presets p false = presets_of p
 asks : (shape : PictureShape) (p : CodingParameters) (same : Bool) → AreCodingParameters p → p.precision ≡ shape.precision
     → are_defaults p ≡ same → params_of shape.precision (written_presets p same) ≡ Ok p
 asks shape p true are precision h =
-    ap (λ n. params_of n no_presets) (sym precision) ∙ same_values (params_of p.precision no_presets) p h (λ d e. defaults_precision p.precision d e)
+    ap (λ n. params_of n no_presets) (sym precision)
+    ∙ asked (in_force p.precision no_presets) p are (same_values (in_force p.precision no_presets) p h refl)
 asks shape p false are precision h = asked _ p are (given p shape.precision are precision)
 
 -- ---- steps

@@ -1,5 +1,4 @@
 -- Lemmas of this crate.
-pub mod Defaults
 pub mod Held
 pub mod InTurn
 pub mod InputBytes

@@ -1,6 +1,7 @@
 -- Lemmas of this crate.
 pub mod CopyEnds
 pub mod CopySteps
+pub mod KnownCopies
 pub mod Mapped
 pub mod OneInput
 pub mod CopiesInTurn

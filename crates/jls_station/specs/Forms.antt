@@ -2,6 +2,7 @@
 use Rattle.std.specs.Prelude.{◌≡◌, ℕ, true, List, Option, None, IfSome}
 use Rattle.jls_io.specs.Event.{Event}
 use Rattle.jls_station.specs.Inputs.{IsEnough, ReadsGive}
+use Rattle.jls_station.specs.KnownCopies.{BytesGive}
 use Rattle.jls_station.specs.Reading.{IsRead}
 use Rattle.jls_station.specs.Texts.{is_text}
 use Rattle.jls_station.specs.declared.input.InputForm.{InputForm}
@@ -17,3 +18,8 @@ IsForm source bytes (Copy given) reads = ReadsGive source given reads
 abbrev pub IsAllOf : Option (List ℕ) → List ℕ → InputForm → Type 0
 IsAllOf known bytes Text = IfSome known (λ xs. xs ≡ bytes)
 IsAllOf known bytes (Copy given) = given.copy ≡ None → ⊥
+
+-- a copy of these bytes gives what was read of it; of a text nothing is said
+abbrev pub IsGivenBy : Option ℕ → InputForm → List ℕ → Type 0
+IsGivenBy source Text bytes = Unit {0}
+IsGivenBy source (Copy given) bytes = BytesGive source given.partial given.stop bytes

@@ -3,6 +3,7 @@ pub mod Forms
 pub mod Given
 pub mod InputFaults
 pub mod Inputs
+pub mod KnownCopies
 pub mod Reading
 pub mod TakingCopies
 pub mod Texts

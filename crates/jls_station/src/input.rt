@@ -3,10 +3,11 @@
 ghost use Rattle.std.specs.Prelude.{◌≡◌, ◌↔◌, ◌<◌, ◌≤◌, ℕ, IsTrue, List, Option, None, Some, true, false, length, IfOk, IfErr, IfSome, OnOk, MatchOption};
 ghost use Rattle.std.specs.Io.KnownBytes.{Consumes};
 ghost use Rattle.jls_io.specs.Event.{History, GrewBy};
-ghost use Rattle.jls_station.specs.Forms.{IsForm, IsAllOf};
+ghost use Rattle.jls_station.specs.Forms.{IsForm, IsAllOf, IsGivenBy};
 ghost use Rattle.jls_station.specs.Given.{given_by_text, given_of};
 ghost use Rattle.jls_station.specs.Inputs.{IsEnough, IsCopyDone, ReadsGive, ReadsRefuse};
 ghost use Rattle.jls_station.specs.InputFaults.{input_fault_of};
+ghost use Rattle.jls_station.specs.KnownCopies.{BytesGive};
 ghost use Rattle.jls_station.specs.Reading.{IsRead, ReadSoFar};
 ghost use Rattle.jls_station.specs.Texts.{is_text, IsTextOf};
 ghost use Rattle.jls_station.specs.declared.input.InputFault.TheVariants.{OutOfMemory};
@@ -185,6 +186,8 @@ fn read_copy<S: Source>(
     ensures refused { (before : History) → GrewBy (ReadSoFar IsCopyDone 1 first.now) before (S.history device.old)
         → IfErr result (λ fault. GrewBy (ReadsRefuse fault) before (S.history device.new)) }
     ensures copy { IfOk result (λ given. given.copy ≡ None → ⊥) }
+    ensures known { (before : Option (List ℕ)) → Consumes before (S.remaining device.old) first.now
+        → IfOk result (λ given. IfSome before (BytesGive source given.partial given.stop)) }
 {
     let mut reader = CopyReader::new(alloc);
     reader.feed(first)?;
@@ -214,6 +217,7 @@ pub fn read_form<S: Source>(
     ensures form { IfOk result (λ form. GrewBy (IsForm source text.new.items form) (S.history device.old) (S.history device.new)) }
     ensures refused { IfErr result (λ fault. GrewBy (ReadsRefuse fault) (S.history device.old) (S.history device.new)) }
     ensures known { IfOk result (λ form. IsAllOf (S.remaining device.old) text.new.items form) }
+    ensures known_copy { IfOk result (λ form. IfSome (S.remaining device.old) (IsGivenBy source form)) }
 {
     copies_have_one_course();
     let mut chunk = [0u8; 4096];
@@ -248,6 +252,8 @@ pub fn read_input<S: Source>(
     ensures given { IfOk result (λ given. GrewBy (ReadsGive source given) (S.history device.old) (S.history device.new)) }
     ensures refused { IfErr result (λ fault. GrewBy (ReadsRefuse fault) (S.history device.old) (S.history device.new)) }
     ensures known { IfOk result (λ given. given.copy ≡ None → IfSome (S.remaining device.old) (λ bytes. IsTextOf bytes given.partial)) }
+    ensures known_copy { IfOk result (λ given. (given.copy ≡ None → ⊥)
+        → IfSome (S.remaining device.old) (BytesGive source given.partial given.stop)) }
 {
     let mut text = Vec::new(alloc);
     let form = read_form(alloc, source, device, &mut text)?;

@@ -4,6 +4,7 @@ ghost use Rattle.std.specs.Prelude.{◌≡◌, ◌≤◌, ◌<◌, ◌*◌, ◌�
 ghost use Rattle.std.specs.Io.KnownBytes.{Consumes, IsAtEnd};
 ghost use Rattle.jls_io.specs.Event.{History, GrewBy};
 ghost use Rattle.jls_station.specs.Inputs.{IsEnough, IsCopyDone};
+ghost use Rattle.jls_station.specs.KnownCopies.{IsFrontOf};
 ghost use Rattle.jls_station.specs.Reading.{AreBytes, ReadSoFar, IsRead, IsReadInPart};
 ghost use Rattle.jls_station.specs.Texts.{is_text};
 ghost use Rattle.jls_station.specs.declared.input.ReadStop.TheVariants.{Whole};
@@ -80,6 +81,9 @@ pub(crate) fn read_copy_on<S: Source>(
     ensures refused { (before : History) (fed : List ℕ) → reader.old ≡ Some fed
         → GrewBy (ReadSoFar IsCopyDone made fed) before (S.history device.old)
         → OnErr result (GrewBy (IsReadInPart IsCopyDone) before (S.history device.new)) }
+    ensures known { (before : Option (List ℕ)) (fed : List ℕ) → reader.old ≡ Some fed
+        → Consumes before (S.remaining device.old) fed
+        → IfOk result (λ stop. IsSomeAnd reader.new (λ front. IfSome before (λ bytes. IsFrontOf bytes front stop))) }
 {
     let mut chunk = [0u8; 4096];
     for _ in made..READS {

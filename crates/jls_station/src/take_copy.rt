@@ -1,7 +1,9 @@
 //! Copies that a station takes.
 
-ghost use Rattle.std.specs.Prelude.{IfOk, IfErr};
+ghost use Rattle.std.specs.Prelude.{IfOk, IfErr, IfSome};
 ghost use Rattle.jls_io.specs.Event.{GrewBy};
+ghost use Rattle.jls_partial.specs.Partial.{PartialPicture};
+ghost use Rattle.jls_station.specs.KnownCopies.{BytesGive, TakesBytes, RefusesBytes};
 ghost use Rattle.jls_station.specs.TakingCopies.{IsTakenFor, CopyGives, CopyStops, TakesCopy, RefusesCopy};
 
 use crate::copy_end::{CopyGiven, read_of_copy};
@@ -50,6 +52,9 @@ fn read_from_start<S: Source>(
     ensures given { IfOk result (λ given.
         GrewBy (CopyGives source given.partial given.report) (S.history device.old) (S.history device.new)) }
     ensures refused { IfErr result (λ fault. GrewBy (CopyStops fault) (S.history device.old) (S.history device.new)) }
+    ensures known { IfOk result (λ given. IfSome (S.remaining device.old) (BytesGive source given.partial given.report.stop)) }
+    ensures known_refused { (held : PartialPicture)
+        → IfErr result (λ fault. IfSome (S.remaining device.old) (λ bytes. RefusesBytes source held bytes fault)) }
 {
     let mut reader = CopyReader::new(alloc);
     let stop = read_copy_on(device, &mut reader, 0).map_err(|_| TakeFault::OutOfMemory)?;
@@ -73,6 +78,11 @@ impl Station {
             GrewBy (TakesCopy source self.old self.new report) (S.history device.old) (S.history device.new)) }
         ensures refused { IfErr result (λ fault.
             GrewBy (RefusesCopy source self.old self.new fault) (S.history device.old) (S.history device.new)) }
+        // Where the bytes of the source are known.
+        ensures known { IfOk result (λ report.
+            IfSome (S.remaining device.old) (TakesBytes source self.old self.new report.stop)) }
+        ensures known_refused { IfErr result (λ fault.
+            IfSome (S.remaining device.old) (λ bytes. RefusesBytes source self.old bytes fault)) }
     {
         let given = read_from_start(self.allocator(), source, device)?;
         match self.take(&given.partial) {

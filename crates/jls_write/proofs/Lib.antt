@@ -6,6 +6,7 @@ pub mod OneMore
 pub mod Sizes
 pub mod WholePictures
 mod CopiedLines
+pub mod Defaults
 mod FileLength
 mod FileHanding
 mod PackedLength

@@ -1,13 +1,12 @@
 -- The JPEG-LS file of a picture under given options (T.81 B.2.1 and B.2.2, T.87 C.1 and C.2): SOI, the header segments, the scans, EOI.
 -- That LSE and DRI stand only where they say something, that components without interleaving have a scan each, and that nothing else is
 -- written, no fill either, is this profile's choice.
-use Rattle.std.specs.Prelude.{ℕ, ◌+◌, ◌-◌, ◌%◌, Bool, false, ◌&&◌, ◌==◌, nat_lt, if◌then◌else◌, List, [], ◌∷◌}
-use Rattle.std.specs.Prelude.{◌++◌, map, length, get_or, Result, Ok, Err}
+use Rattle.std.specs.Prelude.{ℕ, ◌+◌, ◌-◌, ◌%◌, Bool, ◌&&◌, ◌==◌, nat_lt, if◌then◌else◌, List, [], ◌∷◌}
+use Rattle.std.specs.Prelude.{◌++◌, map, length, get_or}
 use Rattle.std.specs.List.{flat_map, range_with_len}
 use Rattle.jls_values.specs.Params.{CodingParameters}
-use Rattle.jls_values.specs.ParamsOf.{params_of}
+use Rattle.jls_values.specs.ParamsOf.{in_force}
 use Rattle.jls_values.specs.PresetParameters.{no_presets}
-use Rattle.jls_values.specs.declared.params.ParamFault.{ParamFault}
 use Rattle.jls_interval.specs.Reads.{packed}
 use Rattle.jls_marker.specs.Scan.{Scan, scan_with, intervals, first_row, row_count}
 use Rattle.jls_marker.specs.Written.{segment_bytes, payload_of, code_of}
@@ -22,14 +21,13 @@ use Rattle.jls_write.specs.Options.{WriteOptions}
 abbrev pub bytes_of : Segment → List ℕ
 bytes_of s = segment_bytes (code_of s) (payload_of s)
 
--- whether MAXVAL, the thresholds and RESET are those of other parameters, if there are such
-abbrev pub are_values_of : Result CodingParameters ParamFault → CodingParameters → Bool
-are_values_of (Ok d) p = (p.maxval == d.maxval) && ((p.t1 == d.t1) && ((p.t2 == d.t2) && ((p.t3 == d.t3) && (p.reset == d.reset))))
-are_values_of (Err fault) p = false
+-- whether MAXVAL, the thresholds and RESET are those of other parameters
+abbrev pub are_values_of : CodingParameters → CodingParameters → Bool
+are_values_of d p = (p.maxval == d.maxval) && ((p.t1 == d.t1) && ((p.t2 == d.t2) && ((p.t3 == d.t3) && (p.reset == d.reset))))
 
--- whether they are the defaults of the precision (T.87 C.2.4.1.1). If `params_of` has a fault there, they are not, whichever fault it is
+-- whether they are the defaults of the precision (T.87 C.2.4.1.1)
 abbrev pub are_defaults : CodingParameters → Bool
-are_defaults p = are_values_of (params_of p.precision no_presets) p
+are_defaults p = are_values_of (in_force p.precision no_presets) p
 
 -- LSE of ID 1 with the values in force, if they aren't all defaults (T.87 C.2.4.1.1)
 abbrev pub preset_segments : CodingParameters → List Segment

@@ -16,20 +16,25 @@ use std::alloc::{AllocError, Global};
 /// SOI, SOF55 without its components, LSE and DRI have so many bytes at most.
 const BYTES_BESIDE_COMPONENTS: usize = 35;
 
+/// Whether MAXVAL, the thresholds and RESET are those of the other parameters.
+fn same_values(params: &Params, defaults: &Params) -> bool
+    ensures { result ≡ spec.are_values_of defaults.now params.now }
+{
+    params.maxval() == defaults.maxval()
+        && params.t1() == defaults.t1()
+        && params.t2() == defaults.t2()
+        && params.t3() == defaults.t3()
+        && params.reset() == defaults.reset()
+}
+
 /// Whether the parameters are the defaults of their precision.
 fn are_defaults(params: &Params) -> bool
     ensures value { result ≡ spec.are_defaults params.now }
     ensures ranges { AreCodingParameters params.now }
 {
     match Params::new(params.precision(), 0, 0, 0, 0, 0) {
-        Err(_) => false,
-        Ok(defaults) => {
-            params.maxval() == defaults.maxval()
-                && params.t1() == defaults.t1()
-                && params.t2() == defaults.t2()
-                && params.t3() == defaults.t3()
-                && params.reset() == defaults.reset()
-        }
+        Err(_) => unreachable!(),
+        Ok(defaults) => same_values(params, &defaults),
     }
 }
 

@@ -1,5 +1,5 @@
 use Rattle.std.proofs.Common.{◌∙◌, arith}
-use Rattle.jls_salvage_run.proofs.Defaults.{defaults_are, never_both}
+use Rattle.jls_write.proofs.Defaults.{defaults_are, never_both}
 use Rattle.jls_salvage_run.proofs.writing.jls_options.Goals as goal
 
 pub unreachable-requires : goal.unreachable-requires

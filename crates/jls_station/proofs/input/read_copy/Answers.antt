@@ -1,8 +1,12 @@
-use Rattle.std.proofs.Common.{◌≡◌, ℕ, List, Option, Some, ap, ◌∙◌, arith}
+use Rattle.std.proofs.Common.{◌≡◌, ℕ, List, Option, Some, ap, sym, subst, ◌∙◌, arith}
+use Rattle.std.specs.Prelude.{IfSome}
 use Rattle.std.proofs.lemmas.Result.{err_from_is_err_and}
 use Rattle.jls_copy.specs.ReadCopy.{after}
+use Rattle.jls_station.specs.Given.{Given}
 use Rattle.jls_station.specs.Inputs.{IsCopyDone}
+use Rattle.jls_station.specs.KnownCopies.{BytesGive}
 use Rattle.jls_station.proofs.CopyEnds.{copy_gives, copy_refused}
+use Rattle.jls_station.proofs.KnownCopies.{known_copy_gives}
 use Rattle.jls_station.proofs.OneInput.{out_of_memory_in_part, part_of_input, read_in_part}
 use Rattle.jls_station.proofs.input.read_copy.Goals as goal
 
@@ -36,3 +40,12 @@ returns-in_err-given-clause-refused g c before h =
     let p = err_from_is_err_and c.from_residual-in_err-given.result c.from_residual-in_err-given.ensures.1 in
     rw (p.1, p.2) (copy_refused c.args.source first c.in_ok-stop.stop before (g.S.Device.history c.read_copy_on.new.device) c.requires.no_text c.read_copy_on.new.reader c.in_err-given.field-0.0
     (e.begins first fed c.requires.some) (e.read before first fed h) c.in_err-given.ensures.refused)
+
+pub returns-clause-known : goal.returns-clause-known
+returns-clause-known g c before h =
+    let first = c.args.first.now in
+    let fed : c.feed.new.self ≡ Some first = c.in_ok-feed.ensures.ok ∙ ap (λ (o : Option (List ℕ)). after o first) c.new-reader.ensures in
+    let given = c.in_ok-given.given in
+    subst (λ (x : Given). IfSome before (BytesGive c.args.source x.partial x.stop)) (sym c.of_copy.ensures)
+    (known_copy_gives c.args.source c.in_ok-stop.stop before c.read_copy_on.new.reader given.partial given.report
+    (c.in_ok-stop.ensures.known before first fed h) c.in_ok-given.ensures.given)

@@ -1,10 +1,11 @@
 use Rattle.std.proofs.Common.{rules, List, ℕ, Result, subst, sym}
+use Rattle.std.specs.Prelude.{IfSome}
 use Rattle.std.proofs.lemmas.Result.{IfOk-at_ok, err_from_is_err_and}
 use Rattle.jls_partial.specs.Partial.{PartialPicture}
 use Rattle.jls_partial.specs.TextReading.{GivesText, read_text}
 use Rattle.jls_partial.specs.declared.text_fault.TextFault.{TextFault}
 use Rattle.jls_io.specs.Event.{GrewBy}
-use Rattle.jls_station.specs.Forms.{IsForm}
+use Rattle.jls_station.specs.Forms.{IsForm, IsGivenBy}
 use Rattle.jls_station.specs.Given.{Given}
 use Rattle.jls_station.specs.Inputs.{ReadsGive}
 use Rattle.jls_station.specs.InputFaults.{input_fault_of}
@@ -37,3 +38,7 @@ returns-in-Text-clause-given g c =
     let found = IfOk-at_ok _ was c.from_bytes.ensures.found in
     subst (λ (x : Given). GrewBy (ReadsGive c.args.source x) old new) (sym c.of_text.ensures)
     (text_gives c.args.source old new bytes form partial (subst (λ (t : List ℕ). IsTextOf t partial) c.deref.ensures.value found))
+
+pub returns-clause-known_copy : goal.returns-clause-known_copy
+returns-clause-known_copy g c copied =
+    subst (λ (f : InputForm). IfSome (g.S.Source.remaining c.args.device.now) (IsGivenBy c.args.source f)) c.in-Copy.is c.in_ok-form.ensures.known_copy

@@ -4,4 +4,5 @@ use Rattle.jls_station.proofs.reading.read_copy_on.Given as goal
 abbrev pub invariant-loop : goal.invariant-loop
 invariant-loop g l =
     let history = g.S.Device.history in
-    CopySoFar l.fn.reader l.reader l.made l.counter (history l.fn.device) (history l.device)
+    let remaining = g.S.Source.remaining in
+    CopySoFar l.fn.reader l.reader l.made l.counter (history l.fn.device) (history l.device) (remaining l.fn.device) (remaining l.device)

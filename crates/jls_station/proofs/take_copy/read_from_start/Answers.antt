@@ -6,8 +6,9 @@ use Rattle.jls_station.specs.Reading.{IsReadInPart}
 use Rattle.jls_station.specs.TakingCopies.{CopyStops, between_reads}
 use Rattle.jls_station.specs.declared.take_copy.TakeFault.TheVariants as take
 use Rattle.jls_station.proofs.CopyEnds.{is_taken, whole_copy_gives, whole_copy_stops}
+use Rattle.jls_station.proofs.KnownCopies.{known_copy_gives, known_copy_stops, ran_out}
 use Rattle.jls_station.proofs.Mapped.{error_as, error_at, value_at, value_so}
-use Rattle.jls_station.proofs.OneInput.{nothing_read}
+use Rattle.jls_station.proofs.OneInput.{nothing_read, consumes_nothing}
 use Rattle.jls_station.proofs.take_copy.read_from_start.Goals as goal
 
 pub returns-in_err-stop-clause-refused : goal.returns-in_err-stop-clause-refused
@@ -44,4 +45,29 @@ returns-clause-refused g c =
     let read = IfOk-at_ok _ was (c.read_copy_on.ensures.read old [] c.new-reader.ensures (nothing_read IsCopyDone 0 old old old [])) in
     error_as _ c.read_of_copy.result c.map_err-2.result _ _
     (λ fault taken made h. whole_copy_stops c.args.source c.in_ok-stop.stop old new c.read_copy_on.new.reader fault taken read h (search rules))
+    c.map_err-2.ensures.cases c.read_of_copy.ensures.refused
+
+pub returns-in_err-stop-clause-known_refused : goal.returns-in_err-stop-clause-known_refused
+returns-in_err-stop-clause-known_refused g c held =
+    let before = g.S.Source.remaining c.args.device.now in
+    let made = error_at _ (λ _. take.OutOfMemory) (λ e r made. search rules) c.read_copy_on.result c.map_err.result c.in_err-stop.field-0.0 c.map_err.ensures.cases c.in_err-stop.was in
+    let p = err_from_is_err_and c.from_residual.result c.from_residual.ensures.1 in
+    rw (p.1, p.2, made.1) (ran_out c.args.source held before)
+
+pub returns-clause-known : goal.returns-clause-known
+returns-clause-known g c =
+    let before = g.S.Source.remaining c.args.device.now in
+    let was = value_at _ c.read_copy_on.result c.map_err.result c.in_ok-stop.stop c.map_err.ensures.cases c.in_ok-stop.was in
+    let front = IfOk-at_ok _ was (c.read_copy_on.ensures.known before [] c.new-reader.ensures (consumes_nothing before)) in
+    value_so _ c.read_of_copy.result c.map_err-2.result _ _
+    (λ given h. known_copy_gives c.args.source c.in_ok-stop.stop before c.read_copy_on.new.reader given.partial given.report front h)
+    c.map_err-2.ensures.cases c.read_of_copy.ensures.given
+
+pub returns-clause-known_refused : goal.returns-clause-known_refused
+returns-clause-known_refused g c held =
+    let before = g.S.Source.remaining c.args.device.now in
+    let was = value_at _ c.read_copy_on.result c.map_err.result c.in_ok-stop.stop c.map_err.ensures.cases c.in_ok-stop.was in
+    let front = IfOk-at_ok _ was (c.read_copy_on.ensures.known before [] c.new-reader.ensures (consumes_nothing before)) in
+    error_as _ c.read_of_copy.result c.map_err-2.result _ _
+    (λ fault taken made h. known_copy_stops c.args.source held c.in_ok-stop.stop before c.read_copy_on.new.reader fault taken front h (search rules))
     c.map_err-2.ensures.cases c.read_of_copy.ensures.refused

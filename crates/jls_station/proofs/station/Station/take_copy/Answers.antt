@@ -5,8 +5,10 @@ use Rattle.jls_values.specs.declared.merge.MergeFault.TheVariants as merge
 use Rattle.jls_partial.specs.Partial.{PartialPicture, has_same_shape}
 use Rattle.jls_io.specs.Event.{GrewBy}
 use Rattle.jls_io.proofs.Growing.{grew_as}
+use Rattle.jls_station.specs.KnownCopies.{BytesGive, TakesBytes, RefusesBytes}
 use Rattle.jls_station.specs.TakingCopies.{CopyGives, CopyStops, TakesCopy, RefusesCopy, gives_none, other_shape, no_memory}
 use Rattle.jls_station.specs.declared.take_copy.TakeFault.TheVariants as take
+use Rattle.jls_station.proofs.KnownCopies.{some_then, ran_out}
 use Rattle.jls_station.proofs.station.Station.take_copy.Goals as goal
 
 not_false : (b : Bool) → (b ≡ false → ⊥) → b ≡ true
@@ -50,3 +52,24 @@ returns-clause-taken g c =
     let given = c.in_ok-given.given in
     grew_as (CopyGives c.args.source given.partial given.report) (TakesCopy c.args.source c.args.self.now c.take.new.self given.report) (history c.args.device.now) (history c.read_from_start.new.device)
     (λ reads h. record { given = given.partial; gives = h; one_shape = c.in-Ok.ensures.ok_same_shape; union_is = c.in-Ok.ensures.ok }) c.in_ok-given.ensures.given
+
+pub returns-in_err-given-clause-known_refused : goal.returns-in_err-given-clause-known_refused
+returns-in_err-given-clause-known_refused g c =
+    let p = err_from_is_err_and c.from_residual.result c.from_residual.ensures.1 in
+    rw (p.1, p.2) (c.in_err-given.ensures.known_refused c.args.self.now)
+
+pub returns-in-Err-ShapeDiffers-clause-known_refused : goal.returns-in-Err-ShapeDiffers-clause-known_refused
+returns-in-Err-ShapeDiffers-clause-known_refused g c =
+    let given = c.in_ok-given.given in
+    let is = ap (λ e. Err e) c.in-Err-ShapeDiffers.field-0-is in
+    some_then (g.S.Source.remaining c.args.device.now) (BytesGive c.args.source given.partial given.report.stop) (λ bytes. RefusesBytes c.args.source c.args.self.now bytes take.ShapeDiffers)
+    (λ bytes b. (given.partial, given.report.stop, b, c.in-Err-ShapeDiffers.ensures.shape_differs.0 is)) c.in_ok-given.ensures.known
+
+pub returns-in-Err-OutOfMemory-clause-known_refused : goal.returns-in-Err-OutOfMemory-clause-known_refused
+returns-in-Err-OutOfMemory-clause-known_refused g c = ran_out c.args.source c.args.self.now (g.S.Source.remaining c.args.device.now)
+
+pub returns-clause-known : goal.returns-clause-known
+returns-clause-known g c =
+    let given = c.in_ok-given.given in
+    some_then (g.S.Source.remaining c.args.device.now) (BytesGive c.args.source given.partial given.report.stop) (TakesBytes c.args.source c.args.self.now c.take.new.self given.report.stop)
+    (λ bytes b. record { given = given.partial; gives = b; one_shape = c.in-Ok.ensures.ok_same_shape; union_is = c.in-Ok.ensures.ok }) c.in_ok-given.ensures.known

@@ -43,3 +43,7 @@ defaults_are p low high =
 pub never_both : (r : Result CodingParameters ParamFault) (p : CodingParameters) (f : ParamFault) → r ≡ Ok p → r ≡ Err f → ⊥
 never_both (Ok q) p f d e = absurd cc
 never_both (Err g) p f d e = absurd cc
+
+-- and it is one value
+pub one_value : (r : Result CodingParameters ParamFault) (p q : CodingParameters) → r ≡ Ok p → r ≡ Ok q → p ≡ q
+one_value r p q d e = let same : Ok p ≡ Ok q = sym d ∙ e in cc

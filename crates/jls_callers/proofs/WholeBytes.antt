@@ -1,0 +1,61 @@
+-- What is said of the front of a copy, and what follows for the whole.
+use Rattle.std.proofs.Common.{◌≡◌, ◌⊎◌, inl, inr, ℕ, List, [], ◌++◌, append-nil, Option, Some, None, true, refl, sym, ap, ◌∙◌, subst}
+use Rattle.jls_partial.specs.Partial.{PartialPicture, has_same_shape}
+use Rattle.jls_copy.specs.Course.{Course}
+use Rattle.jls_copy.specs.CourseLaws.{OneCourse}
+use Rattle.jls_copy.specs.CopyLaws.{FinalEndsStay}
+use Rattle.jls_copy.specs.CopyReads.{CopyReads, CopyGivesNone, is_final_end}
+use Rattle.jls_copy.specs.ReadCopy.{ReadCopy}
+use Rattle.jls_copy.specs.declared.reader.CopyFault.TheVariants as copy
+use Rattle.jls_marker.specs.declared.fault.MarkerFault.{MarkerFault}
+use Rattle.jls_station.specs.Given.{marked}
+use Rattle.jls_station.specs.Inputs.{IsCopyDone}
+use Rattle.jls_station.specs.KnownCopies.{IsFrontOf}
+use Rattle.jls_station.specs.declared.input.ReadStop.TheVariants.{Whole}
+
+-- a source or none changes no shape
+pub shape_kept : (source : Option ℕ) (old p : PartialPicture) → has_same_shape old (marked source p) ≡ has_same_shape old p
+shape_kept None old p = refl
+shape_kept (Some source) old p = refl
+
+module _ (one : OneCourse) (stay : FinalEndsStay) where
+  all_read : (front behind : List ℕ) (read : ReadCopy) → IsCopyDone front ⊎ (behind ≡ []) → CopyReads front read
+      → CopyReads (front ++ behind) read
+  all_read front behind read (inr none) h =
+      subst (λ (t : List ℕ). CopyReads t read) (sym (append-nil front) ∙ ap (λ (t : List ℕ). front ++ t) (sym none)) h
+  all_read front behind read (inl (c, is, final)) h =
+      let same : c ≡ h.course = one front c h.course is h.is_course in
+      let ends : is_final_end h.course.end ≡ true = ap (λ (x : Course). is_final_end x.end) (sym same) ∙ sym final in
+      record {
+        course = h.course;
+        is_course = stay front behind h.course h.is_course ends;
+        shape = h.shape;
+        framed = h.framed;
+        outcomes = h.outcomes;
+        each = h.each;
+        head = h.head;
+        head_is = h.head_is;
+        partial_is = h.partial_is;
+        pieces_are = h.pieces_are;
+        count_is = h.count_is;
+        ended_is = h.ended_is;
+      }
+
+  none_given : (front behind : List ℕ) (f : MarkerFault) (offset : ℕ) → IsCopyDone front ⊎ (behind ≡ [])
+      → CopyGivesNone front (copy.NoPicture f offset) → CopyGivesNone (front ++ behind) (copy.NoPicture f offset)
+  none_given front behind f offset (inr none) h =
+      subst (λ (t : List ℕ). CopyGivesNone t (copy.NoPicture f offset)) (sym (append-nil front) ∙ ap (λ (t : List ℕ). front ++ t) (sym none)) h
+  none_given front behind f offset (inl (c, is, final)) (d, is_course, framed, fault_is) =
+      let same : c ≡ d = one front c d is is_course in
+      let ends : is_final_end d.end ≡ true = ap (λ (x : Course). is_final_end x.end) (sym same) ∙ sym final in
+      (d, stay front behind d is_course ends, framed, fault_is)
+
+  -- what was read of known bytes as whole is what all of them give
+  pub whole_reads : (bytes front : List ℕ) (read : ReadCopy) → IsFrontOf bytes front Whole → CopyReads front read → CopyReads bytes read
+  whole_reads bytes front read is h =
+      subst (λ (t : List ℕ). CopyReads t read) (sym is.bytes_are) (all_read front is.behind read (is.enough refl) h)
+
+  pub whole_gives_none : (bytes front : List ℕ) (f : MarkerFault) (offset : ℕ) → IsFrontOf bytes front Whole
+      → CopyGivesNone front (copy.NoPicture f offset) → CopyGivesNone bytes (copy.NoPicture f offset)
+  whole_gives_none bytes front f offset is h =
+      subst (λ (t : List ℕ). CopyGivesNone t (copy.NoPicture f offset)) (sym is.bytes_are) (none_given front is.behind f offset (is.enough refl) h)
