@@ -7,6 +7,11 @@
     picture.array()                 # numpy: (height, width), or (height, width, components)
 
 `check` tells the same without the samples. A copy without a frame raises `NoPicture`.
+
+    first, second = jls_salvage.partial(one, 1), jls_salvage.partial(other, 2)
+    jls_salvage.lines(jls_salvage.join(first, second))   # what both copies give together
+
+A partial picture is the bytes of a .jlsp file. One that is damaged raises `NoPartial`, and two of different shapes raise `ShapesDiffer`.
 """
 from ._library import (
     BEYOND,
@@ -19,10 +24,15 @@ from ._library import (
     Error,
     Info,
     MissingLibrary,
+    NoPartial,
     NoPicture,
     Picture,
     Piece,
+    ShapesDiffer,
     check,
+    join,
+    lines,
+    partial,
     read,
 )
 
@@ -37,9 +47,14 @@ __all__ = [
     "Error",
     "Info",
     "MissingLibrary",
+    "NoPartial",
     "NoPicture",
     "Picture",
     "Piece",
+    "ShapesDiffer",
     "check",
+    "join",
+    "lines",
+    "partial",
     "read",
 ]

@@ -8,11 +8,11 @@ import enum
 import functools
 import os
 from dataclasses import dataclass
-from typing import Any, List, Optional, Sequence, Union
+from typing import Any, Callable, List, Optional, Sequence, Union
 
 Bytes = Union[bytes, bytearray, memoryview]
 
-DONE, OUT_OF_MEMORY, NO_PICTURE, SHORT_ROOM = range(4)
+DONE, OUT_OF_MEMORY, NO_PICTURE, SHORT_ROOM, NO_PARTIAL, NO_SECOND_PARTIAL, SHAPES_DIFFER = range(7)
 
 #: The statuses of a line: it has no reading, one, or several that differ.
 MISSING, SETTLED, DISPUTED = range(3)
@@ -24,7 +24,9 @@ FAULTS = (
     "none", "bad length", "bad shape", "a component is subsampled", "no frame", "a second frame", "not lossless",
     "interleave mode not supported", "a mapping table", "a point transform", "unknown component", "a component stands twice",
     "preset parameters out of range", "unknown kind of preset parameters", "unknown marker", "a restart interval is too large",
-    "too many scans", "no marker", "no start of image", "the input ends too early",
+    "too many scans", "no marker", "no start of image", "the input ends too early", "no partial picture, or of an unknown version",
+    "a shape that no picture has", "it ends too early", "a line out of place", "a line without a reading", "readings out of order",
+    "a sample is too large", "bytes after the last line",
 )  # fmt: skip
 
 MOST_PIECES = 4096
@@ -46,6 +48,21 @@ class NoPicture(Error, ValueError):
         self.fault, self.offset = fault, offset
 
 
+class NoPartial(Error, ValueError):
+    """Bytes are no partial picture. `fault` is their first fault in words, and `offset` the place of it."""
+
+    def __init__(self, fault: str, offset: int) -> None:
+        super().__init__(f"no partial picture: {fault} at offset {offset}")
+        self.fault, self.offset = fault, offset
+
+
+class ShapesDiffer(Error, ValueError):
+    """Two partial pictures have different shapes, and so can't be joined."""
+
+    def __init__(self) -> None:
+        super().__init__("the shapes differ")
+
+
 class End(enum.IntEnum):
     """Where a copy ends: at the marker EOI, with the input, or at the first fault of its headers."""
 
@@ -54,9 +71,12 @@ class End(enum.IntEnum):
     HEADER = 2
 
 
+_LONG = ("samples", "bytes", "faulty_pieces", "end_offset", "lines", "missing", "settled", "disputed")
+
+
 class _Info(ctypes.Structure):
     _fields_ = [
-        *((name, ctypes.c_uint64) for name in ("samples", "faulty_pieces", "end_offset", "lines", "missing", "settled", "disputed")),
+        *((name, ctypes.c_uint64) for name in _LONG),
         *((name, ctypes.c_uint16) for name in ("width", "height")),
         *((name, ctypes.c_uint8) for name in ("precision", "components", "end", "fault")),
     ]
@@ -64,6 +84,10 @@ class _Info(ctypes.Structure):
 
 class _Piece(ctypes.Structure):
     _fields_ = [("offset", ctypes.c_uint64), ("interval", ctypes.c_uint32), ("scan", ctypes.c_uint8), ("kind", ctypes.c_uint8)]
+
+
+class _Line(ctypes.Structure):
+    _fields_ = [("readings", ctypes.c_uint64), ("status", ctypes.c_uint8)]
 
 
 @dataclass(frozen=True)
@@ -78,7 +102,7 @@ class Piece:
 
 @dataclass(frozen=True)
 class Info:
-    """What a copy says of its picture, how many lines it gives, and how it ended."""
+    """What a copy says of its picture, how many lines it gives, and how it ended. Of a partial picture the same, but no end."""
 
     width: int
     height: int
@@ -97,12 +121,14 @@ class Info:
 
 @dataclass(frozen=True)
 class Picture:
-    """The lines of a copy: `statuses` has a byte for each, and `samples` a number of 16 bits for each sample. Line y of component c is
-    number c * height + y. The samples of a line that is missing or disputed are zeros."""
+    """The lines of a copy or of a partial picture: `statuses` has a byte for each, and `samples` a number of 16 bits for each sample. Line
+    y of component c is number c * height + y. The samples of a line that is missing or disputed are zeros. Of a partial picture
+    `readings` has how many readings each line has."""
 
     info: Info
     statuses: bytearray
     samples: Any
+    readings: Sequence[int] = ()
 
     def number(self, component: int, line: int) -> int:
         """The number of a line among all."""
@@ -146,7 +172,11 @@ def _library() -> ctypes.CDLL:
     size, info, nothing = ctypes.c_size_t, ctypes.POINTER(_Info), ctypes.c_void_p
     library.jls_check.argtypes = [nothing, size, info, ctypes.POINTER(_Piece), size]
     library.jls_read.argtypes = [nothing, size, info, nothing, size, nothing, size]
-    library.jls_check.restype = library.jls_read.restype = ctypes.c_uint32
+    library.jls_partial.argtypes = [nothing, size, ctypes.c_uint32, info, nothing, size]
+    library.jls_join.argtypes = [nothing, size, nothing, size, info, nothing, size]
+    library.jls_lines.argtypes = [nothing, size, info, nothing, size, ctypes.POINTER(_Line), size]
+    for function in (library.jls_check, library.jls_read, library.jls_partial, library.jls_join, library.jls_lines):
+        function.restype = ctypes.c_uint32
     return library
 
 
@@ -168,6 +198,10 @@ def _judge(answer: int, found: _Info) -> None:
         raise MemoryError("libjls_salvage: out of memory")
     if answer == NO_PICTURE:
         raise NoPicture(FAULTS[found.fault], found.end_offset)
+    if answer in (NO_PARTIAL, NO_SECOND_PARTIAL):
+        raise NoPartial(FAULTS[found.fault], found.end_offset)
+    if answer == SHAPES_DIFFER:
+        raise ShapesDiffer
 
 
 def _checked(copy: bytes, room: int) -> tuple:
@@ -228,3 +262,54 @@ def read(copy: Bytes) -> Picture:
     if answer != DONE:
         raise Error(f"libjls_salvage: answer {answer}")
     return Picture(_info(found), statuses, samples)
+
+
+def _written(call: Callable[[Any, int, int], int], found: _Info, room: int) -> bytes:
+    """What a function writes that takes an address and the length of its room: where that is too short, it says what is needed."""
+    while True:
+        out = (ctypes.c_uint8 * room)()
+        answer = call(ctypes.byref(found), ctypes.addressof(out), room)
+        _judge(answer, found)
+        if answer == DONE:
+            return ctypes.string_at(out, found.bytes)
+        if found.bytes <= room:
+            raise Error(f"libjls_salvage: answer {answer}")
+        room = found.bytes
+
+
+def partial(copy: Bytes, source: int) -> bytes:
+    """Reads a copy, which may be damaged, and gives it as a partial picture: the bytes of a .jlsp file. `source` is a number of 32 bits for
+    the copy. Raises `NoPicture` where there is no frame, and MemoryError."""
+    if not 0 <= source < 2**32:
+        raise ValueError("a source has 32 bits")
+    copy, found = _view(copy), _Info()
+    count, lines = _likely_room(copy)
+    room = 2 * count + 31 * lines + 64
+    return _written(lambda info, out, size: _library().jls_partial(copy, len(copy), source, info, out, size), found, room)
+
+
+def _joined(first: bytes, second: bytes) -> bytes:
+    room = len(first) + len(second)
+    return _written(
+        lambda info, out, size: _library().jls_join(first, len(first), second, len(second), info, out, size), _Info(), room
+    )
+
+
+def join(first: Bytes, *others: Bytes) -> bytes:
+    """Joins partial pictures of one shape to one that has the readings of all. Their order doesn't matter. Raises `NoPartial` where one is
+    damaged, `ShapesDiffer`, and MemoryError."""
+    return functools.reduce(_joined, map(_view, others or (first,)), _view(first))
+
+
+def lines(partial: Bytes) -> Picture:
+    """Shows the lines of a partial picture. Raises `NoPartial` where it is damaged, and MemoryError."""
+    partial, found = _view(partial), _Info()
+    room, (samples, address) = (_Line * 0)(), _room(0)
+    while True:
+        answer = _library().jls_lines(partial, len(partial), ctypes.byref(found), address, len(samples), room, len(room))
+        _judge(answer, found)
+        if answer == DONE:
+            return Picture(_info(found), bytearray(it.status for it in room), samples, [it.readings for it in room])
+        if found.samples <= len(samples) and found.lines <= len(room):
+            raise Error(f"libjls_salvage: answer {answer}")
+        room, (samples, address) = (_Line * found.lines)(), _room(found.samples)

@@ -3,3 +3,4 @@ pub mod Shown
 pub mod Sizes
 pub mod Told
 pub mod Fitting
+pub mod Texts

@@ -74,7 +74,7 @@ length_rows_more f w k row long is wide =
     both ∙ all
 
 -- one number more, for lists of one element each
-pub numbers_more : (f : ℕ → ℕ) (n : ℕ) → map f (range_with_len 0 (n + 1)) ≡ map f (range_with_len 0 n) ++ f n ∷ []
+pub numbers_more : {X : Type 0} (f : ℕ → X) (n : ℕ) → map f (range_with_len 0 (n + 1)) ≡ map f (range_with_len 0 n) ++ f n ∷ []
 numbers_more f n = map-range_with_len_more f 0 n n (zero-add n)
 
 -- what is written to the front of a list leaves the rest
@@ -93,7 +93,7 @@ pub few_taken : {X Y : Type 0} (f : X → Y) (n : ℕ) (xs : List X) → length 
 few_taken f n xs = let long = length-map (take n xs) f in let few = length-take n xs in omega (arith, long, few)
 
 -- a number more, put behind those before it
-pub numbers_pushed : (f : ℕ → ℕ) (k : ℕ) (before new : List ℕ) (x : ℕ) → new ≡ (before ++ map f (range_with_len 0 k)) ++ x ∷ []
+pub numbers_pushed : {X : Type 0} (f : ℕ → X) (k : ℕ) (before new : List X) (x : X) → new ≡ (before ++ map f (range_with_len 0 k)) ++ x ∷ []
     → x ≡ f k → new ≡ before ++ map f (range_with_len 0 (k + 1))
 numbers_pushed f k before new x put is =
     put ∙ (append_assoc before (map f (range_with_len 0 k)) (x ∷ []) ∙ (ap (λ z. before ++ (map f (range_with_len 0 k) ++ z ∷ [])) is

@@ -1,13 +1,12 @@
 -- What is shown of the lines of a partial picture that fits its shape: how long it is.
-use Rattle.std.proofs.Common.{◌≡◌, ℕ, List, [], ◌∷◌, length, Some, refl, sym, arith}
+use Rattle.std.proofs.Common.{◌≡◌, ℕ, List, [], ◌∷◌, length, Some, refl, sym}
 use Rattle.std.specs.Prelude.{slice_get, replicate}
 use Rattle.std.proofs.lemmas.Option.{get_or_from_slice_get}
-use Rattle.std.specs.List.{range_with_len, flat_map}
 use Rattle.std.proofs.lemmas.List.FromFn.{length-map-range_with_len}
-use Rattle.jls_partial.specs.Partial.{PartialPicture, readings_at}
+use Rattle.jls_partial.specs.Partial.{PartialPicture}
 use Rattle.jls_partial.specs.Status.{status_of}
 use Rattle.jls_partial.specs.declared.status.Status.TheVariants.{Missing, Settled, Disputed}
-use Rattle.jls_c.specs.Lines.{shown, shown_line, shown_component, shown_picture, line_status, component_statuses, line_statuses}
+use Rattle.jls_c.specs.Lines.{shown, line_status, component_statuses, line_statuses, line_of, lines_of_component, lines_of}
 use Rattle.jls_c.specs.Info.{line_count}
 use Rattle.jls_c.proofs.Rows.{length_rows}
 
@@ -19,6 +18,10 @@ one_reading (x ∷ y ∷ xs) e = absurd cc
 pub length_statuses : (p : PartialPicture) → length (line_statuses p) ≡ line_count p.shape
 length_statuses p =
     length_rows (component_statuses p) p.shape.height (length p.shape.ids) (λ k below. length-map-range_with_len (line_status p k) 0 p.shape.height)
+
+pub length_lines : (p : PartialPicture) → length (lines_of p) ≡ line_count p.shape
+length_lines p =
+    length_rows (lines_of_component p) p.shape.height (length p.shape.ids) (λ k below. length-map-range_with_len (line_of p k) 0 p.shape.height)
 
 -- ---- a line
 

@@ -1,12 +1,13 @@
 -- What is known of a copy that was read, and of what is told of it.
-use Rattle.std.proofs.Common.{◌≡◌, ℕ, ◌≤◌, List, length, map, take, refl, arith, ◌∙◌, sym}
-use Rattle.std.specs.Prelude.{◌≢◌}
+use Rattle.std.proofs.Common.{◌≡◌, ℕ, ◌≤◌, List, length, map, take, arith}
 use Rattle.jls_copy.specs.CopyReads.{CopyReads, CopyGivesNone}
 use Rattle.jls_copy.specs.ReadCopy.{ReadCopy}
 use Rattle.jls_copy.specs.declared.reader.CopyFault.{CopyFault}
 use Rattle.jls_copy.specs.declared.reader.CopyFault.TheVariants.{NoPicture, OutOfMemory}
+use Rattle.jls_partial.specs.Partial.{with_source}
 use Rattle.jls_c.specs.Answers.{BeginsWith, IsChecked, IsShown, IsCopyShown, IsRoomShort, IsRoomShortForCopy, HasNoPicture}
 use Rattle.jls_c.specs.Info.{info_of, piece_of, answer_of, refused_info}
+use Rattle.jls_c.specs.PartialAnswers.{IsTextPut, IsTextLonger, IsPartialMade, IsPartialLonger}
 use Rattle.jls_c.specs.declared.info.JlsInfo.{JlsInfo}
 use Rattle.jls_c.specs.declared.info.JlsPiece.{JlsPiece}
 
@@ -21,6 +22,14 @@ room_short copy read info samples statuses reads short = record { read = read; r
 pub checked : (copy : List ℕ) (read : ReadCopy) (info : JlsInfo) (old new : List JlsPiece) → CopyReads copy read → info ≡ info_of read
     → BeginsWith (map piece_of (take (length old) read.pieces)) old new → IsChecked copy info old new
 checked copy read info old new reads is pieces = record { read = read; reads = reads; info_is = is; pieces_are = pieces }
+
+pub partial_made : (copy : List ℕ) (source : ℕ) (read : ReadCopy) (info : JlsInfo) (old new : List ℕ) → CopyReads copy read
+    → IsTextPut (with_source read.partial source) (info_of read) info old new → IsPartialMade copy source info old new
+partial_made copy source read info old new reads put = record { read = read; reads = reads; put = put }
+
+pub partial_longer : (copy : List ℕ) (source : ℕ) (read : ReadCopy) (info : JlsInfo) (room : ℕ) → CopyReads copy read
+    → IsTextLonger (with_source read.partial source) (info_of read) info room → IsPartialLonger copy source info room
+partial_longer copy source read info room reads longer = record { read = read; reads = reads; longer = longer }
 
 -- ---- refusals
 

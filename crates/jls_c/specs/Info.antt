@@ -1,5 +1,5 @@
 -- What a caller is told of a copy beside its lines.
-use Rattle.std.specs.Prelude.{ℕ, ◌+◌, ◌*◌, ◌==◌, List, length, count_by}
+use Rattle.std.specs.Prelude.{ℕ, ◌*◌, ◌==◌, length, count_by}
 use Rattle.jls_copy.specs.ReadCopy.{ReadCopy}
 use Rattle.jls_copy.specs.declared.end.End.{End}
 use Rattle.jls_copy.specs.declared.end.End.TheVariants.{Eoi, Input, Header}
@@ -46,10 +46,30 @@ end_fault (Eoi offset) = 0
 end_fault (Input offset) = 0
 end_fault (Header fault offset) = fault_number fault
 
+-- what is told of a partial picture: its shape, and how many lines have each status
+abbrev pub info_of_partial : PartialPicture → JlsInfo
+info_of_partial p = record {
+  samples = sample_count p.shape;
+  bytes = 0;
+  faulty_pieces = 0;
+  end_offset = 0;
+  lines = line_count p.shape;
+  missing = count_of p 0;
+  settled = count_of p 1;
+  disputed = count_of p 2;
+  width = p.shape.width;
+  height = p.shape.height;
+  precision = p.shape.precision;
+  components = length p.shape.ids;
+  end = 0;
+  fault = 0;
+}
+
 -- what is told of a copy that was read
 abbrev pub info_of : ReadCopy → JlsInfo
 info_of read = record {
   samples = sample_count read.partial.shape;
+  bytes = 0;
   faulty_pieces = read.piece_count;
   end_offset = end_offset read.ended;
   lines = line_count read.partial.shape;
@@ -64,10 +84,30 @@ info_of read = record {
   fault = end_fault read.ended;
 }
 
--- what is told of a copy without a frame
-abbrev pub info_of_none : MarkerFault → ℕ → JlsInfo
-info_of_none fault offset = record {
+-- the same, with this many bytes that are written
+abbrev pub with_bytes : JlsInfo → ℕ → JlsInfo
+with_bytes info bytes = record {
+  samples = info.samples;
+  bytes = bytes;
+  faulty_pieces = info.faulty_pieces;
+  end_offset = info.end_offset;
+  lines = info.lines;
+  missing = info.missing;
+  settled = info.settled;
+  disputed = info.disputed;
+  width = info.width;
+  height = info.height;
+  precision = info.precision;
+  components = info.components;
+  end = info.end;
+  fault = info.fault;
+}
+
+-- what is told of bytes that give nothing: the number of the fault, and where it is
+abbrev pub info_of_fault : ℕ → ℕ → JlsInfo
+info_of_fault number offset = record {
   samples = 0;
+  bytes = 0;
   faulty_pieces = 0;
   end_offset = offset;
   lines = 0;
@@ -79,8 +119,12 @@ info_of_none fault offset = record {
   precision = 0;
   components = 0;
   end = 2;
-  fault = fault_number fault;
+  fault = number;
 }
+
+-- what is told of a copy without a frame
+abbrev pub info_of_none : MarkerFault → ℕ → JlsInfo
+info_of_none fault offset = info_of_fault (fault_number fault) offset
 
 -- what is answered where a copy gives nothing: 1 for memory that was refused, 2 for a copy without a frame
 abbrev pub answer_of : CopyFault → ℕ

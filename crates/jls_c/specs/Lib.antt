@@ -1,3 +1,5 @@
 pub mod Answers
 pub mod Info
 pub mod Lines
+pub mod PartialAnswers
+pub mod TextFaults

@@ -8,3 +8,9 @@ pub const OUT_OF_MEMORY: u32 = 1;
 pub const NO_PICTURE: u32 = 2;
 /// A buffer of the caller is too short.
 pub const SHORT_ROOM: u32 = 3;
+/// The bytes, or of two the first, are no partial picture.
+pub const NO_PARTIAL: u32 = 4;
+/// The second bytes are no partial picture.
+pub const NO_SECOND_PARTIAL: u32 = 5;
+/// Two partial pictures are of different shapes.
+pub const SHAPES_DIFFER: u32 = 6;

@@ -6,13 +6,14 @@ ghost use Rattle.std.specs.Prelude.{◌≡◌, ◌==◌, count_by};
 
 use crate::answer::{NO_PICTURE, OUT_OF_MEMORY};
 use jls_copy::{CopyFault, CopyRead, End, PieceKind, PieceRecord};
-use jls_marker::MarkerFault;
+use jls_partial::Partial;
 
 /// What a copy says of its picture, how many lines it gives, and how it ended.
 #[repr(C)]
 #[derive(Clone, Copy)]
 pub struct JlsInfo {
     pub samples: u64,
+    pub bytes: u64,
     pub faulty_pieces: u64,
     pub end_offset: u64,
     pub lines: u64,
@@ -77,18 +78,19 @@ fn end_fault(ended: End) -> u8
     }
 }
 
-/// What is told of a copy whose lines have these statuses.
-pub(crate) fn info_of(read: &CopyRead, statuses: &[u8]) -> JlsInfo
-    requires { statuses.now ≡ line_statuses read.now.partial }
-    ensures { result ≡ told.info_of read.now }
+/// What is told of a partial picture whose lines have these statuses.
+pub(crate) fn info_of_partial(partial: &Partial, statuses: &[u8]) -> JlsInfo
+    requires { statuses.now ≡ line_statuses partial.now }
+    ensures { result ≡ told.info_of_partial partial.now }
 {
-    let shape = read.partial().shape();
+    let shape = partial.shape();
     let components = shape.ids().len() as u8;
     let size = u64::from(shape.height()) * u64::from(shape.width());
     JlsInfo {
         samples: u64::from(components) * size,
-        faulty_pieces: read.piece_count(),
-        end_offset: end_offset(read.ended()),
+        bytes: 0,
+        faulty_pieces: 0,
+        end_offset: 0,
         lines: u64::from(components) * u64::from(shape.height()),
         missing: count_of(statuses, 0),
         settled: count_of(statuses, 1),
@@ -97,17 +99,31 @@ pub(crate) fn info_of(read: &CopyRead, statuses: &[u8]) -> JlsInfo
         height: shape.height(),
         precision: shape.precision(),
         components,
-        end: end_number(read.ended()),
-        fault: end_fault(read.ended()),
+        end: 0,
+        fault: 0,
     }
 }
 
-/// What is told of a copy without a frame.
-fn info_of_none(fault: MarkerFault, offset: u64) -> JlsInfo
-    ensures { result ≡ told.info_of_none fault offset }
+/// What is told of a copy whose lines have these statuses.
+pub(crate) fn info_of(read: &CopyRead, statuses: &[u8]) -> JlsInfo
+    requires { statuses.now ≡ line_statuses read.now.partial }
+    ensures { result ≡ told.info_of read.now }
+{
+    let mut info = info_of_partial(read.partial(), statuses);
+    info.faulty_pieces = read.piece_count();
+    info.end_offset = end_offset(read.ended());
+    info.end = end_number(read.ended());
+    info.fault = end_fault(read.ended());
+    info
+}
+
+/// What is told of bytes that give nothing.
+pub(crate) fn info_of_fault(fault: u8, offset: u64) -> JlsInfo
+    ensures { result ≡ told.info_of_fault fault offset }
 {
     JlsInfo {
         samples: 0,
+        bytes: 0,
         faulty_pieces: 0,
         end_offset: offset,
         lines: 0,
@@ -119,7 +135,7 @@ fn info_of_none(fault: MarkerFault, offset: u64) -> JlsInfo
         precision: 0,
         components: 0,
         end: 2,
-        fault: fault.number(),
+        fault,
     }
 }
 
@@ -130,7 +146,7 @@ pub(crate) fn refuse(fault: CopyFault, info: &mut JlsInfo) -> u32
 {
     match fault {
         CopyFault::NoPicture(fault, offset) => {
-            *info = info_of_none(fault, offset);
+            *info = info_of_fault(fault.number(), offset);
             NO_PICTURE
         }
         CopyFault::OutOfMemory => OUT_OF_MEMORY,

@@ -8,7 +8,7 @@ use jls_partial::{Partial, Status};
 use std::alloc::{AllocError, Global};
 
 /// The number of a status.
-fn status_number(status: Status) -> u8
+pub(crate) fn status_number(status: Status) -> u8
     ensures { result ≡ lines.status_number status }
 {
     match status {

@@ -1,4 +1,4 @@
-use Rattle.std.proofs.Common.{◌≡◌, ◌+◌, ◌*◌, ◌++◌, length, drop}
+use Rattle.std.proofs.Common.{◌≡◌, ◌*◌, ◌++◌, length, drop}
 use Rattle.std.specs.List.{flat_map, range_with_len}
 use Rattle.jls_c.specs.Lines.{shown_line}
 use Rattle.jls_c.proofs.samples.put_component.Given as goal

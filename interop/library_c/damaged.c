@@ -1,0 +1,155 @@
+/* damaged FILE..: changes bytes of copies and of the partial pictures that they give, and calls all functions on them, in buffers of just
+   the length that is needed. A page behind each buffer can't be read or written, since the sanitizers don't see what the library itself
+   reads. What the functions say must agree. TURNS says how often each file is changed. It prints each difference, and answers whether
+   there is one. */
+#define _GNU_SOURCE
+#include <jls_salvage.h>
+#include <stdio.h>
+#include <stdlib.h>
+#include <string.h>
+#include <sys/mman.h>
+
+struct bytes { uint8_t *at; size_t size; };
+static uint64_t state = 0x9E3779B97F4A7C15u, calls;
+static long differ;
+
+static void want(const char *what, int holds) {
+    if (!holds) differ++, printf("%s\n", what);
+}
+
+static uint64_t chance(void) {
+    state ^= state << 13, state ^= state >> 7, state ^= state << 17;
+    return state >> 11;
+}
+
+enum { PAGE = 4096 };
+
+static size_t pages_of(size_t size) { return (size + PAGE - 1) / PAGE * PAGE; }
+
+/* Memory of this size that ends where a page begins that nobody may touch. */
+static void *fenced(size_t size) {
+    uint8_t *at = mmap(NULL, pages_of(size) + PAGE, PROT_READ | PROT_WRITE, MAP_PRIVATE | MAP_ANONYMOUS, -1, 0);
+    if (at == MAP_FAILED || mprotect(at + pages_of(size), PAGE, PROT_NONE) != 0) exit(98);
+    return at + pages_of(size) - size;
+}
+
+static void release(void *at, size_t size) {
+    if (at != NULL) munmap((uint8_t *)at + size - pages_of(size), pages_of(size) + PAGE);
+}
+
+/* A copy of these bytes that was cut, or of which some bytes were changed, moved or lost. */
+static struct bytes damaged(struct bytes from) {
+    struct bytes to = {malloc(from.size + 1), from.size};
+    if (from.size > 0) memcpy(to.at, from.at, from.size);
+    for (uint64_t change = from.size == 0 ? 0 : chance() % 5; change > 0; change--) to.at[chance() % to.size] ^= (uint8_t)(1u << chance() % 8);
+    if (chance() % 4 == 0 && to.size > 0) to.at[chance() % to.size] = 0xFF;
+    if (chance() % 8 == 0) to.size = chance() % (to.size + 1);
+    if (chance() % 8 == 0 && to.size > 0) {
+        size_t at = chance() % to.size, length = chance() % (to.size - at) % 64;
+        memmove(to.at + at, to.at + at + length, to.size - at - length);
+        to.size -= length;
+    }
+    struct bytes fit = {fenced(to.size), to.size};
+    memcpy(fit.at, to.at, to.size);
+    free(to.at);
+    return fit;
+}
+
+/* What a copy gives as a partial picture, in just the room that it needs. */
+static struct bytes partial_of(struct bytes copy, uint32_t source) {
+    struct bytes partial = {NULL, 0};
+    jls_info info;
+    uint32_t answer = jls_partial(copy.at, copy.size, source, &info, NULL, 0);
+    calls++;
+    if (answer != JLS_SHORT_ROOM) return partial;
+    partial = (struct bytes){fenced(info.bytes), info.bytes};
+    want("no partial picture", jls_partial(copy.at, copy.size, source, &info, partial.at, partial.size) == JLS_DONE);
+    return partial;
+}
+
+/* Both partial pictures as one; no bytes where they don't join. */
+static struct bytes joined(struct bytes first, struct bytes second) {
+    struct bytes both = {NULL, 0};
+    jls_info info;
+    uint32_t answer = jls_join(first.at, first.size, second.at, second.size, &info, NULL, 0);
+    calls++;
+    if (answer != JLS_SHORT_ROOM) return both;
+    both = (struct bytes){fenced(info.bytes), info.bytes};
+    want("no join", jls_join(first.at, first.size, second.at, second.size, &info, both.at, both.size) == JLS_DONE);
+    return both;
+}
+
+static int same(struct bytes one, struct bytes other) {
+    return one.size == other.size && (one.size == 0 || memcmp(one.at, other.at, one.size) == 0);
+}
+
+/* The lines of a partial picture have to be those that were read, if any were. */
+static void shown(struct bytes partial, const jls_info *read, const uint16_t *samples, const uint8_t *statuses) {
+    jls_info info;
+    uint32_t answer = jls_lines(partial.at, partial.size, &info, NULL, 0, NULL, 0);
+    calls++;
+    want("another answer about lines", answer == JLS_SHORT_ROOM || answer == JLS_NO_PARTIAL);
+    if (answer != JLS_SHORT_ROOM || info.samples > 1u << 24) return;
+    uint16_t *out = fenced(2 * info.samples);
+    jls_line *lines = fenced(sizeof *lines * info.lines);
+    want("no lines", jls_lines(partial.at, partial.size, &info, out, info.samples, lines, info.lines) == JLS_DONE);
+    for (uint64_t at = 0; at < info.lines; at++) {
+        uint64_t readings = lines[at].readings;
+        want("another status", lines[at].status == (readings > 1 ? 2 : readings));
+        want("another line", read == NULL || lines[at].status == statuses[at]);
+    }
+    want("other samples", read == NULL || (info.samples == read->samples && memcmp(out, samples, 2 * info.samples) == 0));
+    release(out, 2 * info.samples);
+    release(lines, sizeof *lines * info.lines);
+}
+
+/* A copy: what is checked, read, and made of it. */
+static struct bytes tried(struct bytes copy) {
+    jls_info info, read;
+    jls_piece pieces[3];
+    struct bytes partial = {NULL, 0};
+    memset(&info, 0, sizeof info);
+    memset(&read, 0, sizeof read);
+    uint32_t answer = jls_check(copy.at, copy.size, &info, pieces, chance() % 4);
+    calls++;
+    if (answer != JLS_DONE) return want("no picture, but one", jls_read(copy.at, copy.size, &read, NULL, 0, NULL, 0) == answer), partial;
+    want("other counts", info.missing + info.settled + info.disputed == info.lines && info.bytes == 0);
+    if (info.samples > 1u << 22) return partial;
+    uint16_t *samples = fenced(2 * info.samples);
+    uint8_t *statuses = fenced(info.lines);
+    want("no lines of a copy", jls_read(copy.at, copy.size, &read, samples, info.samples, statuses, info.lines) == JLS_DONE);
+    want("another info", memcmp(&info, &read, sizeof info) == 0);
+    partial = partial_of(copy, (uint32_t)chance());
+    shown(partial, &read, samples, statuses);
+    release(samples, 2 * info.samples);
+    release(statuses, info.lines);
+    return partial;
+}
+
+/* A file changed: alone, with what came before it, and its partial picture changed. */
+static void turn(struct bytes file, struct bytes whole) {
+    struct bytes copy = damaged(file), partial = tried(copy);
+    struct bytes both = joined(whole, partial), turned = joined(partial, whole), again = joined(both, partial);
+    want("the order matters", same(both, turned));
+    want("a second join changes it", same(again, both));
+    struct bytes other = damaged(both.size > 0 ? both : whole), more = joined(whole, other);
+    shown(other, NULL, NULL, NULL);
+    struct bytes all[] = {copy, partial, both, turned, again, other, more};
+    for (size_t at = 0; at < sizeof all / sizeof *all; at++) release(all[at].at, all[at].size);
+}
+
+int main(int count, char **names) {
+    long turns = getenv("TURNS") != NULL ? atol(getenv("TURNS")) : 100;
+    for (int at = 1; at < count; at++) {
+        FILE *stream = fopen(names[at], "rb");
+        if (stream == NULL) return 99;
+        struct bytes file = {malloc(1 << 22), 0};
+        file.size = fread(file.at, 1, 1 << 22, stream);
+        fclose(stream);
+        struct bytes whole = partial_of(file, 1);
+        for (long number = 0; number < turns && file.size > 0; number++) turn(file, whole);
+        free(file.at);
+        release(whole.at, whole.size);
+    }
+    return printf("%lu calls, %ld differ\n", (unsigned long)calls, differ), differ != 0;
+}
