@@ -1,15 +1,35 @@
-"""What one copy alone has of a header: nothing tells a true value from a false one there.
+"""What one copy alone has of a header: the others lost it, were overwritten there by a foreign file, or were left out.
 
-The structure confirms where an element stands, and not what its value is. The frames, or another element, confirm some values.
+Its way is the only one that goes on there. So it is taken where its VR allows the value, unless something speaks against it: a copy
+that was left out has the element with another value, the place of a loss is not clear, or the element is strange. The frames, or another
+element, confirm some values.
 """
+from dataclasses import dataclass
+
 from jls_tools.dicom_align import merged
 from jls_tools.dicom_file import PIXEL_DATA, tag_name, text_of
 from jls_tools.dicom_result import Place
+from jls_tools.dicom_values import TEXTS, allows, strangeness
 
 PADDING = 0xFFFCFFFC
 # Group length, transfer syntax, Samples per Pixel, Number of Frames, Rows and Columns: the file or its frames say what they have to be
 CONFIRMED = frozenset((0x00020000, 0x00020010, 0x00280002, 0x00280008, 0x00280010, 0x00280011, PIXEL_DATA))
 PAIRS = ((0x00020002, 0x00080016), (0x00020003, 0x00080018))
+ONE_ALONE = "one copy alone has it"
+CLEAR = 32  # so many bytes beside a loss are equal in all copies, where its place is clear
+WRONG_VR = 4  # the strangeness of a known element with another VR
+ZEROS = bytes(8)
+LONG = 512  # damage by sectors can lie within a value that is longer
+NEAR = 1024  # so many bytes before the end of a foreign beginning can be of the copy itself
+
+
+@dataclass
+class Stranger:
+    """A copy that was left out. `may_be_copy` is false for one of another instance: its values say nothing."""
+
+    path: str
+    data: bytes
+    may_be_copy: bool
 
 
 def held_by_one(copies):
@@ -32,42 +52,105 @@ def confirmed(header):
     return found
 
 
-def elements_alone(header):
-    """The elements of which one copy alone has some byte, and that nothing confirms."""
-    ranges, known = held_by_one(header.copies), confirmed(header)
+def elements_alone(header, ranges):
+    """The steps of elements of which one copy alone has some byte, and that nothing confirms; and where what counts of each ends."""
+    known = confirmed(header)
     for step in header.structure.steps if ranges else ():
         element = step.element
         if element is None or step.kind not in ("leaf", "open") or step.depth == 0 and element.tag in known:
             continue
         end = element.end if step.kind == "leaf" else element.value
         if any(first < end and element.start < last for first, last in ranges):
-            yield element, end
+            yield step, end
 
 
-def is_repeated(header, strangers, begin, end):
+def is_repeated(copies, strangers, begin, own):
     """Whether a copy that was left out, or the foreign beginning of one, has the same bytes: then they are not damaged."""
-    own = header.copies[0].data[begin:end]
-    texts = [copy.foreign for copy in header.copies] + [text for _, text in strangers]
-    return any(text[begin:end] == own for text in texts)
+    texts = [copy.foreign for copy in copies] + [stranger.data for stranger in strangers]
+    return any(text[begin : begin + len(own)] == own for text in texts)
 
 
-def values_alone(header, strangers, begin, end):
-    """What each copy has in a range: [(paths, bytes)]."""
-    values = {}
-    for copy in header.copies:
+def values_alone(copies, strangers, begin, own):
+    """What each copy has where `own` is taken: [(paths, bytes)], that first."""
+    values, end = {own: []}, begin + len(own)
+    for copy in copies:
         value = copy.foreign[begin:end] if copy.lacks(begin, end) else b""
         values.setdefault(value or copy.has_only(begin, end), []).append(copy.path)
-    for path, text in strangers:
-        values.setdefault(text[begin:end], []).append(path)
+    for stranger in strangers:
+        values.setdefault(stranger.data[begin:end], []).append(stranger.path)
     return [(paths, value) for value, paths in values.items()]
 
 
-def places_alone(header, strangers):
-    """A Place for each of these elements. `strangers` are (path, bytes) of copies that were left out."""
+# What speaks against it ----------------------------------------------------------------
+
+
+def unclear_ranges(header):
+    """What a copy lacks, where the copies differ beside it: then where it stood is not clear."""
     found = []
-    for element, end in elements_alone(header):
-        if not is_repeated(header, strangers, element.start, end):
-            begin = element.value if element.value < end else element.start
-            values = values_alone(header, strangers, begin, end)
-            found.append(Place(element.start, end - element.start, tag_name(element.tag), values))
+    for copy in header.copies:
+        others = [pair for other in header.copies for pair in other.absent if other is not copy]
+        for begin, end in copy.absent[1:] if copy.foreign else copy.absent:
+            beside = any(last <= begin <= last + CLEAR or end <= first <= end + CLEAR for first, last in others)
+            if beside or header.runs.touching(max(0, begin - CLEAR), begin) or header.runs.touching(end, end + CLEAR):
+                found.append((begin, end))
+    return found
+
+
+def is_across(element, border):
+    """Whether a foreign beginning may end elsewhere than at this border: in a value across it in which a text is not seen to be wrong."""
+    return element.value < border < element.end and (element.vr not in TEXTS or element.length > LONG)
+
+
+def denies(text, own, element):
+    """Whether the bytes of a copy that was left out, or of a foreign beginning, go another way through an element that can be true."""
+    other = text[element.start : element.start + len(own)]
+    if len(other) < len(own):
+        return False
+    head = element.value - element.start
+    shared = sum(one == two != 0 for one, two in zip(own, other))
+    if other[:head] != own[:head] and shared * 2 < len(own) - own.count(0):
+        return False
+    return not (element.vr in TEXTS and (ZEROS in other[head:] or not allows(element.vr, other[head:])))
+
+
+class Doubts:
+    """What speaks against the values that one copy alone has."""
+
+    def __init__(self, header, strangers):
+        self.unclear = unclear_ranges(header)
+        self.borders = [copy.absent[0][1] for copy in header.copies if copy.foreign]
+        # (from where on it counts, the bytes)
+        self.texts = [(len(copy.foreign) - NEAR, copy.foreign) for copy in header.copies if copy.foreign]
+        self.texts += [(0, stranger.data) for stranger in strangers if stranger.may_be_copy]
+
+    def has(self, step, own):
+        """Whether something speaks against an element, whose bytes these are."""
+        element = step.element
+        value, end = own[element.value - element.start :], element.start + len(own)
+        if strangeness(element.tag, element.vr) >= WRONG_VR or element.tag <= step.before[2]:
+            return True
+        if step.kind == "leaf" and (not allows(element.vr, value) or element.vr in TEXTS and ZEROS in value):
+            return True
+        if any(first < end and element.start < behind for first, behind in self.unclear):
+            return True
+        if step.kind == "leaf" and any(is_across(element, border) for border in self.borders):
+            return True
+        return any(element.start >= first and denies(text, own, element) for first, text in self.texts)
+
+
+def places_alone(header, strangers):
+    """A Place for each of these elements: decided, unless something speaks against what the one copy has."""
+    copies, data = header.copies, bytes(header.merged())
+    doubts, found = Doubts(header, strangers), []
+    for step, end in elements_alone(header, held_by_one(copies)):
+        element = step.element
+        own = data[element.start : end]
+        if is_repeated(copies, strangers, element.start, own):
+            continue
+        begin = element.value if element.value < end else element.start
+        values = values_alone(copies, strangers, begin, data[begin:end])
+        place = Place(element.start, len(own), tag_name(element.tag), values)
+        if not doubts.has(step, own):
+            place.taken, place.why = 0, ONE_ALONE
+        found.append(place)
     return found

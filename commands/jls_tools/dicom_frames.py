@@ -36,6 +36,8 @@ class FramePlace:
 
 
 def table_of(data, begin, end, size):
+    """The entries of an offset table. A length that lies does not lead beyond the file."""
+    end = min(end, len(data))
     return [int.from_bytes(data[at : at + size], "little") for at in range(begin, end - size + 1, size)]
 
 

@@ -32,7 +32,7 @@ class Header:
         self.why = {}
         self.parts = {}  # run: what of it is outside of the frames, (begin, end) each
         self.leaves = [step.element for step in structure.steps if step.kind == "leaf" and step.element]
-        self.alone = []  # a Place for each element that one copy alone has, and that nothing confirms
+        self.alone = []  # a Place for each element that one copy alone has, and that nothing else confirms
         for number, run in enumerate(runs.runs):
             parts = list(self.outside(run.begin, run.end))
             if parts:
@@ -240,7 +240,7 @@ class Header:
         place.taken, place.why = next(at for at, (names, _) in enumerate(place.values) if path in names), why
 
     def find_alone(self, strangers):
-        """Finds what one copy alone has. `strangers` are (path, bytes) of copies that were left out."""
+        """Finds what one copy alone has. `strangers` are copies that were left out."""
         self.alone = places_alone(self, strangers)
 
     # What came out ---------------------------------------------------------------------

@@ -29,7 +29,7 @@ class Layout:
             structure = Walk(runs, len(self.copies[0].data)).solve([copy.data for copy in self.copies])
             if best is None or structure.is_found and (not best[1].is_found or rank(structure) < rank(best[1])):
                 best = runs, structure
-            if fineness == 0 and rank(structure) == (False, False, 0) or fineness == 1 and is_through(best[1]):
+            if fineness == 0 and rank(structure) == (False, False, False, 0) or fineness == 1 and is_through(best[1]):
                 break
         return best
 
@@ -69,9 +69,9 @@ class Layout:
 
 
 def is_through(structure):
-    return structure.is_found and not structure.jumps
+    return structure.is_found and not structure.jumps and not structure.is_cut
 
 
 def rank(structure):
-    """What is worse comes later: not found, jumps, cost."""
-    return (not structure.is_found, bool(structure.jumps), structure.cost or 0)
+    """What is worse comes later: not found, jumps, an end before the last element's, cost."""
+    return (not structure.is_found, bool(structure.jumps), structure.is_cut, structure.cost or 0)

@@ -6,6 +6,7 @@ import tempfile
 
 from jls_tools import dicom_gaps, partial_picture
 from jls_tools.dicom_align import Copy, on_one_axis
+from jls_tools.dicom_alone import Stranger
 from jls_tools.dicom_file import JPEG_LS, syntax_name, syntax_of
 from jls_tools.dicom_frames import by_search, paired_by_bytes, shape_of
 from jls_tools.dicom_header import ALLOCATED, COLUMNS, FRAMES, ROWS, SAMPLES, STORED, SYNTAX
@@ -70,7 +71,7 @@ class Mending:
         try:
             self.folder = folder
             self.mender = FrameMender(self.programs, folder, self.options)
-            self.rests = instances.rests
+            self.rests, self.uncertain = instances.rests, instances.uncertain
             self.mend_all(instances)
         finally:
             shutil.rmtree(folder, ignore_errors=True)
@@ -120,7 +121,8 @@ class Mending:
     def take(self, chosen):
         """Lays these copies on one axis, finds their way and their frames, and mends each frame."""
         self.copies = on_one_axis([self.copy_at(at) for at in chosen])
-        self.strange = [(path, text) for at, (path, text) in enumerate(zip(self.paths, self.texts)) if at not in chosen]
+        named = enumerate(zip(self.paths, self.texts))
+        self.strange = [Stranger(path, text, at in self.uncertain) for at, (path, text) in named if at not in chosen]
         self.layout = Layout(self.copies)
         self.own = [self.own_streams(place) for place in self.layout.places]
         self.streams = [list(dict.fromkeys(own.values())) for own in self.own]

@@ -1,4 +1,5 @@
 """What a VR allows a value to be (PS3.5, 6.2), and the VRs of well-known elements (PS3.6)."""
+import calendar
 import re
 
 DIGITS_AND_DOTS = re.compile(rb"[0-9.]+\0?\Z")
@@ -35,6 +36,19 @@ def each_matches(form, value):
     return all(not part.strip(b" ") or form.match(part.strip(b" ")) for part in value.split(b"\\"))
 
 
+def is_dates(value):
+    """Whether a value is dates that the calendar has, or ranges of them."""
+    if b"-" in value:
+        return each_matches(DATES, value)
+    parts = [part for part in value.rstrip(b"\0").split(b"\\") if len(part.strip(b" ")) == 8]
+    return each_matches(DATE, value) and all(is_in_calendar(part.strip(b" ")) for part in parts)
+
+
+def is_in_calendar(text):
+    year, month, day = int(text[:4]), int(text[4:6]), int(text[6:])
+    return year == 0 or day <= calendar.monthrange(year, month)[1]
+
+
 def is_string(vr, value):
     """One or several short strings. A byte 0 at the end is no value of these VRs, but some writers pad with it."""
     value = value[:-1] if value.endswith(b"\0") else value
@@ -55,9 +69,10 @@ def allows(vr, value):
         return is_string(vr, value)
     if vr in FORMS:
         return each_matches(FORMS[vr], value)
-    if vr in (b"DA", b"TM"):
-        single, ranges = (DATE, DATES) if vr == b"DA" else (TIME, TIMES)
-        return each_matches(single, value) or (b"-" in value and each_matches(ranges, value))
+    if vr == b"DA":
+        return is_dates(value)
+    if vr == b"TM":
+        return each_matches(TIME, value) or (b"-" in value and each_matches(TIMES, value))
     if vr in (b"LT", b"ST", b"UT", b"UC", b"UR"):
         return not NOT_IN_TEXT.search(value.rstrip(b"\0"))
     return True
