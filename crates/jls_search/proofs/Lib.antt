@@ -18,6 +18,6 @@ pub mod FilesExamples
 pub mod Members
 pub mod OneFile
 pub mod ReadFiles
-pub mod SearchedCopies
+pub mod FilesOfSearch
 pub mod SeenFiles
 pub mod TakenFiles

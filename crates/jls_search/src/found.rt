@@ -10,7 +10,7 @@ ghost use Rattle.jls_search.specs.SearchLaws.{AreShort};
 ghost use Rattle.jls_search.specs.Found.{AreGroupTries, IsFound, found_of, splices_in};
 
 use crate::copies::SearchedCopies;
-use crate::search::{SearchedGroups, search_groups};
+use crate::group_search::{SearchedGroups, search_groups};
 use crate::whole_search::Searched;
 use jls_diff::Part;
 use std::alloc::{AllocError, Global};

@@ -15,7 +15,7 @@
 //! - `choosing`: goes through choices for such a group
 //! - `offsets`, `reading_between`: the offsets of a group in the file that choices make; whether the file decodes between them
 //! - `trying`: one try
-//! - `order`, `search`: all groups in turn, each with each copy
+//! - `order`, `group_search`: all groups in turn, each with each copy
 //! - `found`: what both searches found
 //!
 //! The station of the files taken, which are the copies and the splices that a search found, or why there is none.
@@ -45,6 +45,7 @@ mod feeding;
 mod file;
 mod files;
 mod found;
+mod group_search;
 mod kept;
 mod laws;
 mod lines;
@@ -54,7 +55,6 @@ mod order;
 mod path;
 mod reading_between;
 mod reading_files;
-mod search;
 mod seen;
 mod setting;
 mod settling;
@@ -70,11 +70,11 @@ pub use faultless::{is_dead, is_faultless, is_read_faultless};
 pub use feeding::{feed_front, reader_of, way_at};
 pub use files::Files;
 pub use found::{FoundSplices, GroupsTold, complete_by_groups};
+pub use group_search::{SearchedGroups, search_groups};
 pub use kept::KeptReader;
 pub use laws::{parts_can_be_searched, searches_come_to_each_splice};
 pub use path::next_way_at;
 pub use reading_between::reads_between;
-pub use search::{SearchedGroups, search_groups};
 pub use settling::{Settled, settle_files};
 pub use shape_found::ShapeFound;
 pub use short::are_short;

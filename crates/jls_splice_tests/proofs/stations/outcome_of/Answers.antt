@@ -4,7 +4,7 @@ use Rattle.std.specs.List.{AllByRecursion}
 use Rattle.jls_diff.specs.PartsOf.{parts_of}
 use Rattle.jls_search.specs.Choices.{IsWhole}
 use Rattle.jls_search.specs.Search.{IsShort, lists_of}
-use Rattle.jls_search.proofs.SearchedCopies.{whole_of_found, short_of_found}
+use Rattle.jls_search.proofs.FilesOfSearch.{whole_of_found, short_of_found}
 use Rattle.jls_splice_tests.proofs.stations.outcome_of.Goals as goal
 
 pub settle_files-requires-clause-whole : goal.settle_files-requires-clause-whole

@@ -5,7 +5,7 @@ use Rattle.jls_diff.specs.Parts.{HasWays}
 use Rattle.jls_diff.specs.PartsOf.{bytes_of, parts_of}
 use Rattle.jls_diff.specs.Groups.{IsGroup}
 use Rattle.jls_search.specs.OfGroups.{IsSetting}
-use Rattle.jls_search.proofs.search.search_groups.Goals as goal
+use Rattle.jls_search.proofs.group_search.search_groups.Goals as goal
 
 pub settings_of-requires-clause-ways : goal.settings_of-requires-clause-ways
 settings_of-requires-clause-ways c =

@@ -3,7 +3,7 @@ use Rattle.std.specs.List.{AllByRecursion}
 use Rattle.jls_diff.specs.PartsOf.{parts_of}
 use Rattle.jls_search.specs.Search.{lists_of}
 use Rattle.jls_search.specs.OfGroups.{IsOfGroup}
-use Rattle.jls_search.proofs.search.search_settings.Given as goal
+use Rattle.jls_search.proofs.group_search.search_settings.Given as goal
 
 abbrev pub invariant-loop-setting : goal.invariant-loop-setting
 invariant-loop-setting l = AllByRecursion (IsOfGroup (parts_of l.parts)) (lists_of l.searched.splices.items)

@@ -1,7 +1,7 @@
 use Rattle.std.proofs.Common.{rules}
 use Rattle.jls_diff.specs.PartsOf.{parts_of}
 use Rattle.jls_search.proofs.Sets.{set_first}
-use Rattle.jls_search.proofs.search.search_group.Goals as goal
+use Rattle.jls_search.proofs.group_search.search_group.Goals as goal
 
 pub follow-requires-clause-path : goal.follow-requires-clause-path
 follow-requires-clause-path c = set_first (parts_of c.args.parts.now) c.args.setting _ (search rules)

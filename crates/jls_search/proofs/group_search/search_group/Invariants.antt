@@ -3,7 +3,7 @@ use Rattle.std.specs.List.{AllByRecursion}
 use Rattle.jls_diff.specs.PartsOf.{parts_of}
 use Rattle.jls_search.specs.Search.{lists_of}
 use Rattle.jls_search.specs.OfGroups.{IsOfGroup, IsSet}
-use Rattle.jls_search.proofs.search.search_group.Given as goal
+use Rattle.jls_search.proofs.group_search.search_group.Given as goal
 
 abbrev pub invariant-loop-tries : goal.invariant-loop-tries
 invariant-loop-tries l = (l.tries ≤ l.limit) × (length (lists_of l.splices.items) ≤ 64)

@@ -1,7 +1,7 @@
 use Rattle.jls_diff.specs.PartsOf.{parts_of}
 use Rattle.jls_search.specs.OfGroups.{IsSetting}
 use Rattle.jls_search.proofs.Lists.{all_at}
-use Rattle.jls_search.proofs.search.search_settings.Goals as goal
+use Rattle.jls_search.proofs.group_search.search_settings.Goals as goal
 
 pub search_group-requires-clause-setting : goal.search_group-requires-clause-setting
 search_group-requires-clause-setting c =
