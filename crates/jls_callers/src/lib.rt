@@ -1,6 +1,7 @@
 //! A caller for each step of `Collected` of jls_headline. Each makes the calls of one step, or of a few, and its contract is that they take
 //! a history on. So no step asks more than the contract of its call gives. `write_station` goes from a history to the bytes that a sink
-//! took. `known` says of known bytes what a call makes of them: how far it reads, and why it refuses. No program calls them.
+//! took. `known` says of known bytes what a call makes of them: how far it reads, and why it has no picture or
+//! another shape. No program calls them.
 #![tactic(auto)]
 
 mod known;
