@@ -1,11 +1,17 @@
 """Where results stand: OUT and the folders beside it. Every file gets its name when it is complete."""
+import contextlib
 import fcntl
 import os
+import re
 import shutil
 import socket
 import stat
 import tempfile
 import time
+
+from .archive_rows import PART
+
+IS_PART = re.compile(re.escape(PART) + "[a-z0-9_]{8}")
 
 
 class Refused(Exception):
@@ -121,12 +127,23 @@ class Work:
         lock(self.lock)
 
     def remove(self):
+        begun = os.fstat(self.lock.fileno()).st_mtime
+        remove_parts(self.places.report, begun)
         shutil.rmtree(self.folder, ignore_errors=True)
         self.lock.close()
         try:
             os.rmdir(self.places.works)
         except OSError:
             pass  # another run works there
+
+
+def remove_parts(report, begun):
+    """Removes rows and tables that were not complete when an earlier run was killed: those from before this one began."""
+    for folder, _, names in os.walk(report):
+        for name in filter(IS_PART.fullmatch, names):
+            with contextlib.suppress(FileNotFoundError):  # another run removes it, too
+                if os.lstat(os.path.join(folder, name)).st_mtime < begun:
+                    os.unlink(os.path.join(folder, name))
 
 
 def lock(file):
@@ -138,6 +155,20 @@ def lock(file):
         return False
 
 
+def is_gone(name):
+    """Whether the folder of this name is of a process of this machine that is no more."""
+    host, number, _ = name.rsplit("-", 2)
+    if host != socket.gethostname()[:40]:
+        return False
+    try:
+        os.kill(int(number), 0)
+    except ProcessLookupError:
+        return True
+    except PermissionError:
+        pass
+    return False
+
+
 def tidy(places):
     """Removes what runs left that were killed."""
     for entry in os.scandir(places.works):
@@ -147,6 +178,6 @@ def tidy(places):
                     continue
         except OSError:
             # killed before it had a lock, or about to have one
-            if entry.stat().st_mtime > time.time() - 60:
+            if entry.stat().st_mtime > time.time() - 60 and not is_gone(entry.name):
                 continue
         shutil.rmtree(entry.path, ignore_errors=True)

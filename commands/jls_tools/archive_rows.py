@@ -8,6 +8,7 @@ import tempfile
 
 COLUMNS = ("path", "kind", "copies", "frames", "settled", "missing", "disputed", "before", "sum", "status", "result", "shape", "note")
 PICTURES = ("dicom", "jls", "jlsp")
+PART = ".part-"  # begins the name of a file that isn't complete; eight letters or digits follow
 
 
 @dataclasses.dataclass
@@ -67,7 +68,7 @@ def write_whole(path, data):
     folder = os.path.dirname(path)
     mask = os.umask(0)
     os.umask(mask)
-    handle, part = tempfile.mkstemp(prefix=".part-", dir=folder)
+    handle, part = tempfile.mkstemp(prefix=PART, dir=folder)
     try:
         with open(handle, "wb") as file:
             file.write(data)

@@ -11,7 +11,11 @@ ANCHOR_KINDS = 8
 STEPS = (0, 16, 48, 128, 256, 512, 768, 1024, 2048, 4096, 6144, 8192, 16384, 32768, 65536)
 REACH = 1 << 20  # no more bytes than that are lost in one place
 BLOCK = 1 << 16
+WINDOW = 256
+LEAST_GAIN = 8  # so many bytes of a window differ, at least, where bytes before it are lost
+MOST_LOOKS = 256  # so often it is looked whether bytes are lost where most of what comes is equal
 SHARE_APART = 64  # fewer than one in so many bytes differ where copies of one length were damaged in place
+SHIFTED = 64  # so many bytes more are equal, at least, where copies of one length are taken to have lost bytes at different places
 
 
 @dataclass
@@ -72,18 +76,44 @@ def anchor_at(data, at):
 
 
 def meet_again(one, other, at, beside):
-    """The next offsets (in both) from which they are equal again, with bytes lost between or not; nothing if there are none."""
+    """The next offsets (in both) from which they are equal again, with bytes lost between or not; nothing if there are none.
+
+    Of several the nearest is taken: what is lost may stand a second time further on.
+    """
+    best, least = None, None
     for step in STEPS:
-        near, far = anchor_at(one, at + step), anchor_at(other, beside + step)
-        if near is not None and near == far:
-            return at + step, beside + step
-        found = other.find(near, beside, beside + step + REACH) if near is not None else -1
-        if found >= 0:
-            return back(one, other, at, beside, at + step, found)
-        found = one.find(far, at, at + step + REACH) if far is not None else -1
-        if found >= 0:
-            return back(one, other, at, beside, found, beside + step)
-    return None
+        if best is not None and step >= least:
+            break
+        for meet in meetings(one, other, at, beside, step):
+            skipped = meet[0] - at + meet[1] - beside
+            if best is None or skipped < least:
+                best, least = meet, skipped
+    return best
+
+
+def meetings(one, other, at, beside, step):
+    """Where what stands so far on in one of both stands in the other one."""
+    near, far = anchor_at(one, at + step), anchor_at(other, beside + step)
+    if near is not None and near == far:
+        yield back(one, other, at, beside, at + step, beside + step)
+        return
+    found = other.find(near, beside, beside + step + REACH) if near is not None else -1
+    if found >= 0:
+        yield back(one, other, at, beside, at + step, found)
+    found = one.find(far, at, at + step + REACH) if far is not None else -1
+    if found >= 0:
+        yield back(one, other, at, beside, found, beside + step)
+
+
+def lost_here(one, other, at, beside):
+    """Where both go on after bytes that one of them lost: equal for long, and far less so at equal offsets; else nothing."""
+    window = min(WINDOW, len(one) - at, len(other) - beside)
+    apart = sum(a != b for a, b in zip(one[at : at + window], other[beside : beside + window]))
+    meet = meet_again(one, other, at, beside) if apart >= LEAST_GAIN else None
+    if meet is None or meet[0] - at == meet[1] - beside or min(meet[0] - at, meet[1] - beside) > 0:
+        return None
+    left, right = one[meet[0] : meet[0] + SHIFTED], other[meet[1] : meet[1] + SHIFTED]
+    return meet if len(left) == len(right) == SHIFTED and left == right else None
 
 
 def back(one, other, at, beside, meet, meets):
@@ -98,13 +128,15 @@ def pieces(one, other, is_free=False):
 
     Where as many bytes follow in both, they are taken by offset, unless the way is free.
     """
-    at = beside = 0
+    at = beside = looks = 0
     while at < len(one) and beside < len(other):
         count = equal_length(one, other, at, beside)
         if count == 0 and (is_free or len(one) - at != len(other) - beside):
             step = same_way_on(one, other, at, beside)
-            if step is None:
-                meet = meet_again(one, other, at, beside)
+            looks += step is not None
+            meet = lost_here(one, other, at, beside) if step is not None and looks < MOST_LOOKS else None
+            if step is None or meet is not None:
+                meet = meet or meet_again(one, other, at, beside)
                 if meet is not None:
                     both = min(meet[0] - at, meet[1] - beside)
                     yield both, both
@@ -164,26 +196,28 @@ def size_of(ranges):
     return sum(end - begin for begin, end in ranges)
 
 
-def aligned(one, other):
+def aligned(one, other, are_shifted):
     """(gaps in one, gaps in the other). Those of one length are taken by offset, unless they have far more in common when shifted."""
     if len(one) != len(other):
         return gaps_of(one, other, False)
     apart = size_of(differing([one, other]))
-    if apart * SHARE_APART < len(one):
+    if apart < SHIFTED or not are_shifted and apart * SHARE_APART < len(one):
         return [], []
     gaps = gaps_of(one, other, True)
     left, right = (insert_gaps(Copy("", text), gap, source) for text, gap, source in ((one, gaps[0], other), (other, gaps[1], one)))
-    left_apart = size_of(differing([left.data, right.data])) + size_of(left.absent) + size_of(right.absent)
-    return gaps if left_apart * 2 < apart else ([], [])
+    absent, left_apart = size_of(left.absent) + size_of(right.absent), size_of(differing([left.data, right.data]))
+    if are_shifted and len(gaps[0]) == len(gaps[1]) == 1:
+        return gaps if len(left.data) - absent - left_apart - (len(one) - apart) >= SHIFTED else ([], [])
+    return gaps if (left_apart + absent) * 2 < apart else ([], [])
 
 
-def on_one_axis(copies):
-    """All copies on one axis, which the longest copy begins."""
+def on_one_axis(copies, are_shifted=False):
+    """All copies on one axis, which the longest copy begins. `are_shifted`: two of one length may have lost bytes at different places."""
     order = sorted(range(len(copies)), key=lambda index: -len(copies[index].data))
     placed = {order[0]: copies[order[0]]}
     for index in order[1:]:
         base = placed[order[0]]
-        in_base, in_copy = aligned(base.data, copies[index].data)
+        in_base, in_copy = aligned(base.data, copies[index].data, are_shifted)
         before = base.data
         if in_base:
             source = copies[index].data

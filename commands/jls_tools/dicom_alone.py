@@ -17,6 +17,7 @@ CONFIRMED = frozenset((0x00020000, 0x00020010, 0x00280002, 0x00280008, 0x0028001
 PAIRS = ((0x00020002, 0x00080016), (0x00020003, 0x00080018))
 ONE_ALONE = "one copy alone has it"
 CLEAR = 32  # so many bytes beside a loss are equal in all copies, where its place is clear
+KINDS = 8  # of so many different bytes, at least, the end of a copy that is cut shows where it stands
 WRONG_VR = 4  # the strangeness of a known element with another VR
 ZEROS = bytes(8)
 LONG = 512  # damage by sectors can lie within a value that is longer
@@ -91,9 +92,20 @@ def unclear_ranges(header):
         others = [pair for other in header.copies for pair in other.absent if other is not copy]
         for begin, end in copy.absent[1:] if copy.foreign else copy.absent:
             beside = any(last <= begin <= last + CLEAR or end <= first <= end + CLEAR for first, last in others)
-            if beside or header.runs.touching(max(0, begin - CLEAR), begin) or header.runs.touching(end, end + CLEAR):
+            if beside or differs_before(header, begin, end) or header.runs.touching(end, end + CLEAR):
                 found.append((begin, end))
     return found
+
+
+def differs_before(header, begin, end):
+    """Whether copies differ before a loss. Where a copy is cut, fewer bytes have to be equal."""
+    if end < len(header.copies[0].data):
+        return bool(header.runs.touching(max(0, begin - CLEAR), begin))
+    texts = {copy.data[max(0, begin - 2 * CLEAR) : begin] for copy in header.copies}
+    ends = {text[-CLEAR // 2 :] for text in texts}
+    if len(ends) == 1 and len(set(*ends)) >= KINDS:
+        return False
+    return sum(len(set(values)) > 1 for values in zip(*texts)) > CLEAR
 
 
 def is_across(element, border):

@@ -179,10 +179,9 @@ def main(arguments):
         signal.signal(number, stop)
     sys.stdout.reconfigure(errors="surrogateescape")
     sys.stderr.reconfigure(errors="surrogateescape")
-    words = parser().parse_args(arguments)
     os.umask(0o077)
     try:
-        return run(words)
+        return run(parser().parse_args(arguments))
     except Stopped as stopped:
         say(f"stopped by signal {stopped.number}")
         return 128 + stopped.number

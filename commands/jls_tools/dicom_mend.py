@@ -11,7 +11,7 @@ from jls_tools.dicom_file import JPEG_LS, syntax_name, syntax_of
 from jls_tools.dicom_frames import by_search, paired_by_bytes, shape_of
 from jls_tools.dicom_header import ALLOCATED, COLUMNS, FRAMES, ROWS, SAMPLES, STORED, SYNTAX
 from jls_tools.dicom_instance import Instances, TwoInstances
-from jls_tools.dicom_layout import Layout
+from jls_tools.dicom_layout import Layout, is_through
 from jls_tools.dicom_result import FAILED, NOT_WHOLE, REFUSED, WHOLE, FrameResult, MendOptions, MendResult, Place
 from jls_tools.dicom_write import find_sum, in_fragments, packed, padding, put_frames, store, top_level, with_choices
 from jls_tools.mending import FrameMender, is_connected, is_spliced, shapes_of
@@ -120,10 +120,9 @@ class Mending:
 
     def take(self, chosen):
         """Lays these copies on one axis, finds their way and their frames, and mends each frame."""
-        self.copies = on_one_axis([self.copy_at(at) for at in chosen])
+        self.copies, self.layout = laid_out([self.copy_at(at) for at in chosen])
         named = enumerate(zip(self.paths, self.texts))
         self.strange = [Stranger(path, text, at in self.uncertain) for at, (path, text) in named if at not in chosen]
-        self.layout = Layout(self.copies)
         self.own = [self.own_streams(place) for place in self.layout.places]
         self.streams = [list(dict.fromkeys(own.values())) for own in self.own]
         self.refuse_other_codings()
@@ -133,7 +132,8 @@ class Mending:
             self.own = [dict(enumerate(streams)) for streams in self.streams]
         self.mended = []
         for number, streams in enumerate(self.streams):
-            self.mended.append(self.mender.mend(number, streams))
+            begin = self.layout.places[number].begin if self.layout.places else 0
+            self.mended.append(self.mender.mend(number, streams, begin))
             if self.options.progress:
                 self.options.progress(number + 1, len(self.streams))
 
@@ -204,6 +204,8 @@ class Mending:
             return "a place is undecided"
         if any(not self.is_in_pixels(begin, end) for begin, end in self.layout.breaks):
             return "the header is broken where no copy has it"
+        if self.layout.structure.is_cut_outside:
+            return "an element is cut in every copy"
         return self.contradiction()
 
     def is_in_pixels(self, begin, end):
@@ -367,6 +369,19 @@ class Mending:
             raise Refused(f"frame {number} can't be written: {outcome.faults.strip()}", FAILED)
         segment = dicom_gaps.transform_of([stream for streams in self.streams for stream in streams])
         return dicom_gaps.with_transform(self.mender.get(stream), segment)
+
+
+def laid_out(copies):
+    """The copies on one axis, and their Layout. Where it breaks, they may have lost bytes at different places: if it goes through so."""
+    placed = on_one_axis(copies)
+    layout = Layout(placed)
+    if not is_through(layout.structure):
+        shifted = on_one_axis(copies, True)
+        if [copy.absent for copy in shifted] != [copy.absent for copy in placed]:
+            other = Layout(shifted)
+            if is_through(other.structure):
+                return shifted, other
+    return placed, layout
 
 
 def read(path):

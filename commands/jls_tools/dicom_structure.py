@@ -352,6 +352,11 @@ class Structure:
     def pixel_data(self):
         return next((element for element in self.elements if element.tag == PIXEL_DATA), None)
 
+    @property
+    def is_cut_outside(self):
+        """Whether the file ends in an element or its header that is no part of Pixel Data."""
+        return self.is_cut and bool(self.steps) and self.steps[-1].before[1][-1][0] != PIXELS
+
     def items_of_pixels(self):
         """The items of Pixel Data, as Elements, the offset table first; jumps as pairs."""
         found = []

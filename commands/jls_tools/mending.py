@@ -1,8 +1,10 @@
 """Mends one frame from its copies, by jls-splice and jls-salvage."""
+import itertools
 import os
 import re
 from dataclasses import dataclass, field
 
+from jls_tools.dicom_align import differing
 from jls_tools.dicom_frames import other_coding, shape_of
 from jls_tools.dicom_result import FAILED, FrameResult
 from jls_tools.programs import ProgramFailed
@@ -10,6 +12,9 @@ from jls_tools.programs import ProgramFailed
 # A frame is known by what stands after its headers
 HEADERS, LEAST_SHARED, LEAST_SPLICED = 64, 128, 16
 SOI = b"\xff\xd8\xff"  # and the first byte of the next marker
+LEAST_EQUAL, MOST_EQUAL = 2, 64  # equal bytes between two places that jls-splice can take for one
+SECTORS = (4096, 512)
+MOST_CROSSED = 40
 ZERO_RUN = re.compile(rb"\0{8,}")
 EQUAL_RUN = re.compile(rb"\0{4,}")
 FAULT = re.compile(r"end fault (\d+)")
@@ -77,6 +82,28 @@ def is_spliced(stream, one, other):
     return of_one >= LEAST_SPLICED and of_other >= LEAST_SPLICED
 
 
+def cuts_of(one, other, begin, sector):
+    """Places in two streams where damage of one can end and damage of the other begin: short equal ranges, and borders of sectors.
+
+    `begin` is where the streams begin in the file. jls-splice takes what is near each other for one place.
+    """
+    ranges = differing([one, other])
+    found = {last for (_, last), (first, _) in zip(ranges, ranges[1:]) if LEAST_EQUAL <= first - last <= MOST_EQUAL}
+    for first, last in ranges:
+        found.update(at - begin for at in range(-(-(first + begin) // sector) * sector, last + begin + 1, sector))
+    return sorted(at for at in found if 0 < at < len(one))
+
+
+def crossed(streams, begin, sector):
+    """Splices of two streams that have one of them before a place and the other after it. They have no byte that neither has."""
+    found = []
+    for one, other in itertools.combinations(streams, 2):
+        if len(one) == len(other):
+            for at in cuts_of(one, other, begin, sector):
+                found += [one[:at] + other[at:], other[:at] + one[at:]]
+    return [stream for stream in dict.fromkeys(found) if stream not in streams]
+
+
 class FrameMender:
     """Mends frames in a folder for temporary files."""
 
@@ -111,8 +138,11 @@ class FrameMender:
             if os.path.exists(self.path(name)):
                 os.remove(self.path(name))
 
-    def mend(self, number, streams):
-        """A Mended from the streams of a frame, which differ from each other; those of zeros alone are left out."""
+    def mend(self, number, streams, begin=0):
+        """A Mended from the streams of a frame, which differ from each other; those of zeros alone are left out.
+
+        `begin` is where the streams begin in the file.
+        """
         usable = [stream for stream in dict.fromkeys(streams) if stream.strip(b"\0")]
         if not usable:
             return Mended(FrameResult(number, "missing", note="no copy has it"))
@@ -120,9 +150,27 @@ class FrameMender:
         try:
             if len(usable) == 1:
                 return self.of_one(number, usable[0], names[0])
-            return self.of_several(number, usable, names)
+            mended = self.of_several(number, usable, names)
+            return mended if mended.is_whole else self.of_crossed(number, usable, names, begin) or mended
         finally:
             self.drop(names)
+
+    def of_crossed(self, number, streams, names, begin):
+        """A Mended that is whole, from the streams and from what has one of two before a place and the other after it; or nothing."""
+        tried = []
+        for sector in SECTORS:
+            further = crossed(streams, begin, sector)
+            if further == tried or not 0 < len(further) <= MOST_CROSSED:
+                continue
+            tried = further
+            added = [self.put(self.name(number, f"-{len(names) + at}.jls"), stream) for at, stream in enumerate(further)]
+            try:
+                mended = self.of_several(number, streams, names + added, ".crossed")
+            finally:
+                self.drop(added)
+            if mended.is_whole:
+                return mended
+        return None
 
     def check(self, name):
         return self.sure(self.programs.check(name, self.folder))
@@ -157,8 +205,8 @@ class FrameMender:
         found = re.search(r"no picture, (fault .*)", faults)
         return found.group(1) if found else "no copy reads"
 
-    def of_several(self, number, streams, names):
-        partial, file, prefix = (self.name(number, ending) for ending in (".jlsp", ".mended", ".other"))
+    def of_several(self, number, streams, names, way=""):
+        partial, file, prefix = (self.name(number, way + ending) for ending in (".jlsp", ".mended", ".other"))
         words = list(self.words)
         if self.has_files and self.wants_all:
             words += ["--files", prefix]
