@@ -21,7 +21,10 @@ enum jls_answer {
     JLS_SHORT_ROOM = 3,    /* a buffer is too short: `samples`, `lines` and `bytes` of jls_info say how long they must be */
     JLS_NO_PARTIAL = 4,    /* the bytes, of jls_join the first, are no partial picture: `fault` and `end_offset` of jls_info say why */
     JLS_NO_SECOND_PARTIAL = 5, /* the second bytes of jls_join are none: the same */
-    JLS_SHAPES_DIFFER = 6      /* the partial pictures of jls_join have different shapes: nothing was written */
+    JLS_SHAPES_DIFFER = 6,     /* the partial pictures of jls_join have different shapes: nothing was written */
+    JLS_BAD_FRAME = 7,         /* no picture has such a frame, or so many samples: nothing was written */
+    JLS_LARGE_SAMPLE = 8,      /* a sample has more bits than the precision: nothing was written */
+    JLS_LARGE_INTERVAL = 9     /* a restart interval would have more than 2^28 samples: nothing was written */
 };
 
 /* How much is known of a line: it has no reading, one, or several that differ. */
@@ -97,6 +100,15 @@ typedef struct jls_line {
     uint8_t status;    /* enum jls_status */
 } jls_line;
 
+/* How samples are to be written. */
+typedef struct jls_frame {
+    uint16_t width, height;    /* from 1 to 65535 */
+    uint16_t restart_interval; /* in lines, or 0 for none */
+    uint8_t precision;         /* bits of a sample, from 2 to 16 */
+    uint8_t components;        /* from 1 to 4 */
+    uint8_t interleaved;       /* whether all components stand in one scan, line by line; otherwise each has a scan of its own */
+} jls_frame;
+
 /* Tells what a copy, which may be damaged, says of its picture, how many of its lines it gives, and how it ended. `pieces` takes the
    first faulty pieces, as many as there is room for and at most 4096; `faulty_pieces` of `info` counts all.
    Answers JLS_DONE, JLS_NO_PICTURE or JLS_OUT_OF_MEMORY. */
@@ -125,6 +137,13 @@ uint32_t jls_join(const uint8_t *first, size_t first_size, const uint8_t *second
    Answers JLS_DONE, JLS_SHORT_ROOM, JLS_NO_PARTIAL or JLS_OUT_OF_MEMORY. At JLS_SHORT_ROOM and JLS_NO_PARTIAL only `info` is written. */
 uint32_t jls_lines(const uint8_t *partial, size_t size, jls_info *info, uint16_t *samples, size_t sample_room, jls_line *lines,
                    size_t line_room);
+
+/* Writes samples as a JPEG-LS file. Those of line y of component c begin at samples[(c * height + y) * width], and `count` is
+   width * height * components. *file_size is how many bytes the file has. Two bytes a sample and 1024 are room for most pictures. Noise
+   can take more: at JLS_SHORT_ROOM call it again with *file_size bytes.
+   Answers JLS_DONE, JLS_SHORT_ROOM, JLS_BAD_FRAME, JLS_LARGE_SAMPLE, JLS_LARGE_INTERVAL or JLS_OUT_OF_MEMORY. At JLS_SHORT_ROOM only
+   *file_size is written. */
+uint32_t jls_write(const jls_frame *frame, const uint16_t *samples, size_t count, uint8_t *file, size_t room, uint64_t *file_size);
 
 #ifdef __cplusplus
 }

@@ -111,6 +111,28 @@ def compare_lines(program, name, partial):
     differ(name, "disputed readings", [it for it in shown.readings if it > 1], several)
 
 
+def compare_writes(program, name):
+    """What is read of a whole file is written again, interleaved or not, with and without restart markers: it reads alike, and is what the
+    program writes."""
+    try:
+        picture = jls_salvage.read(content(name))
+    except jls_salvage.NoPicture:
+        return
+    info = picture.info
+    if info.settled < info.lines:
+        return
+    for interval, interleaved in ((0, False), (3, True), (1, False)):
+        sizes = info.width, info.height, info.components
+        written = jls_salvage.write(picture.samples, info.precision, *sizes, restart_interval=interval, interleaved=interleaved)
+        again = jls_salvage.read(written)
+        differ(name, "written and read", list(again.samples) == list(picture.samples) and again.info.settled == info.lines, True)
+        how = ["--ri", str(interval)] + (["--ilv", "line"] if interleaved and info.components > 1 else [])
+        with tempfile.TemporaryDirectory() as folder:
+            out = os.path.join(folder, "out.jls")
+            run(program, "write", "--as", "jls", *how, out, name)
+            differ(name, f"a file like that of the program's write {how}:", os.path.exists(out) and content(out) == written, True)
+
+
 def rows():
     """Small partial pictures of 1x1: two readings, one under a source, and none."""
     head = bytes.fromhex("4A4C535002080001000101010000000100000000000000000000")
@@ -146,6 +168,7 @@ def main():
     program, *names = sys.argv[1:]
     for name in names:
         compare(program, name)
+        compare_writes(program, name)
     compare_joins(program, names)
     rows()
     refusals()

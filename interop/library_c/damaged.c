@@ -1,17 +1,21 @@
 /* damaged FILE..: changes bytes of copies and of the partial pictures that they give, and calls all functions on them, in buffers of just
    the length that is needed. A page behind each buffer can't be read or written, since the sanitizers don't see what the library itself
-   reads. What the functions say must agree. TURNS says how often each file is changed. It prints each difference, and answers whether
-   there is one. */
+   reads. Four threads do so at once. What the functions say must agree. TURNS says how often each thread changes each file. It prints each
+   difference, and answers whether there is one. */
 #define _GNU_SOURCE
 #include <jls_salvage.h>
+#include <pthread.h>
 #include <stdio.h>
 #include <stdlib.h>
 #include <string.h>
 #include <sys/mman.h>
 
 struct bytes { uint8_t *at; size_t size; };
-static uint64_t state = 0x9E3779B97F4A7C15u, calls;
-static long differ;
+static struct bytes files[64];
+static int file_count;
+static long turns = 100;
+static _Thread_local uint64_t state, calls;
+static _Thread_local long differ;
 
 static void want(const char *what, int holds) {
     if (!holds) differ++, printf("%s\n", what);
@@ -41,7 +45,8 @@ static void release(void *at, size_t size) {
 static struct bytes damaged(struct bytes from) {
     struct bytes to = {malloc(from.size + 1), from.size};
     if (from.size > 0) memcpy(to.at, from.at, from.size);
-    for (uint64_t change = from.size == 0 ? 0 : chance() % 5; change > 0; change--) to.at[chance() % to.size] ^= (uint8_t)(1u << chance() % 8);
+    for (uint64_t change = from.size == 0 ? 0 : chance() % 5; change > 0; change--)
+        to.at[chance() % to.size] ^= (uint8_t)(1u << chance() % 8);
     if (chance() % 4 == 0 && to.size > 0) to.at[chance() % to.size] = 0xFF;
     if (chance() % 8 == 0) to.size = chance() % (to.size + 1);
     if (chance() % 8 == 0 && to.size > 0) {
@@ -112,7 +117,9 @@ static struct bytes tried(struct bytes copy) {
     memset(&read, 0, sizeof read);
     uint32_t answer = jls_check(copy.at, copy.size, &info, pieces, chance() % 4);
     calls++;
-    if (answer != JLS_DONE) return want("no picture, but one", jls_read(copy.at, copy.size, &read, NULL, 0, NULL, 0) == answer), partial;
+    int agrees = answer == JLS_DONE || jls_read(copy.at, copy.size, &read, NULL, 0, NULL, 0) == answer;
+    want("no picture, but one", agrees);
+    if (answer != JLS_DONE) return partial;
     want("other counts", info.missing + info.settled + info.disputed == info.lines && info.bytes == 0);
     if (info.samples > 1u << 22) return partial;
     uint16_t *samples = fenced(2 * info.samples);
@@ -138,18 +145,37 @@ static void turn(struct bytes file, struct bytes whole) {
     for (size_t at = 0; at < sizeof all / sizeof *all; at++) release(all[at].at, all[at].size);
 }
 
-int main(int count, char **names) {
-    long turns = getenv("TURNS") != NULL ? atol(getenv("TURNS")) : 100;
-    for (int at = 1; at < count; at++) {
-        FILE *stream = fopen(names[at], "rb");
-        if (stream == NULL) return 99;
-        struct bytes file = {malloc(1 << 22), 0};
-        file.size = fread(file.at, 1, 1 << 22, stream);
-        fclose(stream);
-        struct bytes whole = partial_of(file, 1);
-        for (long number = 0; number < turns && file.size > 0; number++) turn(file, whole);
-        free(file.at);
+/* A thread's turns at all files; it answers how many things differ. */
+static void *run(void *number) {
+    state = 0x9E3779B97F4A7C15u * (uint64_t)(uintptr_t)number;
+    for (int at = 0; at < file_count; at++) {
+        struct bytes whole = partial_of(files[at], 1);
+        for (long left = turns; left > 0 && files[at].size > 0; left--) turn(files[at], whole);
         release(whole.at, whole.size);
     }
-    return printf("%lu calls, %ld differ\n", (unsigned long)calls, differ), differ != 0;
+    printf("%lu calls, %ld differ\n", (unsigned long)calls, differ);
+    return (void *)(intptr_t)differ;
+}
+
+int main(int count, char **names) {
+    if (getenv("TURNS") != NULL) turns = atol(getenv("TURNS"));
+    for (int at = 1; at < count && file_count < 64; at++) {
+        FILE *stream = fopen(names[at], "rb");
+        if (stream == NULL) return 99;
+        struct bytes *file = &files[file_count++];
+        file->at = malloc(1 << 22);
+        file->size = fread(file->at, 1, 1 << 22, stream);
+        fclose(stream);
+    }
+    pthread_t threads[4];
+    intptr_t all = 0;
+    for (uintptr_t at = 0; at < 4; at++)
+        if (pthread_create(&threads[at], NULL, run, (void *)(at + 1)) != 0) return 98;
+    for (int at = 0; at < 4; at++) {
+        void *more = NULL;
+        pthread_join(threads[at], &more);
+        all += (intptr_t)more;
+    }
+    for (int at = 0; at < file_count; at++) free(files[at].at);
+    return all != 0;
 }

@@ -28,6 +28,8 @@ static uint16_t samples[ROOM];
 static jls_line lines[4096];
 static size_t size, partial_size, other_size;
 static jls_info info;
+static jls_frame frame;
+static uint16_t picture[ROOM];
 
 static uint32_t call(int which) {
     switch (which) {
@@ -35,7 +37,8 @@ static uint32_t call(int which) {
     case 1: return jls_read(copy, size, &info, samples, ROOM, out, ROOM);
     case 2: return jls_partial(copy, size, 7, &info, out, ROOM);
     case 3: return jls_join(partial, partial_size, other, other_size, &info, out, ROOM);
-    default: return jls_lines(partial, partial_size, &info, samples, ROOM, lines, 4096);
+    case 4: return jls_lines(partial, partial_size, &info, samples, ROOM, lines, 4096);
+    default: return jls_write(&frame, picture, (size_t)frame.width * frame.height, out, ROOM, &info.bytes);
     }
 }
 
@@ -73,7 +76,9 @@ int main(int count, char **names) {
         partial_size = info.bytes;
         if (jls_partial(copy, size * 2 / 3, 2, &info, other, ROOM) != JLS_DONE) continue;
         other_size = info.bytes;
-        for (int which = 0; which < 5; which++) refuse(which), all++;
+        frame = (jls_frame){(uint16_t)(3 + 7 * at), (uint16_t)(9 + at), (uint16_t)(at % 3), 16, 1, 0};
+        for (size_t sample = 0; sample < 4096; sample++) picture[sample] = (uint16_t)(sample * sample * 40503u >> 7);
+        for (int which = 0; which < 6; which++) refuse(which), all++;
     }
     return printf("%ld calls, %d differ\n", all, differ), differ != 0;
 }

@@ -12,6 +12,10 @@
     jls_salvage.lines(jls_salvage.join(first, second))   # what both copies give together
 
 A partial picture is the bytes of a .jlsp file. One that is damaged raises `NoPartial`, and two of different shapes raise `ShapesDiffer`.
+
+    jls_salvage.write(picture.array(), 8)           # a JPEG-LS file
+
+Samples that no such file can have raise `NotWritable`.
 """
 from ._library import (
     BEYOND,
@@ -26,6 +30,7 @@ from ._library import (
     MissingLibrary,
     NoPartial,
     NoPicture,
+    NotWritable,
     Picture,
     Piece,
     ShapesDiffer,
@@ -34,6 +39,7 @@ from ._library import (
     lines,
     partial,
     read,
+    write,
 )
 
 __all__ = [
@@ -49,6 +55,7 @@ __all__ = [
     "MissingLibrary",
     "NoPartial",
     "NoPicture",
+    "NotWritable",
     "Picture",
     "Piece",
     "ShapesDiffer",
@@ -57,4 +64,5 @@ __all__ = [
     "lines",
     "partial",
     "read",
+    "write",
 ]

@@ -13,6 +13,7 @@ from typing import Any, Callable, List, Optional, Sequence, Union
 Bytes = Union[bytes, bytearray, memoryview]
 
 DONE, OUT_OF_MEMORY, NO_PICTURE, SHORT_ROOM, NO_PARTIAL, NO_SECOND_PARTIAL, SHAPES_DIFFER = range(7)
+BAD_FRAME, LARGE_SAMPLE, LARGE_INTERVAL = range(7, 10)
 
 #: The statuses of a line: it has no reading, one, or several that differ.
 MISSING, SETTLED, DISPUTED = range(3)
@@ -63,6 +64,10 @@ class ShapesDiffer(Error, ValueError):
         super().__init__("the shapes differ")
 
 
+class NotWritable(Error, ValueError):
+    """No JPEG-LS file has such samples: the message says why."""
+
+
 class End(enum.IntEnum):
     """Where a copy ends: at the marker EOI, with the input, or at the first fault of its headers."""
 
@@ -88,6 +93,13 @@ class _Piece(ctypes.Structure):
 
 class _Line(ctypes.Structure):
     _fields_ = [("readings", ctypes.c_uint64), ("status", ctypes.c_uint8)]
+
+
+class _Frame(ctypes.Structure):
+    _fields_ = [
+        *((name, ctypes.c_uint16) for name in ("width", "height", "restart_interval")),
+        *((name, ctypes.c_uint8) for name in ("precision", "components", "interleaved")),
+    ]
 
 
 @dataclass(frozen=True)
@@ -175,8 +187,9 @@ def _library() -> ctypes.CDLL:
     library.jls_partial.argtypes = [nothing, size, ctypes.c_uint32, info, nothing, size]
     library.jls_join.argtypes = [nothing, size, nothing, size, info, nothing, size]
     library.jls_lines.argtypes = [nothing, size, info, nothing, size, ctypes.POINTER(_Line), size]
-    for function in (library.jls_check, library.jls_read, library.jls_partial, library.jls_join, library.jls_lines):
-        function.restype = ctypes.c_uint32
+    library.jls_write.argtypes = [ctypes.POINTER(_Frame), nothing, size, nothing, size, ctypes.POINTER(ctypes.c_uint64)]
+    for name in ("check", "read", "partial", "join", "lines", "write"):
+        getattr(library, f"jls_{name}").restype = ctypes.c_uint32
     return library
 
 
@@ -313,3 +326,61 @@ def lines(partial: Bytes) -> Picture:
         if found.samples <= len(samples) and found.lines <= len(room):
             raise Error(f"libjls_salvage: answer {answer}")
         room, (samples, address) = (_Line * found.lines)(), _room(found.samples)
+
+
+REFUSALS = {
+    BAD_FRAME: "no picture has such a frame, or so many samples",
+    LARGE_SAMPLE: "a sample has more bits than the precision",
+    LARGE_INTERVAL: "a restart interval of more than 2^28 samples: give restart_interval",
+}
+
+
+def _planes(samples: Any, frame: _Frame) -> array.array:
+    """The samples of a numpy array, or of any sequence of numbers, by component, then by line."""
+    try:
+        import numpy
+    except ImportError:
+        return array.array("H", samples)
+    if not isinstance(samples, numpy.ndarray):
+        return array.array("H", samples)
+    if samples.size and (samples.min() < 0 or samples.max() > 65535):
+        raise NotWritable(REFUSALS[LARGE_SAMPLE])
+    planes = numpy.moveaxis(samples, -1, 0) if samples.ndim == 3 else samples
+    frame.height, frame.width = planes.shape[-2:] if samples.ndim > 1 else (frame.height, frame.width)
+    frame.components = planes.shape[0] if samples.ndim == 3 else frame.components
+    return array.array("H", numpy.ascontiguousarray(planes, dtype=numpy.uint16).tobytes())
+
+
+def write(
+    samples: Any,
+    precision: int,
+    width: int = 0,
+    height: int = 0,
+    components: int = 1,
+    *,
+    restart_interval: int = 0,
+    interleaved: bool = False,
+) -> bytes:
+    """Writes samples as a JPEG-LS file. They are a numpy array of (height, width) or (height, width, components), which says the sizes, or
+    any sequence of numbers by component, then by line. `restart_interval` is in lines, and 0 for none. Raises `NotWritable` and
+    MemoryError."""
+    fields = (width, height, restart_interval, precision, components)
+    if not all(0 <= value <= most for value, most in zip(fields, (65535, 65535, 65535, 255, 255))):
+        raise NotWritable(REFUSALS[BAD_FRAME])
+    frame, size = _Frame(*fields, interleaved), ctypes.c_uint64()
+    try:
+        planes = _planes(samples, frame)
+    except OverflowError:
+        raise NotWritable(REFUSALS[LARGE_SAMPLE]) from None
+    room = 2 * len(planes) + 1024
+    while True:
+        out = (ctypes.c_uint8 * room)()
+        answer = _library().jls_write(frame, planes.buffer_info()[0], len(planes), ctypes.addressof(out), room, ctypes.byref(size))
+        if answer in REFUSALS:
+            raise NotWritable(REFUSALS[answer])
+        _judge(answer, _Info())
+        if answer == DONE:
+            return ctypes.string_at(out, size.value)
+        if size.value <= room:
+            raise Error(f"libjls_salvage: answer {answer}")
+        room = size.value

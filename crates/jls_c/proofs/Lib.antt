@@ -4,3 +4,4 @@ pub mod Sizes
 pub mod Told
 pub mod Fitting
 pub mod Texts
+pub mod Writes

@@ -3,3 +3,4 @@ pub mod Info
 pub mod Lines
 pub mod PartialAnswers
 pub mod TextFaults
+pub mod Written

@@ -14,3 +14,9 @@ pub const NO_PARTIAL: u32 = 4;
 pub const NO_SECOND_PARTIAL: u32 = 5;
 /// Two partial pictures are of different shapes.
 pub const SHAPES_DIFFER: u32 = 6;
+/// There is no such shape, or it has another number of samples.
+pub const BAD_FRAME: u32 = 7;
+/// A sample has more bits than the precision.
+pub const LARGE_SAMPLE: u32 = 8;
+/// A restart interval would have more than 2^28 samples.
+pub const LARGE_INTERVAL: u32 = 9;

@@ -77,6 +77,14 @@ impl<T> Counted<T> {
             ledger: Ledger::new(),
         }
     }
+
+    /// What the device is over. Its history ends here.
+    pub fn into_inner(self) -> T
+        ensures { result ≡ self.inner }
+    {
+        let Self { inner, .. } = self;
+        inner
+    }
 }
 
 impl<R: Read> Source for Counted<R> {
