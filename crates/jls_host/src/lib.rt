@@ -6,8 +6,9 @@
 //! - `machine`: the trait `Machine`, which a test can implement
 //! - `host`: opens the files and standard streams of the machine (`HostFiles`), and holds the descriptors of closed standard streams
 //!   (`hold_streams`)
+//! - `program`: runs a program over them (`run_program`)
 //!
-//! What `host` and `output` do to a file is trusted, as `docs/AUDIT.md` says. Definitions: `Choices`.
+//! What `host`, `output` and `program` do to a file is trusted, as `docs/AUDIT.md` says. Definitions: `Choices`.
 //!
 //! Not proved:
 //!
@@ -20,9 +21,11 @@ mod host;
 mod machine;
 mod name;
 mod output;
+mod program;
 
 pub use choice::{Ending, Standing, Way, begins_as_jpeg, ending_of_run, way_to_make};
 pub use host::{Guard, HostFiles, Streams, hold_streams};
 pub use machine::Machine;
 pub use name::{Name, name_beside};
 pub use output::Output;
+pub use program::{Program, run_program};
