@@ -15,6 +15,10 @@ module _ {T E : Type 0} where
   ok_then (Ok x) A B a f = f x a
   ok_then (Err e) A B a f = tt
 
+  pub ok_with : (r : Result T E) (A B C : T → Type 0) → IfOk r A → IfOk r B → ((x : T) → A x → B x → C x) → IfOk r C
+  ok_with (Ok x) A B C a b f = f x a b
+  ok_with (Err e) A B C a b f = tt
+
   pub fault_then : (r : Result T E) (A B : E → Type 0) → IfErr r A → ((e : E) → A e → B e) → IfErr r B
   fault_then (Ok x) A B a f = tt
   fault_then (Err e) A B a f = f e a

@@ -1,17 +1,20 @@
 //! A caller for each step of `Collected` of jls_headline. Each makes the calls of one step, or of a few, and its contract is that they take
 //! a history on. So no step asks more than the contract of its call gives. `write_station` goes from a history to the bytes that a sink
 //! took. `known` says of known bytes what a call makes of them: how far it reads, and why it has no picture or
-//! another shape. No program calls them.
+//! another shape. `unfailed` says what is left if no read of a source failed: how a reading stops, and why an input is refused. No program
+//! calls them.
 #![tactic(auto)]
 
 mod known;
 mod reading;
 mod taking;
 mod texts;
+mod unfailed;
 mod writing;
 
 pub use known::{read_known, take_any_text, take_known};
 pub use reading::{read_any, read_in_memory};
 pub use taking::{take_first, take_next, take_other};
 pub use texts::{read_back, take_cut_text, take_its_text, take_text_of_another_shape, text_of};
+pub use unfailed::{read_unfailed, take_unfailed};
 pub use writing::write_station;

@@ -1,5 +1,6 @@
 -- What comes of a copy whose source has known bytes left.
-use Rattle.std.proofs.Common.{◌≡◌, ℕ, List, Option, Some, None, length, refl, sym, subst, ap}
+use Rattle.std.proofs.Common.{◌≡◌, ◌≤◌, ℕ, List, ◌++◌, Option, Some, None, length, refl, sym, subst, ap, arith}
+use Rattle.std.proofs.lemmas.List.{length-append}
 use Rattle.std.specs.Prelude.{IfSome, IsSomeAnd}
 use Rattle.jls_partial.specs.Partial.{PartialPicture}
 use Rattle.jls_copy.specs.CopyReads.{CopyReads, CopyGivesNone}
@@ -36,6 +37,18 @@ module _ (source : Option ℕ) (stop : ReadStop) where
         reads_as = h.1;
         partial_is = h.2;
       }
+
+  -- and its report counts no more bytes than there are
+  pub known_copy_count : (before reader : Option (List ℕ)) (p : PartialPicture) (report : CopyReport)
+      → IsSomeAnd reader (λ front. IfSome before (λ bytes. IsFrontOf bytes front stop))
+      → IfSome reader (λ bytes. (r : ReadCopy) × CopyReads bytes r × (p ≡ marked source r.partial) × (report ≡ report_of bytes r stop))
+      → IfSome before (λ bytes. report.found.count ≤ length bytes)
+  known_copy_count before None p report k h = absurd k
+  known_copy_count None (Some front) p report k h = tt
+  known_copy_count (Some bytes) (Some front) p report k h =
+      let counted : report.found.count ≡ length front = ap (λ (r : CopyReport). r.found.count) h.3 in
+      let all : length bytes ≡ length (front ++ k.behind) = ap length k.bytes_are in
+      omega (arith, counted, all, length-append front k.behind)
 
 module _ (source : Option ℕ) (held : PartialPicture) where
   -- of a copy for which memory ran out nothing is said

@@ -2,6 +2,7 @@
 pub mod CopyEnds
 pub mod CopySteps
 pub mod KnownCopies
+pub mod KnownInputs
 pub mod Mapped
 pub mod OneInput
 pub mod CopiesInTurn

@@ -3,6 +3,7 @@ use Rattle.std.specs.Prelude.{◌≡◌, ℕ, true, List, Option, None, IfSome}
 use Rattle.jls_io.specs.Event.{Event}
 use Rattle.jls_station.specs.Inputs.{IsEnough, ReadsGive}
 use Rattle.jls_station.specs.KnownCopies.{BytesGive}
+use Rattle.jls_station.specs.KnownInputs.{CountsWithin}
 use Rattle.jls_station.specs.Reading.{IsRead}
 use Rattle.jls_station.specs.Texts.{is_text}
 use Rattle.jls_station.specs.declared.input.InputForm.{InputForm}
@@ -23,3 +24,8 @@ IsAllOf known bytes (Copy given) = given.copy ≡ None → ⊥
 abbrev pub IsGivenBy : Option ℕ → InputForm → List ℕ → Type 0
 IsGivenBy source Text bytes = Unit {0}
 IsGivenBy source (Copy given) bytes = BytesGive source given.partial given.stop bytes
+
+-- of a copy no more bytes were read than these; of a text nothing is said
+abbrev pub IsCountedIn : InputForm → List ℕ → Type 0
+IsCountedIn Text bytes = Unit {0}
+IsCountedIn (Copy given) bytes = CountsWithin given bytes

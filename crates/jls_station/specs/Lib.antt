@@ -4,6 +4,7 @@ pub mod Given
 pub mod InputFaults
 pub mod Inputs
 pub mod KnownCopies
+pub mod KnownInputs
 pub mod Reading
 pub mod TakingCopies
 pub mod Texts

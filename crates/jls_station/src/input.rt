@@ -3,11 +3,12 @@
 ghost use Rattle.std.specs.Prelude.{◌≡◌, ◌↔◌, ◌<◌, ◌≤◌, ℕ, IsTrue, List, Option, None, Some, true, false, length, IfOk, IfErr, IfSome, OnOk, MatchOption};
 ghost use Rattle.std.specs.Io.KnownBytes.{Consumes};
 ghost use Rattle.jls_io.specs.Event.{History, GrewBy};
-ghost use Rattle.jls_station.specs.Forms.{IsForm, IsAllOf, IsGivenBy};
+ghost use Rattle.jls_station.specs.Forms.{IsForm, IsAllOf, IsCountedIn, IsGivenBy};
 ghost use Rattle.jls_station.specs.Given.{given_by_text, given_of};
 ghost use Rattle.jls_station.specs.Inputs.{IsEnough, IsCopyDone, ReadsGive, ReadsRefuse};
 ghost use Rattle.jls_station.specs.InputFaults.{input_fault_of};
 ghost use Rattle.jls_station.specs.KnownCopies.{BytesGive};
+ghost use Rattle.jls_station.specs.KnownInputs.{CountsWithin, RefusesInput};
 ghost use Rattle.jls_station.specs.Reading.{IsRead, ReadSoFar};
 ghost use Rattle.jls_station.specs.Texts.{is_text, IsTextOf};
 ghost use Rattle.jls_station.specs.declared.input.InputFault.TheVariants.{OutOfMemory};
@@ -161,6 +162,8 @@ fn read_text<S: Source>(device: &mut S, first: &[u8], text: &mut Vec<u8>) -> Res
         → IfErr result (λ fault. GrewBy (ReadsRefuse fault) before (S.history device.new)) }
     ensures known { (before : Option (List ℕ)) → Consumes before (S.remaining device.old) first.now
         → OnOk result (IfSome before (λ bytes. bytes ≡ text.new.items)) }
+    ensures known_refused { (before : Option (List ℕ)) → Consumes before (S.remaining device.old) first.now
+        → IfErr result (λ fault. IfSome before (λ bytes. RefusesInput bytes fault)) }
 {
     text.clear();
     text.extend_from_slice(first)?;
@@ -188,6 +191,10 @@ fn read_copy<S: Source>(
     ensures copy { IfOk result (λ given. given.copy ≡ None → ⊥) }
     ensures known { (before : Option (List ℕ)) → Consumes before (S.remaining device.old) first.now
         → IfOk result (λ given. IfSome before (BytesGive source given.partial given.stop)) }
+    ensures known_refused { (before : Option (List ℕ)) → Consumes before (S.remaining device.old) first.now
+        → IfErr result (λ fault. IfSome before (λ bytes. RefusesInput bytes fault)) }
+    ensures known_count { (before : Option (List ℕ)) → Consumes before (S.remaining device.old) first.now
+        → IfOk result (λ given. IfSome before (CountsWithin given)) }
 {
     let mut reader = CopyReader::new(alloc);
     reader.feed(first)?;
@@ -218,6 +225,8 @@ pub fn read_form<S: Source>(
     ensures refused { IfErr result (λ fault. GrewBy (ReadsRefuse fault) (S.history device.old) (S.history device.new)) }
     ensures known { IfOk result (λ form. IsAllOf (S.remaining device.old) text.new.items form) }
     ensures known_copy { IfOk result (λ form. IfSome (S.remaining device.old) (IsGivenBy source form)) }
+    ensures known_refused { IfErr result (λ fault. IfSome (S.remaining device.old) (λ bytes. RefusesInput bytes fault)) }
+    ensures known_count { IfOk result (λ form. IfSome (S.remaining device.old) (IsCountedIn form)) }
 {
     copies_have_one_course();
     let mut chunk = [0u8; 4096];
@@ -254,6 +263,8 @@ pub fn read_input<S: Source>(
     ensures known { IfOk result (λ given. given.copy ≡ None → IfSome (S.remaining device.old) (λ bytes. IsTextOf bytes given.partial)) }
     ensures known_copy { IfOk result (λ given. (given.copy ≡ None → ⊥)
         → IfSome (S.remaining device.old) (BytesGive source given.partial given.stop)) }
+    ensures known_refused { IfErr result (λ fault. IfSome (S.remaining device.old) (λ bytes. RefusesInput bytes fault)) }
+    ensures known_count { IfOk result (λ given. IfSome (S.remaining device.old) (CountsWithin given)) }
 {
     let mut text = Vec::new(alloc);
     let form = read_form(alloc, source, device, &mut text)?;

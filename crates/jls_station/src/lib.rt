@@ -9,12 +9,8 @@
 //! - `copies`: all copies in turn, until one is not taken
 //!
 //! Definitions: `Reading` (how an input is read), `Texts`, `Given` (what an input gives), `Inputs` and `InputFaults` (why one is refused),
-//! `TakingCopies`, `CopyFiles`. Inside the crate: `Forms`.
-//!
-//! Not proved:
-//!
-//! - If the bytes of a source are known, the picture of a text is that of these bytes (`known`). No clause says so of a copy or of a
-//!   refusal.
+//! `TakingCopies`, `KnownCopies` (what comes of a copy of known bytes), `KnownInputs` (why an input of known bytes is refused, and how many
+//! bytes were read of a copy), `CopyFiles`. Inside the crate: `Forms`.
 #![tactic(auto)]
 
 mod copies;

@@ -1,6 +1,6 @@
 //! Copies that a station takes.
 
-ghost use Rattle.std.specs.Prelude.{IfOk, IfErr, IfSome};
+ghost use Rattle.std.specs.Prelude.{◌≤◌, length, IfOk, IfErr, IfSome};
 ghost use Rattle.jls_io.specs.Event.{GrewBy};
 ghost use Rattle.jls_partial.specs.Partial.{PartialPicture};
 ghost use Rattle.jls_station.specs.KnownCopies.{BytesGive, TakesBytes, RefusesBytes};
@@ -55,6 +55,7 @@ fn read_from_start<S: Source>(
     ensures known { IfOk result (λ given. IfSome (S.remaining device.old) (BytesGive source given.partial given.report.stop)) }
     ensures known_refused { (held : PartialPicture)
         → IfErr result (λ fault. IfSome (S.remaining device.old) (λ bytes. RefusesBytes source held bytes fault)) }
+    ensures known_count { IfOk result (λ given. IfSome (S.remaining device.old) (λ bytes. given.report.found.count ≤ length bytes)) }
 {
     let mut reader = CopyReader::new(alloc);
     let stop = read_copy_on(device, &mut reader, 0).map_err(|_| TakeFault::OutOfMemory)?;
@@ -83,6 +84,7 @@ impl Station {
             IfSome (S.remaining device.old) (TakesBytes source self.old self.new report.stop)) }
         ensures known_refused { IfErr result (λ fault.
             IfSome (S.remaining device.old) (λ bytes. RefusesBytes source self.old bytes fault)) }
+        ensures known_count { IfOk result (λ report. IfSome (S.remaining device.old) (λ bytes. report.found.count ≤ length bytes)) }
     {
         let given = read_from_start(self.allocator(), source, device)?;
         match self.take(&given.partial) {

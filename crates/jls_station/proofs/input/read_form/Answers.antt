@@ -1,13 +1,15 @@
 use Rattle.std.proofs.Common.{rules, ◌≡◌, ◌<◌, ℕ, List, [], ap, refl, sym, subst, arith, length, take}
 use Rattle.std.proofs.lemmas.List.{length-take}
-use Rattle.std.proofs.lemmas.Result.{IfErr-at_err, IfOk-at_ok, err_from_is_err_and}
+use Rattle.std.proofs.lemmas.Result.{IfErr-at_err, IfOk-at_ok, MatchResult-at_ok, err_from_is_err_and}
 use Rattle.jls_marker.specs.declared.fault.MarkerFault.TheVariants as marker
+use Rattle.std.specs.Io.KnownBytes.{Consumes}
 use Rattle.jls_io.specs.Event.{GrewBy}
 use Rattle.jls_station.specs.Inputs.{IsEnough, IsCopyDone, no_picture, copy_not_read}
 use Rattle.jls_station.specs.Reading.{AreBytes, ReadSoFar}
 use Rattle.jls_station.specs.declared.input.ReadStop.TheVariants.{Whole, Failed}
 use Rattle.jls_station.specs.declared.input.InputFault.TheVariants as fault
 use Rattle.jls_station.proofs.Mapped.{error_at, value_at}
+use Rattle.jls_station.proofs.KnownInputs.{none_read, empty_refused, text_counted}
 use Rattle.jls_station.proofs.OneInput.{nothing_read, one_read_more, read_to_end, read_to_failure, refused_for, empty_gives_none, empty_goes_on}
 use Rattle.jls_station.proofs.input.read_form.Given.{Over}
 use Rattle.jls_station.proofs.input.read_form.Goals.{After-front-first}
@@ -72,3 +74,44 @@ pub returns-in_err-read-clause-refused : goal.returns-in_err-read-clause-refused
 returns-in_err-read-clause-refused g c =
     let p = err_from_is_err_and c.from_residual-in_err-read.result c.from_residual-in_err-read.ensures.1 in
     rw (p.1, p.2) (c.in_err-read.ensures.refused _ (first_gave g (goal.at.returns-in_err-read-clause-refused g c).After-front-first IsCopyDone (empty_goes_on c.copies_have_one_course.ensures)))
+
+-- the first read took what it gave from the known bytes
+first_taken : (g : Over) (c : After-front-first g)
+    → Consumes (g.S.Source.remaining c.args.device.now) (g.S.Source.remaining c.read_some.new.self) c.front-first.result.now
+first_taken g c =
+    let was = value_at _ c.read_some.result c.map_err.result c.in_ok-count.count c.map_err.ensures.cases c.in_ok-count.was in
+    subst (λ (t : List ℕ). Consumes (g.S.Source.remaining c.args.device.now) (g.S.Source.remaining c.read_some.new.self) t)
+    (sym c.front-first.ensures.front) (MatchResult-at_ok _ _ _ was c.read_some.ensures.bytes).0
+
+pub returns-in_err-count-clause-known_refused : goal.returns-in_err-count-clause-known_refused
+returns-in_err-count-clause-known_refused g c =
+    let made = error_at _ (λ _. fault.Read Failed 0) (λ e r made. search rules) c.read_some.result c.map_err.result c.in_err-count.field-0.0 c.map_err.ensures.cases c.in_err-count.was in
+    let p = err_from_is_err_and c.from_residual.result c.from_residual.ensures.1 in
+    rw (p.1, p.2, made.1) (none_read (g.S.Source.remaining c.args.device.now))
+
+pub returns-then-count-eq0-clause-known_refused : goal.returns-then-count-eq0-clause-known_refused
+returns-then-count-eq0-clause-known_refused g c =
+    let old = g.S.Source.remaining c.args.device.now in
+    let new = g.S.Source.remaining c.read_some.new.self in
+    let was = value_at _ c.read_some.result c.map_err.result c.in_ok-count.count c.map_err.ensures.cases c.in_ok-count.was in
+    let read = MatchResult-at_ok _ _ _ was c.read_some.ensures.bytes in
+    let none = ap (λ (k : ℕ). take k c.read_some.new.into) c.if-count-eq0.true in
+    let room : length c.read_some.new.into ≡ 4096 = search rules in
+    empty_refused old new (subst (λ (t : List ℕ). Consumes old new t) none read.0) (read.1 c.if-count-eq0.true (omega (arith, room)))
+
+pub returns-in_err-read_text-clause-known_refused : goal.returns-in_err-read_text-clause-known_refused
+returns-in_err-read_text-clause-known_refused g c =
+    let p = err_from_is_err_and c.from_residual-in_err-read_text.result c.from_residual-in_err-read_text.ensures.1 in
+    rw (p.1, p.2) (c.in_err-read_text.ensures.known_refused _ (first_taken g (goal.at.returns-in_err-read_text-clause-known_refused g c).After-front-first))
+
+pub returns-in_err-read-clause-known_refused : goal.returns-in_err-read-clause-known_refused
+returns-in_err-read-clause-known_refused g c =
+    let p = err_from_is_err_and c.from_residual-in_err-read.result c.from_residual-in_err-read.ensures.1 in
+    rw (p.1, p.2) (c.in_err-read.ensures.known_refused _ (first_taken g (goal.at.returns-in_err-read-clause-known_refused g c).After-front-first))
+
+pub returns-in_ok-read_text-clause-known_count : goal.returns-in_ok-read_text-clause-known_count
+returns-in_ok-read_text-clause-known_count g c = text_counted (g.S.Source.remaining c.args.device.now)
+
+pub returns-in_ok-read-clause-known_count : goal.returns-in_ok-read-clause-known_count
+returns-in_ok-read-clause-known_count g c =
+    c.in_ok-read.ensures.known_count _ (first_taken g (goal.at.returns-in_ok-read-clause-known_count g c).After-front-first)

@@ -5,13 +5,15 @@ use Rattle.jls_partial.specs.Partial.{PartialPicture}
 use Rattle.jls_partial.specs.TextReading.{GivesText, read_text}
 use Rattle.jls_partial.specs.declared.text_fault.TextFault.{TextFault}
 use Rattle.jls_io.specs.Event.{GrewBy}
-use Rattle.jls_station.specs.Forms.{IsForm, IsGivenBy}
+use Rattle.jls_station.specs.Forms.{IsForm, IsAllOf, IsCountedIn, IsGivenBy}
 use Rattle.jls_station.specs.Given.{Given}
 use Rattle.jls_station.specs.Inputs.{ReadsGive}
 use Rattle.jls_station.specs.InputFaults.{input_fault_of}
+use Rattle.jls_station.specs.KnownInputs.{CountsWithin}
 use Rattle.jls_station.specs.Texts.{IsTextOf}
 use Rattle.jls_station.specs.declared.input.InputForm.{InputForm}
 use Rattle.jls_station.proofs.Mapped.{error_at, value_at}
+use Rattle.jls_station.proofs.KnownInputs.{none_counted, text_refused}
 use Rattle.jls_station.proofs.OneInput.{all_read, refused_by, text_gives}
 use Rattle.jls_station.proofs.input.read_input.Goals as goal
 
@@ -42,3 +44,26 @@ returns-in-Text-clause-given g c =
 pub returns-clause-known_copy : goal.returns-clause-known_copy
 returns-clause-known_copy g c copied =
     subst (λ (f : InputForm). IfSome (g.S.Source.remaining c.args.device.now) (IsGivenBy c.args.source f)) c.in-Copy.is c.in_ok-form.ensures.known_copy
+
+pub returns-in_err-partial-in-Text-clause-known_refused : goal.returns-in_err-partial-in-Text-clause-known_refused
+returns-in_err-partial-in-Text-clause-known_refused g c =
+    let old = g.S.Device.history c.args.device.now in
+    let new = g.S.Device.history c.read_form.new.device in
+    let left = g.S.Source.remaining c.args.device.now in
+    let bytes = c.read_form.new.text.items in
+    let form = subst (λ (f : InputForm). GrewBy (IsForm c.args.source bytes f) old new) c.in-Text.is c.in_ok-form.ensures.form in
+    let all = subst (λ (f : InputForm). IsAllOf left bytes f) c.in-Text.is c.in_ok-form.ensures.known in
+    let made = error_at _ input_fault_of (λ e r made. search rules) c.from_bytes.result c.map_err.result c.in_err-partial-in-Text.field-0.0 c.map_err.ensures.cases c.in_err-partial-in-Text.was in
+    let exact = subst (λ (t : List ℕ). GivesText (λ q. q) c.from_bytes.result (read_text t)) c.deref.ensures.value c.from_bytes.ensures.exact in
+    let fails = subst (λ (r : Result PartialPicture TextFault). GivesText (λ q. q) r (read_text bytes)) made.2 exact in
+    let p = err_from_is_err_and c.from_residual-in_err-partial-in-Text.result c.from_residual-in_err-partial-in-Text.ensures.1 in
+    rw (p.1, p.2, made.1) (text_refused bytes form.they_are.1 left all made.0 fails)
+
+pub returns-in-Text-clause-known_count : goal.returns-in-Text-clause-known_count
+returns-in-Text-clause-known_count g c =
+    let left = g.S.Source.remaining c.args.device.now in
+    subst (λ (x : Given). IfSome left (CountsWithin x)) (sym c.of_text.ensures) (none_counted left c.in_ok-partial-in-Text.partial)
+
+pub returns-clause-known_count : goal.returns-clause-known_count
+returns-clause-known_count g c =
+    subst (λ (f : InputForm). IfSome (g.S.Source.remaining c.args.device.now) (IsCountedIn f)) c.in-Copy.is c.in_ok-form.ensures.known_count

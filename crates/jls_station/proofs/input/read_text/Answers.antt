@@ -1,10 +1,13 @@
 use Rattle.std.proofs.Common.{rules, ◌≡◌, ◌∙◌, ◌++◌, ℕ, List, [], ap, sym, subst, arith, length}
 use Rattle.std.proofs.lemmas.Result.{err_from_is_err_and}
+use Rattle.std.specs.Prelude.{IfSome}
 use Rattle.jls_io.specs.Event.{GrewBy}
 use Rattle.jls_station.specs.Inputs.{IsEnough, text_not_read, ReadsRefuse}
+use Rattle.jls_station.specs.KnownInputs.{RefusesInput}
 use Rattle.jls_station.specs.Reading.{IsRead}
 use Rattle.jls_station.specs.declared.input.ReadStop.{ReadStop}
 use Rattle.jls_station.specs.declared.input.InputFault.TheVariants as fault
+use Rattle.jls_station.proofs.KnownInputs.{input_ran_out, text_unread}
 use Rattle.jls_station.proofs.OneInput.{out_of_memory_in_part, read_in_part, refused_for, known_all}
 use Rattle.jls_station.proofs.input.read_text.Goals as goal
 
@@ -48,3 +51,22 @@ returns-in-Whole-clause-known g c before h =
     let remaining = g.S.Source.remaining in
     known_all before (remaining c.read_text_on.new.device) c.read_text_on.new.bytes.items
     (c.in_ok-stop.ensures.known before (rw (first_held c.clear.ensures.items c.in_ok-extend_from_slice.ensures.items) at h)) (c.in_ok-stop.ensures.end c.in-Whole.is)
+
+pub returns-in_err-extend_from_slice-clause-known_refused : goal.returns-in_err-extend_from_slice-clause-known_refused
+returns-in_err-extend_from_slice-clause-known_refused g c before h =
+    let p = err_from_is_err_and c.from_residual.result c.from_residual.ensures.1 in
+    rw (p.1, p.2) (input_ran_out before)
+
+pub returns-in_err-stop-clause-known_refused : goal.returns-in_err-stop-clause-known_refused
+returns-in_err-stop-clause-known_refused g c before h =
+    let p = err_from_is_err_and c.from_residual-in_err-stop.result c.from_residual-in_err-stop.ensures.1 in
+    rw (p.1, p.2) (input_ran_out before)
+
+pub returns-in_default-clause-known_refused : goal.returns-in_default-clause-known_refused
+returns-in_default-clause-known_refused g c before h =
+    let bytes = c.read_text_on.new.bytes.items in
+    let stop = c.in_ok-stop.stop in
+    let count : c.len.result ≡ length bytes = search rules in
+    subst (λ (n : ℕ). IfSome before (λ t. RefusesInput t (fault.Read stop n))) (sym count)
+    (text_unread before (g.S.Source.remaining c.read_text_on.new.device) bytes stop c.in_default.not-Whole
+    (c.in_ok-stop.ensures.known before (rw (first_held c.clear.ensures.items c.in_ok-extend_from_slice.ensures.items) at h)))

@@ -6,7 +6,7 @@ use Rattle.jls_station.specs.Reading.{IsReadInPart}
 use Rattle.jls_station.specs.TakingCopies.{CopyStops, between_reads}
 use Rattle.jls_station.specs.declared.take_copy.TakeFault.TheVariants as take
 use Rattle.jls_station.proofs.CopyEnds.{is_taken, whole_copy_gives, whole_copy_stops}
-use Rattle.jls_station.proofs.KnownCopies.{known_copy_gives, known_copy_stops, ran_out}
+use Rattle.jls_station.proofs.KnownCopies.{known_copy_count, known_copy_gives, known_copy_stops, ran_out}
 use Rattle.jls_station.proofs.Mapped.{error_as, error_at, value_at, value_so}
 use Rattle.jls_station.proofs.OneInput.{nothing_read, consumes_nothing}
 use Rattle.jls_station.proofs.take_copy.read_from_start.Goals as goal
@@ -71,3 +71,12 @@ returns-clause-known_refused g c held =
     error_as _ c.read_of_copy.result c.map_err-2.result _ _
     (λ fault taken made h. known_copy_stops c.args.source held c.in_ok-stop.stop before c.read_copy_on.new.reader fault taken front h (search rules))
     c.map_err-2.ensures.cases c.read_of_copy.ensures.refused
+
+pub returns-clause-known_count : goal.returns-clause-known_count
+returns-clause-known_count g c =
+    let before = g.S.Source.remaining c.args.device.now in
+    let was = value_at _ c.read_copy_on.result c.map_err.result c.in_ok-stop.stop c.map_err.ensures.cases c.in_ok-stop.was in
+    let front = IfOk-at_ok _ was (c.read_copy_on.ensures.known before [] c.new-reader.ensures (consumes_nothing before)) in
+    value_so _ c.read_of_copy.result c.map_err-2.result _ _
+    (λ given h. known_copy_count c.args.source c.in_ok-stop.stop before c.read_copy_on.new.reader given.partial given.report front h)
+    c.map_err-2.ensures.cases c.read_of_copy.ensures.given
