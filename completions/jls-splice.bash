@@ -3,10 +3,10 @@ _jls_splice() {
     local word=${COMP_WORDS[COMP_CWORD]} before=${COMP_WORDS[COMP_CWORD - 1]}
     COMPREPLY=()
     case "$before" in
-        --source | --tries) return ;;
+        --source | --tries | --max) return ;;
     esac
-    if [[ $word == -* && $before != --file ]]; then
-        mapfile -t COMPREPLY < <(compgen -W '--source --tries --progress --file --help --version' -- "$word")
+    if [[ $word == -* && $before != --file && $before != --files ]]; then
+        mapfile -t COMPREPLY < <(compgen -W '--source --tries --max --progress --file --files --help --version' -- "$word")
     else
         mapfile -t COMPREPLY < <(compgen -f -- "$word")
         compopt -o filenames 2> /dev/null

@@ -17,7 +17,7 @@ two_copies options = record { options = options; out = codes "OUT"; copies = cod
 
 -- 4096 tries, where there is no option
 abbrev default : Options
-default = record { source = None; tries = 4096; progress = false; file = None }
+default = record { source = None; tries = 4096; ceiling = None; progress = false; file = None; files = None }
 
 no_option-asked : AskFor (with_words []) (two_copies default)
 unfolding clap_on_literals
@@ -34,10 +34,33 @@ most_tries-asked : AskFor (with_words (codes "--tries" ∷ codes "4294967295" �
 unfolding clap_on_literals
 most_tries-asked = record { taken = inl refl; asks = refl }
 
+-- `jls-splice --max 4095 OUT A B`
+ceiling-asked : AskFor (with_words (codes "--max" ∷ codes "4095" ∷ [])) (two_copies (record default { ceiling = Some 4095 }))
+unfolding clap_on_literals
+ceiling-asked = record { taken = inl refl; asks = refl }
+
+-- `jls-splice --max 0 OUT A B`
+least_ceiling-asked : AskFor (with_words (codes "--max" ∷ codes "0" ∷ [])) (two_copies (record default { ceiling = Some 0 }))
+unfolding clap_on_literals
+least_ceiling-asked = record { taken = inl refl; asks = refl }
+
+-- `jls-splice --max 65535 OUT A B`
+most_ceiling-asked : AskFor (with_words (codes "--max" ∷ codes "65535" ∷ [])) (two_copies (record default { ceiling = Some 65535 }))
+unfolding clap_on_literals
+most_ceiling-asked = record { taken = inl refl; asks = refl }
+
 -- all options
 all_options-asked : AskFor
-    (with_words (codes "--source" ∷ codes "7" ∷ codes "--progress" ∷ codes "--file" ∷ codes "M" ∷ codes "--tries=1" ∷ []))
-    (two_copies (record { source = Some 7; tries = 1; progress = true; file = Some (codes "M") }))
+    (with_words (codes "--source" ∷ codes "7" ∷ codes "--progress" ∷ codes "--file" ∷ codes "M" ∷ codes "--files" ∷ codes "P"
+    ∷ codes "--tries=1" ∷ codes "--max=255" ∷ []))
+    (two_copies (record {
+      source = Some 7;
+      tries = 1;
+      ceiling = Some 255;
+      progress = true;
+      file = Some (codes "M");
+      files = Some (codes "P");
+    }))
 unfolding clap_on_literals
 all_options-asked = record { taken = inl refl; asks = refl }
 
@@ -54,6 +77,21 @@ no_tries-refused = refl
 too_many_tries-refused : finds (with_words (codes "--tries" ∷ codes "4294967296" ∷ [])) (kind.ValueValidation ∷ [])
 unfolding clap_on_literals
 too_many_tries-refused = refl
+
+-- `jls-splice --max 65536 OUT A B`
+too_large_ceiling-refused : finds (with_words (codes "--max" ∷ codes "65536" ∷ [])) (kind.ValueValidation ∷ [])
+unfolding clap_on_literals
+too_large_ceiling-refused = refl
+
+-- `jls-splice --max x OUT A B`
+no_number-refused : finds (with_words (codes "--max" ∷ codes "x" ∷ [])) (kind.ValueValidation ∷ [])
+unfolding clap_on_literals
+no_number-refused = refl
+
+-- `jls-splice --max 1 --max 2 OUT A B`
+two_ceilings-refused : finds (with_words (codes "--max" ∷ codes "1" ∷ codes "--max" ∷ codes "2" ∷ [])) (kind.ArgumentConflict ∷ [])
+unfolding clap_on_literals
+two_ceilings-refused = refl
 
 -- `jls-splice OUT A`
 one_copy-refused : finds (codes "jls-splice" ∷ codes "OUT" ∷ codes "A" ∷ []) (kind.MissingRequiredArgument ∷ [])

@@ -1,5 +1,5 @@
 -- What the words of a command line of `jls-splice` ask for.
-use Rattle.std.specs.Prelude.{◌≡◌, ℕ, Bool, false, List, ◌∷◌, Option, Some, None, map, codes, if◌then◌else◌, option_map, option_and_then}
+use Rattle.std.specs.Prelude.{◌≡◌, ℕ, Bool, false, List, ◌∷◌, Option, Some, None, map, codes, if◌then◌else◌, option_map}
 use Rattle.std.specs.Str.{bytes_eq}
 use Rattle.std.specs.Str.Parse.{digits_value, without_leading_plus}
 use Rattle.clap.specs.ValueTests.{is_unsigned_in}
@@ -8,13 +8,16 @@ use Rattle.jls_cli.specs.SpliceWords.{splice_app, AreTaken}
 use Rattle.jls_cli.specs.declared.splice.asked.Asked.{Asked as AskedValue}
 use Rattle.jls_cli.specs.declared.splice.asked.Options.{Options as OptionsValue}
 
--- what the words ask for beside files: the source of the readings, if one is given; how much each search tries; whether it tells how far it
--- is; and where the mended file goes, if that is asked for
+-- what the words ask for beside files: the source of the readings, if one is given; how much each search tries; the ceiling, if one is
+-- given, above which no sample of a file that is searched for may be; whether each search tells how far it is; where the mended file goes,
+-- if that is asked for; and what the names begin with under which each file without a fault goes, if that is asked for
 pub record Options : Type 0 where
   pub source : Option ℕ
   pub tries : ℕ
+  pub ceiling : Option ℕ
   pub progress : Bool
   pub file : Option Text
+  pub files : Option Text
 
 -- the output, and the copies in their order
 pub record Asked : Type 0 where
@@ -38,20 +41,26 @@ abbrev pub tries_of : Option Text → Option ℕ
 tries_of None = None
 tries_of (Some value) = number_in 1 4294967295 value
 
+-- the ceiling, if one is given; nothing, if what is given is no such number
+abbrev pub ceiling_of : Option Text → Option (Option ℕ)
+ceiling_of None = Some None
+ceiling_of (Some value) = option_map (λ n. Some n) (number_in 0 65535 value)
+
 -- whether a flag is given: clap's value for it is then `true`
 abbrev pub is_set : Option Text → Bool
 is_set None = false
 is_set (Some value) = bytes_eq value (codes "true")
 
 -- the options, if all of their values are there
-abbrev pub options_with : Bool → Option Text → Option (Option ℕ) → Option ℕ → Option Options
-options_with progress file (Some source) (Some tries) =
-    Some (record { source = source; tries = tries; progress = progress; file = file })
-options_with progress file _ _ = None
+abbrev pub options_with : Bool → Option Text → Option Text → Option (Option ℕ) → Option ℕ → Option (Option ℕ) → Option Options
+options_with progress file files (Some source) (Some tries) (Some ceiling) =
+    Some (record { source = source; tries = tries; ceiling = ceiling; progress = progress; file = file; files = files })
+options_with progress file files _ _ _ = None
 
 -- the options that the words give
-abbrev pub options_of : Option Text → Option Text → Option Text → Option Text → Option Options
-options_of source tries progress file = options_with (is_set progress) file (source_of source) (tries_of tries)
+abbrev pub options_of : Option Text → Option Text → Option Text → Option Text → Option Text → Option Text → Option Options
+options_of source tries ceiling progress file files =
+    options_with (is_set progress) file files (source_of source) (tries_of tries) (ceiling_of ceiling)
 
 -- OUT, the first COPY, and the others, of which there is one at least
 abbrev pub asked_with : Option Options → Option Text → Option Text → Option (List Text) → Option Asked
@@ -64,8 +73,8 @@ asked_with _ _ _ _ = None
 -- the arguments have these values
 abbrev pub asked_by : List Row → Option Asked
 asked_by rows =
-    asked_with (options_of (first_of (codes "source") rows) (first_of (codes "tries") rows)
-    (first_of (codes "progress") rows) (first_of (codes "file") rows))
+    asked_with (options_of (first_of (codes "source") rows) (first_of (codes "tries") rows) (first_of (codes "max") rows)
+    (first_of (codes "progress") rows) (first_of (codes "file") rows) (first_of (codes "files") rows))
     (first_of (codes "OUT") rows) (first_of (codes "COPY") rows) (all_of (codes "OTHERS") rows)
 
 -- what the words ask for, by the values that clap reads in them
@@ -84,7 +93,14 @@ pub record AskForNothing (words : List Text) : Type 0 where
 
 -- the options, as the code has them
 abbrev pub options_in : OptionsValue → Options
-options_in o = record { source = o.source; tries = o.tries; progress = o.progress; file = option_map (λ s. s.now) o.file }
+options_in o = record {
+  source = o.source;
+  tries = o.tries;
+  ceiling = o.ceiling;
+  progress = o.progress;
+  file = option_map (λ s. s.now) o.file;
+  files = option_map (λ s. s.now) o.files;
+}
 
 -- what is asked, as the code has it
 abbrev pub asked_of : AskedValue → Asked

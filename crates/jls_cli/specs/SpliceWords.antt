@@ -22,6 +22,14 @@ tries_rule = record (new_rule (codes "tries")) {
   parser = Some (Unsigned 1 4294967295);
 }
 
+-- --max N, a number from 0 to 2^16 - 1, which need not be there
+abbrev pub ceiling_rule : Rule
+ceiling_rule = record (new_rule (codes "max")) {
+  long = Some (codes "max");
+  value_names = 1;
+  parser = Some (Unsigned 0 65535);
+}
+
 -- --progress, without a value
 abbrev pub progress_rule : Rule
 progress_rule = record (new_rule (codes "progress")) { long = Some (codes "progress"); action = Some SetTrue }
@@ -29,6 +37,10 @@ progress_rule = record (new_rule (codes "progress")) { long = Some (codes "progr
 -- --file NAME, which need not be there
 abbrev pub file_rule : Rule
 file_rule = record (new_rule (codes "file")) { long = Some (codes "file"); value_names = 1 }
+
+-- --files PREFIX, which need not be there
+abbrev pub files_rule : Rule
+files_rule = record (new_rule (codes "files")) { long = Some (codes "files"); value_names = 1 }
 
 -- one word that has to be there, under this name
 abbrev pub word_rule : Text → Rule
@@ -42,11 +54,15 @@ others_rule = record (word_rule (codes "OTHERS")) { value_names = 1; action = So
 abbrev pub bare_app : App
 bare_app = let app = new_app (codes "jls-splice") in record app { top = record app.top { has_version = true } }
 
+-- the program with its options that are numbers
+abbrev pub numbers_app : App
+numbers_app = with_rule (with_rule (with_rule bare_app source_rule) tries_rule) ceiling_rule
+
 -- the program with its options
 abbrev pub options_app : App
-options_app = with_rule (with_rule (with_rule (with_rule bare_app source_rule) tries_rule) progress_rule) file_rule
+options_app = with_rule (with_rule (with_rule numbers_app progress_rule) file_rule) files_rule
 
--- jls-splice [--source N] [--tries N] [--progress] [--file NAME] OUT COPY COPY..
+-- jls-splice [--source N] [--tries N] [--max N] [--progress] [--file NAME] [--files PREFIX] OUT COPY COPY..
 abbrev pub splice_app : App
 splice_app = with_rule (with_rule (with_rule options_app (word_rule (codes "OUT"))) (word_rule (codes "COPY"))) others_rule
 

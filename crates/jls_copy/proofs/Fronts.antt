@@ -36,21 +36,21 @@ use Rattle.jls_copy.specs.IntervalOf.{interval_of}
 -- Members ----------------------------------------------------------------------------------------------------------
 
 module _ {X : Type 0} where
-  is_first : (x : X) (xs : List X) → Contains (x ∷ xs) x
+  pub is_first : (x : X) (xs : List X) → Contains (x ∷ xs) x
   is_first x xs = (0, omega arith, refl)
 
-  in_rest : (x y : X) (xs : List X) → Contains xs x → Contains (y ∷ xs) x
+  pub in_rest : (x y : X) (xs : List X) → Contains xs x → Contains (y ∷ xs) x
   in_rest x y xs (k, l, e) = (suc k, omega (arith, l), e)
 
-  none_in : (x : X) → Contains [] x → ⊥
+  pub none_in : (x : X) → Contains [] x → ⊥
   none_in x (k, l, e) = omega (arith, l)
 
-  first_or_rest : (x y : X) (xs : List X) → Contains (y ∷ xs) x → (y ≡ x) ⊎ Contains xs x
+  pub first_or_rest : (x y : X) (xs : List X) → Contains (y ∷ xs) x → (y ≡ x) ⊎ Contains xs x
   first_or_rest x y xs (zero, l, e) = inl e
   first_or_rest x y xs (suc k, l, e) = inr (k, omega (arith, l), e)
 
 -- of pieces that are alike, one of each
-alike_of : (ps qs : List FoundPiece) (p : FoundPiece) → AlikePieces ps qs → Contains ps p → (q : FoundPiece) × Contains qs q × AlikePiece p q
+pub alike_of : (ps qs : List FoundPiece) (p : FoundPiece) → AlikePieces ps qs → Contains ps p → (q : FoundPiece) × Contains qs q × AlikePiece p q
 alike_of [] qs p h m = absurd (none_in p m)
 alike_of (x ∷ ps) [] p h m = absurd h
 alike_of (x ∷ ps) (y ∷ qs) p h m =
@@ -59,7 +59,7 @@ alike_of (x ∷ ps) (y ∷ qs) p h m =
       | inr later ↦ (let r = alike_of ps qs p h.1 later in (r.0, in_rest r.0 y qs r.1, r.2))
     ]
 
-of_alike : (ps qs : List FoundPiece) (q : FoundPiece) → AlikePieces ps qs → Contains qs q → (p : FoundPiece) × Contains ps p × AlikePiece p q
+pub of_alike : (ps qs : List FoundPiece) (q : FoundPiece) → AlikePieces ps qs → Contains qs q → (p : FoundPiece) × Contains ps p × AlikePiece p q
 of_alike ps [] q h m = absurd (none_in q m)
 of_alike [] (y ∷ qs) q h m = absurd h
 of_alike (x ∷ ps) (y ∷ qs) q h m =
@@ -142,14 +142,14 @@ broken_told bytes low frame payload (InScan scan) e is h =
 -- Longer -----------------------------------------------------------------------------------------------------------
 
 -- the same piece with more bytes
-record Continues (p q : FoundPiece) : Type 0 where
-  plan : q.plan ≡ p.plan
-  number : q.number ≡ p.number
-  offset : q.offset ≡ p.offset
-  tail : List ℕ
-  bytes : q.bytes ≡ p.bytes ++ tail
+pub record Continues (p q : FoundPiece) : Type 0 where
+  pub plan : q.plan ≡ p.plan
+  pub number : q.number ≡ p.number
+  pub offset : q.offset ≡ p.offset
+  pub tail : List ℕ
+  pub bytes : q.bytes ≡ p.bytes ++ tail
 
-at_once : (p : FoundPiece) → Continues p p
+pub at_once : (p : FoundPiece) → Continues p p
 at_once p = record { plan = refl; number = refl; offset = refl; tail = []; bytes = sym (append-nil p.bytes) }
 
 on_and_on : (p q r : FoundPiece) → Continues p q → Continues q r → Continues p r
@@ -173,7 +173,7 @@ grown index plan at (Within k d) more =
 grown index plan at (Beyond k) more = record { plan = refl; number = refl; offset = refl; tail = []; bytes = refl }
 
 -- a byte closes the piece in hand, or it goes on
-abbrev NextIs : List FoundPiece → List FoundPiece → FoundPiece → Type 0
+abbrev pub NextIs : List FoundPiece → List FoundPiece → FoundPiece → Type 0
 NextIs closed open_ p = (q : FoundPiece) × (Contains closed q ⊎ Contains open_ q) × Continues p q
 
 next_in_scan : (class : ByteClass) (scan : OpenScan) (count b : ℕ)
@@ -199,7 +199,7 @@ next_is (InScan scan) count h payload b q m =
       | inr later ↦ absurd (none_in q later)
     ]
 
-abbrev Stands : Reading → FoundPiece → Type 0
+abbrev pub Stands : Reading → FoundPiece → Type 0
 Stands r p = NextIs r.pieces (closed_at_end r.state.place) p
 
 stands_with : (r : Reading) (b : ℕ) (p : FoundPiece) → Stands r p → Stands (reading_with r b) p
@@ -211,15 +211,15 @@ stands_with r b p (q, inr m, on) = by (next_is r.state.place r.state.count r.sta
     by (x, inl c, more) = (x, inl (Contains-append_right r.pieces (closed_at r.state.place b) x c), on_and_on p q x on more)
     by (x, inr c, more) = (x, inr c, on_and_on p q x on more)
 
-stands_from : (r : Reading) (bytes : List ℕ) (p : FoundPiece) → Stands r p → Stands (reading_from r bytes) p
+pub stands_from : (r : Reading) (bytes : List ℕ) (p : FoundPiece) → Stands r p → Stands (reading_from r bytes) p
 stands_from r [] p h = h
 stands_from r (b ∷ bytes) p h = stands_from (reading_with r b) bytes p (stands_with r b p h)
 
-from_append : (r : Reading) (xs ys : List ℕ) → reading_from r (xs ++ ys) ≡ reading_from (reading_from r xs) ys
+pub from_append : (r : Reading) (xs ys : List ℕ) → reading_from r (xs ++ ys) ≡ reading_from (reading_from r xs) ys
 from_append r [] ys = refl
 from_append r (x ∷ xs) ys = from_append (reading_with r x) xs ys
 
-among_all : (r : Reading) (q : FoundPiece) → Contains r.pieces q ⊎ Contains (closed_at_end r.state.place) q → Contains (all_pieces r) q
+pub among_all : (r : Reading) (q : FoundPiece) → Contains r.pieces q ⊎ Contains (closed_at_end r.state.place) q → Contains (all_pieces r) q
 among_all r q (inl m) = Contains-append_left r.pieces (closed_at_end r.state.place) q m
 among_all r q (inr m) = Contains-append_right r.pieces (closed_at_end r.state.place) q m
 

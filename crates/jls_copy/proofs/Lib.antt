@@ -39,3 +39,4 @@ mod TellingLaws
 mod OtherEnds
 mod EndExamples
 mod Fronts
+mod FrontReadings

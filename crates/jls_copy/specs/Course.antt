@@ -44,7 +44,7 @@ abbrev pub unit_bytes : CopyUnit → List ℕ
 unit_bytes (segment fill code payload) = segment_unit_bytes fill code payload
 unit_bytes (scan fill code payload plan closed last closing) = segment_unit_bytes fill code payload ++ scan_data_bytes closed last closing
 
--- a marker that ends scan data begins these bytes (T.81 B.1.1.2 to B.1.1.4, B.2.1)
+-- a marker that ends scan data begins these bytes, after any number of fill bytes (T.81 B.1.1.2 to B.1.1.4, B.2.1)
 pub record BeginsWithEnd (bytes : List ℕ) : Type 0 where
   pub fill : ℕ
   pub code : ℕ

@@ -1,13 +1,14 @@
 -- Fronts of copies, and the piece in hand where one ends: the piece that the front's end closes, if the input ends there.
-use Rattle.std.specs.Prelude.{◌≡◌, ℕ, ◌*◌, ◌<◌, List, ◌++◌, IfSome}
+use Rattle.std.specs.Prelude.{◌≡◌, ℕ, ◌<◌, ◌⊎◌, List, ◌++◌, IfSome}
 use Rattle.std.specs.List.{AllByRecursion, Contains}
 use Rattle.jls_interval.specs.Reads.{ReadsNoMore}
 use Rattle.jls_interval.specs.IntervalBytes.{interval_asked}
 use Rattle.jls_marker.specs.Scan.{Scan}
 use Rattle.jls_copy.specs.Numbers.{PieceNumber}
 use Rattle.jls_copy.specs.Course.{Course, IsCourse}
-use Rattle.jls_copy.specs.Pieces.{FoundPiece, Lines, IsOutcomeAt, IsOutcome, pieces}
-use Rattle.jls_copy.specs.CutPieces.{cut_pieces}
+use Rattle.jls_partial.specs.Reading.{Reading}
+use Rattle.jls_copy.specs.Pieces.{FoundPiece, Lines, IsOutcomeAt, IsOutcome, readings_of, pieces}
+use Rattle.jls_copy.specs.CutPieces.{cut_pieces, IsHeadAt}
 use Rattle.jls_copy.specs.declared.piece.OpenPiece.{OpenPiece}
 use Rattle.jls_copy.specs.declared.piece.OpenPiece.TheVariants.{Within, Beyond}
 use Rattle.jls_copy.specs.declared.place.Place.{Place}
@@ -32,6 +33,27 @@ FrontsStayBroken =
     → (broken : IsPieceBroken front) → (c : Course) → IsCourse (front ++ more) c
     → (p : FoundPiece) × Contains (pieces c) p × (p.plan ≡ broken.piece.plan) × (p.number ≡ broken.piece.number)
     × (p.offset ≡ broken.piece.offset) × ((lines : List (List ℕ)) → IsOutcome p (Lines lines) → ⊥)
+
+-- What they give --------------------------------------------------------------------------------------------------
+
+-- the piece reads as some lines; so it is neither too long nor broken nor beyond the last interval
+abbrev pub HasLines : FoundPiece → Type 0
+HasLines p = (lines : List (List ℕ)) × IsOutcome p (Lines lines)
+
+-- a piece of a course decodes to lines, one of which is the reading, or the piece that the input's end cuts off has it in its head
+abbrev pub Gives : Course → Reading → Type 0
+Gives c r =
+    ((p : FoundPiece) × Contains (pieces c) p × (lines : List (List ℕ)) × IsOutcome p (Lines lines)
+    × Contains (readings_of p (Lines lines)) r)
+    ⊎ ((p : FoundPiece) × Contains (cut_pieces c) p × (head : List (List ℕ)) × IsHeadAt p.plan p.number p.bytes head
+    × Contains (readings_of p (Lines head)) r)
+
+-- each reading that bytes give, a longer list of bytes that begins with them gives too, if each of its pieces reads as lines
+abbrev pub FrontsKeepReadings : Type 0
+FrontsKeepReadings =
+    (front more : List ℕ) → AllByRecursion (λ b. b < 256) (front ++ more)
+    → (c d : Course) → IsCourse front c → IsCourse (front ++ more) d → AllByRecursion HasLines (pieces d)
+    → (r : Reading) → Gives c r → Gives d r
 
 -- Inside the crate. An open piece reads as no lines, whatever follows
 abbrev pub OpenReadsNoMore : OpenPiece → Type 0

@@ -1,7 +1,7 @@
 //! The laws of what a copy gives. Each is a function that does nothing and whose contract is the law.
 
 ghost use Rattle.jls_copy.specs.CopyLaws.{BytesDecide, FinalEndsStay, OtherEndsChange};
-ghost use Rattle.jls_copy.specs.Fronts.{FrontsStayBroken};
+ghost use Rattle.jls_copy.specs.Fronts.{FrontsKeepReadings, FrontsStayBroken};
 ghost use Rattle.jls_copy.specs.TellingLaws.{RecordsAreOfFaultyPieces};
 
 /// A law: what a copy gives, or that it gives no picture and why, is determined by its bytes.
@@ -29,4 +29,9 @@ pub fn records_are_of_faulty_pieces()
 /// A law: where the piece in hand is broken whatever follows, each list of bytes that begins so has a faulty piece there.
 pub fn fronts_stay_broken()
     ensures { FrontsStayBroken }
+{}
+
+/// A law: what some bytes give, each list of bytes that begins with them gives too, if each of its pieces reads as lines.
+pub fn fronts_keep_readings()
+    ensures { FrontsKeepReadings }
 {}

@@ -122,7 +122,7 @@ mod reader;
 mod scan;
 
 pub use copy_laws::{
-    bytes_decide, final_ends_stay, fronts_stay_broken, other_ends_change,
+    bytes_decide, final_ends_stay, fronts_keep_readings, fronts_stay_broken, other_ends_change,
     records_are_of_faulty_pieces,
 };
 pub use course_laws::{

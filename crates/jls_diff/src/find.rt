@@ -23,7 +23,8 @@ fn one_part<'a>(alloc: Global, copies: &[&'a [u8]]) -> Result<Vec<Part<'a>>, All
 /// The parts of some copies of one file. `Err` comes if memory is refused.
 ///
 /// A search proposes them and they are checked, so the contract holds however they are found. It goes along all copies while they
-/// agree. After a difference it looks for the next 24 bytes that agree again, with a shift if bytes were lost or added.
+/// agree. After a difference it looks for the next 24 bytes that agree again, with a shift if bytes were lost or added. If all copies have
+/// one length, no shift is taken, unless the copies differ in far fewer bytes with shifts.
 ///
 /// Inside a difference, one agreeing byte divides two stretches. Between two restart markers or scan headers, more than 11 stretches
 /// are too many. Then the nearest are joined, if fewer than 8 bytes agree between them. A run of 8 zeros or more in some copies begins

@@ -24,16 +24,25 @@ impl Lengths {
             Lengths::Each(counts) => counts.get(copy).copied().unwrap_or(0),
         }
     }
+
+    /// How many so many copies have together.
+    pub(crate) fn sum(&self, copies: usize) -> usize {
+        let mut sum = 0usize;
+        for copy in 0..copies {
+            sum = sum.saturating_add(self.of(copy));
+        }
+        sum
+    }
 }
 
-/// How many bytes each has before all agree again, with a shift of some; `None` where that is found nowhere.
+/// How many bytes each has before all agree again, with a shift of some; `None` where that is found nowhere, or there are no seeds.
 fn shifted(
     alloc: Global,
-    seeds: &mut Seeds,
+    seeds: &mut Option<Seeds>,
     rests: &[&[u8]],
 ) -> Result<Option<Vec<usize>>, AllocError> {
     let mut counts = Vec::new(alloc);
-    let Some(first) = rests.first() else {
+    let (Some(seeds), Some(first)) = (seeds.as_mut(), rests.first()) else {
         return Ok(None);
     };
     let mut furthest = 0usize;
@@ -77,10 +86,10 @@ fn all_left(alloc: Global, rests: &[&[u8]]) -> Result<Vec<usize>, AllocError> {
 }
 
 /// How many bytes each has before all are in step again, where they differ at once. Where they are never in step again, it is as many as
-/// the shortest has, and all that is left where that is nothing.
+/// the shortest has, and all that is left where that is nothing. Without seeds no shift is looked for.
 pub(crate) fn lengths_to_step(
     alloc: Global,
-    seeds: &mut Seeds,
+    seeds: &mut Option<Seeds>,
     rests: &[&[u8]],
 ) -> Result<Lengths, AllocError> {
     if let Some(count) = in_step(rests, SEED, NEAR + SEED) {

@@ -23,7 +23,7 @@ fn before_stretch(rests: &[&[u8]]) -> Before {
 /// Adds the stretches up to where the copies are in step again. Answers how many bytes each copy has up to the end of the last.
 fn add_next(
     alloc: Global,
-    seeds: &mut Seeds,
+    seeds: &mut Option<Seeds>,
     stretches: &mut Vec<Stretch>,
     rests: &[&[u8]],
     before: Before,
@@ -39,10 +39,10 @@ fn add_next(
     Ok(lengths)
 }
 
-/// The stretches in which the copies differ, in order.
+/// The stretches in which the copies differ, in order. Without seeds they are without a shift.
 fn stretches_of(
     alloc: Global,
-    seeds: &mut Seeds,
+    mut seeds: Option<Seeds>,
     copies: &[&[u8]],
 ) -> Result<Vec<Stretch>, AllocError> {
     let mut stretches = Vec::new(alloc);
@@ -55,12 +55,48 @@ fn stretches_of(
         if rests.iter().all(|rest| rest.is_empty()) {
             break;
         }
-        let lengths = add_next(alloc, seeds, &mut stretches, &rests, before)?;
+        let lengths = add_next(alloc, &mut seeds, &mut stretches, &rests, before)?;
         for (copy, rest) in rests.iter_mut().enumerate() {
             *rest = rest_of(rest, lengths.of(copy));
         }
     }
-    Ok(stretches)
+    merged(alloc, copies.len(), stretches)
+}
+
+/// Whether all copies have one length.
+fn have_one_length(copies: &[&[u8]]) -> bool {
+    let Some(first) = copies.first() else {
+        return true;
+    };
+    copies.iter().all(|copy| copy.len() == first.len())
+}
+
+/// How many bytes so many copies have together in some stretches.
+fn size(stretches: &[Stretch], copies: usize) -> usize {
+    let mut size = 0usize;
+    for stretch in stretches {
+        size = size.saturating_add(stretch.lengths.sum(copies));
+    }
+    size
+}
+
+/// The stretches that are proposed. Where all copies have one length they are without a shift, unless shifts leave less than one byte in
+/// 2N of theirs, of N copies. If nothing was lost or added, shifts leave about one in N: what stands in the damage of one copy stands in
+/// no other.
+fn best_stretches(alloc: Global, copies: &[&[u8]]) -> Result<Vec<Stretch>, AllocError> {
+    let seeds = Seeds::new(alloc)?;
+    let shifted = stretches_of(alloc, Some(seeds), copies)?;
+    if !have_one_length(copies) {
+        return Ok(shifted);
+    }
+    let straight = stretches_of(alloc, None, copies)?;
+    let most = size(&shifted, copies.len())
+        .saturating_mul(copies.len())
+        .saturating_mul(2);
+    if size(&straight, copies.len()) > most {
+        return Ok(shifted);
+    }
+    Ok(straight)
 }
 
 /// Parts of some copies, as far as a search finds them.
@@ -68,9 +104,7 @@ pub(crate) fn proposed<'a>(
     alloc: Global,
     copies: &[&'a [u8]],
 ) -> Result<Vec<Part<'a>>, AllocError> {
-    let mut seeds = Seeds::new(alloc)?;
-    let stretches = stretches_of(alloc, &mut seeds, copies)?;
-    let stretches = merged(alloc, copies.len(), stretches)?;
+    let stretches = best_stretches(alloc, copies)?;
     let mut rests = Vec::from_slice(alloc, copies)?;
     let mut parts = Vec::new(alloc);
     for stretch in stretches.iter() {

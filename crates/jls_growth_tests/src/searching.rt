@@ -62,7 +62,7 @@ fn splices_of(alloc: Global, copies: &[&[u8]]) -> Result<usize, AllocError> {
     if copies.is_empty() || !are_short(copies) {
         return Err(AllocError);
     }
-    let searched = search_copies(alloc, copies, 4096)?;
+    let searched = search_copies(alloc, copies, Some(255), 4096)?;
     let found = complete_by_groups(alloc, copies, searched, 4096)?;
     Ok(found.splices.len())
 }

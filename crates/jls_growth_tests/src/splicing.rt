@@ -20,7 +20,7 @@ struct Row {
     /// The lines of OUT, and the number of the first.
     lines: &'static [&'static [u16]],
     begin: u16,
-    /// Whether the file is written to NAME.
+    /// Whether the file is written behind OUT.
     has_file: bool,
     report: &'static str,
     faults: &'static str,
@@ -97,6 +97,19 @@ fn splice_with_options(rt: HostRuntime) {
         ..FOUR_BACK
     };
     run_row(&rt, rt.alloc(), "run of jls-splice --source --file", &row);
+}
+
+/// The file comes back under a number.
+#[test]
+fn splice_with_numbered_files(rt: HostRuntime) {
+    let row = Row {
+        line: "jls-splice --files NAME OUT 1 2",
+        has_file: true,
+        report: "differ 25 1\ndiffer 53 1\nsplices 1\nfiles 1\npicture 4x4, 8 bits, components 1\n\
+            settled 4, missing 0, disputed 0\n",
+        ..FOUR_BACK
+    };
+    run_row(&rt, rt.alloc(), "run of jls-splice --files", &row);
 }
 
 /// Both searches are cut off before they come to a file.

@@ -1,5 +1,7 @@
--- Histories of calls: which copies public calls read for what they came to. Each constructor is one call that answered in one way, and its
--- premises are what the clauses of this call's contract say of that answer. jls_callers makes each call, and ends in this step.
+-- Histories of calls: which copies public calls took for what they came to. A constructor is a call that answered in one way, and its
+-- premises are what the clauses of this call's contract say of that answer. Three say more or less: `reader_finished` is two calls,
+-- `same_again` is any call that left the value as it was, and `text_cut_short` asks who holds the text's entries. jls_callers makes each
+-- call, and ends in this step.
 use Rattle.std.specs.Prelude.{◌≡◌, ℕ, ◌<◌, true, List, [], ◌∷◌, ◌++◌, Option, None}
 use Rattle.std.specs.List.{AllByRecursion}
 use Rattle.jls_values.specs.Join.{IsBetween}
@@ -31,8 +33,9 @@ HoldsEntry p entry =
 abbrev pub HoldsFront : PartialPicture → List ℕ → Type 0
 HoldsFront p bytes = AllByRecursion (HoldsEntry p) (text_front bytes)
 
--- `Collected p copies over`: public calls came to the partial picture `p`, alone or in a station. For it they read `copies`, each under a
--- source or under none. For those in `over` memory ran out: any of their readings may be held, or none
+-- `Collected p copies over`: public calls came to the partial picture `p`, alone or in a station. For it they took `copies`, each under a
+-- source or under none; copies that were refused are not counted. For those in `over` memory ran out: any of their readings may be held,
+-- or none
 pub data Collected : PartialPicture → List SourcedCopy → List SourcedCopy → Type 0 where
   -- `Station::new`
   new_station : (shape : PictureShape) (station : PartialPicture) → station ≡ nothing_known shape → Collected station [] []
@@ -48,7 +51,7 @@ pub data Collected : PartialPicture → List SourcedCopy → List SourcedCopy �
   -- `Partial::from_bytes` answered Ok for such a text
   text_back : (p new : PartialPicture) (copies over : List SourcedCopy) (bytes : List ℕ) → Collected p copies over → IsTextOf bytes p
       → IsTextOf bytes new → Collected new copies over
-  -- `Station::holding` or `Station::partial` hands on what it is given; or a call answered ShapeDiffers, and the station is as it was
+  -- A call left the value as it was: `Station::holding` or `Station::partial` handed it on, or a call answered ShapeDiffers
   same_again : (old new : PartialPicture) (copies over : List SourcedCopy) → Collected old copies over → new ≡ old
       → Collected new copies over
   -- `Station::take_copy` answered Ok
@@ -77,12 +80,13 @@ pub data Collected : PartialPicture → List SourcedCopy → List SourcedCopy �
       → Collected old copies over → Collected other more further → IsTextOf bytes other → IsBetween union old new (union old other)
       → Collected new copies (over ++ (more ++ further))
   -- It answered a fault for other bytes, and something collected holds each entry before their fault. Such is a text that was cut short. A
-  -- station that refused any other text has no history from then on, unless it refused the text for its shape
+  -- station that refused any other text has no history from then on, unless the refusal left it as it was
   text_cut_short : (old new other : PartialPicture) (copies over more further : List SourcedCopy) (bytes : List ℕ)
       → Collected old copies over → Collected other more further → HoldsFront other bytes → TakesFront old new (text_front bytes)
       → Collected new copies (over ++ (more ++ further))
 
--- Public calls read these copies for it, and no others. Each copy for which memory ran out is the same as one of them, read before or after
+-- Public calls took these copies for it, and no others. Each copy for which memory ran out is the same as one of them, taken before or
+-- after
 abbrev pub CollectedFrom : PartialPicture → List SourcedCopy → Type 0
 CollectedFrom p copies =
     (over : List SourcedCopy) × Collected p copies over × AreAmong IsSameCopy (copies_of over) (copies_of copies)

@@ -87,7 +87,8 @@ SameCopiesWriteTheSame =
 
 -- Damaged copies -------------------------------------------------------------------------------------------------
 
--- a station has this picture and nothing else, and so have the calls that answer or write it
+-- each line of the picture's shape has one reading in a station, which is the picture's; and the calls that answer or write the picture
+-- give this one. Readings of other lines, and sources, are not spoken of
 pub record WritesThePicture (station : PartialPicture) (pic : WholePicture) : Type 0 where
   -- each line has one reading, which is the picture's
   pub settled : (component line : ℕ) → component < length pic.shape.ids → line < pic.shape.height
@@ -95,14 +96,15 @@ pub record WritesThePicture (station : PartialPicture) (pic : WholePicture) : Ty
   -- whatever `Picture::of` answers, it is Ok and the picture
   pub picture : (result : Result WholePicture PictureFault) → IfOk result (λ answer. answer ≡ picture_of station)
       → IfErr result (λ fault. NamesFirstUnsettled station fault) → result ≡ Ok pic
-  -- where `write_jls` of that answer is Ok, under options that fit, what the sink took reads as the picture and as no other
+  -- where `write_jls` of that answer is Ok, under options that fit, with parameters and a restart interval in their ranges, what the sink
+  -- took reads as the picture and as no other
   pub file : (answer : WholePicture) (o : WriteOptions) (call : SinkCall) → answer ≡ picture_of station
       → AreCodingParameters o.params → o.restart_interval < 2 ^ 32 → OptionsFit answer o
       → HandedOutBy call (written_file answer o)
       → (bytes : List ℕ) × TookBytes call bytes × ReadsAsOnly bytes pic
 
--- Calls read damaged copies of one picture for a station, and no other copies, and each line of the picture survives in some of them. Then
--- the station has this picture and nothing else
+-- Calls took damaged copies of one picture for a station, and no other copies, and each line of the picture survives in some of them. Then
+-- each line of the station is the picture's
 abbrev pub DamagedCopiesWriteThePicture : Type 0
 DamagedCopiesWriteThePicture =
     (pic : WholePicture) → IsPicture pic → (station : PartialPicture) (copies : List SourcedCopy) → CollectedFrom station copies

@@ -18,7 +18,7 @@ abbrev pub scan_with : PictureShape → List ℕ → CodingParameters → ℕ �
 scan_with f components params restart_interval =
     record { components = components; params = params; width = f.width; height = f.height; restart_interval = restart_interval }
 
--- how many intervals a scan has: the height by Ri, rounded up (T.81 B.2.4.4; T.87 C.2.5)
+-- how many intervals a scan has: the height by Ri, rounded up; one, if Ri is 0 (T.81 B.2.4.4; T.87 C.2.5)
 abbrev pub intervals : Scan → ℕ
 intervals s = if s.restart_interval == 0 then 1 else (s.height + s.restart_interval - 1) / s.restart_interval
 
@@ -26,7 +26,8 @@ intervals s = if s.restart_interval == 0 then 1 else (s.height + s.restart_inter
 abbrev pub first_row : Scan → ℕ → ℕ
 first_row s k = k * s.restart_interval
 
--- how many rows an interval has: Ri, but the last has what is left of the height (T.81 B.2.4.4; T.87 C.2.5)
+-- how many rows an interval has: Ri, but the last has what is left of the height; the whole height, if Ri is 0 (T.81 B.2.4.4; T.87
+-- C.2.5)
 abbrev pub row_count : Scan → ℕ → ℕ
 row_count s k = if s.restart_interval == 0 then s.height else min s.restart_interval (s.height - k * s.restart_interval)
 

@@ -1,5 +1,5 @@
 -- Offsets of borders in the files that choices make.
-use Rattle.std.proofs.Common.{◌≡◌, ℕ, suc, ◌+◌, ◌-◌, ◌<◌, ◌≤◌, List, [], length, take, ap, ◌∙◌, arith, length-append}
+use Rattle.std.proofs.Common.{◌≡◌, ℕ, suc, ◌+◌, ◌<◌, ◌≤◌, List, [], length, take, ap, ◌∙◌, arith, length-append}
 use Rattle.std.specs.Prelude.{get_or}
 use Rattle.jls_diff.specs.Parts.{Part, Same, Differ, way}
 use Rattle.jls_search.specs.Choices.{IsPath, front_of}

@@ -9,7 +9,7 @@ use Rattle.jls_copy.specs.ReadCopy.{ReadCopy}
 use Rattle.jls_copy.specs.CopyReads.{CopyReads, CopyGivesNone, IsDone}
 use Rattle.jls_copy.specs.CopyLaws.{FinalEndsStay}
 use Rattle.jls_copy.specs.TellingLaws.{AreRecordsOf, of_none, reads, faulty, RecordsAreOfFaultyPieces}
-use Rattle.jls_copy.specs.Fronts.{IsPieceBroken, FrontsStayBroken}
+use Rattle.jls_copy.specs.Fronts.{HasLines, IsPieceBroken, FrontsStayBroken}
 use Rattle.jls_copy.specs.declared.piece.PieceKind.{PieceKind}
 use Rattle.jls_copy.specs.declared.piece.PieceRecord.{PieceRecord}
 use Rattle.jls_copy.specs.declared.reader.CopyFault.TheVariants.{NoPicture, OutOfMemory}
@@ -19,7 +19,7 @@ use Rattle.jls_copy.proofs.OneCourse.{one_course}
 use Rattle.jls_copy.proofs.BytesDecide.{one_outcome}
 use Rattle.jls_copy.proofs.ScansOfCourse.{HasScan, course_has}
 use Rattle.jls_values.specs.Shape.{PictureShape}
-use Rattle.jls_search.specs.Faultless.{HasLines, GivesEachLine, EndsWell, IsFaultless, IsDead, IsEachLineRead, IsAnswerWithoutFrame}
+use Rattle.jls_search.specs.Faultless.{GivesEachLine, EndsWell, IsFaultless, IsSought, IsDead, IsEachLineRead, IsAnswerWithoutFrame}
 use Rattle.jls_search.proofs.LinesRead.{lines_given, lines_read}
 
 -- Lists ------------------------------------------------------------------------------------------------------------
@@ -96,14 +96,14 @@ faulty_without_frame (Some bytes) f n h = λ low faultless.
 
 -- Fronts -----------------------------------------------------------------------------------------------------------
 
-pub dead_if_broken : FrontsStayBroken → (fed : Option (List ℕ)) → IfSome fed (λ bytes. IsPieceBroken bytes) → IfSome fed (λ bytes. IsDead bytes)
+pub dead_if_broken : FrontsStayBroken → (fed : Option (List ℕ)) → IfSome fed (λ bytes. IsPieceBroken bytes) → IfSome fed (λ bytes. IsDead IsFaultless bytes)
 dead_if_broken stay None h = tt
 dead_if_broken stay (Some front) h = λ more low f.
     let p = stay front more low h f.course f.is_course in
     let reads = all_at HasLines (pieces f.course) p.0 f.each p.1 in p.5 reads.0 reads.1
 
 pub dead_if_done : FinalEndsStay → (fed : Option (List ℕ)) (done : Bool) → done ≡ true → IfSome fed (λ bytes. IsDone bytes done)
-    → IfSome fed (λ bytes. AllByRecursion (λ b. b < 256) bytes → IsFaultless bytes → ⊥) → IfSome fed (λ bytes. IsDead bytes)
+    → IfSome fed (λ bytes. AllByRecursion (λ b. b < 256) bytes → IsFaultless bytes → ⊥) → IfSome fed (λ bytes. IsDead IsFaultless bytes)
 dead_if_done stay None done t h has_fault = tt
 dead_if_done stay (Some front) done t h has_fault = λ more low f.
     let longer : IsCourse (front ++ more) h.0 = stay front more h.0 h.1 (sym h.2 ∙ t) in
@@ -133,9 +133,19 @@ ever_faulty fed (NoPicture f n) (Ok answer) h none = λ _. faulty_without_frame 
 ever_faulty fed OutOfMemory (Ok answer) h none = absurd h
 ever_faulty fed fault (Err e) h none = tt
 
+pub ever_unsought : (ceiling : Option ℕ) (fed : Option (List ℕ)) (fault : CopyFault) (r : Result Bool AllocError)
+    → IfOk r (λ answer. IsAnswerWithoutFrame fault answer) → IfSome fed (λ bytes. CopyGivesNone bytes fault)
+    → IfOk r (λ answer. answer ≡ false → IfSome fed (λ bytes. AllByRecursion (λ b. b < 256) bytes → IsSought ceiling bytes → ⊥))
+ever_unsought ceiling fed (NoPicture f n) (Ok answer) h none = λ _.
+    of_file fed (λ bytes. AllByRecursion (λ b. b < 256) bytes → IsFaultless bytes → ⊥)
+    (λ bytes. AllByRecursion (λ b. b < 256) bytes → IsSought ceiling bytes → ⊥) (λ bytes faulty low sought. faulty low sought.0)
+    (faulty_without_frame fed f n none)
+ever_unsought ceiling fed OutOfMemory (Ok answer) h none = absurd h
+ever_unsought ceiling fed fault (Err e) h none = tt
+
 pub dead_when_done : FinalEndsStay → (fed : Option (List ℕ)) (done : Bool) → done ≡ true → IfSome fed (λ bytes. IsDone bytes done)
     → (r : Result Bool AllocError)
     → IfOk r (λ answer. answer ≡ true → IfSome fed (λ bytes. AllByRecursion (λ b. b < 256) bytes → IsFaultless bytes → ⊥))
-    → IfOk r (λ dead. dead ≡ true → IfSome fed (λ bytes. IsDead bytes))
+    → IfOk r (λ dead. dead ≡ true → IfSome fed (λ bytes. IsDead IsFaultless bytes))
 dead_when_done stay fed done t h (Ok answer) has_fault = λ yes. dead_if_done stay fed done t h (has_fault yes)
 dead_when_done stay fed done t h (Err e) has_fault = tt

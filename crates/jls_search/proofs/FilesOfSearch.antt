@@ -9,9 +9,9 @@ use Rattle.jls_search.specs.Search.{MakeFiles, IsShort}
 use Rattle.jls_search.specs.SearchLaws.{AreShort, PartsCanBeSearched}
 
 -- each splice has a choice for each part
-pub whole_of_found : (ps : List Part) (found : List (List ℕ)) → MakeFiles ps found → AllByRecursion (IsWhole ps) found
-whole_of_found ps [] files = tt
-whole_of_found ps (choices ∷ found) files = (files.0.0, whole_of_found ps found files.1)
+pub whole_of_found : (Sought : List ℕ → Type 0) (ps : List Part) (found : List (List ℕ)) → MakeFiles Sought ps found → AllByRecursion (IsWhole ps) found
+whole_of_found Sought ps [] files = tt
+whole_of_found Sought ps (choices ∷ found) files = (files.0.0, whole_of_found Sought ps found files.1)
 
 -- and a reader takes it
 pub short_of_found : PartsCanBeSearched → (copies : List (Bor (List ℕ))) (ps : List Part) → AreParts (bytes_of copies) ps → 0 < length copies

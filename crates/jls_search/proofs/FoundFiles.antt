@@ -3,7 +3,7 @@ use Rattle.std.proofs.Common.{◌≡◌, ℕ, ◌<◌, List, [], ◌∷◌, leng
 use Rattle.std.specs.List.{AllByRecursion}
 use Rattle.jls_diff.specs.Parts.{Part, Same, Differ, HasWays, IsSplice}
 use Rattle.jls_search.specs.Choices.{IsPath, front_of}
-use Rattle.jls_search.specs.Faultless.{IsFaultless}
+use Rattle.jls_search.specs.Faultless.{IsSought}
 use Rattle.jls_search.specs.Search.{MakeFiles, files_of}
 use Rattle.jls_search.specs.SearchLaws.{SearchesComeToEachSplice}
 
@@ -18,14 +18,14 @@ made_of_path count (Same b ∷ parts) (c ∷ cs) some ways path e =
 made_of_path count (Differ ws ∷ parts) (c ∷ cs) some ways path e =
     (c, subst (λ n. c < n) ways.0 path.0.0, front_of parts cs, refl, made_of_path count parts cs some ways.1 path.1 (omega (arith, e)))
 
-found_are : (count : ℕ) (parts : List Part) (found : List (List ℕ)) → 0 < count → AllByRecursion (HasWays count) parts → MakeFiles parts found
-    → AllByRecursion (λ file. IsSplice count parts file × IsFaultless file) (files_of parts found)
-found_are count parts [] some ways made = tt
-found_are count parts (c ∷ found) some ways made =
-    ((made_of_path count parts c some ways made.0.0.0 made.0.0.1, made.0.1), found_are count parts found some ways made.1)
+found_are : (Sought : List ℕ → Type 0) (count : ℕ) (parts : List Part) (found : List (List ℕ)) → 0 < count → AllByRecursion (HasWays count) parts → MakeFiles Sought parts found
+    → AllByRecursion (λ file. IsSplice count parts file × Sought file) (files_of parts found)
+found_are Sought count parts [] some ways made = tt
+found_are Sought count parts (c ∷ found) some ways made =
+    ((made_of_path count parts c some ways made.0.0.0 made.0.0.1, made.0.1), found_are Sought count parts found some ways made.1)
 
 pub searches_come_to_each_splice : SearchesComeToEachSplice
-searches_come_to_each_splice copies parts are some found is_used_up came = (
-  found_are (length copies) parts found some are.ways came.files,
-  λ enough file low splice faultless. came.all enough (length copies) some are.ways file low splice faultless,
+searches_come_to_each_splice ceiling copies parts are some found is_used_up came = (
+  found_are (IsSought ceiling) (length copies) parts found some are.ways came.files,
+  λ enough file low splice sought. came.all enough (length copies) some are.ways file low splice sought,
 )

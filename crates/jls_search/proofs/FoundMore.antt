@@ -1,10 +1,11 @@
 -- The splices of both searches, in one list.
-use Rattle.std.proofs.Common.{◌≡◌, ◌≤◌, ℕ, Bool, true, false, List, [], ◌∷◌, ◌++◌, length, take, drop, Vec, Global, Some, None, refl, sym, ap, ◌∙◌, subst, arith, inl, inr, ◌⊎◌}
+use Rattle.std.proofs.Common.{◌≡◌, ◌≤◌, ℕ, Bool, true, false, List, [], ◌∷◌, Option, ◌++◌, length, take, drop, Vec, Global, Some, None, refl, sym, ap, ◌∙◌, subst, arith, inl, inr, ◌⊎◌}
 use Rattle.std.specs.List.{AllByRecursion}
 use Rattle.std.proofs.lemmas.List.{append-nil, map-append, take-append-drop}
 use Rattle.std.proofs.Math.Seq.{take-append_seam, drop-append_seam, take-length}
 use Rattle.jls_diff.specs.Parts.{Part, AreParts}
 use Rattle.jls_search.specs.Choices.{IsWhole}
+use Rattle.jls_search.specs.Faultless.{IsSought}
 use Rattle.jls_search.specs.Search.{CameTo, MakeFiles, lists_of, files_of}
 use Rattle.jls_search.proofs.Paths.{length-map}
 use Rattle.jls_diff.specs.Groups.{CoverParts, IsGroup}
@@ -52,12 +53,13 @@ none_is : (vs : List (Vec ℕ Global)) → lists_of vs ≡ [] → length vs ≡ 
 none_is [] e = refl
 none_is (v ∷ vs) e = absurd cc
 
-module _ (copies : List (List ℕ)) (ps : List Part) (vs : List (Vec ℕ Global)) (n : ℕ) (used : Bool) (are : AreParts copies ps) (came : CameTo ps (lists_of vs) used) (at : n ≡ length vs) where
+module _ (ceiling : Option ℕ) (copies : List (List ℕ)) (ps : List Part) (vs : List (Vec ℕ Global)) (n : ℕ) (used : Bool) (are : AreParts copies ps)
+    (came : CameTo (IsSought ceiling) ps (lists_of vs) used) (at : n ≡ length vs) where
   pub found_whole : used ≡ false → (n ≡ 0 → ⊥)
-      → IsFound copies (record { parts = ps; choices = take n (lists_of vs); is_used_up = used; by_groups = None })
+      → IsFound ceiling copies (record { parts = ps; choices = take n (lists_of vs); is_used_up = used; by_groups = None })
   found_whole done some = record {
     are_parts = are;
-    came_to = subst (λ (cs : List (List ℕ)). CameTo ps cs used) (sym (all_is vs n at)) came;
+    came_to = subst (λ (cs : List (List ℕ)). CameTo (IsSought ceiling) ps cs used) (sym (all_is vs n at)) came;
     searched = (
       λ is. absurd cc,
       λ e. elim e [ inl u ↦ absurd cc | inr none ↦ absurd (some (at ∙ none_is vs (sym (all_is vs n at) ∙ none))) ],
@@ -67,7 +69,7 @@ module _ (copies : List (List ℕ)) (ps : List Part) (vs : List (Vec ℕ Global)
 
   pub found_groups : (more : List (Vec ℕ Global)) (gs : List Group) (told : GroupsTold) → (used ≡ false → n ≡ 0)
       → AllByRecursion (IsGroup ps) gs → CoverParts ps gs → told.groups ≡ length gs → AllByRecursion (IsOfGroup ps) (lists_of more)
-      → IsFound copies (record {
+      → IsFound ceiling copies (record {
         parts = ps;
         choices = take n (lists_of (vs ++ more));
         is_used_up = used;
@@ -75,7 +77,7 @@ module _ (copies : List (List ℕ)) (ps : List Part) (vs : List (Vec ℕ Global)
       })
   found_groups more gs told where_needed groups cover count each = record {
     are_parts = are;
-    came_to = subst (λ (cs : List (List ℕ)). CameTo ps cs used) (sym (front_is vs more n at)) came;
+    came_to = subst (λ (cs : List (List ℕ)). CameTo (IsSought ceiling) ps cs used) (sym (front_is vs more n at)) came;
     searched = (λ is. needed used refl, λ e. refl);
     by_groups = record {
       groups = gs;
@@ -100,9 +102,9 @@ files_groups ps cs n = ap (files_of ps) (sym (take-append-drop n cs))
 
 -- a choice for each part
 module _ (ps : List Part) where
-  pub whole_of_found : (found : List (List ℕ)) → MakeFiles ps found → AllByRecursion (IsWhole ps) found
-  whole_of_found [] files = tt
-  whole_of_found (choices ∷ found) files = (files.0.0, whole_of_found found files.1)
+  pub whole_of_found : (Sought : List ℕ → Type 0) (found : List (List ℕ)) → MakeFiles Sought ps found → AllByRecursion (IsWhole ps) found
+  whole_of_found Sought [] files = tt
+  whole_of_found Sought (choices ∷ found) files = (files.0.0, whole_of_found Sought found files.1)
 
   whole_of_groups : (found : List (List ℕ)) → AllByRecursion (IsOfGroup ps) found → AllByRecursion (IsWhole ps) found
   whole_of_groups [] each = tt
@@ -112,8 +114,8 @@ module _ (ps : List Part) where
   all_append [] ys h j = j
   all_append (x ∷ xs) ys h j = (h.0, all_append xs ys h.1 j)
 
-  pub whole_of_both : (vs more : List (Vec ℕ Global)) → MakeFiles ps (lists_of vs) → AllByRecursion (IsOfGroup ps) (lists_of more)
+  pub whole_of_both : (Sought : List ℕ → Type 0) (vs more : List (Vec ℕ Global)) → MakeFiles Sought ps (lists_of vs) → AllByRecursion (IsOfGroup ps) (lists_of more)
       → AllByRecursion (IsWhole ps) (lists_of (vs ++ more))
-  whole_of_both vs more files each =
+  whole_of_both Sought vs more files each =
       subst (AllByRecursion (IsWhole ps)) (sym (lists_append vs more))
-      (all_append (lists_of vs) (lists_of more) (whole_of_found (lists_of vs) files) (whole_of_groups (lists_of more) each))
+      (all_append (lists_of vs) (lists_of more) (whole_of_found Sought (lists_of vs) files) (whole_of_groups (lists_of more) each))

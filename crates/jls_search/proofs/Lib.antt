@@ -2,6 +2,7 @@
 pub mod Paths
 pub mod Fronts
 mod LinesRead
+mod Ceilings
 mod FaultlessFiles
 mod Searching
 pub mod Walks

@@ -23,7 +23,8 @@ use Rattle.jls_copy.specs.ReadCopy.{ReadCopy}
 use Rattle.jls_copy.proofs.BytesDecide.{one_outcome, one_head_of_cut, cut_has}
 use Rattle.jls_copy.proofs.ScansOfCourse.{HasScan, course_has}
 use Rattle.jls_diff.proofs.Members.{is_first, in_rest, none_in, first_or_rest}
-use Rattle.jls_search.specs.Faultless.{Gives, GivesEachLine, IsEachLineRead}
+use Rattle.jls_copy.specs.Fronts.{Gives}
+use Rattle.jls_search.specs.Faultless.{GivesEachLine, IsEachLineRead}
 
 -- Sets of readings -------------------------------------------------------------------------------------------------
 
@@ -146,14 +147,14 @@ module _ (file : List ℕ) (read : ReadCopy) (h : CopyReads file read) where
   shape_is : read.partial.shape ≡ h.shape
   shape_is = ap (λ (p : PartialPicture). p.shape) h.partial_is
 
-  held_is_given : (r : Reading) → set.contains read.partial.readings r ≡ true → Gives h.course r
+  pub held_is_given : (r : Reading) → set.contains read.partial.readings r ≡ true → Gives h.course r
   held_is_given r held =
       elim (Contains-append_cases (readings (pieces h.course) h.outcomes) (head_readings (cut_pieces h.course) h.head) r (member_of_any all r (sym (tells r) ∙ held))) [
         | inl m ↦ (let g = listed (pieces h.course) h.outcomes r h.each m in inl (g.0, g.1, g.2.0, g.2.1, g.2.2))
         | inr m ↦ (let g = head_listed (cut_pieces h.course) h.head r h.head_is m in inr (g.0, g.1, g.2.0, g.2.1, g.2.2))
       ]
 
-  given_is_held : AllByRecursion (λ b. b < 256) file → (r : Reading) → Gives h.course r → set.contains read.partial.readings r ≡ true
+  pub given_is_held : AllByRecursion (λ b. b < 256) file → (r : Reading) → Gives h.course r → set.contains read.partial.readings r ≡ true
   given_is_held low r g =
       let scans = course_has file h.course low h.is_course in
       let rs = readings (pieces h.course) h.outcomes in

@@ -7,7 +7,7 @@ use Rattle.jls_copy.specs.ReadCopy.{ReadCopy}
 use Rattle.jls_copy.specs.CopyReads.{CopyReads}
 use Rattle.jls_copy.specs.TellingLaws.{AreRecordsOf, of_none, reads, faulty, RecordsAreOfFaultyPieces}
 use Rattle.jls_copy.specs.declared.piece.PieceRecord.{PieceRecord}
-use Rattle.jls_search.specs.Faultless.{HasLines}
+use Rattle.jls_copy.specs.Fronts.{HasLines}
 use Rattle.jls_search.specs.ReadsBetween.{IsBetween, Reaches, ReadsBetween}
 
 -- none of the records is of a piece that begins there

@@ -8,7 +8,7 @@ use Rattle.std.specs.Cmp.Lexicographic.{pointwise, told_text}
 use Rattle.jls_diff.specs.Parts.{Part, Same, Differ, way, HasWays, IsSplice}
 use Rattle.jls_search.specs.Choices.{IsFirstWay, IsFront, IsPath, IsWhole, front_of}
 use Rattle.jls_search.specs.Order.{IsToCome, IsBehind}
-use Rattle.jls_search.specs.Faultless.{IsFaultless, IsDead}
+use Rattle.jls_search.specs.Faultless.{IsDead}
 use Rattle.jls_search.specs.Search.{HasEachSplice, MakeFiles, files_of, MakesFile, StandsAt, IsOver, GoesOn, IsStep}
 use Rattle.jls_search.proofs.Paths.{order}
 
@@ -62,13 +62,14 @@ in_map f (y ∷ ys) x (zero, l, e) = (0, omega arith, ap f e)
 in_map f (y ∷ ys) x (suc k, l, e) = (let r = in_map f ys x (k, omega (arith, l), e) in (suc r.0, omega (arith, r.1), r.2))
 
 -- a search that is over has come to each splice without a fault
-pub has_each_splice : (parts : List Part) (found : List (List ℕ)) → IsOver parts found → HasEachSplice parts (files_of parts found)
-has_each_splice parts found over count some ways bytes low splice faultless =
+pub has_each_splice : (Sought : List ℕ → Type 0) (parts : List Part) (found : List (List ℕ)) → IsOver Sought parts found
+    → HasEachSplice Sought parts (files_of parts found)
+has_each_splice Sought parts found over count some ways bytes low splice sought =
     let r = chosen count parts bytes ways splice in
-    let made : MakesFile parts r.0 = record {
+    let made : MakesFile Sought parts r.0 = record {
       whole = (r.1, r.2);
       low = subst (AllByRecursion (λ b. b < 256)) r.3 low;
-      faultless = subst IsFaultless r.3 faultless;
+      sought = subst Sought r.3 sought;
     } in
     subst (Contains (files_of parts found)) (sym r.3) (in_map (front_of parts) found r.0 (over.all r.0 made))
 
@@ -99,27 +100,27 @@ equal_or_behind (c ∷ path) (d ∷ cs) l (inr (e, t)) =
       | inr b ↦ inr (inr (e, b))
     ]
 
-pub dead_front : (ps : List Part) (path : List ℕ) → IsPath ps path → IsDead (front_of ps path) → (choices : List ℕ) → MakesFile ps choices
-    → IsToCome path choices → IsBehind path choices
-dead_front ps path is dead choices file t =
+pub dead_front : (Sought : List ℕ → Type 0) (ps : List Part) (path : List ℕ) → IsPath ps path → IsDead Sought (front_of ps path)
+    → (choices : List ℕ) → MakesFile Sought ps choices → IsToCome path choices → IsBehind path choices
+dead_front Sought ps path is dead choices file t =
     elim (begins_or_behind ps path choices is file.whole.0 t) [
-      | inl r ↦ absurd (dead r.0 (subst (AllByRecursion (λ b. b < 256)) r.1 file.low) (subst IsFaultless r.1 file.faultless))
+      | inl r ↦ absurd (dead r.0 (subst (AllByRecursion (λ b. b < 256)) r.1 file.low) (subst Sought r.1 file.sought))
       | inr b ↦ b
     ]
 
-pub faulty_file : (ps : List Part) (path : List ℕ) → length path ≡ length ps
-    → (AllByRecursion (λ b. b < 256) (front_of ps path) → IsFaultless (front_of ps path) → ⊥) → (choices : List ℕ) → MakesFile ps choices
+pub faulty_file : (Sought : List ℕ → Type 0) (ps : List Part) (path : List ℕ) → length path ≡ length ps
+    → (AllByRecursion (λ b. b < 256) (front_of ps path) → Sought (front_of ps path) → ⊥) → (choices : List ℕ) → MakesFile Sought ps choices
     → IsToCome path choices → IsBehind path choices
-faulty_file ps path l faulty choices file t =
+faulty_file Sought ps path l faulty choices file t =
     elim (equal_or_behind path choices (l ∙ sym file.whole.1) t) [
-      | inl e ↦ absurd (faulty (subst (λ p. AllByRecursion (λ b. b < 256) (front_of ps p)) (sym e) file.low) (subst (λ p. IsFaultless (front_of ps p)) (sym e) file.faultless))
+      | inl e ↦ absurd (faulty (subst (λ p. AllByRecursion (λ b. b < 256) (front_of ps p)) (sym e) file.low) (subst (λ p. Sought (front_of ps p)) (sym e) file.sought))
       | inr b ↦ b
     ]
 
 -- Steps ------------------------------------------------------------------------------------------------------------
 
-module _ (ps : List Part) (path next : List ℕ) (found : List (List ℕ)) (stands : StandsAt ps path found) where
-  pub descended : IsPath ps next → IsFront ps next → ((choices : List ℕ) → IsWhole ps choices → IsToCome path choices → IsToCome next choices) → StandsAt ps next found
+module _ (Sought : List ℕ → Type 0) (ps : List Part) (path next : List ℕ) (found : List (List ℕ)) (stands : StandsAt Sought ps path found) where
+  pub descended : IsPath ps next → IsFront ps next → ((choices : List ℕ) → IsWhole ps choices → IsToCome path choices → IsToCome next choices) → StandsAt Sought ps next found
   descended is front kept = record {
     is_path = is;
     front = front;
@@ -128,13 +129,13 @@ module _ (ps : List Part) (path next : List ℕ) (found : List (List ℕ)) (stan
   }
 
   -- all that begin with the path are found, or were none
-  module _ (more_found : List (List ℕ)) (files : MakeFiles ps more_found)
-      (found_or_behind : (choices : List ℕ) → MakesFile ps choices → Contains more_found choices ⊎ IsBehind path choices) where
+  module _ (more_found : List (List ℕ)) (files : MakeFiles Sought ps more_found)
+      (found_or_behind : (choices : List ℕ) → MakesFile Sought ps choices → Contains more_found choices ⊎ IsBehind path choices) where
     pub turned_on : (r : Result Bool AllocError) → IfOk r (λ more. more ≡ true → IsPath ps next)
         → IfOk r (λ more. more ≡ true → IsFront ps next)
         → IfOk r (λ more. more ≡ true → (choices : List ℕ) → IsWhole ps choices → IsBehind path choices → IsToCome next choices)
         → IfOk r (λ more. more ≡ false → (choices : List ℕ) → IsWhole ps choices → IsBehind path choices → ⊥)
-        → IfOk r (λ more. GoesOn ps next more_found more)
+        → IfOk r (λ more. GoesOn Sought ps next more_found more)
     turned_on (Err e) a f b c = tt
     turned_on (Ok true) a f b c = record {
       is_path = a refl;
@@ -147,11 +148,11 @@ module _ (ps : List Part) (path next : List ℕ) (found : List (List ℕ)) (stan
       all = λ choices file. elim (found_or_behind choices file) [ inl f ↦ f | inr t ↦ absurd (c refl choices file.whole t) ];
     }
 
-  pub dead_behind : ((choices : List ℕ) → MakesFile ps choices → IsToCome path choices → IsBehind path choices)
-      → (choices : List ℕ) → MakesFile ps choices → Contains found choices ⊎ IsBehind path choices
+  pub dead_behind : ((choices : List ℕ) → MakesFile Sought ps choices → IsToCome path choices → IsBehind path choices)
+      → (choices : List ℕ) → MakesFile Sought ps choices → Contains found choices ⊎ IsBehind path choices
   dead_behind dead choices file = elim (stands.all choices file) [ inl f ↦ inl f | inr t ↦ inr (dead choices file t) ]
 
-  pub found_behind : length path ≡ length ps → (choices : List ℕ) → MakesFile ps choices → Contains (found ++ path ∷ []) choices ⊎ IsBehind path choices
+  pub found_behind : length path ≡ length ps → (choices : List ℕ) → MakesFile Sought ps choices → Contains (found ++ path ∷ []) choices ⊎ IsBehind path choices
   found_behind l choices file =
       elim (stands.all choices file) [
         | inl f ↦ inl (Contains-append_left found (path ∷ []) choices f)
@@ -165,14 +166,14 @@ all_more : (P : List ℕ → Type 0) (xs : List (List ℕ)) (x : List ℕ) → A
 all_more P [] x h p = (p, tt)
 all_more P (y ∷ ys) x h p = (h.0, all_more P ys x h.1 p)
 
-pub files_more : (ps : List Part) (path : List ℕ) (found : List (List ℕ)) → MakeFiles ps found → IsPath ps path → length path ≡ length ps
-    → IsFaultless (front_of ps path) → MakeFiles ps (found ++ path ∷ [])
-files_more ps path found files is l faultless =
-    all_more (λ choices. IsWhole ps choices × IsFaultless (front_of ps choices)) found path files ((is, l), faultless)
+pub files_more : (Sought : List ℕ → Type 0) (ps : List Part) (path : List ℕ) (found : List (List ℕ)) → MakeFiles Sought ps found → IsPath ps path → length path ≡ length ps
+    → Sought (front_of ps path) → MakeFiles Sought ps (found ++ path ∷ [])
+files_more Sought ps path found files is l sought =
+    all_more (λ choices. IsWhole ps choices × Sought (front_of ps choices)) found path files ((is, l), sought)
 
-pub at_start : (ps : List Part) (path : List ℕ) → IsPath ps path → IsFront ps path → ((choices : List ℕ) → IsWhole ps choices → IsToCome [] choices → IsToCome path choices)
-    → StandsAt ps path []
-at_start ps path is front kept = record { is_path = is; front = front; files = tt; all = λ choices file. inr (kept choices file.whole tt) }
+pub at_start : (Sought : List ℕ → Type 0) (ps : List Part) (path : List ℕ) → IsPath ps path → IsFront ps path → ((choices : List ℕ) → IsWhole ps choices → IsToCome [] choices → IsToCome path choices)
+    → StandsAt Sought ps path []
+at_start Sought ps path is front kept = record { is_path = is; front = front; files = tt; all = λ choices file. inr (kept choices file.whole tt) }
 
 pub on_ok : {A B : Type 0} (r : Result A B) (P : Type 0) → P → IfOk r (λ _. P)
 on_ok (Ok x) P h = h

@@ -1,34 +1,22 @@
 -- Files without a fault, and fronts that no such file begins with.
-use Rattle.std.specs.Prelude.{◌≡◌, ℕ, ◌<◌, Bool, false, List, ◌++◌, length, Some, ◌⊎◌}
-use Rattle.std.specs.List.{AllByRecursion, Contains}
+use Rattle.std.specs.Prelude.{◌≡◌, ℕ, ◌<◌, ◌≤◌, Bool, false, List, [], ◌++◌, length, get_or, Option, Some, None}
+use Rattle.std.specs.List.{AllByRecursion}
 use Rattle.jls_values.specs.Shape.{PictureShape}
 use Rattle.jls_partial.specs.Partial.{PartialPicture, readings_at}
 use Rattle.jls_partial.specs.Reading.{Reading, reading_of}
 use Rattle.jls_copy.specs.Course.{Course, IsCourse}
-use Rattle.jls_copy.specs.CutPieces.{cut_pieces, IsHeadAt}
-use Rattle.jls_copy.specs.Pieces.{FoundPiece, Lines, IsOutcome, readings_of, pieces}
+use Rattle.jls_copy.specs.Fronts.{HasLines, Gives}
+use Rattle.jls_copy.specs.Pieces.{pieces}
 use Rattle.jls_copy.specs.declared.reader.CopyFault.{CopyFault}
 use Rattle.jls_copy.specs.declared.reader.CopyFault.TheVariants.{NoPicture, OutOfMemory}
 use Rattle.jls_copy.specs.declared.end.End.{End}
 use Rattle.jls_copy.specs.declared.end.End.TheVariants.{Eoi, Input, Header}
-
--- the piece reads as some lines; so it is neither too long nor broken nor beyond the last interval
-abbrev pub HasLines : FoundPiece → Type 0
-HasLines p = (lines : List (List ℕ)) × IsOutcome p (Lines lines)
 
 -- no fault of the headers ended a file
 abbrev pub EndsWell : End → Type 0
 EndsWell (Eoi offset) = Unit {0}
 EndsWell (Input offset) = Unit {0}
 EndsWell (Header f offset) = ⊥
-
--- a piece of a course decodes to lines, one of which is the reading, or the piece that the input's end cuts off has it in its head
-abbrev pub Gives : Course → Reading → Type 0
-Gives c r =
-    ((p : FoundPiece) × Contains (pieces c) p × (lines : List (List ℕ)) × IsOutcome p (Lines lines)
-    × Contains (readings_of p (Lines lines)) r)
-    ⊎ ((p : FoundPiece) × Contains (cut_pieces c) p × (head : List (List ℕ)) × IsHeadAt p.plan p.number p.bytes head
-    × Contains (readings_of p (Lines head)) r)
 
 -- a course gives a reading of each line of a shape
 abbrev pub GivesEachLine : PictureShape → Course → Type 0
@@ -45,9 +33,20 @@ pub record IsFaultless (file : List ℕ) : Type 0 where
   pub each : AllByRecursion HasLines (pieces course)
   pub whole : GivesEachLine shape course
 
--- no file without a fault begins with these bytes
-abbrev pub IsDead : List ℕ → Type 0
-IsDead front = (more : List ℕ) → AllByRecursion (λ b. b < 256) (front ++ more) → IsFaultless (front ++ more) → ⊥
+-- each sample of each reading that a file of bytes gives is at most the ceiling, if there is one
+abbrev pub IsWithin : Option ℕ → List ℕ → Type 0
+IsWithin None file = Unit {0}
+IsWithin (Some ceiling) file =
+    AllByRecursion (λ b. b < 256) file → (c : Course) → IsCourse file c → (r : Reading) → Gives c r
+    → AllByRecursion (λ sample. sample ≤ ceiling) r.samples
+
+-- a file without a fault, whose samples are at most the ceiling, if there is one: such files are sought
+abbrev pub IsSought : Option ℕ → List ℕ → Type 0
+IsSought ceiling file = IsFaultless file × IsWithin ceiling file
+
+-- no file of some kind begins with these bytes
+abbrev pub IsDead : (List ℕ → Type 0) → List ℕ → Type 0
+IsDead Sought front = (more : List ℕ) → AllByRecursion (λ b. b < 256) (front ++ more) → Sought (front ++ more) → ⊥
 
 -- Inside the crate ---------------------------------------------------------------------------------------------------
 
@@ -63,3 +62,22 @@ IsEachLineRead p = (component : ℕ) → component < length p.shape.ids → IsCo
 abbrev pub IsAnswerWithoutFrame : CopyFault → Bool → Type 0
 IsAnswerWithoutFrame (NoPicture f offset) answer = answer ≡ false
 IsAnswerWithoutFrame OutOfMemory answer = ⊥
+
+-- each sample of each reading of the line is at most the ceiling
+abbrev pub IsLineWithin : ℕ → PartialPicture → ℕ → ℕ → Type 0
+IsLineWithin ceiling p component line =
+    (i : ℕ) → i < length (readings_at p component line)
+    → AllByRecursion (λ sample. sample ≤ ceiling) (get_or (readings_at p component line) i [])
+
+-- and of each line of the component
+abbrev pub IsComponentWithin : ℕ → PartialPicture → ℕ → Type 0
+IsComponentWithin ceiling p component = (line : ℕ) → line < p.shape.height → IsLineWithin ceiling p component line
+
+-- and of each component
+abbrev pub IsPictureWithin : ℕ → PartialPicture → Type 0
+IsPictureWithin ceiling p = (component : ℕ) → component < length p.shape.ids → IsComponentWithin ceiling p component
+
+-- and of the picture, if there is a ceiling
+abbrev pub IsReadWithin : Option ℕ → PartialPicture → Type 0
+IsReadWithin None p = Unit {0}
+IsReadWithin (Some ceiling) p = IsPictureWithin ceiling p

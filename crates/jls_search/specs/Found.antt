@@ -3,6 +3,7 @@ use Rattle.std.specs.Prelude.{◌≡◌, ◌≤◌, ℕ, ◌↔◌, Bool, true, 
 use Rattle.std.specs.List.{AllByRecursion}
 use Rattle.jls_diff.specs.Parts.{Part, AreParts}
 use Rattle.jls_diff.specs.PartsOf.{parts_of}
+use Rattle.jls_search.specs.Faultless.{IsSought}
 use Rattle.jls_search.specs.Search.{CameTo, files_of, lists_of}
 use Rattle.jls_diff.specs.Groups.{CoverParts, IsGroup}
 use Rattle.jls_search.specs.OfGroups.{IsOfGroup}
@@ -39,10 +40,11 @@ pub record AreGroupTries (limit : ℕ) (b : ByGroups) : Type 0 where
   pub within : b.tries ≤ limit
   pub used_up : b.is_used_up ≡ true → (b.tries ≡ limit) ⊎ (length b.choices ≡ 64)
 
--- a search over these copies found it; groups were searched where the search of all splices was cut off or came to nothing, and only there
-pub record IsFound (copies : List (List ℕ)) (f : Found) : Type 0 where
+-- a search over these copies, for files under the ceiling, found it; groups, which have no ceiling, were searched where the search of all
+-- splices was cut off or came to nothing, and only there
+pub record IsFound (ceiling : Option ℕ) (copies : List (List ℕ)) (f : Found) : Type 0 where
   pub are_parts : AreParts copies f.parts
-  pub came_to : CameTo f.parts f.choices f.is_used_up
+  pub came_to : CameTo (IsSought ceiling) f.parts f.choices f.is_used_up
   pub searched : IsSome f.by_groups ↔ ((f.is_used_up ≡ true) ⊎ (f.choices ≡ []))
   pub by_groups : IfSome f.by_groups (IsByGroups f.parts)
 

@@ -5,22 +5,22 @@ use Rattle.std.specs.declared.vec.Vec.{Vec}
 use Rattle.std.specs.declared.alloc.Global.{Global}
 use Rattle.jls_diff.specs.Parts.{Part, HasWays, IsSplice}
 use Rattle.jls_search.specs.Choices.{IsFront, IsPath, IsWhole, front_of}
-use Rattle.jls_search.specs.Faultless.{IsFaultless}
+use Rattle.jls_search.specs.Faultless.{IsSought}
 use Rattle.jls_search.specs.Order.{Goes, IsToCome, IsBehind}
 use Rattle.jls_search.specs.declared.whole_search.WholeSearch.{WholeSearch}
 use Rattle.jls_search.specs.declared.kept.KeptReader.{KeptReader}
 use Rattle.jls_search.specs.declared.looking.Sight.{Sight}
 use Rattle.jls_search.specs.declared.looking.Sight.TheVariants.{Dead, Open, Found}
 
--- each splice that is a file without a fault is among these files
-abbrev pub HasEachSplice : List Part → List (List ℕ) → Type 0
-HasEachSplice parts files =
+-- each splice that is a file of the kind that is sought is among these files
+abbrev pub HasEachSplice : (List ℕ → Type 0) → List Part → List (List ℕ) → Type 0
+HasEachSplice Sought parts files =
     (count : ℕ) → 0 < count → AllByRecursion (HasWays count) parts → (bytes : List ℕ) → AllByRecursion (λ b. b < 256) bytes
-    → IsSplice count parts bytes → IsFaultless bytes → Contains files bytes
+    → IsSplice count parts bytes → Sought bytes → Contains files bytes
 
--- each of these choices makes a file without a fault
-abbrev pub MakeFiles : List Part → List (List ℕ) → Type 0
-MakeFiles parts found = AllByRecursion (λ choices. IsWhole parts choices × IsFaultless (front_of parts choices)) found
+-- each of these choices makes a file of the kind that is sought
+abbrev pub MakeFiles : (List ℕ → Type 0) → List Part → List (List ℕ) → Type 0
+MakeFiles Sought parts found = AllByRecursion (λ choices. IsWhole parts choices × Sought (front_of parts choices)) found
 
 -- the files that choices make
 abbrev pub files_of : List Part → List (List ℕ) → List (List ℕ)
@@ -34,37 +34,37 @@ IsShort parts = (choices : List ℕ) → IsPath parts choices → length (front_
 abbrev pub lists_of : List (Vec ℕ Global) → List (List ℕ)
 lists_of vs = map (λ v. v.items) vs
 
--- what a search found. The choices make files without a fault. If its tries were not used up, each splice without a fault is one of these
--- files
-pub record CameTo (parts : List Part) (found : List (List ℕ)) (is_used_up : Bool) : Type 0 where
-  pub files : MakeFiles parts found
-  pub all : is_used_up ≡ false → HasEachSplice parts (files_of parts found)
+-- what a search found. The choices make files of the kind that is sought. If its tries were not used up, each splice of that kind is one
+-- of these files
+pub record CameTo (Sought : List ℕ → Type 0) (parts : List Part) (found : List (List ℕ)) (is_used_up : Bool) : Type 0 where
+  pub files : MakeFiles Sought parts found
+  pub all : is_used_up ≡ false → HasEachSplice Sought parts (files_of parts found)
 
 -- A search that goes on ---------------------------------------------------------------------------------------------
 
--- choices, one for each part, make a file without a fault
-pub record MakesFile (parts : List Part) (choices : List ℕ) : Type 0 where
+-- choices, one for each part, make a file of the kind that is sought
+pub record MakesFile (Sought : List ℕ → Type 0) (parts : List Part) (choices : List ℕ) : Type 0 where
   pub whole : IsWhole parts choices
   pub low : AllByRecursion (λ b. b < 256) (front_of parts choices)
-  pub faultless : IsFaultless (front_of parts choices)
+  pub sought : Sought (front_of parts choices)
 
--- a search is at a path: choices that make a file without a fault are found, or are still to come. The path goes up to a differing part, or
+-- a search is at a path: choices that make a file that is sought are found, or are still to come. The path goes up to a differing part, or
 -- to the end
-pub record StandsAt (parts : List Part) (path : List ℕ) (found : List (List ℕ)) : Type 0 where
+pub record StandsAt (Sought : List ℕ → Type 0) (parts : List Part) (path : List ℕ) (found : List (List ℕ)) : Type 0 where
   pub is_path : IsPath parts path
   pub front : IsFront parts path
-  pub files : MakeFiles parts found
-  pub all : (choices : List ℕ) → MakesFile parts choices → Contains found choices ⊎ IsToCome path choices
+  pub files : MakeFiles Sought parts found
+  pub all : (choices : List ℕ) → MakesFile Sought parts choices → Contains found choices ⊎ IsToCome path choices
 
--- a search is over: all choices that make a file without a fault are found
-pub record IsOver (parts : List Part) (found : List (List ℕ)) : Type 0 where
-  pub files : MakeFiles parts found
-  pub all : (choices : List ℕ) → MakesFile parts choices → Contains found choices
+-- a search is over: all choices that make a file that is sought are found
+pub record IsOver (Sought : List ℕ → Type 0) (parts : List Part) (found : List (List ℕ)) : Type 0 where
+  pub files : MakeFiles Sought parts found
+  pub all : (choices : List ℕ) → MakesFile Sought parts choices → Contains found choices
 
 -- a search is at its path if it goes on, and is over if not
-abbrev pub GoesOn : List Part → List ℕ → List (List ℕ) → Bool → Type 0
-GoesOn parts path found true = StandsAt parts path found
-GoesOn parts path found false = IsOver parts found
+abbrev pub GoesOn : (List ℕ → Type 0) → List Part → List ℕ → List (List ℕ) → Bool → Type 0
+GoesOn Sought parts path found true = StandsAt Sought parts path found
+GoesOn Sought parts path found false = IsOver Sought parts found
 
 -- one step of a search: the file of its path is found, or nothing is. The next path begins with the path, and has more choices, or comes
 -- after all that begin with it
@@ -76,21 +76,23 @@ IsStep path found next found' more =
 abbrev pub IsKept : List Part → KeptReader → Type 0
 IsKept parts k = k.reader ≡ Some (front_of parts k.choices.items)
 
--- a search over parts has come so far: each splice without a fault is one that it found, or is still to come. The reader that it keeps was
--- fed what its choices make
+-- a search over parts has come so far: each splice that is sought under its ceiling is one that it found, or is still to come. The reader
+-- that it keeps was fed what its choices make
 abbrev pub IsSearch : List Part → WholeSearch → Type 0
 IsSearch parts s =
-    GoesOn parts s.path.items (lists_of s.splices.items) s.goes_on × (length (lists_of s.splices.items) ≤ 64) × IfSome s.kept (IsKept parts)
+    GoesOn (IsSought s.judge.ceiling) parts s.path.items (lists_of s.splices.items) s.goes_on
+    × (length (lists_of s.splices.items) ≤ 64) × IfSome s.judge.kept (IsKept parts)
 
 -- a search can go on: there is more to try, fewer tries than these were made, and fewer than 64 files were found
 abbrev pub CanGoOn : WholeSearch → ℕ → Type 0
 CanGoOn s limit = (s.goes_on ≡ true) × (s.tries < limit) × (length (lists_of s.splices.items) < 64)
 
--- a search made one try more: there was more to try, the count of tries rose by one, and the path made one step
+-- a search made one try more: there was more to try, the count of tries rose by one, the ceiling is the same, and the path made one step
 pub record IsTry (parts : List Part) (old new : WholeSearch) : Type 0 where
   pub goes_on : old.goes_on ≡ true
   pub stands : IsSearch parts new
   pub counted : new.tries ≡ old.tries + 1
+  pub ceiling : new.judge.ceiling ≡ old.judge.ceiling
   pub step : IsStep old.path.items (lists_of old.splices.items) new.path.items (lists_of new.splices.items) new.goes_on
 
 -- so many tries, one after the other, take a search from the first state to the second
@@ -102,9 +104,10 @@ pub data Tried (parts : List Part) : WholeSearch → WholeSearch → Type 0 wher
 abbrev pub IsBegun : WholeSearch → Type 0
 IsBegun s = (s.tries ≡ 0) × (s.splices.items ≡ []) × (s.goes_on ≡ true)
 
--- so many tries, from the begin of a search over parts on, found these
-pub record WereTried (parts : List Part) (tries : ℕ) (found : List (List ℕ)) : Type 0 where
+-- so many tries, from the begin of a search over parts under this ceiling on, found these
+pub record WereTried (ceiling : Option ℕ) (parts : List Part) (tries : ℕ) (found : List (List ℕ)) : Type 0 where
   pub begun : WholeSearch
+  pub ceiling_is : begun.judge.ceiling ≡ ceiling
   pub is_begun : IsBegun begun
   pub stands : IsSearch parts begun
   pub last : WholeSearch
@@ -118,15 +121,16 @@ pub record GoesFrom (parts : List Part) (old new : WholeSearch) (limit : ℕ) : 
   pub tries : old.tries ≤ new.tries
   pub files : length (lists_of old.splices.items) ≤ length (lists_of new.splices.items)
   pub within : new.tries ≤ max old.tries limit
+  pub ceiling : new.judge.ceiling ≡ old.judge.ceiling
   pub some : CanGoOn old limit → old.tries < new.tries
 
 -- Inside the crate -------------------------------------------------------------------------------------------------
 
 -- what is seen of a path
-abbrev pub IsSeen : List Part → List ℕ → Sight → Type 0
-IsSeen parts path Dead = (choices : List ℕ) → MakesFile parts choices → IsToCome path choices → IsBehind path choices
-IsSeen parts path (Open reader) = (length path < length parts) × IfSome reader (λ fed. fed ≡ Some (front_of parts path))
-IsSeen parts path Found = (length path ≡ length parts) × IsFaultless (front_of parts path)
+abbrev pub IsSeen : (List ℕ → Type 0) → List Part → List ℕ → Sight → Type 0
+IsSeen Sought parts path Dead = (choices : List ℕ) → MakesFile Sought parts choices → IsToCome path choices → IsBehind path choices
+IsSeen Sought parts path (Open reader) = (length path < length parts) × IfSome reader (λ fed. fed ≡ Some (front_of parts path))
+IsSeen Sought parts path Found = (length path ≡ length parts) × Sought (front_of parts path)
 
 -- what is kept: a reader with the path that it was fed; where there is none, what was kept before
 abbrev pub Keeps : Option KeptReader → Option (Option (List ℕ)) → List ℕ → Option KeptReader → Type 0

@@ -3,8 +3,9 @@
 ghost use Rattle.std.specs.Prelude.{◌≡◌, ℕ, List, ◌<◌, ◌↔◌, true, false, IsTrue, IfOk, IfSome};
 ghost use Rattle.std.specs.List.{AllByRecursion};
 ghost use Rattle.jls_copy.specs.CopyReads.{CopyReads};
-ghost use Rattle.jls_search.specs.Faultless.{EndsWell, IsFaultless, IsDead, IsAnswerWithoutFrame};
+ghost use Rattle.jls_search.specs.Faultless.{EndsWell, IsFaultless, IsSought, IsDead, IsAnswerWithoutFrame};
 
+use crate::ceiling::is_read_within;
 use crate::lines::is_each_line_read;
 use jls_copy::{
     CopyFault, CopyRead, CopyReader, End, final_ends_stay, fronts_stay_broken,
@@ -63,6 +64,33 @@ pub fn is_faultless(reader: CopyReader) -> Result<bool, AllocError>
     }
 }
 
+/// Whether what was read is a file without a fault, whose samples are at most the ceiling, if there is one.
+fn is_read_sought(ceiling: Option<u16>, read: &CopyRead) -> bool
+    ensures sought { result ≡ true → (file : List ℕ) → CopyReads file read.now → IsSought ceiling file }
+    ensures unsought { result ≡ false
+        → (file : List ℕ) → CopyReads file read.now → AllByRecursion (λ b. b < 256) file → IsSought ceiling file → ⊥ }
+{
+    let _shape = read.partial().shape();
+    let faultless = is_read_faultless(read);
+    if !faultless {
+        return false;
+    }
+    is_read_within(ceiling, read.partial())
+}
+
+/// Whether what was fed is a file that is sought, if it ends here: one without a fault, whose samples are at most the ceiling, if there is
+/// one. The only refusal is out of memory.
+pub fn is_sought(ceiling: Option<u16>, reader: CopyReader) -> Result<bool, AllocError>
+    ensures sought { IfOk result (λ answer. answer ≡ true → IfSome reader (λ bytes. IsSought ceiling bytes)) }
+    ensures unsought { IfOk result
+        (λ answer. answer ≡ false → IfSome reader (λ bytes. AllByRecursion (λ b. b < 256) bytes → IsSought ceiling bytes → ⊥)) }
+{
+    match reader.finish() {
+        Ok(read) => Ok(is_read_sought(ceiling, &read)),
+        Err(fault) => without_frame(fault),
+    }
+}
+
 /// Whether it is a file with a fault.
 fn has_fault(reader: CopyReader) -> Result<bool, AllocError>
     ensures { IfOk result
@@ -78,7 +106,7 @@ fn has_fault(reader: CopyReader) -> Result<bool, AllocError>
 /// Whether it is known that no file without a fault begins with the bytes fed. Either the piece in hand is broken, or the copy has ended
 /// and has a fault. `false` says nothing. The only refusal is out of memory.
 pub fn is_dead(reader: CopyReader) -> Result<bool, AllocError>
-    ensures { IfOk result (λ dead. dead ≡ true → IfSome reader (λ front. IsDead front)) }
+    ensures { IfOk result (λ dead. dead ≡ true → IfSome reader (λ front. IsDead IsFaultless front)) }
 {
     fronts_stay_broken();
     final_ends_stay();

@@ -5,6 +5,7 @@ ghost use Rattle.std.specs.List.{AllByRecursion};
 ghost use Rattle.jls_diff.specs.Parts.{AreParts};
 ghost use Rattle.jls_diff.specs.PartsOf.{bytes_of, parts_of};
 ghost use Rattle.jls_search.specs.Choices.{IsWhole};
+ghost use Rattle.jls_search.specs.Faultless.{IsSought};
 ghost use Rattle.jls_search.specs.Search.{CameTo, files_of, lists_of};
 ghost use Rattle.jls_search.specs.SearchLaws.{AreShort};
 ghost use Rattle.jls_search.specs.Found.{AreGroupTries, IsFound, found_of, splices_in};
@@ -75,8 +76,9 @@ pub fn complete_by_groups<'a>(
     requires some_copy { 0 < length copies.now }
     requires short { AreShort (bytes_of copies.now) }
     requires parts { AreParts (bytes_of copies.now) (parts_of found.parts.items) }
-    requires searched { CameTo (parts_of found.parts.items) (lists_of found.searched.splices.items) found.searched.is_used_up }
-    ensures found { IfOk result (λ more. IsFound (bytes_of copies.now) (found_of more)) }
+    requires searched { CameTo (IsSought found.ceiling) (parts_of found.parts.items) (lists_of found.searched.splices.items)
+        found.searched.is_used_up }
+    ensures found { IfOk result (λ more. IsFound found.entry.ceiling (bytes_of copies.now) (found_of more)) }
     ensures parts_kept { IfOk result (λ more. more.parts.items ≡ found.entry.parts.items) }
     ensures tries { IfOk result (λ more. more.tries ≡ found.entry.searched.tries) }
     ensures used_up { IfOk result (λ more. more.is_used_up ≡ found.entry.searched.is_used_up) }
@@ -87,7 +89,11 @@ pub fn complete_by_groups<'a>(
     ensures whole { IfOk result (λ more. more.whole ≤ length more.splices.items) }
     ensures of_groups { IfOk result (λ more. IfSome (found_of more).by_groups (AreGroupTries limit)) }
 {
-    let SearchedCopies { parts, searched } = found;
+    let SearchedCopies {
+        parts,
+        searched,
+        ..
+    } = found;
     let Searched {
         mut splices,
         tries,

@@ -19,6 +19,15 @@ pub struct KeptReader {
     pub choices: Vec<usize>,
 }
 
+/// What a search judges paths by.
+#[derive(Drop)]
+pub struct Judge {
+    /// The greatest sample that a file may have that is sought, if there is a limit.
+    pub ceiling: Option<u16>,
+    /// The reader of the last path that was left open. Paths that begin so are read from there on, and not from their first byte.
+    pub kept: Option<KeptReader>,
+}
+
 /// A clone of a reader, fed on to all that the path makes. That reader was fed what the first `from` choices of the path make.
 fn fed_on(
     last: &CopyReader,

@@ -5,6 +5,7 @@
 //! - `feeding`: feeds what they make to a `CopyReader`
 //! - `faultless`: judges it: a file without a fault, or a prefix that none begins with
 //! - `lines`: whether each line of a picture was read
+//! - `ceiling`: whether samples are at most the greatest that a file may have that is sought
 //! - `kept`: the reader that a search keeps, and readers that go on from it
 //! - `looking`: what is seen of a path
 //! - `whole_search`: the search of whole files, as a value that goes on as far as its caller wants
@@ -38,6 +39,7 @@
 //! - How often a file is decoded.
 #![tactic(auto)]
 
+mod ceiling;
 mod choosing;
 mod copies;
 mod faultless;
@@ -66,12 +68,12 @@ mod trying;
 mod whole_search;
 
 pub use copies::{SearchedCopies, search_copies};
-pub use faultless::{is_dead, is_faultless, is_read_faultless};
+pub use faultless::{is_dead, is_faultless, is_read_faultless, is_sought};
 pub use feeding::{feed_front, reader_of, way_at};
 pub use files::Files;
 pub use found::{FoundSplices, GroupsTold, complete_by_groups};
 pub use group_search::{SearchedGroups, search_groups};
-pub use kept::KeptReader;
+pub use kept::{Judge, KeptReader};
 pub use laws::{parts_can_be_searched, searches_come_to_each_splice};
 pub use path::next_way_at;
 pub use reading_between::reads_between;

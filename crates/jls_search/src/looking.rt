@@ -3,10 +3,12 @@
 ghost use Rattle.std.specs.Prelude.{◌≡◌, ◌-◌, ◌^◌, ◌<◌, ◌≤◌, length, IfOk, IfSome};
 ghost use Rattle.jls_diff.specs.PartsOf.{parts_of};
 ghost use Rattle.jls_search.specs.Choices.{IsPath, front_of};
+ghost use Rattle.jls_search.specs.Faultless.{IsSought};
 ghost use Rattle.jls_search.specs.Search.{IsKept, IsSeen};
 
-use crate::faultless::{is_dead, is_faultless};
-use crate::kept::{KeptReader, reader_on};
+use crate::ceiling::is_above;
+use crate::faultless::{is_dead, is_sought};
+use crate::kept::{Judge, reader_on};
 use jls_copy::CopyReader;
 use jls_diff::Part;
 use std::alloc::{AllocError, Global};
@@ -14,11 +16,11 @@ use std::alloc::{AllocError, Global};
 /// What is seen of a path.
 #[derive(Drop)]
 pub(crate) enum Sight {
-    /// No choices that begin so make a file without a fault.
+    /// No choices that begin so make a file that is sought.
     Dead,
     /// Such choices may come. The reader was fed what the path makes. There is none where its copy has ended.
     Open(Option<CopyReader>),
-    /// The path has a choice for each part, and makes a file without a fault.
+    /// The path has a choice for each part, and makes a file that is sought.
     Found,
 }
 
@@ -26,18 +28,18 @@ pub(crate) enum Sight {
 fn look_at_file(
     alloc: Global,
     parts: &[Part<'_>],
-    kept: &Option<KeptReader>,
+    judge: &Judge,
     path: &[usize],
 ) -> Result<Sight, AllocError>
-    requires kept { IfSome kept.now (IsKept (parts_of parts.now)) }
+    requires kept { IfSome judge.now.kept (IsKept (parts_of parts.now)) }
     requires path { IsPath (parts_of parts.now) path.now }
     requires few { length (front_of (parts_of parts.now) path.now) ≤ 2 ^ 63 - 1 }
     requires whole { length path.now ≡ length (parts_of parts.now) }
-    ensures { IfOk result (λ sight. IsSeen (parts_of parts.now) path.now sight) }
+    ensures { IfOk result (λ sight. IsSeen (IsSought judge.now.ceiling) (parts_of parts.now) path.now sight) }
 {
-    let reader = reader_on(alloc, parts, kept, path)?;
-    let faultless = is_faultless(reader)?;
-    if faultless {
+    let reader = reader_on(alloc, parts, &judge.kept, path)?;
+    let sought = is_sought(judge.ceiling, reader)?;
+    if sought {
         return Ok(Sight::Found);
     }
     Ok(Sight::Dead)
@@ -47,16 +49,20 @@ fn look_at_file(
 fn look_at_front(
     alloc: Global,
     parts: &[Part<'_>],
-    kept: &Option<KeptReader>,
+    judge: &Judge,
     path: &[usize],
 ) -> Result<Sight, AllocError>
-    requires kept { IfSome kept.now (IsKept (parts_of parts.now)) }
+    requires kept { IfSome judge.now.kept (IsKept (parts_of parts.now)) }
     requires path { IsPath (parts_of parts.now) path.now }
     requires few { length (front_of (parts_of parts.now) path.now) ≤ 2 ^ 63 - 1 }
     requires more { length path.now < length (parts_of parts.now) }
-    ensures { IfOk result (λ sight. IsSeen (parts_of parts.now) path.now sight) }
+    ensures { IfOk result (λ sight. IsSeen (IsSought judge.now.ceiling) (parts_of parts.now) path.now sight) }
 {
-    let reader = reader_on(alloc, parts, kept, path)?;
+    let reader = reader_on(alloc, parts, &judge.kept, path)?;
+    let above = is_above(judge.ceiling, &reader)?;
+    if above {
+        return Ok(Sight::Dead);
+    }
     let goes_on = !reader.is_piece_broken() && !reader.is_done();
     if goes_on {
         return Ok(Sight::Open(Some(reader)));
@@ -72,17 +78,17 @@ fn look_at_front(
 pub(crate) fn look(
     alloc: Global,
     parts: &[Part<'_>],
-    kept: &Option<KeptReader>,
+    judge: &Judge,
     path: &[usize],
 ) -> Result<Sight, AllocError>
-    requires kept { IfSome kept.now (IsKept (parts_of parts.now)) }
+    requires kept { IfSome judge.now.kept (IsKept (parts_of parts.now)) }
     requires path { IsPath (parts_of parts.now) path.now }
     requires few { length (front_of (parts_of parts.now) path.now) ≤ 2 ^ 63 - 1 }
-    ensures { IfOk result (λ sight. IsSeen (parts_of parts.now) path.now sight) }
+    ensures { IfOk result (λ sight. IsSeen (IsSought judge.now.ceiling) (parts_of parts.now) path.now sight) }
 {
     if path.len() < parts.len() {
-        look_at_front(alloc, parts, kept, path)
+        look_at_front(alloc, parts, judge, path)
     } else {
-        look_at_file(alloc, parts, kept, path)
+        look_at_file(alloc, parts, judge, path)
     }
 }

@@ -1,15 +1,15 @@
 //! The whole search.
 
-ghost use Rattle.std.specs.Prelude.{◌≡◌, ◌↔◌, List, ◌+◌, ◌≤◌, ◌⊎◌, ◌∷◌, ◌++◌, [], true, false, length, IsTrue, IfOk, IfSome, OnOk};
+ghost use Rattle.std.specs.Prelude.{◌≡◌, ◌↔◌, ℕ, List, Option, ◌+◌, ◌≤◌, ◌⊎◌, ◌∷◌, ◌++◌, [], true, false, length, IsTrue, IfOk, IfSome, OnOk};
 ghost use Rattle.std.specs.List.{AllByRecursion};
 ghost use Rattle.jls_diff.specs.Parts.{Part as SpecPart};
 ghost use Rattle.jls_diff.specs.PartsOf.{parts_of};
-ghost use Rattle.jls_search.specs.Choices.{HasSomeWay, front_of};
-ghost use Rattle.jls_search.specs.Faultless.{IsFaultless};
+ghost use Rattle.jls_search.specs.Choices.{HasSomeWay, IsPath, front_of};
+ghost use Rattle.jls_search.specs.Faultless.{IsSought};
 ghost use Rattle.jls_search.specs.Search.{IsShort, IsBegun, IsKept, IsSearch, IsStep, CanGoOn, GoesFrom, GoesOn, WereTried, StandsAt};
 ghost use Rattle.jls_search.specs.Search.{CameTo, HasEachSplice, MakeFiles, files_of, lists_of};
 
-use crate::kept::{KeptReader, keep};
+use crate::kept::{Judge, keep};
 use crate::looking::{Sight, look};
 use crate::path::{descend, follow_same, turn};
 use jls_diff::Part;
@@ -21,7 +21,7 @@ pub const MOST_FOUND: usize = 64;
 /// What a search came to.
 #[derive(Drop)]
 pub struct Searched {
-    /// The splices without a fault, each as its choices, one for each part.
+    /// The splices that were sought and found, each as its choices, one for each part.
     pub splices: Vec<Vec<usize>>,
     /// How many prefixes and files were tried.
     pub tries: u32,
@@ -45,10 +45,12 @@ fn pass_found(
     path: &mut Vec<usize>,
     found: &mut Vec<Vec<usize>>,
 ) -> Result<bool, AllocError>
-    requires stands { StandsAt (parts_of parts.now) path.old.items (lists_of found.old.items) }
+    requires is_path { IsPath (parts_of parts.now) path.old.items }
     requires whole { length path.old.items ≡ length (parts_of parts.now) }
-    requires faultless { IsFaultless (front_of (parts_of parts.now) path.old.items) }
-    ensures next { IfOk result (λ more. GoesOn (parts_of parts.now) path.new.items (lists_of found.new.items) more) }
+    ensures next { (ceiling : Option ℕ)
+        → StandsAt (IsSought ceiling) (parts_of parts.now) path.old.items (lists_of found.old.items)
+        → IsSought ceiling (front_of (parts_of parts.now) path.old.items)
+        → IfOk result (λ more. GoesOn (IsSought ceiling) (parts_of parts.now) path.new.items (lists_of found.new.items) more) }
     ensures count { IfOk result (λ more. (length (lists_of found.old.items) ≤ length (lists_of found.new.items))
         × (length (lists_of found.new.items) ≤ length (lists_of found.old.items) + 1)) }
     ensures step { IfOk result (λ more. IsStep path.old.items (lists_of found.old.items) path.new.items (lists_of found.new.items) more) }
@@ -63,22 +65,24 @@ fn try_next(
     parts: &[Part<'_>],
     path: &mut Vec<usize>,
     found: &mut Vec<Vec<usize>>,
-    kept: &mut Option<KeptReader>,
+    judge: &mut Judge,
 ) -> Result<bool, AllocError>
     requires some_way { AllByRecursion HasSomeWay (parts_of parts.now) }
     requires short { IsShort (parts_of parts.now) }
-    requires stands { StandsAt (parts_of parts.now) path.old.items (lists_of found.old.items) }
-    requires kept { IfSome kept.old (IsKept (parts_of parts.now)) }
-    ensures next { IfOk result (λ more. GoesOn (parts_of parts.now) path.new.items (lists_of found.new.items) more) }
+    requires stands { StandsAt (IsSought judge.old.ceiling) (parts_of parts.now) path.old.items (lists_of found.old.items) }
+    requires kept { IfSome judge.old.kept (IsKept (parts_of parts.now)) }
+    ensures next { IfOk result
+        (λ more. GoesOn (IsSought judge.new.ceiling) (parts_of parts.now) path.new.items (lists_of found.new.items) more) }
     ensures count { IfOk result (λ more. (length (lists_of found.old.items) ≤ length (lists_of found.new.items))
         × (length (lists_of found.new.items) ≤ length (lists_of found.old.items) + 1)) }
     ensures step { IfOk result (λ more. IsStep path.old.items (lists_of found.old.items) path.new.items (lists_of found.new.items) more) }
-    ensures kept { OnOk result (IfSome kept.new (IsKept (parts_of parts.now))) }
+    ensures kept { OnOk result (IfSome judge.new.kept (IsKept (parts_of parts.now))) }
+    ensures ceiling { judge.new.ceiling ≡ judge.old.ceiling }
 {
-    let sight = look(alloc, parts, kept, path)?;
+    let sight = look(alloc, parts, judge, path)?;
     match sight {
         Sight::Open(reader) => {
-            keep(alloc, kept, reader, path)?;
+            keep(alloc, &mut judge.kept, reader, path)?;
             descend(parts, path)?;
             Ok(true)
         }
@@ -88,11 +92,11 @@ fn try_next(
 }
 
 /// A search that goes on as far as its caller wants, depth first, part by part. Ways are tried in the order of the copies, and ways with
-/// equal bytes once. Choices are given up if no file without a fault begins with what they make. Each prefix and each file that is tried
-/// counts.
+/// equal bytes once. Files without a fault are sought; if there is a ceiling, no sample of theirs is above it. Choices are given up if no
+/// such file begins with what they make. Each prefix and each file that is tried counts.
 #[derive(Drop)]
 pub struct WholeSearch {
-    /// The splices without a fault that it has found, each as its choices, one for each part.
+    /// The splices that it has found, each as its choices, one for each part.
     pub splices: Vec<Vec<usize>>,
     /// How many prefixes and files were tried.
     pub tries: u32,
@@ -100,14 +104,19 @@ pub struct WholeSearch {
     pub goes_on: bool,
     /// What is tried next: a choice for each of the first parts.
     pub path: Vec<usize>,
-    /// The reader of the last path that was left open. Paths that begin so are read from there on, and not from their first byte.
-    pub kept: Option<KeptReader>,
+    /// What it judges paths by.
+    pub judge: Judge,
 }
 
 impl WholeSearch {
-    /// A search that has tried nothing.
-    pub fn begin(alloc: Global, parts: &[Part<'_>]) -> Result<WholeSearch, AllocError>
+    /// A search that has tried nothing. `ceiling` is the greatest sample that a file may have that it seeks, if there is a limit.
+    pub fn begin(
+        alloc: Global,
+        parts: &[Part<'_>],
+        ceiling: Option<u16>,
+    ) -> Result<WholeSearch, AllocError>
         ensures stands { IfOk result (λ begun. IsSearch (parts_of parts.now) begun) }
+        ensures ceiling { IfOk result (λ begun. begun.judge.ceiling ≡ ceiling) }
         ensures untried { IfOk result (λ begun. IsBegun begun) }
     {
         let mut path = Vec::new(alloc);
@@ -117,7 +126,10 @@ impl WholeSearch {
             tries: 0,
             goes_on: true,
             path,
-            kept: None,
+            judge: Judge {
+                ceiling,
+                kept: None,
+            },
         })
     }
 
@@ -144,7 +156,7 @@ impl WholeSearch {
                 parts,
                 &mut self.path,
                 &mut self.splices,
-                &mut self.kept,
+                &mut self.judge,
             )?;
         }
         Ok(())
@@ -153,7 +165,7 @@ impl WholeSearch {
     /// What it came to. Its tries are used up where there is more to try.
     pub fn into_searched(self) -> Searched
         ensures came_to { (parts : List SpecPart) → IsSearch parts self
-            → CameTo parts (lists_of result.splices.items) result.is_used_up }
+            → CameTo (IsSought self.judge.ceiling) parts (lists_of result.splices.items) result.is_used_up }
         ensures tries { result.tries ≡ self.tries }
         ensures splices { result.splices ≡ self.splices }
         ensures used_up { result.is_used_up ≡ self.goes_on }
@@ -166,23 +178,29 @@ impl WholeSearch {
     }
 }
 
-/// Searches the splices of some copies for files without a fault, as `WholeSearch` does.
+/// Searches the splices of some copies for files without a fault, whose samples are at most the ceiling, if there is one, as `WholeSearch`
+/// does.
 ///
 /// Parts of short copies are as it requires them (`parts_can_be_searched`).
 ///
 /// `is_used_up` says that the search ended with its tries, or with its 64th file, while there was more to try.
-pub fn search(alloc: Global, parts: &[Part<'_>], limit: u32) -> Result<Searched, AllocError>
+pub fn search(
+    alloc: Global,
+    parts: &[Part<'_>],
+    ceiling: Option<u16>,
+    limit: u32,
+) -> Result<Searched, AllocError>
     requires some_way { AllByRecursion HasSomeWay (parts_of parts.now) }
     requires short { IsShort (parts_of parts.now) }
-    ensures files { IfOk result (λ searched. MakeFiles (parts_of parts.now) (lists_of searched.splices.items)) }
+    ensures files { IfOk result (λ searched. MakeFiles (IsSought ceiling) (parts_of parts.now) (lists_of searched.splices.items)) }
     ensures all { IfOk result (λ searched. searched.is_used_up ≡ false
-        → HasEachSplice (parts_of parts.now) (files_of (parts_of parts.now) (lists_of searched.splices.items))) }
+        → HasEachSplice (IsSought ceiling) (parts_of parts.now) (files_of (parts_of parts.now) (lists_of searched.splices.items))) }
     ensures used_up { IfOk result
         (λ searched. searched.is_used_up ≡ true → (searched.tries ≡ limit) ⊎ (length searched.splices.items ≡ 64)) }
     ensures few { IfOk result (λ searched. (searched.tries ≤ limit) × (length searched.splices.items ≤ 64)) }
-    ensures tried { IfOk result (λ searched. WereTried (parts_of parts.now) searched.tries (lists_of searched.splices.items)) }
+    ensures tried { IfOk result (λ searched. WereTried ceiling (parts_of parts.now) searched.tries (lists_of searched.splices.items)) }
 {
-    let mut begun = WholeSearch::begin(alloc, parts)?;
+    let mut begun = WholeSearch::begin(alloc, parts, ceiling)?;
     begun.go_on(alloc, parts, limit)?;
     Ok(begun.into_searched())
 }

@@ -5,6 +5,7 @@ use Rattle.std.specs.List.{Contains}
 use Rattle.jls_io.specs.Event.{Event}
 use Rattle.jls_station.specs.CopyFiles.{CopyBytes, AreCopiesRead}
 use Rattle.jls_partial.specs.Partial.{PartialPicture, nothing_known}
+use Rattle.jls_search.specs.Faultless.{IsSought}
 use Rattle.jls_search.specs.Search.{CameTo, files_of}
 use Rattle.jls_search.specs.Found.{Found, splices_in}
 use Rattle.jls_search.proofs.NoGroups.{splices_of_all}
@@ -30,6 +31,8 @@ not_zero cause.NotRead e = omega (arith, e)
 not_zero cause.ShapeDiffers e = omega (arith, e)
 not_zero cause.NotCreated e = omega (arith, e)
 not_zero (cause.NotWritten count) e = omega (arith, e)
+not_zero (cause.FileNotCreated number) e = omega (arith, e)
+not_zero (cause.FileNotWritten number count) e = omega (arith, e)
 not_zero cause.OutOfMemory e = omega (arith, e)
 
 -- a run that is done ends with it only so
@@ -75,17 +78,17 @@ pub spliced_runs_give_no_other : WholeFilesAreFaultless → SplicedCopiesGiveNoO
 spliced_runs_give_no_other are_faultless never a desk report faults some performs =
     let d : DidSplice a desk report = did a 0 desk report faults performs refl in (
       d,
-      λ enough pic is file whole splice.
+      λ enough pic is file whole within splice.
           let copies : List (List ℕ) = bytes_read d.copies in
           let f : Found = d.made.found in
           let p : PartialPicture = d.made.picture in
           let copy : 0 < length copies = some_copy a.copies d.copies d.reading d.read some in
           let is_found = d.is_made.is_found in
-          let came : CameTo f.parts f.choices false = subst (CameTo f.parts f.choices) enough is_found.came_to in
+          let came : CameTo (IsSought a.options.ceiling) f.parts f.choices false = subst (CameTo (IsSought a.options.ceiling) f.parts f.choices) enough is_found.came_to in
           let among : Contains (files_of f.parts f.choices) file =
-          came.all refl (length copies) copy is_found.are_parts.ways file whole.bytes splice (are_faultless pic file whole) in
-          let splices : splices_in f ≡ files_of f.parts f.choices = splices_of_all copies f file is_found enough among in
-          never copies f.parts a.options.source p (record {
+          came.all refl (length copies) copy is_found.are_parts.ways file whole.bytes splice (are_faultless pic file whole, within) in
+          let splices : splices_in f ≡ files_of f.parts f.choices = splices_of_all a.options.ceiling copies f file is_found enough among in
+          never a.options.ceiling copies f.parts a.options.source p (record {
             some_copy = copy;
             are_parts = is_found.are_parts;
             found = f.choices;
@@ -94,5 +97,5 @@ spliced_runs_give_no_other are_faultless never a desk report faults some perform
             shape_is = subst (λ (xs : List (List ℕ)). IsShapeTaken copies xs p.shape) splices d.is_made.is_picture.shape_is;
             takes = subst (λ (xs : List (List ℕ)). TakesFiles a.options.source (copies ++ xs) (nothing_known p.shape) p) splices
                 d.is_made.is_picture.union_is;
-          }) pic is file whole splice d.settled,
+          }) pic is file whole within splice d.settled,
     )

@@ -20,7 +20,8 @@ use Rattle.jls_copy_laws.proofs.Members.{none_in}
 use Rattle.jls_headline.proofs.FileExamples.{file_reads}
 use Rattle.jls_headline.proofs.TwoLineCopies.{shape, pic, bits_8, frame_payload, scan_payload, pieces_read, bytes_of_test}
 use Rattle.jls_diff.specs.Parts.{Part, Same, Differ, made, AreParts, IsSplice}
-use Rattle.jls_search.specs.Faultless.{Gives, GivesEachLine, EndsWell, IsFaultless}
+use Rattle.jls_copy.specs.Fronts.{Gives}
+use Rattle.jls_search.specs.Faultless.{GivesEachLine, EndsWell, IsFaultless}
 use Rattle.jls_splice_laws.specs.Searches.{done, Searched, along, given_up}
 use Rattle.jls_splice_laws.specs.WholeFiles.{IsWholeFile}
 

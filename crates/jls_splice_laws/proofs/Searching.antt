@@ -12,7 +12,8 @@ use Rattle.jls_copy_laws.proofs.Members.{is_first, none_in, first_or_rest, all_a
 use Rattle.jls_diff.proofs.Members.{in_map, of_map, in_flat_map, of_flat_map}
 use Rattle.jls_diff.specs.Parts.{Part, Same, Differ, HasWays, IsSplice, splices}
 use Rattle.jls_diff.specs.SpliceLaws.{SplicesAreListed}
-use Rattle.jls_search.specs.Faultless.{HasLines, GivesEachLine, EndsWell, IsFaultless}
+use Rattle.jls_copy.specs.Fronts.{HasLines}
+use Rattle.jls_search.specs.Faultless.{GivesEachLine, EndsWell, IsFaultless}
 use Rattle.jls_splice_laws.specs.Searches.{CanBeGivenUp, broken, done, Searched, found, has_fault, along, no_way, last_way, way_again, given_up}
 use Rattle.jls_splice_laws.specs.Searches.{SearchesFindSplices, SearchesLoseNothing}
 

@@ -1,5 +1,5 @@
 -- What the files of searched copies settle.
-use Rattle.std.proofs.Common.{◌≡◌, ℕ, List, [], ◌∷◌, ◌++◌, inl, inr}
+use Rattle.std.proofs.Common.{ℕ, List, [], ◌∷◌, ◌++◌, inl, inr}
 use Rattle.jls_values.specs.Shape.{PictureShape}
 use Rattle.jls_search.specs.Search.{files_of}
 use Rattle.jls_splice_laws.specs.SpliceLaws.{SearchedSplicesGiveNoOther}
@@ -18,12 +18,12 @@ first_shape shape (file ∷ files) (inl has) = inl has
 first_shape shape (file ∷ files) (inr (none, rest)) = inr (none, first_shape shape files rest)
 
 pub spliced_copies_give_no_other : SearchedSplicesGiveNoOther → CollectedHoldsExactlyUnder → SplicedCopiesGiveNoOther
-spliced_copies_give_no_other never holds copies parts source station w pic is file whole splice settled =
+spliced_copies_give_no_other never holds ceiling copies parts source station w pic is file whole within splice settled =
     let files : List (List ℕ) = files_of parts w.found in
     let held = files_are_held holds source w.shape (copies ++ files) station w.takes in
     let read : CollectedFrom station (under source held.taken) =
     (held.read.0, held.read.1, among_aside held.read.0 (under source held.taken) held.read.2) in
-    (never copies parts w.found w.shape held.taken (record {
+    (never ceiling copies parts w.found w.shape held.taken (record {
       some_copy = w.some_copy;
       are_parts = w.are_parts;
       came_to = w.searched;
@@ -32,4 +32,4 @@ spliced_copies_give_no_other never holds copies parts source station w pic is fi
         of_first = λ none. first_shape w.shape copies (w.shape_is.of_first none);
       };
       of_shape = held.of_shape;
-    }) pic is file whole splice).1 station (under source held.taken, read, files_alone source held.taken) settled
+    }) pic is file whole within splice).1 station (under source held.taken, read, files_alone source held.taken) settled

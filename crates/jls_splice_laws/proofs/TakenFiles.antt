@@ -1,5 +1,5 @@
 -- What the files taken settle.
-use Rattle.std.proofs.Common.{◌≡◌, ℕ, ◌<◌, Bool, false, List, [], ◌∷◌, ◌++◌, length, refl, sym, subst, arith, inl, inr}
+use Rattle.std.proofs.Common.{◌≡◌, ℕ, ◌<◌, Bool, false, List, [], ◌∷◌, ◌++◌, length, Option, refl, sym, subst, arith, inl, inr}
 use Rattle.std.specs.List.{AllByRecursion, Contains}
 use Rattle.std.proofs.lemmas.List.Elements.{Contains-append_right}
 use Rattle.jls_values.specs.Shape.{PictureShape}
@@ -10,7 +10,7 @@ use Rattle.jls_headline.specs.Sources.{copies_of}
 use Rattle.jls_headline.specs.Stations.{HoldsExactly, SameCopies}
 use Rattle.jls_copy_laws.proofs.Members.{is_first, in_rest, none_in, first_or_rest, all_map}
 use Rattle.jls_diff.specs.Parts.{Part, HasWays, IsSplice}
-use Rattle.jls_search.specs.Faultless.{IsFaultless}
+use Rattle.jls_search.specs.Faultless.{IsSought}
 use Rattle.jls_search.specs.Search.{HasEachSplice, files_of}
 use Rattle.jls_search.specs.SearchLaws.{SearchesComeToEachSplice}
 use Rattle.jls_splice_laws.specs.SpliceLaws.{FaultlessSplicesAreTaken, SearchedFilesAreTaken, SearchedSplicesGiveNoOther, SplicesGiveNoOther, WholeSplicesGiveNoOther}
@@ -32,18 +32,19 @@ kept_of_shape shape _ _ file (passed_over f files more other rest) c h =
       | inr later ↦ kept_of_shape shape files more file rest later h
     ]
 
--- each splice without a fault, whatever the number of copies is
-found_among : (count : ℕ) (parts : List Part) (files : List (List ℕ)) → HasEachSplice parts files → AllByRecursion (HasWays count) parts
-    → (bytes : List ℕ) → AllByRecursion (λ b. b < 256) bytes → IsSplice count parts bytes → IsFaultless bytes → Contains files bytes
-found_among count [] files each ways bytes low is faultless = each 1 (omega arith) tt bytes low is faultless
-found_among count (p ∷ parts) files each ways bytes low is faultless =
-    let l = is.1 in each count (omega (arith, l)) ways bytes low is faultless
+-- each splice that is sought, whatever the number of copies is
+found_among : (Sought : List ℕ → Type 0) (count : ℕ) (parts : List Part) (files : List (List ℕ)) → HasEachSplice Sought parts files
+    → AllByRecursion (HasWays count) parts
+    → (bytes : List ℕ) → AllByRecursion (λ b. b < 256) bytes → IsSplice count parts bytes → Sought bytes → Contains files bytes
+found_among Sought count [] files each ways bytes low is sought = each 1 (omega arith) tt bytes low is sought
+found_among Sought count (p ∷ parts) files each ways bytes low is sought =
+    let l = is.1 in each count (omega (arith, l)) ways bytes low is sought
 
 pub faultless_splices_are_taken : FaultlessSplicesAreTaken
-faultless_splices_are_taken copies parts shape files t bytes low is faultless =
+faultless_splices_are_taken ceiling copies parts shape files t bytes low is sought =
     let f = t.files_taken in
-    let among : Contains (copies ++ f.found) bytes = Contains-append_right copies f.found bytes (found_among (length copies) parts f.found t.each f.are_parts.ways bytes low is faultless) in
-    kept_of_shape shape (copies ++ f.found) files bytes f.of_shape among (f.shape_is.of_faultless bytes among faultless)
+    let among : Contains (copies ++ f.found) bytes = Contains-append_right copies f.found bytes (found_among (IsSought ceiling) (length copies) parts f.found t.each f.are_parts.ways bytes low is sought) in
+    kept_of_shape shape (copies ++ f.found) files bytes f.of_shape among (f.shape_is.of_faultless bytes among sought.0)
 
 same_as_itself : (files : List (List ℕ)) → SameCopies files files
 same_as_itself files = (λ copy m. (copy, m, inl refl), λ copy m. (copy, m, inl refl))
@@ -55,23 +56,23 @@ splices_give_no_other never same copies parts shape files t station (read, colle
 )
 
 pub whole_splices_give_no_other : NeverAnotherPicture → WholeSplicesGiveNoOther
-whole_splices_give_no_other never copies parts shape files t pic is file whole splice station (read, collected, are) settled =
-    let inside : Contains files file = faultless_splices_are_taken copies parts shape files t file whole.bytes splice (whole_files_are_faultless pic file whole) in
+whole_splices_give_no_other never ceiling copies parts shape files t pic is file whole within splice station (read, collected, are) settled =
+    let inside : Contains files file = faultless_splices_are_taken ceiling copies parts shape files t file whole.bytes splice (whole_files_are_faultless pic file whole, within) in
     let each : EachLineSurvives pic files =
     λ c y l k. (file, inside, whole_files_survive pic file whole.bytes whole.reads (whole.course, whole.is_course, whole.each) c y l k) in
     never pic is station read collected (subst (EachLineSurvives pic) (sym are) each) settled
 
 -- Of a search ------------------------------------------------------------------------------------------------------
 
-files_taken : (copies : List (List ℕ)) (parts : List Part) (found : List (List ℕ)) (is_used_up : Bool) (shape : PictureShape)
-    (files : List (List ℕ)) → SearchesComeToEachSplice → SearchTaken copies parts found is_used_up shape files
+files_taken : (ceiling : Option ℕ) (copies : List (List ℕ)) (parts : List Part) (found : List (List ℕ)) (is_used_up : Bool) (shape : PictureShape)
+    (files : List (List ℕ)) → SearchesComeToEachSplice → SearchTaken ceiling copies parts found is_used_up shape files
     → (f : FilesTaken copies parts shape files) × (f.found ≡ files_of parts found)
-files_taken copies parts found is_used_up shape files law t = (
+files_taken ceiling copies parts found is_used_up shape files law t = (
   record {
     are_parts = t.are_parts;
     found = files_of parts found;
-    are_splices = all_map (λ file. IsSplice (length copies) parts file × IsFaultless file) (IsSplice (length copies) parts) (files_of parts found)
-        (λ file h. h.0) (law copies parts t.are_parts t.some_copy found is_used_up t.came_to).0;
+    are_splices = all_map (λ file. IsSplice (length copies) parts file × IsSought ceiling file) (IsSplice (length copies) parts) (files_of parts found)
+        (λ file h. h.0) (law ceiling copies parts t.are_parts t.some_copy found is_used_up t.came_to).0;
     shape_is = t.shape_is;
     of_shape = t.of_shape;
   },
@@ -79,13 +80,13 @@ files_taken copies parts found is_used_up shape files law t = (
 )
 
 pub searched_files_are_taken : SearchesComeToEachSplice → SearchedFilesAreTaken
-searched_files_are_taken law copies parts found is_used_up shape files t =
-    let f = files_taken copies parts found is_used_up shape files law t in
-    (f.0, λ enough. record { files_taken = f.0; each = subst (HasEachSplice parts) (sym f.1) (t.came_to.all enough) })
+searched_files_are_taken law ceiling copies parts found is_used_up shape files t =
+    let f = files_taken ceiling copies parts found is_used_up shape files law t in
+    (f.0, λ enough. record { files_taken = f.0; each = subst (HasEachSplice (IsSought ceiling) parts) (sym f.1) (t.came_to.all enough) })
 
 pub searched_splices_give_no_other : SearchesComeToEachSplice → NeverAnotherPicture → SearchedSplicesGiveNoOther
-searched_splices_give_no_other law never copies parts found shape files t pic is file whole splice =
-    let all = (searched_files_are_taken law copies parts found false shape files t).1 refl in (
-      faultless_splices_are_taken copies parts shape files all file whole.bytes splice (whole_files_are_faultless pic file whole),
-      whole_splices_give_no_other never copies parts shape files all pic is file whole splice,
+searched_splices_give_no_other law never ceiling copies parts found shape files t pic is file whole within splice =
+    let all = (searched_files_are_taken law ceiling copies parts found false shape files t).1 refl in (
+      faultless_splices_are_taken ceiling copies parts shape files all file whole.bytes splice (whole_files_are_faultless pic file whole, within),
+      whole_splices_give_no_other never ceiling copies parts shape files all pic is file whole within splice,
     )

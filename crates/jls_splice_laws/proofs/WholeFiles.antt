@@ -1,7 +1,7 @@
 -- Each line of a picture survives in a file that reads as it and has no faulty piece.
 use Rattle.std.proofs.Common.{◌≡◌, ℕ, ◌+◌, ◌<◌, ◌≤◌, true, false, List, [], ◌∷◌, length, map, Some, refl, ap, ◌∙◌, subst, arith, inl, inr}
 use Rattle.std.specs.Prelude.{nat_lt}
-use Rattle.std.specs.List.{AllByRecursion, Contains, flat_map}
+use Rattle.std.specs.List.{AllByRecursion, Contains}
 use Rattle.std.proofs.lemmas.Bool.{cases_Bool}
 use Rattle.std.proofs.lemmas.Bool.Decides.{nat_tests}
 use Rattle.jls_partial.specs.Reading.{Reading}
@@ -21,7 +21,7 @@ use Rattle.jls_copy_laws.proofs.Members.{none_in, first_or_rest, all_at, all_fro
 use Rattle.jls_headline.specs.Damaged.{AreNumbers, picture_reading}
 use Rattle.jls_headline.proofs.LostIntervals.{given_by_scan}
 use Rattle.jls_headline.proofs.ScanNumbers.{numbered_pieces_give}
-use Rattle.jls_search.specs.Faultless.{HasLines, Gives}
+use Rattle.jls_copy.specs.Fronts.{HasLines, Gives}
 use Rattle.jls_splice_laws.specs.WholeFiles.{WholeFilesAreFaultless, WholeFilesSurvive}
 
 -- Numbers ----------------------------------------------------------------------------------------------------------

@@ -5,6 +5,7 @@ use Rattle.jls_partial.specs.Status.{IsSettled}
 use Rattle.jls_write.specs.Picture.{WholePicture, picture_of}
 use Rattle.jls_write.specs.WholePictures.{IsPicture}
 use Rattle.jls_diff.specs.Parts.{IsSplice}
+use Rattle.jls_search.specs.Faultless.{IsWithin}
 use Rattle.jls_station.specs.CopyFiles.{CopyBytes, AreCopiesRead}
 use Rattle.jls_splice_laws.specs.WholeFiles.{IsWholeFile}
 use Rattle.jls_cli.specs.SpliceAsking.{Asked}
@@ -27,11 +28,13 @@ pub record DidSplice (a : Asked) (desk report : List Event) : Type 0 where
   pub settled : IsSettled made.picture
   pub handed : HandsAll (texts a copies made) writing report
 
--- what was asked of some copies ends with status 0. Then it was done. If the search of all splices was not cut off, and some copy has, at
--- each part in which the copies are found to differ, what an undamaged file has there, the picture is that file's
+-- what was asked of some copies ends with status 0. Then it was done. Let the search of all splices not be cut off, and let some copy have,
+-- at each part in which the copies are found to differ, what an undamaged file has there. Let no sample of that file be above the ceiling that
+-- was asked for, if one was. Then the picture is that file's
 abbrev pub SplicedRunsGiveNoOther : Type 0
 SplicedRunsGiveNoOther =
     (a : Asked) (desk report faults : List Event) → 0 < length a.copies → Performs a 0 desk report faults
     → (did : DidSplice a desk report)
     × (did.made.found.is_used_up ≡ false → (pic : WholePicture) → IsPicture pic → (file : List ℕ) → IsWholeFile pic file
-    → IsSplice (length (bytes_read did.copies)) did.made.found.parts file → picture_of did.made.picture ≡ pic)
+    → IsWithin a.options.ceiling file → IsSplice (length (bytes_read did.copies)) did.made.found.parts file
+    → picture_of did.made.picture ≡ pic)

@@ -42,4 +42,4 @@ SearchesFindSplices =
 abbrev pub SearchesLoseNothing : Type 0
 SearchesLoseNothing =
     (copies : List (List ℕ)) (parts : List Part) → AreParts copies parts → 0 < length copies → (files : List (List ℕ))
-    → Searched [] parts files → HasEachSplice parts files
+    → Searched [] parts files → HasEachSplice IsFaultless parts files

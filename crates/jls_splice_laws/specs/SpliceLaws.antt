@@ -1,5 +1,5 @@
 -- The laws of splices that speak of readings and pictures. That the copies are splices of the parts that are found is a law of jls_diff.
-use Rattle.std.specs.Prelude.{◌≡◌, ℕ, ◌<◌, Bool, false, List, length}
+use Rattle.std.specs.Prelude.{◌≡◌, ℕ, ◌<◌, Bool, false, List, length, Option}
 use Rattle.std.specs.List.{AllByRecursion, Contains}
 use Rattle.jls_values.specs.Shape.{PictureShape}
 use Rattle.jls_partial.specs.Partial.{PartialPicture}
@@ -11,7 +11,7 @@ use Rattle.jls_headline.specs.Sources.{SourcedCopy, copies_of}
 use Rattle.jls_headline.specs.Collected.{CollectedFrom}
 use Rattle.jls_headline.specs.Damaged.{EachLineSurvives}
 use Rattle.jls_diff.specs.Parts.{Part, IsSplice}
-use Rattle.jls_search.specs.Faultless.{IsFaultless}
+use Rattle.jls_search.specs.Faultless.{IsSought, IsWithin}
 use Rattle.jls_splice_laws.specs.Taken.{FilesTaken, AllTaken, SearchTaken}
 use Rattle.jls_splice_laws.specs.WholeFiles.{IsWholeFile}
 
@@ -19,11 +19,12 @@ use Rattle.jls_splice_laws.specs.WholeFiles.{IsWholeFile}
 abbrev pub ReadFiles : PartialPicture → List (List ℕ) → Type 0
 ReadFiles station files = (copies : List SourcedCopy) × CollectedFrom station copies × (copies_of copies ≡ files)
 
--- Where the search found each splice without a fault, each of them is among the files taken: none has another shape
+-- Where the search found each splice that is sought, each of them is among the files taken: none has another shape
 abbrev pub FaultlessSplicesAreTaken : Type 0
 FaultlessSplicesAreTaken =
-    (copies : List (List ℕ)) (parts : List Part) (shape : PictureShape) (files : List (List ℕ)) → AllTaken copies parts shape files
-    → (bytes : List ℕ) → AllByRecursion (λ b. b < 256) bytes → IsSplice (length copies) parts bytes → IsFaultless bytes
+    (ceiling : Option ℕ) (copies : List (List ℕ)) (parts : List Part) (shape : PictureShape) (files : List (List ℕ))
+    → AllTaken ceiling copies parts shape files
+    → (bytes : List ℕ) → AllByRecursion (λ b. b < 256) bytes → IsSplice (length copies) parts bytes → IsSought ceiling bytes
     → Contains files bytes
 
 -- A station for which calls read the files taken holds exactly their readings. Where every line of a picture survives in some of them,
@@ -35,29 +36,33 @@ SplicesGiveNoOther =
     → HoldsExactly station files
     × ((pic : WholePicture) → IsPicture pic → EachLineSurvives pic files → IsSettled station → picture_of station ≡ pic)
 
--- Where, at each part in which the copies are found to differ, some copy has what an undamaged file has there, and the search found each
--- splice without a fault: not each line of a station for which calls read the files taken is settled, or they are that file's picture
+-- Where, at each part in which the copies are found to differ, some copy has what an undamaged file has there, that file is within the
+-- ceiling, and the search found each splice that is sought: not each line of a station for which calls read the files taken is settled, or
+-- they are that file's picture
 abbrev pub WholeSplicesGiveNoOther : Type 0
 WholeSplicesGiveNoOther =
-    (copies : List (List ℕ)) (parts : List Part) (shape : PictureShape) (files : List (List ℕ)) → AllTaken copies parts shape files
-    → (pic : WholePicture) → IsPicture pic → (file : List ℕ) → IsWholeFile pic file → IsSplice (length copies) parts file
+    (ceiling : Option ℕ) (copies : List (List ℕ)) (parts : List Part) (shape : PictureShape) (files : List (List ℕ))
+    → AllTaken ceiling copies parts shape files
+    → (pic : WholePicture) → IsPicture pic → (file : List ℕ) → IsWholeFile pic file → IsWithin ceiling file
+    → IsSplice (length copies) parts file
     → (station : PartialPicture) → ReadFiles station files → IsSettled station → picture_of station ≡ pic
 
 -- What is taken of the copies and of what `search_copies` came to over them are files taken, each of which is a splice. Where its tries
--- were not used up, each splice without a fault is among them
+-- were not used up, each splice that is sought is among them
 abbrev pub SearchedFilesAreTaken : Type 0
 SearchedFilesAreTaken =
-    (copies : List (List ℕ)) (parts : List Part) (found : List (List ℕ)) (is_used_up : Bool) (shape : PictureShape) (files : List (List ℕ))
-    → SearchTaken copies parts found is_used_up shape files
-    → FilesTaken copies parts shape files × (is_used_up ≡ false → AllTaken copies parts shape files)
+    (ceiling : Option ℕ) (copies : List (List ℕ)) (parts : List Part) (found : List (List ℕ)) (is_used_up : Bool) (shape : PictureShape)
+    (files : List (List ℕ)) → SearchTaken ceiling copies parts found is_used_up shape files
+    → FilesTaken copies parts shape files × (is_used_up ≡ false → AllTaken ceiling copies parts shape files)
 
 -- So, where the tries of `search_copies` were not used up: if some copy has, at each part in which the copies are found to differ, what
--- an undamaged file has there, that file is taken; and not each line of a station for which calls read the files taken is settled, or they
--- are that file's picture
+-- an undamaged file has there, and that file is within the ceiling, it is taken; and not each line of a station for which calls read the
+-- files taken is settled, or they are that file's picture
 abbrev pub SearchedSplicesGiveNoOther : Type 0
 SearchedSplicesGiveNoOther =
-    (copies : List (List ℕ)) (parts : List Part) (found : List (List ℕ)) (shape : PictureShape) (files : List (List ℕ))
-    → SearchTaken copies parts found false shape files
-    → (pic : WholePicture) → IsPicture pic → (file : List ℕ) → IsWholeFile pic file → IsSplice (length copies) parts file
+    (ceiling : Option ℕ) (copies : List (List ℕ)) (parts : List Part) (found : List (List ℕ)) (shape : PictureShape)
+    (files : List (List ℕ)) → SearchTaken ceiling copies parts found false shape files
+    → (pic : WholePicture) → IsPicture pic → (file : List ℕ) → IsWholeFile pic file → IsWithin ceiling file
+    → IsSplice (length copies) parts file
     → Contains files file
     × ((station : PartialPicture) → ReadFiles station files → IsSettled station → picture_of station ≡ pic)

@@ -8,6 +8,7 @@ use Rattle.jls_write.specs.WholePictures.{IsPicture}
 use Rattle.jls_headline.specs.Collected.{CollectedUnder}
 use Rattle.jls_headline.specs.Sources.{SourcedCopy, sourced_copy, HoldsExactlyUnder}
 use Rattle.jls_diff.specs.Parts.{Part, AreParts, IsSplice}
+use Rattle.jls_search.specs.Faultless.{IsSought, IsWithin}
 use Rattle.jls_search.specs.Search.{CameTo, files_of}
 use Rattle.jls_splice_laws.specs.Taken.{AreOfShape}
 use Rattle.jls_splice_laws.specs.WholeFiles.{IsWholeFile}
@@ -31,20 +32,23 @@ FilesAreHeld =
     (source : Option ℕ) (shape : PictureShape) (files : List (List ℕ)) (station : PartialPicture)
     → TakesFiles source files (nothing_known shape) station → HoldsFiles source shape files station
 
--- copies were searched, with tries enough; `settle_files` gave this station of this shape
-pub record WereSpliced (copies : List (List ℕ)) (parts : List Part) (source : Option ℕ) (station : PartialPicture) : Type 0 where
+-- copies were searched under this ceiling, with tries enough; `settle_files` gave this station of this shape
+pub record WereSpliced (ceiling : Option ℕ) (copies : List (List ℕ)) (parts : List Part) (source : Option ℕ) (station : PartialPicture)
+    : Type 0 where
   pub some_copy : 0 < length copies
   pub are_parts : AreParts copies parts
   pub found : List (List ℕ)
-  pub searched : CameTo parts found false
+  pub searched : CameTo (IsSought ceiling) parts found false
   pub shape : PictureShape
   pub shape_is : IsShapeTaken copies (files_of parts found) shape
   pub takes : TakesFiles source (copies ++ files_of parts found) (nothing_known shape) station
 
--- Where, at each part in which the copies are found to differ, some copy has what an undamaged file has there: not each line of the station
--- is settled, or they are that file's picture
+-- Where, at each part in which the copies are found to differ, some copy has what an undamaged file has there, and that file is within the
+-- ceiling: not each line of the station is settled, or they are that file's picture
 abbrev pub SplicedCopiesGiveNoOther : Type 0
 SplicedCopiesGiveNoOther =
-    (copies : List (List ℕ)) (parts : List Part) (source : Option ℕ) (station : PartialPicture) → WereSpliced copies parts source station
-    → (pic : WholePicture) → IsPicture pic → (file : List ℕ) → IsWholeFile pic file → IsSplice (length copies) parts file
+    (ceiling : Option ℕ) (copies : List (List ℕ)) (parts : List Part) (source : Option ℕ) (station : PartialPicture)
+    → WereSpliced ceiling copies parts source station
+    → (pic : WholePicture) → IsPicture pic → (file : List ℕ) → IsWholeFile pic file → IsWithin ceiling file
+    → IsSplice (length copies) parts file
     → IsSettled station → picture_of station ≡ pic

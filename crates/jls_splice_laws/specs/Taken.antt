@@ -1,10 +1,10 @@
 -- The files that are taken of some copies and their splices.
-use Rattle.std.specs.Prelude.{◌≡◌, ℕ, ◌<◌, Bool, List, [], ◌∷◌, ◌++◌, length, Some, None, ◌⊎◌}
+use Rattle.std.specs.Prelude.{◌≡◌, ℕ, ◌<◌, Bool, List, [], ◌∷◌, ◌++◌, length, Option, Some, None, ◌⊎◌}
 use Rattle.std.specs.List.{AllByRecursion, Contains}
 use Rattle.jls_values.specs.Shape.{PictureShape}
 use Rattle.jls_copy.specs.Course.{Course, IsCourse}
 use Rattle.jls_diff.specs.Parts.{Part, AreParts, IsSplice}
-use Rattle.jls_search.specs.Faultless.{IsFaultless}
+use Rattle.jls_search.specs.Faultless.{IsFaultless, IsSought}
 use Rattle.jls_search.specs.Search.{HasEachSplice, CameTo, files_of}
 
 -- Shapes -----------------------------------------------------------------------------------------------------------
@@ -47,16 +47,17 @@ pub record FilesTaken (copies : List (List ℕ)) (parts : List Part) (shape : Pi
   pub shape_is : IsShapeTaken copies found shape
   pub of_shape : AreOfShape shape (copies ++ found) files
 
--- the files taken, if the search found each splice without a fault: its tries were enough
-pub record AllTaken (copies : List (List ℕ)) (parts : List Part) (shape : PictureShape) (files : List (List ℕ)) : Type 0 where
+-- the files taken, if the search found each splice that is sought under its ceiling: its tries were enough
+pub record AllTaken (ceiling : Option ℕ) (copies : List (List ℕ)) (parts : List Part) (shape : PictureShape) (files : List (List ℕ))
+    : Type 0 where
   pub files_taken : FilesTaken copies parts shape files
-  pub each : HasEachSplice parts files_taken.found
+  pub each : HasEachSplice (IsSought ceiling) parts files_taken.found
 
--- the files taken, if what was found is what `search_copies` came to over the copies
-pub record SearchTaken (copies : List (List ℕ)) (parts : List Part) (found : List (List ℕ)) (is_used_up : Bool) (shape : PictureShape)
-    (files : List (List ℕ)) : Type 0 where
+-- the files taken, if what was found is what `search_copies` came to over the copies, under this ceiling
+pub record SearchTaken (ceiling : Option ℕ) (copies : List (List ℕ)) (parts : List Part) (found : List (List ℕ)) (is_used_up : Bool)
+    (shape : PictureShape) (files : List (List ℕ)) : Type 0 where
   pub some_copy : 0 < length copies
   pub are_parts : AreParts copies parts
-  pub came_to : CameTo parts found is_used_up
+  pub came_to : CameTo (IsSought ceiling) parts found is_used_up
   pub shape_is : IsShapeTaken copies (files_of parts found) shape
   pub of_shape : AreOfShape shape (copies ++ files_of parts found) files

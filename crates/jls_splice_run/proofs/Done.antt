@@ -10,6 +10,7 @@ use Rattle.jls_splice_run.specs.declared.outcome.Outcome.TheVariants.{Done, Refu
 use Rattle.jls_splice_run.specs.declared.outcome.Refusal.{Refusal}
 use Rattle.jls_splice_run.specs.Copies.{AreWhole, bytes_read, StopsAtCopies}
 use Rattle.jls_splice_run.specs.Handing.{HandsAll, StopsInHanding, Texts}
+use Rattle.jls_splice_run.specs.Listing.{prefix_in}
 use Rattle.jls_splice_run.specs.Making.{AreTextsOf, CantMake, HoldsMade, Made}
 use Rattle.jls_splice_run.specs.Runs.{GrewAll, GrewBoth, Splices, at_copies, done, not_handed, not_made, texts, texts_held}
 use Rattle.jls_splice_run.specs.declared.made.Made.{Made as MadeValue}
@@ -31,6 +32,8 @@ texts_are a copies m v h = λ i. record {
   text = h.text_is i;
   file_name = a.options.file;
   file = h.file_is i;
+  prefix = prefix_in a.options.files;
+  files = h.files_are i;
 }
 
 module _ (a : Asked) (desk mid new report report' faults faults' : History) where

@@ -6,11 +6,14 @@ use Rattle.std.specs.Str.{chars}
 use Rattle.std.proofs.lemmas.Fmt.{decimal_digit, decimal-digits_of}
 use Rattle.jls_marker.specs.declared.fault.MarkerFault.TheVariants.{NoSoi}
 use Rattle.jls_splice_run.specs.declared.outcome.Cause.TheVariants as cause
-use Rattle.jls_splice_run.specs.FaultLines.{cause_line, named_twice_line, not_replaced_line, not_understood_line}
+use Rattle.jls_splice_run.specs.FaultLines.{cause_line, named_twice_line, not_replaced_line, not_understood_line, numbered_out_line}
 
 -- the numbers in them
 d0 : decimal 0 ≡ codes "0"
 d0 = decimal_digit 0 (lit< tt)
+
+d3 : decimal 3 ≡ codes "3"
+d3 = decimal_digit 3 (lit< tt)
 
 d18 : decimal 18 ≡ codes "18"
 d18 = decimal-digits_of 18 (lit< tt) (lit< tt)
@@ -59,6 +62,19 @@ not_replaced = refl
 named_twice : named_twice_line (codes "A.jls") ≡ codes "jls-splice: A.jls: is named as OUT and by --file\n"
 unfolding chars encode_utf8
 named_twice = refl
+
+numbered_out : numbered_out_line (codes "A-1") ≡ codes "jls-splice: A-1: is named as OUT and by --files\n"
+unfolding chars encode_utf8
+numbered_out = refl
+
+-- outputs with numbers
+file_not_created : cause_line (codes "A") (cause.FileNotCreated 3) ≡ codes "jls-splice: A-3: cannot be created\n"
+unfolding chars encode_utf8
+file_not_created = rw d3 refl
+
+file_not_written : cause_line (codes "A") (cause.FileNotWritten 18 60) ≡ codes "jls-splice: A-18: write failed after 60 bytes\n"
+unfolding chars encode_utf8
+file_not_written = rw (d18, d60) refl
 
 memory : cause_line (codes "OUT") cause.OutOfMemory ≡ codes "jls-splice: out of memory\n"
 unfolding chars encode_utf8

@@ -6,7 +6,7 @@ use Rattle.jls_io.specs.Writing.{Wrote}
 use Rattle.jls_io.proofs.Growing.{grew_on, grew_twice}
 use Rattle.jls_io.specs.Outputs.{HandsOut}
 use Rattle.jls_splice_run.specs.declared.outcome.Refusal.{Refusal}
-use Rattle.jls_splice_run.specs.Handing.{HandsAll, HandsFile, StopsAtFile, StopsAtOutput, StopsAtReport, StopsInHanding, Texts, at_file, at_output, at_report}
+use Rattle.jls_splice_run.specs.Handing.{HandsAll, HandsFile, HandsFiles, StopsAtFile, StopsAtFiles, StopsAtOutput, StopsAtReport, StopsInHanding, Texts, at_file, at_files, at_output, at_report}
 use Rattle.jls_splice_run.specs.Runs.{GrewBoth}
 
 -- one event, and then others
@@ -16,7 +16,7 @@ grew_behind A B old mid new first see e h =
     grew_on (λ events. events ≡ first ∷ []) A B old mid new (λ a b is t. subst (λ (x : List Event). B (x ++ b)) (sym is) (see b t))
     (record { events = first ∷ []; grew = e; they_are = refl }) h
 
-module _ (t : Texts) (desk mid new report report' : History) where
+module _ (t : Texts) (desk mid new last report report' : History) where
   pub stops_at_report : (r : Refusal) → GrewBy (StopsAtReport t.lines r) report report'
       → GrewBoth (StopsInHanding t r) desk desk report report'
   stops_at_report r h = record {
@@ -49,18 +49,33 @@ module _ (t : Texts) (desk mid new report report' : History) where
         they_are = at_file handed.events h.events printed.events printed.they_are handed.they_are h.they_are;
       }
 
-      pub hands_all : GrewBy (HandsFile t.file_name t.file) mid new → GrewBoth (HandsAll t) desk new report report'
-      hands_all h = record {
-        desk_events = handed.events ++ h.events;
-        report_events = printed.events;
-        desk_is = grew_twice desk mid new handed.events h.events handed.grew h.grew;
-        report_is = printed.grew;
-        they_are = record {
-          printed = printed.they_are;
-          writing = handed.events;
-          more = h.events;
-          desk_is = refl;
-          handed = handed.they_are;
-          file_handed = h.they_are;
-        };
-      }
+      module _ (one : GrewBy (HandsFile t.file_name t.file) mid new) where
+        pub stops_at_files : (r : Refusal) → GrewBy (StopsAtFiles t.prefix t.files r) new last
+            → GrewBoth (StopsInHanding t r) desk last report report'
+        stops_at_files r h = record {
+          desk_events = (handed.events ++ one.events) ++ h.events;
+          report_events = printed.events;
+          desk_is = grew_twice desk new last (handed.events ++ one.events) h.events
+              (grew_twice desk mid new handed.events one.events handed.grew one.grew) h.grew;
+          report_is = printed.grew;
+          they_are = at_files handed.events one.events h.events printed.events printed.they_are handed.they_are one.they_are h.they_are;
+        }
+
+        pub hands_all : GrewBy (HandsFiles t.files) new last → GrewBoth (HandsAll t) desk last report report'
+        hands_all h = record {
+          desk_events = (handed.events ++ one.events) ++ h.events;
+          report_events = printed.events;
+          desk_is = grew_twice desk new last (handed.events ++ one.events) h.events
+              (grew_twice desk mid new handed.events one.events handed.grew one.grew) h.grew;
+          report_is = printed.grew;
+          they_are = record {
+            printed = printed.they_are;
+            writing = handed.events;
+            more = one.events;
+            rest = h.events;
+            desk_is = refl;
+            handed = handed.they_are;
+            file_handed = one.they_are;
+            files_handed = h.they_are;
+          };
+        }

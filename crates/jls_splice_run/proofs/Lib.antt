@@ -8,5 +8,6 @@ mod Done
 mod Handed
 mod MakingLemmas
 mod Members
+mod Named
 mod Running
 mod Seen

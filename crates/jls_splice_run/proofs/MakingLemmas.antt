@@ -7,7 +7,7 @@ use Rattle.jls_diff.specs.Parts.{AreParts, Part, Same, made, way}
 use Rattle.jls_search.proofs.Fronts.{front_more}
 use Rattle.jls_search.specs.Choices.{IsFirstWay, IsPath, front_of}
 use Rattle.jls_search.specs.SearchLaws.{AreShort}
-use Rattle.jls_splice_run.specs.Making.{lacks_single}
+use Rattle.jls_splice_run.specs.Making.{files_told, lacks_single}
 use Rattle.jls_splice_run.specs.Single.{IsSingleAsked}
 
 -- each choice of a path
@@ -47,6 +47,12 @@ lacks_maps f g (Some x) (Some y) = refl
 pub length-map : {X Y : Type 0} (f : X → Y) (xs : List X) → length (map f xs) ≡ length xs
 length-map f [] = refl
 length-map f (x ∷ xs) = ap suc (length-map f xs)
+
+-- how many files have a name, as the code has it
+pub told_maps : {A B C D : Type 0} (f : A → C) (g : B → D) (x : Option A) (ys : List B)
+    → files_told (option_map f x) (map g ys) ≡ files_told x ys
+told_maps f g None ys = refl
+told_maps f g (Some x) ys = ap Some (length-map g ys)
 
 -- a single file that is asked for by a name, as the code has the name
 pub single_maps : {A B : Type 0} (f : A → B) (o : Option A) (files : List (List ℕ)) (single : Option (List ℕ))

@@ -4,7 +4,7 @@ use Rattle.std.specs.Prelude.{codes, decimal}
 use Rattle.std.proofs.lemmas.Fmt.{decimal_digit, decimal-digits_of}
 use Rattle.jls_diff.specs.Parts.{Part, Same, Differ}
 use Rattle.jls_splice_run.specs.Differences.{differences}
-use Rattle.jls_splice_run.specs.Lines.{differ_lines, found_text, groups_line, more_line, progress_line, single_line, splices_line, used_up_line}
+use Rattle.jls_splice_run.specs.Lines.{differ_lines, files_line, found_text, groups_line, more_line, progress_line, single_line, splices_line, used_up_line}
 use Rattle.jls_splice_run.specs.declared.differences.Difference.{Difference}
 use Rattle.jls_splice_run.specs.declared.found.Found.{Found}
 
@@ -75,6 +75,12 @@ no_groups = refl
 how_far : progress_line 128 2 ≡ codes "128 tries, 2 files\n"
 how_far = rw (d2, d128) refl
 
+two_files : files_line (Some 2) ≡ codes "files 2\n"
+two_files = rw d2 refl
+
+no_files : files_line None ≡ []
+no_files = refl
+
 lacking : single_line true ≡ codes "no single file\n"
 lacking = refl
 
@@ -85,12 +91,13 @@ cut_short = record {
   splices = 3;
   is_used_up = true;
   by_groups = Some (record { groups = 2; is_used_up = true });
+  files = Some 12;
   lacks_single_file = true;
 }
 
 its_text : found_text cut_short
-    ≡ codes "differ 2 1\ndiffer 4 0\nsplices 3\ntries used up\nby groups 2, tries used up\nno single file\n"
-its_text = rw (d0, d1, d2, d3, d4) refl
+    ≡ codes "differ 2 1\ndiffer 4 0\nsplices 3\ntries used up\nby groups 2, tries used up\nfiles 12\nno single file\n"
+its_text = rw (d0, d1, d2, d3, d4, d12) refl
 
 abbrev complete : Found
 complete = record {
@@ -98,6 +105,7 @@ complete = record {
   splices = 1;
   is_used_up = false;
   by_groups = None;
+  files = None;
   lacks_single_file = false;
 }
 

@@ -12,10 +12,10 @@ use Rattle.jls_cli.specs.SpliceAsking.{Asked, AskFor, AskForNothing}
 use Rattle.jls_cli.specs.SpliceWords.{AreRefused}
 use Rattle.jls_cli.specs.Answers.{is_help, is_want_of_memory, Answer, Answered, ran_out, usage, help, cut}
 use Rattle.jls_io.specs.FaultLines.{out_of_memory_line}
-use Rattle.jls_splice_run.specs.FaultLines.{fault_line, named_twice_line, not_understood_line, program}
+use Rattle.jls_splice_run.specs.FaultLines.{fault_line, named_twice_line, not_understood_line, numbered_out_line, program}
 use Rattle.jls_splice_run.specs.Outcomes.{exit_status}
 use Rattle.jls_splice_run.specs.declared.outcome.Outcome.{Outcome}
-use Rattle.jls_splice_run.specs.Runs.{GrewAll, IsFileOut, Performs, Ran, Run, Splices, came_of, no_names, performed, named_twice, misused, helped, help_cut, nothing_begun, nothing_asked}
+use Rattle.jls_splice_run.specs.Runs.{GrewAll, IsFileOut, IsNumberedOut, Performs, Ran, Run, Splices, came_of, no_names, performed, named_twice, numbered_out, misused, helped, help_cut, nothing_begun, nothing_asked}
 
 -- an answer is a run, where the kind is one of those that clap has for the words
 run_of_answer : (words : List Text) (k : ErrorKind) (status : ℕ) (report faults : List Event)
@@ -67,16 +67,16 @@ module _ (words : List Text) (desk desk' report report' faults faults' : History
     they_are = run_of_answer words k status a.report_events a.fault_events r a.answer;
   }
 
-  pub ran : (a : Asked) (status : ℕ) → AskFor words a → (IsFileOut a → ⊥) → GrewAll (Performs a status) desk desk' report report' faults faults'
+  pub ran : (a : Asked) (status : ℕ) → AskFor words a → (IsFileOut a → ⊥) → (IsNumberedOut a → ⊥) → GrewAll (Performs a status) desk desk' report report' faults faults'
       → Ran words status desk desk' report report' faults faults'
-  ran a status asks other h = record {
+  ran a status asks other no_number h = record {
     desk_events = h.desk_events;
     report_events = h.report_events;
     fault_events = h.fault_events;
     desk_is = h.desk_is;
     report_is = h.report_is;
     faults_are = h.faults_are;
-    they_are = performed a status h.desk_events h.report_events h.fault_events asks other h.they_are;
+    they_are = performed a status h.desk_events h.report_events h.fault_events asks other no_number h.they_are;
   }
 
   pub ran_named_twice : (a : Asked) → AskFor words a → IsFileOut a → GrewBy (Printed (named_twice_line a.out)) faults faults'
@@ -89,6 +89,29 @@ module _ (words : List Text) (desk desk' report report' faults faults' : History
     report_is = sym (append-nil report);
     faults_are = line.grew;
     they_are = named_twice a line.events asks same line.they_are;
+  }
+
+  pub ran_numbered_out : (a : Asked) → AskFor words a → (IsFileOut a → ⊥) → IsNumberedOut a
+      → GrewBy (Printed (numbered_out_line a.out)) faults faults' → Ran words 2 desk desk report report faults faults'
+  ran_numbered_out a asks other same line = record {
+    desk_events = [];
+    report_events = [];
+    fault_events = line.events;
+    desk_is = sym (append-nil desk);
+    report_is = sym (append-nil report);
+    faults_are = line.grew;
+    they_are = numbered_out a line.events asks other same line.they_are;
+  }
+
+  pub ran_out_of_memory : GrewBy (Printed (out_of_memory_line program)) faults faults' → Ran words 5 desk desk report report faults faults'
+  ran_out_of_memory line = record {
+    desk_events = [];
+    report_events = [];
+    fault_events = line.events;
+    desk_is = sym (append-nil desk);
+    report_is = sym (append-nil report);
+    faults_are = line.grew;
+    they_are = nothing_begun line.events line.they_are;
   }
 
   pub ran_nothing : AskForNothing words → GrewBy (Printed not_understood_line) faults faults'

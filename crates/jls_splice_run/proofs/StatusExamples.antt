@@ -18,6 +18,9 @@ module _ (marker_fault : MarkerFault) (offset count : ℕ) where
   failures : map exit_status_of_cause (cause.NotOpened ∷ cause.NotRead ∷ cause.NotCreated ∷ cause.NotWritten count ∷ []) ≡ 4 ∷ 4 ∷ 4 ∷ 4 ∷ []
   failures = refl
 
+  numbered_failures : map exit_status_of_cause (cause.FileNotCreated offset ∷ cause.FileNotWritten offset count ∷ []) ≡ 4 ∷ 4 ∷ []
+  numbered_failures = refl
+
   want_of_memory : exit_status_of_cause cause.OutOfMemory ≡ 5
   want_of_memory = refl
 

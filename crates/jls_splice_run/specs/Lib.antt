@@ -7,6 +7,7 @@ pub mod Outcomes
 pub mod Copies
 pub mod Files
 pub mod Handing
+pub mod Listing
 pub mod Making
 pub mod Runs
 pub mod Single

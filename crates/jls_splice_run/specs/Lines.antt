@@ -34,6 +34,11 @@ abbrev pub groups_line : Option GroupSearch → List ℕ
 groups_line None = []
 groups_line (Some found) = codes "by groups " ++ decimal found.groups ++ groups_end found.is_used_up
 
+-- the line of how many files have no fault; no line if they were not asked for
+abbrev pub files_line : Option ℕ → List ℕ
+files_line None = []
+files_line (Some count) = codes "files " ++ decimal count ++ codes "\n"
+
 -- the line of a run that was asked for a single file and has none
 abbrev pub single_line : Bool → List ℕ
 single_line lacks_single_file = if lacks_single_file then codes "no single file\n" else []
@@ -42,7 +47,7 @@ single_line lacks_single_file = if lacks_single_file then codes "no single file\
 abbrev pub found_text : Found → List ℕ
 found_text f =
     differ_lines f.differences.now ++ splices_line f.splices ++ used_up_line f.is_used_up ++ groups_line f.by_groups
-    ++ single_line f.lacks_single_file
+    ++ files_line f.files ++ single_line f.lacks_single_file
 
 -- the line of how far a search is: how many prefixes and files were tried, and how many files were found
 abbrev pub progress_line : ℕ → ℕ → List ℕ

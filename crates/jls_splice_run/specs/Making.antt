@@ -13,7 +13,7 @@ use Rattle.jls_search.specs.declared.found.FoundSplices.{FoundSplices}
 use Rattle.jls_report.specs.Report.{report_of}
 use Rattle.jls_report.specs.ReportText.{report_text}
 use Rattle.jls_splice_run.specs.Differences.{differences}
-use Rattle.jls_splice_run.specs.Lines.{differ_lines, groups_line, single_line, splices_line, used_up_line}
+use Rattle.jls_splice_run.specs.Lines.{differ_lines, files_line, groups_line, single_line, splices_line, used_up_line}
 use Rattle.jls_splice_run.specs.declared.found.GroupSearch.{GroupSearch}
 use Rattle.jls_splice_run.specs.Telling.{IsTold, ToldSome}
 use Rattle.jls_station.specs.declared.input.ReadStop.{ReadStop}
@@ -29,6 +29,7 @@ use Rattle.jls_splice_run.specs.declared.outcome.Cause.TheVariants as cause
 use Rattle.jls_splice_run.specs.declared.outcome.Refusal.{Refusal}
 use Rattle.jls_splice_run.specs.Copies.{bytes_read, stops_read}
 use Rattle.jls_splice_run.specs.Files.{count_new}
+use Rattle.jls_splice_run.specs.Listing.{AreNamedAsked, NamedFile, named_files}
 use Rattle.jls_splice_run.specs.Single.{IsSingleAsked}
 use Rattle.jls_splice_run.specs.declared.made.Made.{Made as MadeValue}
 
@@ -43,27 +44,30 @@ pub record IsPictureOf (source : Option ℕ) (copies splices : List (List ℕ)) 
   pub shape_is : IsShapeTaken copies splices p.shape
   pub union_is : TakesFiles source (copies ++ splices) (nothing_known p.shape) p
 
--- what is made of copies: what was found, with how many tries; the picture; and the single file without a fault
+-- what is made of copies: what was found, with how many tries; the picture; the single file without a fault; and the files that have
+-- numbers
 pub record Made : Type 0 where
   pub found : Found
   pub tries : ℕ
   pub picture : PartialPicture
   pub single : Option (List ℕ)
+  pub files : List NamedFile
 
--- so many tries were made of those that are allowed, and came to what was found. If they were used up, these are all of them, or 64 files
+-- so many tries under this ceiling were made of those that are allowed, and came to what was found. If they were used up, these are all of them, or 64 files
 -- were found. The search by groups, if there was one, has as many tries of its own
-pub record AreTries (limit : ℕ) (f : Found) (tries : ℕ) : Type 0 where
-  pub tried : WereTried f.parts tries f.choices
+pub record AreTries (ceiling : Option ℕ) (limit : ℕ) (f : Found) (tries : ℕ) : Type 0 where
+  pub tried : WereTried ceiling f.parts tries f.choices
   pub within : tries ≤ limit
   pub used_up : f.is_used_up ≡ true → (tries ≡ limit) ⊎ (length f.choices ≡ 64)
   pub of_groups : IfSome f.by_groups (AreGroupTries limit)
 
--- what was found, the picture and the single file are made of these copies
+-- what was found, the picture, the single file and those that have numbers are made of these copies
 pub record IsMade (a : Asked) (copies : List (List ℕ)) (m : Made) : Type 0 where
-  pub is_found : IsFound copies m.found
-  pub are_tries : AreTries a.options.tries m.found m.tries
+  pub is_found : IsFound a.options.ceiling copies m.found
+  pub are_tries : AreTries a.options.ceiling a.options.tries m.found m.tries
   pub is_picture : IsPictureOf a.options.source copies (splices_in m.found) m.picture
   pub is_single : IsSingleAsked a.options.file (files_taken copies m.found) m.single
+  pub are_named : AreNamedAsked a.options.files (files_taken copies m.found) m.files
 
 -- ---- what is told of it
 
@@ -73,26 +77,33 @@ lacks_single None single = false
 lacks_single (Some name) (Some file) = false
 lacks_single (Some name) None = true
 
+-- how many files have numbers, where they are asked for
+abbrev pub files_told : {A B : Type 0} → Option A → List B → Option ℕ
+files_told None files = None
+files_told (Some prefix) files = Some (length files)
+
 -- what is told of a search by groups, where there was one
 abbrev pub groups_told : Option ByGroups → Option GroupSearch
 groups_told None = None
 groups_told (Some b) = Some (record { groups = b.groups; is_used_up = b.is_used_up })
 
 -- the lines of what was found: of its parts, of so many splices that are no copies, of a search that was cut off or was not, of the search
--- by groups, and of a single file that is lacked or is not
-abbrev pub told_lines : List Part → ℕ → Bool → Option GroupSearch → Bool → List ℕ
-told_lines parts splices is_used_up by_groups lacks =
-    differ_lines (differences parts) ++ splices_line splices ++ used_up_line is_used_up ++ groups_line by_groups ++ single_line lacks
+-- by groups, of the files that have numbers, and of a single file that is lacked or is not
+abbrev pub told_lines : List Part → ℕ → Bool → Option GroupSearch → Option ℕ → Bool → List ℕ
+told_lines parts splices is_used_up by_groups files lacks =
+    differ_lines (differences parts) ++ splices_line splices ++ used_up_line is_used_up ++ groups_line by_groups ++ files_line files
+    ++ single_line lacks
 
 -- the lines of what was found in these copies
-abbrev pub found_lines : Bool → List (List ℕ) → Found → List ℕ
-found_lines lacks copies f = told_lines f.parts (count_new copies (splices_in f)) f.is_used_up (groups_told f.by_groups) lacks
+abbrev pub found_lines : Option ℕ → Bool → List (List ℕ) → Found → List ℕ
+found_lines files lacks copies f = told_lines f.parts (count_new copies (splices_in f)) f.is_used_up (groups_told f.by_groups) files lacks
 
 -- what is printed: the lines of what was found and the report. Nothing, if the output is standard output
 abbrev pub lines : Asked → List (List ℕ) → Made → List ℕ
 lines a copies m =
     if bytes_eq a.out (codes "-") then []
-    else found_lines (lacks_single a.options.file m.single) copies m.found ++ report_text (report_of m.picture)
+    else found_lines (files_told a.options.files m.files) (lacks_single a.options.file m.single) copies m.found
+    ++ report_text (report_of m.picture)
 
 -- events of the fault output: the search told how far it was, if that is asked for
 abbrev pub Tells : Asked → Made → List Event → Type 0
@@ -127,8 +138,8 @@ IsUnsettled a copies splices r =
 abbrev pub CantMake : Asked → List CopyBytes → Refusal → List Event → Type 0
 CantMake a copies r events =
     (IsWantOfMemory a r × ToldSome a.options.tries a.options.progress events)
-    ⊎ ((f : Found) × (tries : ℕ) × IsFound (bytes_read copies) f × AreTries a.options.tries f tries
-    × IsUnsettled a copies (splices_in f) r × IsTold a.options.progress tries (length f.choices) events)
+    ⊎ ((f : Found) × (tries : ℕ) × IsFound a.options.ceiling (bytes_read copies) f
+    × AreTries a.options.ceiling a.options.tries f tries × IsUnsettled a copies (splices_in f) r × IsTold a.options.progress tries (length f.choices) events)
 
 -- ---- as the code has it
 
@@ -139,6 +150,7 @@ made_of s p v = record {
   tries = s.tries;
   picture = p;
   single = option_map (λ f. f.items) v.file;
+  files = named_files v.files.items;
 }
 
 -- the code holds what is handed out of it
@@ -146,6 +158,7 @@ pub record AreTextsOf (a : Asked) (copies : List (List ℕ)) (m : Made) (v : Mad
   pub lines_are : v.lines.items ≡ lines a copies m
   pub text_is : v.text.items ≡ text m.picture
   pub file_is : option_map (λ f. f.items) v.file ≡ m.single
+  pub files_are : named_files v.files.items ≡ m.files
   pub settled_is : IsTrue v.settled ↔ IsSettled m.picture
 
 -- and it was made of these copies, and told so

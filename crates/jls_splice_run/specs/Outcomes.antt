@@ -14,6 +14,8 @@ exit_status_of_cause cause.NotRead = 4
 exit_status_of_cause cause.ShapeDiffers = 3
 exit_status_of_cause cause.NotCreated = 4
 exit_status_of_cause (cause.NotWritten count) = 4
+exit_status_of_cause (cause.FileNotCreated number) = 4
+exit_status_of_cause (cause.FileNotWritten number count) = 4
 exit_status_of_cause cause.OutOfMemory = 5
 
 -- the exit status. Done: 4 if a copy was not read to its end, else 0 or 1 as all lines are settled or not

@@ -11,13 +11,14 @@ use Rattle.jls_cli.specs.SpliceAsking.{Asked, AskFor, AskForNothing}
 use Rattle.jls_cli.specs.SpliceWords.{AreRefused}
 use Rattle.jls_cli.specs.Answers.{is_help}
 use Rattle.jls_io.specs.FaultLines.{not_written_line, out_of_memory_line}
-use Rattle.jls_splice_run.specs.FaultLines.{fault_line, named_twice_line, not_understood_line, program}
+use Rattle.jls_splice_run.specs.FaultLines.{fault_line, named_twice_line, not_understood_line, numbered_out_line, program}
 use Rattle.jls_splice_run.specs.Outcomes.{exit_status}
 use Rattle.jls_splice_run.specs.declared.outcome.Outcome.{Outcome}
 use Rattle.jls_splice_run.specs.declared.outcome.Outcome.TheVariants.{Done, Refused}
 use Rattle.jls_splice_run.specs.declared.outcome.Refusal.{Refusal}
 use Rattle.jls_splice_run.specs.Copies.{AreWhole, bytes_read, StopsAtCopies}
 use Rattle.jls_splice_run.specs.Handing.{HandsAll, StopsInHanding, Texts}
+use Rattle.jls_splice_run.specs.Listing.{IsNumbered, named_files, prefix_in}
 use Rattle.jls_splice_run.specs.Making.{CantMake, IsMade, Made, Tells, lines}
 use Rattle.jls_splice_run.specs.declared.made.Made.{Made as MadeValue}
 
@@ -47,6 +48,8 @@ texts a copies m = record {
   text = text m.picture;
   file_name = a.options.file;
   file = m.single;
+  prefix = prefix_in a.options.files;
+  files = m.files;
 }
 
 -- and as the code holds it
@@ -57,6 +60,8 @@ texts_held a v = record {
   text = v.text.items;
   file_name = a.options.file;
   file = option_map (λ f. f.items) v.file;
+  prefix = prefix_in a.options.files;
+  files = named_files v.files.items;
 }
 
 -- What comes of what was asked, by the events of the desk, of the report output and of the fault output. A copy stops the run; or all
@@ -86,14 +91,21 @@ pub data Performs (a : Asked) : ℕ → List Event → List Event → List Event
 abbrev pub IsFileOut : Asked → Type 0
 IsFileOut a = a.options.file ≡ Some a.out
 
+-- OUT has the name of an output that has a number
+abbrev pub IsNumberedOut : Asked → Type 0
+IsNumberedOut a = (prefix : Text) × (a.options.files ≡ Some prefix) × IsNumbered prefix a.out
+
 -- a run over these words ends with this status; the events are those of the desk, of the report output and of the fault output
 pub data Run (words : List Text) : ℕ → List Event → List Event → List Event → Type 0 where
   -- the words ask for something
   performed : (a : Asked) (status : ℕ) (desk report faults : List Event)
-      → AskFor words a → ¬ IsFileOut a → Performs a status desk report faults → Run words status desk report faults
+      → AskFor words a → ¬ IsFileOut a → ¬ IsNumberedOut a → Performs a status desk report faults → Run words status desk report faults
   -- and for the mended file under the name OUT
   named_twice : (a : Asked) (faults : List Event)
       → AskFor words a → IsFileOut a → Printed (named_twice_line a.out) faults → Run words 2 [] [] faults
+  -- and for files with numbers, one of which can have the name OUT
+  numbered_out : (a : Asked) (faults : List Event)
+      → AskFor words a → ¬ IsFileOut a → IsNumberedOut a → Printed (numbered_out_line a.out) faults → Run words 2 [] [] faults
   -- clap refuses the words, and not to show help: some text, which may be any, goes to the fault output
   misused : (k : ErrorKind) (usage : List ℕ) (faults : List Event)
       → AreRefused words k → is_help k ≡ false → Printed usage faults → Run words 2 [] [] faults

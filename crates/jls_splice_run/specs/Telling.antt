@@ -1,5 +1,5 @@
 -- What a search tells of how far it is.
-use Rattle.std.specs.Prelude.{◌≡◌, ℕ, ◌+◌, ◌*◌, ◌<◌, ◌≤◌, Bool, true, false, List, [], ◌++◌, length}
+use Rattle.std.specs.Prelude.{◌≡◌, ℕ, ◌+◌, ◌*◌, ◌<◌, ◌≤◌, Bool, true, false, List, [], ◌++◌, length, Option}
 use Rattle.jls_io.specs.Event.{Event}
 use Rattle.jls_io.specs.Writing.{Printed}
 use Rattle.jls_search.specs.Search.{CanGoOn, IsBegun, IsSearch, Tried, lists_of}
@@ -46,6 +46,7 @@ pub record HasTold (options : SearchOptions) (walk : WholeSearch) (events : List
   pub within : walk.tries ≤ options.tries
   pub paused : CanGoOn walk options.tries → (rounds : ℕ) × (walk.tries ≡ 64 * rounds)
 
--- tries have taken it here from its begin
-abbrev pub WasBegun : List Part → WholeSearch → Type 0
-WasBegun parts walk = (begun : WholeSearch) × IsBegun begun × IsSearch parts begun × Tried parts begun walk
+-- tries have taken it here from its begin, under this ceiling
+abbrev pub WasBegun : Option ℕ → List Part → WholeSearch → Type 0
+WasBegun ceiling parts walk =
+    (begun : WholeSearch) × IsBegun begun × IsSearch parts begun × Tried parts begun walk × (begun.judge.ceiling ≡ ceiling)

@@ -22,6 +22,8 @@ pub struct Found<'a> {
     pub is_used_up: bool,
     /// What the search by groups came to, if there was one.
     pub by_groups: Option<GroupSearch>,
+    /// How many files have no fault, if they were asked for.
+    pub files: Option<usize>,
     /// Whether a single file was asked for, and there is none.
     pub lacks_single_file: bool,
 }

@@ -1,11 +1,14 @@
 //! What was made, handed out.
 
 ghost use Rattle.std.specs.Prelude.{IfErr, OnOk, option_map};
+ghost use Rattle.std.specs.String.{string_bytes};
 ghost use Rattle.jls_io.specs.Event.{GrewBy};
 ghost use Rattle.jls_io.specs.Writing.{Wrote};
 ghost use Rattle.jls_io.specs.Outputs.{HandsOut};
-ghost use Rattle.jls_splice_run.specs.Handing.{HandsFile, StopsAtFile, StopsAtOutput, StopsAtReport};
+ghost use Rattle.jls_splice_run.specs.Handing.{HandsFile, HandsFiles, StopsAtFile, StopsAtFiles, StopsAtNumber, StopsAtOutput, StopsAtReport};
+ghost use Rattle.jls_splice_run.specs.Listing.{named_file, named_files};
 
+use crate::listing::NumberedFile;
 use crate::outcome::{Cause, Refusal};
 use jls_io::{Desk, Sink, write_all};
 
@@ -68,4 +71,57 @@ pub(crate) fn write_file<'a, D: Desk>(
         return Ok(());
     };
     write_output(desk, name, file)
+}
+
+/// Creates the output of a number, and hands its file to it.
+fn write_numbered<'a, D: Desk>(
+    desk: &mut D,
+    prefix: &'a str,
+    number: u64,
+    file: &NumberedFile,
+) -> Result<(), Refusal<'a>>
+    ensures written { OnOk result
+        (GrewBy (HandsOut (string_bytes file.now.name) file.now.bytes.items) (D.history desk.old) (D.history desk.new)) }
+    ensures stopped { IfErr result (λ refusal. GrewBy (StopsAtNumber prefix.entry.now number (named_file file.now) refusal)
+        (D.history desk.old) (D.history desk.new)) }
+{
+    match desk.create_output(&file.name) {
+        Ok(()) => {}
+        Err(_) => {
+            let cause = Cause::FileNotCreated(number);
+            return Err(Refusal {
+                name: prefix,
+                cause,
+            });
+        }
+    }
+    match write_all(desk, &file.bytes) {
+        Ok(()) => Ok(()),
+        Err(count) => {
+            let cause = Cause::FileNotWritten(number, count);
+            Err(Refusal {
+                name: prefix,
+                cause,
+            })
+        }
+    }
+}
+
+/// Creates the outputs that have numbers, one after the other, and hands each its file.
+pub(crate) fn write_files<'a, D: Desk>(
+    desk: &mut D,
+    prefix: &'a str,
+    files: &[NumberedFile],
+) -> Result<(), Refusal<'a>>
+    ensures written { OnOk result (GrewBy (HandsFiles (named_files files.now)) (D.history desk.old) (D.history desk.new)) }
+    ensures stopped { IfErr result (λ refusal. GrewBy (StopsAtFiles prefix.entry.now (named_files files.now) refusal)
+        (D.history desk.old) (D.history desk.new)) }
+{
+    for place in 0..files.len() {
+        match write_numbered(desk, prefix, place as u64 + 1, &files[place]) {
+            Ok(()) => {}
+            Err(refusal) => return Err(refusal),
+        }
+    }
+    Ok(())
 }

@@ -4,14 +4,14 @@
 //! - `task`: what is asked for, as one value
 //! - `splicing`: a run that is asked for: copies are read, files made, and all is handed out
 //! - `copies`, `made`, `settling`: the copies that are read; what is made of them; their station
-//! - `files`, `single`: the files that were found, as bytes; the single one without a fault
+//! - `files`, `single`, `listing`: the files that were found, as bytes; the single one without a fault; all of these with their names
 //! - `printed_lines`, `handing`: the lines that are printed; the events that hand out all
 //! - `options`, `searching`: how a search is made; a search that goes on 64 tries at a time, and tells how far it is
 //! - `differences`: where copies differ: the offset in the first copy, and how many bytes that one has there
 //! - `found`, `lines`: what a run found, as one value; its lines, and the line that says how far a search is
 //! - `outcome`, `printing`: what came of a run, why it stopped, and the exit status; the fault line
 //!
-//! Definitions: `Tasks`, `Copies`, `Making`, `Single`, `Files`, `Handing`, `Runs`; `Telling`; `Differences`, `Lines`; `Outcomes`,
+//! Definitions: `Tasks`, `Copies`, `Making`, `Single`, `Files`, `Listing`, `Handing`, `Runs`; `Telling`; `Differences`, `Lines`; `Outcomes`,
 //! `FaultLines`. `PrintedLineExamples` of `proofs/` has each line, and all lines of two runs, worked by hand. `FaultLineExamples` has a
 //! fault line of each kind.
 //!
@@ -27,6 +27,7 @@ mod files;
 mod found;
 mod handing;
 mod lines;
+mod listing;
 mod made;
 mod options;
 mod outcome;
@@ -42,12 +43,13 @@ mod task;
 pub use differences::{Difference, differences_of};
 pub use found::{Found, GroupSearch};
 pub use lines::{put_found, put_progress};
+pub use listing::NumberedFile;
 pub use made::Made;
 pub use options::SearchOptions;
 pub use outcome::{Cause, Outcome, Refusal};
 pub use printing::{
     PROGRAM, print_named_twice, print_not_created, print_not_replaced, print_not_understood,
-    print_outcome,
+    print_numbered_out, print_outcome,
 };
 pub use program::run;
 pub use searching::search_and_tell;

@@ -2,7 +2,7 @@
 
 ghost use Rattle.std.specs.Prelude.{◌≡◌, ◌++◌, codes, decimal, OnOk, take};
 ghost use Rattle.std.specs.List.{flat_map};
-ghost use Rattle.jls_splice_run.specs.Lines.{differ_line, differ_lines, found_text, groups_end as spec_groups_end, groups_line, more_line, progress_line, single_line, splices_line, used_up_line};
+ghost use Rattle.jls_splice_run.specs.Lines.{differ_line, differ_lines, files_line, found_text, groups_end as spec_groups_end, groups_line, more_line, progress_line, single_line, splices_line, used_up_line};
 
 use crate::differences::Difference;
 use crate::found::{Found, GroupSearch};
@@ -110,6 +110,19 @@ fn put_groups(out: &mut Vec<u8>, by_groups: Option<GroupSearch>) -> Result<(), A
     Ok(())
 }
 
+/// Appends how many files have no fault, if they were asked for.
+fn put_files(out: &mut Vec<u8>, files: Option<usize>) -> Result<(), AllocError>
+    ensures { OnOk result (out.new.items ≡ out.old.items ++ files_line files) }
+{
+    let Some(count) = files else {
+        return Ok(());
+    };
+    out.extend_from_slice(b"files ")?;
+    put_number(out, count as u64)?;
+    out.extend_from_slice(b"\n")?;
+    Ok(())
+}
+
 /// Appends that there is no single file, if one was asked for.
 fn put_single(out: &mut Vec<u8>, lacks_single_file: bool) -> Result<(), AllocError>
     ensures { OnOk result (out.new.items ≡ out.old.items ++ single_line lacks_single_file) }
@@ -128,6 +141,7 @@ pub fn put_found(out: &mut Vec<u8>, found: &Found<'_>) -> Result<(), AllocError>
     put_splices(out, found.splices)?;
     put_used_up(out, found.is_used_up)?;
     put_groups(out, found.by_groups)?;
+    put_files(out, found.files)?;
     put_single(out, found.lacks_single_file)
 }
 

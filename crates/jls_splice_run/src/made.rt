@@ -13,12 +13,14 @@ ghost use Rattle.jls_search.specs.Files as given;
 ghost use Rattle.jls_splice_run.specs.Telling.{IsTold, ToldSome};
 ghost use Rattle.jls_splice_run.specs.Making.{AreTextsOf, CantMake, HoldsMade, files_taken, lacks_single, made_of};
 ghost use Rattle.jls_splice_run.specs.Making as spec;
+ghost use Rattle.jls_splice_run.specs.Listing.{AreNamedAsked, named_files};
 ghost use Rattle.jls_splice_run.specs.Single.{IsSingleAsked};
 ghost use Rattle.jls_splice_run.specs.Tasks.{task_of};
 
 use crate::copies::slices_of;
 use crate::files::count_new;
 use crate::found::GroupSearch;
+use crate::listing::{NumberedFile, name_files};
 use crate::options::SearchOptions;
 use crate::outcome::Refusal;
 use crate::printed_lines::{Told, lines_of};
@@ -43,6 +45,8 @@ pub struct Made {
     pub text: Vec<u8>,
     /// The single file without a fault, if one is asked for and there is one.
     pub file: Option<Vec<u8>>,
+    /// The files without a fault, with their names, if they are asked for.
+    pub files: Vec<NumberedFile>,
     pub settled: bool,
 }
 
@@ -55,14 +59,14 @@ fn search<'c, E: Sink>(
     faults: &mut E,
 ) -> Result<FoundSplices<'c>, AllocError>
     requires { 0 < length copies.now }
-    ensures found { IfOk result (λ found. IsFound (bytes_of copies.now) (found_of found)) }
+    ensures found { IfOk result (λ found. IsFound options.ceiling (bytes_of copies.now) (found_of found)) }
     ensures splices { IfOk result
         (λ found. files_of (parts_of found.parts.items) (lists_of found.splices.items) ≡ splices_in (found_of found)) }
     ensures each { IfOk result (λ found. AllByRecursion (IsWhole (parts_of found.parts.items)) (lists_of found.splices.items)) }
     ensures short { IfOk result (λ found. IsShort (parts_of found.parts.items)) }
     ensures small { IfOk result (λ found. length (made 0 (parts_of found.parts.items)) < 2 ^ 64) }
     ensures few { IfOk result (λ found. found.tries ≤ options.tries) }
-    ensures tried { IfOk result (λ found. WereTried (parts_of found.parts.items) found.tries (found_of found).choices) }
+    ensures tried { IfOk result (λ found. WereTried options.ceiling (parts_of found.parts.items) found.tries (found_of found).choices) }
     ensures used_up { IfOk result (λ found. found.is_used_up ≡ true
         → (found.tries ≡ options.tries) ⊎ (length (found_of found).choices ≡ 64)) }
     ensures of_groups { IfOk result (λ found. IfSome (found_of found).by_groups (AreGroupTries options.tries)) }
@@ -104,6 +108,32 @@ fn lacks_file(name: Option<&str>, file: &Option<Vec<u8>>) -> bool
     }
 }
 
+/// The files without a fault, with their names, if what these begin with is given.
+fn files_asked(
+    alloc: Global,
+    prefix: Option<&str>,
+    files: &Files<'_, '_>,
+) -> Result<Vec<NumberedFile>, AllocError>
+    requires { AllByRecursion (IsWhole (parts_of files.now.parts.now)) (lists_of files.now.splices.now) }
+    ensures { IfOk result (λ named.
+        AreNamedAsked (option_map (λ s. s.now) prefix.entry) (given.files_taken files.now) (named_files named.items)) }
+{
+    match prefix {
+        Some(prefix) => name_files(alloc, prefix, files),
+        None => Ok(Vec::new(alloc)),
+    }
+}
+
+/// How many files have a name, if names are asked for.
+fn files_told(prefix: Option<&str>, files: &[NumberedFile]) -> Option<usize>
+    ensures { result ≡ spec.files_told prefix.entry files.now }
+{
+    match prefix {
+        Some(_) => Some(files.len()),
+        None => None,
+    }
+}
+
 /// What is told of the search by groups.
 fn groups_told(by_groups: Option<GroupsTold>) -> Option<GroupSearch>
     ensures { (choices : List (List ℕ)) → result ≡ spec.groups_told (option_map (by_groups_of choices) by_groups) }
@@ -131,6 +161,8 @@ fn texts_of(
     ensures texts { IfOk result (λ made. AreTextsOf (task_of task.now) (bytes_of copies.now) (made_of found.now partial.now made) made) }
     ensures single { IfOk result (λ made. IsSingleAsked (task_of task.now).options.file
         (files_taken (bytes_of copies.now) (found_of found.now)) (option_map (λ f. f.items) made.file)) }
+    ensures named { IfOk result (λ made. AreNamedAsked (task_of task.now).options.files
+        (files_taken (bytes_of copies.now) (found_of found.now)) (named_files made.files.items)) }
 {
     let files = Files {
         copies,
@@ -138,11 +170,13 @@ fn texts_of(
         splices: &found.splices,
     };
     let file = file_asked(alloc, task.options.file, &files)?;
+    let numbered = files_asked(alloc, task.options.files, &files)?;
     let splices = count_new(alloc, copies, &found.parts, &found.splices)?;
     let told = Told {
         splices,
         is_used_up: found.is_used_up,
         by_groups: groups_told(found.by_groups),
+        files: files_told(task.options.files, &numbered),
         lacks_single_file: lacks_file(task.options.file, &file),
     };
     let lines = lines_of(alloc, task.out, &found.parts, told, partial)?;
@@ -152,6 +186,7 @@ fn texts_of(
         lines,
         text,
         file,
+        files: numbered,
         settled,
     })
 }
@@ -175,6 +210,7 @@ pub(crate) fn make<'a, E: Sink>(
         Err(_) => return Err(want_of_memory(task)),
     };
     let options = SearchOptions {
+        ceiling: task.options.ceiling,
         tries: task.options.tries,
         tells: task.options.progress,
     };

@@ -21,6 +21,10 @@ pub enum Cause {
     NotCreated,
     /// A write failed when so many bytes had gone out.
     NotWritten(u64),
+    /// The output of this number, under the name with `-` and the number behind it, can't be created.
+    FileNotCreated(u64),
+    /// A write to the output of this number failed when so many bytes had gone out.
+    FileNotWritten(u64, u64),
     /// Memory ran out.
     OutOfMemory,
 }
@@ -52,6 +56,7 @@ impl Cause {
         match self {
             Cause::PartialPicture | Cause::NoPicture(_, _) | Cause::ShapeDiffers => 3,
             Cause::NotOpened | Cause::NotRead | Cause::NotCreated | Cause::NotWritten(_) => 4,
+            Cause::FileNotCreated(_) | Cause::FileNotWritten(_, _) => 4,
             Cause::OutOfMemory => 5,
         }
     }

@@ -24,6 +24,8 @@ pub(crate) struct Told {
     pub is_used_up: bool,
     /// What is told of the search by groups, if there was one.
     pub by_groups: Option<GroupSearch>,
+    /// How many files have numbers, if they are asked for.
+    pub files: Option<usize>,
     pub lacks_single_file: bool,
 }
 
@@ -31,7 +33,7 @@ pub(crate) struct Told {
 fn found_lines(alloc: Global, parts: &[Part<'_>], told: Told) -> Result<Vec<u8>, AllocError>
     requires { length (made 0 (parts_of parts.now)) < 2 ^ 64 }
     ensures { IfOk result (λ lines.
-        lines.items ≡ told_lines (parts_of parts.now) told.splices told.is_used_up told.by_groups told.lacks_single_file) }
+        lines.items ≡ told_lines (parts_of parts.now) told.splices told.is_used_up told.by_groups told.files told.lacks_single_file) }
 {
     let differences = differences_of(alloc, parts)?;
     let found = Found {
@@ -39,6 +41,7 @@ fn found_lines(alloc: Global, parts: &[Part<'_>], told: Told) -> Result<Vec<u8>,
         splices: told.splices,
         is_used_up: told.is_used_up,
         by_groups: told.by_groups,
+        files: told.files,
         lacks_single_file: told.lacks_single_file,
     };
     let mut out = Vec::new(alloc);
@@ -64,7 +67,7 @@ pub(crate) fn lines_of(
 ) -> Result<Vec<u8>, AllocError>
     requires { length (made 0 (parts_of parts.now)) < 2 ^ 64 }
     ensures { IfOk result (λ lines. lines.items ≡ (if bytes_eq out.now (codes "-") then []
-        else told_lines (parts_of parts.now) told.splices told.is_used_up told.by_groups told.lacks_single_file
+        else told_lines (parts_of parts.now) told.splices told.is_used_up told.by_groups told.files told.lacks_single_file
         ++ report_text (report_of partial.now))) }
 {
     if out == "-" {

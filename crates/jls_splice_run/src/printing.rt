@@ -4,11 +4,12 @@ ghost use Rattle.jls_io.specs.Event.{GrewBy};
 ghost use Rattle.jls_io.specs.Writing.{Printed};
 ghost use Rattle.jls_marker.specs.Faults.{fault_number};
 ghost use Rattle.jls_io.specs.FaultLines.{no_picture_line};
-ghost use Rattle.jls_splice_run.specs.FaultLines.{cause_line, fault_line, named_twice_line, not_replaced_line, not_understood_line, program};
+ghost use Rattle.jls_splice_run.specs.FaultLines.{cause_line, fault_line, file_not_created_line, file_not_written_line, named_twice_line, not_replaced_line, not_understood_line, numbered_out_line, program};
 
 use crate::outcome::{Cause, Outcome, Refusal};
 use jls_io::{
-    Sink, print_about, print_no_picture, print_not_written, print_out_of_memory, print_plain,
+    LinePart, Sink, print_about, print_line, print_no_picture, print_not_written,
+    print_out_of_memory, print_plain,
 };
 use jls_marker::MarkerFault;
 
@@ -41,6 +42,13 @@ pub fn print_named_twice<E: Sink>(faults: &mut E, name: &str)
     print_about(faults, PROGRAM, name, ": is named as OUT and by --file");
 }
 
+/// Prints that OUT has a name of `--files`.
+pub fn print_numbered_out<E: Sink>(faults: &mut E, name: &str)
+    ensures { GrewBy (Printed (numbered_out_line name.now)) (E.history faults.old) (E.history faults.new) }
+{
+    print_about(faults, PROGRAM, name, ": is named as OUT and by --files");
+}
+
 /// Prints that the words ask for nothing that there is.
 pub fn print_not_understood<E: Sink>(faults: &mut E)
     ensures { GrewBy (Printed not_understood_line) (E.history faults.old) (E.history faults.new) }
@@ -56,6 +64,42 @@ fn print_no_frame<E: Sink>(faults: &mut E, name: &str, fault: MarkerFault, offse
     print_no_picture(faults, PROGRAM, name, number, offset);
 }
 
+/// Prints that an output of this number was not created.
+fn print_file_not_created<E: Sink>(faults: &mut E, name: &str, number: u64)
+    ensures { GrewBy (Printed (file_not_created_line name.now number)) (E.history faults.old) (E.history faults.new) }
+{
+    print_line(
+        faults,
+        &[
+            LinePart::Text(PROGRAM),
+            LinePart::Text(": "),
+            LinePart::Name(name),
+            LinePart::Text("-"),
+            LinePart::Number(number),
+            LinePart::Text(": cannot be created"),
+        ],
+    );
+}
+
+/// Prints how many bytes of an output of this number went out before a write failed.
+fn print_file_not_written<E: Sink>(faults: &mut E, name: &str, number: u64, count: u64)
+    ensures { GrewBy (Printed (file_not_written_line name.now number count)) (E.history faults.old) (E.history faults.new) }
+{
+    print_line(
+        faults,
+        &[
+            LinePart::Text(PROGRAM),
+            LinePart::Text(": "),
+            LinePart::Name(name),
+            LinePart::Text("-"),
+            LinePart::Number(number),
+            LinePart::Text(": write failed after "),
+            LinePart::Number(count),
+            LinePart::Text(" bytes"),
+        ],
+    );
+}
+
 /// Prints the line of a cause at a copy or output of this name.
 fn print_cause<E: Sink>(faults: &mut E, name: &str, cause: Cause)
     ensures { GrewBy (Printed (cause_line name.now cause)) (E.history faults.old) (E.history faults.new) }
@@ -68,6 +112,10 @@ fn print_cause<E: Sink>(faults: &mut E, name: &str, cause: Cause)
         Cause::ShapeDiffers => print_about(faults, PROGRAM, name, ": shape differs"),
         Cause::NotCreated => print_not_created(faults, name),
         Cause::NotWritten(count) => print_not_written(faults, PROGRAM, name, count),
+        Cause::FileNotCreated(number) => print_file_not_created(faults, name, number),
+        Cause::FileNotWritten(number, count) => {
+            print_file_not_written(faults, name, number, count);
+        }
         Cause::OutOfMemory => print_out_of_memory(faults, PROGRAM),
     }
 }

@@ -5,9 +5,11 @@ ghost use Rattle.std.specs.String.{string_bytes};
 ghost use Rattle.jls_cli.specs.SpliceAsking.{asked_of};
 ghost use Rattle.jls_splice_run.specs.Runs.{GrewAll, Performs, Ran};
 
-use crate::printing::{PROGRAM, print_named_twice, print_not_understood, print_outcome};
+use crate::printing::{
+    PROGRAM, print_named_twice, print_not_understood, print_numbered_out, print_outcome,
+};
 use crate::splicing::splice;
-use crate::task::{Task, is_file_out, names_of};
+use crate::task::{Task, is_file_out, is_numbered_out, names_of};
 use jls_cli::answer;
 use jls_cli::splice::{Asked, asked_splice, matches};
 use jls_io::{Desk, Sink, print_out_of_memory};
@@ -45,7 +47,7 @@ fn perform<D: Desk, W: Sink, E: Sink>(
 ///
 /// - 0: done, and each line of OUT is settled; or help or the version was asked for;
 /// - 1: done, with lines that are missing or disputed;
-/// - 2: the words were not understood, or `--file` names OUT;
+/// - 2: the words were not understood, or `--file` names OUT, or OUT is a name that `--files` can give;
 /// - 3: a copy is a partial picture, no file taken has a picture, or files without a fault differ in shape;
 /// - 4: a copy can't be opened or read, an output can't be created, or a write failed. The run may be done then, if a copy was not read
 ///   to its end;
@@ -75,6 +77,17 @@ pub fn run<D: Desk, W: Sink, E: Sink>(
     };
     if is_file_out(&asked) {
         print_named_twice(faults, asked.out);
+        return 2;
+    }
+    let numbered = match is_numbered_out(alloc, &asked) {
+        Ok(numbered) => numbered,
+        Err(_) => {
+            print_out_of_memory(faults, PROGRAM);
+            return 5;
+        }
+    };
+    if numbered {
+        print_numbered_out(faults, asked.out);
         return 2;
     }
     perform(alloc, &asked, desk, report, faults)

@@ -7,6 +7,7 @@ ghost use Rattle.jls_io.specs.Writing.{Printed};
 ghost use Rattle.jls_diff.specs.Parts.{AreParts};
 ghost use Rattle.jls_diff.specs.PartsOf.{bytes_of, parts_of};
 ghost use Rattle.jls_search.specs.Choices.{HasSomeWay};
+ghost use Rattle.jls_search.specs.Faultless.{IsSought};
 ghost use Rattle.jls_search.specs.Search.{CameTo, CanGoOn, IsSearch, IsShort, Tried, WereTried, lists_of};
 ghost use Rattle.jls_search.specs.SearchLaws.{AreShort};
 ghost use Rattle.jls_splice_run.specs.Lines.{progress_line};
@@ -85,6 +86,7 @@ fn go_on<E: Sink>(
     ensures stands { OnOk result (IsSearch (parts_of parts.now) walk.new) }
     ensures fewer { OnOk result (walk.old.tries < walk.new.tries) }
     ensures tried { OnOk result (Tried (parts_of parts.now) walk.old walk.new) }
+    ensures ceiling { OnOk result (walk.new.judge.ceiling ≡ walk.old.judge.ceiling) }
     ensures told { OnOk result (GrewBy (GoesOn options walk.old walk.new) (E.history faults.old) (E.history faults.new)) }
     ensures untold { OnErr result (E.history faults.new ≡ E.history faults.old) }
 {
@@ -103,19 +105,20 @@ fn search_parts<E: Sink>(
     requires some_way { AllByRecursion HasSomeWay (parts_of parts.now) }
     requires short { IsShort (parts_of parts.now) }
     ensures stands { IfOk result (λ walk. IsSearch (parts_of parts.now) walk) }
+    ensures ceiling { IfOk result (λ walk. walk.judge.ceiling ≡ options.ceiling) }
     ensures stops { IfOk result (λ walk. CanGoOn walk options.tries → ⊥) }
-    ensures tried { IfOk result (λ walk. WasBegun (parts_of parts.now) walk) }
+    ensures tried { IfOk result (λ walk. WasBegun options.ceiling (parts_of parts.now) walk) }
     ensures told { IfOk result (λ walk. GrewBy (HasTold options walk) (E.history faults.old) (E.history faults.new)) }
     ensures told_some { OnErr result (GrewBy (ToldSome options.tries options.tells) (E.history faults.old) (E.history faults.new)) }
 {
-    let mut walk = WholeSearch::begin(alloc, parts)?;
+    let mut walk = WholeSearch::begin(alloc, parts, options.ceiling)?;
     while walk.can_go_on(options.tries) {
         go_on(alloc, parts, options, &mut walk, faults)?;
     }
     Ok(walk)
 }
 
-/// Finds the parts of copies and searches their splices, with so many tries at most, as `search_copies` of jls_search does. If that is
+/// Finds the parts of copies and searches their splices, under the ceiling if there is one, with so many tries at most, as `search_copies` of jls_search does. If that is
 /// asked for, it prints a line on how far it is, each time that 64 more were tried, and when it is over. A write that fails is ignored.
 /// `are_short` of jls_search tells whether copies are short enough. `Err` comes where memory is refused.
 pub fn search_and_tell<'a, E: Sink>(
@@ -128,12 +131,13 @@ pub fn search_and_tell<'a, E: Sink>(
     requires short { AreShort (bytes_of copies.now) }
     ensures parts { IfOk result (λ found. AreParts (bytes_of copies.now) (parts_of found.parts.items)) }
     ensures searched { IfOk result (λ found.
-        CameTo (parts_of found.parts.items) (lists_of found.searched.splices.items) found.searched.is_used_up) }
+        CameTo (IsSought options.ceiling) (parts_of found.parts.items) (lists_of found.searched.splices.items) found.searched.is_used_up) }
+    ensures ceiling { IfOk result (λ found. found.ceiling ≡ options.ceiling) }
     ensures used_up { IfOk result (λ found. found.searched.is_used_up ≡ true
         → (found.searched.tries ≡ options.tries) ⊎ (length (lists_of found.searched.splices.items) ≡ 64)) }
     ensures few { IfOk result (λ found. found.searched.tries ≤ options.tries) }
     ensures tried { IfOk result (λ found.
-        WereTried (parts_of found.parts.items) found.searched.tries (lists_of found.searched.splices.items)) }
+        WereTried options.ceiling (parts_of found.parts.items) found.searched.tries (lists_of found.searched.splices.items)) }
     ensures told { IfOk result (λ found.
         GrewBy (IsTold options.tells found.searched.tries (length (lists_of found.searched.splices.items)))
         (E.history faults.old) (E.history faults.new)) }
@@ -144,6 +148,7 @@ pub fn search_and_tell<'a, E: Sink>(
     let walk = search_parts(alloc, &parts, options, faults)?;
     Ok(SearchedCopies {
         parts,
+        ceiling: options.ceiling,
         searched: walk.into_searched(),
     })
 }

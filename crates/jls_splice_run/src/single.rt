@@ -44,7 +44,7 @@ fn one_more(faultless: Faultless, file: Vec<u8>) -> Faultless
 }
 
 /// Whether a file has no fault.
-fn is_copy_faultless(alloc: Global, copy: &[u8]) -> Result<bool, AllocError>
+pub(crate) fn is_copy_faultless(alloc: Global, copy: &[u8]) -> Result<bool, AllocError>
     ensures { IfOk result (λ faultless. IsTrue faultless ↔ IsFaultless copy.now) }
 {
     let mut reader = CopyReader::new(alloc);

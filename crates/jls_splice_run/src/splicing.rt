@@ -6,10 +6,10 @@ ghost use Rattle.jls_splice_run.specs.Runs.{GrewAll, GrewBoth, Splices, texts_he
 ghost use Rattle.jls_splice_run.specs.Tasks.{task_of};
 
 use crate::copies::{are_whole, read_all};
-use crate::handing::{print_lines, write_file, write_output};
+use crate::handing::{print_lines, write_file, write_files, write_output};
 use crate::made::{Made, make};
 use crate::outcome::{Outcome, Refusal};
-use crate::task::Task;
+use crate::task::{Task, prefix_of};
 use jls_io::{Desk, Sink};
 use std::alloc::Global;
 
@@ -44,14 +44,18 @@ fn hand_out<'a, D: Desk, W: Sink>(
         Err(refusal) => return Err(refusal),
     }
     match write_file(desk, task.options.file, bytes_in(&made.file)) {
+        Ok(()) => {}
+        Err(refusal) => return Err(refusal),
+    }
+    match write_files(desk, prefix_of(task), &made.files) {
         Ok(()) => Ok(()),
         Err(refusal) => Err(refusal),
     }
 }
 
 /// Reads the copies, searches their splices, takes all files that decode, and hands out what comes of it. First come the lines, on the
-/// report output. Then comes the text of the union of what the files taken give, and last the single file, if one is asked for. Both
-/// are made before anything is handed out. While it searches, it tells on the fault output how far it is, if that is asked for.
+/// report output. Then comes the text of the union of what the files taken give, then the single file, and last the files that have
+/// numbers, if these are asked for. All are made before anything is handed out. While it searches, it tells on the fault output how far it is, if that is asked for.
 pub fn splice<'a, D: Desk, W: Sink, E: Sink>(
     alloc: Global,
     desk: &mut D,

@@ -3,9 +3,11 @@
 ghost use Rattle.std.specs.Prelude.{◌≡◌, ◌<◌, ◌↔◌, length, IfOk, IsTrue, map};
 ghost use Rattle.jls_splice_run.specs.declared.outcome.Cause.TheVariants.{OutOfMemory};
 ghost use Rattle.jls_cli.specs.SpliceAsking.{asked_of};
-ghost use Rattle.jls_splice_run.specs.Runs.{IsFileOut};
-ghost use Rattle.jls_splice_run.specs.Tasks.{texts_of};
+ghost use Rattle.jls_splice_run.specs.Listing.{prefix_in};
+ghost use Rattle.jls_splice_run.specs.Runs.{IsFileOut, IsNumberedOut};
+ghost use Rattle.jls_splice_run.specs.Tasks.{task_of, texts_of};
 
+use crate::listing::is_numbered;
 use crate::outcome::{Cause, Refusal};
 use jls_cli::splice::{Asked, Options};
 use std::alloc::{AllocError, Global};
@@ -39,6 +41,26 @@ pub(crate) fn is_file_out(asked: &Asked<'_, '_>) -> bool
     match asked.options.file {
         Some(file) => file == asked.out,
         None => false,
+    }
+}
+
+/// Whether OUT has a name that `--files` can give.
+pub(crate) fn is_numbered_out(alloc: Global, asked: &Asked<'_, '_>) -> Result<bool, AllocError>
+    ensures { IfOk result (λ is. IsTrue is ↔ IsNumberedOut (asked_of asked.now)) }
+{
+    match asked.options.files {
+        Some(prefix) => is_numbered(alloc, prefix, asked.out),
+        None => Ok(false),
+    }
+}
+
+/// What the names of `--files` begin with. It is empty where no names are asked for.
+pub(crate) fn prefix_of<'a>(task: &Task<'_, 'a>) -> &'a str
+    ensures { result.now ≡ prefix_in (task_of task.now).options.files }
+{
+    match task.options.files {
+        Some(prefix) => prefix,
+        None => "",
     }
 }
 

@@ -51,7 +51,7 @@ fn found_in(alloc: Global, copies: &[&[u8]], limit: u32) -> Result<(Counts, bool
     if copies.is_empty() || !are_short(copies) {
         return Err(Fail::from("no copies that can be searched"));
     }
-    let searched = search_copies(alloc, copies, limit)?;
+    let searched = search_copies(alloc, copies, None, limit)?;
     let found = complete_by_groups(alloc, copies, searched, limit)?;
     let (groups, is_used_up) = match found.by_groups {
         Some(told) => (Some(told.groups), told.is_used_up),

@@ -23,6 +23,8 @@ mod lines;
 #[cfg(test)]
 mod memory;
 #[cfg(test)]
+mod numbered;
+#[cfg(test)]
 mod parts;
 #[cfg(test)]
 mod program;

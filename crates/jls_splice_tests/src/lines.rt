@@ -33,6 +33,7 @@ fn one_byte_differs(rt: HostRuntime) -> Result<(), Fail> {
                 groups: 1,
                 is_used_up: true,
             }),
+            files: Some(12),
             lacks_single_file: true,
         },
     )?;
@@ -40,6 +41,7 @@ fn one_byte_differs(rt: HostRuntime) -> Result<(), Fail> {
     let expected: &[u8] = b"differ 4321 1
 splices 2
 by groups 1, tries used up
+files 12
 no single file
 4096 tries, 3 files
 ";
@@ -65,6 +67,7 @@ fn many_places_differ(rt: HostRuntime) -> Result<(), Fail> {
             splices: 0,
             is_used_up: true,
             by_groups: None,
+            files: None,
             lacks_single_file: false,
         },
     )?;

@@ -1,9 +1,12 @@
-//! Files in memory: copies, which are numbered from 1 on, and the outputs that were created. No copy is replaced.
+//! Files in memory: copies, which are numbered from 1 on, and the outputs that were created. No copy is replaced, nor a file that stands.
 
 use jls_io::Open;
 use std::alloc::Global;
 use std::io;
 use std::io::{Read, Write};
+
+/// The name of a file that stands.
+const STANDING: &str = "STANDS-2";
 
 /// An output, by its name.
 #[derive(Drop)]
@@ -84,7 +87,7 @@ impl Open for &mut MemoryFiles<'_> {
     }
 
     fn create_output(&mut self, name: &str) -> io::Result<()> {
-        if copy_named(self.copies, name).is_some() {
+        if name == STANDING || copy_named(self.copies, name).is_some() {
             return Err(failed());
         }
         let output = Output {

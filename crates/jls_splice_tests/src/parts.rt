@@ -240,6 +240,47 @@ fn parts_of_damaged_copies(rt: HostRuntime) -> Result<(), Fail> {
     Ok(())
 }
 
+/// The parts of these copies.
+fn parts_of_both(alloc: Global, first: &[u8], second: &[u8]) -> Result<String, Fail> {
+    let parts = find_parts(alloc, &[first, second])?;
+    text(alloc, &parts)
+}
+
+/// Eight bytes that repeat agree at many shifts, and so stand in no step. The offsets of what differs are counted outside.
+#[test]
+fn parts_of_blank_copies(rt: HostRuntime) -> Result<(), Fail> {
+    let alloc = rt.alloc();
+    let noise = file(alloc, 200)?;
+    let mut first = Vec::new(alloc);
+    for at in 0..700u16 {
+        first.push((at % 8) as u8 + 1)?;
+    }
+    let mut second = Vec::from_slice(alloc, &first)?;
+    for (byte, other) in first.iter_mut().skip(100).zip(noise.iter().take(100)) {
+        *byte = *other;
+    }
+    for (byte, other) in second.iter_mut().skip(400).zip(noise.iter().skip(100)) {
+        *byte = *other;
+    }
+    let found = parts_of_both(alloc, &first, &second)?;
+    assert_eq!(rt; found.as_str(), "=100 100,100 =200 100,100 =200 ");
+    Ok(())
+}
+
+/// Of one length too, but 20 bytes are lost, and as many zeros stand behind the end.
+#[test]
+fn parts_of_a_padded_copy(rt: HostRuntime) -> Result<(), Fail> {
+    let alloc = rt.alloc();
+    let whole = file(alloc, 400)?;
+    let mut padded = without(alloc, &whole, 50, 20)?;
+    for _ in 0..20 {
+        padded.push(0)?;
+    }
+    let found = parts_of_both(alloc, &whole, &padded)?;
+    assert_eq!(rt; found.as_str(), "=50 20,0 =330 0,20 ");
+    Ok(())
+}
+
 #[test]
 fn parts_of_large_copies(rt: HostRuntime) -> Result<(), Fail> {
     let found = parts_of(

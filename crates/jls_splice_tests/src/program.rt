@@ -52,6 +52,8 @@ two mended files: eight: whole / other: --file NAME OUT 1 2: 1 other: no single 
 each sixteenth: eight: 40+4=0 120+4=0 200+4=0 280+4=0 360+4=0 440+4=0 520+4=0 600+4=0 / 80+4=0 160+4=0 240+4=0 320+4=0 400+4=0 \
 480+4=0 560+4=0 640+4=0: --tries 100 OUT 1 2: 0 eight: splices 1
 few tries: eight: 100+8=0 / 400+8=0: --tries 2 OUT 1 2: 1 other: tries used up
+within a limit: eight: 100+8=0 / 400+8=0: --max 255 OUT 1 2: 0 eight: splices 1
+above a limit, and by groups: eight: 100+8=0 / 400+8=0: --max 254 OUT 1 2: 0 eight: by groups 1
 its progress: eight: 100+8=0 / 400+8=0: --tries 2 --progress OUT 1 2: 1 other: 2 tries, 0 files
 many files: sixteen: 40+1=165 112+1=165 184+1=165 256+1=165 328+1=165 400+1=165 472+1=165 / 76+1=165 148+1=165 220+1=165 292+1=165 \
 364+1=165 436+1=165: OUT 1 2: 1 other: tries used up";
@@ -88,14 +90,18 @@ fn row_of(text: &str) -> Option<Row<'_>> {
 
 /// How a run ended.
 #[derive(Drop)]
-struct Ending {
-    status: u8,
-    report: Vec<u8>,
-    faults: Vec<u8>,
+pub(crate) struct Ending {
+    pub status: u8,
+    pub report: Vec<u8>,
+    pub faults: Vec<u8>,
 }
 
 /// Runs the program with the words of a line behind its name.
-fn run_line(alloc: Global, line: &str, files: &mut MemoryFiles<'_>) -> Result<Ending, AllocError> {
+pub(crate) fn run_line(
+    alloc: Global,
+    line: &str,
+    files: &mut MemoryFiles<'_>,
+) -> Result<Ending, AllocError> {
     let words = words_of(alloc, line)?;
     let mut report = Vec::new(alloc);
     let mut faults = Vec::new(alloc);
@@ -114,7 +120,7 @@ fn run_line(alloc: Global, line: &str, files: &mut MemoryFiles<'_>) -> Result<En
 }
 
 /// Whether this line stands in a text.
-fn has_line(text: &[u8], line: &str) -> bool {
+pub(crate) fn has_line(text: &[u8], line: &str) -> bool {
     match std::str::from_utf8(text) {
         Ok(text) => text.lines().any(|found| found == line),
         Err(_) => false,

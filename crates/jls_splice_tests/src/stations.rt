@@ -35,7 +35,7 @@ fn outcome_of(alloc: Global, copies: &[&[u8]]) -> Result<Settled, Fail> {
         return Err(Fail::from("no copy, or too many bytes"));
     }
     parts_can_be_searched();
-    let found = search_copies(alloc, copies, 4096)?;
+    let found = search_copies(alloc, copies, None, 4096)?;
     let files = Files {
         copies,
         parts: &found.parts,

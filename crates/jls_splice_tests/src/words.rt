@@ -31,8 +31,10 @@ pub(crate) fn words_of(alloc: Global, line: &str) -> Result<Vec<String>, AllocEr
 const PLAIN: Options<'static> = Options {
     source: None,
     tries: 4096,
+    ceiling: None,
     progress: false,
     file: None,
+    files: None,
 };
 
 #[test]
@@ -40,13 +42,15 @@ fn words_are_read(rt: HostRuntime) -> Result<(), Fail> {
     let all = Options {
         source: Some(4_294_967_295),
         tries: 1,
+        ceiling: Some(65_535),
         progress: true,
         file: Some("mended.jls"),
+        files: Some("all"),
     };
     let rows = [
         ("OUT 1 2 3", PLAIN),
         (
-            "--source=4294967295 --tries 1 OUT 1 --progress 2 3 --file mended.jls",
+            "--source=4294967295 --tries 1 OUT 1 --progress 2 --files=all 3 --max 65535 --file mended.jls",
             all,
         ),
     ];
@@ -74,9 +78,16 @@ fn words_are_refused(rt: HostRuntime) -> Result<(), Fail> {
         "OUT 1",
         "--tries 0 OUT 1 2",
         "--tries 4294967296 OUT 1 2",
+        "--max 65536 OUT 1 2",
+        "--max -1 OUT 1 2",
+        "--max x OUT 1 2",
+        "--max 1 --max 2 OUT 1 2",
+        "OUT 1 2 --max",
         "--source -1 OUT 1 2",
         "--source 4294967296 OUT 1 2",
         "--file OUT 1 2 --file",
+        "--files OUT 1 2 --files",
+        "--files A --files B OUT 1 2",
         "--groups OUT 1 2",
     ];
     for line in rows {

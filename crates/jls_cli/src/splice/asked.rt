@@ -14,10 +14,14 @@ pub struct Options<'a> {
     pub source: Option<u32>,
     /// How many prefixes and files each search tries at most: at least 1.
     pub tries: u32,
+    /// The ceiling, if one is given: only files whose samples are at most this are searched for.
+    pub ceiling: Option<u16>,
     /// Whether each search tells how far it is.
     pub progress: bool,
     /// The name of the file to which the mended file goes, if one is given.
     pub file: Option<&'a str>,
+    /// What the names of the files begin with to which each file without a fault goes, if that is asked for.
+    pub files: Option<&'a str>,
 }
 
 /// The output, and the copies to splice, of which there are two or more.
@@ -50,6 +54,16 @@ fn tries_number(value: &str) -> Option<u32>
     }
 }
 
+/// A ceiling of samples.
+fn ceiling_number(value: &str) -> Option<u16>
+    ensures { result ≡ number_in 0 65535 value.now }
+{
+    match value.parse::<u16>() {
+        Ok(number) => Some(number),
+        Err(_) => None,
+    }
+}
+
 /// Whether a flag has the value that it gets where it is given.
 fn is_set(value: Option<&str>) -> bool
     ensures { result ≡ spec.is_set (option_map (λ s. s.now) value.entry) }
@@ -63,24 +77,33 @@ fn is_set(value: Option<&str>) -> bool
 fn options_of<'a>(
     source: Option<&str>,
     tries: Option<&str>,
+    ceiling: Option<&str>,
     progress: Option<&str>,
     file: Option<&'a str>,
+    files: Option<&'a str>,
 ) -> Option<Options<'a>>
     ensures { option_map options_in result
         ≡ spec.options_of (option_map (λ s. s.now) source.entry) (option_map (λ s. s.now) tries.entry)
-        (option_map (λ s. s.now) progress.entry) (option_map (λ s. s.now) file.entry) }
+        (option_map (λ s. s.now) ceiling.entry) (option_map (λ s. s.now) progress.entry) (option_map (λ s. s.now) file.entry)
+        (option_map (λ s. s.now) files.entry) }
 {
     let source = match source {
         Some(value) => Some(source_number(value)?),
         None => None,
     };
     let tries = tries_number(tries?)?;
+    let ceiling = match ceiling {
+        Some(value) => Some(ceiling_number(value)?),
+        None => None,
+    };
     let progress = is_set(progress);
     Some(Options {
         source,
         tries,
+        ceiling,
         progress,
         file,
+        files,
     })
 }
 
@@ -115,8 +138,10 @@ pub fn asked_splice<'m, 'a>(matches: &'m ArgMatches<'a>) -> Option<Asked<'m, 'a>
     let options = options_of(
         matches.get_str("source"),
         matches.get_str("tries"),
+        matches.get_str("max"),
         matches.get_str("progress"),
         matches.get_str("file"),
+        matches.get_str("files"),
     );
     let out = matches.get_str("OUT");
     let first = matches.get_str("COPY");

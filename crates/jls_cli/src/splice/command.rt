@@ -4,7 +4,7 @@ ghost use Rattle.std.specs.Prelude.{◌≡◌, ◌⊎◌, false, [], IfOk, IfErr
 ghost use Rattle.std.specs.String.{string_bytes};
 ghost use Rattle.clap.specs.Words.{app_of, fault_of, found_of, kind_of, matches_of, rows_of, rule_of};
 ghost use Rattle.clap.specs.declared.builder.command.Command.TheViews.{out-Command};
-ghost use Rattle.jls_cli.specs.SpliceWords.{AreRefused, AreTaken, bare_app, file_rule, options_app, others_rule, progress_rule, source_rule, splice_app, tries_rule, word_rule};
+ghost use Rattle.jls_cli.specs.SpliceWords.{AreRefused, AreTaken, bare_app, ceiling_rule, file_rule, files_rule, numbers_app, options_app, others_rule, progress_rule, source_rule, splice_app, tries_rule, word_rule};
 
 use crate::splice::texts;
 use crate::version::VERSION;
@@ -50,6 +50,16 @@ fn tries<'a>(alloc: Global) -> Arg<'a>
     bounded.default_value("4096").help(texts::TRIES_HELP)
 }
 
+/// The ceiling of the samples.
+fn ceiling<'a>(alloc: Global) -> Arg<'a>
+    ensures rule { rule_of result ≡ ceiling_rule }
+    ensures local { result.global ≡ false }
+{
+    let number = Arg::new(alloc, "max").long("max").value_name("N");
+    let bounded = number.value_parser(ValueParser::unsigned(0, 65_535));
+    bounded.help(texts::CEILING_HELP)
+}
+
 /// Whether the searches tell how far they are.
 fn progress<'a>(alloc: Global) -> Arg<'a>
     ensures rule { rule_of result ≡ progress_rule }
@@ -68,6 +78,15 @@ fn file<'a>(alloc: Global) -> Arg<'a>
     name.help(texts::FILE_HELP)
 }
 
+/// What the names of the files without a fault begin with.
+fn files<'a>(alloc: Global) -> Arg<'a>
+    ensures rule { rule_of result ≡ files_rule }
+    ensures local { result.global ≡ false }
+{
+    let prefix = Arg::new(alloc, "files").long("files").value_name("PREFIX");
+    prefix.help(texts::FILES_HELP)
+}
+
 /// The command without arguments.
 fn bare<'a>(alloc: Global) -> Command<'a>
     ensures app { app_of result ≡ bare_app }
@@ -77,15 +96,25 @@ fn bare<'a>(alloc: Global) -> Command<'a>
     named.after_help(texts::NOTES).version(VERSION)
 }
 
+/// The command with the options that are numbers.
+fn with_numbers<'a>(alloc: Global) -> Result<Command<'a>, AllocError>
+    ensures app { IfOk result (λ c. app_of c ≡ numbers_app) }
+    ensures local { IfOk result (λ c. (out-Command c).has_globals ≡ false) }
+{
+    let sourced = bare(alloc).arg(source(alloc))?;
+    let bounded = sourced.arg(tries(alloc))?;
+    bounded.arg(ceiling(alloc))
+}
+
 /// The command with its options.
 fn with_options<'a>(alloc: Global) -> Result<Command<'a>, AllocError>
     ensures app { IfOk result (λ c. app_of c ≡ options_app) }
     ensures local { IfOk result (λ c. (out-Command c).has_globals ≡ false) }
 {
-    let sourced = bare(alloc).arg(source(alloc))?;
-    let bounded = sourced.arg(tries(alloc))?;
+    let bounded = with_numbers(alloc)?;
     let told = bounded.arg(progress(alloc))?;
-    told.arg(file(alloc))
+    let named = told.arg(file(alloc))?;
+    named.arg(files(alloc))
 }
 
 /// The command of the program.

@@ -16,6 +16,7 @@ It prints
   tries used up, if the search of all splices was cut off
   by groups N, if it was cut off or found no file: N groups, each between two markers, were searched;
     with ', tries used up' after it if that search was cut off
+  files N, if --files was given: N files that decode whole are written, at most 64
   no single file, if --file was given and not exactly one file decodes whole
 and then what jls-salvage show prints for OUT. If OUT is -, only the text of OUT is printed.
 
@@ -25,7 +26,7 @@ Exit status:
   2  the command line is wrong
   3  no COPY and no splice has a picture, a COPY is a partial picture, or the pictures differ in width,
      height, precision or components; OUT was not created
-  4  a COPY can't be opened or read, OUT can't be created, or a write failed
+  4  a COPY can't be opened or read, an output can't be created, or a write failed
   5  out of memory
 
 Examples:
@@ -39,11 +40,17 @@ pub(crate) const SOURCE_HELP: &str =
 pub(crate) const TRIES_HELP: &str =
     "The most prefixes and files that the search tries, 1 to 4294967295";
 
+pub(crate) const CEILING_HELP: &str =
+    "Look only for files whose samples are N or less (0 to 65535)";
+
 pub(crate) const PROGRESS_HELP: &str =
     "Prints on standard error how much was tried, after each 64 tries";
 
 pub(crate) const FILE_HELP: &str =
     "The file to write if exactly one file decodes whole: that file, byte for byte";
+
+pub(crate) const FILES_HELP: &str =
+    "What the names PREFIX-1, PREFIX-2, .. begin with: each file that decodes whole, at most 64";
 
 pub(crate) const OUT_HELP: &str =
     "The partial picture to write, created or replaced after the search; - is standard output";

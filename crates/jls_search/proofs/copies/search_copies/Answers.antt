@@ -2,6 +2,7 @@ use Rattle.std.proofs.Common.{ℕ, ◌<◌, List, length, sym, subst}
 use Rattle.jls_diff.proofs.Slices.{count_of_slices}
 use Rattle.jls_diff.specs.Parts.{Part}
 use Rattle.jls_diff.specs.PartsOf.{bytes_of, parts_of}
+use Rattle.jls_search.specs.Faultless.{IsSought}
 use Rattle.jls_search.specs.Search.{CameTo, IsShort, lists_of}
 use Rattle.jls_search.proofs.copies.search_copies.Goals as goal
 
@@ -16,5 +17,5 @@ search-requires-clause-short c =
 pub returns-clause-searched : goal.returns-clause-searched
 returns-clause-searched c =
     let found = c.in_ok-searched.searched in
-    subst (λ ps. CameTo (parts_of ps) (lists_of found.splices.items) found.is_used_up) c.deref.ensures.value
+    subst (λ ps. CameTo (IsSought c.args.ceiling) (parts_of ps) (lists_of found.splices.items) found.is_used_up) c.deref.ensures.value
     (record { files = c.in_ok-searched.ensures.files; all = c.in_ok-searched.ensures.all })

@@ -1,8 +1,9 @@
-use Rattle.std.proofs.Common.{◌≡◌, ℕ, true, false, List, length, take, drop, Some, Vec, Global, ap, sym, ◌∙◌, subst, arith, length-append, inl, inr}
+use Rattle.std.proofs.Common.{◌≡◌, ℕ, false, List, length, take, drop, Some, Vec, Global, ap, sym, ◌∙◌, subst, arith, length-append, inl, inr}
 use Rattle.std.specs.List.{AllByRecursion}
 use Rattle.jls_diff.specs.Parts.{AreParts}
 use Rattle.jls_diff.specs.PartsOf.{bytes_of, parts_of}
 use Rattle.jls_search.specs.Choices.{IsWhole}
+use Rattle.jls_search.specs.Faultless.{IsSought}
 use Rattle.jls_search.specs.Search.{lists_of}
 use Rattle.jls_diff.specs.Groups.{CoverParts, IsGroup}
 use Rattle.jls_search.specs.Found.{AreGroupTries, IsFound, by_groups_of}
@@ -16,7 +17,7 @@ returns-then-not-wants-clause-found c =
     let vs = c.args.found.searched.splices.items in
     let at : c.len-whole.result ≡ length vs = c.len-whole.ensures ∙ c.args.found.searched.splices.ok.0 in
     let no = c.wants_groups-wants.ensures.no c.if-not-wants.true in
-    found_whole (bytes_of c.args.copies.now) (parts_of c.args.found.parts.items) vs c.len-whole.result c.args.found.searched.is_used_up
+    found_whole c.args.found.ceiling (bytes_of c.args.copies.now) (parts_of c.args.found.parts.items) vs c.len-whole.result c.args.found.searched.is_used_up
     c.requires.parts c.requires.searched at no.0 no.1
 
 pub returns-then-not-wants-clause-splices : goal.returns-then-not-wants-clause-splices
@@ -32,7 +33,7 @@ returns-then-not-wants-clause-kept c =
 
 pub returns-then-not-wants-clause-each : goal.returns-then-not-wants-clause-each
 returns-then-not-wants-clause-each c =
-    whole_of_found (parts_of c.args.found.parts.items) (lists_of c.args.found.searched.splices.items) c.requires.searched.files
+    whole_of_found (parts_of c.args.found.parts.items) (IsSought c.args.found.ceiling) (lists_of c.args.found.searched.splices.items) c.requires.searched.files
 
 pub search_groups-requires-clause-parts : goal.search_groups-requires-clause-parts
 search_groups-requires-clause-parts c =
@@ -54,13 +55,13 @@ returns-clause-found c =
     let groups = subst (λ qs. AllByRecursion (IsGroup (parts_of qs)) by.groups.items) c.deref.ensures.value e.groups in
     let cover = subst (λ qs. CoverParts (parts_of qs) by.groups.items) c.deref.ensures.value e.cover in
     let each = subst (λ qs. AllByRecursion (IsOfGroup (parts_of qs)) (lists_of by.searched.splices.items)) c.deref.ensures.value e.splices in
-    subst (λ (xs : List (Vec ℕ Global)). IsFound (bytes_of c.args.copies.now) (record {
+    subst (λ (xs : List (Vec ℕ Global)). IsFound c.args.found.ceiling (bytes_of c.args.copies.now) (record {
       parts = ps;
       choices = take n (lists_of xs);
       is_used_up = used;
       by_groups = Some (by_groups_of (drop n (lists_of xs)) told);
     })) (sym c.in_ok-append.ensures.items)
-    (found_groups (bytes_of c.args.copies.now) ps vs n used c.requires.parts c.requires.searched at by.searched.splices.items by.groups.items told
+    (found_groups c.args.found.ceiling (bytes_of c.args.copies.now) ps vs n used c.requires.parts c.requires.searched at by.searched.splices.items by.groups.items told
     needed groups cover count each)
 
 pub returns-clause-of_groups : goal.returns-clause-of_groups
@@ -87,7 +88,7 @@ returns-clause-each c =
     let more = c.in_ok-by.by.searched.splices.items in
     let each = subst (λ qs. AllByRecursion (IsOfGroup (parts_of qs)) (lists_of more)) c.deref.ensures.value c.in_ok-by.ensures.splices in
     subst (λ (xs : List (Vec ℕ Global)). AllByRecursion (IsWhole ps) (lists_of xs)) (sym c.in_ok-append.ensures.items)
-    (whole_of_both ps vs more c.requires.searched.files each)
+    (whole_of_both ps (IsSought c.args.found.ceiling) vs more c.requires.searched.files each)
 
 pub returns-clause-kept : goal.returns-clause-kept
 returns-clause-kept c =

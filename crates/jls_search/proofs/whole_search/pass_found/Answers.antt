@@ -3,18 +3,20 @@ use Rattle.std.specs.List.{Contains}
 use Rattle.jls_diff.specs.PartsOf.{parts_of}
 use Rattle.jls_diff.specs.Parts.{Part}
 use Rattle.jls_search.specs.Order.{IsBehind}
+use Rattle.jls_search.specs.Faultless.{IsSought}
 use Rattle.jls_search.specs.Search.{MakeFiles, lists_of}
 use Rattle.jls_search.proofs.Searching.{turned_on, turned_step, found_behind, files_more, on_ok}
 use Rattle.jls_search.proofs.whole_search.pass_found.Goals as goal
 
 pub returns-clause-next : goal.returns-clause-next
-returns-clause-next c =
+returns-clause-next c = λ ceiling stands sought.
+    let Sought : List ℕ → Type 0 = IsSought ceiling in
     let ps : List Part = parts_of c.args.parts.now in let path : List ℕ = c.args.path.now.items in let next : List ℕ = c.turn.new.path.items in
     let F : List (List ℕ) = lists_of c.args.found.now.items in let M : List (List ℕ) = lists_of c.take_found.new.found.items in
     let E : M ≡ F ++ path ∷ [] = c.in_ok-take_found.ensures ∙ ap (λ p. F ++ p ∷ []) c.deref.ensures.value in
-    turned_on ps path next F c.requires.stands M
-    (subst (MakeFiles ps) (sym E) (files_more ps path F c.requires.stands.files c.requires.stands.is_path c.requires.whole c.requires.faultless))
-    (λ choices file. subst (λ fs. Contains fs choices ⊎ IsBehind path choices) (sym E) (found_behind ps path next F c.requires.stands c.requires.whole choices file))
+    turned_on Sought ps path next F stands M
+    (subst (MakeFiles Sought ps) (sym E) (files_more Sought ps path F stands.files stands.is_path c.requires.whole sought))
+    (λ choices file. subst (λ fs. Contains fs choices ⊎ IsBehind path choices) (sym E) (found_behind Sought ps path next F stands c.requires.whole choices file))
     c.turn.result c.turn.ensures.path c.turn.ensures.front c.turn.ensures.to_come c.turn.ensures.none
 
 pub returns-clause-count : goal.returns-clause-count

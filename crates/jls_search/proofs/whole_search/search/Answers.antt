@@ -1,15 +1,23 @@
-use Rattle.std.proofs.Common.{◌≡◌, ℕ, length, Vec, Global, sym, ap, ◌∙◌, arith, inl, inr}
+use Rattle.std.proofs.Common.{ℕ, length, Vec, Global, sym, subst, ap, ◌∙◌, arith, inl, inr}
 use Rattle.jls_diff.specs.PartsOf.{parts_of}
-use Rattle.jls_search.specs.Search.{lists_of}
+use Rattle.jls_search.specs.Faultless.{IsSought}
+use Rattle.jls_search.specs.Search.{HasEachSplice, MakeFiles, files_of, lists_of}
 use Rattle.jls_search.proofs.Paths.{length-map}
 use Rattle.jls_search.proofs.Walks.{used_up}
 use Rattle.jls_search.proofs.whole_search.search.Goals as goal
 
 pub returns-clause-files : goal.returns-clause-files
-returns-clause-files c = (c.into_searched.ensures.came_to (parts_of c.args.parts.now) c.in_ok-go_on.ensures.stands).files
+returns-clause-files c =
+    let came = c.into_searched.ensures.came_to (parts_of c.args.parts.now) c.in_ok-go_on.ensures.stands in
+    subst (λ ceiling. MakeFiles (IsSought ceiling) (parts_of c.args.parts.now) (lists_of c.into_searched.result.splices.items))
+    (c.in_ok-go_on.ensures.went.ceiling ∙ c.in_ok-begun.ensures.ceiling) came.files
 
 pub returns-clause-all : goal.returns-clause-all
-returns-clause-all c = (c.into_searched.ensures.came_to (parts_of c.args.parts.now) c.in_ok-go_on.ensures.stands).all
+returns-clause-all c = λ enough.
+    let came = c.into_searched.ensures.came_to (parts_of c.args.parts.now) c.in_ok-go_on.ensures.stands in
+    let parts = parts_of c.args.parts.now in
+    subst (λ ceiling. HasEachSplice (IsSought ceiling) parts (files_of parts (lists_of c.into_searched.result.splices.items)))
+    (c.in_ok-go_on.ensures.went.ceiling ∙ c.in_ok-begun.ensures.ceiling) (came.all enough)
 
 pub returns-clause-used_up : goal.returns-clause-used_up
 returns-clause-used_up c = λ yes.
@@ -40,6 +48,7 @@ returns-clause-tried c =
     let same = c.into_searched.ensures in
     record {
       begun = c.in_ok-begun.begun;
+      ceiling_is = c.in_ok-begun.ensures.ceiling;
       is_begun = c.in_ok-begun.ensures.untried;
       stands = c.in_ok-begun.ensures.stands;
       last = c.go_on.new.self;

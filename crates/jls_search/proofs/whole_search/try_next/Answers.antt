@@ -3,6 +3,7 @@ use Rattle.std.proofs.Common.{◌≡◌, ℕ, ◌+◌, ◌<◌, ◌≤◌, List,
 use Rattle.jls_diff.specs.PartsOf.{parts_of}
 use Rattle.jls_diff.specs.Parts.{Part}
 use Rattle.jls_search.specs.Choices.{IsPath}
+use Rattle.jls_search.specs.Faultless.{IsSought}
 use Rattle.jls_search.specs.Search.{IsKept, IsSeen, Keeps, lists_of}
 use Rattle.jls_search.specs.declared.looking.Sight.{Sight}
 use Rattle.jls_search.specs.declared.looking.Sight.TheVariants.{Dead, Open, Found}
@@ -12,8 +13,9 @@ use Rattle.jls_search.proofs.Paths.{length-map}
 use Rattle.jls_search.proofs.Searching.{descended, turned_on, turned_step, dead_behind, on_ok}
 use Rattle.jls_search.proofs.whole_search.try_next.Goals as goal
 
-seen : (ps : List Part) (path there : List ℕ) (sight is : Sight) → there ≡ path → sight ≡ is → IsSeen ps there sight → IsSeen ps path is
-seen ps path there sight is e f h = subst (IsSeen ps path) f (subst (λ p. IsSeen ps p sight) e h)
+seen : (Sought : List ℕ → Type 0) (ps : List Part) (path there : List ℕ) (sight is : Sight) → there ≡ path → sight ≡ is
+    → IsSeen Sought ps there sight → IsSeen Sought ps path is
+seen Sought ps path there sight is e f h = subst (IsSeen Sought ps path) f (subst (λ p. IsSeen Sought ps p sight) e h)
 
 pub look-requires : goal.look-requires
 look-requires c = record {
@@ -25,18 +27,23 @@ look-requires c = record {
 pub descend-requires : goal.descend-requires
 descend-requires c =
     let more : length c.args.path.now.items < length (parts_of c.args.parts.now) =
-    (seen (parts_of c.args.parts.now) c.args.path.now.items c.deref.result.now c.in_ok-sight.sight (Open c.in-Open.reader) c.deref.ensures.value c.in-Open.is c.in_ok-sight.ensures).0 in
+    (seen (IsSought c.args.judge.now.ceiling) (parts_of c.args.parts.now) c.args.path.now.items c.deref.result.now c.in_ok-sight.sight (Open c.in-Open.reader) c.deref.ensures.value c.in-Open.is c.in_ok-sight.ensures).0 in
     record { path = c.requires.stands.is_path; more = rw length-map at more; some_way = c.requires.some_way }
 
 pub returns-in_ok-descend-in-Open-clause-next : goal.returns-in_ok-descend-in-Open-clause-next
 returns-in_ok-descend-in-Open-clause-next c =
-    descended (parts_of c.args.parts.now) c.args.path.now.items c.descend.new.path.items (lists_of c.args.found.now.items) c.requires.stands
+    descended (IsSought c.args.judge.now.ceiling) (parts_of c.args.parts.now) c.args.path.now.items c.descend.new.path.items (lists_of c.args.found.now.items) c.requires.stands
     c.in_ok-descend-in-Open.ensures.path c.in_ok-descend-in-Open.ensures.front c.in_ok-descend-in-Open.ensures.kept
 
 pub pass_found-requires : goal.pass_found-requires
 pass_found-requires c =
-    let r = seen (parts_of c.args.parts.now) c.args.path.now.items c.deref.result.now c.in_ok-sight.sight Found c.deref.ensures.value c.in-Found.is c.in_ok-sight.ensures in
-    record { stands = c.requires.stands; whole = r.0; faultless = r.1 }
+    let r = seen (IsSought c.args.judge.now.ceiling) (parts_of c.args.parts.now) c.args.path.now.items c.deref.result.now c.in_ok-sight.sight Found c.deref.ensures.value c.in-Found.is c.in_ok-sight.ensures in
+    record { is_path = c.requires.stands.is_path; whole = r.0 }
+
+pub returns-in-Found-clause-next : goal.returns-in-Found-clause-next
+returns-in-Found-clause-next c =
+    let r = seen (IsSought c.args.judge.now.ceiling) (parts_of c.args.parts.now) c.args.path.now.items c.deref.result.now c.in_ok-sight.sight Found c.deref.ensures.value c.in-Found.is c.in_ok-sight.ensures in
+    c.pass_found.ensures.next c.args.judge.now.ceiling c.requires.stands r.1
 
 pub turn-requires : goal.turn-requires
 turn-requires c = c.requires.stands.is_path
@@ -45,8 +52,8 @@ pub returns-in-Dead-clause-next : goal.returns-in-Dead-clause-next
 returns-in-Dead-clause-next c =
     let ps : List Part = parts_of c.args.parts.now in let path : List ℕ = c.args.path.now.items in let next : List ℕ = c.turn.new.path.items in
     let F : List (List ℕ) = lists_of c.args.found.now.items in
-    turned_on ps path next F c.requires.stands F c.requires.stands.files
-    (dead_behind ps path next F c.requires.stands (seen ps path c.deref.result.now c.in_ok-sight.sight Dead c.deref.ensures.value c.in-Dead.is c.in_ok-sight.ensures))
+    turned_on (IsSought c.args.judge.now.ceiling) ps path next F c.requires.stands F c.requires.stands.files
+    (dead_behind (IsSought c.args.judge.now.ceiling) ps path next F c.requires.stands (seen (IsSought c.args.judge.now.ceiling) ps path c.deref.result.now c.in_ok-sight.sight Dead c.deref.ensures.value c.in-Dead.is c.in_ok-sight.ensures))
     c.turn.result c.turn.ensures.path c.turn.ensures.front c.turn.ensures.to_come c.turn.ensures.none
 
 pub returns-in-Dead-clause-count : goal.returns-in-Dead-clause-count
@@ -67,12 +74,12 @@ returns-in_ok-descend-in-Open-clause-kept c =
     let ps : List Part = parts_of c.args.parts.now in
     let path : List ℕ = c.args.path.now.items in
     let reader = c.in-Open.reader in
-    let fed = (seen ps path c.deref.result.now c.in_ok-sight.sight (Open reader) c.deref.ensures.value c.in-Open.is c.in_ok-sight.ensures).1 in
-    still_kept ps c.args.kept.now c.keep.new.kept reader path c.requires.kept fed
-    (subst (λ p. Keeps c.args.kept.now reader p c.keep.new.kept) c.deref-in-Open.ensures.value c.in_ok-keep-in-Open.ensures)
+    let fed = (seen (IsSought c.args.judge.now.ceiling) ps path c.deref.result.now c.in_ok-sight.sight (Open reader) c.deref.ensures.value c.in-Open.is c.in_ok-sight.ensures).1 in
+    still_kept ps c.args.judge.now.kept c.keep.new.kept reader path c.requires.kept fed
+    (subst (λ p. Keeps c.args.judge.now.kept reader p c.keep.new.kept) c.deref-in-Open.ensures.value c.in_ok-keep-in-Open.ensures)
 
 pub returns-in-Found-clause-kept : goal.returns-in-Found-clause-kept
-returns-in-Found-clause-kept c = anyway c.pass_found.result (IfSome c.args.kept.now (IsKept (parts_of c.args.parts.now))) c.requires.kept
+returns-in-Found-clause-kept c = anyway c.pass_found.result (IfSome c.args.judge.now.kept (IsKept (parts_of c.args.parts.now))) c.requires.kept
 
 pub returns-in-Dead-clause-kept : goal.returns-in-Dead-clause-kept
-returns-in-Dead-clause-kept c = anyway c.turn.result (IfSome c.args.kept.now (IsKept (parts_of c.args.parts.now))) c.requires.kept
+returns-in-Dead-clause-kept c = anyway c.turn.result (IfSome c.args.judge.now.kept (IsKept (parts_of c.args.parts.now))) c.requires.kept

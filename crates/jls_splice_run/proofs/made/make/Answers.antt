@@ -9,6 +9,7 @@ use Rattle.jls_splice_run.proofs.Rounds.{none_told}
 use Rattle.jls_splice_run.specs.Copies.{bytes_read}
 use Rattle.jls_search.specs.Found.{IsFound, found_of, splices_in}
 use Rattle.jls_splice_run.specs.Making.{AreTextsOf, AreTries, CantMake, HoldsMade, IsPictureOf, IsUnsettled, files_taken, made_of}
+use Rattle.jls_splice_run.specs.Listing.{AreNamedAsked}
 use Rattle.jls_splice_run.specs.Single.{IsSingleAsked}
 use Rattle.jls_splice_run.specs.Tasks.{task_of}
 use Rattle.jls_splice_run.proofs.made.make.Goals as goal
@@ -37,8 +38,8 @@ returns-in-Err-settle-clause-stopped g c =
     let searched : bytes_of c.deref.result.now ≡ bytes_read copies = ap bytes_of c.deref.ensures.value ∙ c.in-Ok.ensures in
     let splices : files_of (parts_of c.deref-3.result.now) (lists_of c.deref-4.result.now) ≡ splices_in (found_of found) =
     (λ i. files_of (parts_of (c.deref-3.ensures.value i)) (lists_of (c.deref-4.ensures.value i))) ∙ c.in-Ok-search.ensures.splices in
-    let is_found = subst (λ (xs : List (List ℕ)). IsFound xs (found_of found)) searched c.in-Ok-search.ensures.found in
-    let tries : AreTries a.options.tries (found_of found) found.tries = record {
+    let is_found = subst (λ (xs : List (List ℕ)). IsFound a.options.ceiling xs (found_of found)) searched c.in-Ok-search.ensures.found in
+    let tries : AreTries a.options.ceiling a.options.tries (found_of found) found.tries = record {
       tried = c.in-Ok-search.ensures.tried;
       within = c.in-Ok-search.ensures.few;
       used_up = c.in-Ok-search.ensures.used_up;
@@ -76,11 +77,12 @@ returns-in-Ok-texts_of-clause-made g c =
     (λ events lines. (
       m,
       record {
-        is_found = subst (λ (xs : List (List ℕ)). IsFound xs (found_of found)) searched c.in-Ok-search.ensures.found;
+        is_found = subst (λ (xs : List (List ℕ)). IsFound a.options.ceiling xs (found_of found)) searched c.in-Ok-search.ensures.found;
         are_tries = record { tried = c.in-Ok-search.ensures.tried; within = c.in-Ok-search.ensures.few; used_up = c.in-Ok-search.ensures.used_up; of_groups = c.in-Ok-search.ensures.of_groups };
         is_picture = subst (λ (q : PartialPicture). IsPictureOf a.options.source copies (splices_in (found_of found)) q) (sym c.partial.ensures)
             (subst (λ (xs : List (List ℕ)). IsPictureOf a.options.source copies xs c.in-Ok-settle.station) splices c.in-Ok-settle.ensures.settled);
         is_single = subst (λ (xs : List (List ℕ)). IsSingleAsked a.options.file (files_taken xs (found_of found)) m.single) told c.in-Ok-texts_of.ensures.single;
+        are_named = subst (λ (xs : List (List ℕ)). AreNamedAsked a.options.files (files_taken xs (found_of found)) m.files) told c.in-Ok-texts_of.ensures.named;
       },
       subst (λ (xs : List (List ℕ)). AreTextsOf a xs m v) told c.in-Ok-texts_of.ensures.texts,
       lines,

@@ -40,9 +40,9 @@ returns-clause-tried g c =
     let found = c.in_ok-found.found in
     let more = c.in_ok-more.more in
     let e = c.in_ok-more.ensures in
-    subst (λ ps. WereTried (parts_of ps) more.tries (found_of more).choices) (sym e.parts_kept)
-    (subst (λ (n : ℕ). WereTried (parts_of found.parts.items) n (found_of more).choices) (sym e.tries)
-    (subst (λ (xs : List (List ℕ)). WereTried (parts_of found.parts.items) found.searched.tries xs) (sym e.kept) c.in_ok-found.ensures.tried))
+    subst (λ ps. WereTried c.args.options.ceiling (parts_of ps) more.tries (found_of more).choices) (sym e.parts_kept)
+    (subst (λ (n : ℕ). WereTried c.args.options.ceiling (parts_of found.parts.items) n (found_of more).choices) (sym e.tries)
+    (subst (λ (xs : List (List ℕ)). WereTried c.args.options.ceiling (parts_of found.parts.items) found.searched.tries xs) (sym e.kept) c.in_ok-found.ensures.tried))
 
 pub returns-clause-told : goal.returns-clause-told
 returns-clause-told g c =

@@ -7,9 +7,10 @@ use Rattle.jls_report.specs.ReportText.{report_text}
 use Rattle.jls_search.specs.Search.{files_of, lists_of}
 use Rattle.jls_search.specs.Found.{found_of, splices_in}
 use Rattle.jls_splice_run.specs.Files.{count_new}
-use Rattle.jls_splice_run.specs.Making.{groups_told, lacks_single, told_lines}
+use Rattle.jls_splice_run.specs.Making.{files_told, groups_told, lacks_single, told_lines}
+use Rattle.jls_splice_run.specs.Listing.{AreNamedAsked, named_file, named_files}
 use Rattle.jls_splice_run.specs.Single.{IsSingleAsked}
-use Rattle.jls_splice_run.proofs.MakingLemmas.{lacks_maps, single_maps}
+use Rattle.jls_splice_run.proofs.MakingLemmas.{lacks_maps, single_maps, told_maps}
 use Rattle.jls_splice_run.proofs.made.texts_of.Goals as goal
 
 pub returns-clause-texts : goal.returns-clause-texts
@@ -27,12 +28,17 @@ returns-clause-texts c =
     let groups : c.groups_told.result ≡ groups_told (found_of found).by_groups = c.groups_told.ensures (drop found.whole lists) in
     let lacks : c.lacks_file.result ≡ lacks_single name single =
     c.lacks_file.ensures ∙ sym (lacks_maps (λ (s : Bor (List ℕ)). s.now) (λ (f : Vec ℕ Global). f.items) options.file file) in
+    let numbered = c.in_ok-numbered.numbered.items in
+    let files : c.files_told.result ≡ files_told (option_map (λ (s : Bor (List ℕ)). s.now) options.files) (named_files numbered) =
+    c.files_told.ensures ∙ (λ i. files_told options.files (c.deref-5.ensures.value i))
+    ∙ sym (told_maps (λ (s : Bor (List ℕ)). s.now) named_file options.files numbered) in
     record {
       lines_are = c.in_ok-lines.ensures
           ∙ (λ i. if bytes_eq c.args.task.now.out.now (codes "-") then []
-          else told_lines (parts_of (c.deref-5.ensures.value i)) (new i) found.is_used_up (groups i) (lacks i) ++ report_text (report_of c.args.partial.now));
+          else told_lines (parts_of (c.deref-6.ensures.value i)) (new i) found.is_used_up (groups i) (files i) (lacks i) ++ report_text (report_of c.args.partial.now));
       text_is = c.in_ok-text.ensures;
       file_is = refl;
+      files_are = refl;
       settled_is = c.is_settled-settled.ensures;
     }
 
@@ -46,3 +52,13 @@ returns-clause-single c =
     (λ i. files_of (parts_of (c.deref.ensures.value i)) (lists_of (c.deref-2.ensures.value i))) ∙ c.requires.splices in
     single_maps (λ (s : Bor (List ℕ)). s.now) options.file (copies ++ splices_in (found_of found)) single
     (subst (λ (xs : List (List ℕ)). IsSingleAsked options.file (copies ++ xs) single) splices c.in_ok-file.ensures)
+
+pub returns-clause-named : goal.returns-clause-named
+returns-clause-named c =
+    let found = c.args.found.now in
+    let copies = bytes_of c.args.copies.now in
+    let options = c.args.task.now.options in
+    let named = named_files c.in_ok-numbered.numbered.items in
+    let splices : files_of (parts_of c.deref.result.now) (lists_of c.deref-2.result.now) ≡ splices_in (found_of found) =
+    (λ i. files_of (parts_of (c.deref.ensures.value i)) (lists_of (c.deref-2.ensures.value i))) ∙ c.requires.splices in
+    subst (λ (xs : List (List ℕ)). AreNamedAsked (option_map (λ (s : Bor (List ℕ)). s.now) options.files) (copies ++ xs) named) splices c.in_ok-numbered.ensures

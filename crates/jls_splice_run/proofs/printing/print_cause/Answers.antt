@@ -15,6 +15,16 @@ returns-in-NotCreated g c =
     let history = g.E.Device.history in
     subst (λ (cause : Cause). GrewBy (Printed (cause_line c.args.name.now cause)) (history c.args.faults.now) (history c.print_not_created.new.faults)) (sym c.in-NotCreated.is) c.print_not_created.ensures
 
+pub returns-in-FileNotCreated : goal.returns-in-FileNotCreated
+returns-in-FileNotCreated g c =
+    let history = g.E.Device.history in
+    subst (λ (cause : Cause). GrewBy (Printed (cause_line c.args.name.now cause)) (history c.args.faults.now) (history c.print_file_not_created.new.faults)) (sym c.in-FileNotCreated.is) c.print_file_not_created.ensures
+
+pub returns-in-FileNotWritten : goal.returns-in-FileNotWritten
+returns-in-FileNotWritten g c =
+    let history = g.E.Device.history in
+    subst (λ (cause : Cause). GrewBy (Printed (cause_line c.args.name.now cause)) (history c.args.faults.now) (history c.print_file_not_written.new.faults)) (sym c.in-FileNotWritten.is) c.print_file_not_written.ensures
+
 pub returns-in-NotWritten : goal.returns-in-NotWritten
 returns-in-NotWritten g c =
     let history = g.E.Device.history in

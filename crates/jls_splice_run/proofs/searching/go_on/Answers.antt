@@ -1,4 +1,4 @@
-use Rattle.std.proofs.Common.{◌<◌, length, arith}
+use Rattle.std.proofs.Common.{◌≡◌, ◌<◌, length, arith}
 use Rattle.jls_io.specs.Event.{GrewBy}
 use Rattle.jls_io.proofs.Growing.{grew_as}
 use Rattle.jls_diff.specs.PartsOf.{parts_of}
@@ -31,6 +31,10 @@ returns-clause-told g c =
     (grew_as tells (GoesOn options old new) h h'
     (λ events told. went_on (parts_of c.args.parts.now) options old new c.next_pause-pause.result c.next_pause-pause.ensures c.requires.can c.in_ok-go_on.ensures.stops c.in_ok-go_on.ensures.went events told))
     c.tell.ensures.told
+
+pub returns-clause-ceiling : goal.returns-clause-ceiling
+returns-clause-ceiling g c =
+    on_ok_anyway c.tell.result (c.go_on.new.self.judge.ceiling ≡ c.args.walk.now.judge.ceiling) c.in_ok-go_on.ensures.went.ceiling
 
 pub returns-clause-tried : goal.returns-clause-tried
 returns-clause-tried g c =

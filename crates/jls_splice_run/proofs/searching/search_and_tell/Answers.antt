@@ -1,11 +1,12 @@
-use Rattle.std.proofs.Common.{◌≡◌, ℕ, ◌<◌, List, [], length, Vec, Global, sym, ap, ◌∙◌, subst, arith, inl, inr}
+use Rattle.std.proofs.Common.{ℕ, ◌<◌, List, length, Vec, Global, sym, ap, ◌∙◌, subst, arith, inl, inr}
 use Rattle.std.specs.List.{AllByRecursion}
 use Rattle.jls_io.specs.Event.{GrewBy}
 use Rattle.jls_io.proofs.Growing.{grew_as, grew_not}
 use Rattle.jls_diff.proofs.Slices.{count_of_slices}
 use Rattle.jls_diff.specs.PartsOf.{bytes_of, parts_of}
 use Rattle.jls_search.specs.Choices.{HasSomeWay}
-use Rattle.jls_search.specs.Search.{IsSearch, IsShort, WereTried, lists_of}
+use Rattle.jls_search.specs.Faultless.{IsSought}
+use Rattle.jls_search.specs.Search.{CameTo, IsSearch, IsShort, WereTried, lists_of}
 use Rattle.jls_search.proofs.Walks.{used_up}
 use Rattle.jls_splice_run.specs.Telling.{HasTold, IsTold, ToldSome}
 use Rattle.jls_splice_run.proofs.Rounds.{none_told, on_err_anyway}
@@ -32,8 +33,10 @@ search_parts-requires-clause-short g c =
 
 pub returns-clause-searched : goal.returns-clause-searched
 returns-clause-searched g c =
-    c.into_searched.ensures.came_to (parts_of c.in_ok-parts.parts.items)
-    (subst (λ ps. IsSearch (parts_of ps) c.in_ok-walk.walk) c.deref.ensures.value c.in_ok-walk.ensures.stands)
+    subst (λ ceiling. CameTo (IsSought ceiling) (parts_of c.in_ok-parts.parts.items) (lists_of c.into_searched.result.splices.items) c.into_searched.result.is_used_up)
+    c.in_ok-walk.ensures.ceiling
+    (c.into_searched.ensures.came_to (parts_of c.in_ok-parts.parts.items)
+    (subst (λ ps. IsSearch (parts_of ps) c.in_ok-walk.walk) c.deref.ensures.value c.in_ok-walk.ensures.stands))
 
 pub returns-clause-used_up : goal.returns-clause-used_up
 returns-clause-used_up g c = λ yes.
@@ -63,8 +66,9 @@ pub returns-clause-tried : goal.returns-clause-tried
 returns-clause-tried g c =
     let same = c.into_searched.ensures in
     let were = c.in_ok-walk.ensures.tried in
-    subst (λ ps. WereTried (parts_of ps) c.into_searched.result.tries (lists_of c.into_searched.result.splices.items)) c.deref.ensures.value (record {
+    subst (λ ps. WereTried c.args.options.ceiling (parts_of ps) c.into_searched.result.tries (lists_of c.into_searched.result.splices.items)) c.deref.ensures.value (record {
       begun = were.0;
+      ceiling_is = were.4;
       is_begun = were.1;
       stands = were.2;
       last = c.in_ok-walk.walk;

@@ -1,4 +1,4 @@
-use Rattle.std.proofs.Common.{◌≡◌, ℕ, true, false, List, [], length, sym, ap, ◌∙◌, subst, arith}
+use Rattle.std.proofs.Common.{◌≡◌, List, [], length, sym, ap, ◌∙◌, subst, arith}
 use Rattle.jls_io.specs.Event.{Event, GrewBy}
 use Rattle.jls_io.proofs.Growing.{grew_as, grew_not, grew_on}
 use Rattle.jls_diff.specs.PartsOf.{parts_of}
@@ -30,7 +30,8 @@ loop-alloc-init g c =
     let none = c.in_ok-walk.ensures.untried in
     record {
       stands = c.in_ok-walk.ensures.stands;
-      tried = (walk, none, c.in_ok-walk.ensures.stands, nothing walk);
+      ceiling = c.in_ok-walk.ensures.ceiling;
+      tried = (walk, none, c.in_ok-walk.ensures.stands, nothing walk, c.in_ok-walk.ensures.ceiling);
       told = grew_not (HasTold c.args.options walk) (g.E.Device.history c.args.faults.now)
           (begun_told c.args.options walk none.0 (ap (λ xs. length (lists_of xs)) none.1));
     }
@@ -42,11 +43,13 @@ loop-alloc-preserved g c =
     let so_far = c.loop-alloc.invariant.tried in
     record {
       stands = c.in_ok-go_on.ensures.stands;
+      ceiling = c.in_ok-go_on.ensures.ceiling ∙ c.loop-alloc.invariant.ceiling;
       tried = (
         so_far.0,
         so_far.1,
         so_far.2,
         tried_on (parts_of c.args.parts.now) so_far.0 c.loop-alloc.walk c.go_on.new.walk so_far.3 c.in_ok-go_on.ensures.tried,
+        so_far.4,
       );
       told = grew_on (HasTold c.args.options c.loop-alloc.walk) (GoesOn c.args.options c.loop-alloc.walk c.go_on.new.walk) (HasTold c.args.options c.go_on.new.walk)
           (history c.args.faults.now) (history c.loop-alloc.faults) (history c.go_on.new.faults)

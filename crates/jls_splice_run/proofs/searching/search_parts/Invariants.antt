@@ -1,4 +1,4 @@
-use Rattle.std.proofs.Common.{◌-◌}
+use Rattle.std.proofs.Common.{◌≡◌, ◌-◌}
 use Rattle.jls_io.specs.Event.{GrewBy}
 use Rattle.jls_diff.specs.PartsOf.{parts_of}
 use Rattle.jls_search.specs.Search.{IsSearch}
@@ -10,7 +10,8 @@ invariant-loop-alloc g l =
     let history = g.E.Device.history in
     record {
       stands : IsSearch (parts_of l.parts) l.walk;
-      tried : WasBegun (parts_of l.parts) l.walk;
+      ceiling : l.walk.judge.ceiling ≡ l.options.ceiling;
+      tried : WasBegun l.options.ceiling (parts_of l.parts) l.walk;
       told : GrewBy (HasTold l.options l.walk) (history l.fn.faults) (history l.faults);
     }
 

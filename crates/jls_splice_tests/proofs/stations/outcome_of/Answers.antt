@@ -1,8 +1,9 @@
-use Rattle.std.proofs.Common.{◌<◌, List, length, sym, subst, rules, Vec, Global, ℕ}
+use Rattle.std.proofs.Common.{◌<◌, List, length, sym, subst, rules, Vec, Global, ℕ, None}
 use Rattle.std.specs.Prelude.{IsTrue}
 use Rattle.std.specs.List.{AllByRecursion}
 use Rattle.jls_diff.specs.PartsOf.{parts_of}
 use Rattle.jls_search.specs.Choices.{IsWhole}
+use Rattle.jls_search.specs.Faultless.{IsSought}
 use Rattle.jls_search.specs.Search.{IsShort, lists_of}
 use Rattle.jls_search.proofs.FilesOfSearch.{whole_of_found, short_of_found}
 use Rattle.jls_splice_tests.proofs.stations.outcome_of.Goals as goal
@@ -12,7 +13,7 @@ settle_files-requires-clause-whole c =
     let found = c.in_ok-found.found in
     subst (λ ps. AllByRecursion (IsWhole (parts_of ps)) (lists_of c.deref-2.result.now)) (sym c.deref.ensures.value)
     (subst (λ (vs : List (Vec ℕ Global)). AllByRecursion (IsWhole (parts_of found.parts.items)) (lists_of vs)) (sym c.deref-2.ensures.value)
-    (whole_of_found (parts_of found.parts.items) (lists_of found.searched.splices.items) c.in_ok-found.ensures.searched.files))
+    (whole_of_found (IsSought None) (parts_of found.parts.items) (lists_of found.searched.splices.items) c.in_ok-found.ensures.searched.files))
 
 pub settle_files-requires-clause-short : goal.settle_files-requires-clause-short
 settle_files-requires-clause-short c =

@@ -1,14 +1,15 @@
-use Rattle.std.proofs.Common.{◌≡◌, ℕ, ◌<◌, ◌≤◌, Bool, true, List, refl, sym, subst, arith, inl, inr}
+use Rattle.std.proofs.Common.{◌≡◌, ℕ, Bool, true, List, refl, sym, ◌∙◌, subst, arith, inl, inr}
 use Rattle.jls_diff.specs.Parts.{Part}
 use Rattle.jls_diff.specs.PartsOf.{parts_of}
+use Rattle.jls_search.specs.Faultless.{IsSought}
 use Rattle.jls_search.specs.Search.{CanGoOn, GoesOn, StandsAt, lists_of, nothing, one_more}
 use Rattle.jls_search.specs.declared.whole_search.WholeSearch.{WholeSearch}
 use Rattle.jls_search.proofs.whole_search.WholeSearch.go_on.Goals as goal
 
 -- where it goes on, it stands at its path
-stands_at : (parts : List Part) (path : List ℕ) (found : List (List ℕ)) (more : Bool) → more ≡ true → GoesOn parts path found more
-    → StandsAt parts path found
-stands_at parts path found more e h = subst (GoesOn parts path found) e h
+stands_at : (Sought : List ℕ → Type 0) (parts : List Part) (path : List ℕ) (found : List (List ℕ)) (more : Bool) → more ≡ true
+    → GoesOn Sought parts path found more → StandsAt Sought parts path found
+stands_at Sought parts path found more e h = subst (GoesOn Sought parts path found) e h
 
 pub overflow_add-self : goal.overflow_add-self
 overflow_add-self c = (let can = c.can_go_on.ensures.0 c.loop-alloc-test.true in let below = can.1 in omega (arith, below))
@@ -17,7 +18,7 @@ pub try_next-requires-clause-stands : goal.try_next-requires-clause-stands
 try_next-requires-clause-stands c =
     let can = c.can_go_on.ensures.0 c.loop-alloc-test.true in
     let s = c.loop-alloc.self in
-    stands_at (parts_of c.args.parts.now) s.path.items (lists_of s.splices.items) s.goes_on can.0 c.loop-alloc.invariant.stands.0
+    stands_at (IsSought s.judge.ceiling) (parts_of c.args.parts.now) s.path.items (lists_of s.splices.items) s.goes_on can.0 c.loop-alloc.invariant.stands.0
 
 pub try_next-requires-clause-kept : goal.try_next-requires-clause-kept
 try_next-requires-clause-kept c = c.loop-alloc.invariant.stands.2
@@ -33,17 +34,20 @@ loop-alloc-preserved c =
     let most = count.1 in
     let files = so_far.files in
     let tries = so_far.tries in
+    let same = c.in_ok-self.ensures.ceiling in
     record {
       stands = (c.in_ok-self.ensures.next, omega (arith, few, most), c.in_ok-self.ensures.kept);
       tried = one_more c.args.self.now c.loop-alloc.self _ so_far.tried (record {
         goes_on = can.0;
         stands = (c.in_ok-self.ensures.next, omega (arith, few, most), c.in_ok-self.ensures.kept);
         counted = refl;
+        ceiling = c.in_ok-self.ensures.ceiling;
         step = c.in_ok-self.ensures.step;
       });
       tries = omega (arith, tries);
       files = omega (arith, files, least);
       within = omega (arith, below);
+      ceiling = same ∙ so_far.ceiling;
       some = inl (omega (arith, tries));
     }
 
@@ -61,6 +65,7 @@ returns-clause-went c =
       tries = so_far.tries;
       files = so_far.files;
       within = so_far.within;
+      ceiling = so_far.ceiling;
       some = λ can.
           elim so_far.some [
             | inl more ↦ more
@@ -77,5 +82,6 @@ loop-alloc-init c = record {
   tries = omega arith;
   files = omega arith;
   within = omega arith;
+  ceiling = refl;
   some = inr refl;
 }

@@ -10,6 +10,7 @@ invariant-loop-alloc l = record {
   tried : Tried (parts_of l.parts) l.fn.self l.self;
   tries : l.fn.self.tries ≤ l.self.tries;
   files : length (lists_of l.fn.self.splices.items) ≤ length (lists_of l.self.splices.items);
+  ceiling : l.self.judge.ceiling ≡ l.fn.self.judge.ceiling;
   within : l.self.tries ≤ max l.fn.self.tries l.limit;
   some : (l.fn.self.tries < l.self.tries) ⊎ (l.self ≡ l.fn.self);
 }

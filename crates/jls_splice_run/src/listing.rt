@@ -1,0 +1,128 @@
+//! The files without a fault, each once, with the names that they get.
+
+ghost use Rattle.std.specs.Prelude.{◌≡◌, ◌↔◌, ◌++◌, ◌∷◌, [], ℕ, List, IfOk, OnOk, IsTrue};
+ghost use Rattle.std.specs.List.{AllByRecursion};
+ghost use Rattle.std.specs.String.{string_bytes};
+ghost use Rattle.jls_diff.specs.PartsOf.{bytes_of, parts_of};
+ghost use Rattle.jls_search.specs.Choices.{IsWhole};
+ghost use Rattle.jls_search.specs.Search.{files_of, lists_of};
+ghost use Rattle.jls_search.specs.Files.{files_taken};
+ghost use Rattle.jls_splice_run.specs.Listing.{AreNamed, IsNumbered, is_named, named_files, numbered};
+
+use crate::files::file_of;
+use crate::single::is_copy_faultless;
+use jls_diff::Part;
+use jls_search::Files;
+use std::alloc::{AllocError, Global};
+
+/// How many files get a name at most.
+const MOST_NAMED: usize = 64;
+
+/// A file without a fault, and the name that it gets.
+#[derive(Drop)]
+pub struct NumberedFile {
+    pub name: String,
+    pub bytes: Vec<u8>,
+}
+
+/// The name of the output of a number.
+fn numbered_name(alloc: Global, prefix: &str, number: u64) -> Result<String, AllocError>
+    ensures { IfOk result (λ name. string_bytes name ≡ numbered prefix.now number) }
+{
+    format!(in alloc; "{prefix}-{number}")
+}
+
+/// Whether a name is one that an output with a number can have.
+pub(crate) fn is_numbered(alloc: Global, prefix: &str, name: &str) -> Result<bool, AllocError>
+    ensures { IfOk result (λ is. IsTrue is ↔ IsNumbered prefix.now name.now) }
+{
+    for number in 1..65 {
+        let other = numbered_name(alloc, prefix, number)?;
+        if *other == *name {
+            return Ok(true);
+        }
+    }
+    Ok(false)
+}
+
+/// Whether a file has a name already.
+fn has_name(named: &[NumberedFile], file: &[u8]) -> bool
+    ensures { result ≡ is_named (named_files named.now) file.now }
+{
+    for other in named {
+        if *other.bytes == *file {
+            return true;
+        }
+    }
+    false
+}
+
+/// One file more. It gets a name if it has no fault, and has none yet, and fewer than 64 have one.
+fn name_file(
+    alloc: Global,
+    prefix: &str,
+    named: &mut Vec<NumberedFile>,
+    file: &[u8],
+) -> Result<(), AllocError>
+    ensures { OnOk result ((files : List (List ℕ)) → AreNamed prefix.now files (named_files named.old.items)
+        → AreNamed prefix.now (files ++ file.now ∷ []) (named_files named.new.items)) }
+{
+    if named.len() >= MOST_NAMED || has_name(named, file) {
+        return Ok(());
+    }
+    let faultless = is_copy_faultless(alloc, file)?;
+    if faultless {
+        let name = numbered_name(alloc, prefix, named.len() as u64 + 1)?;
+        let bytes = Vec::from_slice(alloc, file)?;
+        named.push(NumberedFile { name, bytes })?;
+    }
+    Ok(())
+}
+
+/// The copies without a fault.
+fn name_copies(
+    alloc: Global,
+    prefix: &str,
+    copies: &[&[u8]],
+) -> Result<Vec<NumberedFile>, AllocError>
+    ensures { IfOk result (λ named. AreNamed prefix.now (bytes_of copies.now) (named_files named.items)) }
+{
+    let mut named = Vec::new(alloc);
+    for copy in copies {
+        name_file(alloc, prefix, &mut named, copy)?;
+    }
+    Ok(named)
+}
+
+/// The splices without a fault, behind those that have a name. Each splice is made in memory for it, one at a time.
+fn name_splices(
+    alloc: Global,
+    prefix: &str,
+    named: &mut Vec<NumberedFile>,
+    parts: &[Part<'_>],
+    splices: &[Vec<usize>],
+) -> Result<(), AllocError>
+    requires { AllByRecursion (IsWhole (parts_of parts.now)) (lists_of splices.now) }
+    ensures { OnOk result ((files : List (List ℕ)) → AreNamed prefix.now files (named_files named.old.items)
+        → AreNamed prefix.now (files ++ files_of (parts_of parts.now) (lists_of splices.now)) (named_files named.new.items)) }
+{
+    for choices in splices {
+        let file = file_of(alloc, parts, choices)?;
+        name_file(alloc, prefix, named, &file)?;
+    }
+    Ok(())
+}
+
+/// Of the files taken those without a fault, each once, until 64 have a name.
+pub(crate) fn name_files(
+    alloc: Global,
+    prefix: &str,
+    files: &Files<'_, '_>,
+) -> Result<Vec<NumberedFile>, AllocError>
+    requires { AllByRecursion (IsWhole (parts_of files.now.parts.now)) (lists_of files.now.splices.now) }
+    ensures { IfOk result (λ named. AreNamed prefix.now (files_taken files.now) (named_files named.items)) }
+{
+    let mut named = name_copies(alloc, prefix, files.copies)?;
+    name_splices(alloc, prefix, &mut named, files.parts, files.splices)?;
+    Ok(named)
+}

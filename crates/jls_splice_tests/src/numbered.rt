@@ -1,0 +1,197 @@
+//! Runs with `--files`: which files get a name, and in which order.
+
+use crate::damage::copies_of;
+use crate::files::file_of;
+use crate::memory::MemoryFiles;
+use crate::program::{Ending, has_line, run_line};
+use std::alloc::{AllocError, Global};
+use std::process::Abort;
+use std::test::Fail;
+
+/// What is damaged in each copy of a file; the words behind the program's name; and what is to come of it.
+struct Row {
+    file: &'static str,
+    copies: &'static str,
+    words: &'static str,
+    /// What the names begin with.
+    prefix: &'static str,
+    status: u8,
+    /// The files of the first names.
+    numbered: &'static [&'static str],
+    /// How many names there are.
+    count: usize,
+    told: &'static str,
+}
+
+const ROWS: [Row; 10] = [
+    Row {
+        file: "eight",
+        copies: "100+8=0 / 400+8=0",
+        words: "--files NAME OUT 1 2",
+        prefix: "NAME",
+        status: 0,
+        numbered: &["eight"],
+        count: 1,
+        told: "files 1",
+    },
+    Row {
+        file: "eight",
+        copies: "whole / other",
+        words: "--files NAME OUT 1 2",
+        prefix: "NAME",
+        status: 1,
+        numbered: &["eight", "other"],
+        count: 2,
+        told: "files 2",
+    },
+    Row {
+        file: "eight",
+        copies: "other / 300+8=0 / whole",
+        words: "--files NAME --file SINGLE OUT 1 2 3",
+        prefix: "NAME",
+        status: 1,
+        numbered: &["other", "eight"],
+        count: 2,
+        told: "no single file",
+    },
+    Row {
+        file: "eight",
+        copies: "whole / whole",
+        words: "--files NAME OUT 1 2",
+        prefix: "NAME",
+        status: 0,
+        numbered: &["eight"],
+        count: 1,
+        told: "splices 0",
+    },
+    Row {
+        file: "eight",
+        copies: "300+8=0 / 300+8=85",
+        words: "--files NAME OUT 1 2",
+        prefix: "NAME",
+        status: 1,
+        numbered: &[],
+        count: 0,
+        told: "files 0",
+    },
+    Row {
+        file: "eight",
+        copies: "whole / other",
+        words: "--files STANDS OUT 1 2",
+        prefix: "STANDS",
+        status: 4,
+        numbered: &["eight"],
+        count: 1,
+        told: "jls-splice: STANDS-2: cannot be created",
+    },
+    Row {
+        file: "eight",
+        copies: "100+8=0 / 400+8=0",
+        words: "--files OUT OUT-64 1 2",
+        prefix: "OUT",
+        status: 2,
+        numbered: &[],
+        count: 0,
+        told: "jls-splice: OUT-64: is named as OUT and by --files",
+    },
+    Row {
+        file: "eight",
+        copies: "100+8=0 / 400+8=0",
+        words: "--files OUT OUT-0 1 2",
+        prefix: "OUT",
+        status: 0,
+        numbered: &["eight"],
+        count: 1,
+        told: "files 1",
+    },
+    Row {
+        file: "eight",
+        copies: "100+8=0 / 400+8=0",
+        words: "--files=- - 1 2",
+        prefix: "-",
+        status: 0,
+        numbered: &["eight"],
+        count: 1,
+        told: "",
+    },
+    Row {
+        file: "sixteen",
+        copies: "40+1=165 112+1=165 184+1=165 256+1=165 328+1=165 400+1=165 472+1=165 / 76+1=165 148+1=165 220+1=165 292+1=165 \
+364+1=165 436+1=165",
+        words: "--files NAME OUT 1 2",
+        prefix: "NAME",
+        status: 1,
+        numbered: &[],
+        count: 64,
+        told: "files 64",
+    },
+];
+
+/// What the output of a number took, if it was created.
+fn numbered<'f>(
+    alloc: Global,
+    files: &'f MemoryFiles<'_>,
+    prefix: &str,
+    number: usize,
+) -> Result<Option<&'f [u8]>, AllocError> {
+    let name = format!(in alloc; "{prefix}-{number}")?;
+    Ok(files.output(&name))
+}
+
+/// Whether the first names have these files.
+fn are_first(alloc: Global, row: &Row, files: &MemoryFiles<'_>) -> Result<bool, AllocError> {
+    let mut number = 0usize;
+    for name in row.numbered {
+        number = number.saturating_add(1);
+        let found = numbered(alloc, files, row.prefix, number)?;
+        let is_wanted = match (file_of(alloc, name)?, found) {
+            (Some(wanted), Some(found)) => wanted.as_slice() == found,
+            _ => false,
+        };
+        if !is_wanted {
+            return Ok(false);
+        }
+    }
+    Ok(true)
+}
+
+/// Whether there are as many names as the row says.
+fn are_all(alloc: Global, row: &Row, files: &MemoryFiles<'_>) -> Result<bool, AllocError> {
+    for number in 1..=65 {
+        let found = numbered(alloc, files, row.prefix, number)?;
+        if found.is_some() != (number <= row.count) {
+            return Ok(false);
+        }
+    }
+    Ok(true)
+}
+
+/// Whether the line of a row is printed. Nothing is, if it is empty.
+fn is_told(row: &Row, ending: &Ending) -> bool {
+    if row.told.is_empty() {
+        return ending.report.is_empty() && ending.faults.is_empty();
+    }
+    has_line(&ending.report, row.told) || has_line(&ending.faults, row.told)
+}
+
+fn check_row(rt: &impl Abort, alloc: Global, row: &Row) -> Result<(), Fail> {
+    let file = file_of(alloc, row.file)?.ok_or("no file")?;
+    let copies = copies_of(alloc, &file, row.copies)?;
+    let mut files = MemoryFiles::new(alloc, &copies);
+    let ending = run_line(alloc, row.words, &mut files)?;
+    assert_eq!(rt; ending.status, row.status, "{}", row.words);
+    let are_first = are_first(alloc, row, &files)?;
+    assert!(rt; are_first, "{}: {}", row.copies, row.words);
+    let are_all = are_all(alloc, row, &files)?;
+    assert!(rt; are_all, "{}: {}", row.copies, row.words);
+    assert!(rt; is_told(row, &ending), "{}: {}", row.copies, row.words);
+    Ok(())
+}
+
+#[test]
+fn numbers_files(rt: HostRuntime) -> Result<(), Fail> {
+    for row in &ROWS {
+        check_row(&rt, rt.alloc(), row)?;
+    }
+    Ok(())
+}
