@@ -9,8 +9,8 @@
 //! - `copies`: all copies in turn, until one is not taken
 //!
 //! Definitions: `Reading` (how an input is read), `Texts`, `Given` (what an input gives), `Inputs` and `InputFaults` (why one is refused),
-//! `TakingCopies`, `KnownCopies` (what comes of a copy of known bytes), `KnownInputs` (why an input of known bytes is refused, and how many
-//! bytes were read of a copy), `CopyFiles`. Inside the crate: `Forms`.
+//! `TakingCopies`, `CopyFiles`. Of known bytes: `KnownCopies` (what comes of a copy), `KnownInputs` (why an input is refused, and how many
+//! bytes were read of a copy). Inside the crate: `Forms`.
 #![tactic(auto)]
 
 mod copies;
