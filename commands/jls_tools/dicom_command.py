@@ -133,7 +133,7 @@ def check_words(words, programs):
         return "mend takes two copies or more"
     if words.tries is not None and words.tries < 1:
         return "--tries takes a number from 1 on"
-    if words.max is not None and "--max" not in programs.run([programs.splice_program, "--help"]).printed:
+    if words.max is not None and not programs.has_option("--max"):
         return "--max: this jls-splice does not have it"
     return None
 

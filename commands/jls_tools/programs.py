@@ -128,6 +128,10 @@ class Programs:
             raise ProgramFailed(faults.strip() or f"{name} ended with status {done.returncode}", done.returncode)
         return Outcome(done.returncode, printed, faults)
 
+    def has_option(self, option):
+        """Whether jls-splice has an option."""
+        return option in self.run([self.splice_program, "--help"]).printed
+
     def check(self, name, folder=None):
         return self.run([self.salvage, "check", name], folder)
 
