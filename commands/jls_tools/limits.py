@@ -1,7 +1,7 @@
-"""Searches with limits of samples, one after the other, if the search without a limit was cut off.
+"""Searches with limits of samples, if the search without a limit was cut off.
 
 Many files of 16 bits hold samples of 12. There a wrong way decodes on, and ends early only if the samples that it comes to are too large.
-Nobody has to know the limit: the limits are tried in turn, as long as their searches come to an end.
+Nobody has to know the limit: the greatest counts whose search comes to an end, if that finds a file.
 """
 import math
 import os
