@@ -3,7 +3,7 @@ use Rattle.std.proofs.Common.{◌≡◌, ℕ, zero, suc, ◌+◌, ◌*◌, ◌<�
 use Rattle.std.proofs.Math.Nat.{suc-mul}
 use Rattle.std.specs.List.{range_with_len, flat_map}
 use Rattle.std.proofs.lemmas.Grind.{flat_map-append}
-use Rattle.std.proofs.lemmas.List.{append-nil, append_assoc, length-append, take_at, drop_at, drop-drop, drop_all, length-map, length-take, take_all}
+use Rattle.std.proofs.lemmas.List.{append-nil, append_assoc, length-append, take_at, drop_at, drop-drop, length-map, length-take, take_all}
 use Rattle.std.proofs.lemmas.List.FromFn.{map-range_with_len_more}
 use borrow.Rule.Slice.PartMut.{put_mid}
 
@@ -35,11 +35,7 @@ length_rows f w (suc n) each =
     let all : length (flat_map f (range_with_len 0 n)) + length (f n) ≡ suc n * w = omega (arith, here, rest, product) in
     both ∙ all
 
--- the front of a list is taken by no row
-pub no_rows : {X : Type 0} (w : ℕ) (old : List X) → old ≡ drop (0 * w) old
-no_rows w old = let none : 0 ≡ 0 * w = omega arith in ap (λ n. drop n old) none
-
--- and by one row more, which is written behind those before it
+-- a list whose front is taken by so many rows, and by one row more, which is written behind those before it
 pub put_row : {X : Type 0} (f : ℕ → List X) (w k a m : ℕ) (old now new row : List X) → length (flat_map f (range_with_len 0 k)) ≡ k * w
     → now ≡ flat_map f (range_with_len 0 k) ++ drop (k * w) old → row ≡ f k → a ≡ k * w → m ≡ w → new ≡ put_mid a m now row
     → new ≡ flat_map f (range_with_len 0 (k + 1)) ++ drop ((k + 1) * w) old
@@ -53,14 +49,6 @@ put_row f w k a m old now new row long so_far is at wide put =
     put ∙ (ap (λ t. t ++ (row ++ drop m (drop a now))) before ∙ (ap (λ t. front ++ (row ++ t)) rest
     ∙ (ap (λ t. front ++ (t ++ drop ((k + 1) * w) old)) is ∙ (sym (append_assoc front (f k) (drop ((k + 1) * w) old))
     ∙ ap (λ t. t ++ drop ((k + 1) * w) old) (sym (rows_more f k))))))
-
--- and by all of them
-pub all_rows : {X : Type 0} (f : ℕ → List X) (w n k : ℕ) (old now : List X) → now ≡ flat_map f (range_with_len 0 k) ++ drop (k * w) old
-    → k ≡ n → length old ≡ n * w → now ≡ flat_map f (range_with_len 0 n)
-all_rows f w n k old now so_far all long =
-    let past : length old ≤ k * w = let same : n * w ≡ k * w = ap (λ i. i * w) (sym all) in omega (arith, same) in
-    so_far ∙ (ap (λ t. flat_map f (range_with_len 0 k) ++ t) (drop_all (k * w) old past)
-    ∙ (append-nil (flat_map f (range_with_len 0 k)) ∙ ap (λ i. flat_map f (range_with_len 0 i)) all))
 
 -- one row more, and how long they are then
 pub length_rows_more : {X : Type 0} (f : ℕ → List X) (w k : ℕ) (row : List X) → length (flat_map f (range_with_len 0 k)) ≡ k * w

@@ -39,3 +39,5 @@ pub shown_disputed : (width : ℕ) (xs : List (List ℕ)) → status_of xs ≡ D
 shown_disputed width [] e = absurd cc
 shown_disputed width (x ∷ []) e = absurd cc
 shown_disputed width (x ∷ y ∷ xs) e = refl
+
+pub ruleset line_shown = (one_reading, shown_settled, shown_missing, shown_disputed)

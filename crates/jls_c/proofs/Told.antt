@@ -46,3 +46,5 @@ kept (NoPicture f offset) old new answer is info one = absurd (omega (arith, is,
 pub refused : (fault : CopyFault) (answer : ℕ) → answer ≡ answer_of fault → (1 ≤ answer) × (answer ≤ 2)
 refused OutOfMemory answer is = (omega (arith, is), omega (arith, is))
 refused (NoPicture f offset) answer is = (omega (arith, is), omega (arith, is))
+
+pub ruleset refusals = (no_picture, kept, refused)

@@ -59,7 +59,7 @@ fn tell(alloc: Global, read: &CopyRead, info: &mut JlsInfo, pieces: &mut [JlsPie
 /// Tells what a copy says of its picture, how many of its lines it gives, and how it ended. `pieces` takes the records of the first faulty
 /// pieces, as many as there is room for, and at most 4,096. At `NO_PICTURE` `info` says why there is none. At any answer but `DONE` no
 /// piece is written, and at `OUT_OF_MEMORY` nothing at all.
-#[tactic(auto, using(crate::proofs::Told::copy_shown, crate::proofs::Told::room_short, crate::proofs::Told::checked, crate::proofs::Told::no_picture, crate::proofs::Told::kept, crate::proofs::Told::refused))]
+#[tactic(auto, using(crate::proofs::Told::checked, crate::proofs::Told::refusals))]
 #[unsafe(no_mangle)]
 pub extern "C" fn jls_check(
     alloc: Global,

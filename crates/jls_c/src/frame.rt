@@ -72,7 +72,8 @@ pub(crate) fn plan(frame: &JlsFrame, count: usize) -> Option<(Shape, Options)>
 
 /// Whether the longest restart interval has more samples than an interval may have.
 pub(crate) fn has_large_interval(shape: &Shape, options: &Options) -> bool
-    ensures { IsTrue result ↔ (2 ^ 28 < shape.now.width * components_of_scan shape.now options.now * rows_of_interval shape.now options.now) }
+    ensures { IsTrue result
+        ↔ (2 ^ 28 < shape.now.width * components_of_scan shape.now options.now * rows_of_interval shape.now options.now) }
 {
     let count = if options.line() {
         shape.ids().len() as u64

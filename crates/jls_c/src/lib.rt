@@ -6,8 +6,8 @@
 //! - `text`: partial pictures as bytes in a buffer
 //! - `frame`, `write`: samples as a JPEG-LS file
 //!
-//! Definitions: `Answers` and `PartialAnswers` have what the functions answer, in the words of `Info`, `Lines` and `TextFaults`. `Written` has what
-//! `jls_write` answers.
+//! Definitions: `Answers` and `PartialAnswers` have what the functions answer, in the words of `Info`, `Lines` and `TextFaults`. `Written`
+//! has what `jls_write` answers.
 #![tactic(auto)]
 
 mod answer;

@@ -38,7 +38,7 @@ fn put_read(alloc: Global, read: CopyRead, source: u32, info: &mut JlsInfo, out:
 /// Reads a copy, which may be damaged, and writes what it gives as a partial picture, each of its readings with this source. At `DONE`
 /// and `SHORT_ROOM` `info` is what the copy says, and `bytes` how many bytes the partial picture has. At `NO_PICTURE` it says why there
 /// is none. At any answer but `DONE` nothing is written beside `info`, and at `OUT_OF_MEMORY` nothing at all.
-#[tactic(auto, using(crate::proofs::Told::partial_made, crate::proofs::Told::partial_longer, crate::proofs::Told::no_picture, crate::proofs::Told::kept, crate::proofs::Told::refused))]
+#[tactic(auto, using(crate::proofs::Told::partial_made, crate::proofs::Told::partial_longer, crate::proofs::Told::refusals))]
 #[unsafe(no_mangle)]
 pub extern "C" fn jls_partial(
     alloc: Global,

@@ -7,7 +7,7 @@ ghost use Rattle.std.specs.Prelude.{◌≡◌, ◌<◌, ◌*◌, length};
 use jls_partial::{Partial, Status};
 
 /// Puts what is shown of a line.
-#[tactic(auto, using(crate::proofs::Shown::shown_settled, crate::proofs::Shown::shown_missing, crate::proofs::Shown::shown_disputed, crate::proofs::Shown::one_reading, crate::proofs::Sizes::reading_width))]
+#[tactic(auto, using(crate::proofs::Shown::line_shown, crate::proofs::Sizes::reading_width))]
 fn put_line(partial: &Partial, component: u8, line: u16, out: &mut [u16])
     requires component_in { component < length partial.now.shape.ids }
     requires line_in { line < partial.now.shape.height }

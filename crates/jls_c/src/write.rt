@@ -6,7 +6,7 @@ ghost use Rattle.jls_c.specs.Written.{part_at, picture_in, IsWritten, IsFileLong
 ghost use Rattle.jls_write.specs.WrittenFile.{written_file};
 ghost use Rattle.jls_write.specs.Options.{OptionsFit};
 ghost use Rattle.jls_write.specs.Picture.{line_of};
-ghost use Rattle.std.specs.Prelude.{◌≡◌, ◌<◌, ◌*◌, ◌≤◌, ◌≢◌, ℕ, length, IfOk, IsTrue};
+ghost use Rattle.std.specs.Prelude.{◌≡◌, ◌<◌, ◌*◌, ◌≤◌, ◌≢◌, ◌↔◌, ℕ, length, IfOk, IsTrue};
 
 use crate::answer::{BAD_FRAME, DONE, LARGE_INTERVAL, LARGE_SAMPLE, OUT_OF_MEMORY, SHORT_ROOM};
 use crate::frame::{JlsFrame, has_large_interval, has_large_sample, plan};
@@ -49,8 +49,8 @@ fn take_all(partial: &mut Partial, samples: &[u16]) -> Result<(), AllocError>
 fn has_component(picture: &Picture<'_>, component: u8, samples: &[u16]) -> bool
     requires component_in { component < length picture.now.shape.ids }
     requires room { length samples.now ≡ picture.now.shape.height * picture.now.shape.width }
-    ensures { IsTrue result → (line : ℕ) → line < picture.now.shape.height
-        → line_of picture.now component line ≡ part_at picture.now.shape.width samples.now line }
+    ensures { IsTrue result ↔ ((line : ℕ) → line < picture.now.shape.height
+        → line_of picture.now component line ≡ part_at picture.now.shape.width samples.now line) }
 {
     let width = usize::from(picture.shape().width());
     for line in 0..picture.shape().height() {
@@ -66,7 +66,7 @@ fn has_component(picture: &Picture<'_>, component: u8, samples: &[u16]) -> bool
 /// Whether the lines of a picture are those of these samples.
 fn has_lines(picture: &Picture<'_>, samples: &[u16]) -> bool
     requires { length samples.now ≡ sample_count picture.now.shape }
-    ensures { IsTrue result → HasLines picture.now samples.now }
+    ensures { IsTrue result ↔ HasLines picture.now samples.now }
 {
     let size = usize::from(picture.shape().height()) * usize::from(picture.shape().width());
     for component in 0..picture.shape().ids().len() as u8 {

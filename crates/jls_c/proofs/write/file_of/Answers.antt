@@ -13,7 +13,7 @@ returns-clause-fit c =
     let shape_is : c.take_all.new.partial.shape ≡ c.args.shape = c.take_all.ensures ∙ ap (λ (p : PartialPicture). p.shape) c.empty-partial.ensures in
     let same : c.in-Ok.picture ≡ picture_in c.args.shape c.args.samples.now =
     is_picture_in c.take_all.new.partial c.args.shape c.in-Ok.picture c.args.samples.now shape_is c.in-Ok.ensures.picture
-    (c.has_lines-same.ensures c.if-not-same.false) in
+    (c.has_lines-same.ensures.0 c.if-not-same.false) in
     let fit : OptionsFit c.in-Ok.picture c.args.options.now = c.fits-fits.ensures.0 c.if-not-fits.false in
     anyhow c.written.result (OptionsFit (picture_in c.args.shape c.args.samples.now) c.args.options.now)
     (subst (λ (z : WholePicture). OptionsFit z c.args.options.now) same fit)
@@ -23,5 +23,5 @@ returns-clause-file c =
     let shape_is : c.take_all.new.partial.shape ≡ c.args.shape = c.take_all.ensures ∙ ap (λ (p : PartialPicture). p.shape) c.empty-partial.ensures in
     let same : c.in-Ok.picture ≡ picture_in c.args.shape c.args.samples.now =
     is_picture_in c.take_all.new.partial c.args.shape c.in-Ok.picture c.args.samples.now shape_is c.in-Ok.ensures.picture
-    (c.has_lines-same.ensures c.if-not-same.false) in
+    (c.has_lines-same.ensures.0 c.if-not-same.false) in
     subst (λ (z : WholePicture). IfOk c.written.result (λ bytes. bytes.items ≡ written_file z c.args.options.now)) same c.written.ensures
