@@ -4,9 +4,11 @@ An object is a whole program as the toolchain compiles it. dist/SOURCES names wh
 for each program the sum of src, specs and proofs of its crates. That sum is of the lines that sha256sum prints for these files, in the
 order of their names.
 """
+import glob
 import gzip
 import hashlib
 import os
+import re
 import shutil
 import subprocess
 import sys
@@ -17,6 +19,7 @@ LIBRARY = "libjls_salvage"  # for C: its crate is a static library
 LIBRARY_CRATE = "jls_c"
 PROCESSORS = ("x86_64", "aarch64")
 PARTS = ("src", "specs", "proofs")
+VERSION = re.compile(r'const VERSION: &str = "[0-9.]+ \((.*)\)"')
 
 
 class Missing(Exception):
@@ -113,6 +116,12 @@ def sources():
         total, crates, files = sum_of(program)
         lines.append(f"{program}  {total}  {files} files of {crates} crates\n")
     return "".join(lines)
+
+
+def told():
+    """The lines of a toolchain that `--version` of the programs tells, by their sources. There is one."""
+    sources = (content(name).decode() for name in glob.glob(path("crates", "*", "src", "*.rt")))
+    return [line for source in sources for line in VERSION.findall(source)]
 
 
 def said():

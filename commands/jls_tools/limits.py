@@ -106,6 +106,4 @@ class Limited:
         for old, new in zip(best.names, names):
             if new and os.path.exists(self.path(old)):
                 os.replace(self.path(old), self.path(new))
-        outcome = best.outcome
-        outcome.report.promise = f"picture if samples are up to {best.limit}" if outcome.promises_picture else "lines"
-        return outcome
+        return best.outcome

@@ -218,7 +218,7 @@ class FrameMender:
         report = splice.report
         if splice.status == 3 or not report.width:
             return Mended(FrameResult(number, "missing", note=self.why_unread(streams[0], splice.faults)), None, others)
-        promise = report.promise or ("picture" if splice.promises_picture else "lines")
+        promise = report.promise or "lines"
         kind = self.kind_of(splice, report)
         note = ""
         if kind == "whole" and any(shares_little(stream, other) for other in streams):

@@ -84,13 +84,8 @@ class Splice(Outcome):
 
     @property
     def promises_picture(self):
-        """What the line "promise" says. Without that line: the whole search was done, and exactly one file decodes."""
-        if self.status != 0:
-            return False
-        if self.report.promise is not None:
-            return self.report.promise.split()[:1] == ["picture"]
-        cut_off = self.report.has("tries used up") or self.report.has("by groups")
-        return self.file_written and not cut_off
+        """Whether the line "promise" says so, each line is settled, and exactly one file decodes."""
+        return self.status == 0 and self.file_written and (self.report.promise or "").split()[:1] == ["picture"]
 
 
 def find(name):

@@ -35,7 +35,8 @@ const FOUR_BACK: Row = Row {
     lines: FOUR_LINES,
     begin: 0,
     has_file: false,
-    report: "differ 25 1\ndiffer 53 1\nsplices 1\npicture 4x4, 8 bits, components 1\n\
+    report: "differ 25 1\ndiffer 53 1\nsplices 1\n\
+        promise picture if each differ is true in some copy\npicture 4x4, 8 bits, components 1\n\
         settled 4, missing 0, disputed 0\n",
     faults: "",
 };
@@ -105,7 +106,8 @@ fn splice_with_numbered_files(rt: HostRuntime) {
     let row = Row {
         line: "jls-splice --files NAME OUT 1 2",
         has_file: true,
-        report: "differ 25 1\ndiffer 53 1\nsplices 1\nfiles 1\npicture 4x4, 8 bits, components 1\n\
+        report: "differ 25 1\ndiffer 53 1\nsplices 1\nfiles 1\n\
+            promise picture if each differ is true in some copy\npicture 4x4, 8 bits, components 1\n\
             settled 4, missing 0, disputed 0\n",
         ..FOUR_BACK
     };
@@ -120,7 +122,7 @@ fn splice_cut_off(rt: HostRuntime) {
         status: 1,
         lines: &[],
         report: "differ 25 1\ndiffer 53 1\nsplices 0\ntries used up\nby groups 1, tries used up\n\
-            picture 4x4, 8 bits, components 1\nsettled 0, missing 4, disputed 0\nmissing 1 0-3\n",
+            before 25\npromise lines\npicture 4x4, 8 bits, components 1\nsettled 0, missing 4, disputed 0\nmissing 1 0-3\n",
         faults: "2 tries, 0 files\n",
         ..FOUR_BACK
     };
@@ -135,7 +137,7 @@ fn splice_by_groups(rt: HostRuntime) {
         status: 1,
         lines: &[&[1]],
         begin: 1,
-        report: "differ 31 1\ndiffer 34 1\nsplices 1\nby groups 2\n\
+        report: "differ 31 1\ndiffer 34 1\nsplices 1\nby groups 2\nbefore 31\npromise lines\n\
             picture 1x2, 8 bits, components 1\nsettled 1, missing 1, disputed 0\nmissing 1 0-0\n",
         ..FOUR_BACK
     };

@@ -1,5 +1,5 @@
 -- The splices of both searches, in one list.
-use Rattle.std.proofs.Common.{◌≡◌, ◌≤◌, ℕ, Bool, true, false, List, [], ◌∷◌, Option, ◌++◌, length, take, drop, Vec, Global, Some, None, refl, sym, ap, ◌∙◌, subst, arith, inl, inr, ◌⊎◌}
+use Rattle.std.proofs.Common.{◌≡◌, ◌<◌, ℕ, Bool, true, false, List, [], ◌∷◌, Option, ◌++◌, length, take, drop, Vec, Global, Some, None, refl, sym, ap, ◌∙◌, subst, arith, inl, inr, ◌⊎◌}
 use Rattle.std.specs.List.{AllByRecursion}
 use Rattle.std.proofs.lemmas.List.{append-nil, map-append, take-append-drop}
 use Rattle.std.proofs.Math.Seq.{take-append_seam, drop-append_seam, take-length}
@@ -11,6 +11,7 @@ use Rattle.jls_search.proofs.Paths.{length-map}
 use Rattle.jls_diff.specs.Groups.{CoverParts, IsGroup}
 use Rattle.jls_diff.specs.declared.group.Group.{Group}
 use Rattle.jls_search.specs.OfGroups.{IsOfGroup}
+use Rattle.jls_search.specs.GroupTries.{AreGroupsSearched}
 use Rattle.jls_search.specs.Found.{AreGroupTries, IsFound, by_groups_of}
 use Rattle.jls_search.specs.declared.found.GroupsTold.{GroupsTold}
 
@@ -35,11 +36,14 @@ module _ (vs more : List (Vec ℕ Global)) (n : ℕ) (at : n ≡ length vs) wher
       ∙ drop-append_seam (lists_of vs) (lists_of more)
 
   -- a search by groups that found those after them
-  pub group_tries : (limit : ℕ) (told : GroupsTold) → told.tries ≤ limit → (told.is_used_up ≡ true → (told.tries ≡ limit) ⊎ (length more ≡ 64))
+  pub group_tries : (limit copies : ℕ) (told : GroupsTold) → 0 < copies
+      → AreGroupsSearched limit copies told.groups told.tries (length more) told.is_used_up
       → AreGroupTries limit (by_groups_of (drop n (lists_of (vs ++ more))) told)
-  group_tries limit told within used = record {
-    within = within;
-    used_up = λ u. elim (used u) [ inl all ↦ inl all | inr found ↦ inr (ap length back_is ∙ count_of more ∙ found) ];
+  group_tries limit copies told some searched = record {
+    copies = copies;
+    some_copy = some;
+    searched =
+        subst (λ (found : ℕ). AreGroupsSearched limit copies told.groups told.tries found told.is_used_up) (sym (ap length back_is ∙ count_of more)) searched;
   }
 
 pub all_is : (vs : List (Vec ℕ Global)) (n : ℕ) → n ≡ length vs → take n (lists_of vs) ≡ lists_of vs

@@ -16,7 +16,7 @@ pub mapped_from : {X Y : Type 0} (f : X → Y) (xs : List X) (n : ℕ) → map f
 mapped_from f xs n = ap (map f) (from_place xs n) ∙ sym (drop-map f n xs)
 
 -- what the first choices make, and what the others make of the other parts
-front_and_rest : (ps : List Part) (cs : List ℕ) (n : ℕ) → IsPath ps cs → front_of ps cs ≡ front_of ps (take n cs) ++ front_of (drop n ps) (drop n cs)
+pub front_and_rest : (ps : List Part) (cs : List ℕ) (n : ℕ) → IsPath ps cs → front_of ps cs ≡ front_of ps (take n cs) ++ front_of (drop n ps) (drop n cs)
 front_and_rest ps cs zero h = refl
 front_and_rest ps [] (suc n) h = refl
 front_and_rest [] (c ∷ cs) (suc n) h = absurd h

@@ -8,11 +8,14 @@ mod Searching
 pub mod Walks
 mod Lengths
 mod KeptReaders
+mod LevelPaths
+mod NextLevels
 pub mod FoundFiles
 mod Lists
 mod Sets
 mod Records
 mod BorderOffsets
+mod GroupSearches
 pub mod FoundMore
 pub mod NoGroups
 pub mod FilesExamples
@@ -22,3 +25,4 @@ pub mod ReadFiles
 pub mod FilesOfSearch
 pub mod SeenFiles
 pub mod TakenFiles
+mod CutFiles

@@ -96,7 +96,7 @@ front_count copies found seen are =
     sym (count_seen (bytes_of copies) (take (length copies) seen) (front_copies copies found seen are) ∙ count_of_slices copies)
 
 -- a file, and what is seen of it
-file_of : (files : List (List ℕ)) (seen : List Seen) (s : Seen) → AreSeen files seen → Contains seen s
+pub file_of : (files : List (List ℕ)) (seen : List Seen) (s : Seen) → AreSeen files seen → Contains seen s
     → (file : List ℕ) × Contains files file × IsSeen file s
 file_of [] [] s are m = absurd (none_in s m)
 file_of [] (t ∷ seen) s are m = absurd are
@@ -226,7 +226,7 @@ copy_named copies seen copy are (inr (none, zero_is)) =
 
 -- What is found ----------------------------------------------------------------------------------------------------
 
-none_faultless : (files : List (List ℕ)) (seen : List Seen) → AreSeen files seen → AllByRecursion IsNotFaultless seen → NoneIsFaultless files
+pub none_faultless : (files : List (List ℕ)) (seen : List Seen) → AreSeen files seen → AllByRecursion IsNotFaultless seen → NoneIsFaultless files
 none_faultless files seen are none file m f =
     let s = seen_of files seen file are m in faulty_seen file s.0 s.2 (all_at IsNotFaultless seen s.0 none s.1) f
 

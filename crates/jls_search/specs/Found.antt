@@ -1,5 +1,5 @@
 -- What was found in some copies: by the search of all splices, and by groups where that was cut off or came to nothing.
-use Rattle.std.specs.Prelude.{◌≡◌, ◌≤◌, ℕ, ◌↔◌, Bool, true, List, [], ◌++◌, length, take, drop, Option, Some, None, IsSome, IfSome, option_map, ◌⊎◌}
+use Rattle.std.specs.Prelude.{◌≡◌, ◌<◌, ℕ, ◌↔◌, Bool, true, List, [], ◌++◌, length, take, drop, Option, Some, None, IsSome, IfSome, option_map, ◌⊎◌}
 use Rattle.std.specs.List.{AllByRecursion}
 use Rattle.jls_diff.specs.Parts.{Part, AreParts}
 use Rattle.jls_diff.specs.PartsOf.{parts_of}
@@ -7,6 +7,7 @@ use Rattle.jls_search.specs.Faultless.{IsSought}
 use Rattle.jls_search.specs.Search.{CameTo, files_of, lists_of}
 use Rattle.jls_diff.specs.Groups.{CoverParts, IsGroup}
 use Rattle.jls_search.specs.OfGroups.{IsOfGroup}
+use Rattle.jls_search.specs.GroupTries.{AreGroupsSearched}
 use Rattle.jls_diff.specs.declared.group.Group.{Group}
 use Rattle.jls_search.specs.declared.found.GroupsTold.{GroupsTold}
 use Rattle.jls_search.specs.declared.found.FoundSplices.{FoundSplices}
@@ -35,10 +36,12 @@ pub record IsByGroups (parts : List Part) (b : ByGroups) : Type 0 where
   pub count_is : b.groups ≡ length groups
   pub each : AllByRecursion (IsOfGroup parts) b.choices
 
--- a search by groups tried so much at most; and where it was cut off, it tried all of that, or it found 64 splices
+-- a search by groups tried each group so often at most, with each of some copies outside of it. What it tells of its tries, of its splices
+-- and of whether it was cut off is so
 pub record AreGroupTries (limit : ℕ) (b : ByGroups) : Type 0 where
-  pub within : b.tries ≤ limit
-  pub used_up : b.is_used_up ≡ true → (b.tries ≡ limit) ⊎ (length b.choices ≡ 64)
+  pub copies : ℕ
+  pub some_copy : 0 < copies
+  pub searched : AreGroupsSearched limit copies b.groups b.tries (length b.choices) b.is_used_up
 
 -- a search over these copies, for files under the ceiling, found it; groups, which have no ceiling, were searched where the search of all
 -- splices was cut off or came to nothing, and only there

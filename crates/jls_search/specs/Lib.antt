@@ -7,10 +7,13 @@ pub mod SearchLaws
 pub mod Places
 pub mod ReadsBetween
 pub mod OfGroups
+pub mod GroupTries
 pub mod Found
 pub mod Files
 pub mod Shapes
 pub mod Stations
 pub mod Settling
+pub mod Levels
+pub mod Cuts
 pub mod Seen
 pub mod Reading

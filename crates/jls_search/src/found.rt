@@ -21,7 +21,7 @@ use std::alloc::{AllocError, Global};
 pub struct GroupsTold {
     /// How many groups there are.
     pub groups: usize,
-    /// How many prefixes and files were tried.
+    /// How many prefixes and files were tried in all of them, or the greatest number of 32 bits.
     pub tries: u32,
     /// Whether the search was cut off.
     pub is_used_up: bool,
@@ -36,6 +36,8 @@ pub struct FoundSplices<'a> {
     pub splices: Vec<Vec<usize>>,
     /// How many of them the search of all came to.
     pub whole: usize,
+    /// The greatest sample that the files may have that the search of all sought, if there was a limit.
+    pub ceiling: Option<u16>,
     /// How many fronts and files the search of all tried.
     pub tries: u32,
     /// Whether the search of all was cut off.
@@ -65,8 +67,8 @@ fn told_of(by: &SearchedGroups) -> GroupsTold
     }
 }
 
-/// What the search of all splices found, and what groups give where it was cut off or came to nothing. That search has its own tries, so
-/// many at most. `Err` comes where memory is refused.
+/// What the search of all splices found, and what groups give where it was cut off or came to nothing. There each group has its own tries,
+/// so many at most. `Err` comes where memory is refused.
 pub fn complete_by_groups<'a>(
     alloc: Global,
     copies: &[&'a [u8]],
@@ -79,6 +81,7 @@ pub fn complete_by_groups<'a>(
     requires searched { CameTo (IsSought found.ceiling) (parts_of found.parts.items) (lists_of found.searched.splices.items)
         found.searched.is_used_up }
     ensures found { IfOk result (λ more. IsFound found.entry.ceiling (bytes_of copies.now) (found_of more)) }
+    ensures ceiling { IfOk result (λ more. more.ceiling ≡ found.entry.ceiling) }
     ensures parts_kept { IfOk result (λ more. more.parts.items ≡ found.entry.parts.items) }
     ensures tries { IfOk result (λ more. more.tries ≡ found.entry.searched.tries) }
     ensures used_up { IfOk result (λ more. more.is_used_up ≡ found.entry.searched.is_used_up) }
@@ -91,8 +94,8 @@ pub fn complete_by_groups<'a>(
 {
     let SearchedCopies {
         parts,
+        ceiling,
         searched,
-        ..
     } = found;
     let Searched {
         mut splices,
@@ -106,6 +109,7 @@ pub fn complete_by_groups<'a>(
             parts,
             splices,
             whole,
+            ceiling,
             tries,
             is_used_up,
             by_groups: None,
@@ -123,6 +127,7 @@ pub fn complete_by_groups<'a>(
         parts,
         splices,
         whole,
+        ceiling,
         tries,
         is_used_up,
         by_groups: Some(told),

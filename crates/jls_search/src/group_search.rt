@@ -1,17 +1,18 @@
 //! The search by groups.
 
-ghost use Rattle.std.specs.Prelude.{◌≡◌, ◌<◌, ◌≤◌, ◌⊎◌, true, length, IfOk};
+ghost use Rattle.std.specs.Prelude.{◌≡◌, ◌+◌, ◌<◌, ◌≤◌, min, length, IfOk};
 ghost use Rattle.std.specs.List.{AllByRecursion};
-ghost use Rattle.jls_diff.specs.Parts.{AreParts};
+ghost use Rattle.jls_diff.specs.Parts.{AreParts, HasWays};
 ghost use Rattle.jls_diff.specs.PartsOf.{bytes_of, parts_of};
 ghost use Rattle.jls_search.specs.SearchLaws.{AreShort};
 ghost use Rattle.jls_search.specs.Search.{IsShort, lists_of};
 ghost use Rattle.jls_diff.specs.Groups.{CoverParts, IsGroup};
 ghost use Rattle.jls_search.specs.OfGroups.{IsOfGroup, IsSetting};
+ghost use Rattle.jls_search.specs.GroupTries.{AreGroupsSearched, GoesThrough, GoesThroughCopies};
 
 use crate::choosing::follow;
 use crate::laws::parts_can_be_searched;
-use crate::order::settings_of;
+use crate::order::groups_in_order;
 use crate::setting::Setting;
 use crate::trying::try_next;
 use crate::whole_search::{MOST_FOUND, Searched};
@@ -27,8 +28,26 @@ pub struct SearchedGroups {
     pub searched: Searched,
 }
 
+/// How many splices a search by groups finds at most, of all groups.
+pub const MOST_BY_GROUPS: usize = 4096;
+
+/// How many copies there are, and how often each group is tried at most.
+#[derive(Clone, Copy)]
+struct Extent {
+    copies: usize,
+    limit: u32,
+}
+
+/// How many splices there are at most when one copy more was gone through behind so many.
+fn most_behind(found: usize) -> usize
+    requires { found ≤ 4096 }
+    ensures { result ≡ min (found + 64) 4096 }
+{
+    (found + MOST_FOUND).min(MOST_BY_GROUPS)
+}
+
 /// Goes on with one group, with one copy outside of it.
-fn search_group(
+fn search_setting(
     alloc: Global,
     parts: &[Part<'_>],
     setting: Setting,
@@ -38,27 +57,26 @@ fn search_group(
     requires setting { IsSetting (parts_of parts.now) setting }
     requires short { IsShort (parts_of parts.now) }
     requires splices { AllByRecursion (IsOfGroup (parts_of parts.now)) (lists_of searched.splices.items) }
-    requires few { (searched.tries ≤ limit) × (length searched.splices.items ≤ 64) }
+    requires few { (searched.tries ≤ limit) × (length searched.splices.items ≤ 4096) }
     ensures splices { IfOk result (λ more. AllByRecursion (IsOfGroup (parts_of parts.now)) (lists_of more.splices.items)) }
-    ensures used_up { IfOk result
-        (λ more. more.is_used_up ≡ true → (more.tries ≡ limit) ⊎ (length more.splices.items ≡ 64)) }
-    ensures few { IfOk result (λ more. (more.tries ≤ limit) × (length more.splices.items ≤ 64)) }
+    ensures goes { IfOk result (λ more. GoesThrough limit searched more) }
 {
     let Searched {
         mut splices,
         mut tries,
-        ..
+        is_used_up,
     } = searched;
+    let most = most_behind(splices.len());
     let mut path = Vec::new(alloc);
     follow(parts, setting, &mut path)?;
-    while tries < limit && splices.len() < MOST_FOUND {
+    while tries < limit && splices.len() < most {
         tries += 1;
         let more = try_next(alloc, parts, setting, &mut path, &mut splices)?;
         if !more {
             return Ok(Searched {
                 splices,
                 tries,
-                is_used_up: false,
+                is_used_up,
             });
         }
     }
@@ -69,30 +87,54 @@ fn search_group(
     })
 }
 
-/// Searches these groups in turn.
-fn search_settings(
+/// Goes on with one group, which was not tried, with each copy outside of it.
+fn search_group(
     alloc: Global,
     parts: &[Part<'_>],
-    settings: &[Setting],
-    limit: u32,
+    group: Group,
+    extent: Extent,
+    mut searched: Searched,
 ) -> Result<Searched, AllocError>
-    requires settings { AllByRecursion (IsSetting (parts_of parts.now)) settings.now }
+    requires ways { AllByRecursion (HasWays extent.copies) (parts_of parts.now) }
+    requires group { IsGroup (parts_of parts.now) group }
+    requires short { IsShort (parts_of parts.now) }
+    requires splices { AllByRecursion (IsOfGroup (parts_of parts.now)) (lists_of searched.splices.items) }
+    requires untried { searched.tries ≡ 0 }
+    requires few { length searched.splices.items ≤ 4096 }
+    ensures splices { IfOk result (λ more. AllByRecursion (IsOfGroup (parts_of parts.now)) (lists_of more.splices.items)) }
+    ensures goes { IfOk result (λ more. GoesThroughCopies extent.limit extent.copies searched more) }
+{
+    for copy in 0..extent.copies {
+        let setting = Setting { group, copy };
+        searched = search_setting(alloc, parts, setting, extent.limit, searched)?;
+    }
+    Ok(searched)
+}
+
+/// Searches these groups in turn. Each is tried anew.
+fn search_in_turn(
+    alloc: Global,
+    parts: &[Part<'_>],
+    groups: &[Group],
+    extent: Extent,
+) -> Result<Searched, AllocError>
+    requires ways { AllByRecursion (HasWays extent.copies) (parts_of parts.now) }
+    requires groups { AllByRecursion (IsGroup (parts_of parts.now)) groups.now }
     requires short { IsShort (parts_of parts.now) }
     ensures splices { IfOk result (λ searched. AllByRecursion (IsOfGroup (parts_of parts.now)) (lists_of searched.splices.items)) }
-    ensures used_up { IfOk result
-        (λ searched. searched.is_used_up ≡ true → (searched.tries ≡ limit) ⊎ (length searched.splices.items ≡ 64)) }
-    ensures few { IfOk result (λ searched. (searched.tries ≤ limit) × (length searched.splices.items ≤ 64)) }
+    ensures tries { IfOk result (λ searched. AreGroupsSearched extent.limit extent.copies (length groups.now)
+        searched.tries (length searched.splices.items) searched.is_used_up) }
 {
     let mut searched = Searched {
         splices: Vec::new(alloc),
         tries: 0,
         is_used_up: false,
     };
-    for setting in settings {
-        if searched.is_used_up {
-            return Ok(searched);
-        }
-        searched = search_group(alloc, parts, *setting, limit, searched)?;
+    for group in groups {
+        let before = searched.tries;
+        searched.tries = 0;
+        searched = search_group(alloc, parts, *group, extent, searched)?;
+        searched.tries = before.saturating_add(searched.tries);
     }
     Ok(searched)
 }
@@ -102,10 +144,11 @@ fn search_settings(
 ///
 /// In a group the search goes depth first, part by part: ways in the order of the copies, those with equal bytes once. A front is given
 /// up where the piece in hand begins in the group, or the group begins in it, and it is broken. Each front and each file that is tried
-/// counts. The reading of the copies, which orders the groups, does not.
+/// counts. The reading of the copies, which orders the groups, does not. Each group may be tried `limit` times, with all copies together.
+/// A group with one copy gives 64 files at most, and all groups 4,096.
 ///
-/// `is_used_up` says that the search ended with its tries, or with its 64th file, while there was more to try. `Err` comes where memory
-/// is refused.
+/// `is_used_up` says that somewhere the search ended with the tries of a group or with such a number of files, while there was more to
+/// try. `tries` is what was tried in all groups, or the greatest number of its type. `Err` comes where memory is refused.
 pub fn search_groups(
     alloc: Global,
     copies: &[&[u8]],
@@ -118,13 +161,16 @@ pub fn search_groups(
     ensures groups { IfOk result (λ found. AllByRecursion (IsGroup (parts_of parts.now)) found.groups.items) }
     ensures cover { IfOk result (λ found. CoverParts (parts_of parts.now) found.groups.items) }
     ensures splices { IfOk result (λ found. AllByRecursion (IsOfGroup (parts_of parts.now)) (lists_of found.searched.splices.items)) }
-    ensures used_up { IfOk result (λ found.
-        found.searched.is_used_up ≡ true → (found.searched.tries ≡ limit) ⊎ (length found.searched.splices.items ≡ 64)) }
-    ensures few { IfOk result (λ found. (found.searched.tries ≤ limit) × (length found.searched.splices.items ≤ 64)) }
+    ensures tries { IfOk result (λ found. AreGroupsSearched limit (length copies.now) (length found.groups.items)
+        found.searched.tries (length found.searched.splices.items) found.searched.is_used_up) }
 {
     parts_can_be_searched();
     let groups = find_groups(alloc, parts)?;
-    let settings = settings_of(alloc, parts, copies.len(), &groups)?;
-    let searched = search_settings(alloc, parts, &settings, limit)?;
+    let ordered = groups_in_order(alloc, parts, copies.len(), &groups)?;
+    let extent = Extent {
+        copies: copies.len(),
+        limit,
+    };
+    let searched = search_in_turn(alloc, parts, &ordered, extent)?;
     Ok(SearchedGroups { groups, searched })
 }

@@ -9,6 +9,7 @@
 //! - `kept`: the reader that a search keeps, and readers that go on from it
 //! - `looking`: what is seen of a path
 //! - `whole_search`: the search of whole files, as a value that goes on as far as its caller wants
+//! - `levels`: the search level by level, for the last level at which exactly one path lives
 //!
 //! The search by groups: splices that read between two markers, where no splice is without a fault.
 //!
@@ -16,7 +17,7 @@
 //! - `choosing`: goes through choices for such a group
 //! - `offsets`, `reading_between`: the offsets of a group in the file that choices make; whether the file decodes between them
 //! - `trying`: one try
-//! - `order`, `group_search`: all groups in turn, each with each copy
+//! - `order`, `group_search`: all groups in turn, each with each copy and with tries of its own
 //! - `found`: what both searches found
 //!
 //! The station of the files taken, which are the copies and the splices that a search found, or why there is none.
@@ -27,21 +28,24 @@
 //! - `shape_rule`: the shape that is taken, or the copy that is named
 //! - `file`, `taking`: a station takes one file; all files
 //! - `settling`: the station of the shape that is taken, or why there is none
+//! - `cut`: where all those files have a fault, a station of the cut file's shape takes it behind them
 //!
 //! Each file is decoded once. If the shape that is taken is not the first frame's, as after a damaged header, each is decoded once more.
 //!
-//! Definitions: `Choices`, `Faultless`, `Search`, `Order`; `Places`, `ReadsBetween`, `OfGroups`, `Found`; `Files`, `Shapes`, `Stations`,
-//! `Settling`. Inside the crate: `Seen`, `Reading`.
+//! Definitions: `Choices`, `Faultless`, `Search`, `Order`, `Levels`; `Places`, `ReadsBetween`, `OfGroups`, `GroupTries`, `Found`; `Files`,
+//! `Shapes`, `Stations`, `Settling`, `Cuts`. Inside the crate: `Seen`, `Reading`.
 //!
 //! Not proved:
 //!
 //! - That a search gives up choices as soon as it could. So the exact number of tries is open.
+//! - That no later level that `lone_path` comes to has one path that lives, and how many tries it makes.
 //! - How often a file is decoded.
 #![tactic(auto)]
 
 mod ceiling;
 mod choosing;
 mod copies;
+mod cut;
 mod faultless;
 mod feeding;
 mod file;
@@ -50,6 +54,7 @@ mod found;
 mod group_search;
 mod kept;
 mod laws;
+mod levels;
 mod lines;
 mod looking;
 mod offsets;
@@ -68,13 +73,15 @@ mod trying;
 mod whole_search;
 
 pub use copies::{SearchedCopies, search_copies};
+pub use cut::settle_with_cut;
 pub use faultless::{is_dead, is_faultless, is_read_faultless, is_sought};
 pub use feeding::{feed_front, reader_of, way_at};
 pub use files::Files;
 pub use found::{FoundSplices, GroupsTold, complete_by_groups};
-pub use group_search::{SearchedGroups, search_groups};
+pub use group_search::{MOST_BY_GROUPS, SearchedGroups, search_groups};
 pub use kept::{Judge, KeptReader};
 pub use laws::{parts_can_be_searched, searches_come_to_each_splice};
+pub use levels::lone_path;
 pub use path::next_way_at;
 pub use reading_between::reads_between;
 pub use settling::{Settled, settle_files};

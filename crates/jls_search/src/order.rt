@@ -1,19 +1,18 @@
 //! The order in which groups are searched.
 
-ghost use Rattle.std.specs.Prelude.{◌≡◌, ◌<◌, length, IfOk, OnOk};
+ghost use Rattle.std.specs.Prelude.{◌≡◌, length, IfOk};
 ghost use Rattle.std.specs.List.{AllByRecursion};
 ghost use Rattle.jls_diff.specs.Parts.{HasWays};
 ghost use Rattle.jls_diff.specs.PartsOf.{parts_of};
 ghost use Rattle.jls_search.specs.Choices.{IsWhole};
 ghost use Rattle.jls_search.specs.Search.{IsShort};
 ghost use Rattle.jls_diff.specs.Groups.{IsGroup};
-ghost use Rattle.jls_search.specs.OfGroups.{HasCopy, IsSetting};
+ghost use Rattle.jls_search.specs.OfGroups.{HasCopy};
 
 use crate::choosing::choice_at;
 use crate::feeding::reader_of;
 use crate::offsets::{border_offset, end_offset};
 use crate::reading_between::reads_between;
-use crate::setting::Setting;
 use jls_copy::{CopyFault, CopyRead};
 use jls_diff::{Group, Part};
 use std::alloc::{AllocError, Global};
@@ -108,75 +107,29 @@ fn groups_that_read(
     Ok(notes)
 }
 
-/// Adds a group, with each copy outside of it.
-fn add_group(
-    parts: &[Part<'_>],
-    copies: usize,
-    group: Group,
-    settings: &mut Vec<Setting>,
-) -> Result<(), AllocError>
-    requires ways { AllByRecursion (HasWays copies) (parts_of parts.now) }
-    requires group { IsGroup (parts_of parts.now) group }
-    requires settings { AllByRecursion (IsSetting (parts_of parts.now)) settings.old.items }
-    ensures { OnOk result (AllByRecursion (IsSetting (parts_of parts.now)) settings.new.items) }
-{
-    for copy in 0..copies {
-        settings.push(Setting { group, copy })?;
-    }
-    Ok(())
-}
-
-/// Of each group whether some copy reads in it, and whether those are wanted or the others.
-#[derive(Clone, Copy)]
-struct Wanted<'n> {
-    notes: &'n [bool],
-    reads: bool,
-}
-
-/// Adds the groups that are wanted.
-fn add_groups(
-    parts: &[Part<'_>],
-    copies: usize,
-    groups: &[Group],
-    wanted: Wanted<'_>,
-    settings: &mut Vec<Setting>,
-) -> Result<(), AllocError>
-    requires ways { AllByRecursion (HasWays copies) (parts_of parts.now) }
-    requires groups { AllByRecursion (IsGroup (parts_of parts.now)) groups.now }
-    requires settings { AllByRecursion (IsSetting (parts_of parts.now)) settings.old.items }
-    ensures { OnOk result (AllByRecursion (IsSetting (parts_of parts.now)) settings.new.items) }
-{
-    for number in 0..groups.len() {
-        if is_noted(wanted.notes, number) == wanted.reads {
-            add_group(parts, copies, groups[number], settings)?;
-        }
-    }
-    Ok(())
-}
-
-/// All groups, each with each copy outside of it: first those in which no copy reads, and of these and of the others each in their order.
-pub(crate) fn settings_of(
+/// All groups: first those in which no copy reads, and of these and of the others each in their order.
+pub(crate) fn groups_in_order(
     alloc: Global,
     parts: &[Part<'_>],
     copies: usize,
     groups: &[Group],
-) -> Result<Vec<Setting>, AllocError>
+) -> Result<Vec<Group>, AllocError>
     requires ways { AllByRecursion (HasWays copies) (parts_of parts.now) }
     requires short { IsShort (parts_of parts.now) }
     requires groups { AllByRecursion (IsGroup (parts_of parts.now)) groups.now }
-    ensures { IfOk result (λ settings. AllByRecursion (IsSetting (parts_of parts.now)) settings.items) }
+    ensures groups { IfOk result (λ ordered. AllByRecursion (IsGroup (parts_of parts.now)) ordered.items) }
+    ensures each { IfOk result (λ ordered. length ordered.items ≡ length groups.now) }
 {
     let notes = groups_that_read(alloc, parts, copies, groups)?;
-    let mut settings = Vec::new(alloc);
-    let unread = Wanted {
-        notes: &notes,
-        reads: false,
-    };
-    let read = Wanted {
-        notes: &notes,
-        reads: true,
-    };
-    add_groups(parts, copies, groups, unread, &mut settings)?;
-    add_groups(parts, copies, groups, read, &mut settings)?;
-    Ok(settings)
+    let mut ordered = Vec::new(alloc);
+    let mut others = Vec::new(alloc);
+    for number in 0..groups.len() {
+        if is_noted(&notes, number) {
+            others.push(groups[number])?;
+        } else {
+            ordered.push(groups[number])?;
+        }
+    }
+    ordered.append(&mut others)?;
+    Ok(ordered)
 }

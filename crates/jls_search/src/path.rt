@@ -6,6 +6,7 @@ ghost use Rattle.jls_diff.specs.PartsOf.{part_of, parts_of};
 ghost use Rattle.jls_diff.specs.Parts.{Same};
 ghost use Rattle.jls_search.specs.Choices.{IsDiffer, IsFirstWay, IsFront, IsNew, IsPath, IsWhole, HasSomeWay};
 ghost use Rattle.jls_search.specs.Order.{Goes, IsToCome, IsBehind};
+ghost use Rattle.jls_search.specs.Levels.{AreSame, IsSame};
 
 use jls_diff::Part;
 use std::alloc::AllocError;
@@ -69,6 +70,7 @@ pub fn next_way_at(parts: &[Part<'_>], place: usize, behind: usize) -> Option<us
 /// Whether all copies have the part alike.
 fn is_same(part: &Part<'_>) -> bool
     ensures same { result ≡ true → IsFirstWay (part_of part.now) 0 }
+    ensures alike { result ≡ true → IsSame (part_of part.now) }
     ensures differ { result ≡ false → IsDiffer (part_of part.now) }
 {
     match part {
@@ -81,6 +83,7 @@ fn is_same(part: &Part<'_>) -> bool
 fn is_same_at(parts: &[Part<'_>], place: usize) -> bool
     requires { place < length parts.now }
     ensures same { result ≡ true → IsFirstWay (get_or (parts_of parts.now) place (Same [])) 0 }
+    ensures alike { result ≡ true → IsSame (get_or (parts_of parts.now) place (Same [])) }
     ensures differ { result ≡ false → IsDiffer (get_or (parts_of parts.now) place (Same [])) }
 {
     is_same(&parts[place])
@@ -92,6 +95,7 @@ pub(crate) fn follow_same(parts: &[Part<'_>], path: &mut Vec<usize>) -> Result<(
     ensures path { OnOk result (IsPath (parts_of parts.now) path.new.items) }
     ensures front { OnOk result (IsFront (parts_of parts.now) path.new.items) }
     ensures grew { OnOk result ((more : List ℕ) × (path.new.items ≡ path.old.items ++ more)) }
+    ensures same { OnOk result (AreSame (parts_of parts.now) (length path.old.items) (length path.new.items)) }
     ensures kept { OnOk result
         ((choices : List ℕ) → IsWhole (parts_of parts.now) choices → IsToCome path.old.items choices → IsToCome path.new.items choices) }
 {

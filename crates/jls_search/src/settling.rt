@@ -34,7 +34,7 @@ pub enum Settled {
 
 /// The station of this shape that took the files: the one that took them as they were read, if it has the shape. Otherwise they are
 /// read again.
-fn station_of(
+pub(crate) fn station_of(
     alloc: Global,
     source: Option<u32>,
     files: &Files<'_, '_>,

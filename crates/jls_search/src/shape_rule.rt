@@ -15,7 +15,7 @@ use crate::shape_found::ShapeFound;
 use jls_values::Shape;
 
 /// The shape of the first file that has no fault.
-fn first_faultless(seen: &[Seen]) -> Option<&Shape>
+pub(crate) fn first_faultless(seen: &[Seen]) -> Option<&Shape>
     ensures some { IfSome result (λ shape. Contains seen.now (Faultless shape.now)) }
     ensures none { IfNone result (AllByRecursion IsNotFaultless seen.now) }
 {

@@ -98,7 +98,8 @@ fn try_file(
     requires whole { length path.now ≡ length (parts_of parts.now) }
     requires found { AllByRecursion (IsOfGroup (parts_of parts.now)) (lists_of found.old.items) }
     ensures found { OnOk result (AllByRecursion (IsOfGroup (parts_of parts.now)) (lists_of found.new.items)) }
-    ensures count { OnOk result (length (lists_of found.new.items) ≤ length (lists_of found.old.items) + 1) }
+    ensures count { OnOk result ((length (lists_of found.old.items) ≤ length (lists_of found.new.items))
+        × (length (lists_of found.new.items) ≤ length (lists_of found.old.items) + 1)) }
 {
     let reads = reads_in_group(alloc, parts, setting, path)?;
     if !reads {
@@ -123,7 +124,8 @@ fn try_whole(
     requires found { AllByRecursion (IsOfGroup (parts_of parts.now)) (lists_of found.old.items) }
     ensures path { IfOk result (λ more. more ≡ true → IsSet (parts_of parts.now) setting path.new.items) }
     ensures found { OnOk result (AllByRecursion (IsOfGroup (parts_of parts.now)) (lists_of found.new.items)) }
-    ensures count { OnOk result (length (lists_of found.new.items) ≤ length (lists_of found.old.items) + 1) }
+    ensures count { OnOk result ((length (lists_of found.old.items) ≤ length (lists_of found.new.items))
+        × (length (lists_of found.new.items) ≤ length (lists_of found.old.items) + 1)) }
 {
     try_file(alloc, parts, setting, path, found)?;
     let more = turn(parts, setting, path)?;
@@ -165,7 +167,8 @@ pub(crate) fn try_next(
     requires found { AllByRecursion (IsOfGroup (parts_of parts.now)) (lists_of found.old.items) }
     ensures path { IfOk result (λ more. more ≡ true → IsSet (parts_of parts.now) setting path.new.items) }
     ensures found { OnOk result (AllByRecursion (IsOfGroup (parts_of parts.now)) (lists_of found.new.items)) }
-    ensures count { OnOk result (length (lists_of found.new.items) ≤ length (lists_of found.old.items) + 1) }
+    ensures count { OnOk result ((length (lists_of found.old.items) ≤ length (lists_of found.new.items))
+        × (length (lists_of found.new.items) ≤ length (lists_of found.old.items) + 1)) }
 {
     if path.len() < parts.len() {
         let more = try_front(alloc, parts, setting, path)?;

@@ -1,10 +1,11 @@
 -- Runs that end with status 0.
-use Rattle.std.proofs.Common.{◌≡◌, ℕ, ◌<◌, Bool, true, false, List, [], ◌∷◌, ◌++◌, length, refl, subst, arith}
-use Rattle.std.specs.Prelude.{IsTrue}
+use Rattle.std.proofs.Common.{◌≡◌, ℕ, ◌<◌, ◌≤◌, Bool, true, false, List, [], ◌∷◌, ◌++◌, length, Option, Some, None, refl, subst, arith}
+use Rattle.std.specs.Prelude.{IsTrue, IfSome, if◌then◌else◌}
 use Rattle.std.specs.List.{Contains}
 use Rattle.jls_io.specs.Event.{Event}
 use Rattle.jls_station.specs.CopyFiles.{CopyBytes, AreCopiesRead}
 use Rattle.jls_partial.specs.Partial.{PartialPicture, nothing_known}
+use Rattle.jls_partial.specs.Status.{IsSettled}
 use Rattle.jls_search.specs.Faultless.{IsSought}
 use Rattle.jls_search.specs.Search.{CameTo, files_of}
 use Rattle.jls_search.specs.Found.{Found, splices_in}
@@ -18,53 +19,78 @@ use Rattle.jls_splice_run.specs.declared.outcome.Cause.{Cause}
 use Rattle.jls_splice_run.specs.declared.outcome.Cause.TheVariants as cause
 use Rattle.jls_splice_run.specs.declared.outcome.Outcome.TheVariants.{Done}
 use Rattle.jls_splice_run.specs.Copies.{bytes_read}
+use Rattle.jls_splice_run.specs.Making.{IsCut, IsMade, IsPictureOf, IsPictureOfFiles, Made, cut_file, has_some, promise_of}
+use Rattle.jls_splice_run.specs.declared.found.Promise.TheVariants.{Picture, Lines}
+use Rattle.jls_copy_laws.proofs.Members.{none_in}
 use Rattle.jls_splice_run.specs.Runs.{Performs, came_of, no_names, at_copies, not_made, not_handed, done}
 use Rattle.jls_splice_laws.specs.SplicingLaws.{SplicedCopiesGiveNoOther}
-use Rattle.jls_splice_laws.specs.RunLaws.{DidSplice, SplicedRunsGiveNoOther}
+use Rattle.jls_splice_laws.specs.RunLaws.{DidMake, IsOfEachWholeSplice, SplicedRunsGiveNoOther, SplicedRunsTakeTheCut}
 
--- a cause has another status
-not_zero : (c : Cause) → exit_status_of_cause c ≡ 0 → ⊥
-not_zero cause.NotOpened e = omega (arith, e)
-not_zero cause.PartialPicture e = omega (arith, e)
-not_zero (cause.NoPicture f offset) e = omega (arith, e)
-not_zero cause.NotRead e = omega (arith, e)
-not_zero cause.ShapeDiffers e = omega (arith, e)
-not_zero cause.NotCreated e = omega (arith, e)
-not_zero (cause.NotWritten count) e = omega (arith, e)
-not_zero (cause.FileNotCreated number) e = omega (arith, e)
-not_zero (cause.FileNotWritten number count) e = omega (arith, e)
-not_zero cause.OutOfMemory e = omega (arith, e)
+-- a cause has a status above 1
+not_done : (c : Cause) → exit_status_of_cause c ≤ 1 → ⊥
+not_done cause.NotOpened e = omega (arith, e)
+not_done cause.PartialPicture e = omega (arith, e)
+not_done (cause.NoPicture f offset) e = omega (arith, e)
+not_done cause.NotRead e = omega (arith, e)
+not_done cause.ShapeDiffers e = omega (arith, e)
+not_done cause.NotCreated e = omega (arith, e)
+not_done (cause.NotWritten count) e = omega (arith, e)
+not_done (cause.FileNotCreated number) e = omega (arith, e)
+not_done (cause.FileNotWritten number count) e = omega (arith, e)
+not_done cause.OutOfMemory e = omega (arith, e)
 
--- a run that is done ends with it only so
-is_settled : (settled whole : Bool) → exit_status (Done settled whole) ≡ 0 → IsTrue settled
-is_settled true true e = refl
-is_settled true false e = absurd (omega (arith, e))
-is_settled false true e = absurd (omega (arith, e))
-is_settled false false e = absurd (omega (arith, e))
+was_whole : (settled whole : Bool) → exit_status (Done settled whole) ≤ 1 → IsTrue whole
+was_whole settled true e = refl
+was_whole settled false e = absurd (omega (arith, e))
 
-is_whole : (settled whole : Bool) → exit_status (Done settled whole) ≡ 0 → IsTrue whole
-is_whole true true e = refl
-is_whole true false e = absurd (omega (arith, e))
-is_whole false true e = absurd (omega (arith, e))
-is_whole false false e = absurd (omega (arith, e))
-
-did : (a : Asked) (status : ℕ) (desk report faults : List Event) → Performs a status desk report faults → status ≡ 0 → DidSplice a desk report
-did a _ _ _ _ (came_of _ _ _ _ line (at_copies r desk stops) told) e = absurd (not_zero r.cause e)
-did a _ _ _ _ (came_of _ _ _ _ line (not_made r copies desk faults read cant) told) e = absurd (not_zero r.cause e)
-did a _ _ _ _ (came_of _ _ _ _ line (not_handed r copies m reading desk report faults read made tells stops) told) e = absurd (not_zero r.cause e)
-did a _ _ _ _ (came_of _ _ _ _ line (done copies m settled whole reading desk report faults read made tells handed is_set is_read) told) e = record {
+did_make : (a : Asked) (status : ℕ) (desk report faults : List Event) → Performs a status desk report faults → status ≤ 1 → DidMake a desk report
+did_make a _ _ _ _ (came_of _ _ _ _ line (at_copies r desk stops) told) e = absurd (not_done r.cause e)
+did_make a _ _ _ _ (came_of _ _ _ _ line (not_made r copies desk faults read cant) told) e = absurd (not_done r.cause e)
+did_make a _ _ _ _ (came_of _ _ _ _ line (not_handed r copies m reading desk report faults read made tells stops) told) e = absurd (not_done r.cause e)
+did_make a _ _ _ _ (came_of _ _ _ _ line (done copies m settled whole reading desk report faults read made tells handed is_set is_read) told) e = record {
   copies = copies;
   made = m;
   reading = reading;
   writing = desk;
   desk_is = refl;
   read = read;
-  whole = is_read.0 (is_whole settled whole e);
+  whole = is_read.0 (was_whole settled whole e);
   is_made = made;
-  settled = is_set.0 (is_settled settled whole e);
   handed = handed;
 }
-did a _ _ _ _ (no_names faults told) e = absurd (omega (arith, e))
+did_make a _ _ _ _ (no_names faults told) e = absurd (omega (arith, e))
+
+-- a run that is done ends with status 0 only if each line is settled
+is_settled : (settled whole : Bool) → exit_status (Done settled whole) ≡ 0 → IsTrue settled
+is_settled true true e = refl
+is_settled true false e = absurd (omega (arith, e))
+is_settled false true e = absurd (omega (arith, e))
+is_settled false false e = absurd (omega (arith, e))
+
+at_most_1 : (n : ℕ) → n ≡ 0 → n ≤ 1
+at_most_1 n e = omega (arith, e)
+
+did_settle : (a : Asked) (status : ℕ) (desk report faults : List Event) → Performs a status desk report faults → status ≡ 0
+    → (did : DidMake a desk report) × IsSettled did.made.picture
+did_settle a _ _ _ _ (came_of _ _ _ _ line (at_copies r desk stops) told) e = absurd (not_done r.cause (at_most_1 _ e))
+did_settle a _ _ _ _ (came_of _ _ _ _ line (not_made r copies desk faults read cant) told) e = absurd (not_done r.cause (at_most_1 _ e))
+did_settle a _ _ _ _ (came_of _ _ _ _ line (not_handed r copies m reading desk report faults read made tells stops) told) e =
+    absurd (not_done r.cause (at_most_1 _ e))
+did_settle a _ _ _ _ (came_of _ _ _ _ line (done copies m settled whole reading desk report faults read made tells handed is_set is_read) told) e = (
+  record {
+    copies = copies;
+    made = m;
+    reading = reading;
+    writing = desk;
+    desk_is = refl;
+    read = read;
+    whole = is_read.0 (was_whole settled whole (at_most_1 _ e));
+    is_made = made;
+    handed = handed;
+  },
+  is_set.0 (is_settled settled whole e),
+)
+did_settle a _ _ _ _ (no_names faults told) e = absurd (omega (arith, e))
 
 -- as many copies were read as there are names
 some_copy : (names : List (List ℕ)) (copies : List CopyBytes) (events : List Event) → AreCopiesRead names copies events → 0 < length names
@@ -74,28 +100,78 @@ some_copy [] (copy ∷ copies) events read some = absurd read
 some_copy (name ∷ names) [] events read some = absurd read
 some_copy (name ∷ names) (copy ∷ copies) events read some = omega arith
 
+-- a cut file is taken only where the search of all splices found nothing
+module _ (a : Asked) (copies : List (List ℕ)) (m : Made) (is : IsMade a copies m) (file : List ℕ) where
+  files_alone : (cut : Option (List ℕ)) → m.cut ≡ cut → Contains (files_of m.found.parts m.found.choices) file
+      → IsPictureOfFiles a.options.source copies (splices_in m.found) m.picture
+  files_alone None e among =
+      subst (λ (c : Option (List ℕ)). IsPictureOf a.options.source copies (splices_in m.found) (cut_file m.found c) m.picture) e is.is_picture
+  files_alone (Some path) e among =
+      let cut : IsCut m.ceiling m.found path = subst (λ (c : Option (List ℕ)). IfSome c (IsCut m.ceiling m.found)) e is.is_cut in
+      absurd (none_in file (subst (λ (xs : List (List ℕ)). Contains (files_of m.found.parts xs) file) cut.0 among))
+
+-- what the promise stands on
+promised : (ceiling limit : Option ℕ) (f : Found) (is_settled : Bool) → promise_of ceiling f is_settled ≡ Picture limit
+    → (f.is_used_up ≡ false) × (ceiling ≡ limit)
+promised ceiling limit f is_settled e = by f.is_used_up (has_some f.choices) is_settled e
+  where
+    by : (used some all : Bool) → (if used then Lines else (if some then (if all then Picture ceiling else Lines) else Lines)) ≡ Picture limit
+        → (used ≡ false) × (ceiling ≡ limit)
+    by true some all e = absurd cc
+    by false false all e = absurd cc
+    by false true false e = absurd cc
+    by false true true e = (refl, cc)
+
+module _ (are_faultless : WholeFilesAreFaultless) (never : SplicedCopiesGiveNoOther) (a : Asked) (desk report : List Event) (some : 0 < length a.copies) (d : DidMake a desk report) (settled : IsSettled d.made.picture) where
+  of_each : d.made.found.is_used_up ≡ false → IsOfEachWholeSplice d.made.ceiling (bytes_read d.copies) d.made
+  of_each enough pic is file whole within splice =
+      let copies : List (List ℕ) = bytes_read d.copies in
+      let ceiling = d.made.ceiling in
+      let f : Found = d.made.found in
+      let p : PartialPicture = d.made.picture in
+      let copy : 0 < length copies = some_copy a.copies d.copies d.reading d.read some in
+      let is_found = d.is_made.is_found in
+      let came : CameTo (IsSought ceiling) f.parts f.choices false = subst (CameTo (IsSought ceiling) f.parts f.choices) enough is_found.came_to in
+      let among : Contains (files_of f.parts f.choices) file =
+      came.all refl (length copies) copy is_found.are_parts.ways file whole.bytes splice (are_faultless pic file whole, within) in
+      let splices : splices_in f ≡ files_of f.parts f.choices = splices_of_all ceiling copies f file is_found enough among in
+      let picture : IsPictureOfFiles a.options.source copies (splices_in f) p = files_alone a copies d.made d.is_made file d.made.cut refl among in
+      never ceiling copies f.parts a.options.source p (record {
+        some_copy = copy;
+        are_parts = is_found.are_parts;
+        found = f.choices;
+        searched = came;
+        shape = p.shape;
+        shape_is = subst (λ (xs : List (List ℕ)). IsShapeTaken copies xs p.shape) splices picture.shape_is;
+        takes = subst (λ (xs : List (List ℕ)). TakesFiles a.options.source (copies ++ xs) (nothing_known p.shape) p) splices picture.union_is;
+      }) pic is file whole within splice settled
+
 pub spliced_runs_give_no_other : WholeFilesAreFaultless → SplicedCopiesGiveNoOther → SplicedRunsGiveNoOther
 spliced_runs_give_no_other are_faultless never a desk report faults some performs =
-    let d : DidSplice a desk report = did a 0 desk report faults performs refl in (
+    let h = did_settle a 0 desk report faults performs refl in
+    let d : DidMake a desk report = h.0 in
+    let each = of_each are_faultless never a desk report some d h.1 in (
       d,
-      λ enough pic is file whole within splice.
+      h.1,
+      each,
+      λ limit promises.
+          let p = promised d.made.ceiling limit d.made.found d.made.is_settled promises in
+          subst (λ (l : Option ℕ). IsOfEachWholeSplice l (bytes_read d.copies) d.made) p.1 (each p.0),
+    )
+
+pub spliced_runs_take_the_cut : SplicedRunsTakeTheCut
+spliced_runs_take_the_cut a status desk report faults performs e =
+    let d : DidMake a desk report = did_make a status desk report faults performs e in (
+      d,
+      λ path is.
+          let m : Made = d.made in
           let copies : List (List ℕ) = bytes_read d.copies in
-          let f : Found = d.made.found in
-          let p : PartialPicture = d.made.picture in
-          let copy : 0 < length copies = some_copy a.copies d.copies d.reading d.read some in
-          let is_found = d.is_made.is_found in
-          let came : CameTo (IsSought a.options.ceiling) f.parts f.choices false = subst (CameTo (IsSought a.options.ceiling) f.parts f.choices) enough is_found.came_to in
-          let among : Contains (files_of f.parts f.choices) file =
-          came.all refl (length copies) copy is_found.are_parts.ways file whole.bytes splice (are_faultless pic file whole, within) in
-          let splices : splices_in f ≡ files_of f.parts f.choices = splices_of_all a.options.ceiling copies f file is_found enough among in
-          never a.options.ceiling copies f.parts a.options.source p (record {
-            some_copy = copy;
-            are_parts = is_found.are_parts;
-            found = f.choices;
-            searched = came;
-            shape = p.shape;
-            shape_is = subst (λ (xs : List (List ℕ)). IsShapeTaken copies xs p.shape) splices d.is_made.is_picture.shape_is;
-            takes = subst (λ (xs : List (List ℕ)). TakesFiles a.options.source (copies ++ xs) (nothing_known p.shape) p) splices
-                d.is_made.is_picture.union_is;
-          }) pic is file whole within splice d.settled,
+          let cut : IsCut m.ceiling m.found path = subst (λ (c : Option (List ℕ)). IfSome c (IsCut m.ceiling m.found)) is d.is_made.is_cut in
+          record {
+            are_parts = d.is_made.is_found.are_parts;
+            is_lone = cut.1;
+            splices = splices_in m.found;
+            takes = subst (λ (c : Option (List ℕ)). IsPictureOf a.options.source copies (splices_in m.found) (cut_file m.found c) m.picture) is
+                d.is_made.is_picture;
+          },
     )

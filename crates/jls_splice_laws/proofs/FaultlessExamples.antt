@@ -36,7 +36,7 @@ file_with first second =
     ∷ 0xFF ∷ 0xDA ∷ 0 ∷ 8 ∷ 1 ∷ 1 ∷ 0 ∷ 0 ∷ 0 ∷ 0 ∷ first ∷ 0xFF ∷ 0xD0 ∷ second ∷ 0xFF ∷ 0xD9 ∷ []
 
 -- the file has the samples 0 and 255; in each copy another byte of scan data is zeroed
-abbrev file : List ℕ
+abbrev pub file : List ℕ
 file = file_with 0x80 0x40
 
 abbrev one : List ℕ
@@ -141,7 +141,7 @@ file_is_faultless = record {
 }
 
 -- and it is an undamaged file of its picture
-file_is_whole : IsWholeFile pic file
+pub file_is_whole : IsWholeFile pic file
 unfolding file_is_faultless
 file_is_whole = record {
   bytes = bytes_of_test file refl;
@@ -184,10 +184,10 @@ no_line_is_read f =
 
 -- What doesn't begin with SOI ----------------------------------------------------------------------------------------
 
-no_soi : (more : List ℕ) → IsCourse (1 ∷ more) (without_units 0 (Header fault.NoSoi 0))
+pub no_soi : (more : List ℕ) → IsCourse (1 ∷ more) (without_units 0 (Header fault.NoSoi 0))
 no_soi more = with_no_marker 1 more (λ (h : 1 ≡ 0xFF). omega (arith, h))
 
-has_fault_there : (more : List ℕ) → IsFaultless (1 ∷ more) → ⊥
+pub has_fault_there : (more : List ℕ) → IsFaultless (1 ∷ more) → ⊥
 has_fault_there more f =
     let e = one_course (1 ∷ more) f.course (without_units 0 (Header fault.NoSoi 0)) f.is_course (no_soi more) in
     subst (λ (c : Course). EndsWell c.end) e f.ends

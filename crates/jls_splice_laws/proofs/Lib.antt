@@ -3,6 +3,8 @@ mod WholeFiles
 mod Searching
 mod TakenFiles
 mod FaultlessExamples
+mod CutExamples
 pub mod HeldFiles
 pub mod SplicedCopies
+pub mod CutFiles
 pub mod DoneRuns

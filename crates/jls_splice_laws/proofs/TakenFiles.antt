@@ -18,7 +18,7 @@ use Rattle.jls_splice_laws.specs.Taken.{HasFrame, FilesTaken, SearchTaken, AreOf
 use Rattle.jls_splice_laws.proofs.WholeFiles.{whole_files_are_faultless, whole_files_survive}
 
 -- a file of the shape is among those that are taken
-kept_of_shape : (shape : PictureShape) (files more : List (List ℕ)) (file : List ℕ) → AreOfShape shape files more
+pub kept_of_shape : (shape : PictureShape) (files more : List (List ℕ)) (file : List ℕ) → AreOfShape shape files more
     → Contains files file → HasFrame shape file → Contains more file
 kept_of_shape shape _ _ file none_left c h = absurd (none_in file c)
 kept_of_shape shape _ _ file (taken f files more is rest) c h =

@@ -4,4 +4,5 @@ pub mod Searches
 pub mod Taken
 pub mod SpliceLaws
 pub mod SplicingLaws
+pub mod CutLaws
 pub mod RunLaws

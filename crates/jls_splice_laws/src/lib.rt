@@ -4,17 +4,20 @@
 //!
 //! - `searches`, `settled`: searches, and files taken
 //! - `splicing`: stations of files taken, in the words of the laws of stations and pictures
+//! - `cut`: the cut file, where no splice is a file without a fault
 //! - `runs`: runs of `jls-splice`
 //!
-//! Definitions: `WholeFiles`, `Searches`, `Taken`, `SpliceLaws`, `SplicingLaws`, `RunLaws`.
+//! Definitions: `WholeFiles`, `Searches`, `Taken`, `SpliceLaws`, `SplicingLaws`, `CutLaws`, `RunLaws`.
 #![tactic(auto)]
 
+mod cut;
 mod runs;
 mod searches;
 mod settled;
 mod splicing;
 
-pub use runs::spliced_runs_give_no_other;
+pub use cut::cut_lines_are_the_picture;
+pub use runs::{spliced_runs_give_no_other, spliced_runs_take_the_cut};
 pub use searches::searches_lose_nothing;
 pub use settled::{faultless_splices_are_taken, splices_give_no_other, whole_files_survive};
 pub use splicing::{files_are_held, spliced_copies_give_no_other};

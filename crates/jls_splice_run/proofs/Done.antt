@@ -4,6 +4,7 @@ use Rattle.std.specs.Prelude.{◌↔◌, IsTrue}
 use Rattle.std.proofs.lemmas.List.{append-nil}
 use Rattle.jls_io.specs.Event.{Event, History, GrewBy}
 use Rattle.jls_io.proofs.Growing.{grew_twice}
+use Rattle.jls_partial.specs.Status.{IsSettled}
 use Rattle.jls_station.specs.CopyFiles.{AreCopiesRead, CopyBytes}
 use Rattle.jls_cli.specs.SpliceAsking.{Asked}
 use Rattle.jls_splice_run.specs.declared.outcome.Outcome.TheVariants.{Done, Refused}
@@ -89,5 +90,5 @@ module _ (a : Asked) (desk mid new report report' faults faults' : History) wher
         faults_are = holds.grew;
         they_are = done copies made.0 v.settled whole read.events h.desk_events h.report_events holds.events read.they_are made.1 made.3
             (subst (λ (t : Texts). HandsAll t h.desk_events h.report_events) (texts_are a copies made.0 v made.2) h.they_are)
-            made.2.settled_is whole_is;
+            (subst (λ (b : Bool). IsTrue b ↔ IsSettled made.0.picture) (sym made.2.settled_is) made.1.settled) whole_is;
       }

@@ -1,13 +1,15 @@
 -- What the making of a picture needs.
-use Rattle.std.proofs.Common.{◌≡◌, ℕ, zero, suc, ◌<◌, ◌≤◌, ◌+◌, List, [], ◌∷◌, ◌++◌, length, map, take, get_or, Option, Some, None, refl, sym, ap, ◌∙◌, arith}
-use Rattle.std.specs.Prelude.{◌^◌, option_map}
+use Rattle.std.proofs.Common.{◌≡◌, ℕ, zero, suc, ◌<◌, ◌≤◌, ◌+◌, Bool, true, false, Vec, Global, List, [], ◌∷◌, ◌++◌, length, map, take, get_or, Option, Some, None, refl, sym, ap, ◌∙◌, subst, arith, inl, inr}
+use Rattle.std.specs.Prelude.{◌^◌, ◌⊎◌, IfSome, option_map, if◌then◌else◌}
 use Rattle.std.specs.List.{sum_by}
 use Rattle.std.proofs.lemmas.List.Sums.{sum_by-cons}
 use Rattle.jls_diff.specs.Parts.{AreParts, Part, Same, made, way}
 use Rattle.jls_search.proofs.Fronts.{front_more}
 use Rattle.jls_search.specs.Choices.{IsFirstWay, IsPath, front_of}
 use Rattle.jls_search.specs.SearchLaws.{AreShort}
-use Rattle.jls_splice_run.specs.Making.{files_told, lacks_single}
+use Rattle.jls_search.specs.Found.{Found}
+use Rattle.jls_splice_run.specs.Making.{files_told, has_some, lacks_single, promise_of}
+use Rattle.jls_splice_run.specs.declared.found.Promise.TheVariants.{Picture, Lines}
 use Rattle.jls_splice_run.specs.Single.{IsSingleAsked}
 
 -- each choice of a path
@@ -59,3 +61,45 @@ pub single_maps : {A B : Type 0} (f : A → B) (o : Option A) (files : List (Lis
     → IsSingleAsked o files single → IsSingleAsked (option_map f o) files single
 single_maps f None files single h = h
 single_maps f (Some name) files single h = h
+
+-- what is mapped twice
+pub mapped_twice : {A B C : Type 0} (f : B → C) (g : A → B) (x : Option A) → option_map f (option_map g x) ≡ option_map (λ a. f (g a)) x
+mapped_twice f g None = refl
+mapped_twice f g (Some x) = refl
+
+-- the promise that holds, as the code finds it
+none_taken : (xs : List (List ℕ)) (n : ℕ) → n ≡ 0 → has_some (take n xs) ≡ false
+none_taken xs n e = rw e refl
+
+some_taken : (xs : List (List ℕ)) (n : ℕ) → (n ≡ 0 → ⊥) → n ≤ length xs → has_some (take n xs) ≡ true
+some_taken xs zero some within = absurd (some refl)
+some_taken [] (suc n) some within = absurd (omega (arith, within))
+some_taken (x ∷ xs) (suc n) some within = refl
+
+module _ (ceiling : Option ℕ) (f : Found) (is_settled : Bool) where
+  pub promised : f.is_used_up ≡ false → has_some f.choices ≡ true → is_settled ≡ true → promise_of ceiling f is_settled ≡ Picture ceiling
+  promised used some all = rw (used, some, all) refl
+
+  pub not_promised : (f.is_used_up ≡ true) ⊎ ((has_some f.choices ≡ false) ⊎ (is_settled ≡ false)) → promise_of ceiling f is_settled ≡ Lines
+  not_promised = by f.is_used_up (has_some f.choices) is_settled
+    where
+      by : (used some all : Bool) → (used ≡ true) ⊎ ((some ≡ false) ⊎ (all ≡ false))
+          → (if used then Lines else (if some then (if all then Picture ceiling else Lines) else Lines)) ≡ Lines
+      by true some all h = refl
+      by false false all h = refl
+      by false true false h = refl
+      by false true true (inl e) = absurd cc
+      by false true true (inr (inl e)) = absurd cc
+      by false true true (inr (inr e)) = absurd cc
+
+-- the cut file that is taken is the one that was found
+pub cut_taken : (P : List ℕ → Type 0) (taken cut : Option (Vec ℕ Global)) → IfSome taken (λ path. cut ≡ Some path)
+    → IfSome cut (λ path. P path.items) → IfSome (option_map (λ (v : Vec ℕ Global). v.items) taken) P
+cut_taken P None cut same h = tt
+cut_taken P (Some path) cut same h = subst (λ (o : Option (Vec ℕ Global)). IfSome o (λ path. P path.items)) same h
+
+-- a path has no more choices than there are parts
+pub path_within : (ps : List Part) (cs : List ℕ) → IsPath ps cs → length cs ≤ length ps
+path_within ps [] h = omega arith
+path_within [] (c ∷ cs) h = absurd h
+path_within (p ∷ ps) (c ∷ cs) h = let r = path_within ps cs h.1 in omega (arith, r)

@@ -17,9 +17,15 @@ part_read [] i x d within is = absurd (omega (arith, within))
 part_read (p ∷ ps) zero x d within is = ap part_of (sym is)
 part_read (p ∷ ps) (suc i) x d within is = part_read ps i x d (omega (arith, within)) is
 
-parts_count : (parts : List CodePart) → length (parts_of parts) ≡ length parts
+pub parts_count : (parts : List CodePart) → length (parts_of parts) ≡ length parts
 parts_count [] = refl
 parts_count (p ∷ ps) = ap (λ n. suc n) (parts_count ps)
+
+-- what stands at a place within a list, whatever stands beyond it
+got_again : (ps : List Part) (i : ℕ) (d : Part) → i < length ps → get_or ps i d ≡ get_or ps i (get_or ps i d)
+got_again [] i d within = absurd (omega (arith, within))
+got_again (p ∷ ps) zero d within = refl
+got_again (p ∷ ps) (suc i) d within = got_again ps i d (omega (arith, within))
 
 -- the offset behind a part
 pub offset_more : (parts : List CodePart) (i : ℕ) (x : CodePart) → i < length parts → x ≡ get_or parts i x
@@ -28,6 +34,13 @@ offset_more parts i x within is =
     let count = parts_count parts in
     ap length (flat_map_take_more (way 0) (parts_of parts) i (part_of x) (omega (arith, within, count)) (sym (part_read parts i x (part_of x) within is)))
     ∙ length-append (made 0 (take i (parts_of parts))) (way 0 (part_of x))
+
+-- and of any list of parts
+pub offset_one_more : (ps : List Part) (i : ℕ) → i < length ps
+    → offset_at ps (i + 1) ≡ offset_at ps i + length (way 0 (get_or ps i (Same [])))
+offset_one_more ps i within =
+    ap length (flat_map_take_more (way 0) ps i (get_or ps i (Same [])) within (got_again ps i (Same []) within))
+    ∙ length-append (made 0 (take i ps)) (way 0 (get_or ps i (Same [])))
 
 -- no offset is beyond the first copy
 pub offset_within : (parts : List Part) (i : ℕ) → offset_at parts i ≤ length (made 0 parts)

@@ -4,9 +4,10 @@ use Rattle.std.specs.Prelude.{codes, decimal}
 use Rattle.std.proofs.lemmas.Fmt.{decimal_digit, decimal-digits_of}
 use Rattle.jls_diff.specs.Parts.{Part, Same, Differ}
 use Rattle.jls_splice_run.specs.Differences.{differences}
-use Rattle.jls_splice_run.specs.Lines.{differ_lines, files_line, found_text, groups_line, more_line, progress_line, single_line, splices_line, used_up_line}
+use Rattle.jls_splice_run.specs.Lines.{before_line, differ_lines, files_line, found_text, groups_line, more_line, progress_line, promise_line, single_line, splices_line, used_up_line}
 use Rattle.jls_splice_run.specs.declared.differences.Difference.{Difference}
-use Rattle.jls_splice_run.specs.declared.found.Found.{Found}
+use Rattle.jls_splice_run.specs.declared.found.Promise.TheVariants.{Picture, Lines}
+use Rattle.jls_splice_run.specs.declared.found.SearchReport.{SearchReport}
 
 -- the numbers in the lines
 d0 : decimal 0 ≡ codes "0"
@@ -29,6 +30,9 @@ d12 = decimal-digits_of 12 (lit< tt) (lit< tt)
 
 d128 : decimal 128 ≡ codes "128"
 d128 = decimal-digits_of 128 (lit< tt) (lit< tt)
+
+d4095 : decimal 4095 ≡ codes "4095"
+d4095 = decimal-digits_of 4095 (lit< tt) (lit< tt)
 
 -- "abXc" and "abYcZZ": one byte differs, and two stand behind the end of the first
 abbrev parts : List Part
@@ -84,30 +88,67 @@ no_files = refl
 lacking : single_line true ≡ codes "no single file\n"
 lacking = refl
 
--- all lines of a run whose searches were cut off, and of one that found all that it asked for
-abbrev cut_short : Found
+cut_at : before_line (Some (record { offset = 128; limit = None })) ≡ codes "before 128\n"
+cut_at = rw d128 refl
+
+cut_within : before_line (Some (record { offset = 12; limit = Some 4095 })) ≡ codes "before 12, samples up to 4095\n"
+cut_within = rw (d12, d4095) refl
+
+no_cut : before_line None ≡ []
+no_cut = refl
+
+picture : promise_line (Picture None) ≡ codes "promise picture if each differ is true in some copy\n"
+picture = refl
+
+picture_within : promise_line (Picture (Some 4095))
+    ≡ codes "promise picture if each differ is true in some copy and samples are up to 4095\n"
+picture_within = rw d4095 refl
+
+only_lines : promise_line Lines ≡ codes "promise lines\n"
+only_lines = refl
+
+-- all lines of a run whose searches were cut off, of one that found nothing, and of one that found all that it asked for
+abbrev cut_short : SearchReport
 cut_short = record {
-  differences = record { ref_ptr = (0, 0); now = two };
   splices = 3;
   is_used_up = true;
   by_groups = Some (record { groups = 2; is_used_up = true });
+  before = None;
   files = Some 12;
   lacks_single_file = true;
+  promise = Lines;
 }
 
-its_text : found_text cut_short
-    ≡ codes "differ 2 1\ndiffer 4 0\nsplices 3\ntries used up\nby groups 2, tries used up\nfiles 12\nno single file\n"
+its_text : found_text two cut_short
+    ≡ codes "differ 2 1\ndiffer 4 0\nsplices 3\ntries used up\nby groups 2, tries used up\nfiles 12\nno single file\npromise lines\n"
 its_text = rw (d0, d1, d2, d3, d4, d12) refl
 
-abbrev complete : Found
+abbrev before_a_place : SearchReport
+before_a_place = record {
+  splices = 0;
+  is_used_up = false;
+  by_groups = Some (record { groups = 1; is_used_up = false });
+  before = Some (record { offset = 4; limit = None });
+  files = None;
+  lacks_single_file = false;
+  promise = Lines;
+}
+
+text_before_a_place : found_text two before_a_place
+    ≡ codes "differ 2 1\ndiffer 4 0\nsplices 0\nby groups 1\nbefore 4\npromise lines\n"
+text_before_a_place = rw (d0, d1, d2, d4) refl
+
+abbrev complete : SearchReport
 complete = record {
-  differences = record { ref_ptr = (0, 0); now = two };
   splices = 1;
   is_used_up = false;
   by_groups = None;
+  before = None;
   files = None;
   lacks_single_file = false;
+  promise = Picture (Some 4095);
 }
 
-text_of_complete : found_text complete ≡ codes "differ 2 1\ndiffer 4 0\nsplices 1\n"
-text_of_complete = rw (d0, d1, d2, d4) refl
+text_of_complete : found_text two complete
+    ≡ codes "differ 2 1\ndiffer 4 0\nsplices 1\npromise picture if each differ is true in some copy and samples are up to 4095\n"
+text_of_complete = rw (d0, d1, d2, d4, d4095) refl

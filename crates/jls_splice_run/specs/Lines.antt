@@ -2,8 +2,11 @@
 use Rattle.std.specs.Prelude.{ℕ, ◌-◌, Bool, List, [], ◌++◌, Option, Some, None, codes, decimal, length, take, nat_lt, if◌then◌else◌}
 use Rattle.std.specs.List.{flat_map}
 use Rattle.jls_splice_run.specs.declared.differences.Difference.{Difference}
-use Rattle.jls_splice_run.specs.declared.found.Found.{Found}
 use Rattle.jls_splice_run.specs.declared.found.GroupSearch.{GroupSearch}
+use Rattle.jls_splice_run.specs.declared.found.CutEnd.{CutEnd}
+use Rattle.jls_splice_run.specs.declared.found.Promise.{Promise}
+use Rattle.jls_splice_run.specs.declared.found.Promise.TheVariants.{Picture, Lines}
+use Rattle.jls_splice_run.specs.declared.found.SearchReport.{SearchReport}
 
 -- the line of a difference: its offset in the first copy, and how many bytes that copy has there
 abbrev pub differ_line : Difference → List ℕ
@@ -34,6 +37,22 @@ abbrev pub groups_line : Option GroupSearch → List ℕ
 groups_line None = []
 groups_line (Some found) = codes "by groups " ++ decimal found.groups ++ groups_end found.is_used_up
 
+-- how a line ends: with the limit of samples, if there is one, after these words
+abbrev pub samples_end : List ℕ → Option ℕ → List ℕ
+samples_end words None = codes "\n"
+samples_end words (Some limit) = words ++ decimal limit ++ codes "\n"
+
+-- the line of where the cut file ends: its offset in the first copy; no line if none was taken
+abbrev pub before_line : Option CutEnd → List ℕ
+before_line None = []
+before_line (Some end) = codes "before " ++ decimal end.offset ++ samples_end (codes ", samples up to ") end.limit
+
+-- the line of the promise that holds
+abbrev pub promise_line : Promise → List ℕ
+promise_line (Picture limit) =
+    codes "promise picture if each differ is true in some copy" ++ samples_end (codes " and samples are up to ") limit
+promise_line Lines = codes "promise lines\n"
+
 -- the line of how many files have no fault; no line if they were not asked for
 abbrev pub files_line : Option ℕ → List ℕ
 files_line None = []
@@ -43,11 +62,17 @@ files_line (Some count) = codes "files " ++ decimal count ++ codes "\n"
 abbrev pub single_line : Bool → List ℕ
 single_line lacks_single_file = if lacks_single_file then codes "no single file\n" else []
 
--- all lines of what was found, in their order
-abbrev pub found_text : Found → List ℕ
-found_text f =
-    differ_lines f.differences.now ++ splices_line f.splices ++ used_up_line f.is_used_up ++ groups_line f.by_groups
-    ++ files_line f.files ++ single_line f.lacks_single_file
+-- the lines of what the searches came to, in their order
+abbrev pub search_lines : SearchReport → List ℕ
+search_lines r = splices_line r.splices ++ used_up_line r.is_used_up ++ groups_line r.by_groups
+
+-- the lines of what is made of it, in their order
+abbrev pub outcome_lines : SearchReport → List ℕ
+outcome_lines r = before_line r.before ++ files_line r.files ++ single_line r.lacks_single_file ++ promise_line r.promise
+
+-- all lines of what was found: where copies differ, what the searches came to, and what is made of it
+abbrev pub found_text : List Difference → SearchReport → List ℕ
+found_text ds report = differ_lines ds ++ search_lines report ++ outcome_lines report
 
 -- the line of how far a search is: how many prefixes and files were tried, and how many files were found
 abbrev pub progress_line : ℕ → ℕ → List ℕ

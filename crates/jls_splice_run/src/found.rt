@@ -1,6 +1,4 @@
-//! What a run found in the copies.
-
-use crate::differences::Difference;
+//! What is printed of a search.
 
 /// What the search by groups came to.
 #[derive(Clone, Copy, Debug, PartialEq, Eq)]
@@ -11,19 +9,40 @@ pub struct GroupSearch {
     pub is_used_up: bool,
 }
 
-/// What a run found in the copies, as its lines tell it.
+/// Where the cut file ends. All other choices up to there are dead.
 #[derive(Clone, Copy, Debug, PartialEq, Eq)]
-pub struct Found<'a> {
-    /// Where the copies differ, in order.
-    pub differences: &'a [Difference],
+pub struct CutEnd {
+    /// The offset in the first copy.
+    pub offset: u64,
+    /// The limit of samples of the files that were sought, if there was one.
+    pub limit: Option<u16>,
+}
+
+/// Which promise holds of OUT.
+#[derive(Clone, Copy, Debug, PartialEq, Eq)]
+pub enum Promise {
+    /// Each line of OUT is settled. All are the picture's, if the true file is a splice of the copies, and if no sample of it is above the
+    /// limit, where there is one.
+    Picture(Option<u16>),
+    /// Only what holds of each line of a `join`.
+    Lines,
+}
+
+/// What a search came to, as its lines tell it.
+#[derive(Clone, Copy, Debug, PartialEq, Eq)]
+pub struct SearchReport {
     /// How many files were taken that are no copies.
     pub splices: usize,
     /// Whether the search of all splices was cut off.
     pub is_used_up: bool,
     /// What the search by groups came to, if there was one.
     pub by_groups: Option<GroupSearch>,
+    /// Where the cut file ends, if one was taken.
+    pub before: Option<CutEnd>,
     /// How many files have no fault, if they were asked for.
     pub files: Option<usize>,
     /// Whether a single file was asked for, and there is none.
     pub lacks_single_file: bool,
+    /// Which promise holds.
+    pub promise: Promise,
 }

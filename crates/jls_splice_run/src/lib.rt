@@ -8,7 +8,7 @@
 //! - `printed_lines`, `handing`: the lines that are printed; the events that hand out all
 //! - `options`, `searching`: how a search is made; a search that goes on 64 tries at a time, and tells how far it is
 //! - `differences`: where copies differ: the offset in the first copy, and how many bytes that one has there
-//! - `found`, `lines`: what a run found, as one value; its lines, and the line that says how far a search is
+//! - `found`, `lines`: what is told of a search, as one value; its lines, and the line that says how far a search is
 //! - `outcome`, `printing`: what came of a run, why it stopped, and the exit status; the fault line
 //!
 //! Definitions: `Tasks`, `Copies`, `Making`, `Single`, `Files`, `Listing`, `Handing`, `Runs`; `Telling`; `Differences`, `Lines`; `Outcomes`,
@@ -19,6 +19,7 @@
 //!
 //! - At which try a file is found, and that groups find all such splices.
 //! - How many files are found by a line before the last.
+//! - That a cut file is taken, and that it is as long as it could be.
 #![tactic(auto)]
 
 mod copies;
@@ -41,7 +42,7 @@ mod splicing;
 mod task;
 
 pub use differences::{Difference, differences_of};
-pub use found::{Found, GroupSearch};
+pub use found::{CutEnd, GroupSearch, Promise, SearchReport};
 pub use lines::{put_found, put_progress};
 pub use listing::NumberedFile;
 pub use made::Made;

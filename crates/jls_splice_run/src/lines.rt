@@ -2,10 +2,10 @@
 
 ghost use Rattle.std.specs.Prelude.{◌≡◌, ◌++◌, codes, decimal, OnOk, take};
 ghost use Rattle.std.specs.List.{flat_map};
-ghost use Rattle.jls_splice_run.specs.Lines.{differ_line, differ_lines, files_line, found_text, groups_end as spec_groups_end, groups_line, more_line, progress_line, single_line, splices_line, used_up_line};
+ghost use Rattle.jls_splice_run.specs.Lines.{before_line, differ_line, differ_lines, files_line, found_text, groups_end as spec_groups_end, groups_line, more_line, outcome_lines, progress_line, promise_line, samples_end, search_lines, single_line, splices_line, used_up_line};
 
 use crate::differences::Difference;
-use crate::found::{Found, GroupSearch};
+use crate::found::{CutEnd, GroupSearch, Promise, SearchReport};
 use jls_report::put_number;
 use std::alloc::AllocError;
 
@@ -110,6 +110,51 @@ fn put_groups(out: &mut Vec<u8>, by_groups: Option<GroupSearch>) -> Result<(), A
     Ok(())
 }
 
+/// Appends how a line ends: with the limit of samples, if there is one, after these words.
+fn put_samples(out: &mut Vec<u8>, words: &[u8], limit: Option<u16>) -> Result<(), AllocError>
+    ensures { OnOk result (out.new.items ≡ out.old.items ++ samples_end words.now limit) }
+{
+    if let Some(limit) = limit {
+        out.extend_from_slice(words)?;
+        put_number(out, u64::from(limit))?;
+    }
+    out.extend_from_slice(b"\n")?;
+    Ok(())
+}
+
+/// Appends where the cut file ends, if one was taken.
+fn put_before(out: &mut Vec<u8>, before: Option<CutEnd>) -> Result<(), AllocError>
+    ensures { OnOk result (out.new.items ≡ out.old.items ++ before_line before) }
+{
+    let Some(end) = before else {
+        return Ok(());
+    };
+    out.extend_from_slice(b"before ")?;
+    put_number(out, end.offset)?;
+    put_samples(out, b", samples up to ", end.limit)
+}
+
+/// Appends that the picture is promised, within the limit of samples if there is one.
+fn put_picture(out: &mut Vec<u8>, limit: Option<u16>) -> Result<(), AllocError>
+    ensures { OnOk result (out.new.items ≡ out.old.items ++ promise_line (Promise.Picture limit)) }
+{
+    out.extend_from_slice(b"promise picture if each differ is true in some copy")?;
+    put_samples(out, b" and samples are up to ", limit)
+}
+
+/// Appends which promise holds.
+fn put_promise(out: &mut Vec<u8>, promise: Promise) -> Result<(), AllocError>
+    ensures { OnOk result (out.new.items ≡ out.old.items ++ promise_line promise) }
+{
+    match promise {
+        Promise::Picture(limit) => put_picture(out, limit),
+        Promise::Lines => {
+            out.extend_from_slice(b"promise lines\n")?;
+            Ok(())
+        }
+    }
+}
+
 /// Appends how many files have no fault, if they were asked for.
 fn put_files(out: &mut Vec<u8>, files: Option<usize>) -> Result<(), AllocError>
     ensures { OnOk result (out.new.items ≡ out.old.items ++ files_line files) }
@@ -133,16 +178,37 @@ fn put_single(out: &mut Vec<u8>, lacks_single_file: bool) -> Result<(), AllocErr
     Ok(())
 }
 
-/// Appends the lines of what was found, in ASCII. Each ends with a newline. At `Err` a prefix of them may have been appended.
-pub fn put_found(out: &mut Vec<u8>, found: &Found<'_>) -> Result<(), AllocError>
-    ensures { OnOk result (out.new.items ≡ out.old.items ++ found_text found.now) }
+/// Appends the lines of what the searches came to.
+fn put_searches(out: &mut Vec<u8>, report: &SearchReport) -> Result<(), AllocError>
+    ensures { OnOk result (out.new.items ≡ out.old.items ++ search_lines report.now) }
 {
-    put_differences(out, found.differences)?;
-    put_splices(out, found.splices)?;
-    put_used_up(out, found.is_used_up)?;
-    put_groups(out, found.by_groups)?;
-    put_files(out, found.files)?;
-    put_single(out, found.lacks_single_file)
+    put_splices(out, report.splices)?;
+    put_used_up(out, report.is_used_up)?;
+    put_groups(out, report.by_groups)
+}
+
+/// Appends the lines of what is made of it.
+fn put_outcome(out: &mut Vec<u8>, report: &SearchReport) -> Result<(), AllocError>
+    ensures { OnOk result (out.new.items ≡ out.old.items ++ outcome_lines report.now) }
+{
+    put_before(out, report.before)?;
+    put_files(out, report.files)?;
+    put_single(out, report.lacks_single_file)?;
+    put_promise(out, report.promise)
+}
+
+/// Appends the lines of what was found, in ASCII: where copies differ, in order, and what the search came to. Each ends with a newline. At
+/// `Err` a prefix of them may have been appended.
+pub fn put_found(
+    out: &mut Vec<u8>,
+    differences: &[Difference],
+    report: &SearchReport,
+) -> Result<(), AllocError>
+    ensures { OnOk result (out.new.items ≡ out.old.items ++ found_text differences.now report.now) }
+{
+    put_differences(out, differences)?;
+    put_searches(out, report)?;
+    put_outcome(out, report)
 }
 
 /// Appends the line that says how far a search is: how many prefixes and files were tried, and how many files were found.

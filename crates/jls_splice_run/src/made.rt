@@ -1,37 +1,39 @@
 //! What is made of the copies, in memory.
 
-ghost use Rattle.std.specs.Prelude.{◌≡◌, ◌⊎◌, ◌<◌, ◌≤◌, ◌^◌, ℕ, List, length, true, IfOk, IfErr, IfSome, IsTrue, OnErr, option_map};
+ghost use Rattle.std.specs.Prelude.{◌≡◌, ◌⊎◌, ◌<◌, ◌≤◌, ◌^◌, ◌↔◌, ℕ, List, length, true, IfOk, IfErr, IfSome, IsTrue, OnErr, option_map};
 ghost use Rattle.std.specs.List.{AllByRecursion};
 ghost use Rattle.jls_station.specs.CopyFiles.{copies_of};
 ghost use Rattle.jls_io.specs.Event.{GrewBy};
 ghost use Rattle.jls_diff.specs.Parts.{made};
 ghost use Rattle.jls_diff.specs.PartsOf.{bytes_of, parts_of};
-ghost use Rattle.jls_search.specs.Choices.{IsWhole};
+ghost use Rattle.jls_partial.specs.Status.{IsSettled};
+ghost use Rattle.jls_search.specs.Choices.{HasSomeWay, IsPath, IsWhole};
 ghost use Rattle.jls_search.specs.Search.{IsShort, WereTried, files_of, lists_of};
 ghost use Rattle.jls_search.specs.Found.{AreGroupTries, IsFound, by_groups_of, found_of, splices_in};
 ghost use Rattle.jls_search.specs.Files as given;
 ghost use Rattle.jls_splice_run.specs.Telling.{IsTold, ToldSome};
-ghost use Rattle.jls_splice_run.specs.Making.{AreTextsOf, CantMake, HoldsMade, files_taken, lacks_single, made_of};
+ghost use Rattle.jls_splice_run.specs.Making.{AreTextsOf, CantMake, HoldsMade, IsCut, files_taken, lacks_single, made_of};
 ghost use Rattle.jls_splice_run.specs.Making as spec;
 ghost use Rattle.jls_splice_run.specs.Listing.{AreNamedAsked, named_files};
 ghost use Rattle.jls_splice_run.specs.Single.{IsSingleAsked};
 ghost use Rattle.jls_splice_run.specs.Tasks.{task_of};
 
 use crate::copies::slices_of;
+use crate::differences::offset_at;
 use crate::files::count_new;
-use crate::found::GroupSearch;
+use crate::found::{CutEnd, GroupSearch, Promise, SearchReport};
 use crate::listing::{NumberedFile, name_files};
 use crate::options::SearchOptions;
 use crate::outcome::Refusal;
-use crate::printed_lines::{Told, lines_of};
+use crate::printed_lines::lines_of;
 use crate::searching::search_and_tell;
-use crate::settling::settle;
+use crate::settling::{Taken, settle};
 use crate::single::single_file;
 use crate::task::{Task, want_of_memory};
 use jls_io::Sink;
-use jls_partial::Partial;
 use jls_search::{
-    Files, FoundSplices, GroupsTold, are_short, complete_by_groups, parts_can_be_searched,
+    Files, FoundSplices, GroupsTold, are_short, complete_by_groups, lone_path,
+    parts_can_be_searched,
 };
 use jls_station::CopyFile;
 use std::alloc::{AllocError, Global};
@@ -47,6 +49,7 @@ pub struct Made {
     pub file: Option<Vec<u8>>,
     /// The files without a fault, with their names, if they are asked for.
     pub files: Vec<NumberedFile>,
+    /// Whether each line of the picture is settled.
     pub settled: bool,
 }
 
@@ -63,6 +66,9 @@ fn search<'c, E: Sink>(
     ensures splices { IfOk result
         (λ found. files_of (parts_of found.parts.items) (lists_of found.splices.items) ≡ splices_in (found_of found)) }
     ensures each { IfOk result (λ found. AllByRecursion (IsWhole (parts_of found.parts.items)) (lists_of found.splices.items)) }
+    ensures ceiling { IfOk result (λ found. found.ceiling ≡ options.ceiling) }
+    ensures whole { IfOk result (λ found. found.whole ≤ length found.splices.items) }
+    ensures some_way { IfOk result (λ found. AllByRecursion HasSomeWay (parts_of found.parts.items)) }
     ensures short { IfOk result (λ found. IsShort (parts_of found.parts.items)) }
     ensures small { IfOk result (λ found. length (made 0 (parts_of found.parts.items)) < 2 ^ 64) }
     ensures few { IfOk result (λ found. found.tries ≤ options.tries) }
@@ -81,6 +87,22 @@ fn search<'c, E: Sink>(
     let found = search_and_tell(alloc, copies, options, faults)?;
     let more = complete_by_groups(alloc, copies, found, options.tries)?;
     Ok(more)
+}
+
+/// The choices of the cut file, if the search of all splices found nothing.
+fn find_cut(
+    alloc: Global,
+    found: &FoundSplices<'_>,
+    limit: u32,
+) -> Result<Option<Vec<usize>>, AllocError>
+    requires some_way { AllByRecursion HasSomeWay (parts_of found.now.parts.items) }
+    requires short { IsShort (parts_of found.now.parts.items) }
+    ensures { IfOk result (λ cut. IfSome cut (λ path. IsCut found.now.ceiling (found_of found.now) path.items)) }
+{
+    if found.whole != 0 {
+        return Ok(None);
+    }
+    lone_path(alloc, &found.parts, found.ceiling, limit)
 }
 
 /// The single file, if a name is given for it.
@@ -147,18 +169,50 @@ fn groups_told(by_groups: Option<GroupsTold>) -> Option<GroupSearch>
     }
 }
 
+/// The promise that holds.
+fn promise_of(found: &FoundSplices<'_>, settled: bool) -> Promise
+    requires { found.now.whole ≤ length found.now.splices.items }
+    ensures { result ≡ spec.promise_of found.now.ceiling (found_of found.now) settled }
+{
+    if !found.is_used_up && found.whole != 0 && settled {
+        Promise::Picture(found.ceiling)
+    } else {
+        Promise::Lines
+    }
+}
+
+/// Where the cut file ends, if one was taken.
+fn cut_end(found: &FoundSplices<'_>, cut: &Option<Vec<usize>>) -> Option<CutEnd>
+    requires path { IfSome cut.now (λ path. IsPath (parts_of found.now.parts.items) path.items) }
+    requires small { length (made 0 (parts_of found.now.parts.items)) < 2 ^ 64 }
+    ensures { result ≡ option_map (λ path. spec.cut_end (parts_of found.now.parts.items) found.now.ceiling path.items) cut.now }
+{
+    match cut {
+        Some(path) => Some(CutEnd {
+            offset: offset_at(&found.parts, path.len()),
+            limit: found.ceiling,
+        }),
+        None => None,
+    }
+}
+
 /// What is handed out.
 fn texts_of(
     alloc: Global,
     task: &Task<'_, '_>,
     copies: &[&[u8]],
     found: &FoundSplices<'_>,
-    partial: &Partial,
+    taken: &Taken,
 ) -> Result<Made, AllocError>
     requires splices { files_of (parts_of found.now.parts.items) (lists_of found.now.splices.items) ≡ splices_in (found_of found.now) }
     requires each { AllByRecursion (IsWhole (parts_of found.now.parts.items)) (lists_of found.now.splices.items) }
+    requires whole { found.now.whole ≤ length found.now.splices.items }
     requires small { length (made 0 (parts_of found.now.parts.items)) < 2 ^ 64 }
-    ensures texts { IfOk result (λ made. AreTextsOf (task_of task.now) (bytes_of copies.now) (made_of found.now partial.now made) made) }
+    requires path { IfSome taken.now.cut (λ path. IsPath (parts_of found.now.parts.items) path.items) }
+    requires ceiling { found.now.ceiling ≡ (task_of task.now).options.ceiling }
+    ensures texts { IfOk result (λ made.
+        AreTextsOf (task_of task.now) (bytes_of copies.now) (made_of found.now taken.now.cut taken.now.station made) made) }
+    ensures settled { IfOk result (λ made. IsTrue made.settled ↔ IsSettled taken.now.station) }
     ensures single { IfOk result (λ made. IsSingleAsked (task_of task.now).options.file
         (files_taken (bytes_of copies.now) (found_of found.now)) (option_map (λ f. f.items) made.file)) }
     ensures named { IfOk result (λ made. AreNamedAsked (task_of task.now).options.files
@@ -169,19 +223,22 @@ fn texts_of(
         parts: &found.parts,
         splices: &found.splices,
     };
+    let partial = taken.station.partial();
+    let settled = partial.is_settled();
     let file = file_asked(alloc, task.options.file, &files)?;
     let numbered = files_asked(alloc, task.options.files, &files)?;
     let splices = count_new(alloc, copies, &found.parts, &found.splices)?;
-    let told = Told {
+    let report = SearchReport {
         splices,
         is_used_up: found.is_used_up,
         by_groups: groups_told(found.by_groups),
+        before: cut_end(found, &taken.cut),
         files: files_told(task.options.files, &numbered),
         lacks_single_file: lacks_file(task.options.file, &file),
+        promise: promise_of(found, settled),
     };
-    let lines = lines_of(alloc, task.out, &found.parts, told, partial)?;
+    let lines = lines_of(alloc, task.out, &found.parts, &report, partial)?;
     let text = partial.to_bytes(alloc)?;
-    let settled = partial.is_settled();
     Ok(Made {
         lines,
         text,
@@ -218,16 +275,20 @@ pub(crate) fn make<'a, E: Sink>(
         Ok(found) => found,
         Err(_) => return Err(want_of_memory(task)),
     };
+    let cut = match find_cut(alloc, &found, options.tries) {
+        Ok(cut) => cut,
+        Err(_) => return Err(want_of_memory(task)),
+    };
     let files = Files {
         copies: &slices,
         parts: &found.parts,
         splices: &found.splices,
     };
-    let station = match settle(alloc, task, copies, &files) {
-        Ok(station) => station,
+    let taken = match settle(alloc, task, copies, &files, cut) {
+        Ok(taken) => taken,
         Err(refusal) => return Err(refusal),
     };
-    match texts_of(alloc, task, &slices, &found, station.partial()) {
+    match texts_of(alloc, task, &slices, &found, &taken) {
         Ok(made) => Ok(made),
         Err(_) => Err(want_of_memory(task)),
     }

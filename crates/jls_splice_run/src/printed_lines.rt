@@ -6,46 +6,29 @@ ghost use Rattle.jls_diff.specs.Parts.{made};
 ghost use Rattle.jls_diff.specs.PartsOf.{parts_of};
 ghost use Rattle.jls_report.specs.Report.{report_of};
 ghost use Rattle.jls_report.specs.ReportText.{report_text};
-ghost use Rattle.jls_splice_run.specs.Making.{told_lines};
+ghost use Rattle.jls_splice_run.specs.Differences.{differences};
+ghost use Rattle.jls_splice_run.specs.Lines.{found_text};
 
 use crate::differences::differences_of;
-use crate::found::{Found, GroupSearch};
+use crate::found::SearchReport;
 use crate::lines::put_found;
 use jls_diff::Part;
 use jls_partial::Partial;
 use jls_report::Report;
 use std::alloc::{AllocError, Global};
 
-/// What the search came to, as the lines tell it.
-#[derive(Clone, Copy)]
-pub(crate) struct Told {
-    /// How many of the files that were found are no copies.
-    pub splices: usize,
-    pub is_used_up: bool,
-    /// What is told of the search by groups, if there was one.
-    pub by_groups: Option<GroupSearch>,
-    /// How many files have numbers, if they are asked for.
-    pub files: Option<usize>,
-    pub lacks_single_file: bool,
-}
-
 /// The lines of what was found.
-fn found_lines(alloc: Global, parts: &[Part<'_>], told: Told) -> Result<Vec<u8>, AllocError>
+fn found_lines(
+    alloc: Global,
+    parts: &[Part<'_>],
+    report: &SearchReport,
+) -> Result<Vec<u8>, AllocError>
     requires { length (made 0 (parts_of parts.now)) < 2 ^ 64 }
-    ensures { IfOk result (λ lines.
-        lines.items ≡ told_lines (parts_of parts.now) told.splices told.is_used_up told.by_groups told.files told.lacks_single_file) }
+    ensures { IfOk result (λ lines. lines.items ≡ found_text (differences (parts_of parts.now)) report.now) }
 {
     let differences = differences_of(alloc, parts)?;
-    let found = Found {
-        differences: &differences,
-        splices: told.splices,
-        is_used_up: told.is_used_up,
-        by_groups: told.by_groups,
-        files: told.files,
-        lacks_single_file: told.lacks_single_file,
-    };
     let mut out = Vec::new(alloc);
-    put_found(&mut out, &found)?;
+    put_found(&mut out, &differences, report)?;
     Ok(out)
 }
 
@@ -62,19 +45,18 @@ pub(crate) fn lines_of(
     alloc: Global,
     out: &str,
     parts: &[Part<'_>],
-    told: Told,
+    report: &SearchReport,
     partial: &Partial,
 ) -> Result<Vec<u8>, AllocError>
     requires { length (made 0 (parts_of parts.now)) < 2 ^ 64 }
     ensures { IfOk result (λ lines. lines.items ≡ (if bytes_eq out.now (codes "-") then []
-        else told_lines (parts_of parts.now) told.splices told.is_used_up told.by_groups told.files told.lacks_single_file
-        ++ report_text (report_of partial.now))) }
+        else found_text (differences (parts_of parts.now)) report.now ++ report_text (report_of partial.now))) }
 {
     if out == "-" {
         return Ok(Vec::new(alloc));
     }
-    let mut lines = found_lines(alloc, parts, told)?;
-    let report = report_lines(alloc, partial)?;
-    lines.extend_from_slice(&report)?;
+    let mut lines = found_lines(alloc, parts, report)?;
+    let counts = report_lines(alloc, partial)?;
+    lines.extend_from_slice(&counts)?;
     Ok(lines)
 }

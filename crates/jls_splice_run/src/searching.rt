@@ -118,9 +118,9 @@ fn search_parts<E: Sink>(
     Ok(walk)
 }
 
-/// Finds the parts of copies and searches their splices, under the ceiling if there is one, with so many tries at most, as `search_copies` of jls_search does. If that is
-/// asked for, it prints a line on how far it is, each time that 64 more were tried, and when it is over. A write that fails is ignored.
-/// `are_short` of jls_search tells whether copies are short enough. `Err` comes where memory is refused.
+/// Finds the parts of copies and searches their splices, under the ceiling if there is one, with so many tries at most, as `search_copies`
+/// of jls_search does. If that is asked for, it prints a line on how far it is, each time that 64 more were tried, and when it is over. A
+/// write that fails is ignored. `are_short` of jls_search tells whether copies are short enough. `Err` comes where memory is refused.
 pub fn search_and_tell<'a, E: Sink>(
     alloc: Global,
     copies: &[&'a [u8]],

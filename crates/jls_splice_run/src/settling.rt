@@ -1,21 +1,21 @@
 //! The picture that comes of the files taken.
 
-ghost use Rattle.std.specs.Prelude.{◌≡◌, ◌<◌, length, IfOk, IfErr};
+ghost use Rattle.std.specs.Prelude.{◌≡◌, ◌<◌, Some, length, option_map, IfOk, IfErr, IfSome};
 ghost use Rattle.std.specs.List.{AllByRecursion};
 ghost use Rattle.jls_station.specs.CopyFiles.{copies_of};
 ghost use Rattle.jls_diff.specs.PartsOf.{bytes_of, parts_of};
-ghost use Rattle.jls_search.specs.Choices.{IsWhole};
+ghost use Rattle.jls_search.specs.Choices.{IsPath, IsWhole, front_of};
 ghost use Rattle.jls_search.specs.Search.{IsShort, lists_of};
 ghost use Rattle.jls_search.specs.Files.{splices_found};
 ghost use Rattle.jls_splice_run.specs.Copies.{bytes_read};
-ghost use Rattle.jls_splice_run.specs.Making.{IsPictureOf, IsUnsettled};
+ghost use Rattle.jls_splice_run.specs.Making.{IsPictureOf, IsPictureOfFiles, IsUnsettled};
 ghost use Rattle.jls_splice_run.specs.Making as spec;
 ghost use Rattle.jls_splice_run.specs.Tasks.{task_of};
 
 use crate::outcome::{Cause, Refusal};
 use crate::task::{Task, want_of_memory};
 use jls_marker::MarkerFault;
-use jls_search::{Files, Settled, settle_files};
+use jls_search::{Files, Settled, settle_files, settle_with_cut};
 use jls_station::{CopyFile, ReadStop, Station};
 use std::alloc::Global;
 
@@ -29,8 +29,17 @@ fn no_picture_cause(stop: ReadStop, fault: MarkerFault, offset: u64) -> Cause
     }
 }
 
-/// The station that takes the files of a task; or why there is none.
-pub(crate) fn settle<'a>(
+/// What took the files of a task.
+#[derive(Drop)]
+pub(crate) struct Taken {
+    /// The station that took them.
+    pub station: Station,
+    /// The choices of the cut file, if it took that too.
+    pub cut: Option<Vec<usize>>,
+}
+
+/// The station that takes the files of a task, without a cut file; or why there is none.
+fn settle_whole<'a>(
     alloc: Global,
     task: &Task<'_, 'a>,
     copies: &[CopyFile],
@@ -42,7 +51,7 @@ pub(crate) fn settle<'a>(
     requires whole { AllByRecursion (IsWhole (parts_of files.now.parts.now)) (lists_of files.now.splices.now) }
     requires short { IsShort (parts_of files.now.parts.now) }
     ensures settled { IfOk result (λ station.
-        IsPictureOf (task_of task.now).options.source (bytes_read (copies_of copies.now)) (splices_found files.now) station) }
+        IsPictureOfFiles (task_of task.now).options.source (bytes_read (copies_of copies.now)) (splices_found files.now) station) }
     ensures stopped { IfErr result (λ refusal.
         IsUnsettled (task_of task.now) (copies_of copies.now) (splices_found files.now) refusal) }
 {
@@ -60,5 +69,45 @@ pub(crate) fn settle<'a>(
             name: task.names[0],
             cause: no_picture_cause(copies[0].stop, fault, offset),
         }),
+    }
+}
+
+/// The station that takes the files of a task, or why there is none. The cut file of these choices is taken too if it has a frame, and if
+/// no other file is without a fault.
+pub(crate) fn settle<'a>(
+    alloc: Global,
+    task: &Task<'_, 'a>,
+    copies: &[CopyFile],
+    files: &Files<'_, '_>,
+    cut: Option<Vec<usize>>,
+) -> Result<Taken, Refusal<'a>>
+    requires some_copy { 0 < length copies.now }
+    requires names { length task.now.names.now ≡ length copies.now }
+    requires copies { bytes_of files.now.copies.now ≡ bytes_read (copies_of copies.now) }
+    requires whole { AllByRecursion (IsWhole (parts_of files.now.parts.now)) (lists_of files.now.splices.now) }
+    requires short { IsShort (parts_of files.now.parts.now) }
+    requires cut { IfSome cut (λ path. IsPath (parts_of files.now.parts.now) path.items) }
+    ensures settled { IfOk result (λ taken.
+        IsPictureOf (task_of task.now).options.source (bytes_read (copies_of copies.now)) (splices_found files.now)
+        (option_map (λ path. front_of (parts_of files.now.parts.now) path.items) taken.cut) taken.station) }
+    ensures cut { IfOk result (λ taken. IfSome taken.cut (λ path. cut ≡ Some path)) }
+    ensures stopped { IfErr result (λ refusal.
+        IsUnsettled (task_of task.now) (copies_of copies.now) (splices_found files.now) refusal) }
+{
+    if let Some(path) = cut {
+        match settle_with_cut(alloc, task.options.source, files, &path) {
+            Ok(Some(station)) => {
+                return Ok(Taken {
+                    station,
+                    cut: Some(path),
+                });
+            }
+            Ok(None) => {}
+            Err(_) => return Err(want_of_memory(task)),
+        }
+    }
+    match settle_whole(alloc, task, copies, files) {
+        Ok(station) => Ok(Taken { station, cut: None }),
+        Err(refusal) => Err(refusal),
     }
 }

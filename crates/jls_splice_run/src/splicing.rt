@@ -55,7 +55,8 @@ fn hand_out<'a, D: Desk, W: Sink>(
 
 /// Reads the copies, searches their splices, takes all files that decode, and hands out what comes of it. First come the lines, on the
 /// report output. Then comes the text of the union of what the files taken give, then the single file, and last the files that have
-/// numbers, if these are asked for. All are made before anything is handed out. While it searches, it tells on the fault output how far it is, if that is asked for.
+/// numbers, if these are asked for. All are made before anything is handed out. While it searches, it tells on the fault output how far it
+/// is, if that is asked for. If no file taken is without a fault, the cut file may be taken too.
 pub fn splice<'a, D: Desk, W: Sink, E: Sink>(
     alloc: Global,
     desk: &mut D,

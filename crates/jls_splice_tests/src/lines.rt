@@ -1,7 +1,9 @@
 //! Lines of what was found, worked by hand.
 
 use jls_diff::find_parts;
-use jls_splice_run::{Difference, Found, GroupSearch, differences_of, put_found, put_progress};
+use jls_splice_run::{
+    CutEnd, Difference, GroupSearch, Promise, SearchReport, differences_of, put_found, put_progress,
+};
 use std::alloc::{AllocError, Global};
 use std::test::Fail;
 
@@ -25,24 +27,31 @@ fn one_byte_differs(rt: HostRuntime) -> Result<(), Fail> {
     let mut text = Vec::new(alloc);
     put_found(
         &mut text,
-        &Found {
-            differences: &differences,
+        &differences,
+        &SearchReport {
             splices: 2,
             is_used_up: false,
             by_groups: Some(GroupSearch {
                 groups: 1,
                 is_used_up: true,
             }),
+            before: Some(CutEnd {
+                offset: 4321,
+                limit: Some(4095),
+            }),
             files: Some(12),
             lacks_single_file: true,
+            promise: Promise::Lines,
         },
     )?;
     put_progress(&mut text, 4096, 3)?;
     let expected: &[u8] = b"differ 4321 1
 splices 2
 by groups 1, tries used up
+before 4321, samples up to 4095
 files 12
 no single file
+promise lines
 4096 tries, 3 files
 ";
     assert_eq!(rt; text.as_slice(), expected);
@@ -62,17 +71,19 @@ fn many_places_differ(rt: HostRuntime) -> Result<(), Fail> {
     let mut text = Vec::new(alloc);
     put_found(
         &mut text,
-        &Found {
-            differences: &differences,
+        &differences,
+        &SearchReport {
             splices: 0,
             is_used_up: true,
             by_groups: None,
+            before: None,
             files: None,
             lacks_single_file: false,
+            promise: Promise::Lines,
         },
     )?;
-    let end: &[u8] = b"\ndiffer 8190 1\ndiffer more 904\nsplices 0\ntries used up\n";
+    let end: &[u8] = b"\ndiffer 8190 1\ndiffer more 904\nsplices 0\ntries used up\npromise lines\n";
     assert!(rt; text.ends_with(end));
-    assert_eq!(rt; text.iter().filter(|&&byte| byte == b'\n').count(), 4099);
+    assert_eq!(rt; text.iter().filter(|&&byte| byte == b'\n').count(), 4100);
     Ok(())
 }

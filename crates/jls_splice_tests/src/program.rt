@@ -28,7 +28,21 @@ in a COM segment: comment: 100+8=0 / 400+8=0: OUT 1 2: 0 comment: splices 1
 three scans: scans: 60+8=85 330+8=85 / 200+8=85: OUT 1 2: 0 scans: splices 1
 one interval: restarts: 45+3=0 / 70+3=0: OUT 1 2: 0 restarts: splices 1
 two intervals: restarts: 50+4=0 / 140+4=0: OUT 1 2: 0 restarts: splices 1
-one place in all: eight: 300+8=0 / 300+8=85: OUT 1 2: 1 other: missing 1 0-19
+one place in all: eight: 300+8=0 / 300+8=85: OUT 1 2: 1 other: missing 1 7-19
+where it is: eight: 300+8=0 / 300+8=85: OUT 1 2: 1 other: before 300
+one place in all, and others: eight: 100+8=0 300+8=0 / 200+8=0 300+8=85: OUT 1 2: 1 other: missing 1 7-19
+the same place in all: eight: 100+8=0 300+8=0 / 200+8=0 300+8=0: OUT 1 2: 1 other: missing 1 4-19
+where its last difference is: eight: 100+8=0 300+8=0 / 200+8=0 300+8=0: OUT 1 2: 1 other: before 200
+a header, and a place in all: eight: 2+4=0 300+8=0 / 12+3=0 300+8=85: OUT 1 2: 1 other: missing 1 7-19
+one try: eight: 100+8=0 / 400+8=0: --tries 1 OUT 1 2: 1 other: before 100
+lines of one try: eight: 100+8=0 / 400+8=0: --tries 1 OUT 1 2: 1 other: missing 1 2-19
+within a limit, and a place in all: eight: 300+8=0 / 300+8=85: --max 255 OUT 1 2: 1 other: before 300, samples up to 255
+a promise: eight: 100+8=0 / 400+8=0: OUT 1 2: 0 eight: promise picture if each differ is true in some copy
+a promise within a limit: eight: 100+8=0 / 400+8=0: --max 255 OUT 1 2: 0 eight: promise picture if each differ is true in some copy and \
+samples are up to 255
+no promise: eight: 300+8=0 / 300+8=85: OUT 1 2: 1 other: promise lines
+no promise of disputed lines: eight: whole / other: OUT 1 2: 1 other: promise lines
+no promise by groups: eight: 100+8=0 / 400+8=0: --max 254 OUT 1 2: 0 eight: promise lines
 one copy twice: eight: whole / whole: OUT 1 2: 0 eight: splices 0
 a flipped bit in each: eight: 114+1=221 / 400+1=237: OUT 1 2: 1 other: splices 1
 two pictures: eight: whole / other: OUT 1 2: 1 other: splices 0

@@ -1,4 +1,4 @@
-use Rattle.std.proofs.Common.{◌≡◌, ℕ, false, List, length, take, drop, Some, Vec, Global, ap, sym, ◌∙◌, subst, arith, length-append, inl, inr}
+use Rattle.std.proofs.Common.{◌≡◌, ℕ, Bool, false, List, length, take, drop, Some, Vec, Global, ap, sym, ◌∙◌, subst, arith, length-append, inl, inr}
 use Rattle.std.specs.List.{AllByRecursion}
 use Rattle.jls_diff.specs.Parts.{AreParts}
 use Rattle.jls_diff.specs.PartsOf.{bytes_of, parts_of}
@@ -8,6 +8,7 @@ use Rattle.jls_search.specs.Search.{lists_of}
 use Rattle.jls_diff.specs.Groups.{CoverParts, IsGroup}
 use Rattle.jls_search.specs.Found.{AreGroupTries, IsFound, by_groups_of}
 use Rattle.jls_search.specs.OfGroups.{IsOfGroup}
+use Rattle.jls_search.specs.GroupTries.{AreGroupsSearched}
 use Rattle.jls_search.specs.declared.found.GroupsTold.{GroupsTold}
 use Rattle.jls_search.proofs.FoundMore.{all_is, front_is, group_tries, found_whole, found_groups, files_whole, files_groups, whole_of_found, whole_of_both}
 use Rattle.jls_search.proofs.found.complete_by_groups.Goals as goal
@@ -71,11 +72,16 @@ returns-clause-of_groups c =
     let at : n ≡ length vs = c.len-whole.ensures ∙ c.args.found.searched.splices.ok.0 in
     let by = c.in_ok-by.by in
     let told : GroupsTold = c.told_of-told.result in
-    let e = c.in_ok-by.ensures in
-    let t = c.told_of-told.ensures.tries in
+    let copies : ℕ = length c.args.copies.now in
+    let more = by.searched.splices.items in
+    let is = c.told_of-told.ensures in
+    let searched : AreGroupsSearched c.args.limit copies told.groups told.tries (length more) told.is_used_up =
+    subst (λ (k : ℕ). AreGroupsSearched c.args.limit copies k told.tries (length more) told.is_used_up) (sym is.groups)
+    (subst (λ (k : ℕ). AreGroupsSearched c.args.limit copies (length by.groups.items) k (length more) told.is_used_up) (sym is.tries)
+    (subst (λ (u : Bool). AreGroupsSearched c.args.limit copies (length by.groups.items) by.searched.tries (length more) u) (sym is.is_used_up)
+    c.in_ok-by.ensures.tries)) in
     subst (λ (xs : List (Vec ℕ Global)). AreGroupTries c.args.limit (by_groups_of (drop n (lists_of xs)) told)) (sym c.in_ok-append.ensures.items)
-    (group_tries vs by.searched.splices.items n at c.args.limit told (omega (arith, t, e.few.0))
-    (λ u. elim (e.used_up (sym c.told_of-told.ensures.is_used_up ∙ u)) [ inl all ↦ inl (t ∙ all) | inr found ↦ inr found ]))
+    (group_tries vs more n at c.args.limit copies told c.requires.some_copy searched)
 
 pub returns-clause-splices : goal.returns-clause-splices
 returns-clause-splices c =

@@ -4,6 +4,8 @@ use Rattle.jls_diff.specs.PartsOf.{part_of, parts_of}
 use Rattle.jls_diff.specs.Parts as spec
 use Rattle.jls_search.specs.Choices.{IsDiffer, IsFirstWay, IsPath}
 use Rattle.jls_search.specs.Order.{IsToCome}
+use Rattle.jls_search.specs.Levels.{IsSame}
+use Rattle.jls_search.proofs.LevelPaths.{same_more}
 use Rattle.jls_search.proofs.Paths.{path_len, path_more, to_come_more, length-map}
 use Rattle.jls_search.proofs.path.follow_same.Goals as goal
 
@@ -23,16 +25,30 @@ loop-path-preserved c =
         c.in_ok-push.ensures.items ∙ ap (λ p. p ++ 0 ∷ []) c.loop-path.invariant.2.1
             ∙ append_assoc c.args.path.now.items c.loop-path.invariant.2.0 (0 ∷ []),
       ),
+      same_more ps (length c.args.path.now.items) path c.push.new.self.items c.in_ok-push.ensures.items
+          (subst (λ n. IsSame (get_or ps n (spec.Same []))) (c.len-in-loop-path.ensures ∙ c.loop-path.path.ok.0) (c.is_same_at.ensures.alike same))
+          c.loop-path.invariant.3,
     )
 
 pub loop-path-init : goal.loop-path-init
-loop-path-init c = (c.requires, λ choices whole to_come. to_come, ([], sym (append-nil c.args.path.now.items)))
+loop-path-init c = (
+  c.requires,
+  λ choices whole to_come. to_come,
+  ([], sym (append-nil c.args.path.now.items)),
+  λ place least less. absurd (omega (arith, least, less)),
+)
 
 pub returns-else-is_same_at-clause-grew : goal.returns-else-is_same_at-clause-grew
 returns-else-is_same_at-clause-grew c = c.loop-path.invariant.2
 
 pub returns-after-loop-path-clause-grew : goal.returns-after-loop-path-clause-grew
 returns-after-loop-path-clause-grew c = c.loop-path.invariant.2
+
+pub returns-else-is_same_at-clause-same : goal.returns-else-is_same_at-clause-same
+returns-else-is_same_at-clause-same c = c.loop-path.invariant.3
+
+pub returns-after-loop-path-clause-same : goal.returns-after-loop-path-clause-same
+returns-after-loop-path-clause-same c = c.loop-path.invariant.3
 
 pub returns-else-is_same_at-clause-front : goal.returns-else-is_same_at-clause-front
 returns-else-is_same_at-clause-front c =

@@ -18,6 +18,13 @@ returns-clause-short g c =
     let short : AreShort copies = c.are_short.ensures.0 c.if-not-are_short.false in
     (c.parts_can_be_searched.ensures copies (parts_of c.in_ok-more.more.parts.items) c.in_ok-more.ensures.found.are_parts some short).1
 
+pub returns-clause-some_way : goal.returns-clause-some_way
+returns-clause-some_way g c =
+    let copies : List (List ℕ) = bytes_of c.args.copies.now in
+    let some : 0 < length copies = subst (λ n. 0 < n) (sym (count_of_slices c.args.copies.now)) c.requires in
+    let short : AreShort copies = c.are_short.ensures.0 c.if-not-are_short.false in
+    (c.parts_can_be_searched.ensures copies (parts_of c.in_ok-more.more.parts.items) c.in_ok-more.ensures.found.are_parts some short).0
+
 pub returns-clause-small : goal.returns-clause-small
 returns-clause-small g c =
     let copies : List (List ℕ) = bytes_of c.args.copies.now in

@@ -1,5 +1,5 @@
 use Rattle.std.proofs.Common.{◌≡◌, ℕ, List, [], ◌++◌, drop, Vec, Global, Bor, ap, refl, sym, ◌∙◌, subst}
-use Rattle.std.specs.Prelude.{codes, option_map, if◌then◌else◌}
+use Rattle.std.specs.Prelude.{◌↔◌, IsTrue, codes, option_map, if◌then◌else◌}
 use Rattle.std.specs.Str.{bytes_eq}
 use Rattle.jls_diff.specs.PartsOf.{bytes_of, parts_of}
 use Rattle.jls_report.specs.Report.{report_of}
@@ -7,18 +7,25 @@ use Rattle.jls_report.specs.ReportText.{report_text}
 use Rattle.jls_search.specs.Search.{files_of, lists_of}
 use Rattle.jls_search.specs.Found.{found_of, splices_in}
 use Rattle.jls_splice_run.specs.Files.{count_new}
-use Rattle.jls_splice_run.specs.Making.{files_told, groups_told, lacks_single, told_lines}
+use Rattle.jls_partial.specs.Partial.{PartialPicture}
+use Rattle.jls_partial.specs.Status.{IsSettled}
+use Rattle.jls_partial.specs.Text.{text}
+use Rattle.jls_splice_run.specs.Differences.{differences}
+use Rattle.jls_splice_run.specs.Lines.{found_text}
+use Rattle.jls_splice_run.specs.Making.{cut_end, files_told, groups_told, lacks_single}
 use Rattle.jls_splice_run.specs.Listing.{AreNamedAsked, named_file, named_files}
 use Rattle.jls_splice_run.specs.Single.{IsSingleAsked}
-use Rattle.jls_splice_run.proofs.MakingLemmas.{lacks_maps, single_maps, told_maps}
+use Rattle.jls_splice_run.proofs.MakingLemmas.{lacks_maps, mapped_twice, single_maps, told_maps}
 use Rattle.jls_splice_run.proofs.made.texts_of.Goals as goal
 
 pub returns-clause-texts : goal.returns-clause-texts
 returns-clause-texts c =
     let found = c.args.found.now in
+    let parts = parts_of found.parts.items in
     let lists = lists_of found.splices.items in
     let copies = bytes_of c.args.copies.now in
     let options = c.args.task.now.options in
+    let cut = c.args.taken.now.cut in
     let file = c.in_ok-file.file in
     let name = option_map (λ (s : Bor (List ℕ)). s.now) options.file in
     let single = option_map (λ (f : Vec ℕ Global). f.items) file in
@@ -26,6 +33,8 @@ returns-clause-texts c =
     c.in_ok-splices.ensures ∙ (λ i. count_new copies (files_of (parts_of (c.deref-3.ensures.value i)) (lists_of (c.deref-4.ensures.value i))))
     ∙ ap (count_new copies) c.requires.splices in
     let groups : c.groups_told.result ≡ groups_told (found_of found).by_groups = c.groups_told.ensures (drop found.whole lists) in
+    let before : c.cut_end.result ≡ option_map (cut_end parts found.ceiling) (option_map (λ (v : Vec ℕ Global). v.items) cut) =
+    c.cut_end.ensures ∙ sym (mapped_twice (cut_end parts found.ceiling) (λ (v : Vec ℕ Global). v.items) cut) in
     let lacks : c.lacks_file.result ≡ lacks_single name single =
     c.lacks_file.ensures ∙ sym (lacks_maps (λ (s : Bor (List ℕ)). s.now) (λ (f : Vec ℕ Global). f.items) options.file file) in
     let numbered = c.in_ok-numbered.numbered.items in
@@ -35,12 +44,23 @@ returns-clause-texts c =
     record {
       lines_are = c.in_ok-lines.ensures
           ∙ (λ i. if bytes_eq c.args.task.now.out.now (codes "-") then []
-          else told_lines (parts_of (c.deref-6.ensures.value i)) (new i) found.is_used_up (groups i) (files i) (lacks i) ++ report_text (report_of c.args.partial.now));
-      text_is = c.in_ok-text.ensures;
+          else found_text (differences (parts_of (c.deref-6.ensures.value i))) (record {
+            splices = new i;
+            is_used_up = found.is_used_up;
+            by_groups = groups i;
+            before = before i;
+            files = files i;
+            lacks_single_file = lacks i;
+            promise = c.promise_of.ensures i;
+          }) ++ report_text (report_of (c.partial-partial.ensures i)));
+      text_is = c.in_ok-text.ensures ∙ ap text c.partial-partial.ensures;
       file_is = refl;
       files_are = refl;
-      settled_is = c.is_settled-settled.ensures;
+      settled_is = refl;
     }
+
+pub returns-clause-settled : goal.returns-clause-settled
+returns-clause-settled c = subst (λ (p : PartialPicture). IsTrue c.is_settled-settled.result ↔ IsSettled p) c.partial-partial.ensures c.is_settled-settled.ensures
 
 pub returns-clause-single : goal.returns-clause-single
 returns-clause-single c =

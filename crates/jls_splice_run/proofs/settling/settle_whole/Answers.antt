@@ -7,7 +7,7 @@ use Rattle.jls_search.specs.declared.shape_found.ShapeFound.TheVariants as found
 use Rattle.jls_station.specs.declared.input.ReadStop.{ReadStop}
 use Rattle.jls_splice_run.specs.Making.{no_picture_cause}
 use Rattle.jls_splice_run.proofs.Members.{first_stop, name_at, named_within}
-use Rattle.jls_splice_run.proofs.settling.settle.Goals as goal
+use Rattle.jls_splice_run.proofs.settling.settle_whole.Goals as goal
 
 pub returns-in-Differ-clause-stopped : goal.returns-in-Differ-clause-stopped
 returns-in-Differ-clause-stopped c =

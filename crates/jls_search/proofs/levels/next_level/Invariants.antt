@@ -1,0 +1,15 @@
+use Rattle.std.proofs.Common.{ℕ, ◌+◌, Vec, Global, take}
+use Rattle.std.specs.List.{AllByRecursion}
+use Rattle.jls_diff.specs.PartsOf.{parts_of}
+use Rattle.jls_search.specs.Faultless.{IsSought}
+use Rattle.jls_search.specs.Levels.{AreJudged, IsNext}
+use Rattle.jls_search.specs.Search.{lists_of}
+use Rattle.jls_search.proofs.levels.next_level.Given as goal
+
+abbrev pub invariant-paths : goal.invariant-paths
+invariant-paths l = record {
+  each : AllByRecursion (IsNext (parts_of l.parts) (l.level.count + 1)) (lists_of l.begun.living.items);
+  judged : AllByRecursion
+      (λ (path : Vec ℕ Global). AreJudged (IsSought l.judge.ceiling) (parts_of l.parts) (l.level.count + 1) (lists_of l.begun.living.items) path.items)
+      (take l.path-index l.level.living.items);
+}

@@ -1,7 +1,0 @@
-use Rattle.std.specs.List.{AllByRecursion}
-use Rattle.jls_diff.specs.PartsOf.{parts_of}
-use Rattle.jls_search.specs.OfGroups.{IsSetting}
-use Rattle.jls_search.proofs.order.add_group.Given as goal
-
-abbrev pub invariant-loop-copy : goal.invariant-loop-copy
-invariant-loop-copy l = AllByRecursion (IsSetting (parts_of l.parts)) l.settings.items

@@ -1,0 +1,101 @@
+//! The cut file, which a station takes behind the copies and the splices.
+
+ghost use Rattle.std.specs.Prelude.{◌<◌, ◌≤◌, ◌-◌, ◌^◌, ◌∷◌, ◌++◌, [], length, IfOk, IfSome, IfNone};
+ghost use Rattle.std.specs.List.{AllByRecursion};
+ghost use Rattle.jls_partial.specs.Partial.{nothing_known};
+ghost use Rattle.jls_copy.specs.CopyReads.{CopyReads};
+ghost use Rattle.jls_diff.specs.PartsOf.{bytes_of, parts_of};
+ghost use Rattle.jls_search.specs.Choices.{IsPath, IsWhole, front_of};
+ghost use Rattle.jls_search.specs.Search.{IsShort, lists_of};
+ghost use Rattle.jls_search.specs.Files.{files_taken, splices_found};
+ghost use Rattle.jls_search.specs.Reading.{HasTaken};
+ghost use Rattle.jls_search.specs.Shapes.{HasNoFrame, HasShape};
+ghost use Rattle.jls_search.specs.Stations.{TakesFiles};
+ghost use Rattle.jls_search.specs.Cuts.{TakesCut, TakesNoCut};
+ghost use Rattle.jls_station.specs.Reading.{AreBytes};
+
+use crate::feeding::feed_front;
+use crate::file::take_read;
+use crate::files::Files;
+use crate::reading_files::{FilesRead, read_files};
+use crate::settling::station_of;
+use crate::shape_rule::first_faultless;
+use jls_copy::{CopyFault, CopyRead, CopyReader};
+use jls_diff::Part;
+use jls_station::Station;
+use std::alloc::{AllocError, Global};
+
+/// What is read of the cut file; `None` where it has no frame.
+fn read_cut(
+    alloc: Global,
+    parts: &[Part<'_>],
+    cut: &[usize],
+) -> Result<Option<CopyRead>, AllocError>
+    requires path { IsPath (parts_of parts.now) cut.now }
+    requires few { length (front_of (parts_of parts.now) cut.now) ≤ 2 ^ 63 - 1 }
+    ensures bytes { IfOk result (λ _. AreBytes (front_of (parts_of parts.now) cut.now)) }
+    ensures some { IfOk result (λ found. IfSome found (λ read. CopyReads (front_of (parts_of parts.now) cut.now) read)) }
+    ensures none { IfOk result (λ found. IfNone found (HasNoFrame (front_of (parts_of parts.now) cut.now))) }
+{
+    let mut reader = CopyReader::new(alloc);
+    feed_front(&mut reader, parts, cut)?;
+    match reader.finish() {
+        Ok(read) => Ok(Some(read)),
+        Err(CopyFault::NoPicture(_, _)) => Ok(None),
+        Err(CopyFault::OutOfMemory) => Err(AllocError),
+    }
+}
+
+/// A station that took the files and then the cut file; `None` where that has no frame. The station before is the one that took the files
+/// as they were read, if there is one.
+fn take_cut(
+    alloc: Global,
+    source: Option<u32>,
+    files: &Files<'_, '_>,
+    before: Option<Station>,
+    cut: &[usize],
+) -> Result<Option<Station>, AllocError>
+    requires whole { AllByRecursion (IsWhole (parts_of files.now.parts.now)) (lists_of files.now.splices.now) }
+    requires short { IsShort (parts_of files.now.parts.now) }
+    requires taken { HasTaken source (files_taken files.now) before }
+    requires cut { IsPath (parts_of files.now.parts.now) cut.now }
+    ensures some { IfOk result (λ found. IfSome found (λ station. HasShape station.shape (front_of (parts_of files.now.parts.now) cut.now)
+        × TakesFiles source (files_taken files.now ++ front_of (parts_of files.now.parts.now) cut.now ∷ [])
+        (nothing_known station.shape) station)) }
+    ensures none { IfOk result (λ found. IfNone found (HasNoFrame (front_of (parts_of files.now.parts.now) cut.now))) }
+{
+    let Some(read) = read_cut(alloc, files.parts, cut)? else {
+        return Ok(None);
+    };
+    let shape = read.partial().shape().to_owned();
+    let mut station = station_of(alloc, source, files, before, shape)?;
+    take_read(&mut station, source, read)?;
+    Ok(Some(station))
+}
+
+/// A station that took the copies, the splices and then the cut file, each under the source if there is one. Its shape is the cut file's.
+///
+/// The cut file is what the choices make of the first parts. It is read as a file that ends there.
+///
+/// `None` comes where some copy or splice has no fault, and where the cut file has no frame. `Err` comes where memory is refused.
+pub fn settle_with_cut(
+    alloc: Global,
+    source: Option<u32>,
+    files: &Files<'_, '_>,
+    cut: &[usize],
+) -> Result<Option<Station>, AllocError>
+    requires some_copy { 0 < length files.now.copies.now }
+    requires whole { AllByRecursion (IsWhole (parts_of files.now.parts.now)) (lists_of files.now.splices.now) }
+    requires short { IsShort (parts_of files.now.parts.now) }
+    requires cut { IsPath (parts_of files.now.parts.now) cut.now }
+    ensures taken { IfOk result (λ found. IfSome found (λ station. TakesCut source (bytes_of files.now.copies.now)
+        (splices_found files.now) (front_of (parts_of files.now.parts.now) cut.now) station)) }
+    ensures nothing { IfOk result (λ found. IfNone found (TakesNoCut (bytes_of files.now.copies.now)
+        (splices_found files.now) (front_of (parts_of files.now.parts.now) cut.now))) }
+{
+    let FilesRead { seen, station } = read_files(alloc, source, files)?;
+    match first_faultless(&seen) {
+        Some(_) => Ok(None),
+        None => take_cut(alloc, source, files, station, cut),
+    }
+}

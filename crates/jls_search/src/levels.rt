@@ -1,0 +1,252 @@
+//! The levels of the search, and the last one at which exactly one path lives.
+
+ghost use Rattle.std.specs.Prelude.{◌≡◌, ℕ, List, Option, ◌+◌, ◌-◌, ◌^◌, ◌<◌, ◌≤◌, ◌∷◌, ◌++◌, [], true, length, get_or, IfOk, IfSome, OnOk};
+ghost use Rattle.std.specs.List.{AllByRecursion, Contains};
+ghost use Rattle.jls_diff.specs.PartsOf.{parts_of};
+ghost use Rattle.jls_search.specs.Choices.{HasSomeWay, IsPath, front_of};
+ghost use Rattle.jls_search.specs.Faultless.{IsDead, IsSought};
+ghost use Rattle.jls_search.specs.Search.{IsKept, IsShort, lists_of};
+ghost use Rattle.jls_search.specs.Levels.{AreJudged, IsLevel, IsLone, IsNext, IsTaken};
+
+use crate::ceiling::is_above;
+use crate::faultless::is_dead;
+use crate::kept::{Judge, keep, reader_on};
+use crate::path::{follow_same, next_way_at};
+use jls_diff::Part;
+use std::alloc::{AllocError, Global};
+
+/// How many paths of a level may live.
+const MOST_LIVING: usize = 64;
+
+/// A level: all paths that go up to the same part in which the copies differ, or to the end.
+#[derive(Drop)]
+struct Level {
+    /// How many choices each has.
+    count: usize,
+    /// Those that were not found dead.
+    living: Vec<Vec<usize>>,
+}
+
+/// A level that is gone through.
+#[derive(Drop)]
+struct Begun {
+    /// The paths so far that were not found dead.
+    living: Vec<Vec<usize>>,
+    /// How many tries are left.
+    left: u32,
+}
+
+/// Whether it was found that no file that is sought begins with what the path makes. `false` says nothing.
+fn is_found_dead(
+    alloc: Global,
+    parts: &[Part<'_>],
+    judge: &Judge,
+    path: &[usize],
+) -> Result<bool, AllocError>
+    requires kept { IfSome judge.now.kept (IsKept (parts_of parts.now)) }
+    requires path { IsPath (parts_of parts.now) path.now }
+    requires few { length (front_of (parts_of parts.now) path.now) ≤ 2 ^ 63 - 1 }
+    ensures { IfOk result
+        (λ dead. dead ≡ true → IsDead (IsSought judge.now.ceiling) (front_of (parts_of parts.now) path.now)) }
+{
+    let reader = reader_on(alloc, parts, &judge.kept, path)?;
+    let above = is_above(judge.ceiling, &reader)?;
+    if above {
+        return Ok(true);
+    }
+    is_dead(reader)
+}
+
+/// Goes on to the next part in which copies differ, or to the end, and judges that path. One that is not found dead is added.
+fn take_path(
+    alloc: Global,
+    parts: &[Part<'_>],
+    judge: &Judge,
+    begin: Vec<usize>,
+    living: &mut Vec<Vec<usize>>,
+) -> Result<(), AllocError>
+    requires short { IsShort (parts_of parts.now) }
+    requires kept { IfSome judge.now.kept (IsKept (parts_of parts.now)) }
+    requires path { IsPath (parts_of parts.now) begin.items }
+    ensures { OnOk result (IsTaken (IsSought judge.now.ceiling) (parts_of parts.now) begin.items
+        (lists_of living.old.items) (lists_of living.new.items)) }
+{
+    let mut path = begin;
+    follow_same(parts, &mut path)?;
+    let dead = is_found_dead(alloc, parts, judge, &path)?;
+    if dead {
+        return Ok(());
+    }
+    living.push(path)?;
+    Ok(())
+}
+
+/// The path, with one choice more.
+fn with_choice(alloc: Global, path: &[usize], choice: usize) -> Result<Vec<usize>, AllocError>
+    ensures { IfOk result (λ longer. longer.items ≡ path.now ++ choice ∷ []) }
+{
+    let mut longer: Vec<usize> = path.iter().copied().collect(alloc)?;
+    longer.push(choice)?;
+    Ok(longer)
+}
+
+/// Judges each path of the next level that begins with this one. `false` where tries are used up before, or too many paths live.
+fn take_ways(
+    alloc: Global,
+    parts: &[Part<'_>],
+    judge: &Judge,
+    path: &[usize],
+    begun: &mut Begun,
+) -> Result<bool, AllocError>
+    requires some_way { AllByRecursion HasSomeWay (parts_of parts.now) }
+    requires short { IsShort (parts_of parts.now) }
+    requires kept { IfSome judge.now.kept (IsKept (parts_of parts.now)) }
+    requires path { IsPath (parts_of parts.now) path.now }
+    requires more { length path.now < length parts.now }
+    requires each { AllByRecursion (IsNext (parts_of parts.now) (length path.now + 1)) (lists_of begun.old.living.items) }
+    ensures each { OnOk result (AllByRecursion (IsNext (parts_of parts.now) (length path.now + 1)) (lists_of begun.new.living.items)) }
+    ensures still { OnOk result ((other : List ℕ) → Contains (lists_of begun.old.living.items) other
+        → Contains (lists_of begun.new.living.items) other) }
+    ensures judged { IfOk result (λ all. all ≡ true → AreJudged (IsSought judge.now.ceiling) (parts_of parts.now) (length path.now + 1)
+        (lists_of begun.new.living.items) path.now) }
+{
+    let mut choice = 0;
+    'ways: while begun.left > 0 && begun.living.len() <= MOST_LIVING {
+        begun.left -= 1;
+        let begin = with_choice(alloc, path, choice)?;
+        take_path(alloc, parts, judge, begin, &mut begun.living)?;
+        match next_way_at(parts, path.len(), choice) {
+            Some(way) => choice = way,
+            None => return Ok(begun.living.len() <= MOST_LIVING),
+        }
+    }
+    Ok(false)
+}
+
+/// The level whose living paths these are, if there are any.
+fn level_of(living: Vec<Vec<usize>>) -> Option<Level>
+    ensures { IfSome result (λ level. (lists_of level.living.items ≡ lists_of living.items)
+        × (0 < length (lists_of living.items)) × (level.count ≡ length (get_or (lists_of living.items) 0 []))) }
+{
+    if living.is_empty() {
+        return None;
+    }
+    let count = living[0].len();
+    Some(Level { count, living })
+}
+
+/// The first level, if its one path lives.
+fn first_level(
+    alloc: Global,
+    parts: &[Part<'_>],
+    judge: &Judge,
+) -> Result<Option<Level>, AllocError>
+    requires short { IsShort (parts_of parts.now) }
+    requires kept { IfSome judge.now.kept (IsKept (parts_of parts.now)) }
+    ensures { IfOk result (λ first. IfSome first (λ level.
+        IsLevel (IsSought judge.now.ceiling) (parts_of parts.now) level.count (lists_of level.living.items))) }
+{
+    let mut living = Vec::new(alloc);
+    take_path(alloc, parts, judge, Vec::new(alloc), &mut living)?;
+    Ok(level_of(living))
+}
+
+/// The level behind this one; `None` where this one is at the end, or no path of that one lives. `None` also comes where that one was not
+/// gone through completely: its tries were used up, or too many paths of it live.
+fn next_level(
+    alloc: Global,
+    parts: &[Part<'_>],
+    judge: &Judge,
+    level: &Level,
+    left: &mut u32,
+) -> Result<Option<Level>, AllocError>
+    requires some_way { AllByRecursion HasSomeWay (parts_of parts.now) }
+    requires short { IsShort (parts_of parts.now) }
+    requires kept { IfSome judge.now.kept (IsKept (parts_of parts.now)) }
+    requires level { IsLevel (IsSought judge.now.ceiling) (parts_of parts.now) level.now.count (lists_of level.now.living.items) }
+    ensures { IfOk result (λ behind. IfSome behind (λ next.
+        IsLevel (IsSought judge.now.ceiling) (parts_of parts.now) next.count (lists_of next.living.items))) }
+{
+    if level.count >= parts.len() {
+        return Ok(None);
+    }
+    let mut begun = Begun {
+        living: Vec::new(alloc),
+        left: *left,
+    };
+    'paths: for path in &level.living {
+        let all = take_ways(alloc, parts, judge, path, &mut begun)?;
+        if !all {
+            return Ok(None);
+        }
+    }
+    *left = begun.left;
+    Ok(level_of(begun.living))
+}
+
+/// Notes the path of a level, if exactly one lives there, and keeps its reader.
+fn note_lone(
+    alloc: Global,
+    parts: &[Part<'_>],
+    judge: &mut Judge,
+    level: &Level,
+    lone: &mut Option<Vec<usize>>,
+) -> Result<(), AllocError>
+    requires short { IsShort (parts_of parts.now) }
+    requires kept { IfSome judge.old.kept (IsKept (parts_of parts.now)) }
+    requires level { IsLevel (IsSought judge.old.ceiling) (parts_of parts.now) level.now.count (lists_of level.now.living.items) }
+    requires lone { IfSome lone.old (λ path. IsLone (IsSought judge.old.ceiling) (parts_of parts.now) path.items) }
+    ensures kept { OnOk result (IfSome judge.new.kept (IsKept (parts_of parts.now))) }
+    ensures ceiling { judge.new.ceiling ≡ judge.old.ceiling }
+    ensures lone { OnOk result (IfSome lone.new (λ path. IsLone (IsSought judge.old.ceiling) (parts_of parts.now) path.items)) }
+{
+    if level.living.len() != 1 {
+        return Ok(());
+    }
+    let path: &[usize] = &level.living[0];
+    let reader = reader_on(alloc, parts, &judge.kept, path)?;
+    keep(alloc, &mut judge.kept, Some(reader), path)?;
+    let choices: Vec<usize> = path.iter().copied().collect(alloc)?;
+    *lone = Some(choices);
+    Ok(())
+}
+
+/// The path of the last level at which exactly one path lives; `None` where there is no such level. A path lives unless it was found that no
+/// file that is sought begins with what it makes. `ceiling` is the greatest sample that such a file may have, if there is a limit.
+///
+/// Levels are gone through in turn. Each path that is judged counts as a try. The search stops at the end of the parts, and where no path
+/// of a level lives. It also stops within a level, where so many tries are used up or more than 64 paths live. Such a level doesn't count.
+///
+/// `Err` comes where memory is refused.
+pub fn lone_path(
+    alloc: Global,
+    parts: &[Part<'_>],
+    ceiling: Option<u16>,
+    limit: u32,
+) -> Result<Option<Vec<usize>>, AllocError>
+    requires some_way { AllByRecursion HasSomeWay (parts_of parts.now) }
+    requires short { IsShort (parts_of parts.now) }
+    ensures { IfOk result (λ found. IfSome found (λ path. IsLone (IsSought ceiling) (parts_of parts.now) path.items)) }
+{
+    if limit == 0 {
+        return Ok(None);
+    }
+    let mut judge = Judge {
+        ceiling,
+        kept: None,
+    };
+    let mut left = limit - 1;
+    let Some(mut level) = first_level(alloc, parts, &judge)? else {
+        return Ok(None);
+    };
+    let mut lone = None;
+    note_lone(alloc, parts, &mut judge, &level, &mut lone)?;
+    'levels: for _ in 0..parts.len() {
+        let Some(next) = next_level(alloc, parts, &judge, &level, &mut left)? else {
+            break;
+        };
+        level = next;
+        note_lone(alloc, parts, &mut judge, &level, &mut lone)?;
+    }
+    Ok(lone)
+}
