@@ -6,6 +6,7 @@ mod CutExamples
 mod DefinitionExamples
 pub mod TwoScanExamples
 pub mod ByLineExamples
+pub mod TwoByLineExamples
 pub mod CutCopyExamples
 pub mod OneCourse
 mod Fitting
