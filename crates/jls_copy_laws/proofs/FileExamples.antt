@@ -27,6 +27,7 @@ use Rattle.jls_copy_laws.specs.Gives.{GivesReading}
 use Rattle.jls_copy_laws.proofs.CopyScans.{course_has_scans}
 use Rattle.jls_copy.proofs.TwoScanExamples as two
 use Rattle.jls_copy.proofs.ByLineExamples as three
+use Rattle.jls_copy.proofs.TwoByLineExamples as pair
 use Rattle.jls_copy.proofs.CutCopyExamples as cut
 
 -- a list of numbers that pass the test are bytes
@@ -163,6 +164,53 @@ gives_line_by_turns = (
   three_data,
   (0, lit< tt, refl),
   (0, whole_piece (0x5A ∷ 0x5A ∷ 0x2C ∷ 0x9A ∷ 0x5D ∷ 0x80 ∷ []), (0, lit< tt, refl), (three.lines, inl by_line_read.read, (4, lit< tt, refl))),
+)
+
+-- Two components by line -----------------------------------------------------------------------------------------
+
+abbrev pair_data : ScanWithData
+pair_data = record { scan = pair.plan; marks = []; pieces = whole_piece (0xF1 ∷ 0x7A ∷ 0x50 ∷ []) ∷ [] }
+
+has_a_paired_scan : HasScans pair.file pair.shape (pair_data ∷ [])
+has_a_paired_scan = course_has_scans pair.file pair.course pair.shape (bytes_of_test pair.file refl) pair.is_course refl
+
+-- it reads as the lines that CharLS was given
+record PairRead : Type 0 where
+  read : IsOutcome pair.piece (Lines pair.lines)
+
+pair_read : PairRead
+unfolding least_from bits width_after golomb quantized_gradient is_negative context modulo_reduced corrected_prediction golomb_k updated run_updated events_from events_after cell_before run_cell_before block_columns full_blocks blocks run_index_before event_bits bits_of_events code bits_read_after is_whole_after ends_data
+pair_read = record {
+  read = record {
+    unread = replicate 2 false;
+    begins = record {
+      are_bytes = (lit< tt, (lit< tt, (lit< tt, tt)));
+      are_lines = record { count_is = refl; each = ((refl, (lit≤ tt, (lit≤ tt, tt))), ((refl, (lit≤ tt, (lit≤ tt, tt))), ((refl, (lit≤ tt, (lit≤ tt, tt))), ((refl, (lit≤ tt, (lit≤ tt, tt))), tt)))) };
+      data_bits = record { whole = refl; read = refl };
+    };
+    at_most_seven = lit≤ tt;
+  };
+}
+
+-- the third line of the interval is that of component 0 in row 1, and the fourth that of component 1
+gives_the_third : GivesReading pair.file (reading_of 0 1 (5 ∷ 7 ∷ []))
+gives_the_third = (
+  pair.shape,
+  pair_data ∷ [],
+  has_a_paired_scan,
+  pair_data,
+  (0, lit< tt, refl),
+  (0, whole_piece (0xF1 ∷ 0x7A ∷ 0x50 ∷ []), (0, lit< tt, refl), (pair.lines, inl pair_read.read, (2, lit< tt, refl))),
+)
+
+gives_the_fourth : GivesReading pair.file (reading_of 1 1 (1 ∷ 255 ∷ []))
+gives_the_fourth = (
+  pair.shape,
+  pair_data ∷ [],
+  has_a_paired_scan,
+  pair_data,
+  (0, lit< tt, refl),
+  (0, whole_piece (0xF1 ∷ 0x7A ∷ 0x50 ∷ []), (0, lit< tt, refl), (pair.lines, inl pair_read.read, (3, lit< tt, refl))),
 )
 
 -- A copy that the input's end cuts off ---------------------------------------------------------------------------
