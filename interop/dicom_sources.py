@@ -1,20 +1,17 @@
 """DICOM files of JPEG-LS frames for interop/dicom, made of test data of Debian's packages: of pydicom, nibabel and GDCM.
 
 What these packages have in another coding is coded by DCMTK (dcmcjpls) or GDCM (gdcmconv). Files of several frames are made of one
-picture: its tiles are the frames, as in a mosaic. Where the packages are unpacked and not installed, DEBIAN_ROOT names the folder.
+picture: its tiles are the frames, as in a mosaic. DEBIAN_ROOT is as in interop/real_pictures.py.
 """
 import glob
-import gzip
 import os
 import shutil
-import subprocess
 
 import numpy
 import pydicom
 from pydicom.uid import ExplicitVRLittleEndian
+from real_pictures import PACKAGES, ROOT, plain_of, run, unpacked
 
-ROOT = os.environ.get("DEBIAN_ROOT", "")
-PACKAGES = f"{ROOT}/usr/lib/python3/dist-packages"
 SINGLE = [
     f"{PACKAGES}/pydicom/data/test_files/{name}.dcm"
     for name in (
@@ -32,30 +29,12 @@ TILED += [("siemens_dwi_0", 128, 12), ("siemens_dwi_1000", 64, 60), ("philips_mp
 LARGEST = 1 << 20  # bytes of a file that is taken, so that the run stays short
 
 
-def unpacked(path, folder):
-    if not path.endswith(".gz"):
-        return path
-    name = os.path.join(folder, os.path.basename(path)[:-3])
-    with gzip.open(path) as packed, open(name, "wb") as out:
-        shutil.copyfileobj(packed, out)
-    return name
-
-
-def run(*words):
-    return subprocess.run(words, capture_output=True).returncode == 0
-
-
 def coded(plain, name):
     """Codes a file as JPEG-LS lossless; answers whether a DICOM program could."""
     for words in (["dcmcjpls", "--interleave-line", plain, name], ["gdcmconv", "--jpegls", plain, name]):
         if run(*words) and pydicom.dcmread(name, stop_before_pixels=True).file_meta.TransferSyntaxUID == "1.2.840.10008.1.2.4.80":
             return True
     return False
-
-
-def plain_of(path, name):
-    """Writes a file without compression."""
-    return run("gdcmconv", "--raw", path, name) or run("dcmconv", "+te", path, name)
 
 
 def tiled(path, name, size, frames):
