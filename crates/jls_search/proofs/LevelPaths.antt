@@ -1,5 +1,6 @@
 -- Paths of one level.
-use Rattle.std.proofs.Common.{◌≡◌, ℕ, zero, suc, ◌+◌, ◌<◌, ◌≤◌, List, [], ◌∷◌, ◌++◌, length, take, refl, sym, ap, ◌∙◌, subst, append_assoc, arith, ◌⊎◌, inl, inr, length-append}
+use Rattle.std.proofs.Common.{◌≡◌, ℕ, zero, suc, ◌+◌, ◌<◌, ◌≤◌, List, [], ◌∷◌, ◌++◌, length, take, refl, sym, ap, ◌∙◌, subst, append_assoc}
+use Rattle.std.proofs.Common.{arith, ◌⊎◌, inl, inr, length-append}
 use Rattle.std.specs.Prelude.{get_or}
 use Rattle.std.specs.List.{AllByRecursion, Contains}
 use Rattle.std.proofs.lemmas.List.Elements.{Contains-append_left, Contains-append_right}
@@ -7,7 +8,7 @@ use Rattle.std.proofs.lemmas.List.{take_at, take_more}
 use Rattle.jls_diff.specs.Parts.{Part, Same, Differ}
 use Rattle.jls_search.specs.Choices.{IsDiffer, IsFirstWay, IsFront, IsPath, front_of}
 use Rattle.jls_search.specs.Faultless.{IsDead}
-use Rattle.jls_search.specs.Levels.{AreJudged, AreSame, IsNext, IsSame, IsTaken}
+use Rattle.jls_search.specs.Levels.{AreJudged, AreSame, IsNext, IsTaken}
 use Rattle.jls_search.proofs.KeptReaders.{front_and_rest}
 use Rattle.jls_search.proofs.Members.{all_and_one}
 use Rattle.jls_search.proofs.Paths.{order, path_at, path_len}
@@ -15,25 +16,21 @@ use Rattle.jls_search.proofs.Paths.{order, path_at, path_len}
 -- Parts that all copies have alike ---------------------------------------------------------------------------------
 
 -- one part more
-pub same_more : (ps : List Part) (from : ℕ) (path next : List ℕ) → next ≡ path ++ 0 ∷ [] → IsSame (get_or ps (length path) (Same []))
-    → AreSame ps from (length path) → AreSame ps from (length next)
+pub same_more : (ps : List Part) (from : ℕ) (path next : List ℕ) → next ≡ path ++ 0 ∷ []
+    → (IsDiffer (get_or ps (length path) (Same [])) → ⊥) → AreSame ps from (length path) → AreSame ps from (length next)
 same_more ps from path next e here before place least less =
     let l = ap length e ∙ length-append path (0 ∷ []) in
     elim (order place (length path)) [
       | inl earlier ↦ before place least earlier
       | inr r ↦ elim r [
-        | inl at ↦ subst (λ n. IsSame (get_or ps n (Same []))) (sym at) here
+        | inl at ↦ subst (λ n. IsDiffer (get_or ps n (Same [])) → ⊥) (sym at) here
         | inr later ↦ absurd (omega (arith, l, less, later))
       ]
     ]
 
-only_way : (part : Part) (choice : ℕ) → IsSame part → IsFirstWay part choice → choice ≡ 0
+only_way : (part : Part) (choice : ℕ) → (IsDiffer part → ⊥) → IsFirstWay part choice → choice ≡ 0
 only_way (Same bytes) choice same first = first
-only_way (Differ ways) choice same first = absurd same
-
-same_or_differ : (part : Part) → IsSame part → IsDiffer part → ⊥
-same_or_differ (Same bytes) same differ = differ
-same_or_differ (Differ ways) same differ = same
+only_way (Differ ways) choice same first = absurd (same tt)
 
 -- paths of one length that begin alike, and differ in no part behind that, are one
 one_path : (ps : List Part) (cs ds : List ℕ) (from : ℕ) → IsPath ps cs → IsPath ps ds → length cs ≡ length ds → take from cs ≡ take from ds
@@ -43,7 +40,7 @@ one_path ps [] (d ∷ ds) from pa pb l e same = absurd (omega (arith, l))
 one_path ps (c ∷ cs) [] from pa pb l e same = absurd (omega (arith, l))
 one_path [] (c ∷ cs) (d ∷ ds) from pa pb l e same = absurd pa
 one_path (p ∷ ps) (c ∷ cs) (d ∷ ds) zero pa pb l e same =
-    let here : IsSame p = same zero (omega arith) (omega arith) in
+    let here : IsDiffer p → ⊥ = same zero (omega arith) (omega arith) in
     let first : c ≡ d = only_way p c here pa.0 ∙ sym (only_way p d here pb.0) in
     let rest = one_path ps cs ds zero pa.1 pb.1 (omega (arith, l)) refl (λ place least less. same (suc place) (omega arith) (omega (arith, less))) in
     ap (λ x. x ∷ cs) first ∙ ap (λ xs. d ∷ xs) rest
@@ -60,7 +57,7 @@ module _ (ps : List Part) (from : ℕ) where
   not_shorter : (cs ds : List ℕ) → IsNext ps from cs → IsNext ps from ds → length cs < length ds → ⊥
   not_shorter cs ds a b less =
       elim a.front [
-        | inl differ ↦ same_or_differ (get_or ps (length cs) (Same [])) (b.same (length cs) a.from_on less) differ
+        | inl differ ↦ b.same (length cs) a.from_on less differ
         | inr end ↦ (let l = path_len ps ds b.is_path in omega (arith, end, l, less))
       ]
 
@@ -120,6 +117,13 @@ module _ (Sought : List ℕ → Type 0) (ps : List Part) where
         elim t.added [
           | inl e ↦ subst (λ xs. Contains xs other) (sym e) (Contains-append_left old (t.path ∷ []) other lives)
           | inr r ↦ subst (λ xs. Contains xs other) (sym r.0) lives
+        ]
+
+    pub one_at_most : length new ≤ length old + 1
+    one_at_most =
+        elim t.added [
+          | inl e ↦ (let a = ap length e ∙ length-append old (t.path ∷ []) in omega (arith, a))
+          | inr r ↦ (let a = ap length r.0 in omega (arith, a))
         ]
 
     pub each_taken : AllByRecursion (IsNext ps (length begin)) old → AllByRecursion (IsNext ps (length begin)) new

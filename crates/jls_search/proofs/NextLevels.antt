@@ -1,11 +1,12 @@
 -- Levels, and the paths that live there.
-use Rattle.std.proofs.Common.{◌≡◌, ℕ, zero, suc, ◌+◌, ◌<◌, List, [], ◌∷◌, ◌++◌, length, take, refl, sym, ap, ◌∙◌, subst, arith, inl, inr, Vec, Global, length-append}
-use Rattle.std.specs.Prelude.{get_or}
+use Rattle.std.proofs.Common.{◌≡◌, ℕ, zero, suc, ◌+◌, ◌<◌, List, [], ◌∷◌, ◌++◌, length, take, refl, sym, ap, ◌∙◌, subst, arith, inl, inr}
+use Rattle.std.proofs.Common.{Option, Some, None, ◌≤◌, Vec, Global, length-append}
+use Rattle.std.specs.Prelude.{get_or, IfNone, IsSome}
 use Rattle.std.specs.List.{AllByRecursion, Contains}
 use Rattle.std.proofs.lemmas.List.{length-take-le}
 use Rattle.jls_diff.specs.Parts.{Part, Same}
 use Rattle.jls_search.specs.Choices.{IsFirstWay}
-use Rattle.jls_search.specs.Levels.{AreJudged, IsLevel, IsLone, IsNext, IsOfLevel, IsTaken, LivesOrIsDead}
+use Rattle.jls_search.specs.Levels.{AreJudged, IsFirstDead, IsLevel, IsLone, IsNext, IsOfLevel, IsTaken, LivesOrIsDead}
 use Rattle.jls_search.specs.Search.{lists_of}
 use Rattle.jls_search.proofs.LevelPaths.{also_next, dead_on, each_taken, first_choices, judged_more, judged_taken, one_length, still_lives}
 use Rattle.jls_search.proofs.Lists.{all_at as all_from}
@@ -16,6 +17,15 @@ module _ {X : Type 0} where
   pub all_weaker : (P Q : X → Type 0) (xs : List X) → ((x : X) → P x → Q x) → AllByRecursion P xs → AllByRecursion Q xs
   all_weaker P Q [] f h = tt
   all_weaker P Q (x ∷ xs) f h = (f x h.0, all_weaker P Q xs f h.1)
+
+-- where nothing is there, what follows
+pub none_then : {X : Type 0} {P Q : Type 0} (o : Option X) → IfNone o P → (P → Q) → IfNone o Q
+none_then None h f = f h
+none_then (Some x) h f = h
+
+pub some_not_none : {X : Type 0} (P : Type 0) (o : Option X) → IsSome o → IfNone o P
+some_not_none P None is = absurd cc
+some_not_none P (Some x) is = tt
 
 -- what holds of each that the code holds
 pub of_lists_at : (P : List ℕ → Type 0) (vs : List (Vec ℕ Global)) (i : ℕ) (v d : Vec ℕ Global) → AllByRecursion P (lists_of vs) → i < length vs
@@ -104,6 +114,18 @@ module _ (Sought : List ℕ → Type 0) (ps : List Part) where
   first_level_is count living taken some count_is =
       level_is 0 count living (each_taken Sought ps [] [] living taken tt) some count_is
       (λ path next. judged_taken Sought ps [] [] living taken path next refl)
+
+  -- it has one path, or that is dead
+  pub first_is_one : (living : List (List ℕ)) → IsTaken Sought ps [] [] living → 0 < length living → length living ≡ 1
+  first_is_one living taken some =
+      elim taken.added [ inl e ↦ ap length e | inr r ↦ absurd (let none = ap length r.0 in omega (arith, none, some)) ]
+
+  pub first_is_dead : (living : List (List ℕ)) → IsTaken Sought ps [] [] living → length living ≡ 0 → IsFirstDead Sought ps
+  first_is_dead living taken none =
+      elim taken.added [
+        | inl e ↦ absurd (let one = ap length e in omega (arith, none, one))
+        | inr r ↦ (taken.path, taken.is_next, r.1)
+      ]
 
   -- the level behind one, each of whose paths was gone on from
   pub next_level_is : (count : ℕ) (old : List (List ℕ)) (next_count : ℕ) (living : List (List ℕ)) → IsLevel Sought ps count old

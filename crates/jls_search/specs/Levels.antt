@@ -1,8 +1,8 @@
 -- Levels of the search. A level is all paths that go up to the same part in which the copies differ, or to the end: they have one length.
 use Rattle.std.specs.Prelude.{◌≡◌, ℕ, ◌<◌, ◌≤◌, List, [], ◌∷◌, ◌++◌, length, take, get_or, ◌⊎◌}
 use Rattle.std.specs.List.{AllByRecursion, Contains}
-use Rattle.jls_diff.specs.Parts.{Part, Same, Differ}
-use Rattle.jls_search.specs.Choices.{IsFront, IsPath, front_of}
+use Rattle.jls_diff.specs.Parts.{Part, Same}
+use Rattle.jls_search.specs.Choices.{IsDiffer, IsFront, IsPath, front_of}
 use Rattle.jls_search.specs.Faultless.{IsDead}
 
 -- a path goes up to a part in which the copies differ, or to the end. Each other path of as many choices makes bytes with which no file of
@@ -10,18 +10,12 @@ use Rattle.jls_search.specs.Faultless.{IsDead}
 pub record IsLone (Sought : List ℕ → Type 0) (parts : List Part) (path : List ℕ) : Type 0 where
   pub is_path : IsPath parts path
   pub front : IsFront parts path
-  pub others : (other : List ℕ) → IsPath parts other → length other ≡ length path → (other ≡ path → ⊥) → IsDead Sought (front_of parts other)
+  pub others : (other : List ℕ) → IsPath parts other → length other ≡ length path → (other ≡ path → ⊥)
+      → IsDead Sought (front_of parts other)
 
--- Inside the crate -------------------------------------------------------------------------------------------------
-
--- all copies have a part alike
-abbrev pub IsSame : Part → Type 0
-IsSame (Same bytes) = Unit {0}
-IsSame (Differ ways) = ⊥
-
--- and each part from this place on, up to that one
+-- copies differ in no part from this place on, up to that one
 abbrev pub AreSame : List Part → ℕ → ℕ → Type 0
-AreSame parts from to = (place : ℕ) → from ≤ place → place < to → IsSame (get_or parts place (Same []))
+AreSame parts from to = (place : ℕ) → from ≤ place → place < to → IsDiffer (get_or parts place (Same [])) → ⊥
 
 -- a path goes from so many choices on to the next part in which copies differ, or to the end
 pub record IsNext (parts : List Part) (from : ℕ) (path : List ℕ) : Type 0 where
@@ -29,6 +23,12 @@ pub record IsNext (parts : List Part) (from : ℕ) (path : List ℕ) : Type 0 wh
   pub front : IsFront parts path
   pub from_on : from ≤ length path
   pub same : AreSame parts from (length path)
+
+-- no file of the kind that is sought begins with what all copies have alike, up to the first part in which they differ, or to the end
+abbrev pub IsFirstDead : (List ℕ → Type 0) → List Part → Type 0
+IsFirstDead Sought parts = (path : List ℕ) × IsNext parts 0 path × IsDead Sought (front_of parts path)
+
+-- Inside the crate -------------------------------------------------------------------------------------------------
 
 -- a path is one of those that live, or no file of the kind that is sought begins with what it makes
 abbrev pub LivesOrIsDead : (List ℕ → Type 0) → List Part → List (List ℕ) → List ℕ → Type 0

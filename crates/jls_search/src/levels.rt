@@ -1,12 +1,13 @@
 //! The levels of the search, and the last one at which exactly one path lives.
 
-ghost use Rattle.std.specs.Prelude.{◌≡◌, ℕ, List, Option, ◌+◌, ◌-◌, ◌^◌, ◌<◌, ◌≤◌, ◌∷◌, ◌++◌, [], true, length, get_or, IfOk, IfSome, OnOk};
+ghost use Rattle.std.specs.Prelude.{◌≡◌, ℕ, List, Option, ◌+◌, ◌-◌, ◌^◌, ◌<◌, ◌≤◌, ◌⊎◌, ◌∷◌, ◌++◌, [], true, None, length, get_or};
+ghost use Rattle.std.specs.Prelude.{IsSome, IfOk, IfSome, IfNone, OnOk};
 ghost use Rattle.std.specs.List.{AllByRecursion, Contains};
 ghost use Rattle.jls_diff.specs.PartsOf.{parts_of};
 ghost use Rattle.jls_search.specs.Choices.{HasSomeWay, IsPath, front_of};
 ghost use Rattle.jls_search.specs.Faultless.{IsDead, IsSought};
 ghost use Rattle.jls_search.specs.Search.{IsKept, IsShort, lists_of};
-ghost use Rattle.jls_search.specs.Levels.{AreJudged, IsLevel, IsLone, IsNext, IsTaken};
+ghost use Rattle.jls_search.specs.Levels.{AreJudged, IsFirstDead, IsLevel, IsLone, IsNext, IsTaken};
 
 use crate::ceiling::is_above;
 use crate::faultless::is_dead;
@@ -109,6 +110,9 @@ fn take_ways(
         → Contains (lists_of begun.new.living.items) other) }
     ensures judged { IfOk result (λ all. all ≡ true → AreJudged (IsSought judge.now.ceiling) (parts_of parts.now) (length path.now + 1)
         (lists_of begun.new.living.items) path.now) }
+    ensures left { OnOk result (begun.new.left ≤ begun.old.left) }
+    ensures spent { OnOk result (length (lists_of begun.new.living.items) + begun.new.left
+        ≤ length (lists_of begun.old.living.items) + begun.old.left) }
 {
     let mut choice = 0;
     'ways: while begun.left > 0 && begun.living.len() <= MOST_LIVING {
@@ -125,8 +129,9 @@ fn take_ways(
 
 /// The level whose living paths these are, if there are any.
 fn level_of(living: Vec<Vec<usize>>) -> Option<Level>
-    ensures { IfSome result (λ level. (lists_of level.living.items ≡ lists_of living.items)
+    ensures some { IfSome result (λ level. (lists_of level.living.items ≡ lists_of living.items)
         × (0 < length (lists_of living.items)) × (level.count ≡ length (get_or (lists_of living.items) 0 []))) }
+    ensures none { IfNone result (length (lists_of living.items) ≡ 0) }
 {
     if living.is_empty() {
         return None;
@@ -135,7 +140,7 @@ fn level_of(living: Vec<Vec<usize>>) -> Option<Level>
     Some(Level { count, living })
 }
 
-/// The first level, if its one path lives.
+/// The first level, if its one path lives: it was not found dead.
 fn first_level(
     alloc: Global,
     parts: &[Part<'_>],
@@ -143,8 +148,10 @@ fn first_level(
 ) -> Result<Option<Level>, AllocError>
     requires short { IsShort (parts_of parts.now) }
     requires kept { IfSome judge.now.kept (IsKept (parts_of parts.now)) }
-    ensures { IfOk result (λ first. IfSome first (λ level.
+    ensures level { IfOk result (λ first. IfSome first (λ level.
         IsLevel (IsSought judge.now.ceiling) (parts_of parts.now) level.count (lists_of level.living.items))) }
+    ensures one { IfOk result (λ first. IfSome first (λ level. length (lists_of level.living.items) ≡ 1)) }
+    ensures dead { IfOk result (λ first. IfNone first (IsFirstDead (IsSought judge.now.ceiling) (parts_of parts.now))) }
 {
     let mut living = Vec::new(alloc);
     take_path(alloc, parts, judge, Vec::new(alloc), &mut living)?;
@@ -164,8 +171,10 @@ fn next_level(
     requires short { IsShort (parts_of parts.now) }
     requires kept { IfSome judge.now.kept (IsKept (parts_of parts.now)) }
     requires level { IsLevel (IsSought judge.now.ceiling) (parts_of parts.now) level.now.count (lists_of level.now.living.items) }
-    ensures { IfOk result (λ behind. IfSome behind (λ next.
+    ensures level { IfOk result (λ behind. IfSome behind (λ next.
         IsLevel (IsSought judge.now.ceiling) (parts_of parts.now) next.count (lists_of next.living.items))) }
+    ensures left { OnOk result (left.new ≤ left.old) }
+    ensures spent { IfOk result (λ behind. IfSome behind (λ next. length (lists_of next.living.items) + left.new ≤ left.old)) }
 {
     if level.count >= parts.len() {
         return Ok(None);
@@ -184,7 +193,7 @@ fn next_level(
     Ok(level_of(begun.living))
 }
 
-/// Notes the path of a level, if exactly one lives there, and keeps its reader.
+/// Notes the path of a level, if exactly one lives there, and keeps its reader. One that was noted before is let go only for that.
 fn note_lone(
     alloc: Global,
     parts: &[Part<'_>],
@@ -199,6 +208,8 @@ fn note_lone(
     ensures kept { OnOk result (IfSome judge.new.kept (IsKept (parts_of parts.now))) }
     ensures ceiling { judge.new.ceiling ≡ judge.old.ceiling }
     ensures lone { OnOk result (IfSome lone.new (λ path. IsLone (IsSought judge.old.ceiling) (parts_of parts.now) path.items)) }
+    ensures noted { OnOk result (length (lists_of level.now.living.items) ≡ 1 → IsSome lone.new) }
+    ensures still { OnOk result (IsSome lone.old → IsSome lone.new) }
 {
     if level.living.len() != 1 {
         return Ok(());
@@ -211,11 +222,14 @@ fn note_lone(
     Ok(())
 }
 
-/// The path of the last level at which exactly one path lives; `None` where there is no such level. A path lives unless it was found that no
-/// file that is sought begins with what it makes. `ceiling` is the greatest sample that such a file may have, if there is a limit.
+/// The path of the last level at which exactly one path lives. A path lives unless it was found that no file that is sought begins with
+/// what it makes. `ceiling` is the greatest sample that such a file may have, if there is a limit.
 ///
 /// Levels are gone through in turn. Each path that is judged counts as a try. The search stops at the end of the parts, and where no path
 /// of a level lives. It also stops within a level, where so many tries are used up or more than 64 paths live. Such a level doesn't count.
+///
+/// The first level has one path: what all copies have alike, up to the first part in which they differ. So `None` comes only where no file
+/// that is sought begins so, or no try is allowed.
 ///
 /// `Err` comes where memory is refused.
 pub fn lone_path(
@@ -226,7 +240,9 @@ pub fn lone_path(
 ) -> Result<Option<Vec<usize>>, AllocError>
     requires some_way { AllByRecursion HasSomeWay (parts_of parts.now) }
     requires short { IsShort (parts_of parts.now) }
-    ensures { IfOk result (λ found. IfSome found (λ path. IsLone (IsSought ceiling) (parts_of parts.now) path.items)) }
+    ensures lone { IfOk result (λ found. IfSome found (λ path. IsLone (IsSought ceiling) (parts_of parts.now) path.items)) }
+    ensures some { IfOk result (λ found. IfNone found ((limit ≡ 0) ⊎ IsFirstDead (IsSought ceiling) (parts_of parts.now))) }
+    ensures untried { limit ≡ 0 → IfOk result (λ found. found ≡ None) }
 {
     if limit == 0 {
         return Ok(None);

@@ -1,12 +1,13 @@
 //! Paths of the search: a way for each of the first parts.
 
-ghost use Rattle.std.specs.Prelude.{◌≡◌, ℕ, List, ◌<◌, ◌≤◌, ◌↔◌, ◌++◌, map, length, get_or, [], true, false, IsTrue, IfOk, IfSome, IfNone, OnOk};
+ghost use Rattle.std.specs.Prelude.{◌≡◌, ℕ, List, ◌<◌, ◌≤◌, ◌↔◌, ◌++◌, map, length, get_or, [], true, false, IsTrue, IfOk, IfSome, IfNone};
+ghost use Rattle.std.specs.Prelude.{OnOk};
 ghost use Rattle.std.specs.List.{AllByRecursion};
 ghost use Rattle.jls_diff.specs.PartsOf.{part_of, parts_of};
 ghost use Rattle.jls_diff.specs.Parts.{Same};
 ghost use Rattle.jls_search.specs.Choices.{IsDiffer, IsFirstWay, IsFront, IsNew, IsPath, IsWhole, HasSomeWay};
 ghost use Rattle.jls_search.specs.Order.{Goes, IsToCome, IsBehind};
-ghost use Rattle.jls_search.specs.Levels.{AreSame, IsSame};
+ghost use Rattle.jls_search.specs.Levels.{AreSame};
 
 use jls_diff::Part;
 use std::alloc::AllocError;
@@ -70,7 +71,7 @@ pub fn next_way_at(parts: &[Part<'_>], place: usize, behind: usize) -> Option<us
 /// Whether all copies have the part alike.
 fn is_same(part: &Part<'_>) -> bool
     ensures same { result ≡ true → IsFirstWay (part_of part.now) 0 }
-    ensures alike { result ≡ true → IsSame (part_of part.now) }
+    ensures alike { result ≡ true → ¬ IsDiffer (part_of part.now) }
     ensures differ { result ≡ false → IsDiffer (part_of part.now) }
 {
     match part {
@@ -80,10 +81,10 @@ fn is_same(part: &Part<'_>) -> bool
 }
 
 /// The same, of the part at this place.
-fn is_same_at(parts: &[Part<'_>], place: usize) -> bool
+pub(crate) fn is_same_at(parts: &[Part<'_>], place: usize) -> bool
     requires { place < length parts.now }
     ensures same { result ≡ true → IsFirstWay (get_or (parts_of parts.now) place (Same [])) 0 }
-    ensures alike { result ≡ true → IsSame (get_or (parts_of parts.now) place (Same [])) }
+    ensures alike { result ≡ true → ¬ IsDiffer (get_or (parts_of parts.now) place (Same [])) }
     ensures differ { result ≡ false → IsDiffer (get_or (parts_of parts.now) place (Same [])) }
 {
     is_same(&parts[place])

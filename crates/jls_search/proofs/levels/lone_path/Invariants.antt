@@ -1,5 +1,5 @@
 use Rattle.std.proofs.Common.{◌≡◌}
-use Rattle.std.specs.Prelude.{IfSome}
+use Rattle.std.specs.Prelude.{IfSome, IsSome}
 use Rattle.jls_diff.specs.PartsOf.{parts_of}
 use Rattle.jls_search.specs.Faultless.{IsSought}
 use Rattle.jls_search.specs.Levels.{IsLevel, IsLone}
@@ -12,4 +12,5 @@ invariant-levels l = record {
   kept : IfSome l.judge.kept (IsKept (parts_of l.parts));
   level : IsLevel (IsSought l.judge.ceiling) (parts_of l.parts) l.level.count (lists_of l.level.living.items);
   lone : IfSome l.lone (λ path. IsLone (IsSought l.judge.ceiling) (parts_of l.parts) path.items);
+  some : IsSome l.lone;
 }

@@ -45,15 +45,19 @@ paths-preserved c =
     let is = item_of_level vs c.deref-path-items.result.now c.paths.path-index c.path-item.result path c.deref-path-items.ensures.value
     c.paths-test.true c.path-item.is c.deref.ensures.value ps count c.requires.level.each in
     let all : c.in_ok-all.all ≡ true = search rules in
+    let so_far = c.paths.invariant in
+    let went = c.in_ok-all.ensures in
     record {
+      left = omega (arith, so_far.left, went.left);
+      spent = omega (arith, so_far.spent, went.spent);
       each = subst (λ n. AllByRecursion (IsNext ps (n + 1)) new) is.2 c.in_ok-all.ensures.each;
       judged = judged_one_more vs c.deref-path-items.result.now c.paths.path-index c.path-item.result path c.deref-path-items.ensures.value
           c.paths-test.true c.path-item.is c.deref.ensures.value Sought ps (count + 1) old new c.in_ok-all.ensures.still c.paths.invariant.judged
           (subst (λ n. AreJudged Sought ps (n + 1) new path) is.2 (c.in_ok-all.ensures.judged all));
     }
 
-pub returns : goal.returns
-returns c =
+pub returns-clause-level : goal.returns-clause-level
+returns-clause-level c =
     let Sought : List ℕ → Type 0 = IsSought c.args.judge.now.ceiling in
     let ps : List Part = parts_of c.args.parts.now in
     let count : ℕ = c.args.level.now.count in
@@ -66,6 +70,11 @@ returns c =
     of_lists (AreJudged Sought ps (count + 1) living) vs
     (subst (λ (ws : List (Vec ℕ Global)). AllByRecursion (λ (w : Vec ℕ Global). AreJudged Sought ps (count + 1) living w.items) ws) all
     c.paths.invariant.judged) in
-    IfSome_then c.level_of.result c.level_of.ensures (λ next is.
+    IfSome_then c.level_of.result c.level_of.ensures.some (λ next is.
     subst (IsLevel Sought ps next.count) (sym is.0)
     (next_level_is Sought ps count (lists_of vs) next.count living c.requires.level judged c.paths.invariant.each is.1 is.2))
+
+pub returns-clause-spent : goal.returns-clause-spent
+returns-clause-spent c =
+    let so_far = c.paths.invariant in
+    IfSome_then c.level_of.result c.level_of.ensures.some (λ next is. let e = ap length is.0 in omega (arith, e, so_far.spent))

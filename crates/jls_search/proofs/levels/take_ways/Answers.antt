@@ -1,10 +1,10 @@
-use Rattle.std.proofs.Common.{ℕ, ◌<◌, List, length, sym, subst}
+use Rattle.std.proofs.Common.{ℕ, ◌<◌, List, length, sym, subst, arith}
 use Rattle.jls_diff.specs.Parts.{Part}
 use Rattle.jls_diff.specs.PartsOf.{parts_of}
 use Rattle.jls_search.specs.Choices.{IsPath}
 use Rattle.jls_search.specs.Faultless.{IsSought}
 use Rattle.jls_search.specs.Search.{lists_of}
-use Rattle.jls_search.proofs.LevelPaths.{all_ways, still_lives}
+use Rattle.jls_search.proofs.LevelPaths.{all_ways, one_at_most, still_lives}
 use Rattle.jls_search.proofs.NextLevels.{each_way, ways_up_to}
 use Rattle.jls_search.proofs.Paths.{length-map, path_more}
 use Rattle.jls_search.proofs.levels.take_ways.Goals as goal
@@ -28,7 +28,10 @@ ways-preserved c =
     let taken = c.in_ok-take_path.ensures in
     let so_far = c.ways.invariant in
     let next = c.in-Some.ensures.some in
+    let grew = one_at_most Sought ps begin old new taken in
     record {
+      left = omega (arith, so_far.left);
+      spent = omega (arith, so_far.spent, grew, c.ways-test.true);
       first = next.0;
       each = each_way Sought ps path c.ways.choice begin c.in_ok-begin.ensures old new taken so_far.each;
       still = λ other lives. still_lives Sought ps begin old new taken other (so_far.still other lives);
@@ -50,3 +53,10 @@ returns-in-None-clause-judged c = λ _.
     all_ways Sought ps path new
     (λ way first. ways_up_to Sought ps path c.ways.choice c.in_ok-begin.begin.items c.in_ok-begin.ensures (lists_of c.ways.begun.living.items) new
     c.in_ok-take_path.ensures c.ways.invariant.before way first (λ more. c.in-None.ensures.none way more first))
+
+pub returns-in-None-clause-spent : goal.returns-in-None-clause-spent
+returns-in-None-clause-spent c =
+    let so_far = c.ways.invariant in
+    let grew = one_at_most (IsSought c.args.judge.now.ceiling) (parts_of c.args.parts.now) c.in_ok-begin.begin.items (lists_of c.ways.begun.living.items)
+    (lists_of c.take_path.new.living.items) c.in_ok-take_path.ensures in
+    omega (arith, so_far.spent, grew, c.ways-test.true)

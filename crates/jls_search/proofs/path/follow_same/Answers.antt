@@ -1,10 +1,10 @@
-use Rattle.std.proofs.Common.{◌≡◌, ℕ, ◌<◌, List, [], ◌∷◌, ◌++◌, length, get_or, true, false, inl, inr, ◌≤◌, arith, sym, ap, ◌∙◌, subst, append_assoc, rules}
+use Rattle.std.proofs.Common.{◌≡◌, ℕ, ◌<◌, List, [], ◌∷◌, ◌++◌, length, get_or, true, false, inl, inr, ◌≤◌, arith, sym, ap, ◌∙◌, subst}
+use Rattle.std.proofs.Common.{append_assoc, rules}
 use Rattle.std.proofs.lemmas.List.{append-nil}
 use Rattle.jls_diff.specs.PartsOf.{part_of, parts_of}
 use Rattle.jls_diff.specs.Parts as spec
 use Rattle.jls_search.specs.Choices.{IsDiffer, IsFirstWay, IsPath}
 use Rattle.jls_search.specs.Order.{IsToCome}
-use Rattle.jls_search.specs.Levels.{IsSame}
 use Rattle.jls_search.proofs.LevelPaths.{same_more}
 use Rattle.jls_search.proofs.Paths.{path_len, path_more, to_come_more, length-map}
 use Rattle.jls_search.proofs.path.follow_same.Goals as goal
@@ -26,7 +26,7 @@ loop-path-preserved c =
             ∙ append_assoc c.args.path.now.items c.loop-path.invariant.2.0 (0 ∷ []),
       ),
       same_more ps (length c.args.path.now.items) path c.push.new.self.items c.in_ok-push.ensures.items
-          (subst (λ n. IsSame (get_or ps n (spec.Same []))) (c.len-in-loop-path.ensures ∙ c.loop-path.path.ok.0) (c.is_same_at.ensures.alike same))
+          (subst (λ n. IsDiffer (get_or ps n (spec.Same [])) → ⊥) (c.len-in-loop-path.ensures ∙ c.loop-path.path.ok.0) (c.is_same_at.ensures.alike same))
           c.loop-path.invariant.3,
     )
 
