@@ -1,5 +1,6 @@
 -- What a reader tells of files without a fault.
-use Rattle.std.proofs.Common.{◌≡◌, ℕ, ◌<◌, Bool, true, false, List, [], ◌∷◌, ◌++◌, length, Option, Some, None, Result, Ok, Err, refl, sym, ap, ◌∙◌, subst, arith, zero, suc}
+use Rattle.std.proofs.Common.{◌≡◌, ℕ, ◌<◌, Bool, true, false, List, [], ◌∷◌, ◌++◌, length, Option, Some, None, Result, Ok, Err, refl, sym}
+use Rattle.std.proofs.Common.{ap, ◌∙◌, subst, arith, zero, suc}
 use Rattle.std.specs.Prelude.{IfSome, IfOk}
 use Rattle.std.specs.declared.alloc.AllocError.{AllocError}
 use Rattle.std.specs.List.{AllByRecursion, Contains}
@@ -36,7 +37,7 @@ module _ {X : Type 0} where
 
 -- Pieces -----------------------------------------------------------------------------------------------------------
 
-lines_or_fault : (p : FoundPiece) (lines : List (List ℕ)) (kind : PieceKind) → HasScan p → IsOutcome p (Lines lines) → IsOutcome p (Fault kind) → ⊥
+pub lines_or_fault : (p : FoundPiece) (lines : List (List ℕ)) (kind : PieceKind) → HasScan p → IsOutcome p (Lines lines) → IsOutcome p (Fault kind) → ⊥
 lines_or_fault p lines kind scan a b =
     let e = one_outcome p.plan p.number p.bytes (Lines lines) (Fault kind) scan a b in absurd cc
 

@@ -1,5 +1,6 @@
 -- The splices of both searches, in one list.
-use Rattle.std.proofs.Common.{◌≡◌, ◌<◌, ℕ, Bool, true, false, List, [], ◌∷◌, Option, ◌++◌, length, take, drop, Vec, Global, Some, None, refl, sym, ap, ◌∙◌, subst, arith, inl, inr, ◌⊎◌}
+use Rattle.std.proofs.Common.{◌≡◌, ◌<◌, ℕ, Bool, true, false, List, [], ◌∷◌, Option, ◌++◌, length, take, drop, Vec, Global, Some, None}
+use Rattle.std.proofs.Common.{refl, sym, ap, ◌∙◌, subst, arith, inl, inr, ◌⊎◌}
 use Rattle.std.specs.List.{AllByRecursion}
 use Rattle.std.proofs.lemmas.List.{append-nil, map-append, take-append-drop}
 use Rattle.std.proofs.Math.Seq.{take-append_seam, drop-append_seam, take-length}
@@ -10,9 +11,9 @@ use Rattle.jls_search.specs.Search.{CameTo, MakeFiles, lists_of, files_of}
 use Rattle.jls_search.proofs.Paths.{length-map}
 use Rattle.jls_diff.specs.Groups.{CoverParts, IsGroup}
 use Rattle.jls_diff.specs.declared.group.Group.{Group}
-use Rattle.jls_search.specs.OfGroups.{IsOfGroup}
+use Rattle.jls_search.specs.OfGroups.{IsOfGroup, IsOnce}
 use Rattle.jls_search.specs.GroupTries.{AreGroupsSearched}
-use Rattle.jls_search.specs.Found.{AreGroupTries, IsFound, by_groups_of}
+use Rattle.jls_search.specs.Found.{IsFound, IsGroupSearch, by_groups_of}
 use Rattle.jls_search.specs.declared.found.GroupsTold.{GroupsTold}
 
 abbrev items_of : Vec ℕ Global → List ℕ
@@ -36,14 +37,16 @@ module _ (vs more : List (Vec ℕ Global)) (n : ℕ) (at : n ≡ length vs) wher
       ∙ drop-append_seam (lists_of vs) (lists_of more)
 
   -- a search by groups that found those after them
-  pub group_tries : (limit copies : ℕ) (told : GroupsTold) → 0 < copies
-      → AreGroupsSearched limit copies told.groups told.tries (length more) told.is_used_up
-      → AreGroupTries limit (by_groups_of (drop n (lists_of (vs ++ more))) told)
-  group_tries limit copies told some searched = record {
-    copies = copies;
-    some_copy = some;
-    searched =
-        subst (λ (found : ℕ). AreGroupsSearched limit copies told.groups told.tries found told.is_used_up) (sym (ap length back_is ∙ count_of more)) searched;
+  pub group_search : (limit copies : ℕ) (ps : List Part) (gs : List Group) (told : GroupsTold) → AllByRecursion (IsGroup ps) gs → CoverParts ps gs
+      → told.groups ≡ length gs → IsOnce (lists_of more) → AreGroupsSearched limit copies ps gs told.tries (lists_of more) told.is_used_up
+      → IsGroupSearch limit copies ps (by_groups_of (drop n (lists_of (vs ++ more))) told)
+  group_search limit copies ps gs told groups cover count once searched = record {
+    groups = gs;
+    are_groups = groups;
+    cover = cover;
+    count_is = count;
+    once = subst IsOnce (sym back_is) once;
+    searched = subst (λ found. AreGroupsSearched limit copies ps gs told.tries found told.is_used_up) (sym back_is) searched;
   }
 
 pub all_is : (vs : List (Vec ℕ Global)) (n : ℕ) → n ≡ length vs → take n (lists_of vs) ≡ lists_of vs
@@ -112,7 +115,7 @@ module _ (ps : List Part) where
 
   whole_of_groups : (found : List (List ℕ)) → AllByRecursion (IsOfGroup ps) found → AllByRecursion (IsWhole ps) found
   whole_of_groups [] each = tt
-  whole_of_groups (choices ∷ found) each = (each.0.whole, whole_of_groups found each.1)
+  whole_of_groups (choices ∷ found) each = (each.0.is.whole, whole_of_groups found each.1)
 
   all_append : (xs ys : List (List ℕ)) → AllByRecursion (IsWhole ps) xs → AllByRecursion (IsWhole ps) ys → AllByRecursion (IsWhole ps) (xs ++ ys)
   all_append [] ys h j = j

@@ -1,12 +1,27 @@
--- A search by groups, one copy more outside of a group and one group more.
-use Rattle.std.proofs.Common.{◌≡◌, ℕ, ◌+◌, ◌-◌, ◌^◌, ◌<◌, ◌≤◌, ◌⊎◌, ◌||◌, Bool, true, false, List, [], ◌∷◌, ◌++◌, length, min, refl, sym, ap, ◌∙◌, subst, arith, inl, inr, length-append, Vec, Global}
-use Rattle.std.specs.List.{AllByRecursion, list_any}
-use Rattle.std.proofs.lemmas.List.Sums.{sum_by_push}
+-- A search by groups, one try more, one copy more outside of a group and one group more.
+use Rattle.std.proofs.Common.{◌≡◌, ℕ, zero, suc, ◌+◌, ◌-◌, ◌^◌, ◌<◌, ◌≤◌, ◌⊎◌, ◌||◌, Bool, true, false, List, [], ◌∷◌, ◌++◌, length, map}
+use Rattle.std.proofs.Common.{min, take}
+use Rattle.std.proofs.Common.{get_or, refl, sym, ap, ◌∙◌, subst, arith, inl, inr, length-append, append_assoc, Option, Some, None, Vec}
+use Rattle.std.proofs.Common.{Global}
+use Rattle.std.specs.Prelude.{slice_get}
+use Rattle.std.specs.List.{AllByRecursion, Contains, flat_map, list_any}
+use Rattle.std.specs.List.Sorted.{IsPermutation}
+use Rattle.std.proofs.lemmas.Grind.{flat_map-append}
+use Rattle.std.proofs.lemmas.List.{append-nil, map-append, take_more}
+use Rattle.std.proofs.lemmas.List.Elements.{Contains-append_left, Contains-push_cases}
 use Rattle.std.proofs.lemmas.List.Folds.{list_any-append}
-use Rattle.jls_search.specs.GroupTries.{SettingSearched, tries_in, found_in, is_cut_in, IsSettingSearched, IsGroupSearched, AreGroupsSearched, GoesThrough, GoesThroughCopies}
+use Rattle.std.proofs.lemmas.List.Sorted.{IsPermutation-append_left, IsPermutation-refl, IsPermutation-trans}
+use Rattle.std.proofs.lemmas.List.Sums.{sum_by_push}
+use Rattle.jls_diff.specs.Parts.{Part}
+use Rattle.jls_diff.specs.declared.group.Group.{Group}
+use Rattle.jls_search.specs.GroupTries.{SettingSearched, GroupSearched, tries_in, given_in, is_cut_in, IsSettingSearched, IsGroupSearched}
+use Rattle.jls_search.specs.GroupTries.{AreGroupsSearched, GoesThrough, GoesThroughCopies}
+use Rattle.jls_search.specs.OfGroups.{AddsOne, AreOfGroups, IsOfGroup, IsOnce, IsSetting, IsSettled, IsSoughtWith, ReadsWith}
+use Rattle.jls_search.specs.declared.setting.Setting.{Setting}
 use Rattle.jls_search.specs.declared.whole_search.Searched.{Searched}
 use Rattle.jls_search.specs.Search.{lists_of}
 use Rattle.jls_search.proofs.Lists.{all_more}
+use Rattle.jls_search.proofs.Members.{is_first, in_rest, none_in}
 use Rattle.jls_search.proofs.Paths.{length-map, order}
 
 pub count_of : (vs : List (Vec ℕ Global)) → length (lists_of vs) ≡ length vs
@@ -28,114 +43,194 @@ or_swap true false = refl
 or_swap false true = refl
 or_swap false false = refl
 
-any_push : {X : Type 0} (p : X → Bool) (xs : List X) (x : X) → list_any p (xs ++ x ∷ []) ≡ (list_any p xs || p x)
-any_push p xs x = list_any-append p xs (x ∷ []) ∙ ap (λ (b : Bool). list_any p xs || b) (or_none (p x))
+module _ {X : Type 0} where
+  any_push : (p : X → Bool) (xs : List X) (x : X) → list_any p (xs ++ x ∷ []) ≡ (list_any p xs || p x)
+  any_push p xs x = list_any-append p xs (x ∷ []) ∙ ap (λ (b : Bool). list_any p xs || b) (or_none (p x))
+
+  flat_push : (f : X → List (List ℕ)) (xs : List X) (x : X) → flat_map f (xs ++ x ∷ []) ≡ flat_map f xs ++ f x
+  flat_push f xs x = flat_map-append f xs (x ∷ []) ∙ ap (λ z. flat_map f xs ++ z) (append-nil (f x))
+
+  -- what holds of each and its number, with one more
+  numbered_push : (P : ℕ → X → Type 0) (xs : List X) (x : X) → ((i : ℕ) (y : X) → slice_get xs i ≡ Some y → P i y) → P (length xs) x
+      → (i : ℕ) (y : X) → slice_get (xs ++ x ∷ []) i ≡ Some y → P i y
+  numbered_push P [] x each last zero y e = (let same : x ≡ y = cc in subst (P 0) same last)
+  numbered_push P [] x each last (suc i) y e = absurd cc
+  numbered_push P (z ∷ xs) x each last zero y e = each zero y e
+  numbered_push P (z ∷ xs) x each last (suc i) y e = numbered_push (λ k. P (suc k)) xs x (λ k w at. each (suc k) w at) last i y e
+
+-- Choices that were found ------------------------------------------------------------------------------------------
+
+once_push : (found : List (List ℕ)) (choices : List ℕ) → IsOnce found → (Contains found choices → ⊥) → IsOnce (found ++ choices ∷ [])
+once_push [] choices once new = (none_in choices, tt)
+once_push (other ∷ found) choices once new = (
+  λ among. elim (Contains-push_cases found choices other among) [
+    | inl was ↦ once.0 was
+    | inr e ↦ new (subst (Contains (other ∷ found)) (sym e) (is_first other found))
+  ],
+  once_push found choices once.1 (λ was. new (in_rest choices other found was)),
+)
+
+-- these were found with a setting, behind those before
+abbrev pub Added : List Part → Setting → List (List ℕ) → List (List ℕ) → Type 0
+Added ps s before found =
+    (more : List (List ℕ)) × (found ≡ before ++ more) × AllByRecursion (ReadsWith ps s.group s.copy) more
+
+pub none_added : (ps : List Part) (s : Setting) (before : List (List ℕ)) → Added ps s before before
+none_added ps s before = ([], sym (append-nil before), tt)
+
+module _ (ps : List Part) (s : Setting) (old new : List (List ℕ)) where
+  pub added_more : (before : List (List ℕ)) → Added ps s before old → AddsOne ps s old new → Added ps s before new
+  added_more before (more, e, each) (inl same) = (more, same ∙ e, each)
+  added_more before (more, e, each) (inr (choices, is, not, added)) = (
+    more ++ choices ∷ [],
+    added ∙ ap (λ xs. xs ++ choices ∷ []) e ∙ append_assoc before more (choices ∷ []),
+    all_more (ReadsWith ps s.group s.copy) more choices each is,
+  )
+
+  pub of_groups_more : IsSetting ps s → AreOfGroups ps old → AddsOne ps s old new → AreOfGroups ps new
+  of_groups_more setting are (inl same) = subst (AreOfGroups ps) (sym same) are
+  of_groups_more setting are (inr (choices, is, not, added)) =
+      subst (AreOfGroups ps) (sym added) (
+        all_more (IsOfGroup ps) old choices are.0
+            (record { group = s.group; is_group = setting.0; copy = s.copy; is_copy = setting.1; is = is }),
+        once_push old choices are.1 not,
+      )
+
+  pub one_at_most : AddsOne ps s old new → length new ≤ length old + 1
+  one_at_most (inl same) = (let a = ap length same in omega (arith, a))
+  one_at_most (inr (choices, is, not, added)) = (let a = ap length added ∙ length-append old (choices ∷ []) in omega (arith, a))
+
+-- Settings ---------------------------------------------------------------------------------------------------------
 
 -- more tries of the group, and more splices
-module _ (limit t u m n : ℕ) (tried : t ≤ u) (within : u ≤ limit) (found : m ≤ n) (few : n ≤ 4096) where
-  setting_later : (s : SettingSearched) → IsSettingSearched limit t m s → IsSettingSearched limit u n s
-  setting_later s is = record {
+module _ (limit t u : ℕ) (ps : List Part) (m n more : List (List ℕ)) (tried : t ≤ u) (within : u ≤ limit) (on : n ≡ m ++ more) (few : length n ≤ 4096) where
+  setting_later : (group : Group) (copy : ℕ) (s : SettingSearched) → IsSettingSearched limit t ps m group copy s → IsSettingSearched limit u ps n group copy s
+  setting_later group copy s is = record {
     few = is.few;
+    each = is.each;
     some = is.some;
-    cut_off = λ e.
-        elim (is.cut_off e) [
-          | inl all ↦ inl (omega (arith, all, tried, within))
-          | inr r ↦ elim r [ inl full ↦ inr (inl full) | inr most ↦ inr (inr (omega (arith, most, found, few))) ]
-        ];
+    cut_off = λ e. elim (is.cut_off e) [
+      | inl all ↦ inl (omega (arith, all, tried, within))
+      | inr r ↦ elim r [
+        | inl full ↦ inr (inl full)
+        | inr most ↦ inr (inr (let l = ap length on ∙ length-append m more in omega (arith, most, l, few)))
+      ]
+    ];
+    all = λ e choices reads low. elim (is.all e choices reads low) [
+      | inl was ↦ inl (subst (λ xs. Contains xs choices) (sym on) (Contains-append_left m more choices was))
+      | inr passed ↦ inr passed
+    ];
   }
 
-  settings_later : (ss : List SettingSearched) → AllByRecursion (IsSettingSearched limit t m) ss → AllByRecursion (IsSettingSearched limit u n) ss
-  settings_later [] each = tt
-  settings_later (s ∷ ss) each = (setting_later s each.0, settings_later ss each.1)
-
-module _ (limit copies m n : ℕ) (found : m ≤ n) (few : n ≤ 4096) where
-  group_later : (ss : List SettingSearched) → IsGroupSearched limit copies m ss → IsGroupSearched limit copies n ss
-  group_later ss is = record {
+module _ (limit copies : ℕ) (ps : List Part) (m n more : List (List ℕ)) (on : n ≡ m ++ more) (few : length n ≤ 4096) where
+  group_later : (g : GroupSearched) → IsGroupSearched limit copies ps m g → IsGroupSearched limit copies ps n g
+  group_later g is = record {
     each_copy = is.each_copy;
     within = is.within;
-    each = settings_later limit (tries_in ss) (tries_in ss) m n (omega arith) is.within found few ss is.each;
+    each = λ copy s at. setting_later limit (tries_in g.settings) (tries_in g.settings) ps m n more (omega arith) is.within on few g.group copy s (is.each copy s at);
   }
 
-  groups_later : (gs : List (List SettingSearched)) → AllByRecursion (IsGroupSearched limit copies m) gs → AllByRecursion (IsGroupSearched limit copies n) gs
+  groups_later : (gs : List GroupSearched) → AllByRecursion (IsGroupSearched limit copies ps m) gs → AllByRecursion (IsGroupSearched limit copies ps n) gs
   groups_later [] each = tt
   groups_later (g ∷ gs) each = (group_later g each.0, groups_later gs each.1)
 
 -- a setting that was gone through
-pub went : (limit : ℕ) (before more : Searched) (cut : Bool) → before.tries ≤ more.tries → more.tries ≤ limit
-    → length before.splices.items ≤ length more.splices.items → length more.splices.items ≤ min (length before.splices.items + 64) 4096
-    → (cut ≡ false → before.tries < more.tries)
+pub went : (limit : ℕ) (ps : List Part) (s : Setting) (before more : Searched) (cut : Bool) → before.tries ≤ more.tries → more.tries ≤ limit
+    → Added ps s (lists_of before.splices.items) (lists_of more.splices.items)
+    → length more.splices.items ≤ min (length before.splices.items + 64) 4096 → (cut ≡ false → before.tries < more.tries)
     → (cut ≡ true → (more.tries ≡ limit) ⊎ (min (length before.splices.items + 64) 4096 ≤ length more.splices.items))
-    → more.is_used_up ≡ (cut || before.is_used_up) → GoesThrough limit before more
-went limit before more cut tried within found few some full used = record {
-  setting = record {
-    tries = more.tries - before.tries;
-    found = length more.splices.items - length before.splices.items;
-    is_cut_off = cut;
-  };
+    → more.is_used_up ≡ (cut || before.is_used_up)
+    → (cut ≡ false → (choices : List ℕ) → IsSoughtWith ps s choices → IsSettled ps s.group (lists_of more.splices.items) choices)
+    → GoesThrough limit ps s before more
+went limit ps s before more cut tried within (added, on, each) few some full used settled = record {
+  came_to = record { tries = more.tries - before.tries; splices = added; is_cut_off = cut };
   is = record {
-    few = omega (arith, found, few);
+    few = omega (arith, all, old, new, few);
+    each = each;
     some = λ e. let l : before.tries < more.tries = some e in omega (arith, l);
-    cut_off = λ e. elim (full e) [ inl all ↦ inl all | inr most ↦ inr (end most) ];
+    cut_off = λ e. elim (full e) [ inl spent ↦ inl spent | inr most ↦ inr (end most) ];
+    all = λ e choices reads low. settled e choices (reads, low);
   };
   tries = omega (arith, tried);
   within = within;
-  found = omega (arith, found);
-  few = omega (arith, few);
+  found = on;
+  few = omega (arith, new, few);
   used_up = used;
 }
   where
+    all : length (lists_of more.splices.items) ≡ length (lists_of before.splices.items) + length added
+    all = ap length on ∙ length-append (lists_of before.splices.items) added
+
+    old : length (lists_of before.splices.items) ≡ length before.splices.items
+    old = count_of before.splices.items
+
+    new : length (lists_of more.splices.items) ≡ length more.splices.items
+    new = count_of more.splices.items
+
     end : min (length before.splices.items + 64) 4096 ≤ length more.splices.items
-        → (length more.splices.items - length before.splices.items ≡ 64) ⊎ (length more.splices.items ≡ 4096)
+        → (length added ≡ 64) ⊎ (length (lists_of more.splices.items) ≡ 4096)
     end most =
         elim (order (length before.splices.items + 64) 4096) [
-          | inl small ↦ inl (omega (arith, small, most, found, few))
+          | inl small ↦ inl (omega (arith, small, most, few, all, old, new))
           | inr r ↦ elim r [
-            | inl same ↦ inl (omega (arith, same, most, found, few))
-            | inr large ↦ inr (omega (arith, large, most, found, few))
+            | inl same ↦ inl (omega (arith, same, most, few, all, old, new))
+            | inr large ↦ inr (omega (arith, large, most, few, new))
           ]
         ]
 
+-- Copies -----------------------------------------------------------------------------------------------------------
+
 -- no copy yet
-pub goes_first : (limit : ℕ) (s : Searched) → s.tries ≡ 0 → length s.splices.items ≤ 4096 → GoesThroughCopies limit 0 s s
-goes_first limit s untried few = record {
+pub goes_first : (limit : ℕ) (ps : List Part) (group : Group) (s : Searched) → s.tries ≡ 0 → length s.splices.items ≤ 4096
+    → GoesThroughCopies limit 0 ps group s s
+goes_first limit ps group s untried few = record {
   settings = [];
-  each_copy = refl;
-  each = tt;
+  is = record { each_copy = refl; within = omega arith; each = λ copy t at. absurd cc };
   tries = untried;
-  within = omega (arith, untried);
-  found = omega arith;
-  few = few;
+  found = sym (append-nil (lists_of s.splices.items));
+  few = (let a = count_of s.splices.items in omega (arith, a, few));
   used_up = refl;
 }
 
 -- one copy more
-pub goes_more : (limit copies : ℕ) (before mid more : Searched) → GoesThroughCopies limit copies before mid → GoesThrough limit mid more
-    → GoesThroughCopies limit (copies + 1) before more
-goes_more limit copies before mid more h g =
+pub goes_more : (limit copies : ℕ) (ps : List Part) (group : Group) (before mid more : Searched) → GoesThroughCopies limit copies ps group before mid
+    → GoesThrough limit ps (record { group = group; copy = copies }) mid more → GoesThroughCopies limit (copies + 1) ps group before more
+goes_more limit copies ps group before mid more h g =
     let ss : List SettingSearched = h.settings in
-    let s : SettingSearched = g.setting in
-    let tried : mid.tries ≤ more.tries = (let a = g.tries in omega (arith, a)) in
-    let found : length mid.splices.items ≤ length more.splices.items = (let a = g.found in omega (arith, a)) in
+    let s : SettingSearched = g.came_to in
+    let sum : tries_in (ss ++ s ∷ []) ≡ tries_in ss + s.tries = sum_by_push (λ (x : SettingSearched). x.tries) ss s in
+    let tries : more.tries ≡ tries_in (ss ++ s ∷ []) = (let b = h.tries in let e = g.tries in omega (arith, sum, b, e)) in
+    let within : tries_in (ss ++ s ∷ []) ≤ limit = (let w = g.within in omega (arith, tries, w)) in
+    let rose : tries_in ss ≤ tries_in (ss ++ s ∷ []) = omega (arith, sum) in
     record {
       settings = ss ++ s ∷ [];
-      each_copy = (let a = length-append ss (s ∷ []) in let b = h.each_copy in omega (arith, a, b));
-      each =
-          all_more (IsSettingSearched limit more.tries (length more.splices.items)) ss s
-          (settings_later limit mid.tries more.tries (length mid.splices.items) (length more.splices.items) tried g.within found g.few ss h.each) g.is;
-      tries = (let a = sum_by_push (λ (x : SettingSearched). x.tries) ss s in let b = h.tries in let e = g.tries in omega (arith, a, b, e));
-      within = g.within;
-      found = (let a = sum_by_push (λ (x : SettingSearched). x.found) ss s in let b = h.found in let e = g.found in omega (arith, a, b, e));
+      is = record {
+        each_copy = (let a = length-append ss (s ∷ []) in let b = h.is.each_copy in omega (arith, a, b));
+        within = within;
+        each =
+            numbered_push (IsSettingSearched limit (tries_in (ss ++ s ∷ [])) ps (lists_of more.splices.items) group) ss s
+            (λ copy t at. setting_later limit (tries_in ss) (tries_in (ss ++ s ∷ [])) ps (lists_of mid.splices.items) (lists_of more.splices.items)
+            s.splices rose within g.found g.few group copy t (h.is.each copy t at))
+            (subst (λ n. IsSettingSearched limit (tries_in (ss ++ s ∷ [])) ps (lists_of more.splices.items) group n s) (sym h.is.each_copy)
+            (subst (λ t. IsSettingSearched limit t ps (lists_of more.splices.items) group copies s) tries g.is));
+      };
+      tries = tries;
+      found =
+          g.found ∙ ap (λ z. z ++ s.splices) h.found ∙ append_assoc (lists_of before.splices.items) (given_in ss) s.splices
+          ∙ ap (λ z. lists_of before.splices.items ++ z) (sym (flat_push (λ (x : SettingSearched). x.splices) ss s));
       few = g.few;
       used_up =
           g.used_up ∙ ap (λ (b : Bool). s.is_cut_off || b) h.used_up ∙ or_behind s.is_cut_off (is_cut_in ss) before.is_used_up
           ∙ ap (λ (b : Bool). b || before.is_used_up) (sym (any_push (λ (x : SettingSearched). x.is_cut_off) ss s));
     }
 
+-- Groups -----------------------------------------------------------------------------------------------------------
+
 -- no group yet
-pub none_searched : (limit copies : ℕ) → AreGroupsSearched limit copies 0 0 0 false
-none_searched limit copies = record {
-  settings = [];
-  each_group = refl;
+pub none_searched : (limit copies : ℕ) (ps : List Part) (groups : List Group) → AreGroupsSearched limit copies ps (take 0 groups) 0 [] false
+none_searched limit copies ps groups = record {
+  searched = [];
+  in_some_order = IsPermutation-refl [];
   each = tt;
   tries_are = refl;
   found_are = refl;
@@ -143,30 +238,48 @@ none_searched limit copies = record {
   used_up = refl;
 }
 
+-- the same groups in another order
+pub reordered : (limit copies : ℕ) (ps : List Part) (groups ordered : List Group) (tries : ℕ) (found : List (List ℕ)) (used : Bool)
+    → IsPermutation groups ordered → AreGroupsSearched limit copies ps ordered tries found used
+    → AreGroupsSearched limit copies ps groups tries found used
+reordered limit copies ps groups ordered tries found used same h = record {
+  searched = h.searched;
+  in_some_order = IsPermutation-trans groups ordered (map (λ (x : GroupSearched). x.group) h.searched) same h.in_some_order;
+  each = h.each;
+  tries_are = h.tries_are;
+  found_are = h.found_are;
+  few = h.few;
+  used_up = h.used_up;
+}
+
 -- one group more
-pub one_more_group : (limit copies groups tries sum : ℕ) (begun more : Searched)
-    → AreGroupsSearched limit copies groups tries (length begun.splices.items) begun.is_used_up → GoesThroughCopies limit copies begun more
-    → sum ≡ min (tries + more.tries) (2 ^ 32 - 1)
-    → AreGroupsSearched limit copies (groups + 1) sum (length more.splices.items) more.is_used_up
-one_more_group limit copies groups tries sum begun more h g sum_is =
-    let gs : List (List SettingSearched) = h.settings in
-    let ss : List SettingSearched = g.settings in
-    let found : length begun.splices.items ≤ length more.splices.items = (let a = g.found in omega (arith, a)) in
+pub one_more_group : (limit copies : ℕ) (ps : List Part) (groups : List Group) (i : ℕ) (d : Group) (tries sum : ℕ) (begun more : Searched)
+    → i < length groups → AreGroupsSearched limit copies ps (take i groups) tries (lists_of begun.splices.items) begun.is_used_up
+    → GoesThroughCopies limit copies ps (get_or groups i d) begun more → sum ≡ min (tries + more.tries) (2 ^ 32 - 1)
+    → AreGroupsSearched limit copies ps (take (i + 1) groups) sum (lists_of more.splices.items) more.is_used_up
+one_more_group limit copies ps groups i d tries sum begun more within h g sum_is =
+    let gs : List GroupSearched = h.searched in
+    let group : Group = get_or groups i d in
+    let one : GroupSearched = record { group = group; settings = g.settings } in
+    let a = sum_by_push (λ (x : GroupSearched). tries_in x.settings) gs one in
+    let b = h.tries_are in
+    let e = g.tries in
     record {
-      settings = gs ++ ss ∷ [];
-      each_group = (let a = length-append gs (ss ∷ []) in let b = h.each_group in omega (arith, a, b));
+      searched = gs ++ one ∷ [];
+      in_some_order =
+          subst (λ xs. IsPermutation xs (map (λ (x : GroupSearched). x.group) (gs ++ one ∷ []))) (sym (take_more groups i d within))
+          (subst (IsPermutation (take i groups ++ group ∷ [])) (sym (map-append (λ (x : GroupSearched). x.group) gs (one ∷ [])))
+          (IsPermutation-append_left (group ∷ []) (take i groups) (map (λ (x : GroupSearched). x.group) gs) h.in_some_order));
       each =
-          all_more (IsGroupSearched limit copies (length more.splices.items)) gs ss
-          (groups_later limit copies (length begun.splices.items) (length more.splices.items) found g.few gs h.each)
-          (record {
-            each_copy = g.each_copy;
-            within = subst (λ (t : ℕ). t ≤ limit) g.tries g.within;
-            each =
-                subst (λ (t : ℕ). AllByRecursion (IsSettingSearched limit t (length more.splices.items)) ss) g.tries g.each;
-          });
-      tries_are = (let a = sum_by_push tries_in gs ss in let b = h.tries_are in let e = g.tries in omega (arith, a, b, e, sum_is));
-      found_are = (let a = sum_by_push found_in gs ss in let b = h.found_are in let e = g.found in omega (arith, a, b, e));
+          all_more (IsGroupSearched limit copies ps (lists_of more.splices.items)) gs one
+          (groups_later limit copies ps (lists_of begun.splices.items) (lists_of more.splices.items) (given_in g.settings) g.found g.few gs h.each)
+          g.is;
+      tries_are = omega (arith, a, b, e, sum_is);
+      found_are =
+          g.found ∙ ap (λ z. z ++ given_in g.settings) h.found_are ∙ sym (flat_push (λ (x : GroupSearched). given_in x.settings) gs one);
       few = g.few;
       used_up =
-          g.used_up ∙ ap (λ (b : Bool). is_cut_in ss || b) h.used_up ∙ or_swap (is_cut_in ss) (list_any is_cut_in gs) ∙ sym (any_push is_cut_in gs ss);
+          g.used_up ∙ ap (λ (b : Bool). is_cut_in g.settings || b) h.used_up
+          ∙ or_swap (is_cut_in g.settings) (list_any (λ (x : GroupSearched). is_cut_in x.settings) gs)
+          ∙ sym (any_push (λ (x : GroupSearched). is_cut_in x.settings) gs one);
     }

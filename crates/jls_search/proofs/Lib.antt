@@ -13,9 +13,11 @@ mod NextLevels
 pub mod FoundFiles
 mod Lists
 mod Sets
+mod SettingPaths
 mod Records
 mod BorderOffsets
 mod GroupSearches
+mod Orders
 pub mod FoundMore
 pub mod NoGroups
 pub mod FilesExamples

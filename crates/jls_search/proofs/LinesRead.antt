@@ -1,5 +1,6 @@
 -- The readings that were read of a file are those that its course gives.
-use Rattle.std.proofs.Common.{◌≡◌, ℕ, ◌<◌, ◌≤◌, Bool, true, false, ◌||◌, List, [], ◌∷◌, ◌++◌, length, map, refl, sym, ap, ◌∙◌, subst, arith, inl, inr}
+use Rattle.std.proofs.Common.{◌≡◌, ℕ, ◌<◌, ◌≤◌, Bool, true, false, ◌||◌, List, [], ◌∷◌, ◌++◌, length, map, refl, sym, ap, ◌∙◌, subst, arith}
+use Rattle.std.proofs.Common.{inl, inr}
 use Rattle.std.specs.Prelude.{slice_get, if◌then◌else◌}
 use Rattle.std.specs.List.{list_any, AllByRecursion, Contains}
 use Rattle.std.specs.Ordering.{eq_by_cmp, is_eq}
@@ -18,7 +19,8 @@ use Rattle.jls_copy.specs.Numbers.{PieceNumber, Interval, BeyondLast}
 use Rattle.jls_copy.specs.Course.{Course}
 use Rattle.jls_copy.specs.CopyReads.{CopyReads}
 use Rattle.jls_copy.specs.CutPieces.{closed_by_input, last_piece, cut_pieces, IsHeadAt, IsHeadOfCut, head_readings}
-use Rattle.jls_copy.specs.Pieces.{FoundPiece, PieceOutcome, Lines, Fault, IsOutcome, outcome_readings, readings_of, AreOutcomes, readings, pieces}
+use Rattle.jls_copy.specs.Pieces.{FoundPiece, PieceOutcome, Lines, Fault, IsOutcome, outcome_readings, readings_of, AreOutcomes, readings}
+use Rattle.jls_copy.specs.Pieces.{pieces}
 use Rattle.jls_copy.specs.ReadCopy.{ReadCopy}
 use Rattle.jls_copy.proofs.BytesDecide.{one_outcome, one_head_of_cut, cut_has}
 use Rattle.jls_copy.proofs.ScansOfCourse.{HasScan, course_has}

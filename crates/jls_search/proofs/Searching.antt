@@ -1,5 +1,6 @@
 -- What a search comes to.
-use Rattle.std.proofs.Common.{◌≡◌, ℕ, zero, suc, ◌<◌, Bool, true, false, List, [], ◌∷◌, ◌++◌, map, length, Result, Ok, Err, refl, sym, ap, ◌∙◌, subst, append_assoc, arith, ◌⊎◌, inl, inr, nat_eq}
+use Rattle.std.proofs.Common.{◌≡◌, ℕ, zero, suc, ◌<◌, Bool, true, false, List, [], ◌∷◌, ◌++◌, map, length, Result, Ok, Err, refl, sym, ap}
+use Rattle.std.proofs.Common.{◌∙◌, subst, append_assoc, arith, ◌⊎◌, inl, inr, nat_eq}
 use Rattle.std.specs.Prelude.{get_or, IfOk, MatchBool}
 use Rattle.std.specs.List.{AllByRecursion, Contains}
 use Rattle.std.specs.declared.alloc.AllocError.{AllocError}
@@ -89,7 +90,7 @@ begins_or_behind (p ∷ ps) (c ∷ path) (d ∷ cs) h k (inr (e, t)) =
     ]
 
 -- where the path has a choice for each part, they are the path
-equal_or_behind : (path cs : List ℕ) → length path ≡ length cs → IsToCome path cs → (path ≡ cs) ⊎ IsBehind path cs
+pub equal_or_behind : (path cs : List ℕ) → length path ≡ length cs → IsToCome path cs → (path ≡ cs) ⊎ IsBehind path cs
 equal_or_behind [] [] e t = inl refl
 equal_or_behind [] (d ∷ cs) e t = absurd (omega (arith, e))
 equal_or_behind (c ∷ path) [] e t = absurd t

@@ -1,13 +1,16 @@
 -- The shape of the files taken, from what is seen of them.
-use Rattle.std.proofs.Common.{◌≡◌, ℕ, zero, suc, ◌<◌, List, [], ◌∷◌, ◌++◌, length, take, Option, Some, None, Bor, refl, sym, ap, ◌∙◌, subst, arith, inl, inr}
+use Rattle.std.proofs.Common.{◌≡◌, ℕ, zero, suc, ◌<◌, List, [], ◌∷◌, ◌++◌, length, take, Option, Some, None, Bor, refl, sym, ap, ◌∙◌, subst}
+use Rattle.std.proofs.Common.{arith, inl, inr}
 use Rattle.std.specs.Prelude.{get_or, slice_get, unwrap_or, IfSome, IfNone, IsSomeAnd}
 use Rattle.std.specs.List.{AllByRecursion, Contains}
 use Rattle.jls_values.specs.Shape.{PictureShape}
 use Rattle.jls_diff.specs.PartsOf.{bytes_of}
 use Rattle.jls_diff.proofs.Slices.{count_of_slices}
 use Rattle.jls_search.specs.Faultless.{IsFaultless}
-use Rattle.jls_search.specs.Shapes.{HasShape, HasOtherShape, HasNoFrame, IsFirstShape, NoneIsFaultless, IsShapeTaken, IsCopyNamed, IsShapeFound}
-use Rattle.jls_search.specs.Seen.{IsSeen, AreSeen, IsNotFaultless, HasItIfFaultless, HasFrame, IsWithoutFrame, HasOtherFrame, IsFirstFrame, IsFirstOtherFrame, SomeFaultlessHasOther, IsNamed, IsOfCopies}
+use Rattle.jls_search.specs.Shapes.{HasShape, HasOtherShape, HasNoFrame, IsFirstShape, NoneIsFaultless, IsShapeTaken, IsCopyNamed}
+use Rattle.jls_search.specs.Shapes.{IsShapeFound}
+use Rattle.jls_search.specs.Seen.{IsSeen, AreSeen, IsNotFaultless, HasItIfFaultless, HasFrame, IsWithoutFrame, HasOtherFrame, IsFirstFrame}
+use Rattle.jls_search.specs.Seen.{IsFirstOtherFrame, SomeFaultlessHasOther, IsNamed, IsOfCopies}
 use Rattle.jls_search.specs.declared.seen.Seen.{Seen}
 use Rattle.jls_search.specs.declared.seen.Seen.TheVariants.{Faultless, Faulty, NoFrame}
 use Rattle.jls_search.specs.declared.shape_found.ShapeFound.{ShapeFound}

@@ -1,11 +1,12 @@
 -- Paths that outside of a group take what a copy has, one choice longer and shorter.
-use Rattle.std.proofs.Common.{◌≡◌, ℕ, ◌<◌, List, [], ◌∷◌, ◌++◌, length, refl, sym, subst, arith, inl, inr, length-append}
+use Rattle.std.proofs.Common.{◌≡◌, ℕ, ◌<◌, List, [], ◌∷◌, ◌++◌, length, refl, sym, subst, arith, inl, inr, length-append, ◌∙◌}
 use Rattle.std.specs.Prelude.{get_or}
 use Rattle.std.proofs.Math.ListN.{get_or-append}
 use Rattle.std.proofs.Math.Seq.{get_or-append_seam}
 use Rattle.jls_diff.specs.Parts.{Part, Same, Differ, way}
-use Rattle.jls_search.specs.Choices.{IsFirstWay}
-use Rattle.jls_search.proofs.Paths.{order, path_back, path_more}
+use Rattle.jls_search.specs.Choices.{IsDiffer, IsFirstWay}
+use Rattle.jls_search.specs.Order.{IsToCome, IsBehind}
+use Rattle.jls_search.proofs.Paths.{order, path_at, path_back, path_more}
 use Rattle.jls_diff.specs.Groups.{IsInside}
 use Rattle.jls_search.specs.OfGroups.{HasCopy, IsCopyOutside, IsSet}
 use Rattle.jls_diff.specs.declared.group.Group.{Group}
@@ -48,3 +49,61 @@ set_back ps s cs c h = let r = path_back ps cs c h.0 in ((r.0, outside_back ps s
 pub zero_is_first : (copy : ℕ) (p : Part) → HasCopy copy p → IsFirstWay p 0
 zero_is_first copy (Same bytes) h = refl
 zero_is_first copy (Differ ways) h = (omega (arith, h), λ other l e. omega (arith, l))
+
+-- Choices to come --------------------------------------------------------------------------------------------------
+
+-- first ways of a part that take the same, where copies differ in it, are one
+one_way : (p : Part) (c d : ℕ) → IsFirstWay p c → IsFirstWay p d → (IsDiffer p → way c p ≡ way d p) → c ≡ d
+one_way (Same bytes) c d f g same = f ∙ sym g
+one_way (Differ ways) c d f g same =
+    elim (order c d) [
+      | inl less ↦ absurd (g.1 c less (same tt))
+      | inr r ↦ elim r [ inl e ↦ e | inr less ↦ absurd (f.1 d less (sym (same tt))) ]
+    ]
+
+module _ (ps : List Part) (s : Setting) (ds : List ℕ) (set : IsSet ps s ds) (n c : ℕ) (l : n < length ds)
+    (first : IsFirstWay (get_or ps n (Same [])) c) where
+  -- each choice there is the copy's, if the part isn't one of the group
+  pub same_choice : TakesCopy ps s.copy n c → (IsDiffer (get_or ps n (Same [])) → IsInside s.group n → ⊥) → get_or ds n 0 ≡ c
+  same_choice takes out =
+      one_way (get_or ps n (Same [])) (get_or ds n 0) c (path_at ps ds n set.0 l).1 first (λ differ. set.1 n l (out differ) ∙ sym takes)
+
+  -- none is before the first
+  pub none_before : ((IsInside s.group n → ⊥) → TakesCopy ps s.copy n c) → (IsInside s.group n → c ≡ 0) → get_or ds n 0 < c → ⊥
+  none_before takes least less =
+      let out : IsInside s.group n → ⊥ = λ inside. let z = least inside in omega (arith, z, less) in
+      let e = same_choice (takes out) (λ differ. out) in omega (arith, e, less)
+
+  -- none is behind the last
+  pub none_after : ((IsInside s.group n → ⊥) → TakesCopy ps s.copy n c)
+      → (IsInside s.group n → (other : ℕ) → c < other → IsFirstWay (get_or ps n (Same [])) other → ⊥) → c < get_or ds n 0 → ⊥
+  none_after takes last less =
+      let out : IsInside s.group n → ⊥ = λ inside. last inside (get_or ds n 0) less (path_at ps ds n set.0 l).1 in
+      let e = same_choice (takes out) (λ differ. out) in omega (arith, e, less)
+
+pub last_takes : (ps : List Part) (s : Setting) (cs : List ℕ) (c : ℕ) → IsSet ps s (cs ++ c ∷ []) → (IsInside s.group (length cs) → ⊥)
+    → TakesCopy ps s.copy (length cs) c
+last_takes ps s cs c set out =
+    subst (TakesCopy ps s.copy (length cs)) (get_or-append_seam cs c [] 0)
+    (set.1 (length cs) (let a = length-append cs (c ∷ []) in omega (arith, a)) out)
+
+pub to_come_least : (cs ds : List ℕ) (c : ℕ) → IsToCome cs ds → length cs < length ds → (get_or ds (length cs) 0 < c → ⊥)
+    → IsToCome (cs ++ c ∷ []) ds
+to_come_least [] [] c h l least = absurd (omega (arith, l))
+to_come_least [] (d ∷ ds) c h l least =
+    elim (order c d) [
+      | inl less ↦ inl less
+      | inr r ↦ elim r [ inl e ↦ inr (e, tt) | inr more ↦ absurd (least more) ]
+    ]
+to_come_least (x ∷ cs) [] c h l least = absurd h
+to_come_least (x ∷ cs) (d ∷ ds) c (inl less) l least = inl less
+to_come_least (x ∷ cs) (d ∷ ds) c (inr (e, h)) l least = inr (e, to_come_least cs ds c h (omega (arith, l)) least)
+
+pub behind_last : (cs ds : List ℕ) (c : ℕ) → (length cs < length ds → c < get_or ds (length cs) 0 → ⊥) → IsBehind (cs ++ c ∷ []) ds
+    → IsBehind cs ds
+behind_last [] [] c last h = absurd h
+behind_last [] (d ∷ ds) c last (inl less) = absurd (last (omega arith) less)
+behind_last [] (d ∷ ds) c last (inr (e, h)) = absurd h
+behind_last (x ∷ cs) [] c last h = absurd h
+behind_last (x ∷ cs) (d ∷ ds) c last (inl less) = inl less
+behind_last (x ∷ cs) (d ∷ ds) c last (inr (e, h)) = inr (e, behind_last cs ds c (λ l. last (omega (arith, l))) h)

@@ -1,5 +1,6 @@
 -- What a station takes of files, one after the other.
-use Rattle.std.proofs.Common.{◌≡◌, ℕ, true, false, List, [], ◌∷◌, ◌++◌, Option, Some, None, refl, sym, ap, ◌∙◌, subst, ◌+◌, ◌<◌, length, take, Vec, Global, Bor}
+use Rattle.std.proofs.Common.{◌≡◌, ℕ, true, false, List, [], ◌∷◌, ◌++◌, Option, Some, None, refl, sym, ap, ◌∙◌, subst, ◌+◌, ◌<◌, length}
+use Rattle.std.proofs.Common.{take, Vec, Global, Bor}
 use Rattle.std.specs.Prelude.{get_or, IfSome, fold}
 use Rattle.std.proofs.lemmas.List.Sums.{fold-append}
 use Rattle.jls_values.specs.Shape.{PictureShape}

@@ -1,12 +1,13 @@
 -- What was found in some copies: by the search of all splices, and by groups where that was cut off or came to nothing.
-use Rattle.std.specs.Prelude.{◌≡◌, ◌<◌, ℕ, ◌↔◌, Bool, true, List, [], ◌++◌, length, take, drop, Option, Some, None, IsSome, IfSome, option_map, ◌⊎◌}
+use Rattle.std.specs.Prelude.{◌≡◌, ◌<◌, ℕ, ◌↔◌, Bool, true, List, [], ◌++◌, length, take, drop, Option, Some, None, IsSome, IfSome}
+use Rattle.std.specs.Prelude.{option_map, ◌⊎◌}
 use Rattle.std.specs.List.{AllByRecursion}
 use Rattle.jls_diff.specs.Parts.{Part, AreParts}
 use Rattle.jls_diff.specs.PartsOf.{parts_of}
 use Rattle.jls_search.specs.Faultless.{IsSought}
 use Rattle.jls_search.specs.Search.{CameTo, files_of, lists_of}
 use Rattle.jls_diff.specs.Groups.{CoverParts, IsGroup}
-use Rattle.jls_search.specs.OfGroups.{IsOfGroup}
+use Rattle.jls_search.specs.OfGroups.{IsOfGroup, IsOnce}
 use Rattle.jls_search.specs.GroupTries.{AreGroupsSearched}
 use Rattle.jls_diff.specs.declared.group.Group.{Group}
 use Rattle.jls_search.specs.declared.found.GroupsTold.{GroupsTold}
@@ -36,12 +37,19 @@ pub record IsByGroups (parts : List Part) (b : ByGroups) : Type 0 where
   pub count_is : b.groups ≡ length groups
   pub each : AllByRecursion (IsOfGroup parts) b.choices
 
--- a search by groups tried each group so often at most, with each of some copies outside of it. What it tells of its tries, of its splices
--- and of whether it was cut off is so
-pub record AreGroupTries (limit : ℕ) (b : ByGroups) : Type 0 where
-  pub copies : ℕ
-  pub some_copy : 0 < copies
-  pub searched : AreGroupsSearched limit copies b.groups b.tries (length b.choices) b.is_used_up
+-- a search by groups searched groups that take in each part in which copies differ, so often each at most, with each of so many copies
+-- outside of it. What it tells of its groups, of its tries, of its splices and of whether it was cut off is so
+pub record IsGroupSearch (limit copies : ℕ) (parts : List Part) (b : ByGroups) : Type 0 where
+  pub groups : List Group
+  pub are_groups : AllByRecursion (IsGroup parts) groups
+  pub cover : CoverParts parts groups
+  pub count_is : b.groups ≡ length groups
+  pub once : IsOnce b.choices
+  pub searched : AreGroupsSearched limit copies parts groups b.tries b.choices b.is_used_up
+
+-- it did so with some copies
+abbrev pub AreGroupTries : ℕ → ByGroups → Type 0
+AreGroupTries limit b = (copies : ℕ) × (0 < copies) × (parts : List Part) × IsGroupSearch limit copies parts b
 
 -- a search over these copies, for files under the ceiling, found it; groups, which have no ceiling, were searched where the search of all
 -- splices was cut off or came to nothing, and only there

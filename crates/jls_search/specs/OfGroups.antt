@@ -1,8 +1,15 @@
 -- What a search by groups comes to.
-use Rattle.std.specs.Prelude.{◌≡◌, ℕ, ◌<◌, List, [], ◌∷◌, ◌++◌, length, get_or, ◌⊎◌}
-use Rattle.std.specs.List.{AllByRecursion}
+use Rattle.std.specs.Prelude.{◌≡◌, ℕ, ◌<◌, ◌≤◌, Bool, true, false, List, [], ◌∷◌, ◌++◌, length, get_or, take, None, ◌⊎◌}
+use Rattle.std.specs.List.{AllByRecursion, Contains}
 use Rattle.jls_diff.specs.Parts.{Part, Same, Differ, way}
 use Rattle.jls_search.specs.Choices.{IsPath, IsWhole, front_of}
+use Rattle.jls_search.specs.Order.{IsToCome}
+use Rattle.jls_copy.specs.Course.{Course, IsCourse}
+use Rattle.jls_copy.specs.CopyReads.{IsDone}
+use Rattle.jls_copy.specs.Fronts.{IsPieceBroken}
+use Rattle.jls_copy.specs.Pieces.{pieces}
+use Rattle.jls_copy.specs.TellingLaws.{AreRecordsOf}
+use Rattle.jls_copy.specs.declared.piece.PieceRecord.{PieceRecord}
 use Rattle.jls_diff.specs.Groups.{IsGroup, IsInside}
 use Rattle.jls_search.specs.Places.{offset_of, end_offset_of}
 use Rattle.jls_search.specs.ReadsBetween.{ReadsBetween}
@@ -20,20 +27,47 @@ abbrev pub ReadsInGroup : List Part → Group → List ℕ → Type 0
 ReadsInGroup parts group choices =
     ReadsBetween (offset_of parts choices group.begin) (end_offset_of parts choices group.end) (front_of parts choices)
 
+-- the file has more than 4,096 faulty pieces
+abbrev pub HasManyFaults : List ℕ → Type 0
+HasManyFaults file = (c : Course) × IsCourse file c × (rs : List PieceRecord) × AreRecordsOf (pieces c) rs × (4096 < length rs)
+
+-- no file is tried that begins with what the path makes: the file has ended there, before the group; or the path goes into the group, and
+-- the piece in hand is broken, or the file has ended there and doesn't read from the group's begin on, or has too many faulty pieces
+pub data IsGivenUp (parts : List Part) (group : Group) (path : List ℕ) : Type 0 where
+  ended_before : length path ≤ group.begin.part → IsDone (front_of parts path) true → IsGivenUp parts group path
+  broken : group.begin.part < length path → IsPieceBroken (front_of parts path) → IsGivenUp parts group path
+  ended_within : group.begin.part < length path → IsDone (front_of parts path) true
+      → (ReadsBetween (offset_of parts path group.begin) None (front_of parts path) → HasManyFaults (front_of parts path))
+      → IsGivenUp parts group path
+
+-- a file that choices make is passed by: it has too many faulty pieces, or what some of its first choices make was given up
+abbrev pub IsPassedBy : List Part → Group → List ℕ → Type 0
+IsPassedBy parts group choices =
+    HasManyFaults (front_of parts choices) ⊎ ((count : ℕ) × IsGivenUp parts group (take count choices))
+
 -- the copy of this number has something at the part, were it nothing
 abbrev pub HasCopy : ℕ → Part → Type 0
 HasCopy copy (Same bytes) = Unit {0}
 HasCopy copy (Differ ways) = copy < length ways
 
--- the choices, one for each part, take outside of some group what one of the copies has, and make a file that reads in the group
+-- the choices, one for each part, take outside of the group what this copy has, and make a file that reads in the group
+pub record ReadsWith (parts : List Part) (group : Group) (copy : ℕ) (choices : List ℕ) : Type 0 where
+  pub whole : IsWhole parts choices
+  pub outside : IsCopyOutside parts group copy choices
+  pub reads : ReadsInGroup parts group choices
+
+-- the choices do so with some group and one of the copies
 pub record IsOfGroup (parts : List Part) (choices : List ℕ) : Type 0 where
   pub group : Group
   pub is_group : IsGroup parts group
   pub copy : ℕ
   pub is_copy : AllByRecursion (HasCopy copy) parts
-  pub whole : IsWhole parts choices
-  pub outside : IsCopyOutside parts group copy choices
-  pub reads : ReadsInGroup parts group choices
+  pub is : ReadsWith parts group copy choices
+
+-- no choices are there twice
+abbrev pub IsOnce : List (List ℕ) → Type 0
+IsOnce [] = Unit {0}
+IsOnce (choices ∷ found) = (Contains found choices → ⊥) × IsOnce found
 
 -- Inside the crate -------------------------------------------------------------------------------------------------
 
@@ -45,6 +79,42 @@ IsSetting parts setting = IsGroup parts setting.group × AllByRecursion (HasCopy
 abbrev pub IsSet : List Part → Setting → List ℕ → Type 0
 IsSet parts setting path = IsPath parts path × IsCopyOutside parts setting.group setting.copy path
 
--- the choices were added to those before, if anything was
-abbrev pub HasOneMore : List (List ℕ) → List ℕ → List (List ℕ) → Type 0
-HasOneMore before choices found = (found ≡ before) ⊎ (found ≡ before ++ choices ∷ [])
+-- and one for each part
+abbrev pub IsSetWhole : List Part → Setting → List ℕ → Type 0
+IsSetWhole parts setting choices = IsSet parts setting choices × (length choices ≡ length parts)
+
+-- the choices are found, or passed by
+abbrev pub IsSettled : List Part → Group → List (List ℕ) → List ℕ → Type 0
+IsSettled parts group found choices = Contains found choices ⊎ IsPassedBy parts group choices
+
+-- choices that read with the setting, of bytes
+abbrev pub IsSoughtWith : List Part → Setting → List ℕ → Type 0
+IsSoughtWith parts setting choices =
+    ReadsWith parts setting.group setting.copy choices × AllByRecursion (λ b. b < 256) (front_of parts choices)
+
+-- a search of a setting is at a path: what reads with the setting is settled, or is still to come
+pub record StandsWith (parts : List Part) (setting : Setting) (path : List ℕ) (found : List (List ℕ)) : Type 0 where
+  pub is_set : IsSet parts setting path
+  pub all : (choices : List ℕ) → IsSoughtWith parts setting choices → IsSettled parts setting.group found choices ⊎ IsToCome path choices
+
+-- a search of a setting is at its path if it goes on. If not, all that reads with it is settled
+abbrev pub GoesOnWith : List Part → Setting → List ℕ → List (List ℕ) → Bool → Type 0
+GoesOnWith parts setting path found true = StandsWith parts setting path found
+GoesOnWith parts setting path found false =
+    (choices : List ℕ) → IsSoughtWith parts setting choices → IsSettled parts setting.group found choices
+
+-- the choices were found before, and nothing was added; or they weren't, and were added behind those that were
+abbrev pub IsAddedOnce : List (List ℕ) → List ℕ → List (List ℕ) → Type 0
+IsAddedOnce before choices found =
+    (Contains before choices × (found ≡ before)) ⊎ ((Contains before choices → ⊥) × (found ≡ before ++ choices ∷ []))
+
+-- nothing was added, or choices that read with the setting and were not found before
+abbrev pub AddsOne : List Part → Setting → List (List ℕ) → List (List ℕ) → Type 0
+AddsOne parts setting before found =
+    (found ≡ before)
+    ⊎ ((choices : List ℕ) × ReadsWith parts setting.group setting.copy choices × (Contains before choices → ⊥)
+    × (found ≡ before ++ choices ∷ []))
+
+-- splices that a search by groups has found so far: each reads in a group, with a copy outside of it, and none is there twice
+abbrev pub AreOfGroups : List Part → List (List ℕ) → Type 0
+AreOfGroups parts found = AllByRecursion (IsOfGroup parts) found × IsOnce found

@@ -1,13 +1,14 @@
 //! Paths of a search by groups: a way for each of the first parts, outside of the group that of one copy.
 
-ghost use Rattle.std.specs.Prelude.{◌≡◌, ◌<◌, map, length, get_or, [], true, IfOk, IfSome, OnOk};
+ghost use Rattle.std.specs.Prelude.{◌≡◌, ℕ, List, ◌<◌, map, length, get_or, [], true, false, IfOk, IfSome, IfNone, OnOk};
 ghost use Rattle.std.specs.List.{AllByRecursion};
 ghost use Rattle.jls_diff.specs.Parts.{Same};
 ghost use Rattle.jls_diff.specs.Parts as spec;
 ghost use Rattle.jls_diff.specs.PartsOf.{part_of, parts_of};
 ghost use Rattle.jls_search.specs.Choices.{IsNew, IsFirstWay};
 ghost use Rattle.jls_diff.specs.Groups.{IsInside};
-ghost use Rattle.jls_search.specs.OfGroups.{HasCopy, IsSet};
+ghost use Rattle.jls_search.specs.OfGroups.{HasCopy, IsSet, IsSetWhole};
+ghost use Rattle.jls_search.specs.Order.{IsToCome, IsBehind};
 
 use crate::path::next_way_at;
 use crate::setting::{Setting, is_free};
@@ -60,7 +61,9 @@ pub(crate) fn follow(
 ) -> Result<(), AllocError>
     requires copy { AllByRecursion (HasCopy setting.copy) (parts_of parts.now) }
     requires path { IsSet (parts_of parts.now) setting path.old.items }
-    ensures { OnOk result (IsSet (parts_of parts.now) setting path.new.items) }
+    ensures path { OnOk result (IsSet (parts_of parts.now) setting path.new.items) }
+    ensures kept { OnOk result ((choices : List ℕ) → IsSetWhole (parts_of parts.now) setting choices
+        → IsToCome path.old.items choices → IsToCome path.new.items choices) }
 {
     while path.len() < parts.len() && !is_free(parts, setting.group, path.len()) {
         path.push(choice_at(parts, path.len(), setting.copy))?;
@@ -75,6 +78,7 @@ fn first_choice(parts: &[Part<'_>], setting: Setting, place: usize) -> usize
     ensures first { IsFirstWay (get_or (parts_of parts.now) place (Same [])) result }
     ensures same { ¬ IsInside setting.group place → spec.way result (get_or (parts_of parts.now) place (Same []))
         ≡ spec.way setting.copy (get_or (parts_of parts.now) place (Same [])) }
+    ensures least { IsInside setting.group place → result ≡ 0 }
 {
     if setting.group.is_inside(place) {
         return 0;
@@ -88,6 +92,10 @@ fn next_choice(parts: &[Part<'_>], setting: Setting, place: usize, choice: usize
     requires first { IsFirstWay (get_or (parts_of parts.now) place (Same [])) choice }
     ensures first { IfSome result (λ next. IsFirstWay (get_or (parts_of parts.now) place (Same [])) next) }
     ensures inside { IfSome result (λ next. IsInside setting.group place) }
+    ensures between { IfSome result (λ next. (other : ℕ) → choice < other → other < next
+        → ¬ IsFirstWay (get_or (parts_of parts.now) place (Same [])) other) }
+    ensures none { IfNone result (IsInside setting.group place → (other : ℕ) → choice < other
+        → ¬ IsFirstWay (get_or (parts_of parts.now) place (Same [])) other) }
 {
     if !setting.group.is_inside(place) {
         return None;
@@ -104,7 +112,9 @@ pub(crate) fn descend(
     requires copy { AllByRecursion (HasCopy setting.copy) (parts_of parts.now) }
     requires path { IsSet (parts_of parts.now) setting path.old.items }
     requires more { length path.old.items < length parts.now }
-    ensures { OnOk result (IsSet (parts_of parts.now) setting path.new.items) }
+    ensures path { OnOk result (IsSet (parts_of parts.now) setting path.new.items) }
+    ensures kept { OnOk result ((choices : List ℕ) → IsSetWhole (parts_of parts.now) setting choices
+        → IsToCome path.old.items choices → IsToCome path.new.items choices) }
 {
     path.push(first_choice(parts, setting, path.len()))?;
     follow(parts, setting, path)
@@ -118,7 +128,11 @@ pub(crate) fn turn(
 ) -> Result<bool, AllocError>
     requires copy { AllByRecursion (HasCopy setting.copy) (parts_of parts.now) }
     requires path { IsSet (parts_of parts.now) setting path.old.items }
-    ensures { IfOk result (λ more. more ≡ true → IsSet (parts_of parts.now) setting path.new.items) }
+    ensures path { IfOk result (λ more. more ≡ true → IsSet (parts_of parts.now) setting path.new.items) }
+    ensures to_come { IfOk result (λ more. more ≡ true → (choices : List ℕ) → IsSetWhole (parts_of parts.now) setting choices
+        → IsBehind path.old.items choices → IsToCome path.new.items choices) }
+    ensures none { IfOk result (λ more. more ≡ false → (choices : List ℕ) → IsSetWhole (parts_of parts.now) setting choices
+        → ¬ IsBehind path.old.items choices) }
 {
     while let Some(choice) = path.pop() {
         if let Some(next) = next_choice(parts, setting, path.len(), choice) {

@@ -8,7 +8,7 @@ ghost use Rattle.jls_search.specs.Choices.{IsWhole};
 ghost use Rattle.jls_search.specs.Faultless.{IsSought};
 ghost use Rattle.jls_search.specs.Search.{CameTo, files_of, lists_of};
 ghost use Rattle.jls_search.specs.SearchLaws.{AreShort};
-ghost use Rattle.jls_search.specs.Found.{AreGroupTries, IsFound, found_of, splices_in};
+ghost use Rattle.jls_search.specs.Found.{AreGroupTries, IsFound, IsGroupSearch, found_of, splices_in};
 
 use crate::copies::SearchedCopies;
 use crate::group_search::{SearchedGroups, search_groups};
@@ -67,6 +67,15 @@ fn told_of(by: &SearchedGroups) -> GroupsTold
     }
 }
 
+/// The splices that groups gave.
+fn splices_given(by: SearchedGroups) -> Vec<Vec<usize>>
+    ensures { result ≡ by.searched.splices }
+{
+    let SearchedGroups { searched, .. } = by;
+    let Searched { splices, .. } = searched;
+    splices
+}
+
 /// What the search of all splices found, and what groups give where it was cut off or came to nothing. There each group has its own tries,
 /// so many at most. `Err` comes where memory is refused.
 pub fn complete_by_groups<'a>(
@@ -90,6 +99,8 @@ pub fn complete_by_groups<'a>(
         (λ more. files_of (parts_of more.parts.items) (lists_of more.splices.items) ≡ splices_in (found_of more)) }
     ensures each { IfOk result (λ more. AllByRecursion (IsWhole (parts_of more.parts.items)) (lists_of more.splices.items)) }
     ensures whole { IfOk result (λ more. more.whole ≤ length more.splices.items) }
+    ensures by_groups { IfOk result
+        (λ more. IfSome (found_of more).by_groups (IsGroupSearch limit (length copies.now) (parts_of more.parts.items))) }
     ensures of_groups { IfOk result (λ more. IfSome (found_of more).by_groups (AreGroupTries limit)) }
 {
     let SearchedCopies {
@@ -117,11 +128,7 @@ pub fn complete_by_groups<'a>(
     }
     let by = search_groups(alloc, copies, &parts, limit)?;
     let told = told_of(&by);
-    let SearchedGroups { searched, .. } = by;
-    let Searched {
-        splices: mut given,
-        ..
-    } = searched;
+    let mut given = splices_given(by);
     splices.append(&mut given)?;
     Ok(FoundSplices {
         parts,

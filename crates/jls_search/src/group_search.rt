@@ -7,7 +7,7 @@ ghost use Rattle.jls_diff.specs.PartsOf.{bytes_of, parts_of};
 ghost use Rattle.jls_search.specs.SearchLaws.{AreShort};
 ghost use Rattle.jls_search.specs.Search.{IsShort, lists_of};
 ghost use Rattle.jls_diff.specs.Groups.{CoverParts, IsGroup};
-ghost use Rattle.jls_search.specs.OfGroups.{IsOfGroup, IsSetting};
+ghost use Rattle.jls_search.specs.OfGroups.{AreOfGroups, IsOfGroup, IsOnce, IsSetting};
 ghost use Rattle.jls_search.specs.GroupTries.{AreGroupsSearched, GoesThrough, GoesThroughCopies};
 
 use crate::choosing::follow;
@@ -56,10 +56,10 @@ fn search_setting(
 ) -> Result<Searched, AllocError>
     requires setting { IsSetting (parts_of parts.now) setting }
     requires short { IsShort (parts_of parts.now) }
-    requires splices { AllByRecursion (IsOfGroup (parts_of parts.now)) (lists_of searched.splices.items) }
+    requires splices { AreOfGroups (parts_of parts.now) (lists_of searched.splices.items) }
     requires few { (searched.tries ≤ limit) × (length searched.splices.items ≤ 4096) }
-    ensures splices { IfOk result (λ more. AllByRecursion (IsOfGroup (parts_of parts.now)) (lists_of more.splices.items)) }
-    ensures goes { IfOk result (λ more. GoesThrough limit searched more) }
+    ensures splices { IfOk result (λ more. AreOfGroups (parts_of parts.now) (lists_of more.splices.items)) }
+    ensures goes { IfOk result (λ more. GoesThrough limit (parts_of parts.now) setting searched more) }
 {
     let Searched {
         mut splices,
@@ -98,11 +98,11 @@ fn search_group(
     requires ways { AllByRecursion (HasWays extent.copies) (parts_of parts.now) }
     requires group { IsGroup (parts_of parts.now) group }
     requires short { IsShort (parts_of parts.now) }
-    requires splices { AllByRecursion (IsOfGroup (parts_of parts.now)) (lists_of searched.splices.items) }
+    requires splices { AreOfGroups (parts_of parts.now) (lists_of searched.splices.items) }
     requires untried { searched.tries ≡ 0 }
     requires few { length searched.splices.items ≤ 4096 }
-    ensures splices { IfOk result (λ more. AllByRecursion (IsOfGroup (parts_of parts.now)) (lists_of more.splices.items)) }
-    ensures goes { IfOk result (λ more. GoesThroughCopies extent.limit extent.copies searched more) }
+    ensures splices { IfOk result (λ more. AreOfGroups (parts_of parts.now) (lists_of more.splices.items)) }
+    ensures goes { IfOk result (λ more. GoesThroughCopies extent.limit extent.copies (parts_of parts.now) group searched more) }
 {
     for copy in 0..extent.copies {
         let setting = Setting { group, copy };
@@ -121,9 +121,9 @@ fn search_in_turn(
     requires ways { AllByRecursion (HasWays extent.copies) (parts_of parts.now) }
     requires groups { AllByRecursion (IsGroup (parts_of parts.now)) groups.now }
     requires short { IsShort (parts_of parts.now) }
-    ensures splices { IfOk result (λ searched. AllByRecursion (IsOfGroup (parts_of parts.now)) (lists_of searched.splices.items)) }
-    ensures tries { IfOk result (λ searched. AreGroupsSearched extent.limit extent.copies (length groups.now)
-        searched.tries (length searched.splices.items) searched.is_used_up) }
+    ensures splices { IfOk result (λ searched. AreOfGroups (parts_of parts.now) (lists_of searched.splices.items)) }
+    ensures searched { IfOk result (λ searched. AreGroupsSearched extent.limit extent.copies (parts_of parts.now) groups.now
+        searched.tries (lists_of searched.splices.items) searched.is_used_up) }
 {
     let mut searched = Searched {
         splices: Vec::new(alloc),
@@ -147,6 +147,9 @@ fn search_in_turn(
 /// counts. The reading of the copies, which orders the groups, does not. Each group may be tried `limit` times, with all copies together.
 /// A group with one copy gives 64 files at most, and all groups 4,096.
 ///
+/// Where the search of a group with a copy wasn't cut off, each splice that reads so was found, or was passed by. It is passed by where some
+/// front of it is given up, or it has more than 4,096 faulty pieces.
+///
 /// `is_used_up` says that somewhere the search ended with the tries of a group or with such a number of files, while there was more to
 /// try. `tries` is what was tried in all groups, or the greatest number of its type. `Err` comes where memory is refused.
 pub fn search_groups(
@@ -161,8 +164,9 @@ pub fn search_groups(
     ensures groups { IfOk result (λ found. AllByRecursion (IsGroup (parts_of parts.now)) found.groups.items) }
     ensures cover { IfOk result (λ found. CoverParts (parts_of parts.now) found.groups.items) }
     ensures splices { IfOk result (λ found. AllByRecursion (IsOfGroup (parts_of parts.now)) (lists_of found.searched.splices.items)) }
-    ensures tries { IfOk result (λ found. AreGroupsSearched limit (length copies.now) (length found.groups.items)
-        found.searched.tries (length found.searched.splices.items) found.searched.is_used_up) }
+    ensures once { IfOk result (λ found. IsOnce (lists_of found.searched.splices.items)) }
+    ensures searched { IfOk result (λ found. AreGroupsSearched limit (length copies.now) (parts_of parts.now) found.groups.items
+        found.searched.tries (lists_of found.searched.splices.items) found.searched.is_used_up) }
 {
     parts_can_be_searched();
     let groups = find_groups(alloc, parts)?;

@@ -38,6 +38,7 @@
 //! Not proved:
 //!
 //! - That a search gives up choices as soon as it could. So the exact number of tries is open.
+//! - That a file which a search by groups passes by doesn't read in the group: a piece that begins before the group may be the broken one.
 //! - That no later level that `lone_path` comes to has one path that lives, and how many tries it makes.
 //! - How often a file is decoded.
 #![tactic(auto)]

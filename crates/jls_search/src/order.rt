@@ -1,7 +1,8 @@
 //! The order in which groups are searched.
 
-ghost use Rattle.std.specs.Prelude.{◌≡◌, length, IfOk};
+ghost use Rattle.std.specs.Prelude.{IfOk};
 ghost use Rattle.std.specs.List.{AllByRecursion};
+ghost use Rattle.std.specs.List.Sorted.{IsPermutation};
 ghost use Rattle.jls_diff.specs.Parts.{HasWays};
 ghost use Rattle.jls_diff.specs.PartsOf.{parts_of};
 ghost use Rattle.jls_search.specs.Choices.{IsWhole};
@@ -107,7 +108,7 @@ fn groups_that_read(
     Ok(notes)
 }
 
-/// All groups: first those in which no copy reads, and of these and of the others each in their order.
+/// All groups, each as often as it is given: first those in which no copy reads, and of these and of the others each in their order.
 pub(crate) fn groups_in_order(
     alloc: Global,
     parts: &[Part<'_>],
@@ -118,7 +119,7 @@ pub(crate) fn groups_in_order(
     requires short { IsShort (parts_of parts.now) }
     requires groups { AllByRecursion (IsGroup (parts_of parts.now)) groups.now }
     ensures groups { IfOk result (λ ordered. AllByRecursion (IsGroup (parts_of parts.now)) ordered.items) }
-    ensures each { IfOk result (λ ordered. length ordered.items ≡ length groups.now) }
+    ensures same { IfOk result (λ ordered. IsPermutation groups.now ordered.items) }
 {
     let notes = groups_that_read(alloc, parts, copies, groups)?;
     let mut ordered = Vec::new(alloc);

@@ -1,8 +1,10 @@
 //! Whether files read between two offsets.
 
-ghost use Rattle.std.specs.Prelude.{◌≡◌, ℕ, List, ◌↔◌, true, false, IsTrue, IfOk, IfSome};
-ghost use Rattle.std.specs.List.{AllByRecursion};
+ghost use Rattle.std.specs.Prelude.{◌≡◌, ◌<◌, ℕ, List, ◌↔◌, true, false, IsTrue, IfOk, IfSome};
+ghost use Rattle.std.specs.List.{AllByRecursion, Contains};
 ghost use Rattle.jls_copy.specs.CopyReads.{CopyReads};
+ghost use Rattle.jls_copy.specs.declared.piece.PieceRecord.{PieceRecord as Record};
+ghost use Rattle.jls_search.specs.OfGroups.{HasManyFaults};
 ghost use Rattle.jls_search.specs.ReadsBetween.{IsBetween, Reaches, ReadsBetween};
 
 use jls_copy::{CopyFault, CopyRead, CopyReader, End, PieceRecord, records_are_of_faulty_pieces};
@@ -20,7 +22,8 @@ fn is_between(from: u64, to: Option<u64>, offset: u64) -> bool
 
 /// Whether one of the records is of a piece that begins there.
 fn has_record_between(records: &[PieceRecord], from: u64, to: Option<u64>) -> bool
-    ensures { result ≡ false → AllByRecursion (λ told. IsBetween from to told.offset → ⊥) records.now }
+    ensures none { result ≡ false → AllByRecursion (λ told. IsBetween from to told.offset → ⊥) records.now }
+    ensures some { result ≡ true → (told : Record) × Contains records.now told × IsBetween from to told.offset }
 {
     for told in records {
         if is_between(from, to, told.offset) {
@@ -47,7 +50,9 @@ fn reaches(from: u64, to: Option<u64>, end: End) -> bool
 /// Whether what was read is a file that reads between two offsets: no piece that begins at the first or behind it, and before the second,
 /// is faulty. Without a second one it goes to the file's end. `false` comes too where the file has more than 4,096 faulty pieces.
 pub fn reads_between(read: &CopyRead, from: u64, to: Option<u64>) -> bool
-    ensures { result ≡ true → (file : List ℕ) → CopyReads file read.now → ReadsBetween from to file }
+    ensures reads { result ≡ true → (file : List ℕ) → CopyReads file read.now → ReadsBetween from to file }
+    ensures unread { result ≡ false → (file : List ℕ) → CopyReads file read.now → AllByRecursion (λ b. b < 256) file
+        → ReadsBetween from to file → HasManyFaults file }
 {
     records_are_of_faulty_pieces();
     let records = read.pieces();
@@ -66,7 +71,9 @@ pub(crate) fn is_read_between(
     from: u64,
     to: Option<u64>,
 ) -> Result<bool, AllocError>
-    ensures { IfOk result (λ answer. answer ≡ true → IfSome reader (λ file. ReadsBetween from to file)) }
+    ensures reads { IfOk result (λ answer. answer ≡ true → IfSome reader (λ file. ReadsBetween from to file)) }
+    ensures unread { IfOk result (λ answer. answer ≡ false → IfSome reader (λ file. AllByRecursion (λ b. b < 256) file
+        → ReadsBetween from to file → HasManyFaults file)) }
 {
     match reader.finish() {
         Ok(read) => Ok(reads_between(&read, from, to)),

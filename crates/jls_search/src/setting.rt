@@ -1,7 +1,12 @@
 //! What is searched at a time.
 
-ghost use Rattle.std.specs.Prelude.{◌<◌, length};
+ghost use Rattle.std.specs.Prelude.{◌≡◌, ◌<◌, [], false, length, get_or};
+ghost use Rattle.jls_diff.specs.Groups.{IsInside};
+ghost use Rattle.jls_diff.specs.Parts.{Same};
+ghost use Rattle.jls_diff.specs.PartsOf.{parts_of};
+ghost use Rattle.jls_search.specs.Choices.{IsDiffer};
 
+use crate::path::is_same_at;
 use jls_diff::{Group, Part};
 
 /// A group that is searched, and the copy whose ways are taken outside of it.
@@ -14,9 +19,10 @@ pub(crate) struct Setting {
 /// Whether the part at this place is one of the group, and copies differ in it.
 pub(crate) fn is_free(parts: &[Part<'_>], group: Group, place: usize) -> bool
     requires { place < length parts.now }
+    ensures { result ≡ false → IsDiffer (get_or (parts_of parts.now) place (Same [])) → ¬ IsInside group place }
 {
-    match &parts[place] {
-        Part::Same(_) => false,
-        Part::Differ(_) => group.is_inside(place),
+    if is_same_at(parts, place) {
+        return false;
     }
+    group.is_inside(place)
 }

@@ -1,12 +1,14 @@
 //! One try of a search by groups.
 
-ghost use Rattle.std.specs.Prelude.{◌≡◌, ◌+◌, ◌-◌, ◌^◌, ◌<◌, ◌≤◌, true, length, IfOk, OnOk};
-ghost use Rattle.std.specs.List.{AllByRecursion};
+ghost use Rattle.std.specs.Prelude.{◌≡◌, ◌↔◌, ℕ, List, ◌-◌, ◌^◌, ◌<◌, ◌≤◌, true, false, length, IsTrue, IfOk, OnOk};
+ghost use Rattle.std.specs.List.{AllByRecursion, Contains};
 ghost use Rattle.jls_diff.specs.PartsOf.{parts_of};
 ghost use Rattle.jls_search.specs.Choices.{IsPath, front_of};
 ghost use Rattle.jls_search.specs.Search.{IsShort, lists_of};
 ghost use Rattle.jls_diff.specs.Groups.{IsGroup};
-ghost use Rattle.jls_search.specs.OfGroups.{IsOfGroup, IsSetting, IsSet, ReadsInGroup, HasOneMore};
+ghost use Rattle.jls_search.specs.OfGroups.{AddsOne, GoesOnWith, HasManyFaults, IsAddedOnce, IsGivenUp, IsSet, IsSetting, IsSettled};
+ghost use Rattle.jls_search.specs.OfGroups.{IsSoughtWith};
+ghost use Rattle.jls_search.specs.OfGroups.{ReadsInGroup, StandsWith};
 
 use crate::choosing::{descend, turn};
 use crate::feeding::reader_of;
@@ -27,6 +29,8 @@ fn is_front_dead(
     requires group { IsGroup (parts_of parts.now) setting.group }
     requires path { IsPath (parts_of parts.now) path.now }
     requires few { length (front_of (parts_of parts.now) path.now) ≤ 2 ^ 63 - 1 }
+    ensures { IfOk result (λ dead. dead ≡ true → AllByRecursion (λ b. b < 256) (front_of (parts_of parts.now) path.now)
+        → IsGivenUp (parts_of parts.now) setting.group path.now) }
 {
     let begin = setting.group.begin;
     let reader = reader_of(alloc, parts, path)?;
@@ -54,7 +58,9 @@ fn reads_in_group(
     requires path { IsPath (parts_of parts.now) path.now }
     requires few { length (front_of (parts_of parts.now) path.now) ≤ 2 ^ 63 - 1 }
     requires whole { length path.now ≡ length (parts_of parts.now) }
-    ensures { IfOk result (λ answer. answer ≡ true → ReadsInGroup (parts_of parts.now) setting.group path.now) }
+    ensures reads { IfOk result (λ answer. answer ≡ true → ReadsInGroup (parts_of parts.now) setting.group path.now) }
+    ensures unread { IfOk result (λ answer. answer ≡ false → AllByRecursion (λ b. b < 256) (front_of (parts_of parts.now) path.now)
+        → ReadsInGroup (parts_of parts.now) setting.group path.now → HasManyFaults (front_of (parts_of parts.now) path.now)) }
 {
     let reader = reader_of(alloc, parts, path)?;
     let from = border_offset(parts, path, setting.group.begin);
@@ -63,9 +69,11 @@ fn reads_in_group(
 }
 
 /// Whether these choices were found.
-fn is_found(found: &[Vec<usize>], path: &[usize]) -> bool {
-    for choices in found {
-        if choices.as_slice() == path {
+fn is_found(found: &[Vec<usize>], path: &[usize]) -> bool
+    ensures { IsTrue result ↔ Contains (lists_of found.now) path.now }
+{
+    for number in 0..found.len() {
+        if *found[number].as_slice() == *path {
             return true;
         }
     }
@@ -74,7 +82,7 @@ fn is_found(found: &[Vec<usize>], path: &[usize]) -> bool {
 
 /// Adds choices to those that were found, unless they were found before.
 fn add_found(alloc: Global, path: &[usize], found: &mut Vec<Vec<usize>>) -> Result<(), AllocError>
-    ensures { OnOk result (HasOneMore (lists_of found.old.items) path.now (lists_of found.new.items)) }
+    ensures { OnOk result (IsAddedOnce (lists_of found.old.items) path.now (lists_of found.new.items)) }
 {
     if is_found(found, path) {
         return Ok(());
@@ -96,10 +104,9 @@ fn try_file(
     requires short { IsShort (parts_of parts.now) }
     requires path { IsSet (parts_of parts.now) setting path.now }
     requires whole { length path.now ≡ length (parts_of parts.now) }
-    requires found { AllByRecursion (IsOfGroup (parts_of parts.now)) (lists_of found.old.items) }
-    ensures found { OnOk result (AllByRecursion (IsOfGroup (parts_of parts.now)) (lists_of found.new.items)) }
-    ensures count { OnOk result ((length (lists_of found.old.items) ≤ length (lists_of found.new.items))
-        × (length (lists_of found.new.items) ≤ length (lists_of found.old.items) + 1)) }
+    ensures found { OnOk result (AddsOne (parts_of parts.now) setting (lists_of found.old.items) (lists_of found.new.items)) }
+    ensures settled { OnOk result (IsSoughtWith (parts_of parts.now) setting path.now
+        → IsSettled (parts_of parts.now) setting.group (lists_of found.new.items) path.now) }
 {
     let reads = reads_in_group(alloc, parts, setting, path)?;
     if !reads {
@@ -119,13 +126,10 @@ fn try_whole(
 ) -> Result<bool, AllocError>
     requires setting { IsSetting (parts_of parts.now) setting }
     requires short { IsShort (parts_of parts.now) }
-    requires path { IsSet (parts_of parts.now) setting path.old.items }
+    requires stands { StandsWith (parts_of parts.now) setting path.old.items (lists_of found.old.items) }
     requires whole { length path.old.items ≡ length (parts_of parts.now) }
-    requires found { AllByRecursion (IsOfGroup (parts_of parts.now)) (lists_of found.old.items) }
-    ensures path { IfOk result (λ more. more ≡ true → IsSet (parts_of parts.now) setting path.new.items) }
-    ensures found { OnOk result (AllByRecursion (IsOfGroup (parts_of parts.now)) (lists_of found.new.items)) }
-    ensures count { OnOk result ((length (lists_of found.old.items) ≤ length (lists_of found.new.items))
-        × (length (lists_of found.new.items) ≤ length (lists_of found.old.items) + 1)) }
+    ensures goes { IfOk result (λ more. GoesOnWith (parts_of parts.now) setting path.new.items (lists_of found.new.items) more) }
+    ensures found { OnOk result (AddsOne (parts_of parts.now) setting (lists_of found.old.items) (lists_of found.new.items)) }
 {
     try_file(alloc, parts, setting, path, found)?;
     let more = turn(parts, setting, path)?;
@@ -143,7 +147,8 @@ fn try_front(
     requires short { IsShort (parts_of parts.now) }
     requires path { IsSet (parts_of parts.now) setting path.old.items }
     requires more { length path.old.items < length parts.now }
-    ensures path { IfOk result (λ more. more ≡ true → IsSet (parts_of parts.now) setting path.new.items) }
+    ensures goes { (found : List (List ℕ)) → StandsWith (parts_of parts.now) setting path.old.items found
+        → IfOk result (λ more. GoesOnWith (parts_of parts.now) setting path.new.items found more) }
 {
     let dead = is_front_dead(alloc, parts, setting, path)?;
     if dead {
@@ -163,12 +168,9 @@ pub(crate) fn try_next(
 ) -> Result<bool, AllocError>
     requires setting { IsSetting (parts_of parts.now) setting }
     requires short { IsShort (parts_of parts.now) }
-    requires path { IsSet (parts_of parts.now) setting path.old.items }
-    requires found { AllByRecursion (IsOfGroup (parts_of parts.now)) (lists_of found.old.items) }
-    ensures path { IfOk result (λ more. more ≡ true → IsSet (parts_of parts.now) setting path.new.items) }
-    ensures found { OnOk result (AllByRecursion (IsOfGroup (parts_of parts.now)) (lists_of found.new.items)) }
-    ensures count { OnOk result ((length (lists_of found.old.items) ≤ length (lists_of found.new.items))
-        × (length (lists_of found.new.items) ≤ length (lists_of found.old.items) + 1)) }
+    requires stands { StandsWith (parts_of parts.now) setting path.old.items (lists_of found.old.items) }
+    ensures goes { IfOk result (λ more. GoesOnWith (parts_of parts.now) setting path.new.items (lists_of found.new.items) more) }
+    ensures found { OnOk result (AddsOne (parts_of parts.now) setting (lists_of found.old.items) (lists_of found.new.items)) }
 {
     if path.len() < parts.len() {
         let more = try_front(alloc, parts, setting, path)?;

@@ -1,6 +1,7 @@
 //! The whole search.
 
-ghost use Rattle.std.specs.Prelude.{◌≡◌, ◌↔◌, ℕ, List, Option, ◌+◌, ◌≤◌, ◌⊎◌, ◌∷◌, ◌++◌, [], true, false, length, IsTrue, IfOk, IfSome, OnOk};
+ghost use Rattle.std.specs.Prelude.{◌≡◌, ◌↔◌, ℕ, List, Option, ◌+◌, ◌≤◌, ◌⊎◌, ◌∷◌, ◌++◌, [], true, false, length, IsTrue, IfOk, IfSome};
+ghost use Rattle.std.specs.Prelude.{OnOk};
 ghost use Rattle.std.specs.List.{AllByRecursion};
 ghost use Rattle.jls_diff.specs.Parts.{Part as SpecPart};
 ghost use Rattle.jls_diff.specs.PartsOf.{parts_of};

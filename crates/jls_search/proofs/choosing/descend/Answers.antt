@@ -1,13 +1,20 @@
-use Rattle.std.proofs.Common.{ℕ, ◌<◌, List, [], length, sym, ◌∙◌, subst}
+use Rattle.std.proofs.Common.{◌≡◌, ℕ, ◌<◌, List, [], ◌∷◌, ◌++◌, length, sym, ◌∙◌, subst, Result, Ok, Err}
+use Rattle.std.specs.Prelude.{get_or, OnOk}
+use Rattle.std.specs.declared.alloc.AllocError.{AllocError}
 use Rattle.jls_diff.specs.PartsOf.{parts_of}
 use Rattle.jls_diff.specs.Parts.{Part, Same}
-use Rattle.std.specs.Prelude.{get_or}
 use Rattle.jls_search.specs.Choices.{IsFirstWay}
 use Rattle.jls_search.proofs.Paths.{length-map}
 use Rattle.jls_diff.specs.Groups.{IsInside}
-use Rattle.jls_search.specs.OfGroups.{IsSet}
-use Rattle.jls_search.proofs.Sets.{TakesCopy, set_more}
+use Rattle.jls_search.specs.OfGroups.{IsSet, IsSetWhole}
+use Rattle.jls_search.specs.Order.{IsToCome}
+use Rattle.jls_search.proofs.Sets.{TakesCopy, none_before, set_more, to_come_least}
 use Rattle.jls_search.proofs.choosing.descend.Goals as goal
+
+by : (r : Result (Unit {0}) AllocError) (W A B C : List ℕ → Type 0) → ((ds : List ℕ) → W ds → A ds → B ds)
+    → OnOk r ((ds : List ℕ) → W ds → B ds → C ds) → OnOk r ((ds : List ℕ) → W ds → A ds → C ds)
+by (Ok u) W A B C f h = λ ds w a. h ds w (f ds w a)
+by (Err e) W A B C f h = h
 
 pub follow-requires-clause-path : goal.follow-requires-clause-path
 follow-requires-clause-path c =
@@ -20,3 +27,22 @@ follow-requires-clause-path c =
     subst (IsSet ps s) (sym c.in_ok-push.ensures.items)
     (set_more ps s path choice c.requires.path k (subst (λ n. IsFirstWay (get_or ps n (Same [])) choice) at c.first_choice.ensures.first)
     (subst (λ n. (IsInside s.group n → ⊥) → TakesCopy ps s.copy n choice) at c.first_choice.ensures.same))
+
+pub returns-clause-kept : goal.returns-clause-kept
+returns-clause-kept c =
+    let ps : List Part = parts_of c.args.parts.now in
+    let path : List ℕ = c.args.path.now.items in
+    let s = c.args.setting in
+    let k : length path < length ps = rw length-map c.requires.more in
+    let at = c.len.ensures ∙ c.args.path.now.ok.0 in
+    let choice = c.first_choice.result in
+    let mid : List ℕ = c.push.new.self.items in
+    let new : List ℕ = c.follow.new.path.items in
+    by c.follow.result (IsSetWhole ps s) (IsToCome path) (IsToCome mid) (IsToCome new)
+    (λ choices whole to_come.
+    let less : length path < length choices = subst (λ n. length path < n) (sym whole.1) k in
+    subst (λ p. IsToCome p choices) (sym c.in_ok-push.ensures.items)
+    (to_come_least path choices choice to_come less
+    (none_before ps s choices whole.0 (length path) choice less (subst (λ n. IsFirstWay (get_or ps n (Same [])) choice) at c.first_choice.ensures.first)
+    (subst (λ n. (IsInside s.group n → ⊥) → TakesCopy ps s.copy n choice) at c.first_choice.ensures.same)
+    (subst (λ n. IsInside s.group n → choice ≡ 0) at c.first_choice.ensures.least)))) c.follow.ensures.kept

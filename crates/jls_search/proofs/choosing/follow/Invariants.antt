@@ -1,10 +1,15 @@
-use Rattle.std.proofs.Common.{length, ◌-◌}
+use Rattle.std.proofs.Common.{ℕ, List, length, ◌-◌}
 use Rattle.jls_diff.specs.PartsOf.{parts_of}
-use Rattle.jls_search.specs.OfGroups.{IsSet}
+use Rattle.jls_search.specs.OfGroups.{IsSet, IsSetWhole}
+use Rattle.jls_search.specs.Order.{IsToCome}
 use Rattle.jls_search.proofs.choosing.follow.Given as goal
 
 abbrev pub invariant-loop-path : goal.invariant-loop-path
-invariant-loop-path l = IsSet (parts_of l.parts) l.setting l.path.items
+invariant-loop-path l = record {
+  set : IsSet (parts_of l.parts) l.setting l.path.items;
+  kept : (choices : List ℕ) → IsSetWhole (parts_of l.parts) l.setting choices → IsToCome l.fn.path.items choices
+      → IsToCome l.path.items choices;
+}
 
 abbrev pub decreases-loop-path : goal.decreases-loop-path
 decreases-loop-path l = length l.parts - length l.path.items

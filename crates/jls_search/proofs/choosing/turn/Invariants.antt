@@ -1,10 +1,15 @@
-use Rattle.std.proofs.Common.{length}
+use Rattle.std.proofs.Common.{ℕ, List, length}
 use Rattle.jls_diff.specs.PartsOf.{parts_of}
-use Rattle.jls_search.specs.OfGroups.{IsSet}
+use Rattle.jls_search.specs.OfGroups.{IsSet, IsSetWhole}
+use Rattle.jls_search.specs.Order.{IsBehind}
 use Rattle.jls_search.proofs.choosing.turn.Given as goal
 
 abbrev pub invariant-loop-choice : goal.invariant-loop-choice
-invariant-loop-choice l = IsSet (parts_of l.parts) l.setting l.path.items
+invariant-loop-choice l = record {
+  set : IsSet (parts_of l.parts) l.setting l.path.items;
+  behind : (choices : List ℕ) → IsSetWhole (parts_of l.parts) l.setting choices → IsBehind l.fn.path.items choices
+      → IsBehind l.path.items choices;
+}
 
 abbrev pub decreases-loop-choice : goal.decreases-loop-choice
 decreases-loop-choice l = length l.path.items

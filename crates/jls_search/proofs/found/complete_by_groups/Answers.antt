@@ -1,4 +1,5 @@
-use Rattle.std.proofs.Common.{◌≡◌, ℕ, Bool, false, List, length, take, drop, Some, Vec, Global, ap, sym, ◌∙◌, subst, arith, length-append, inl, inr}
+use Rattle.std.proofs.Common.{◌≡◌, ℕ, Bool, false, List, length, take, drop, Some, Vec, Global, ap, sym, ◌∙◌, ◌++◌, subst, arith}
+use Rattle.std.proofs.Common.{length-append, inl, inr}
 use Rattle.std.specs.List.{AllByRecursion}
 use Rattle.jls_diff.specs.Parts.{AreParts}
 use Rattle.jls_diff.specs.PartsOf.{bytes_of, parts_of}
@@ -6,12 +7,19 @@ use Rattle.jls_search.specs.Choices.{IsWhole}
 use Rattle.jls_search.specs.Faultless.{IsSought}
 use Rattle.jls_search.specs.Search.{lists_of}
 use Rattle.jls_diff.specs.Groups.{CoverParts, IsGroup}
-use Rattle.jls_search.specs.Found.{AreGroupTries, IsFound, by_groups_of}
+use Rattle.jls_search.specs.Found.{IsFound, IsGroupSearch, by_groups_of}
 use Rattle.jls_search.specs.OfGroups.{IsOfGroup}
 use Rattle.jls_search.specs.GroupTries.{AreGroupsSearched}
 use Rattle.jls_search.specs.declared.found.GroupsTold.{GroupsTold}
-use Rattle.jls_search.proofs.FoundMore.{all_is, front_is, group_tries, found_whole, found_groups, files_whole, files_groups, whole_of_found, whole_of_both}
+use Rattle.jls_search.proofs.FoundMore.{all_is, front_is, group_search, found_whole, found_groups, files_whole, files_groups}
+use Rattle.jls_search.proofs.FoundMore.{whole_of_found, whole_of_both}
+use Rattle.jls_diff.specs.declared.group.Group.{Group}
 use Rattle.jls_search.proofs.found.complete_by_groups.Goals as goal
+
+-- what the splices are, with those behind them that were given
+appended : (vs : List (Vec ℕ Global)) (given by : Vec (Vec ℕ Global) Global) (all : List (Vec ℕ Global)) → all ≡ vs ++ given.items → given ≡ by
+    → all ≡ vs ++ by.items
+appended vs given by all e is = e ∙ ap (λ (v : Vec (Vec ℕ Global) Global). vs ++ v.items) is
 
 pub returns-then-not-wants-clause-found : goal.returns-then-not-wants-clause-found
 returns-then-not-wants-clause-found c =
@@ -61,27 +69,36 @@ returns-clause-found c =
       choices = take n (lists_of xs);
       is_used_up = used;
       by_groups = Some (by_groups_of (drop n (lists_of xs)) told);
-    })) (sym c.in_ok-append.ensures.items)
+    })) (sym (appended vs c.splices_given-given.result c.in_ok-by.by.searched.splices c.append.new.self.items c.in_ok-append.ensures.items c.splices_given-given.ensures))
     (found_groups c.args.found.ceiling (bytes_of c.args.copies.now) ps vs n used c.requires.parts c.requires.searched at by.searched.splices.items by.groups.items told
     needed groups cover count each)
 
-pub returns-clause-of_groups : goal.returns-clause-of_groups
-returns-clause-of_groups c =
+pub returns-clause-by_groups : goal.returns-clause-by_groups
+returns-clause-by_groups c =
+    let ps = parts_of c.args.found.parts.items in
     let vs = c.args.found.searched.splices.items in
     let n = c.len-whole.result in
     let at : n ≡ length vs = c.len-whole.ensures ∙ c.args.found.searched.splices.ok.0 in
     let by = c.in_ok-by.by in
     let told : GroupsTold = c.told_of-told.result in
     let copies : ℕ = length c.args.copies.now in
-    let more = by.searched.splices.items in
+    let gs : List Group = by.groups.items in
+    let more : List (List ℕ) = lists_of by.searched.splices.items in
     let is = c.told_of-told.ensures in
-    let searched : AreGroupsSearched c.args.limit copies told.groups told.tries (length more) told.is_used_up =
-    subst (λ (k : ℕ). AreGroupsSearched c.args.limit copies k told.tries (length more) told.is_used_up) (sym is.groups)
-    (subst (λ (k : ℕ). AreGroupsSearched c.args.limit copies (length by.groups.items) k (length more) told.is_used_up) (sym is.tries)
-    (subst (λ (u : Bool). AreGroupsSearched c.args.limit copies (length by.groups.items) by.searched.tries (length more) u) (sym is.is_used_up)
-    c.in_ok-by.ensures.tries)) in
-    subst (λ (xs : List (Vec ℕ Global)). AreGroupTries c.args.limit (by_groups_of (drop n (lists_of xs)) told)) (sym c.in_ok-append.ensures.items)
-    (group_tries vs more n at c.args.limit copies told c.requires.some_copy searched)
+    let e = c.in_ok-by.ensures in
+    let groups = subst (λ qs. AllByRecursion (IsGroup (parts_of qs)) gs) c.deref.ensures.value e.groups in
+    let cover = subst (λ qs. CoverParts (parts_of qs) gs) c.deref.ensures.value e.cover in
+    let searched : AreGroupsSearched c.args.limit copies ps gs told.tries more told.is_used_up =
+    subst (λ (k : ℕ). AreGroupsSearched c.args.limit copies ps gs k more told.is_used_up) (sym is.tries)
+    (subst (λ (u : Bool). AreGroupsSearched c.args.limit copies ps gs by.searched.tries more u) (sym is.is_used_up)
+    (subst (λ qs. AreGroupsSearched c.args.limit copies (parts_of qs) gs by.searched.tries more by.searched.is_used_up) c.deref.ensures.value e.searched)) in
+    subst (λ (xs : List (Vec ℕ Global)). IsGroupSearch c.args.limit copies ps (by_groups_of (drop n (lists_of xs)) told))
+    (sym (appended vs c.splices_given-given.result by.searched.splices c.append.new.self.items c.in_ok-append.ensures.items c.splices_given-given.ensures))
+    (group_search vs by.searched.splices.items n at c.args.limit copies ps gs told groups cover is.groups e.once searched)
+
+pub returns-clause-of_groups : goal.returns-clause-of_groups
+returns-clause-of_groups c =
+    (length c.args.copies.now, c.requires.some_copy, parts_of c.args.found.parts.items, returns-clause-by_groups c)
 
 pub returns-clause-splices : goal.returns-clause-splices
 returns-clause-splices c =
@@ -93,7 +110,7 @@ returns-clause-each c =
     let vs = c.args.found.searched.splices.items in
     let more = c.in_ok-by.by.searched.splices.items in
     let each = subst (λ qs. AllByRecursion (IsOfGroup (parts_of qs)) (lists_of more)) c.deref.ensures.value c.in_ok-by.ensures.splices in
-    subst (λ (xs : List (Vec ℕ Global)). AllByRecursion (IsWhole ps) (lists_of xs)) (sym c.in_ok-append.ensures.items)
+    subst (λ (xs : List (Vec ℕ Global)). AllByRecursion (IsWhole ps) (lists_of xs)) (sym (appended vs c.splices_given-given.result c.in_ok-by.by.searched.splices c.append.new.self.items c.in_ok-append.ensures.items c.splices_given-given.ensures))
     (whole_of_both ps (IsSought c.args.found.ceiling) vs more c.requires.searched.files each)
 
 pub returns-clause-kept : goal.returns-clause-kept
@@ -101,12 +118,14 @@ returns-clause-kept c =
     let vs = c.args.found.searched.splices.items in
     let n = c.len-whole.result in
     let at : n ≡ length vs = c.len-whole.ensures ∙ c.args.found.searched.splices.ok.0 in
-    ap (λ (xs : List (Vec ℕ Global)). take n (lists_of xs)) c.in_ok-append.ensures.items
+    ap (λ (xs : List (Vec ℕ Global)). take n (lists_of xs))
+    (appended vs c.splices_given-given.result c.in_ok-by.by.searched.splices c.append.new.self.items c.in_ok-append.ensures.items c.splices_given-given.ensures)
     ∙ front_is vs c.in_ok-by.by.searched.splices.items n at
 
 pub returns-clause-whole : goal.returns-clause-whole
 returns-clause-whole c =
     let vs = c.args.found.searched.splices.items in
     let at : c.len-whole.result ≡ length vs = c.len-whole.ensures ∙ c.args.found.searched.splices.ok.0 in
-    let a = ap length c.in_ok-append.ensures.items ∙ length-append vs c.in_ok-by.by.searched.splices.items in
+    let a = ap length
+    (appended vs c.splices_given-given.result c.in_ok-by.by.searched.splices c.append.new.self.items c.in_ok-append.ensures.items c.splices_given-given.ensures) ∙ length-append vs c.in_ok-by.by.searched.splices.items in
     omega (arith, a, at)

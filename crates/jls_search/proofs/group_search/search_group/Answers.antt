@@ -6,7 +6,7 @@ use Rattle.jls_search.proofs.group_search.search_group.Goals as goal
 pub loop-copy-init : goal.loop-copy-init
 loop-copy-init c = record {
   splices = c.requires.splices;
-  goes = goes_first c.args.extent.limit c.args.searched c.requires.untried c.requires.few;
+  goes = goes_first c.args.extent.limit (parts_of c.args.parts.now) c.args.group c.args.searched c.requires.untried c.requires.few;
 }
 
 pub search_setting-requires-clause-setting : goal.search_setting-requires-clause-setting
@@ -16,5 +16,7 @@ search_setting-requires-clause-setting c =
 pub loop-copy-preserved : goal.loop-copy-preserved
 loop-copy-preserved c = record {
   splices = c.in_ok-searched.ensures.splices;
-  goes = goes_more c.args.extent.limit c.loop-copy.copy c.args.searched c.loop-copy.searched _ c.loop-copy.invariant.goes c.in_ok-searched.ensures.goes;
+  goes =
+      goes_more c.args.extent.limit c.loop-copy.copy (parts_of c.args.parts.now) c.args.group c.args.searched c.loop-copy.searched _
+      c.loop-copy.invariant.goes c.in_ok-searched.ensures.goes;
 }

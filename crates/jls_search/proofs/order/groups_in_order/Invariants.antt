@@ -1,5 +1,6 @@
-use Rattle.std.proofs.Common.{◌≡◌, ◌+◌, length}
+use Rattle.std.proofs.Common.{◌++◌, take}
 use Rattle.std.specs.List.{AllByRecursion}
+use Rattle.std.specs.List.Sorted.{IsPermutation}
 use Rattle.jls_diff.specs.PartsOf.{parts_of}
 use Rattle.jls_diff.specs.Groups.{IsGroup}
 use Rattle.jls_search.proofs.order.groups_in_order.Given as goal
@@ -8,5 +9,5 @@ abbrev pub invariant-loop-number : goal.invariant-loop-number
 invariant-loop-number l = record {
   ordered : AllByRecursion (IsGroup (parts_of l.parts)) l.ordered.items;
   others : AllByRecursion (IsGroup (parts_of l.parts)) l.others.items;
-  count : length l.ordered.items + length l.others.items ≡ l.number;
+  same : IsPermutation (take l.number l.groups) (l.ordered.items ++ l.others.items);
 }
