@@ -147,8 +147,8 @@ fn search_in_turn(
 /// counts. The reading of the copies, which orders the groups, does not. Each group may be tried `limit` times, with all copies together.
 /// A group with one copy gives 64 files at most, and all groups 4,096.
 ///
-/// Where the search of a group with a copy wasn't cut off, each splice that reads so was found, or was passed by. It is passed by where some
-/// front of it is given up, or it has more than 4,096 faulty pieces.
+/// Where the search of a group with a copy wasn't cut off, each splice that reads so was found, or was passed by. It is passed by where
+/// some front of it is given up, or it has more than 4,096 faulty pieces.
 ///
 /// `is_used_up` says that somewhere the search ended with the tries of a group or with such a number of files, while there was more to
 /// try. `tries` is what was tried in all groups, or the greatest number of its type. `Err` comes where memory is refused.
