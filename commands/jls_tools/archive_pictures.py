@@ -2,7 +2,6 @@
 import os
 
 from . import archive_desk
-from .limits import Limited
 
 PART = ".jlsp"
 
@@ -42,7 +41,7 @@ def log_of(desk, copies, names, outcome):
 def mend(desk, row, copies):
     """JPEG-LS files that differ: OUT gets the mended file if it is promised to be the picture, or is the file of the sums."""
     names, spliced, mended = desk.links(copies), desk.name("spliced"), desk.name("mended")
-    outcome = Limited(desk.programs, names, desk.folder, ["--tries", str(desk.options.tries)]).splice(spliced, mended)
+    outcome = desk.programs.splice(spliced, names, mended, desk.folder, ["--tries", str(desk.options.tries)])
     log = log_of(desk, copies, names, outcome)
     row.take(outcome.report)
     if outcome.status >= 2 or not os.path.exists(desk.place(spliced)):

@@ -7,7 +7,6 @@ from dataclasses import dataclass, field
 from jls_tools.dicom_align import differing
 from jls_tools.dicom_frames import other_coding, shape_of
 from jls_tools.dicom_result import FAILED, FrameResult
-from jls_tools.limits import Limited
 from jls_tools.programs import ProgramFailed
 
 # A frame is known by what stands after its headers
@@ -211,7 +210,7 @@ class FrameMender:
         words = list(self.words)
         if self.has_files and self.wants_all:
             words += ["--files", prefix]
-        splice = self.sure(Limited(self.programs, names, self.folder, words).splice(partial, file))
+        splice = self.sure(self.programs.splice(partial, names, file, self.folder, words))
         stream = self.get(file) if splice.file_written else None
         others = self.others(prefix, streams, names)
         self.drop([file])

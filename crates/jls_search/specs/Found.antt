@@ -47,10 +47,6 @@ pub record IsGroupSearch (limit copies : ℕ) (parts : List Part) (b : ByGroups)
   pub once : IsOnce b.choices
   pub searched : AreGroupsSearched limit copies parts groups b.tries b.choices b.is_used_up
 
--- it did so with some copies
-abbrev pub AreGroupTries : ℕ → ByGroups → Type 0
-AreGroupTries limit b = (copies : ℕ) × (0 < copies) × (parts : List Part) × IsGroupSearch limit copies parts b
-
 -- a search over these copies, for files under the ceiling, found it; groups, which have no ceiling, were searched where the search of all
 -- splices was cut off or came to nothing, and only there
 pub record IsFound (ceiling : Option ℕ) (copies : List (List ℕ)) (f : Found) : Type 0 where

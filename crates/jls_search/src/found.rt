@@ -8,7 +8,7 @@ ghost use Rattle.jls_search.specs.Choices.{IsWhole};
 ghost use Rattle.jls_search.specs.Faultless.{IsSought};
 ghost use Rattle.jls_search.specs.Search.{CameTo, files_of, lists_of};
 ghost use Rattle.jls_search.specs.SearchLaws.{AreShort};
-ghost use Rattle.jls_search.specs.Found.{AreGroupTries, IsFound, IsGroupSearch, found_of, splices_in};
+ghost use Rattle.jls_search.specs.Found.{IsFound, IsGroupSearch, found_of, splices_in};
 
 use crate::copies::SearchedCopies;
 use crate::group_search::{SearchedGroups, search_groups};
@@ -101,7 +101,6 @@ pub fn complete_by_groups<'a>(
     ensures whole { IfOk result (λ more. more.whole ≤ length more.splices.items) }
     ensures by_groups { IfOk result
         (λ more. IfSome (found_of more).by_groups (IsGroupSearch limit (length copies.now) (parts_of more.parts.items))) }
-    ensures of_groups { IfOk result (λ more. IfSome (found_of more).by_groups (AreGroupTries limit)) }
 {
     let SearchedCopies {
         parts,

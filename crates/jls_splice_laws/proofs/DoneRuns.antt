@@ -1,5 +1,5 @@
 -- Runs that end with status 0.
-use Rattle.std.proofs.Common.{◌≡◌, ℕ, ◌<◌, ◌≤◌, Bool, true, false, List, [], ◌∷◌, ◌++◌, length, Option, Some, None, refl, subst, arith}
+use Rattle.std.proofs.Common.{◌≡◌, ℕ, ◌<◌, ◌≤◌, Bool, true, false, List, [], ◌∷◌, ◌++◌, length, Option, Some, None, refl, sym, ◌∙◌, subst, arith, inl, inr}
 use Rattle.std.specs.Prelude.{IsTrue, IfSome, if◌then◌else◌}
 use Rattle.std.specs.List.{Contains}
 use Rattle.jls_io.specs.Event.{Event}
@@ -19,7 +19,8 @@ use Rattle.jls_splice_run.specs.declared.outcome.Cause.{Cause}
 use Rattle.jls_splice_run.specs.declared.outcome.Cause.TheVariants as cause
 use Rattle.jls_splice_run.specs.declared.outcome.Outcome.TheVariants.{Done}
 use Rattle.jls_splice_run.specs.Copies.{bytes_read}
-use Rattle.jls_splice_run.specs.Making.{IsCut, IsMade, IsPictureOf, IsPictureOfFiles, Made, cut_file, has_some, promise_of}
+use Rattle.jls_splice_run.specs.Limits.{has_some}
+use Rattle.jls_splice_run.specs.Making.{IsCut, IsCutTaken, IsMade, IsPictureOf, IsPictureOfFiles, Made, cut_file, promise_of}
 use Rattle.jls_splice_run.specs.declared.found.Promise.TheVariants.{Picture, Lines}
 use Rattle.jls_copy_laws.proofs.Members.{none_in}
 use Rattle.jls_splice_run.specs.Runs.{Performs, came_of, no_names, at_copies, not_made, not_handed, done}
@@ -46,8 +47,8 @@ was_whole settled false e = absurd (omega (arith, e))
 did_make : (a : Asked) (status : ℕ) (desk report faults : List Event) → Performs a status desk report faults → status ≤ 1 → DidMake a desk report
 did_make a _ _ _ _ (came_of _ _ _ _ line (at_copies r desk stops) told) e = absurd (not_done r.cause e)
 did_make a _ _ _ _ (came_of _ _ _ _ line (not_made r copies desk faults read cant) told) e = absurd (not_done r.cause e)
-did_make a _ _ _ _ (came_of _ _ _ _ line (not_handed r copies m reading desk report faults read made tells stops) told) e = absurd (not_done r.cause e)
-did_make a _ _ _ _ (came_of _ _ _ _ line (done copies m settled whole reading desk report faults read made tells handed is_set is_read) told) e = record {
+did_make a _ _ _ _ (came_of _ _ _ _ line (not_handed r copies m reading desk report faults noting read made tells noted stops) told) e = absurd (not_done r.cause e)
+did_make a _ _ _ _ (came_of _ _ _ _ line (done copies m settled whole reading desk report faults noting read made tells noted handed is_set is_read) told) e = record {
   copies = copies;
   made = m;
   reading = reading;
@@ -74,9 +75,9 @@ did_settle : (a : Asked) (status : ℕ) (desk report faults : List Event) → Pe
     → (did : DidMake a desk report) × IsSettled did.made.picture
 did_settle a _ _ _ _ (came_of _ _ _ _ line (at_copies r desk stops) told) e = absurd (not_done r.cause (at_most_1 _ e))
 did_settle a _ _ _ _ (came_of _ _ _ _ line (not_made r copies desk faults read cant) told) e = absurd (not_done r.cause (at_most_1 _ e))
-did_settle a _ _ _ _ (came_of _ _ _ _ line (not_handed r copies m reading desk report faults read made tells stops) told) e =
+did_settle a _ _ _ _ (came_of _ _ _ _ line (not_handed r copies m reading desk report faults noting read made tells noted stops) told) e =
     absurd (not_done r.cause (at_most_1 _ e))
-did_settle a _ _ _ _ (came_of _ _ _ _ line (done copies m settled whole reading desk report faults read made tells handed is_set is_read) told) e = (
+did_settle a _ _ _ _ (came_of _ _ _ _ line (done copies m settled whole reading desk report faults noting read made tells noted handed is_set is_read) told) e = (
   record {
     copies = copies;
     made = m;
@@ -100,6 +101,13 @@ some_copy [] (copy ∷ copies) events read some = absurd read
 some_copy (name ∷ names) [] events read some = absurd read
 some_copy (name ∷ names) (copy ∷ copies) events read some = omega arith
 
+-- the cut file that was taken is the one that was found
+cut_is_lone : (copies : List (List ℕ)) (f : Found) (ceiling : Option ℕ) (lone cut : Option (List ℕ)) (path : List ℕ) → cut ≡ Some path
+    → IfSome lone (IsCut ceiling f) → IsCutTaken copies f lone cut → IsCut ceiling f path
+cut_is_lone copies f ceiling lone cut path is found (inl same) =
+    subst (λ (o : Option (List ℕ)). IfSome o (IsCut ceiling f)) (sym same ∙ is) found
+cut_is_lone copies f ceiling lone cut path is found (inr (none, why)) = absurd cc
+
 -- a cut file is taken only where the search of all splices found nothing
 module _ (a : Asked) (copies : List (List ℕ)) (m : Made) (is : IsMade a copies m) (file : List ℕ) where
   files_alone : (cut : Option (List ℕ)) → m.cut ≡ cut → Contains (files_of m.found.parts m.found.choices) file
@@ -107,7 +115,7 @@ module _ (a : Asked) (copies : List (List ℕ)) (m : Made) (is : IsMade a copies
   files_alone None e among =
       subst (λ (c : Option (List ℕ)). IsPictureOf a.options.source copies (splices_in m.found) (cut_file m.found c) m.picture) e is.is_picture
   files_alone (Some path) e among =
-      let cut : IsCut m.ceiling m.found path = subst (λ (c : Option (List ℕ)). IfSome c (IsCut m.ceiling m.found)) e is.is_cut in
+      let cut : IsCut m.cut_ceiling m.found path = cut_is_lone copies m.found m.cut_ceiling m.lone m.cut path e is.is_lone is.is_cut in
       absurd (none_in file (subst (λ (xs : List (List ℕ)). Contains (files_of m.found.parts xs) file) cut.0 among))
 
 -- what the promise stands on
@@ -166,7 +174,7 @@ spliced_runs_take_the_cut a status desk report faults performs e =
       λ path is.
           let m : Made = d.made in
           let copies : List (List ℕ) = bytes_read d.copies in
-          let cut : IsCut m.ceiling m.found path = subst (λ (c : Option (List ℕ)). IfSome c (IsCut m.ceiling m.found)) is d.is_made.is_cut in
+          let cut : IsCut m.cut_ceiling m.found path = cut_is_lone copies m.found m.cut_ceiling m.lone m.cut path is d.is_made.is_lone d.is_made.is_cut in
           record {
             are_parts = d.is_made.is_found.are_parts;
             is_lone = cut.1;

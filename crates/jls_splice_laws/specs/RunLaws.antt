@@ -39,7 +39,7 @@ IsOfEachWholeSplice limit copies m =
 abbrev pub PromisesPicture : Option ℕ → Made → Type 0
 PromisesPicture limit m = promise_of m.ceiling m.found m.is_settled ≡ Picture limit
 
--- What was asked of some copies ends with status 0. Then it was done, and each line of the picture is settled. Let the search of all splices
+-- What was asked of some copies ends with status 0. Then it was done, and each line of the picture is settled. Let the search that counts
 -- not be cut off, or let the picture be promised. Then it is the picture of each undamaged file that is a splice and within the limit
 abbrev pub SplicedRunsGiveNoOther : Type 0
 SplicedRunsGiveNoOther =
@@ -55,4 +55,4 @@ SplicedRunsTakeTheCut =
     (a : Asked) (status : ℕ) (desk report faults : List Event) → Performs a status desk report faults → status ≤ 1
     → (did : DidMake a desk report)
     × ((path : List ℕ) → did.made.cut ≡ Some path
-    → WereCut did.made.ceiling (bytes_read did.copies) did.made.found.parts path a.options.source did.made.picture)
+    → WereCut did.made.cut_ceiling (bytes_read did.copies) did.made.found.parts path a.options.source did.made.picture)

@@ -3,6 +3,7 @@ use Rattle.std.proofs.Common.{◌≡◌, ℕ, Bool, suc, List, [], ◌∷◌, �
 use Rattle.std.specs.Prelude.{◌↔◌, IsTrue}
 use Rattle.std.proofs.lemmas.List.{append-nil}
 use Rattle.jls_io.specs.Event.{Event, History, GrewBy}
+use Rattle.jls_io.specs.Writing.{Printed}
 use Rattle.jls_io.proofs.Growing.{grew_twice}
 use Rattle.jls_partial.specs.Status.{IsSettled}
 use Rattle.jls_station.specs.CopyFiles.{AreCopiesRead, CopyBytes}
@@ -12,7 +13,7 @@ use Rattle.jls_splice_run.specs.declared.outcome.Refusal.{Refusal}
 use Rattle.jls_splice_run.specs.Copies.{AreWhole, bytes_read, StopsAtCopies}
 use Rattle.jls_splice_run.specs.Handing.{HandsAll, StopsInHanding, Texts}
 use Rattle.jls_splice_run.specs.Listing.{prefix_in}
-use Rattle.jls_splice_run.specs.Making.{AreTextsOf, CantMake, HoldsMade, Made}
+use Rattle.jls_splice_run.specs.Making.{AreTextsOf, CantMake, HoldsMade, Made, notes}
 use Rattle.jls_splice_run.specs.Runs.{GrewAll, GrewBoth, Splices, at_copies, done, not_handed, not_made, texts, texts_held}
 use Rattle.jls_splice_run.specs.declared.made.Made.{Made as MadeValue}
 
@@ -37,7 +38,7 @@ texts_are a copies m v h = λ i. record {
   files = h.files_are i;
 }
 
-module _ (a : Asked) (desk mid new report report' faults faults' : History) where
+module _ (a : Asked) (desk mid new report report' faults faults' last : History) where
   pub stops_at_copies : (r : Refusal) → GrewBy (StopsAtCopies a.copies r) desk mid
       → GrewAll (Splices a (Refused r)) desk mid report report faults faults
   stops_at_copies r h = record {
@@ -66,29 +67,33 @@ module _ (a : Asked) (desk mid new report report' faults faults' : History) wher
       abbrev made : HoldsMade a copies v holds.events
       made = holds.they_are
 
-      pub stops_in_handing : (r : Refusal) → GrewBoth (StopsInHanding (texts_held a v) r) mid new report report'
-          → GrewAll (Splices a (Refused r)) desk new report report' faults faults'
-      stops_in_handing r h = record {
-        desk_events = read.events ++ h.desk_events;
-        report_events = h.report_events;
-        fault_events = holds.events;
-        desk_is = grew_twice desk mid new read.events h.desk_events read.grew h.desk_is;
-        report_is = h.report_is;
-        faults_are = holds.grew;
-        they_are = not_handed r copies made.0 read.events h.desk_events h.report_events holds.events read.they_are made.1 made.3
-            (subst (λ (t : Texts). StopsInHanding t r h.desk_events h.report_events) (texts_are a copies made.0 v made.2) h.they_are);
-      }
+      module _ (noted : GrewBy (Printed v.notes.items) faults' last) where
+        its_notes : Printed (notes a (bytes_read copies) made.0) noted.events
+        its_notes = subst (λ (t : List ℕ). Printed t noted.events) made.2.notes_are noted.they_are
 
-      pub is_done : (whole : Bool) → (IsTrue whole ↔ AreWhole copies) → GrewBoth (HandsAll (texts_held a v)) mid new report report'
-          → GrewAll (Splices a (Done v.settled whole)) desk new report report' faults faults'
-      is_done whole whole_is h = record {
-        desk_events = read.events ++ h.desk_events;
-        report_events = h.report_events;
-        fault_events = holds.events;
-        desk_is = grew_twice desk mid new read.events h.desk_events read.grew h.desk_is;
-        report_is = h.report_is;
-        faults_are = holds.grew;
-        they_are = done copies made.0 v.settled whole read.events h.desk_events h.report_events holds.events read.they_are made.1 made.3
-            (subst (λ (t : Texts). HandsAll t h.desk_events h.report_events) (texts_are a copies made.0 v made.2) h.they_are)
-            (subst (λ (b : Bool). IsTrue b ↔ IsSettled made.0.picture) (sym made.2.settled_is) made.1.settled) whole_is;
-      }
+        pub stops_in_handing : (r : Refusal) → GrewBoth (StopsInHanding (texts_held a v) r) mid new report report'
+            → GrewAll (Splices a (Refused r)) desk new report report' faults last
+        stops_in_handing r h = record {
+          desk_events = read.events ++ h.desk_events;
+          report_events = h.report_events;
+          fault_events = holds.events ++ noted.events;
+          desk_is = grew_twice desk mid new read.events h.desk_events read.grew h.desk_is;
+          report_is = h.report_is;
+          faults_are = grew_twice faults faults' last holds.events noted.events holds.grew noted.grew;
+          they_are = not_handed r copies made.0 read.events h.desk_events h.report_events holds.events noted.events read.they_are made.1 made.3 its_notes
+              (subst (λ (t : Texts). StopsInHanding t r h.desk_events h.report_events) (texts_are a copies made.0 v made.2) h.they_are);
+        }
+
+        pub is_done : (whole : Bool) → (IsTrue whole ↔ AreWhole copies) → GrewBoth (HandsAll (texts_held a v)) mid new report report'
+            → GrewAll (Splices a (Done v.settled whole)) desk new report report' faults last
+        is_done whole whole_is h = record {
+          desk_events = read.events ++ h.desk_events;
+          report_events = h.report_events;
+          fault_events = holds.events ++ noted.events;
+          desk_is = grew_twice desk mid new read.events h.desk_events read.grew h.desk_is;
+          report_is = h.report_is;
+          faults_are = grew_twice faults faults' last holds.events noted.events holds.grew noted.grew;
+          they_are = done copies made.0 v.settled whole read.events h.desk_events h.report_events holds.events noted.events read.they_are made.1 made.3 its_notes
+              (subst (λ (t : Texts). HandsAll t h.desk_events h.report_events) (texts_are a copies made.0 v made.2) h.they_are)
+              (subst (λ (b : Bool). IsTrue b ↔ IsSettled made.0.picture) (sym made.2.settled_is) made.1.settled) whole_is;
+        }

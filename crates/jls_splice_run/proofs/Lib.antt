@@ -2,6 +2,8 @@
 mod PrintedLineExamples
 mod Offsets
 pub mod Rounds
+mod Turns
+mod LineBegins
 mod FaultLineExamples
 mod StatusExamples
 mod Done

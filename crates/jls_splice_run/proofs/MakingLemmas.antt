@@ -1,6 +1,6 @@
 -- What the making of a picture needs.
 use Rattle.std.proofs.Common.{◌≡◌, ℕ, zero, suc, ◌<◌, ◌≤◌, ◌+◌, Bool, true, false, Vec, Global, List, [], ◌∷◌, ◌++◌, length, map, take, get_or, Option, Some, None, refl, sym, ap, ◌∙◌, subst, arith, inl, inr}
-use Rattle.std.specs.Prelude.{◌^◌, ◌⊎◌, IfSome, option_map, if◌then◌else◌}
+use Rattle.std.specs.Prelude.{◌^◌, ◌⊎◌, IfSome, IfNone, option_map, if◌then◌else◌}
 use Rattle.std.specs.List.{sum_by}
 use Rattle.std.proofs.lemmas.List.Sums.{sum_by-cons}
 use Rattle.jls_diff.specs.Parts.{AreParts, Part, Same, made, way}
@@ -8,7 +8,8 @@ use Rattle.jls_search.proofs.Fronts.{front_more}
 use Rattle.jls_search.specs.Choices.{IsFirstWay, IsPath, front_of}
 use Rattle.jls_search.specs.SearchLaws.{AreShort}
 use Rattle.jls_search.specs.Found.{Found}
-use Rattle.jls_splice_run.specs.Making.{files_told, has_some, lacks_single, promise_of}
+use Rattle.jls_splice_run.specs.Limits.{has_some}
+use Rattle.jls_splice_run.specs.Making.{files_told, lacks_single, promise_of}
 use Rattle.jls_splice_run.specs.declared.found.Promise.TheVariants.{Picture, Lines}
 use Rattle.jls_splice_run.specs.Single.{IsSingleAsked}
 
@@ -92,11 +93,30 @@ module _ (ceiling : Option ℕ) (f : Found) (is_settled : Bool) where
       by false true true (inr (inl e)) = absurd cc
       by false true true (inr (inr e)) = absurd cc
 
--- the cut file that is taken is the one that was found
-pub cut_taken : (P : List ℕ → Type 0) (taken cut : Option (Vec ℕ Global)) → IfSome taken (λ path. cut ≡ Some path)
-    → IfSome cut (λ path. P path.items) → IfSome (option_map (λ (v : Vec ℕ Global). v.items) taken) P
-cut_taken P None cut same h = tt
-cut_taken P (Some path) cut same h = subst (λ (o : Option (Vec ℕ Global)). IfSome o (λ path. P path.items)) same h
+-- the cut file that is taken, as the code has it
+pub cut_mapped : (P : List ℕ → Type 0) (taken cut : Option (Vec ℕ Global)) → (taken ≡ cut) ⊎ ((taken ≡ None) × IfSome cut (λ path. P path.items))
+    → (option_map (λ (v : Vec ℕ Global). v.items) taken ≡ option_map (λ (v : Vec ℕ Global). v.items) cut)
+    ⊎ ((option_map (λ (v : Vec ℕ Global). v.items) taken ≡ None) × IfSome (option_map (λ (v : Vec ℕ Global). v.items) cut) P)
+cut_mapped P taken cut (inl same) = inl (ap (option_map (λ (v : Vec ℕ Global). v.items)) same)
+cut_mapped P taken None (inr (none, h)) = inr (ap (option_map (λ (v : Vec ℕ Global). v.items)) none, tt)
+cut_mapped P taken (Some path) (inr (none, h)) = inr (ap (option_map (λ (v : Vec ℕ Global). v.items)) none, h)
+
+-- and what holds of the one that was found
+pub found_mapped : (P : List ℕ → Type 0) (cut : Option (Vec ℕ Global)) → IfSome cut (λ path. P path.items)
+    → IfSome (option_map (λ (v : Vec ℕ Global). v.items) cut) P
+found_mapped P None h = tt
+found_mapped P (Some path) h = h
+
+-- or why none was
+pub none_mapped : (P : Type 0) (cut : Option (Vec ℕ Global)) → IfNone cut P → IfNone (option_map (λ (v : Vec ℕ Global). v.items) cut) P
+none_mapped P None h = h
+none_mapped P (Some path) h = tt
+
+-- the choices of the one that is taken are a path
+pub path_taken : (P : List ℕ → Type 0) (Q : Vec ℕ Global → Type 0) (taken cut : Option (Vec ℕ Global))
+    → (taken ≡ cut) ⊎ ((taken ≡ None) × IfSome cut Q) → IfSome cut (λ path. P path.items) → IfSome taken (λ path. P path.items)
+path_taken P Q taken cut (inl same) h = subst (λ (o : Option (Vec ℕ Global)). IfSome o (λ path. P path.items)) (sym same) h
+path_taken P Q taken cut (inr (none, why)) h = subst (λ (o : Option (Vec ℕ Global)). IfSome o (λ path. P path.items)) (sym none) tt
 
 -- a path has no more choices than there are parts
 pub path_within : (ps : List Part) (cs : List ℕ) → IsPath ps cs → length cs ≤ length ps

@@ -4,7 +4,7 @@ use Rattle.std.specs.Prelude.{codes, decimal}
 use Rattle.std.proofs.lemmas.Fmt.{decimal_digit, decimal-digits_of}
 use Rattle.jls_diff.specs.Parts.{Part, Same, Differ}
 use Rattle.jls_splice_run.specs.Differences.{differences}
-use Rattle.jls_splice_run.specs.Lines.{before_line, differ_lines, files_line, found_text, groups_line, more_line, progress_line, promise_line, single_line, splices_line, used_up_line}
+use Rattle.jls_splice_run.specs.Lines.{before_line, differ_lines, files_line, found_text, groups_line, limit_line, more_line, progress_line, promise_line, single_line, splices_line, used_up_line}
 use Rattle.jls_splice_run.specs.declared.differences.Difference.{Difference}
 use Rattle.jls_splice_run.specs.declared.found.Promise.TheVariants.{Picture, Lines}
 use Rattle.jls_splice_run.specs.declared.found.SearchReport.{SearchReport}
@@ -107,11 +107,18 @@ picture_within = rw d4095 refl
 only_lines : promise_line Lines ≡ codes "promise lines\n"
 only_lines = refl
 
+counted_limit : limit_line (Some 4095) ≡ codes "limit 4095\n"
+counted_limit = rw d4095 refl
+
+no_limit : limit_line None ≡ []
+no_limit = refl
+
 -- all lines of a run whose searches were cut off, of one that found nothing, and of one that found all that it asked for
 abbrev cut_short : SearchReport
 cut_short = record {
   splices = 3;
   is_used_up = true;
+  limit = None;
   by_groups = Some (record { groups = 2; is_used_up = true });
   before = None;
   files = Some 12;
@@ -127,6 +134,7 @@ abbrev before_a_place : SearchReport
 before_a_place = record {
   splices = 0;
   is_used_up = false;
+  limit = None;
   by_groups = Some (record { groups = 1; is_used_up = false });
   before = Some (record { offset = 4; limit = None });
   files = None;
@@ -142,6 +150,7 @@ abbrev complete : SearchReport
 complete = record {
   splices = 1;
   is_used_up = false;
+  limit = Some 4095;
   by_groups = None;
   before = None;
   files = None;
@@ -150,5 +159,5 @@ complete = record {
 }
 
 text_of_complete : found_text two complete
-    ≡ codes "differ 2 1\ndiffer 4 0\nsplices 1\npromise picture if each differ is true in some copy and samples are up to 4095\n"
+    ≡ codes "differ 2 1\ndiffer 4 0\nsplices 1\nlimit 4095\npromise picture if each differ is true in some copy and samples are up to 4095\n"
 text_of_complete = rw (d0, d1, d2, d4, d4095) refl

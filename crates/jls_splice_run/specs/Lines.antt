@@ -1,5 +1,5 @@
 -- The lines that are printed of what was found: ASCII, each with a newline at its end, and numbers in decimal.
-use Rattle.std.specs.Prelude.{ℕ, ◌-◌, Bool, List, [], ◌++◌, Option, Some, None, codes, decimal, length, take, nat_lt, if◌then◌else◌}
+use Rattle.std.specs.Prelude.{ℕ, ◌-◌, Bool, true, false, List, [], ◌∷◌, ◌++◌, Option, Some, None, codes, decimal, length, take, nat_eq, nat_lt, if◌then◌else◌}
 use Rattle.std.specs.List.{flat_map}
 use Rattle.jls_splice_run.specs.declared.differences.Difference.{Difference}
 use Rattle.jls_splice_run.specs.declared.found.GroupSearch.{GroupSearch}
@@ -27,6 +27,11 @@ splices_line count = codes "splices " ++ decimal count ++ codes "\n"
 -- the line of a search that was cut off; no line if it was not
 abbrev pub used_up_line : Bool → List ℕ
 used_up_line is_used_up = if is_used_up then codes "tries used up\n" else []
+
+-- the line of the limit of samples of the search that counts; no line if it has none, or it was given
+abbrev pub limit_line : Option ℕ → List ℕ
+limit_line None = []
+limit_line (Some limit) = codes "limit " ++ decimal limit ++ codes "\n"
 
 -- how the line of the search by groups ends. It says if that search was cut off
 abbrev pub groups_end : Bool → List ℕ
@@ -64,7 +69,7 @@ single_line lacks_single_file = if lacks_single_file then codes "no single file\
 
 -- the lines of what the searches came to, in their order
 abbrev pub search_lines : SearchReport → List ℕ
-search_lines r = splices_line r.splices ++ used_up_line r.is_used_up ++ groups_line r.by_groups
+search_lines r = splices_line r.splices ++ used_up_line r.is_used_up ++ limit_line r.limit ++ groups_line r.by_groups
 
 -- the lines of what is made of it, in their order
 abbrev pub outcome_lines : SearchReport → List ℕ
@@ -73,6 +78,17 @@ outcome_lines r = before_line r.before ++ files_line r.files ++ single_line r.la
 -- all lines of what was found: where copies differ, what the searches came to, and what is made of it
 abbrev pub found_text : List Difference → SearchReport → List ℕ
 found_text ds report = differ_lines ds ++ search_lines report ++ outcome_lines report
+
+-- text with these words in front of each of its lines, where it begins a line or not
+abbrev pub in_front : List ℕ → Bool → List ℕ → List ℕ
+in_front words begins [] = []
+in_front words true (b ∷ bs) = words ++ b ∷ in_front words (nat_eq b 10) bs
+in_front words false (b ∷ bs) = b ∷ in_front words (nat_eq b 10) bs
+
+-- what standard error has where the output is standard output: the lines of what the searches came to and of what is made of it, each with
+-- the program's name in front
+abbrev pub noted_text : SearchReport → List ℕ
+noted_text report = in_front (codes "jls-splice: ") true (search_lines report ++ outcome_lines report)
 
 -- the line of how far a search is: how many prefixes and files were tried, and how many files were found
 abbrev pub progress_line : ℕ → ℕ → List ℕ

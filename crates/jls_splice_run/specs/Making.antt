@@ -1,5 +1,5 @@
 -- What is made of the copies.
-use Rattle.std.specs.Prelude.{◌≡◌, ◌≤◌, ◌↔◌, ◌⊎◌, ℕ, Bool, true, false, IsTrue, List, [], ◌∷◌, ◌++◌, Option, Some, None, IfSome, codes, get_or, length, option_map, if◌then◌else◌}
+use Rattle.std.specs.Prelude.{◌≡◌, ◌↔◌, ◌⊎◌, ℕ, Bool, true, false, IsTrue, List, [], ◌∷◌, ◌++◌, Option, Some, None, IfSome, IfNone, codes, get_or, length, option_map, if◌then◌else◌}
 use Rattle.std.specs.Str.{bytes_eq}
 use Rattle.std.specs.declared.vec.Vec.{Vec}
 use Rattle.std.specs.declared.alloc.Global.{Global}
@@ -9,26 +9,25 @@ use Rattle.jls_partial.specs.Partial.{PartialPicture, nothing_known}
 use Rattle.jls_partial.specs.Status.{IsSettled}
 use Rattle.jls_partial.specs.Text.{text}
 use Rattle.jls_diff.specs.Parts.{Part}
-use Rattle.jls_search.specs.Search.{WereTried}
-use Rattle.jls_search.specs.Found.{AreGroupTries, ByGroups, Found, IsFound, found_of, splices_in}
-use Rattle.jls_search.specs.declared.found.FoundSplices.{FoundSplices}
+use Rattle.jls_search.specs.Found.{ByGroups, Found, IsGroupSearch, IsFound, found_of, splices_in}
 use Rattle.jls_report.specs.Report.{report_of}
 use Rattle.jls_report.specs.ReportText.{report_text}
 use Rattle.jls_splice_run.specs.Differences.{differences, offset_at}
-use Rattle.jls_splice_run.specs.Lines.{found_text}
+use Rattle.jls_splice_run.specs.Lines.{found_text, noted_text}
 use Rattle.jls_splice_run.specs.declared.found.CutEnd.{CutEnd}
 use Rattle.jls_splice_run.specs.declared.found.GroupSearch.{GroupSearch}
 use Rattle.jls_splice_run.specs.declared.found.Promise.{Promise}
 use Rattle.jls_splice_run.specs.declared.found.Promise.TheVariants.{Picture, Lines}
 use Rattle.jls_splice_run.specs.declared.found.SearchReport.{SearchReport}
-use Rattle.jls_splice_run.specs.Telling.{IsTold, ToldSome}
+use Rattle.jls_splice_run.specs.Limits.{AreSearches, SearchMade, Searches, counting, cut_limit, has_some}
+use Rattle.jls_splice_run.specs.Telling.{AreTold, ToldUpTo}
 use Rattle.jls_station.specs.declared.input.ReadStop.{ReadStop}
 use Rattle.jls_station.specs.declared.input.ReadStop.TheVariants.{Whole}
 use Rattle.jls_station.specs.CopyFiles.{CopyBytes}
 use Rattle.jls_search.specs.Shapes.{IsShapeFound, IsShapeTaken}
 use Rattle.jls_search.specs.Stations.{TakesFiles}
-use Rattle.jls_search.specs.Cuts.{TakesCut}
-use Rattle.jls_search.specs.Levels.{IsLone}
+use Rattle.jls_search.specs.Cuts.{TakesCut, TakesNoCut}
+use Rattle.jls_search.specs.Levels.{IsFirstDead, IsLone}
 use Rattle.jls_search.specs.Choices.{front_of}
 use Rattle.jls_search.specs.Faultless.{IsSought}
 use Rattle.jls_search.specs.declared.shape_found.ShapeFound.{ShapeFound}
@@ -41,6 +40,7 @@ use Rattle.jls_splice_run.specs.Copies.{bytes_read, stops_read}
 use Rattle.jls_splice_run.specs.Files.{count_new}
 use Rattle.jls_splice_run.specs.Listing.{AreNamedAsked, NamedFile, named_files}
 use Rattle.jls_splice_run.specs.Single.{IsSingleAsked}
+use Rattle.jls_splice_run.specs.declared.made.FoundInTurn.{FoundInTurn}
 use Rattle.jls_splice_run.specs.declared.made.Made.{Made as MadeValue}
 
 -- ---- what was found and made
@@ -68,33 +68,50 @@ cut_file f cut = option_map (front_of f.parts) cut
 abbrev pub IsCut : Option ℕ → Found → List ℕ → Type 0
 IsCut ceiling f path = (f.choices ≡ []) × IsLone (IsSought ceiling) f.parts path
 
--- what is made of copies: the limit of samples under which files were sought, if there was one; what was found, with how many tries; the
--- choices of the cut file, if one was taken; the picture, and whether each line of it is settled; the single file without a fault; and the
--- files that have numbers
+-- why no cut file is found: a file was found, no try was allowed, or no file that is sought begins with what all copies have alike
+abbrev pub FindsNoCut : Option ℕ → ℕ → Found → Type 0
+FindsNoCut ceiling tries f = (has_some f.choices ≡ true) ⊎ ((tries ≡ 0) ⊎ IsFirstDead (IsSought ceiling) f.parts)
+
+-- the cut file that was found is taken, if one was found; or none is, where a copy or splice has no fault or the cut file no frame
+abbrev pub IsCutTaken : List (List ℕ) → Found → Option (List ℕ) → Option (List ℕ) → Type 0
+IsCutTaken copies f lone cut =
+    (cut ≡ lone) ⊎ ((cut ≡ None) × IfSome lone (λ path. TakesNoCut copies (splices_in f) (front_of f.parts path)))
+
+-- what is made of copies: all searches that were made; the limit of samples of the one that counts, if it had one; what was found, with
+-- how many tries; the limit under which a cut file was sought, if there was one; its choices, if one was found; and those of the one that
+-- was taken; the picture, and whether each line of it is settled; the single file without a fault; and the files that have numbers
 pub record Made : Type 0 where
+  pub searches : Searches
   pub ceiling : Option ℕ
   pub found : Found
   pub tries : ℕ
+  pub cut_ceiling : Option ℕ
+  pub lone : Option (List ℕ)
   pub cut : Option (List ℕ)
   pub picture : PartialPicture
   pub is_settled : Bool
   pub single : Option (List ℕ)
   pub files : List NamedFile
 
--- so many tries under this ceiling were made of those that are allowed, and came to what was found. If they were used up, these are all of
--- them, or 64 files were found. Each group, if groups were searched, has as many tries of its own
-pub record AreTries (ceiling : Option ℕ) (limit : ℕ) (f : Found) (tries : ℕ) : Type 0 where
-  pub tried : WereTried ceiling f.parts tries f.choices
-  pub within : tries ≤ limit
-  pub used_up : f.is_used_up ≡ true → (tries ≡ limit) ⊎ (length f.choices ≡ 64)
-  pub of_groups : IfSome f.by_groups (AreGroupTries limit)
+-- the search that counts, by its limit, what was found, and its tries
+abbrev pub search_of : Option ℕ → Found → ℕ → SearchMade
+search_of ceiling f tries = record { ceiling = ceiling; tries = tries; choices = f.choices; is_used_up = f.is_used_up }
+
+-- these are the searches of what was asked, over the parts that were found, and this one counts. If groups were searched, each was with each
+-- of the copies outside of it, and has as many tries of its own
+pub record IsCounted (a : Asked) (copies : List (List ℕ)) (w : Searches) (ceiling : Option ℕ) (f : Found) (tries : ℕ) : Type 0 where
+  pub are_searches : AreSearches a.options.ceiling a.options.tries f.parts w
+  pub counts : counting w.first w.more ≡ search_of ceiling f tries
+  pub of_groups : IfSome f.by_groups (IsGroupSearch a.options.tries (length copies) f.parts)
 
 -- all of it is made of these copies
 pub record IsMade (a : Asked) (copies : List (List ℕ)) (m : Made) : Type 0 where
-  pub ceiling_is : m.ceiling ≡ a.options.ceiling
+  pub is_counted : IsCounted a copies m.searches m.ceiling m.found m.tries
   pub is_found : IsFound m.ceiling copies m.found
-  pub are_tries : AreTries m.ceiling a.options.tries m.found m.tries
-  pub is_cut : IfSome m.cut (IsCut m.ceiling m.found)
+  pub cut_ceiling_is : m.cut_ceiling ≡ cut_limit m.searches.first.ceiling m.searches.more
+  pub is_lone : IfSome m.lone (IsCut m.cut_ceiling m.found)
+  pub no_lone : IfNone m.lone (FindsNoCut m.cut_ceiling a.options.tries m.found)
+  pub is_cut : IsCutTaken copies m.found m.lone m.cut
   pub is_picture : IsPictureOf a.options.source copies (splices_in m.found) (cut_file m.found m.cut) m.picture
   pub settled : IsTrue m.is_settled ↔ IsSettled m.picture
   pub is_single : IsSingleAsked a.options.file (files_taken copies m.found) m.single
@@ -122,10 +139,10 @@ groups_told (Some b) = Some (record { groups = b.groups; is_used_up = b.is_used_
 abbrev pub cut_end : List Part → Option ℕ → List ℕ → CutEnd
 cut_end parts ceiling path = record { offset = offset_at parts (length path); limit = ceiling }
 
--- whether something is listed
-abbrev pub has_some : {X : Type 0} → List X → Bool
-has_some [] = false
-has_some (x ∷ xs) = true
+-- the limit of the search that counts, where none was given
+abbrev pub limit_told : Option ℕ → Option ℕ → Option ℕ
+limit_told None ceiling = ceiling
+limit_told (Some given) ceiling = None
 
 -- the promise that holds: of the picture, if the search of all splices was not cut off and found a file, and each line is settled
 abbrev pub promise_of : Option ℕ → Found → Bool → Promise
@@ -137,8 +154,9 @@ abbrev pub report_on : Asked → List (List ℕ) → Made → SearchReport
 report_on a copies m = record {
   splices = count_new copies (splices_in m.found);
   is_used_up = m.found.is_used_up;
+  limit = limit_told a.options.ceiling m.ceiling;
   by_groups = groups_told m.found.by_groups;
-  before = option_map (cut_end m.found.parts m.ceiling) m.cut;
+  before = option_map (cut_end m.found.parts m.cut_ceiling) m.cut;
   files = files_told a.options.files m.files;
   lacks_single_file = lacks_single a.options.file m.single;
   promise = promise_of m.ceiling m.found m.is_settled;
@@ -150,9 +168,13 @@ lines a copies m =
     if bytes_eq a.out (codes "-") then []
     else found_text (differences m.found.parts) (report_on a copies m) ++ report_text (report_of m.picture)
 
--- events of the fault output: the search told how far it was, if that is asked for
-abbrev pub Tells : Asked → Made → List Event → Type 0
-Tells a m events = IsTold a.options.progress m.tries (length m.found.choices) events
+-- what is printed on the fault output before anything is handed out: if the output is standard output, the lines of the search
+abbrev pub notes : Asked → List (List ℕ) → Made → List ℕ
+notes a copies m = if bytes_eq a.out (codes "-") then noted_text (report_on a copies m) else []
+
+-- events of the fault output: each search told how far it was, if that is asked for
+abbrev pub Tells : Asked → Searches → List Event → Type 0
+Tells a w events = AreTold a.options.progress (w.first ∷ w.more) events
 
 -- ---- why nothing is made
 
@@ -182,19 +204,22 @@ IsUnsettled a copies splices r =
 -- the search kept to its tries
 abbrev pub CantMake : Asked → List CopyBytes → Refusal → List Event → Type 0
 CantMake a copies r events =
-    (IsWantOfMemory a r × ToldSome a.options.tries a.options.progress events)
-    ⊎ ((f : Found) × (tries : ℕ) × IsFound a.options.ceiling (bytes_read copies) f
-    × AreTries a.options.ceiling a.options.tries f tries × IsUnsettled a copies (splices_in f) r
-    × IsTold a.options.progress tries (length f.choices) events)
+    (IsWantOfMemory a r × ToldUpTo a.options.tries a.options.progress events)
+    ⊎ ((w : Searches) × (ceiling : Option ℕ) × (f : Found) × (tries : ℕ) × IsCounted a (bytes_read copies) w ceiling f tries
+    × IsFound ceiling (bytes_read copies) f × IsUnsettled a copies (splices_in f) r × Tells a w events)
 
 -- ---- as the code has it
 
--- what was made, by what was searched, the choices of the cut file, the picture, and what the code holds of it
-abbrev pub made_of : FoundSplices → Option (Vec ℕ Global) → PartialPicture → MadeValue → Made
-made_of s cut p v = record {
-  ceiling = s.ceiling;
-  found = found_of s;
-  tries = s.tries;
+-- what was made, by the searches, what was found with the limit of a cut file, the choices of the one found and of the one taken, the
+-- picture, and what the code holds of it
+abbrev pub made_of : Searches → FoundInTurn → Option (Vec ℕ Global) → Option (Vec ℕ Global) → PartialPicture → MadeValue → Made
+made_of w all lone cut p v = record {
+  searches = w;
+  ceiling = all.splices.ceiling;
+  found = found_of all.splices;
+  tries = all.splices.tries;
+  cut_ceiling = all.cut_limit;
+  lone = option_map (λ path. path.items) lone;
   cut = option_map (λ path. path.items) cut;
   picture = p;
   is_settled = v.settled;
@@ -205,6 +230,7 @@ made_of s cut p v = record {
 -- the code holds what is handed out of it
 pub record AreTextsOf (a : Asked) (copies : List (List ℕ)) (m : Made) (v : MadeValue) : Type 0 where
   pub lines_are : v.lines.items ≡ lines a copies m
+  pub notes_are : v.notes.items ≡ notes a copies m
   pub text_is : v.text.items ≡ text m.picture
   pub file_is : option_map (λ f. f.items) v.file ≡ m.single
   pub files_are : named_files v.files.items ≡ m.files
@@ -213,4 +239,4 @@ pub record AreTextsOf (a : Asked) (copies : List (List ℕ)) (m : Made) (v : Mad
 -- and it was made of these copies, and told so
 abbrev pub HoldsMade : Asked → List CopyBytes → MadeValue → List Event → Type 0
 HoldsMade a copies v events =
-    (m : Made) × IsMade a (bytes_read copies) m × AreTextsOf a (bytes_read copies) m v × Tells a m events
+    (m : Made) × IsMade a (bytes_read copies) m × AreTextsOf a (bytes_read copies) m v × Tells a m.searches events

@@ -19,7 +19,7 @@ use Rattle.jls_splice_run.specs.declared.outcome.Refusal.{Refusal}
 use Rattle.jls_splice_run.specs.Copies.{AreWhole, bytes_read, StopsAtCopies}
 use Rattle.jls_splice_run.specs.Handing.{HandsAll, StopsInHanding, Texts}
 use Rattle.jls_splice_run.specs.Listing.{IsNumbered, named_files, prefix_in}
-use Rattle.jls_splice_run.specs.Making.{CantMake, IsMade, Made, Tells, lines}
+use Rattle.jls_splice_run.specs.Making.{CantMake, IsMade, Made, Tells, lines, notes}
 use Rattle.jls_splice_run.specs.declared.made.Made.{Made as MadeValue}
 
 -- the histories of two devices grew by events, and they are such: nothing else was done
@@ -66,19 +66,22 @@ texts_held a v = record {
 
 -- What comes of what was asked, by the events of the desk, of the report output and of the fault output. A copy stops the run; or all
 -- were read, and nothing can be made of them; or something is, and one of the outputs stops the run; or all of it is handed out. Then it is
--- said whether each line is settled, and whether each copy was read to its end. The search tells how far it is, if that is asked for
+-- said whether each line is settled, and whether each copy was read to its end. The searches tell how far they are, if that is asked for.
+-- If the output is standard output, what was found is noted on the fault output
 pub data Splices (a : Asked) : Outcome → List Event → List Event → List Event → Type 0 where
   at_copies : (r : Refusal) (desk : List Event) → StopsAtCopies a.copies r desk → Splices a (Refused r) desk [] []
   not_made : (r : Refusal) (copies : List CopyBytes) (desk faults : List Event) → AreCopiesRead a.copies copies desk
       → CantMake a copies r faults → Splices a (Refused r) desk [] faults
-  not_handed : (r : Refusal) (copies : List CopyBytes) (m : Made) (reading desk report faults : List Event)
-      → AreCopiesRead a.copies copies reading → IsMade a (bytes_read copies) m → Tells a m faults
-      → StopsInHanding (texts a copies m) r desk report → Splices a (Refused r) (reading ++ desk) report faults
-  done : (copies : List CopyBytes) (m : Made) (settled whole : Bool) (reading desk report faults : List Event)
-      → AreCopiesRead a.copies copies reading → IsMade a (bytes_read copies) m → Tells a m faults
+  not_handed : (r : Refusal) (copies : List CopyBytes) (m : Made) (reading desk report faults noting : List Event)
+      → AreCopiesRead a.copies copies reading → IsMade a (bytes_read copies) m → Tells a m.searches faults
+      → Printed (notes a (bytes_read copies) m) noting
+      → StopsInHanding (texts a copies m) r desk report → Splices a (Refused r) (reading ++ desk) report (faults ++ noting)
+  done : (copies : List CopyBytes) (m : Made) (settled whole : Bool) (reading desk report faults noting : List Event)
+      → AreCopiesRead a.copies copies reading → IsMade a (bytes_read copies) m → Tells a m.searches faults
+      → Printed (notes a (bytes_read copies) m) noting
       → HandsAll (texts a copies m) desk report
       → (IsTrue settled ↔ IsSettled m.picture) → (IsTrue whole ↔ AreWhole copies)
-      → Splices a (Done settled whole) (reading ++ desk) report faults
+      → Splices a (Done settled whole) (reading ++ desk) report (faults ++ noting)
 
 -- what was asked ends with this status, and its fault line is printed last; or memory ran out before a copy was opened
 pub data Performs (a : Asked) : ℕ → List Event → List Event → List Event → Type 0 where

@@ -1,11 +1,14 @@
 -- What a search tells of how far it is.
-use Rattle.std.specs.Prelude.{◌≡◌, ℕ, ◌+◌, ◌*◌, ◌<◌, ◌≤◌, Bool, true, false, List, [], ◌++◌, length, Option}
+use Rattle.std.specs.Prelude.{◌≡◌, ℕ, ◌+◌, ◌*◌, ◌<◌, ◌≤◌, Bool, true, false, List, [], ◌∷◌, ◌++◌, length, Option}
+use Rattle.std.specs.List.{AllByRecursion}
 use Rattle.jls_io.specs.Event.{Event}
 use Rattle.jls_io.specs.Writing.{Printed}
 use Rattle.jls_search.specs.Search.{CanGoOn, IsBegun, IsSearch, Tried, lists_of}
 use Rattle.jls_diff.specs.Parts.{Part}
 use Rattle.jls_search.specs.declared.whole_search.WholeSearch.{WholeSearch}
+use Rattle.jls_splice_run.specs.Limits.{AreInTurn, AreSearches, SearchMade, Searches, WentThrough, counting, cut_limit, last_or, limit_or, tries_after}
 use Rattle.jls_splice_run.specs.Lines.{progress_line}
+use Rattle.jls_splice_run.specs.declared.limits.Turned.{Turned}
 use Rattle.jls_splice_run.specs.declared.options.SearchOptions.{SearchOptions}
 
 -- The lines of a search of so many tries, which found so many files: one after each 64 tries, and one after the last. Each has how many
@@ -23,6 +26,27 @@ IsTold false tries files events = events ≡ []
 -- the lines of a search that ended because memory ran out, after so many tries at most
 abbrev pub ToldSome : ℕ → Bool → List Event → Type 0
 ToldSome limit tells events = (tries : ℕ) × (files : ℕ) × (tries ≤ limit) × IsTold tells tries files events
+
+-- the lines of searches, one after the other, if they are asked for
+abbrev pub AreTold : Bool → List SearchMade → List Event → Type 0
+AreTold tells [] events = events ≡ []
+AreTold tells (s ∷ more) events =
+    (first : List Event) × (rest : List Event) × (events ≡ first ++ rest) × IsTold tells s.tries (length s.choices) first
+    × AreTold tells more rest
+
+-- the lines of searches that ended because memory ran out, each after so many tries at most
+abbrev pub ToldUpTo : ℕ → Bool → List Event → Type 0
+ToldUpTo limit tells events =
+    (searches : List SearchMade) × (done : List Event) × (last : List Event) × (events ≡ done ++ last)
+    × AllByRecursion (λ s. s.tries ≤ limit) searches × AreTold tells searches done × ToldSome limit tells last
+
+-- all searches of a run over these parts: the one that counts, the limit under which the cut file is sought, and what they told
+pub record HasSearched (options : SearchOptions) (parts : List Part) (s : SearchMade) (cut : Option ℕ) (events : List Event) : Type 0 where
+  pub searches : Searches
+  pub are : AreSearches options.ceiling options.tries parts searches
+  pub counts : counting searches.first searches.more ≡ s
+  pub cut_is : cut_limit searches.first.ceiling searches.more ≡ cut
+  pub told : AreTold options.tells (searches.first ∷ searches.more) events
 
 -- Inside the crate -------------------------------------------------------------------------------------------------
 
@@ -50,3 +74,20 @@ pub record HasTold (options : SearchOptions) (walk : WholeSearch) (events : List
 abbrev pub WasBegun : Option ℕ → List Part → WholeSearch → Type 0
 WasBegun ceiling parts walk =
     (begun : WholeSearch) × IsBegun begun × IsSearch parts begun × Tried parts begun walk × (begun.judge.ceiling ≡ ceiling)
+
+-- searches under these limits in turn, none of which was cut off: how many tries the next one has, what they came to, and what they told
+pub record HasTurned (parts : List Part) (options : SearchOptions) (limits : List ℕ) (turned : Turned) (events : List Event) : Type 0 where
+  pub searches : List SearchMade
+  pub through : WentThrough parts options.tries limits searches
+  pub tries_are : turned.tries ≡ tries_after options.tries options.tries searches
+  pub found_is : (first : SearchMade) → counting first searches ≡ last_or first turned.found
+  pub whole_is : (limit : Option ℕ) → cut_limit limit searches ≡ limit_or limit turned.whole
+  pub told : AreTold options.tells searches events
+
+-- and all that are made in turn
+pub record TookTurns (parts : List Part) (options : SearchOptions) (limits : List ℕ) (turned : Turned) (events : List Event) : Type 0 where
+  pub searches : List SearchMade
+  pub in_turn : AreInTurn parts options.tries limits searches
+  pub found_is : (first : SearchMade) → counting first searches ≡ last_or first turned.found
+  pub whole_is : (limit : Option ℕ) → cut_limit limit searches ≡ limit_or limit turned.whole
+  pub told : AreTold options.tells searches events

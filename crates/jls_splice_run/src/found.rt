@@ -33,8 +33,10 @@ pub enum Promise {
 pub struct SearchReport {
     /// How many files were taken that are no copies.
     pub splices: usize,
-    /// Whether the search of all splices was cut off.
+    /// Whether the search of all splices that counts was cut off.
     pub is_used_up: bool,
+    /// The limit of samples of the search that counts, where none was given and it has one.
+    pub limit: Option<u16>,
     /// What the search by groups came to, if there was one.
     pub by_groups: Option<GroupSearch>,
     /// Where the cut file ends, if one was taken.

@@ -3,7 +3,7 @@
 ghost use Rattle.std.specs.Prelude.{IfErr, OnOk, option_map};
 ghost use Rattle.std.specs.String.{string_bytes};
 ghost use Rattle.jls_io.specs.Event.{GrewBy};
-ghost use Rattle.jls_io.specs.Writing.{Wrote};
+ghost use Rattle.jls_io.specs.Writing.{Printed, Wrote};
 ghost use Rattle.jls_io.specs.Outputs.{HandsOut};
 ghost use Rattle.jls_splice_run.specs.Handing.{HandsFile, HandsFiles, StopsAtFile, StopsAtFiles, StopsAtNumber, StopsAtOutput, StopsAtReport};
 ghost use Rattle.jls_splice_run.specs.Listing.{named_file, named_files};
@@ -25,6 +25,13 @@ pub(crate) fn print_lines<'a, W: Sink>(report: &mut W, lines: &[u8]) -> Result<(
             cause: Cause::NotWritten(count),
         }),
     }
+}
+
+/// Prints notes to the fault output. A write that fails ends them, and is ignored.
+pub(crate) fn print_notes<E: Sink>(faults: &mut E, notes: &[u8])
+    ensures { GrewBy (Printed notes.now) (E.history faults.old) (E.history faults.new) }
+{
+    let _ = write_all(faults, notes);
 }
 
 /// Creates an output and hands all of the bytes to it.

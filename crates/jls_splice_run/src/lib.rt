@@ -5,21 +5,23 @@
 //! - `splicing`: a run that is asked for: copies are read, files made, and all is handed out
 //! - `copies`, `made`, `settling`: the copies that are read; what is made of them; their station
 //! - `files`, `single`, `listing`: the files that were found, as bytes; the single one without a fault; all of these with their names
-//! - `printed_lines`, `handing`: the lines that are printed; the events that hand out all
+//! - `printed_lines`, `noting`: the lines that are printed; those on the fault output, where OUT is standard output
+//! - `handing`: the events that hand out all
 //! - `options`, `searching`: how a search is made; a search that goes on 64 tries at a time, and tells how far it is
+//! - `limits`: all searches of a run: the one that is asked for, and where it is cut off others under limits of samples in turn
 //! - `differences`: where copies differ: the offset in the first copy, and how many bytes that one has there
 //! - `found`, `lines`: what is told of a search, as one value; its lines, and the line that says how far a search is
 //! - `outcome`, `printing`: what came of a run, why it stopped, and the exit status; the fault line
 //!
-//! Definitions: `Tasks`, `Copies`, `Making`, `Single`, `Files`, `Listing`, `Handing`, `Runs`; `Telling`; `Differences`, `Lines`; `Outcomes`,
-//! `FaultLines`. `PrintedLineExamples` of `proofs/` has each line, and all lines of two runs, worked by hand. `FaultLineExamples` has a
-//! fault line of each kind.
+//! Definitions: `Tasks`, `Copies`, `Making`, `Single`, `Files`, `Listing`, `Handing`, `Runs`; `Limits`, `Telling`; `Differences`,
+//! `Lines`; `Outcomes`, `FaultLines`. `PrintedLineExamples` of `proofs/` has each line, and all lines of three runs, worked by hand.
+//! `FaultLineExamples` has a fault line of each kind.
 //!
 //! Not proved:
 //!
-//! - At which try a file is found, and that groups find all such splices.
+//! - At which try a file is found, and that groups find splices that they pass by (`IsPassedBy` of jls_search).
 //! - How many files are found by a line before the last.
-//! - That a cut file is taken, and that it is as long as it could be.
+//! - That a cut file is as long as it could be.
 #![tactic(auto)]
 
 mod copies;
@@ -27,9 +29,11 @@ mod differences;
 mod files;
 mod found;
 mod handing;
+mod limits;
 mod lines;
 mod listing;
 mod made;
+mod noting;
 mod options;
 mod outcome;
 mod printed_lines;
@@ -43,9 +47,11 @@ mod task;
 
 pub use differences::{Difference, differences_of};
 pub use found::{CutEnd, GroupSearch, Promise, SearchReport};
+pub use limits::{SearchedInTurn, search_and_tell};
 pub use lines::{put_found, put_progress};
 pub use listing::NumberedFile;
 pub use made::Made;
+pub use noting::put_noted;
 pub use options::SearchOptions;
 pub use outcome::{Cause, Outcome, Refusal};
 pub use printing::{
@@ -53,6 +59,5 @@ pub use printing::{
     print_numbered_out, print_outcome,
 };
 pub use program::run;
-pub use searching::search_and_tell;
 pub use splicing::splice;
 pub use task::Task;

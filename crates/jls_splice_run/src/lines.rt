@@ -2,7 +2,7 @@
 
 ghost use Rattle.std.specs.Prelude.{◌≡◌, ◌++◌, codes, decimal, OnOk, take};
 ghost use Rattle.std.specs.List.{flat_map};
-ghost use Rattle.jls_splice_run.specs.Lines.{before_line, differ_line, differ_lines, files_line, found_text, groups_end as spec_groups_end, groups_line, more_line, outcome_lines, progress_line, promise_line, samples_end, search_lines, single_line, splices_line, used_up_line};
+ghost use Rattle.jls_splice_run.specs.Lines.{before_line, differ_line, differ_lines, files_line, found_text, groups_end as spec_groups_end, groups_line, limit_line, more_line, outcome_lines, progress_line, promise_line, samples_end, search_lines, single_line, splices_line, used_up_line};
 
 use crate::differences::Difference;
 use crate::found::{CutEnd, GroupSearch, Promise, SearchReport};
@@ -83,6 +83,19 @@ fn put_used_up(out: &mut Vec<u8>, is_used_up: bool) -> Result<(), AllocError>
     if is_used_up {
         out.extend_from_slice(b"tries used up\n")?;
     }
+    Ok(())
+}
+
+/// Appends the limit of samples of the search that counts, where none was given and it has one.
+fn put_limit(out: &mut Vec<u8>, limit: Option<u16>) -> Result<(), AllocError>
+    ensures { OnOk result (out.new.items ≡ out.old.items ++ limit_line limit) }
+{
+    let Some(limit) = limit else {
+        return Ok(());
+    };
+    out.extend_from_slice(b"limit ")?;
+    put_number(out, u64::from(limit))?;
+    out.extend_from_slice(b"\n")?;
     Ok(())
 }
 
@@ -179,16 +192,17 @@ fn put_single(out: &mut Vec<u8>, lacks_single_file: bool) -> Result<(), AllocErr
 }
 
 /// Appends the lines of what the searches came to.
-fn put_searches(out: &mut Vec<u8>, report: &SearchReport) -> Result<(), AllocError>
+pub(crate) fn put_searches(out: &mut Vec<u8>, report: &SearchReport) -> Result<(), AllocError>
     ensures { OnOk result (out.new.items ≡ out.old.items ++ search_lines report.now) }
 {
     put_splices(out, report.splices)?;
     put_used_up(out, report.is_used_up)?;
+    put_limit(out, report.limit)?;
     put_groups(out, report.by_groups)
 }
 
 /// Appends the lines of what is made of it.
-fn put_outcome(out: &mut Vec<u8>, report: &SearchReport) -> Result<(), AllocError>
+pub(crate) fn put_outcome(out: &mut Vec<u8>, report: &SearchReport) -> Result<(), AllocError>
     ensures { OnOk result (out.new.items ≡ out.old.items ++ outcome_lines report.now) }
 {
     put_before(out, report.before)?;

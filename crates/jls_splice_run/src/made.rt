@@ -1,18 +1,21 @@
 //! What is made of the copies, in memory.
 
-ghost use Rattle.std.specs.Prelude.{◌≡◌, ◌⊎◌, ◌<◌, ◌≤◌, ◌^◌, ◌↔◌, ℕ, List, length, true, IfOk, IfErr, IfSome, IsTrue, OnErr, option_map};
+ghost use Rattle.std.specs.Prelude.{◌≡◌, ◌<◌, ◌≤◌, ◌^◌, ◌↔◌, ℕ, List, Option, length, IfOk, IfErr, IfSome, IfNone, IsTrue, OnErr, option_map};
 ghost use Rattle.std.specs.List.{AllByRecursion};
+ghost use Rattle.std.specs.declared.vec.Vec.{Vec};
+ghost use Rattle.std.specs.declared.alloc.Global.{Global};
 ghost use Rattle.jls_station.specs.CopyFiles.{copies_of};
 ghost use Rattle.jls_io.specs.Event.{GrewBy};
 ghost use Rattle.jls_diff.specs.Parts.{made};
 ghost use Rattle.jls_diff.specs.PartsOf.{bytes_of, parts_of};
 ghost use Rattle.jls_partial.specs.Status.{IsSettled};
 ghost use Rattle.jls_search.specs.Choices.{HasSomeWay, IsPath, IsWhole};
-ghost use Rattle.jls_search.specs.Search.{IsShort, WereTried, files_of, lists_of};
-ghost use Rattle.jls_search.specs.Found.{AreGroupTries, IsFound, by_groups_of, found_of, splices_in};
+ghost use Rattle.jls_search.specs.Search.{IsShort, files_of, lists_of};
+ghost use Rattle.jls_search.specs.Found.{IsFound, IsGroupSearch, by_groups_of, found_of, splices_in};
 ghost use Rattle.jls_search.specs.Files as given;
-ghost use Rattle.jls_splice_run.specs.Telling.{IsTold, ToldSome};
-ghost use Rattle.jls_splice_run.specs.Making.{AreTextsOf, CantMake, HoldsMade, IsCut, files_taken, lacks_single, made_of};
+ghost use Rattle.jls_splice_run.specs.Limits.{Searches};
+ghost use Rattle.jls_splice_run.specs.Telling.{HasSearched, ToldUpTo};
+ghost use Rattle.jls_splice_run.specs.Making.{AreTextsOf, CantMake, FindsNoCut, HoldsMade, IsCut, files_taken, lacks_single, made_of, search_of};
 ghost use Rattle.jls_splice_run.specs.Making as spec;
 ghost use Rattle.jls_splice_run.specs.Listing.{AreNamedAsked, named_files};
 ghost use Rattle.jls_splice_run.specs.Single.{IsSingleAsked};
@@ -22,11 +25,11 @@ use crate::copies::slices_of;
 use crate::differences::offset_at;
 use crate::files::count_new;
 use crate::found::{CutEnd, GroupSearch, Promise, SearchReport};
+use crate::limits::search_and_tell;
 use crate::listing::{NumberedFile, name_files};
 use crate::options::SearchOptions;
 use crate::outcome::Refusal;
-use crate::printed_lines::lines_of;
-use crate::searching::search_and_tell;
+use crate::printed_lines::{lines_of, notes_of};
 use crate::settling::{Taken, settle};
 use crate::single::single_file;
 use crate::task::{Task, want_of_memory};
@@ -43,6 +46,8 @@ use std::alloc::{AllocError, Global};
 pub struct Made {
     /// The lines that are printed.
     pub lines: Vec<u8>,
+    /// What is noted on the fault output.
+    pub notes: Vec<u8>,
     /// The text of the partial picture.
     pub text: Vec<u8>,
     /// The single file without a fault, if one is asked for and there is one.
@@ -53,56 +58,68 @@ pub struct Made {
     pub settled: bool,
 }
 
-/// Searches the splices of the copies, and tells how far it is, if that is asked for. Where that search was cut off or came to nothing, it
-/// searches by groups.
+/// What was found in the copies, and the limit under which a cut file is sought, if there is one.
+#[derive(Drop)]
+struct FoundInTurn<'c> {
+    /// What was found.
+    splices: FoundSplices<'c>,
+    /// The limit under which a cut file is sought, if there is one.
+    cut_limit: Option<u16>,
+}
+
+/// Searches the splices of the copies, and tells how far it is, if that is asked for. Where the search that counts was cut off or came to
+/// nothing, it searches by groups.
 fn search<'c, E: Sink>(
     alloc: Global,
     copies: &[&'c [u8]],
     options: SearchOptions,
     faults: &mut E,
-) -> Result<FoundSplices<'c>, AllocError>
+) -> Result<FoundInTurn<'c>, AllocError>
     requires { 0 < length copies.now }
-    ensures found { IfOk result (λ found. IsFound options.ceiling (bytes_of copies.now) (found_of found)) }
-    ensures splices { IfOk result
-        (λ found. files_of (parts_of found.parts.items) (lists_of found.splices.items) ≡ splices_in (found_of found)) }
-    ensures each { IfOk result (λ found. AllByRecursion (IsWhole (parts_of found.parts.items)) (lists_of found.splices.items)) }
-    ensures ceiling { IfOk result (λ found. found.ceiling ≡ options.ceiling) }
-    ensures whole { IfOk result (λ found. found.whole ≤ length found.splices.items) }
-    ensures some_way { IfOk result (λ found. AllByRecursion HasSomeWay (parts_of found.parts.items)) }
-    ensures short { IfOk result (λ found. IsShort (parts_of found.parts.items)) }
-    ensures small { IfOk result (λ found. length (made 0 (parts_of found.parts.items)) < 2 ^ 64) }
-    ensures few { IfOk result (λ found. found.tries ≤ options.tries) }
-    ensures tried { IfOk result (λ found. WereTried options.ceiling (parts_of found.parts.items) found.tries (found_of found).choices) }
-    ensures used_up { IfOk result (λ found. found.is_used_up ≡ true
-        → (found.tries ≡ options.tries) ⊎ (length (found_of found).choices ≡ 64)) }
-    ensures of_groups { IfOk result (λ found. IfSome (found_of found).by_groups (AreGroupTries options.tries)) }
-    ensures told { IfOk result (λ found.
-        GrewBy (IsTold options.tells found.tries (length (found_of found).choices)) (E.history faults.old) (E.history faults.new)) }
-    ensures told_some { OnErr result (GrewBy (ToldSome options.tries options.tells) (E.history faults.old) (E.history faults.new)) }
+    ensures found { IfOk result (λ found. IsFound found.splices.ceiling (bytes_of copies.now) (found_of found.splices)) }
+    ensures splices { IfOk result (λ found. files_of (parts_of found.splices.parts.items) (lists_of found.splices.splices.items)
+        ≡ splices_in (found_of found.splices)) }
+    ensures each { IfOk result (λ found.
+        AllByRecursion (IsWhole (parts_of found.splices.parts.items)) (lists_of found.splices.splices.items)) }
+    ensures whole { IfOk result (λ found. found.splices.whole ≤ length found.splices.splices.items) }
+    ensures some_way { IfOk result (λ found. AllByRecursion HasSomeWay (parts_of found.splices.parts.items)) }
+    ensures short { IfOk result (λ found. IsShort (parts_of found.splices.parts.items)) }
+    ensures small { IfOk result (λ found. length (made 0 (parts_of found.splices.parts.items)) < 2 ^ 64) }
+    ensures of_groups { IfOk result (λ found. IfSome (found_of found.splices).by_groups
+        (IsGroupSearch options.tries (length copies.now) (parts_of found.splices.parts.items))) }
+    ensures searched { IfOk result (λ found. GrewBy (HasSearched options (parts_of found.splices.parts.items)
+        (search_of found.splices.ceiling (found_of found.splices) found.splices.tries) found.cut_limit)
+        (E.history faults.old) (E.history faults.new)) }
+    ensures told_some { OnErr result (GrewBy (ToldUpTo options.tries options.tells) (E.history faults.old) (E.history faults.new)) }
 {
     parts_can_be_searched();
     if !are_short(copies) {
         return Err(AllocError);
     }
     let found = search_and_tell(alloc, copies, options, faults)?;
-    let more = complete_by_groups(alloc, copies, found, options.tries)?;
-    Ok(more)
+    let more = complete_by_groups(alloc, copies, found.copies, options.tries)?;
+    Ok(FoundInTurn {
+        splices: more,
+        cut_limit: found.cut_limit,
+    })
 }
 
-/// The choices of the cut file, if the search of all splices found nothing.
+/// The choices of the cut file, if the search that counts found nothing.
 fn find_cut(
     alloc: Global,
-    found: &FoundSplices<'_>,
+    found: &FoundInTurn<'_>,
     limit: u32,
 ) -> Result<Option<Vec<usize>>, AllocError>
-    requires some_way { AllByRecursion HasSomeWay (parts_of found.now.parts.items) }
-    requires short { IsShort (parts_of found.now.parts.items) }
-    ensures { IfOk result (λ cut. IfSome cut (λ path. IsCut found.now.ceiling (found_of found.now) path.items)) }
+    requires some_way { AllByRecursion HasSomeWay (parts_of found.now.splices.parts.items) }
+    requires short { IsShort (parts_of found.now.splices.parts.items) }
+    requires whole { found.now.splices.whole ≤ length found.now.splices.splices.items }
+    ensures lone { IfOk result (λ cut. IfSome cut (λ path. IsCut found.now.cut_limit (found_of found.now.splices) path.items)) }
+    ensures none { IfOk result (λ cut. IfNone cut (FindsNoCut found.now.cut_limit limit (found_of found.now.splices))) }
 {
-    if found.whole != 0 {
+    if found.splices.whole != 0 {
         return Ok(None);
     }
-    lone_path(alloc, &found.parts, found.ceiling, limit)
+    lone_path(alloc, &found.splices.parts, found.cut_limit, limit)
 }
 
 /// The single file, if a name is given for it.
@@ -169,6 +186,16 @@ fn groups_told(by_groups: Option<GroupsTold>) -> Option<GroupSearch>
     }
 }
 
+/// The limit of the search that counts, where none was given.
+fn limit_told(given: Option<u16>, limit: Option<u16>) -> Option<u16>
+    ensures { result ≡ spec.limit_told given limit }
+{
+    match given {
+        Some(_) => None,
+        None => limit,
+    }
+}
+
 /// The promise that holds.
 fn promise_of(found: &FoundSplices<'_>, settled: bool) -> Promise
     requires { found.now.whole ≤ length found.now.splices.items }
@@ -182,15 +209,16 @@ fn promise_of(found: &FoundSplices<'_>, settled: bool) -> Promise
 }
 
 /// Where the cut file ends, if one was taken.
-fn cut_end(found: &FoundSplices<'_>, cut: &Option<Vec<usize>>) -> Option<CutEnd>
-    requires path { IfSome cut.now (λ path. IsPath (parts_of found.now.parts.items) path.items) }
-    requires small { length (made 0 (parts_of found.now.parts.items)) < 2 ^ 64 }
-    ensures { result ≡ option_map (λ path. spec.cut_end (parts_of found.now.parts.items) found.now.ceiling path.items) cut.now }
+fn cut_end(found: &FoundInTurn<'_>, cut: &Option<Vec<usize>>) -> Option<CutEnd>
+    requires path { IfSome cut.now (λ path. IsPath (parts_of found.now.splices.parts.items) path.items) }
+    requires small { length (made 0 (parts_of found.now.splices.parts.items)) < 2 ^ 64 }
+    ensures { result
+        ≡ option_map (λ path. spec.cut_end (parts_of found.now.splices.parts.items) found.now.cut_limit path.items) cut.now }
 {
     match cut {
         Some(path) => Some(CutEnd {
-            offset: offset_at(&found.parts, path.len()),
-            limit: found.ceiling,
+            offset: offset_at(&found.splices.parts, path.len()),
+            limit: found.cut_limit,
         }),
         None => None,
     }
@@ -201,23 +229,25 @@ fn texts_of(
     alloc: Global,
     task: &Task<'_, '_>,
     copies: &[&[u8]],
-    found: &FoundSplices<'_>,
+    all: &FoundInTurn<'_>,
     taken: &Taken,
 ) -> Result<Made, AllocError>
-    requires splices { files_of (parts_of found.now.parts.items) (lists_of found.now.splices.items) ≡ splices_in (found_of found.now) }
-    requires each { AllByRecursion (IsWhole (parts_of found.now.parts.items)) (lists_of found.now.splices.items) }
-    requires whole { found.now.whole ≤ length found.now.splices.items }
-    requires small { length (made 0 (parts_of found.now.parts.items)) < 2 ^ 64 }
-    requires path { IfSome taken.now.cut (λ path. IsPath (parts_of found.now.parts.items) path.items) }
-    requires ceiling { found.now.ceiling ≡ (task_of task.now).options.ceiling }
-    ensures texts { IfOk result (λ made.
-        AreTextsOf (task_of task.now) (bytes_of copies.now) (made_of found.now taken.now.cut taken.now.station made) made) }
+    requires splices { files_of (parts_of all.now.splices.parts.items) (lists_of all.now.splices.splices.items)
+        ≡ splices_in (found_of all.now.splices) }
+    requires each { AllByRecursion (IsWhole (parts_of all.now.splices.parts.items)) (lists_of all.now.splices.splices.items) }
+    requires whole { all.now.splices.whole ≤ length all.now.splices.splices.items }
+    requires small { length (made 0 (parts_of all.now.splices.parts.items)) < 2 ^ 64 }
+    requires path { IfSome taken.now.cut (λ path. IsPath (parts_of all.now.splices.parts.items) path.items) }
+    ensures texts { IfOk result (λ made. (searches : Searches) → (lone : Option (Vec ℕ Global))
+        → AreTextsOf (task_of task.now) (bytes_of copies.now)
+        (made_of searches all.now lone taken.now.cut taken.now.station made) made) }
     ensures settled { IfOk result (λ made. IsTrue made.settled ↔ IsSettled taken.now.station) }
     ensures single { IfOk result (λ made. IsSingleAsked (task_of task.now).options.file
-        (files_taken (bytes_of copies.now) (found_of found.now)) (option_map (λ f. f.items) made.file)) }
+        (files_taken (bytes_of copies.now) (found_of all.now.splices)) (option_map (λ f. f.items) made.file)) }
     ensures named { IfOk result (λ made. AreNamedAsked (task_of task.now).options.files
-        (files_taken (bytes_of copies.now) (found_of found.now)) (named_files made.files.items)) }
+        (files_taken (bytes_of copies.now) (found_of all.now.splices)) (named_files made.files.items)) }
 {
+    let found = &all.splices;
     let files = Files {
         copies,
         parts: &found.parts,
@@ -231,16 +261,19 @@ fn texts_of(
     let report = SearchReport {
         splices,
         is_used_up: found.is_used_up,
+        limit: limit_told(task.options.ceiling, found.ceiling),
         by_groups: groups_told(found.by_groups),
-        before: cut_end(found, &taken.cut),
+        before: cut_end(all, &taken.cut),
         files: files_told(task.options.files, &numbered),
         lacks_single_file: lacks_file(task.options.file, &file),
         promise: promise_of(found, settled),
     };
     let lines = lines_of(alloc, task.out, &found.parts, &report, partial)?;
+    let notes = notes_of(alloc, task.out, &report)?;
     let text = partial.to_bytes(alloc)?;
     Ok(Made {
         lines,
+        notes,
         text,
         file,
         files: numbered,
@@ -281,8 +314,8 @@ pub(crate) fn make<'a, E: Sink>(
     };
     let files = Files {
         copies: &slices,
-        parts: &found.parts,
-        splices: &found.splices,
+        parts: &found.splices.parts,
+        splices: &found.splices.splices,
     };
     let taken = match settle(alloc, task, copies, &files, cut) {
         Ok(taken) => taken,

@@ -7,11 +7,12 @@ ghost use Rattle.jls_diff.specs.PartsOf.{parts_of};
 ghost use Rattle.jls_report.specs.Report.{report_of};
 ghost use Rattle.jls_report.specs.ReportText.{report_text};
 ghost use Rattle.jls_splice_run.specs.Differences.{differences};
-ghost use Rattle.jls_splice_run.specs.Lines.{found_text};
+ghost use Rattle.jls_splice_run.specs.Lines.{found_text, noted_text};
 
 use crate::differences::differences_of;
 use crate::found::SearchReport;
 use crate::lines::put_found;
+use crate::noting::put_noted;
 use jls_diff::Part;
 use jls_partial::Partial;
 use jls_report::Report;
@@ -30,6 +31,17 @@ fn found_lines(
     let mut out = Vec::new(alloc);
     put_found(&mut out, &differences, report)?;
     Ok(out)
+}
+
+/// What is noted of the search on the fault output. Nothing, unless the output is standard output.
+pub(crate) fn notes_of(alloc: Global, out: &str, report: &SearchReport) -> Result<Vec<u8>, AllocError>
+    ensures { IfOk result (λ notes. notes.items ≡ (if bytes_eq out.now (codes "-") then noted_text report.now else [])) }
+{
+    let mut notes = Vec::new(alloc);
+    if out == "-" {
+        put_noted(alloc, &mut notes, report)?;
+    }
+    Ok(notes)
 }
 
 /// The lines of the report of a partial picture.

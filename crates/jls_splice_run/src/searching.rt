@@ -1,23 +1,21 @@
 //! A search that goes on 64 tries at a time, and tells how far it is.
 
-ghost use Rattle.std.specs.Prelude.{◌≡◌, ◌⊎◌, ◌+◌, ◌<◌, ◌≤◌, true, length, min, IfOk, OnOk, OnErr};
+ghost use Rattle.std.specs.Prelude.{◌≡◌, ◌+◌, ◌<◌, length, min, IfOk, OnOk, OnErr};
 ghost use Rattle.std.specs.List.{AllByRecursion};
 ghost use Rattle.jls_io.specs.Event.{GrewBy};
 ghost use Rattle.jls_io.specs.Writing.{Printed};
-ghost use Rattle.jls_diff.specs.Parts.{AreParts};
-ghost use Rattle.jls_diff.specs.PartsOf.{bytes_of, parts_of};
+ghost use Rattle.jls_diff.specs.PartsOf.{parts_of};
 ghost use Rattle.jls_search.specs.Choices.{HasSomeWay};
-ghost use Rattle.jls_search.specs.Faultless.{IsSought};
-ghost use Rattle.jls_search.specs.Search.{CameTo, CanGoOn, IsSearch, IsShort, Tried, WereTried, lists_of};
-ghost use Rattle.jls_search.specs.SearchLaws.{AreShort};
+ghost use Rattle.jls_search.specs.Search.{CanGoOn, IsSearch, IsShort, Tried, lists_of};
+ghost use Rattle.jls_splice_run.specs.Limits.{IsSearchMade, made_under};
 ghost use Rattle.jls_splice_run.specs.Lines.{progress_line};
 ghost use Rattle.jls_splice_run.specs.Telling.{GoesOn, HasTold, IsTold, TellsLine, ToldSome, WasBegun};
 
 use crate::lines::put_progress;
 use crate::options::SearchOptions;
-use jls_diff::{Part, find_parts};
+use jls_diff::Part;
 use jls_io::{Sink, write_all};
-use jls_search::{SearchedCopies, WholeSearch, parts_can_be_searched};
+use jls_search::{Searched, WholeSearch};
 use std::alloc::{AllocError, Global};
 
 /// After how many tries a search tells how far it is.
@@ -118,37 +116,21 @@ fn search_parts<E: Sink>(
     Ok(walk)
 }
 
-/// Finds the parts of copies and searches their splices, under the ceiling if there is one, with so many tries at most, as `search_copies`
-/// of jls_search does. If that is asked for, it prints a line on how far it is, each time that 64 more were tried, and when it is over. A
-/// write that fails is ignored. `are_short` of jls_search tells whether copies are short enough. `Err` comes where memory is refused.
-pub fn search_and_tell<'a, E: Sink>(
+/// Searches the splices of these parts once, under the ceiling if there is one, with so many tries at most. If that is asked for, it prints
+/// a line on how far it is, each time that 64 more were tried, and when it is over.
+pub(crate) fn search_once<E: Sink>(
     alloc: Global,
-    copies: &[&'a [u8]],
+    parts: &[Part<'_>],
     options: SearchOptions,
     faults: &mut E,
-) -> Result<SearchedCopies<'a>, AllocError>
-    requires some_copy { 0 < length copies.now }
-    requires short { AreShort (bytes_of copies.now) }
-    ensures parts { IfOk result (λ found. AreParts (bytes_of copies.now) (parts_of found.parts.items)) }
-    ensures searched { IfOk result (λ found.
-        CameTo (IsSought options.ceiling) (parts_of found.parts.items) (lists_of found.searched.splices.items) found.searched.is_used_up) }
-    ensures ceiling { IfOk result (λ found. found.ceiling ≡ options.ceiling) }
-    ensures used_up { IfOk result (λ found. found.searched.is_used_up ≡ true
-        → (found.searched.tries ≡ options.tries) ⊎ (length (lists_of found.searched.splices.items) ≡ 64)) }
-    ensures few { IfOk result (λ found. found.searched.tries ≤ options.tries) }
-    ensures tried { IfOk result (λ found.
-        WereTried options.ceiling (parts_of found.parts.items) found.searched.tries (lists_of found.searched.splices.items)) }
-    ensures told { IfOk result (λ found.
-        GrewBy (IsTold options.tells found.searched.tries (length (lists_of found.searched.splices.items)))
+) -> Result<Searched, AllocError>
+    requires some_way { AllByRecursion HasSomeWay (parts_of parts.now) }
+    requires short { IsShort (parts_of parts.now) }
+    ensures is_made { IfOk result (λ s. IsSearchMade (parts_of parts.now) options.tries (made_under options.ceiling s)) }
+    ensures told { IfOk result (λ s. GrewBy (IsTold options.tells s.tries (length (lists_of s.splices.items)))
         (E.history faults.old) (E.history faults.new)) }
     ensures told_some { OnErr result (GrewBy (ToldSome options.tries options.tells) (E.history faults.old) (E.history faults.new)) }
 {
-    parts_can_be_searched();
-    let parts = find_parts(alloc, copies)?;
-    let walk = search_parts(alloc, &parts, options, faults)?;
-    Ok(SearchedCopies {
-        parts,
-        ceiling: options.ceiling,
-        searched: walk.into_searched(),
-    })
+    let walk = search_parts(alloc, parts, options, faults)?;
+    Ok(walk.into_searched())
 }

@@ -6,7 +6,7 @@ ghost use Rattle.jls_splice_run.specs.Runs.{GrewAll, GrewBoth, Splices, texts_he
 ghost use Rattle.jls_splice_run.specs.Tasks.{task_of};
 
 use crate::copies::{are_whole, read_all};
-use crate::handing::{print_lines, write_file, write_files, write_output};
+use crate::handing::{print_lines, print_notes, write_file, write_files, write_output};
 use crate::made::{Made, make};
 use crate::outcome::{Outcome, Refusal};
 use crate::task::{Task, prefix_of};
@@ -56,7 +56,8 @@ fn hand_out<'a, D: Desk, W: Sink>(
 /// Reads the copies, searches their splices, takes all files that decode, and hands out what comes of it. First come the lines, on the
 /// report output. Then comes the text of the union of what the files taken give, then the single file, and last the files that have
 /// numbers, if these are asked for. All are made before anything is handed out. While it searches, it tells on the fault output how far it
-/// is, if that is asked for. If no file taken is without a fault, the cut file may be taken too.
+/// is, if that is asked for. Where OUT is standard output, the fault output also gets the lines of the search. If no file taken is without
+/// a fault, the cut file may be taken too.
 pub fn splice<'a, D: Desk, W: Sink, E: Sink>(
     alloc: Global,
     desk: &mut D,
@@ -76,6 +77,7 @@ pub fn splice<'a, D: Desk, W: Sink, E: Sink>(
         Ok(made) => made,
         Err(refusal) => return Outcome::Refused(refusal),
     };
+    print_notes(faults, &made.notes);
     match hand_out(desk, report, task, &made) {
         Ok(()) => Outcome::Done {
             settled: made.settled,

@@ -31,6 +31,7 @@ fn one_byte_differs(rt: HostRuntime) -> Result<(), Fail> {
         &SearchReport {
             splices: 2,
             is_used_up: false,
+            limit: Some(2896),
             by_groups: Some(GroupSearch {
                 groups: 1,
                 is_used_up: true,
@@ -47,6 +48,7 @@ fn one_byte_differs(rt: HostRuntime) -> Result<(), Fail> {
     put_progress(&mut text, 4096, 3)?;
     let expected: &[u8] = b"differ 4321 1
 splices 2
+limit 2896
 by groups 1, tries used up
 before 4321, samples up to 4095
 files 12
@@ -75,6 +77,7 @@ fn many_places_differ(rt: HostRuntime) -> Result<(), Fail> {
         &SearchReport {
             splices: 0,
             is_used_up: true,
+            limit: None,
             by_groups: None,
             before: None,
             files: None,

@@ -96,10 +96,6 @@ returns-clause-by_groups c =
     (sym (appended vs c.splices_given-given.result by.searched.splices c.append.new.self.items c.in_ok-append.ensures.items c.splices_given-given.ensures))
     (group_search vs by.searched.splices.items n at c.args.limit copies ps gs told groups cover is.groups e.once searched)
 
-pub returns-clause-of_groups : goal.returns-clause-of_groups
-returns-clause-of_groups c =
-    (length c.args.copies.now, c.requires.some_copy, parts_of c.args.found.parts.items, returns-clause-by_groups c)
-
 pub returns-clause-splices : goal.returns-clause-splices
 returns-clause-splices c =
     files_groups (parts_of c.args.found.parts.items) (lists_of c.append.new.self.items) c.len-whole.result

@@ -8,7 +8,7 @@ use Rattle.jls_splice_run.proofs.made.cut_end.Goals as goal
 
 pub offset_at-requires-clause-within : goal.offset_at-requires-clause-within
 offset_at-requires-clause-within c =
-    let parts = c.args.found.now.parts.items in
+    let parts = c.args.found.now.splices.parts.items in
     let path = c.in-Some.path in
     let is : IsPath (parts_of parts) path.items =
     subst (λ (o : Option (Vec ℕ Global)). IfSome o (λ p. IsPath (parts_of parts) p.items)) c.in-Some.is c.requires.path in

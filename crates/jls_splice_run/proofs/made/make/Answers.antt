@@ -1,26 +1,43 @@
-use Rattle.std.proofs.Common.{◌≡◌, ℕ, arith, Vec, Global, Option, Some, None, List, length, inl, inr, ap, sym, ◌∙◌, subst}
-use Rattle.std.specs.Prelude.{IfSome, option_map}
+use Rattle.std.proofs.Common.{◌≡◌, ℕ, Vec, Global, Option, Some, None, List, length, inl, inr, ap, sym, ◌∙◌, subst}
+use Rattle.std.specs.Prelude.{◌⊎◌, IfSome, option_map}
 use Rattle.jls_station.specs.CopyFiles.{CopyBytes, copies_of}
+use Rattle.jls_io.specs.Event.{Event}
 use Rattle.jls_io.proofs.Growing.{grew_as, grew_not}
+use Rattle.jls_cli.specs.SpliceAsking.{Asked}
 use Rattle.jls_diff.specs.declared.part.Part.{Part as CodePart}
 use Rattle.jls_search.specs.Choices.{IsPath, front_of}
-use Rattle.jls_search.specs.declared.found.FoundSplices.{FoundSplices}
+use Rattle.jls_search.specs.Cuts.{TakesNoCut}
+use Rattle.jls_diff.proofs.Slices.{count_of_slices}
 use Rattle.jls_diff.specs.PartsOf.{bytes_of, parts_of}
 use Rattle.jls_search.specs.Search.{files_of, lists_of}
-use Rattle.jls_splice_run.specs.Telling.{IsTold, ToldSome}
-use Rattle.jls_splice_run.proofs.Rounds.{none_told}
+use Rattle.jls_search.specs.Found.{IsFound, IsGroupSearch, found_of, splices_in}
+use Rattle.jls_splice_run.specs.Telling.{HasSearched, ToldUpTo}
 use Rattle.jls_splice_run.specs.Copies.{bytes_read}
-use Rattle.jls_search.specs.Found.{IsFound, found_of, splices_in}
-use Rattle.jls_splice_run.specs.Making.{AreTextsOf, AreTries, CantMake, HoldsMade, IsCut, IsPictureOf, IsUnsettled, cut_file, files_taken, made_of}
-use Rattle.jls_splice_run.proofs.MakingLemmas.{cut_taken, mapped_twice}
-use Rattle.jls_splice_run.specs.Listing.{AreNamedAsked}
+use Rattle.jls_splice_run.specs.Making.{AreTextsOf, CantMake, FindsNoCut, HoldsMade, IsCounted, IsCut, IsPictureOf, IsUnsettled, IsWantOfMemory, cut_file, files_taken, made_of, search_of}
+use Rattle.jls_splice_run.specs.Listing.{AreNamedAsked, named_files}
 use Rattle.jls_splice_run.specs.Single.{IsSingleAsked}
 use Rattle.jls_splice_run.specs.Tasks.{task_of}
+use Rattle.jls_splice_run.specs.declared.made.FoundInTurn.{FoundInTurn}
+use Rattle.jls_splice_run.specs.declared.options.SearchOptions.{SearchOptions}
+use Rattle.jls_splice_run.specs.declared.outcome.Refusal.{Refusal}
+use Rattle.jls_splice_run.proofs.MakingLemmas.{cut_mapped, found_mapped, mapped_twice, none_mapped}
+use Rattle.jls_splice_run.proofs.Turns.{nothing_told, searched_before}
 use Rattle.jls_splice_run.proofs.made.make.Goals as goal
 
+-- how the searches of what was asked are made
+abbrev options_of : Asked → SearchOptions
+options_of a = record { ceiling = a.options.ceiling; tries = a.options.tries; tells = a.options.progress }
+
+-- they came to what was found
+abbrev Searched : Asked → FoundInTurn → List Event → Type 0
+Searched a found events =
+    HasSearched (options_of a) (parts_of found.splices.parts.items)
+    (search_of found.splices.ceiling (found_of found.splices) found.splices.tries) found.cut_limit events
+
 -- the choices of the cut file are a path
-path_of_cut : (found : FoundSplices) (cut : Option (Vec ℕ Global)) → IfSome cut (λ path. IsCut found.ceiling (found_of found) path.items)
-    → IfSome cut (λ path. IsPath (parts_of found.parts.items) path.items)
+path_of_cut : (found : FoundInTurn) (cut : Option (Vec ℕ Global))
+    → IfSome cut (λ path. IsCut found.cut_limit (found_of found.splices) path.items)
+    → IfSome cut (λ path. IsPath (parts_of found.splices.parts.items) path.items)
 path_of_cut found None h = tt
 path_of_cut found (Some path) h = h.1.is_path
 
@@ -29,103 +46,114 @@ returns-in-Err-clause-stopped g c =
     let a = task_of c.args.task.now in
     let want = c.want_of_memory.ensures in
     grew_not (CantMake a (copies_of c.args.copies.now) c.want_of_memory.result) (g.E.Device.history c.args.faults.now)
-    (inl ((want.name, want.cause), (0, 0, omega arith, none_told a.options.progress)))
+    (inl ((want.name, want.cause), nothing_told a.options.tries a.options.progress))
 
 pub returns-in-Err-search-clause-stopped : goal.returns-in-Err-search-clause-stopped
 returns-in-Err-search-clause-stopped g c =
     let a = task_of c.args.task.now in
     let want = c.want_of_memory-in-Err-search.ensures in
-    grew_as (ToldSome a.options.tries a.options.progress) (CantMake a (copies_of c.args.copies.now) c.want_of_memory-in-Err-search.result)
+    grew_as (ToldUpTo a.options.tries a.options.progress) (CantMake a (copies_of c.args.copies.now) c.want_of_memory-in-Err-search.result)
     (g.E.Device.history c.args.faults.now) (g.E.Device.history c.search.new.faults)
     (λ events told. inl ((want.name, want.cause), told)) c.in-Err-search.ensures.told_some
+
+-- what the searches told until memory ran out behind them
+searched_in : (a : Asked) (found : FoundInTurn) (copies : List CopyBytes) (r : Refusal) → IsWantOfMemory a r → (events : List Event)
+    → Searched a found events → CantMake a copies r events
+searched_in a found copies r want events h =
+    inl (want, searched_before (options_of a) (parts_of found.splices.parts.items)
+    (search_of found.splices.ceiling (found_of found.splices) found.splices.tries) found.cut_limit events h)
 
 pub returns-in-Err-find_cut-clause-stopped : goal.returns-in-Err-find_cut-clause-stopped
 returns-in-Err-find_cut-clause-stopped g c =
     let a = task_of c.args.task.now in
     let found = c.in-Ok-search.found in
     let want = c.want_of_memory-in-Err-find_cut.ensures in
-    let files = length (found_of found).choices in
-    grew_as (IsTold a.options.progress found.tries files) (CantMake a (copies_of c.args.copies.now) c.want_of_memory-in-Err-find_cut.result)
+    let copies = copies_of c.args.copies.now in
+    grew_as (Searched a found) (CantMake a copies c.want_of_memory-in-Err-find_cut.result)
     (g.E.Device.history c.args.faults.now) (g.E.Device.history c.search.new.faults)
-    (λ events told. inl ((want.name, want.cause), (found.tries, files, c.in-Ok-search.ensures.few, told))) c.in-Ok-search.ensures.told
+    (searched_in a found copies c.want_of_memory-in-Err-find_cut.result (want.name, want.cause)) c.in-Ok-search.ensures.searched
 
 pub settle-requires-clause-cut : goal.settle-requires-clause-cut
 settle-requires-clause-cut g c =
     subst (λ (ps : List CodePart). IfSome c.in-Ok-find_cut.cut (λ path. IsPath (parts_of ps) path.items)) (sym c.deref-3.ensures.value)
-    (path_of_cut c.in-Ok-search.found c.in-Ok-find_cut.cut c.in-Ok-find_cut.ensures)
+    (path_of_cut c.in-Ok-search.found c.in-Ok-find_cut.cut c.in-Ok-find_cut.ensures.lone)
+
+-- the searches of what was asked, over the parts that were found
+counted_in : (a : Asked) (copies : List (List ℕ)) (found : FoundInTurn) (events : List Event)
+    → IfSome (found_of found.splices).by_groups (IsGroupSearch a.options.tries (length copies) (parts_of found.splices.parts.items))
+    → (h : Searched a found events) → IsCounted a copies h.searches found.splices.ceiling (found_of found.splices) found.splices.tries
+counted_in a copies found events groups h = record { are_searches = h.are; counts = h.counts; of_groups = groups }
 
 pub returns-in-Err-settle-clause-stopped : goal.returns-in-Err-settle-clause-stopped
 returns-in-Err-settle-clause-stopped g c =
     let a = task_of c.args.task.now in
     let copies : List CopyBytes = copies_of c.args.copies.now in
-    let found = c.in-Ok-search.found in
+    let all = c.in-Ok-search.found in
+    let found = all.splices in
     let r = c.in-Err-settle.refusal in
     let searched : bytes_of c.deref.result.now ≡ bytes_read copies = ap bytes_of c.deref.ensures.value ∙ c.in-Ok.ensures in
     let splices : files_of (parts_of c.deref-3.result.now) (lists_of c.deref-4.result.now) ≡ splices_in (found_of found) =
     (λ i. files_of (parts_of (c.deref-3.ensures.value i)) (lists_of (c.deref-4.ensures.value i))) ∙ c.in-Ok-search.ensures.splices in
-    let is_found = subst (λ (xs : List (List ℕ)). IsFound a.options.ceiling xs (found_of found)) searched c.in-Ok-search.ensures.found in
-    let tries : AreTries a.options.ceiling a.options.tries (found_of found) found.tries = record {
-      tried = c.in-Ok-search.ensures.tried;
-      within = c.in-Ok-search.ensures.few;
-      used_up = c.in-Ok-search.ensures.used_up;
-      of_groups = c.in-Ok-search.ensures.of_groups;
-    } in
+    let is_found = subst (λ (xs : List (List ℕ)). IsFound found.ceiling xs (found_of found)) searched c.in-Ok-search.ensures.found in
+    let groups = subst (λ (n : ℕ). IfSome (found_of found).by_groups (IsGroupSearch a.options.tries n (parts_of found.parts.items)))
+    (sym (count_of_slices c.deref.result.now) ∙ ap length searched) c.in-Ok-search.ensures.of_groups in
     let unsettled = subst (λ (xs : List (List ℕ)). IsUnsettled a copies xs r) splices c.in-Err-settle.ensures.stopped in
-    grew_as (IsTold a.options.progress found.tries (length (found_of found).choices)) (CantMake a copies r)
+    grew_as (Searched a all) (CantMake a copies r)
     (g.E.Device.history c.args.faults.now) (g.E.Device.history c.search.new.faults)
-    (λ events told. inr (found_of found, found.tries, is_found, tries, unsettled, told)) c.in-Ok-search.ensures.told
+    (λ events h. inr (h.searches, found.ceiling, found_of found, found.tries, counted_in a (bytes_read copies) all events groups h, is_found, unsettled, h.told))
+    c.in-Ok-search.ensures.searched
 
 pub returns-clause-stopped : goal.returns-clause-stopped
 returns-clause-stopped g c =
     let a = task_of c.args.task.now in
     let found = c.in-Ok-search.found in
     let want = c.want_of_memory-in-Err-texts_of.ensures in
-    let files = length (found_of found).choices in
-    grew_as (IsTold a.options.progress found.tries files) (CantMake a (copies_of c.args.copies.now) c.want_of_memory-in-Err-texts_of.result)
+    let copies = copies_of c.args.copies.now in
+    grew_as (Searched a found) (CantMake a copies c.want_of_memory-in-Err-texts_of.result)
     (g.E.Device.history c.args.faults.now) (g.E.Device.history c.search.new.faults)
-    (λ events told. inl ((want.name, want.cause), (found.tries, files, c.in-Ok-search.ensures.few, told))) c.in-Ok-search.ensures.told
+    (searched_in a found copies c.want_of_memory-in-Err-texts_of.result (want.name, want.cause)) c.in-Ok-search.ensures.searched
 
 pub returns-in-Ok-texts_of-clause-made : goal.returns-in-Ok-texts_of-clause-made
 returns-in-Ok-texts_of-clause-made g c =
     let a = task_of c.args.task.now in
     let copies = bytes_read (copies_of c.args.copies.now) in
     let v = c.in-Ok-texts_of.made in
-    let found = c.in-Ok-search.found in
+    let all = c.in-Ok-search.found in
+    let found = all.splices in
     let taken = c.in-Ok-settle.taken in
     let parts = parts_of found.parts.items in
-    let m = made_of found taken.cut taken.station v in
     let searched : bytes_of c.deref.result.now ≡ copies = ap bytes_of c.deref.ensures.value ∙ c.in-Ok.ensures in
     let told : bytes_of c.deref-5.result.now ≡ copies = ap bytes_of c.deref-5.ensures.value ∙ c.in-Ok.ensures in
     let splices : files_of (parts_of c.deref-3.result.now) (lists_of c.deref-4.result.now) ≡ splices_in (found_of found) =
     (λ i. files_of (parts_of (c.deref-3.ensures.value i)) (lists_of (c.deref-4.ensures.value i))) ∙ c.in-Ok-search.ensures.splices in
-    let cut : option_map (λ (path : Vec ℕ Global). front_of (parts_of c.deref-3.result.now) path.items) taken.cut ≡ cut_file (found_of found) m.cut =
+    let choices = option_map (λ (path : Vec ℕ Global). path.items) taken.cut in
+    let cut : option_map (λ (path : Vec ℕ Global). front_of (parts_of c.deref-3.result.now) path.items) taken.cut ≡ cut_file (found_of found) choices =
     (λ i. option_map (λ (path : Vec ℕ Global). front_of (parts_of (c.deref-3.ensures.value i)) path.items) taken.cut)
     ∙ sym (mapped_twice (front_of parts) (λ (path : Vec ℕ Global). path.items) taken.cut) in
-    let is_found = subst (λ (xs : List (List ℕ)). IsFound a.options.ceiling xs (found_of found)) searched c.in-Ok-search.ensures.found in
-    let tries : AreTries a.options.ceiling a.options.tries (found_of found) found.tries = record {
-      tried = c.in-Ok-search.ensures.tried;
-      within = c.in-Ok-search.ensures.few;
-      used_up = c.in-Ok-search.ensures.used_up;
-      of_groups = c.in-Ok-search.ensures.of_groups;
-    } in
-    let under = sym c.in-Ok-search.ensures.ceiling in
-    grew_as (IsTold a.options.progress found.tries (length (found_of found).choices)) (HoldsMade a (copies_of c.args.copies.now) v)
+    let is_found = subst (λ (xs : List (List ℕ)). IsFound found.ceiling xs (found_of found)) searched c.in-Ok-search.ensures.found in
+    let groups = subst (λ (n : ℕ). IfSome (found_of found).by_groups (IsGroupSearch a.options.tries n parts))
+    (sym (count_of_slices c.deref.result.now) ∙ ap length searched) c.in-Ok-search.ensures.of_groups in
+    grew_as (Searched a all) (HoldsMade a (copies_of c.args.copies.now) v)
     (g.E.Device.history c.args.faults.now) (g.E.Device.history c.search.new.faults)
-    (λ events lines. (
-      m,
+    (λ events h. (
+      made_of h.searches all c.in-Ok-find_cut.cut taken.cut taken.station v,
       record {
-        ceiling_is = c.in-Ok-search.ensures.ceiling;
-        is_found = subst (λ (n : Option ℕ). IsFound n copies (found_of found)) under is_found;
-        are_tries = subst (λ (n : Option ℕ). AreTries n a.options.tries (found_of found) found.tries) under tries;
-        is_cut = cut_taken (IsCut found.ceiling (found_of found)) taken.cut c.in-Ok-find_cut.cut c.in-Ok-settle.ensures.cut c.in-Ok-find_cut.ensures;
+        is_counted = counted_in a copies all events groups h;
+        is_found = is_found;
+        cut_ceiling_is = sym h.cut_is;
+        is_lone = found_mapped (IsCut all.cut_limit (found_of found)) c.in-Ok-find_cut.cut c.in-Ok-find_cut.ensures.lone;
+        no_lone = none_mapped (FindsNoCut all.cut_limit a.options.tries (found_of found)) c.in-Ok-find_cut.cut c.in-Ok-find_cut.ensures.none;
+        is_cut = cut_mapped (λ path. TakesNoCut copies (splices_in (found_of found)) (front_of parts path)) taken.cut c.in-Ok-find_cut.cut
+            (subst (λ (xs : List (List ℕ)). (taken.cut ≡ c.in-Ok-find_cut.cut) ⊎ ((taken.cut ≡ None) × IfSome c.in-Ok-find_cut.cut (λ path. TakesNoCut copies xs (front_of parts path.items)))) splices
+            (subst (λ (ps : List CodePart). (taken.cut ≡ c.in-Ok-find_cut.cut) ⊎ ((taken.cut ≡ None) × IfSome c.in-Ok-find_cut.cut (λ path. TakesNoCut copies (files_of (parts_of c.deref-3.result.now) (lists_of c.deref-4.result.now)) (front_of (parts_of ps) path.items)))) c.deref-3.ensures.value c.in-Ok-settle.ensures.cut));
         is_picture = subst (λ (o : Option (List ℕ)). IsPictureOf a.options.source copies (splices_in (found_of found)) o taken.station) cut
             (subst (λ (xs : List (List ℕ)). IsPictureOf a.options.source copies xs
             (option_map (λ (path : Vec ℕ Global). front_of (parts_of c.deref-3.result.now) path.items) taken.cut) taken.station) splices c.in-Ok-settle.ensures.settled);
         settled = c.in-Ok-texts_of.ensures.settled;
-        is_single = subst (λ (xs : List (List ℕ)). IsSingleAsked a.options.file (files_taken xs (found_of found)) m.single) told c.in-Ok-texts_of.ensures.single;
-        are_named = subst (λ (xs : List (List ℕ)). AreNamedAsked a.options.files (files_taken xs (found_of found)) m.files) told c.in-Ok-texts_of.ensures.named;
+        is_single = subst (λ (xs : List (List ℕ)). IsSingleAsked a.options.file (files_taken xs (found_of found)) (option_map (λ (f : Vec ℕ Global). f.items) v.file)) told c.in-Ok-texts_of.ensures.single;
+        are_named = subst (λ (xs : List (List ℕ)). AreNamedAsked a.options.files (files_taken xs (found_of found)) (named_files v.files.items)) told c.in-Ok-texts_of.ensures.named;
       },
-      subst (λ (xs : List (List ℕ)). AreTextsOf a xs m v) told c.in-Ok-texts_of.ensures.texts,
-      lines,
+      subst (λ (xs : List (List ℕ)). AreTextsOf a xs (made_of h.searches all c.in-Ok-find_cut.cut taken.cut taken.station v) v) told (c.in-Ok-texts_of.ensures.texts h.searches c.in-Ok-find_cut.cut),
+      h.told,
     ))
-    c.in-Ok-search.ensures.told
+    c.in-Ok-search.ensures.searched

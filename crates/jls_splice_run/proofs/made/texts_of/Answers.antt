@@ -11,48 +11,74 @@ use Rattle.jls_partial.specs.Partial.{PartialPicture}
 use Rattle.jls_partial.specs.Status.{IsSettled}
 use Rattle.jls_partial.specs.Text.{text}
 use Rattle.jls_splice_run.specs.Differences.{differences}
-use Rattle.jls_splice_run.specs.Lines.{found_text}
-use Rattle.jls_splice_run.specs.Making.{cut_end, files_told, groups_told, lacks_single}
+use Rattle.jls_splice_run.specs.Lines.{found_text, noted_text}
+use Rattle.jls_splice_run.specs.Making.{cut_end, files_told, groups_told, lacks_single, limit_told, promise_of}
+use Rattle.jls_splice_run.specs.declared.found.SearchReport.{SearchReport}
 use Rattle.jls_splice_run.specs.Listing.{AreNamedAsked, named_file, named_files}
 use Rattle.jls_splice_run.specs.Single.{IsSingleAsked}
 use Rattle.jls_splice_run.proofs.MakingLemmas.{lacks_maps, mapped_twice, single_maps, told_maps}
 use Rattle.jls_splice_run.proofs.made.texts_of.Goals as goal
 
 pub returns-clause-texts : goal.returns-clause-texts
-returns-clause-texts c =
-    let found = c.args.found.now in
+returns-clause-texts c = λ searches lone.
+    let found = c.args.all.now.splices in
+    let limit = c.args.all.now.cut_limit in
     let parts = parts_of found.parts.items in
     let lists = lists_of found.splices.items in
     let copies = bytes_of c.args.copies.now in
     let options = c.args.task.now.options in
     let cut = c.args.taken.now.cut in
     let file = c.in_ok-file.file in
-    let name = option_map (λ (s : Bor (List ℕ)). s.now) options.file in
+    let name_asked = option_map (λ (s : Bor (List ℕ)). s.now) options.file in
     let single = option_map (λ (f : Vec ℕ Global). f.items) file in
     let new : c.in_ok-splices.splices ≡ count_new copies (splices_in (found_of found)) =
     c.in_ok-splices.ensures ∙ (λ i. count_new copies (files_of (parts_of (c.deref-3.ensures.value i)) (lists_of (c.deref-4.ensures.value i))))
     ∙ ap (count_new copies) c.requires.splices in
     let groups : c.groups_told.result ≡ groups_told (found_of found).by_groups = c.groups_told.ensures (drop found.whole lists) in
-    let before : c.cut_end.result ≡ option_map (cut_end parts found.ceiling) (option_map (λ (v : Vec ℕ Global). v.items) cut) =
-    c.cut_end.ensures ∙ sym (mapped_twice (cut_end parts found.ceiling) (λ (v : Vec ℕ Global). v.items) cut) in
-    let lacks : c.lacks_file.result ≡ lacks_single name single =
+    let before : c.cut_end.result ≡ option_map (cut_end parts limit) (option_map (λ (v : Vec ℕ Global). v.items) cut) =
+    c.cut_end.ensures ∙ sym (mapped_twice (cut_end parts limit) (λ (v : Vec ℕ Global). v.items) cut) in
+    let lacks : c.lacks_file.result ≡ lacks_single name_asked single =
     c.lacks_file.ensures ∙ sym (lacks_maps (λ (s : Bor (List ℕ)). s.now) (λ (f : Vec ℕ Global). f.items) options.file file) in
     let numbered = c.in_ok-numbered.numbered.items in
     let files : c.files_told.result ≡ files_told (option_map (λ (s : Bor (List ℕ)). s.now) options.files) (named_files numbered) =
     c.files_told.ensures ∙ (λ i. files_told options.files (c.deref-5.ensures.value i))
     ∙ sym (told_maps (λ (s : Bor (List ℕ)). s.now) named_file options.files numbered) in
+    let name = c.args.task.now.out.now in
+    let told : SearchReport = record {
+      splices = c.in_ok-splices.splices;
+      is_used_up = found.is_used_up;
+      limit = c.limit_told.result;
+      by_groups = c.groups_told.result;
+      before = c.cut_end.result;
+      files = c.files_told.result;
+      lacks_single_file = c.lacks_file.result;
+      promise = c.promise_of.result;
+    } in
+    let report : told ≡ record {
+      splices = count_new copies (splices_in (found_of found));
+      is_used_up = found.is_used_up;
+      limit = limit_told options.ceiling found.ceiling;
+      by_groups = groups_told (found_of found).by_groups;
+      before = option_map (cut_end parts limit) (option_map (λ (v : Vec ℕ Global). v.items) cut);
+      files = files_told (option_map (λ (s : Bor (List ℕ)). s.now) options.files) (named_files numbered);
+      lacks_single_file = lacks_single name_asked single;
+      promise = promise_of found.ceiling (found_of found) c.is_settled-settled.result;
+    } =
+    λ i. record {
+      splices = new i;
+      is_used_up = found.is_used_up;
+      limit = c.limit_told.ensures i;
+      by_groups = groups i;
+      before = before i;
+      files = files i;
+      lacks_single_file = lacks i;
+      promise = c.promise_of.ensures i;
+    } in
     record {
       lines_are = c.in_ok-lines.ensures
-          ∙ (λ i. if bytes_eq c.args.task.now.out.now (codes "-") then []
-          else found_text (differences (parts_of (c.deref-6.ensures.value i))) (record {
-            splices = new i;
-            is_used_up = found.is_used_up;
-            by_groups = groups i;
-            before = before i;
-            files = files i;
-            lacks_single_file = lacks i;
-            promise = c.promise_of.ensures i;
-          }) ++ report_text (report_of (c.partial-partial.ensures i)));
+          ∙ (λ i. if bytes_eq name (codes "-") then []
+          else found_text (differences (parts_of (c.deref-6.ensures.value i))) (report i) ++ report_text (report_of (c.partial-partial.ensures i)));
+      notes_are = c.in_ok-notes.ensures ∙ (λ i. if bytes_eq name (codes "-") then noted_text (report i) else []);
       text_is = c.in_ok-text.ensures ∙ ap text c.partial-partial.ensures;
       file_is = refl;
       files_are = refl;
@@ -64,7 +90,7 @@ returns-clause-settled c = subst (λ (p : PartialPicture). IsTrue c.is_settled-s
 
 pub returns-clause-single : goal.returns-clause-single
 returns-clause-single c =
-    let found = c.args.found.now in
+    let found = c.args.all.now.splices in
     let copies = bytes_of c.args.copies.now in
     let options = c.args.task.now.options in
     let single = option_map (λ (f : Vec ℕ Global). f.items) c.in_ok-file.file in
@@ -75,7 +101,7 @@ returns-clause-single c =
 
 pub returns-clause-named : goal.returns-clause-named
 returns-clause-named c =
-    let found = c.args.found.now in
+    let found = c.args.all.now.splices in
     let copies = bytes_of c.args.copies.now in
     let options = c.args.task.now.options in
     let named = named_files c.in_ok-numbered.numbered.items in

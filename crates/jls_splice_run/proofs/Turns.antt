@@ -1,0 +1,296 @@
+-- Searches under limits in turn, one more at a time.
+use Rattle.std.proofs.Common.{◌≡◌, ℕ, ◌+◌, ◌*◌, ◌<◌, ◌≤◌, Bool, true, false, List, [], ◌∷◌, ◌++◌, length, drop, take, get_or, Option, Some, None, refl, sym, ap, ◌∙◌, subst, arith, inl, inr}
+use Rattle.std.specs.Prelude.{◌⊎◌, IsSome, is_some, min, max, if◌then◌else◌}
+use Rattle.std.specs.List.{AllByRecursion}
+use Rattle.std.proofs.lemmas.List.{append-nil, append_assoc, drop_more, take-append-drop}
+use Rattle.jls_io.specs.Event.{Event}
+use Rattle.jls_diff.specs.Parts.{Part}
+use Rattle.jls_splice_run.specs.Limits.{AreInTurn, IsSearchMade, SearchMade, WentThrough, counting, counting_of, cut_limit, has_some, last_or, limit_or, limits, none, one_more, through_all, tries_after, tries_behind, up_to}
+use Rattle.jls_splice_run.specs.Telling.{AreTold, HasSearched, HasTurned, IsTold, ToldSome, ToldUpTo, TookTurns}
+use Rattle.jls_splice_run.specs.declared.limits.Turned.{Turned}
+use Rattle.jls_splice_run.specs.declared.options.SearchOptions.{SearchOptions}
+use Rattle.jls_splice_run.proofs.Rounds.{none_told}
+
+-- ---- what was told
+
+pub told_behind : (tells : Bool) (xs : List SearchMade) (s : SearchMade) (a b : List Event) → AreTold tells xs a
+    → IsTold tells s.tries (length s.choices) b → AreTold tells (xs ++ s ∷ []) (a ++ b)
+told_behind tells [] s a b nothing h = (b, [], ap (λ (z : List Event). z ++ b) nothing ∙ sym (append-nil b), h, refl)
+told_behind tells (x ∷ xs) s a b (first, rest, is, one, more) h = (
+  first,
+  rest ++ b,
+  ap (λ (z : List Event). z ++ b) is ∙ append_assoc first rest b,
+  one,
+  told_behind tells xs s rest b more h,
+)
+
+pub all_told : (tells : Bool) (s : SearchMade) (xs : List SearchMade) (a b : List Event) → IsTold tells s.tries (length s.choices) a
+    → AreTold tells xs b → AreTold tells (s ∷ xs) (a ++ b)
+all_told tells s xs a b one more = (a, b, refl, one, more)
+
+-- ---- what counts
+
+pub counting_more : (first : SearchMade) (xs : List SearchMade) (s : SearchMade) → counting first (xs ++ s ∷ []) ≡ counting_of (counting first xs) s
+counting_more first [] s = refl
+counting_more first (x ∷ xs) s = counting_more (counting_of first x) xs s
+
+pub limit_more : (limit : Option ℕ) (xs : List SearchMade) (s : SearchMade)
+    → cut_limit limit (xs ++ s ∷ []) ≡ (if s.is_used_up then cut_limit limit xs else s.ceiling)
+limit_more limit [] s = refl
+limit_more limit (x ∷ xs) s = limit_more (if x.is_used_up then limit else x.ceiling) xs s
+
+pub tries_more : (most tries : ℕ) (xs : List SearchMade) (s : SearchMade)
+    → tries_after most tries (xs ++ s ∷ []) ≡ tries_behind most (tries_after most tries xs) s
+tries_more most tries [] s = refl
+tries_more most tries (x ∷ xs) s = tries_more most (tries_behind most tries x) xs s
+
+-- never more than are allowed
+within_one : (most tries : ℕ) (s : SearchMade) → tries ≤ most → tries_behind most tries s ≤ most
+within_one most tries s l = by (has_some s.choices)
+  where
+    by : (b : Bool) → (if b then min most (max 256 (16 * s.tries)) else tries) ≤ most
+    by true = omega arith
+    by false = l
+
+tries_within : (most tries : ℕ) (xs : List SearchMade) → tries ≤ most → tries_after most tries xs ≤ most
+tries_within most tries [] l = l
+tries_within most tries (x ∷ xs) l = tries_within most (tries_behind most tries x) xs (within_one most tries x l)
+
+-- ---- a search with fewer tries than are allowed, that was not cut off
+
+made_within : (parts : List Part) (fewer most : ℕ) (s : SearchMade) → fewer ≤ most → s.is_used_up ≡ false → IsSearchMade parts fewer s
+    → IsSearchMade parts most s
+made_within parts fewer most s l whole is = record {
+  came_to = is.came_to;
+  tried = is.tried;
+  within = let w = is.within in omega (arith, l, w);
+  used_up = λ yes. absurd cc;
+}
+
+-- the search that counts is one that was made
+counting_made : (parts : List Part) (most : ℕ) (s next : SearchMade) → IsSearchMade parts most s
+    → (next.is_used_up ≡ false → IsSearchMade parts most next) → IsSearchMade parts most (counting_of s next)
+counting_made parts most s next is more = by next.is_used_up (has_some next.choices) refl
+  where
+    by : (used some : Bool) → next.is_used_up ≡ used → IsSearchMade parts most (if used then s else (if some then next else s))
+    by true some e = is
+    by false true e = more e
+    by false false e = is
+
+went_made : (parts : List Part) (most : ℕ) (limits : List ℕ) (xs : List SearchMade) (first : SearchMade) → WentThrough parts most limits xs
+    → IsSearchMade parts most first → IsSearchMade parts most (counting first xs)
+went_made parts most _ _ first none is = is
+went_made parts most _ _ first (one_more limits limit xs s went ceiling made whole) is =
+    subst (IsSearchMade parts most) (sym (counting_more first xs s))
+    (counting_made parts most (counting first xs) s (went_made parts most limits xs first went is)
+    (λ e. made_within parts (tries_after most most xs) most s (tries_within most most xs (omega arith)) e made))
+
+turned_made : (parts : List Part) (most : ℕ) (limits : List ℕ) (xs : List SearchMade) (first : SearchMade) → AreInTurn parts most limits xs
+    → IsSearchMade parts most first → IsSearchMade parts most (counting first xs)
+turned_made parts most _ _ first (through_all limits xs went) is = went_made parts most limits xs first went is
+turned_made parts most _ _ first (up_to limits limit behind xs s went ceiling made cut) is =
+    subst (IsSearchMade parts most) (sym (counting_more first xs s))
+    (counting_made parts most (counting first xs) s (went_made parts most limits xs first went is) (λ e. absurd cc))
+
+pub searched_made : (options : SearchOptions) (parts : List Part) (s : SearchMade) (cut : Option ℕ) (events : List Event)
+    → HasSearched options parts s cut events → IsSearchMade parts options.tries s
+searched_made options parts s cut events h =
+    subst (IsSearchMade parts options.tries) h.counts (by options.ceiling h.searches.first.is_used_up refl refl)
+  where
+    by : (ceiling : Option ℕ) (used : Bool) → options.ceiling ≡ ceiling → h.searches.first.is_used_up ≡ used
+        → IsSearchMade parts options.tries (counting h.searches.first h.searches.more)
+    by None true e f = turned_made parts options.tries _ h.searches.more h.searches.first (h.are.in_turn e f) h.are.is_first
+    by None false e f = rw (h.are.no_more (inr f)) h.are.is_first
+    by (Some limit) used e f =
+        rw (h.are.no_more (inl (subst (λ (o : Option ℕ). IsSome o) (sym e) refl))) h.are.is_first
+
+-- ---- the tries of each
+
+all_and_one : (P : SearchMade → Type 0) (xs : List SearchMade) (s : SearchMade) → AllByRecursion P xs → P s → AllByRecursion P (xs ++ s ∷ [])
+all_and_one P [] s h p = (p, tt)
+all_and_one P (x ∷ xs) s h p = (h.0, all_and_one P xs s h.1 p)
+
+went_within : (parts : List Part) (most : ℕ) (limits : List ℕ) (xs : List SearchMade) → WentThrough parts most limits xs
+    → AllByRecursion (λ s. s.tries ≤ most) xs
+went_within parts most _ _ none = tt
+went_within parts most _ _ (one_more limits limit xs s went ceiling made whole) =
+    let allowed = tries_within most most xs (omega arith) in
+    let w = made.within in
+    all_and_one (λ s. s.tries ≤ most) xs s (went_within parts most limits xs went) (omega (arith, allowed, w))
+
+turned_within : (parts : List Part) (most : ℕ) (limits : List ℕ) (xs : List SearchMade) → AreInTurn parts most limits xs
+    → AllByRecursion (λ s. s.tries ≤ most) xs
+turned_within parts most _ _ (through_all limits xs went) = went_within parts most limits xs went
+turned_within parts most _ _ (up_to limits limit behind xs s went ceiling made cut) =
+    let allowed = tries_within most most xs (omega arith) in
+    let w = made.within in
+    all_and_one (λ s. s.tries ≤ most) xs s (went_within parts most limits xs went) (omega (arith, allowed, w))
+
+-- ---- what was told where memory ran out
+
+-- in the first search
+pub none_before : (most : ℕ) (tells : Bool) (events : List Event) → ToldSome most tells events → ToldUpTo most tells events
+none_before most tells events h = ([], [], events, refl, tt, refl, h)
+
+pub nothing_told : (most : ℕ) (tells : Bool) → ToldUpTo most tells []
+nothing_told most tells = none_before most tells [] (0, 0, omega arith, none_told tells)
+
+-- behind searches that were made
+pub told_before : (most : ℕ) (tells : Bool) (xs : List SearchMade) (done last : List Event) → AllByRecursion (λ s. s.tries ≤ most) xs
+    → AreTold tells xs done → ToldSome most tells last → ToldUpTo most tells (done ++ last)
+told_before most tells xs done last all told some = (xs, done, last, refl, all, told, some)
+
+pub all_before : (most : ℕ) (tells : Bool) (xs : List SearchMade) (events : List Event) → AllByRecursion (λ s. s.tries ≤ most) xs
+    → AreTold tells xs events → ToldUpTo most tells events
+all_before most tells xs events all told = (xs, events, [], sym (append-nil events), all, told, (0, 0, omega arith, none_told tells))
+
+-- one search before others
+pub one_before : (most : ℕ) (tells : Bool) (s : SearchMade) (a b : List Event) → s.tries ≤ most → IsTold tells s.tries (length s.choices) a
+    → ToldUpTo most tells b → ToldUpTo most tells (a ++ b)
+one_before most tells s a b within one (xs, done, last, is, all, told, some) = (
+  s ∷ xs,
+  a ++ done,
+  last,
+  ap (λ (z : List Event). a ++ z) is ∙ sym (append_assoc a done last),
+  (within, all),
+  all_told tells s xs a done one told,
+  some,
+)
+
+pub turned_before : (parts : List Part) (options : SearchOptions) (limits : List ℕ) (turned : Turned) (events : List Event)
+    → HasTurned parts options limits turned events → ToldUpTo options.tries options.tells events
+turned_before parts options limits turned events h =
+    all_before options.tries options.tells h.searches events (went_within parts options.tries limits h.searches h.through) h.told
+
+-- a search in turn has no more tries than are allowed
+few_told : (fewer most : ℕ) (tells : Bool) (events : List Event) → fewer ≤ most → ToldSome fewer tells events → ToldSome most tells events
+few_told fewer most tells events less (tries, files, within, told) = (tries, files, omega (arith, less, within), told)
+
+pub some_before : (parts : List Part) (options : SearchOptions) (limits : List ℕ) (turned : Turned) (a b : List Event)
+    → HasTurned parts options limits turned a → ToldSome turned.tries options.tells b → ToldUpTo options.tries options.tells (a ++ b)
+some_before parts options limits turned a b h some =
+    let allowed = tries_within options.tries options.tries h.searches (omega arith) in
+    let same = h.tries_are in
+    told_before options.tries options.tells h.searches a b (went_within parts options.tries limits h.searches h.through) h.told
+    (few_told turned.tries options.tries options.tells b (omega (arith, allowed, same)) some)
+
+pub searched_before : (options : SearchOptions) (parts : List Part) (s : SearchMade) (cut : Option ℕ) (events : List Event)
+    → HasSearched options parts s cut events → ToldUpTo options.tries options.tells events
+searched_before options parts s cut events h =
+    all_before options.tries options.tells (h.searches.first ∷ h.searches.more) events (h.are.is_first.within, others) h.told
+  where
+    by : (ceiling : Option ℕ) (used : Bool) → options.ceiling ≡ ceiling → h.searches.first.is_used_up ≡ used
+        → AllByRecursion (λ s. s.tries ≤ options.tries) h.searches.more
+    by None true e f = turned_within parts options.tries _ h.searches.more (h.are.in_turn e f)
+    by None false e f = rw (h.are.no_more (inr f)) tt
+    by (Some limit) used e f = rw (h.are.no_more (inl (subst (λ (o : Option ℕ). IsSome o) (sym e) refl))) tt
+
+    others : AllByRecursion (λ s. s.tries ≤ options.tries) h.searches.more
+    others = by options.ceiling h.searches.first.is_used_up refl refl
+
+-- ---- one search more
+
+module _ (parts : List Part) (options : SearchOptions) where
+  pub turned_not : (turned : Turned) → turned.tries ≡ options.tries → turned.whole ≡ None → turned.found ≡ None
+      → HasTurned parts options [] turned []
+  turned_not turned t w f = record {
+    searches = [];
+    through = none;
+    tries_are = t;
+    found_is = λ first. ap (last_or first) (sym f);
+    whole_is = λ limit. ap (limit_or limit) (sym w);
+    told = refl;
+  }
+
+  pub turned_on : (limits : List ℕ) (old new : Turned) (limit : ℕ) (s : SearchMade) (a b : List Event) → HasTurned parts options limits old a
+      → IsTold options.tells s.tries (length s.choices) b → s.ceiling ≡ Some limit → IsSearchMade parts old.tries s → s.is_used_up ≡ false
+      → new.tries ≡ tries_behind options.tries old.tries s → new.whole ≡ Some limit
+      → ((first : SearchMade) → last_or first new.found ≡ counting_of (last_or first old.found) s)
+      → HasTurned parts options (limits ++ limit ∷ []) new (a ++ b)
+  turned_on limits old new limit s a b h told ceiling made whole tries limit_is found = record {
+    searches = h.searches ++ s ∷ [];
+    through = one_more limits limit h.searches s h.through ceiling (subst (λ n. IsSearchMade parts n s) h.tries_are made) whole;
+    tries_are = tries ∙ ap (λ n. tries_behind options.tries n s) h.tries_are ∙ sym (tries_more options.tries options.tries h.searches s);
+    found_is = λ first. counting_more first h.searches s ∙ ap (λ z. counting_of z s) (h.found_is first) ∙ sym (found first);
+    whole_is = λ o. limit_more o h.searches s ∙ (rw whole ceiling) ∙ ap (limit_or o) (sym limit_is);
+    told = told_behind options.tells h.searches s a b h.told told;
+  }
+
+  -- the last was cut off
+  pub turned_up_to : (limits behind : List ℕ) (turned : Turned) (limit : ℕ) (s : SearchMade) (a b : List Event)
+      → HasTurned parts options limits turned a → IsTold options.tells s.tries (length s.choices) b → s.ceiling ≡ Some limit
+      → IsSearchMade parts turned.tries s → s.is_used_up ≡ true → TookTurns parts options (limits ++ limit ∷ behind) turned (a ++ b)
+  turned_up_to limits behind turned limit s a b h told ceiling made cut = record {
+    searches = h.searches ++ s ∷ [];
+    in_turn = up_to limits limit behind h.searches s h.through ceiling (subst (λ n. IsSearchMade parts n s) h.tries_are made) cut;
+    found_is = λ first. counting_more first h.searches s ∙ (rw cut refl) ∙ h.found_is first;
+    whole_is = λ o. limit_more o h.searches s ∙ (rw cut refl) ∙ h.whole_is o;
+    told = told_behind options.tells h.searches s a b h.told told;
+  }
+
+  pub took_all : (limits : List ℕ) (turned : Turned) (events : List Event) → HasTurned parts options limits turned events
+      → TookTurns parts options limits turned events
+  took_all limits turned events h = record {
+    searches = h.searches;
+    in_turn = through_all limits h.searches h.through;
+    found_is = h.found_is;
+    whole_is = h.whole_is;
+    told = h.told;
+  }
+
+-- ---- all searches
+
+module _ (options : SearchOptions) (parts : List Part) (first : SearchMade) (asked : first.ceiling ≡ options.ceiling) (made : IsSearchMade parts options.tries first) where
+  -- the one that is asked for is the only one
+  pub searched_once : (events : List Event) → IsSome options.ceiling ⊎ (first.is_used_up ≡ false)
+      → IsTold options.tells first.tries (length first.choices) events → HasSearched options parts first options.ceiling events
+  searched_once events why told = record {
+    searches = record { first = first; more = [] };
+    are = record {
+      ceiling_is = asked;
+      is_first = made;
+      in_turn = λ unlimited used. absurd (not_both why unlimited used);
+      no_more = λ h. refl;
+    };
+    counts = refl;
+    cut_is = asked;
+    told = (events, [], sym (append-nil events), told, refl);
+  }
+    where
+      not_both : IsSome options.ceiling ⊎ (first.is_used_up ≡ false) → options.ceiling ≡ None → first.is_used_up ≡ true → ⊥
+      not_both (inl some) unlimited used = let has : IsSome {T = ℕ} None = subst (λ (o : Option ℕ). IsSome o) unlimited some in absurd cc
+      not_both (inr whole) unlimited used = absurd cc
+
+  or_itself : (o : Option ℕ) → limit_or None o ≡ o
+  or_itself None = refl
+  or_itself (Some limit) = refl
+
+  -- others follow in turn
+  pub searched_in_turn : (turned : Turned) (s : SearchMade) (cut : Option ℕ) (a b : List Event) → options.ceiling ≡ None
+      → first.is_used_up ≡ true → IsTold options.tells first.tries (length first.choices) a → TookTurns parts options limits turned b
+      → s ≡ last_or first turned.found → cut ≡ turned.whole → HasSearched options parts s cut (a ++ b)
+  searched_in_turn turned s cut a b unlimited used told t counts cut_is = record {
+    searches = record { first = first; more = t.searches };
+    are = record {
+      ceiling_is = asked;
+      is_first = made;
+      in_turn = λ _ _. t.in_turn;
+      no_more = λ why. absurd (neither why);
+    };
+    counts = t.found_is first ∙ sym counts;
+    cut_is = t.whole_is first.ceiling ∙ ap (λ o. limit_or o turned.whole) (asked ∙ unlimited) ∙ or_itself turned.whole ∙ sym cut_is;
+    told = (a, b, refl, told, t.told);
+  }
+    where
+      neither : IsSome options.ceiling ⊎ (first.is_used_up ≡ false) → ⊥
+      neither (inl some) = let has : IsSome {T = ℕ} None = subst (λ (o : Option ℕ). IsSome o) unlimited some in absurd cc
+      neither (inr whole) = absurd cc
+
+-- no limit is given
+pub none_given : (o : Option ℕ) → is_some o ≡ false → o ≡ None
+none_given None e = refl
+none_given (Some limit) e = absurd cc
+
+-- a place of a list, with what is before and after it
+pub split_at : (xs : List ℕ) (i d : ℕ) → i < length xs → take i xs ++ get_or xs i d ∷ drop (i + 1) xs ≡ xs
+split_at xs i d l = ap (λ (t : List ℕ). take i xs ++ t) (sym (drop_more xs i d l)) ∙ take-append-drop i xs

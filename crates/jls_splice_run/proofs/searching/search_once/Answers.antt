@@ -1,0 +1,47 @@
+use Rattle.std.proofs.Common.{ℕ, length, Vec, Global, sym, ap, ◌∙◌, subst, arith, inl, inr}
+use Rattle.jls_io.proofs.Growing.{grew_as}
+use Rattle.jls_diff.specs.PartsOf.{parts_of}
+use Rattle.jls_search.specs.Faultless.{IsSought}
+use Rattle.jls_search.specs.Search.{CameTo, lists_of}
+use Rattle.jls_search.proofs.Walks.{used_up}
+use Rattle.jls_splice_run.specs.Telling.{HasTold, IsTold}
+use Rattle.jls_splice_run.proofs.searching.search_once.Goals as goal
+
+pub returns-clause-is_made : goal.returns-clause-is_made
+returns-clause-is_made g c =
+    let walk = c.in_ok-walk.walk in
+    let options = c.args.options in
+    let parts = parts_of c.args.parts.now in
+    let same = c.into_searched.ensures in
+    let were = c.in_ok-walk.ensures.tried in
+    record {
+      came_to = subst (λ ceiling. CameTo (IsSought ceiling) parts (lists_of c.into_searched.result.splices.items) c.into_searched.result.is_used_up)
+          c.in_ok-walk.ensures.ceiling (same.came_to parts c.in_ok-walk.ensures.stands);
+      tried = record {
+        begun = were.0;
+        ceiling_is = were.4;
+        is_begun = were.1;
+        stands = were.2;
+        last = walk;
+        tried = were.3;
+        tries_are = sym same.tries;
+        found_are = ap (λ (v : Vec (Vec ℕ Global) Global). lists_of v.items) (sym same.splices);
+      };
+      within = let e = same.tries in let within = c.in_ok-walk.ensures.told.they_are.within in omega (arith, e, within);
+      used_up = λ yes.
+          elim (used_up walk options.tries c.in_ok-walk.ensures.stops c.in_ok-walk.ensures.told.they_are.within c.in_ok-walk.ensures.stands.1 (sym same.used_up ∙ yes)) [
+            | inl all ↦ inl (same.tries ∙ all)
+            | inr full ↦ inr (ap (λ (v : Vec (Vec ℕ Global) Global). length (lists_of v.items)) same.splices ∙ full)
+          ];
+    }
+
+pub returns-clause-told : goal.returns-clause-told
+returns-clause-told g c =
+    let walk = c.in_ok-walk.walk in
+    let options = c.args.options in
+    let same = c.into_searched.ensures in
+    let searched = c.into_searched.result in
+    grew_as (HasTold options walk) (IsTold options.tells searched.tries (length (lists_of searched.splices.items)))
+    (g.E.Device.history c.args.faults.now) (g.E.Device.history c.search_parts.new.faults)
+    (λ events h. subst (λ n. IsTold options.tells n (length (lists_of searched.splices.items)) events) (sym same.tries)
+    (subst (λ (v : Vec (Vec ℕ Global) Global). IsTold options.tells walk.tries (length (lists_of v.items)) events) (sym same.splices) h.told)) c.in_ok-walk.ensures.told
