@@ -1,7 +1,7 @@
 -- A search by groups, one try more, one copy more outside of a group and one group more.
 use Rattle.std.proofs.Common.{◌≡◌, ℕ, zero, suc, ◌+◌, ◌-◌, ◌^◌, ◌<◌, ◌≤◌, ◌⊎◌, ◌||◌, Bool, true, false, List, [], ◌∷◌, ◌++◌, length, map}
 use Rattle.std.proofs.Common.{min, take}
-use Rattle.std.proofs.Common.{get_or, refl, sym, ap, ◌∙◌, subst, arith, inl, inr, length-append, append_assoc, Option, Some, None, Vec}
+use Rattle.std.proofs.Common.{get_or, refl, sym, ap, ◌∙◌, subst, arith, inl, inr, length-append, append_assoc, Some, Vec}
 use Rattle.std.proofs.Common.{Global}
 use Rattle.std.specs.Prelude.{slice_get}
 use Rattle.std.specs.List.{AllByRecursion, Contains, flat_map, list_any}

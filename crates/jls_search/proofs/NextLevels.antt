@@ -1,6 +1,6 @@
 -- Levels, and the paths that live there.
 use Rattle.std.proofs.Common.{◌≡◌, ℕ, zero, suc, ◌+◌, ◌<◌, List, [], ◌∷◌, ◌++◌, length, take, refl, sym, ap, ◌∙◌, subst, arith, inl, inr}
-use Rattle.std.proofs.Common.{Option, Some, None, ◌≤◌, Vec, Global, length-append}
+use Rattle.std.proofs.Common.{Option, Some, None, Vec, Global, length-append}
 use Rattle.std.specs.Prelude.{get_or, IfNone, IsSome}
 use Rattle.std.specs.List.{AllByRecursion, Contains}
 use Rattle.std.proofs.lemmas.List.{length-take-le}

@@ -1,14 +1,14 @@
 -- A search of a setting, one try more.
-use Rattle.std.proofs.Common.{◌≡◌, ℕ, zero, suc, ◌<◌, Bool, true, false, List, [], ◌∷◌, ◌++◌, length, take, drop, Result, Ok, Err, refl}
+use Rattle.std.proofs.Common.{◌≡◌, ℕ, zero, suc, ◌<◌, Bool, true, false, List, [], ◌∷◌, length, take, drop, Result, Ok, Err, refl}
 use Rattle.std.proofs.Common.{sym, ap}
 use Rattle.std.proofs.Common.{◌∙◌, subst, arith, ◌⊎◌, inl, inr, get_or, Vec, Global}
-use Rattle.std.specs.Prelude.{IfOk, OnOk}
+use Rattle.std.specs.Prelude.{IfOk}
 use Rattle.std.specs.List.{AllByRecursion, Contains}
 use Rattle.std.specs.declared.alloc.AllocError.{AllocError}
 use Rattle.std.proofs.lemmas.List.Elements.{Contains-append_left}
 use Rattle.jls_diff.specs.Parts.{Part}
-use Rattle.jls_search.specs.Choices.{IsPath, front_of}
-use Rattle.jls_search.specs.OfGroups.{AddsOne, GoesOnWith, HasManyFaults, IsGivenUp, IsSet, IsSetWhole, IsSettled, IsSoughtWith, StandsWith}
+use Rattle.jls_search.specs.Choices.{front_of}
+use Rattle.jls_search.specs.OfGroups.{AddsOne, GoesOnWith, IsGivenUp, IsSet, IsSetWhole, IsSettled, IsSoughtWith, StandsWith}
 use Rattle.jls_search.specs.Order.{IsToCome, IsBehind}
 use Rattle.jls_search.specs.declared.setting.Setting.{Setting}
 use Rattle.jls_search.proofs.FaultlessFiles.{all_front}

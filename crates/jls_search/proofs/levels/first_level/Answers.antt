@@ -1,10 +1,9 @@
 use Rattle.std.proofs.Common.{ℕ, List, [], sym, ap, ◌∙◌, subst, length}
 use Rattle.std.proofs.lemmas.Option.{IfSome_then}
-use Rattle.std.specs.Prelude.{IfNone}
 use Rattle.jls_diff.specs.Parts.{Part}
 use Rattle.jls_diff.specs.PartsOf.{parts_of}
 use Rattle.jls_search.specs.Faultless.{IsSought}
-use Rattle.jls_search.specs.Levels.{IsFirstDead, IsLevel, IsTaken}
+use Rattle.jls_search.specs.Levels.{IsLevel, IsTaken}
 use Rattle.jls_search.specs.Search.{lists_of}
 use Rattle.jls_search.proofs.NextLevels.{first_is_dead, first_level_is, first_is_one, none_then}
 use Rattle.jls_search.proofs.levels.first_level.Goals as goal

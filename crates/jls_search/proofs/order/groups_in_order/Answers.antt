@@ -1,4 +1,4 @@
-use Rattle.std.proofs.Common.{◌≡◌, ℕ, ◌+◌, List, ◌++◌, take, sym, ap, ◌∙◌, subst, Vec, Global}
+use Rattle.std.proofs.Common.{ℕ, ◌+◌, List, ◌++◌, take, sym, ap, ◌∙◌, subst, Vec, Global}
 use Rattle.std.specs.List.{AllByRecursion}
 use Rattle.std.specs.List.Sorted.{IsPermutation}
 use Rattle.jls_diff.specs.Groups.{IsGroup}
