@@ -16,7 +16,7 @@ use crate::options::SearchOptions;
 use crate::searching::search_once;
 use jls_diff::{Part, find_parts};
 use jls_io::Sink;
-use jls_search::{SearchedCopies, Searched, parts_can_be_searched};
+use jls_search::{Searched, SearchedCopies, parts_can_be_searched};
 use std::alloc::{AllocError, Global};
 
 /// The limits: for each k from 16 to 31 the greatest whole number that is less than the square root of 2^k.
@@ -64,7 +64,11 @@ fn tries_after(most: u32, tries: u32) -> u32
     ensures { result ≡ min most (max 256 (16 * tries)) }
 {
     let many = u64::from(tries) * TRIES_BEHIND;
-    let wanted = if many < FEWEST_BEHIND { FEWEST_BEHIND } else { many };
+    let wanted = if many < FEWEST_BEHIND {
+        FEWEST_BEHIND
+    } else {
+        many
+    };
     if wanted < u64::from(most) {
         wanted as u32
     } else {

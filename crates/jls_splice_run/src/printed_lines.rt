@@ -34,7 +34,11 @@ fn found_lines(
 }
 
 /// What is noted of the search on the fault output. Nothing, unless the output is standard output.
-pub(crate) fn notes_of(alloc: Global, out: &str, report: &SearchReport) -> Result<Vec<u8>, AllocError>
+pub(crate) fn notes_of(
+    alloc: Global,
+    out: &str,
+    report: &SearchReport,
+) -> Result<Vec<u8>, AllocError>
     ensures { IfOk result (λ notes. notes.items ≡ (if bytes_eq out.now (codes "-") then noted_text report.now else [])) }
 {
     let mut notes = Vec::new(alloc);

@@ -112,7 +112,7 @@ const ROWS: [Row; 10] = [
         status: 0,
         numbered: &["eight"],
         count: 1,
-        told: "",
+        told: "jls-splice: files 1",
     },
     Row {
         file: "sixteen",
@@ -166,11 +166,8 @@ fn are_all(alloc: Global, row: &Row, files: &MemoryFiles<'_>) -> Result<bool, Al
     Ok(true)
 }
 
-/// Whether the line of a row is printed. Nothing is, if it is empty.
+/// Whether the line of a row is printed.
 fn is_told(row: &Row, ending: &Ending) -> bool {
-    if row.told.is_empty() {
-        return ending.report.is_empty() && ending.faults.is_empty();
-    }
     has_line(&ending.report, row.told) || has_line(&ending.faults, row.told)
 }
 

@@ -12,7 +12,7 @@ use std::test::Fail;
 
 /// What stands in a row behind its name: the file; what is damaged in each copy; the words behind the program's name, where `1..65` are the
 /// numbers from 1 to 65; the status; the picture that OUT is to be, or `other` where it is to be none of them, or `nothing` where no output
-/// is created; and a line that is printed, or `nothing`.
+/// is created; and a line that is printed.
 const ROWS: &str = "\
 one place: eight: 100+8=0 / 400+8=0: OUT 1 2: 0 eight: splices 1
 two places: eight: 100+8=0 300+8=0 / 200+8=0 500+8=0: OUT 1 2: 0 eight: splices 1
@@ -154,11 +154,8 @@ pub(crate) fn has_line(text: &[u8], line: &str) -> bool {
     }
 }
 
-/// Whether the line of a row is printed, or nothing is.
+/// Whether the line of a row is printed.
 fn is_told(row: Row<'_>, ending: &Ending) -> bool {
-    if row.told == "nothing" {
-        return ending.report.is_empty() && ending.faults.is_empty();
-    }
     has_line(&ending.report, row.told) || has_line(&ending.faults, row.told)
 }
 

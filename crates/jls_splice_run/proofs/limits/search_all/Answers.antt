@@ -19,10 +19,10 @@ returns-then-is_some-clause-searched g c =
     grew_as (IsTold options.tells first.tries (length first.choices)) (HasSearched options parts first options.ceiling)
     (history c.args.faults.now) (history c.search_once.new.faults)
     (λ events told. searched_once options parts first refl c.in_ok-first.ensures.is_made events (
-      elim c.then-is_some.branch [
-        | then-is_some-via-then-is_some w ↦ inl (sym c.is_some.ensures ∙ w.if-is_some.true)
-        | then-is_some-via-else-is_some+then-not-first w ↦ inr (not-true c.in_ok-first.first.is_used_up w.if-not-first.true)
-      ]
+    elim c.then-is_some.branch [
+      | then-is_some-via-then-is_some w ↦ inl (sym c.is_some.ensures ∙ w.if-is_some.true)
+      | then-is_some-via-else-is_some+then-not-first w ↦ inr (not-true c.in_ok-first.first.is_used_up w.if-not-first.true)
+    ]
     ) told)
     c.in_ok-first.ensures.told
 

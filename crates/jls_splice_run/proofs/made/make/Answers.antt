@@ -60,8 +60,11 @@ returns-in-Err-search-clause-stopped g c =
 searched_in : (a : Asked) (found : FoundInTurn) (copies : List CopyBytes) (r : Refusal) → IsWantOfMemory a r → (events : List Event)
     → Searched a found events → CantMake a copies r events
 searched_in a found copies r want events h =
-    inl (want, searched_before (options_of a) (parts_of found.splices.parts.items)
-    (search_of found.splices.ceiling (found_of found.splices) found.splices.tries) found.cut_limit events h)
+    inl (
+      want,
+      searched_before (options_of a) (parts_of found.splices.parts.items)
+          (search_of found.splices.ceiling (found_of found.splices) found.splices.tries) found.cut_limit events h,
+    )
 
 pub returns-in-Err-find_cut-clause-stopped : goal.returns-in-Err-find_cut-clause-stopped
 returns-in-Err-find_cut-clause-stopped g c =
