@@ -81,7 +81,7 @@ fn is_done(found: &Ending, wanted: &Wanted) -> bool {
         && is_printed
 }
 
-/// Whether it is said last that memory ran out, and before that nothing, or what is said with ample memory.
+/// Whether it is said last that memory ran out, and before that what is said with ample memory, or a prefix of it.
 fn says_refused(faults: &[u8], wanted: &Wanted, line: &str) -> bool {
     let refusal = if is_splice(line) {
         "jls-splice: out of memory\n"
@@ -90,7 +90,7 @@ fn says_refused(faults: &[u8], wanted: &Wanted, line: &str) -> bool {
     };
     match std::str::from_utf8(faults) {
         Ok(text) => match text.strip_suffix(refusal) {
-            Some(before) => before.is_empty() || before == wanted.faults,
+            Some(before) => wanted.faults.starts_with(before),
             None => false,
         },
         Err(_) => false,

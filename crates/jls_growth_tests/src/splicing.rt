@@ -114,7 +114,7 @@ fn splice_with_numbered_files(rt: HostRuntime) {
     run_row(&rt, rt.alloc(), "run of jls-splice --files", &row);
 }
 
-/// Both searches are cut off before they come to a file.
+/// The search of all is cut off before it comes to a file, and so are that within a first limit and that by groups.
 #[test]
 fn splice_cut_off(rt: HostRuntime) {
     let row = Row {
@@ -123,7 +123,7 @@ fn splice_cut_off(rt: HostRuntime) {
         lines: &[],
         report: "differ 25 1\ndiffer 53 1\nsplices 0\ntries used up\nby groups 1, tries used up\n\
             before 25\npromise lines\npicture 4x4, 8 bits, components 1\nsettled 0, missing 4, disputed 0\nmissing 1 0-3\n",
-        faults: "2 tries, 0 files\n",
+        faults: "2 tries, 0 files\n2 tries, 0 files\n",
         ..FOUR_BACK
     };
     run_row(&rt, rt.alloc(), "run of jls-splice --progress", &row);
