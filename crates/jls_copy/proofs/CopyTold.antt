@@ -39,7 +39,7 @@ outcome_at s (BeyondLast k) x w (Fault kind.Long) t h = h
 outcome_at s (BeyondLast k) x w (Fault kind.Broken) t h = h
 outcome_at s (BeyondLast k) x w (Fault kind.Beyond) t h = h
 
-outcome_alike : (p q : FoundPiece) (o : PieceOutcome) → AlikePiece p q → IsOutcome p o → IsOutcome q o
+pub outcome_alike : (p q : FoundPiece) (o : PieceOutcome) → AlikePiece p q → IsOutcome p o → IsOutcome q o
 outcome_alike p q o a h =
     let now : IsOutcomeAt q.plan q.number p.bytes o = rw (a.plan_is, a.number_is) at h in outcome_at q.plan q.number p.bytes q.bytes o a.told_as now
 

@@ -40,4 +40,5 @@ mod TellingLaws
 mod OtherEnds
 mod EndExamples
 mod Fronts
+mod FaultyPieces
 mod FrontReadings

@@ -7,7 +7,8 @@ use Rattle.jls_marker.specs.Scan.{Scan}
 use Rattle.jls_copy.specs.Numbers.{PieceNumber}
 use Rattle.jls_copy.specs.Course.{Course, IsCourse}
 use Rattle.jls_partial.specs.Reading.{Reading}
-use Rattle.jls_copy.specs.Pieces.{FoundPiece, Lines, IsOutcomeAt, IsOutcome, readings_of, pieces}
+use Rattle.jls_copy.specs.Pieces.{FoundPiece, Fault, Lines, IsOutcomeAt, IsOutcome, readings_of, pieces}
+use Rattle.jls_copy.specs.declared.piece.PieceKind.{PieceKind}
 use Rattle.jls_copy.specs.CutPieces.{cut_pieces, IsHeadAt}
 use Rattle.jls_copy.specs.declared.piece.OpenPiece.{OpenPiece}
 use Rattle.jls_copy.specs.declared.piece.OpenPiece.TheVariants.{Within, Beyond}
@@ -33,6 +34,12 @@ FrontsStayBroken =
     → (broken : IsPieceBroken front) → (c : Course) → IsCourse (front ++ more) c
     → (p : FoundPiece) × Contains (pieces c) p × (p.plan ≡ broken.piece.plan) × (p.number ≡ broken.piece.number)
     × (p.offset ≡ broken.piece.offset) × ((lines : List (List ℕ)) → IsOutcome p (Lines lines) → ⊥)
+
+-- each list of bytes that begins with these has a faulty piece
+abbrev pub StaysFaulty : List ℕ → Type 0
+StaysFaulty front =
+    (more : List ℕ) → AllByRecursion (λ b. b < 256) (front ++ more) → (c : Course) → IsCourse (front ++ more) c
+    → (p : FoundPiece) × Contains (pieces c) p × (kind : PieceKind) × IsOutcome p (Fault kind)
 
 -- What they give --------------------------------------------------------------------------------------------------
 

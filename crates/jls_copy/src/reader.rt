@@ -2,7 +2,7 @@
 
 ghost use Rattle.std.specs.Prelude.{◌≡◌, ◌+◌, ◌-◌, ◌≤◌, ◌<◌, ◌^◌, [], length, Some, None, IfSome, OnOk, OnErr, IsOk, IsSome};
 ghost use Rattle.std.specs.Prelude.{IsErr, IfOk, IfErr, IfNone, take, true};
-ghost use Rattle.jls_copy.specs.Fronts.{IsPieceBroken};
+ghost use Rattle.jls_copy.specs.Fronts.{IsPieceBroken, StaysFaulty};
 ghost use Rattle.jls_copy.specs.ReadCopy.{after};
 ghost use Rattle.jls_copy.specs.Conclusion as reader;
 ghost use Rattle.jls_copy.specs.CopyReads as copy;
@@ -216,6 +216,17 @@ impl CopyReader {
             return false;
         }
         self.machine.place.reads_no_more()
+    }
+
+    /// Whether a piece that a marker closed is faulty. If so, each list of bytes that begins with those fed so far has a faulty piece.
+    /// `false` says nothing. No memory is taken.
+    pub fn has_faulty_piece(&self) -> bool
+        ensures { result ≡ true → IfSome self.now (λ bytes. StaysFaulty bytes) }
+    {
+        if self.failed {
+            return false;
+        }
+        self.machine.findings.record_count != 0
     }
 
     /// What the copy gave, if the input ends here. `NoPicture` comes if no frame was taken. It has the fault that ended the copy, and its

@@ -10,7 +10,7 @@ use Rattle.jls_copy.specs.ReadCopy.{ReadCopy}
 use Rattle.jls_copy.specs.CopyReads.{CopyReads, CopyGivesNone, IsDone}
 use Rattle.jls_copy.specs.CopyLaws.{FinalEndsStay}
 use Rattle.jls_copy.specs.TellingLaws.{AreRecordsOf, of_none, reads, faulty, RecordsAreOfFaultyPieces}
-use Rattle.jls_copy.specs.Fronts.{HasLines, IsPieceBroken, FrontsStayBroken}
+use Rattle.jls_copy.specs.Fronts.{HasLines, IsPieceBroken, FrontsStayBroken, StaysFaulty}
 use Rattle.jls_copy.specs.declared.piece.PieceKind.{PieceKind}
 use Rattle.jls_copy.specs.declared.piece.PieceRecord.{PieceRecord}
 use Rattle.jls_copy.specs.declared.reader.CopyFault.TheVariants.{NoPicture, OutOfMemory}
@@ -102,6 +102,14 @@ dead_if_broken stay None h = tt
 dead_if_broken stay (Some front) h = λ more low f.
     let p = stay front more low h f.course f.is_course in
     let reads = all_at HasLines (pieces f.course) p.0 f.each p.1 in p.5 reads.0 reads.1
+
+pub dead_if_faulty : (fed : Option (List ℕ)) → IfSome fed (λ bytes. StaysFaulty bytes) → IfSome fed (λ bytes. IsDead IsFaultless bytes)
+dead_if_faulty None h = tt
+dead_if_faulty (Some front) h = λ more low f.
+    let p = h more low f.course f.is_course in
+    let reads = all_at HasLines (pieces f.course) p.0 f.each p.1 in
+    let scan = all_at HasScan (pieces f.course) p.0 (course_has (front ++ more) f.course low f.is_course) p.1 in
+    lines_or_fault p.0 reads.0 p.2 scan reads.1 p.3
 
 pub dead_if_done : FinalEndsStay → (fed : Option (List ℕ)) (done : Bool) → done ≡ true → IfSome fed (λ bytes. IsDone bytes done)
     → IfSome fed (λ bytes. AllByRecursion (λ b. b < 256) bytes → IsFaultless bytes → ⊥) → IfSome fed (λ bytes. IsDead IsFaultless bytes)

@@ -103,13 +103,17 @@ fn has_fault(reader: CopyReader) -> Result<bool, AllocError>
     Ok(true)
 }
 
-/// Whether it is known that no file without a fault begins with the bytes fed. Either the piece in hand is broken, or the copy has ended
-/// and has a fault. `false` says nothing. The only refusal is out of memory.
+/// Whether it is known that no file without a fault begins with the bytes fed. A piece that a marker closed is faulty, or the piece in hand
+/// is broken, or the copy has ended and has a fault. `false` says nothing. The only refusal is out of memory.
 pub fn is_dead(reader: CopyReader) -> Result<bool, AllocError>
     ensures { IfOk result (λ dead. dead ≡ true → IfSome reader (λ front. IsDead IsFaultless front)) }
 {
     fronts_stay_broken();
     final_ends_stay();
+    let faulty = reader.has_faulty_piece();
+    if faulty {
+        return Ok(true);
+    }
     let broken = reader.is_piece_broken();
     if broken {
         return Ok(true);

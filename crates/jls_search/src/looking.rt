@@ -63,7 +63,7 @@ fn look_at_front(
     if above {
         return Ok(Sight::Dead);
     }
-    let goes_on = !reader.is_piece_broken() && !reader.is_done();
+    let goes_on = !reader.has_faulty_piece() && !reader.is_piece_broken() && !reader.is_done();
     if goes_on {
         return Ok(Sight::Open(Some(reader)));
     }

@@ -28,6 +28,7 @@ in a COM segment: comment: 100+8=0 / 400+8=0: OUT 1 2: 0 comment: splices 1
 three scans: scans: 60+8=85 330+8=85 / 200+8=85: OUT 1 2: 0 scans: splices 1
 one interval: restarts: 45+3=0 / 70+3=0: OUT 1 2: 0 restarts: splices 1
 two intervals: restarts: 50+4=0 / 140+4=0: OUT 1 2: 0 restarts: splices 1
+three intervals, each way judged where it ends: restarts: 64+4=0 201+4=0 / 131+4=0: --progress OUT 1 2: 0 restarts: 7 tries, 1 files
 one place in all: eight: 300+8=0 / 300+8=85: OUT 1 2: 1 other: missing 1 7-19
 where it is: eight: 300+8=0 / 300+8=85: OUT 1 2: 1 other: before 300
 one place in all, and others: eight: 100+8=0 300+8=0 / 200+8=0 300+8=85: OUT 1 2: 1 other: missing 1 7-19

@@ -1,5 +1,8 @@
-use Rattle.jls_search.proofs.FaultlessFiles.{dead_if_broken, dead_when_done}
+use Rattle.jls_search.proofs.FaultlessFiles.{dead_if_broken, dead_if_faulty, dead_when_done}
 use Rattle.jls_search.proofs.faultless.is_dead.Goals as goal
+
+pub returns-then-faulty : goal.returns-then-faulty
+returns-then-faulty c = λ _. dead_if_faulty c.args.reader (c.has_faulty_piece-faulty.ensures c.if-faulty.true)
 
 pub returns-then-broken : goal.returns-then-broken
 returns-then-broken c = λ _.
