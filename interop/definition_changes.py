@@ -55,7 +55,7 @@ CHANGES = [
             (STATE, f"class_of More {CLASS}if ends_scan_data b then Stop else Data", f"class_of More {CLASS}Data"),
             (SCAN, "    } else if ends_scan_data(byte) {\n        ByteClass::Stop\n", ""),
         ),
-        "scan::class_behind",
+        "scan::class_after",
     ),
     Change(
         "IsPiece lets 0xFF be last",
@@ -77,7 +77,7 @@ CHANGES = [
     ),
     Change(
         "next_number takes the mark before an interval for the one behind it",
-        "behind_0",
+        "after_0",
         (NUMBERS, "next_number last m = last + 1 + (m + 8 - last % 8) % 8", "next_number last m = last + 1 + (m + 7 - last % 8) % 8"),
         ((SCAN, "last + 1 + (u32::from(mark) + 8 - last % 8) % 8", "last + 1 + (u32::from(mark) + 7 - last % 8) % 8"),),
         "scan::next_number",
@@ -97,9 +97,9 @@ CHANGES = [
         "scan::OpenScan::begin",
     ),
     Change(
-        "numbers_behind counts each mark from the first number",
+        "numbers_after counts each mark from the first number",
         "numbers_of_three",
-        (NUMBERS, "numbers_behind intervals (given_last last number) marks", "numbers_behind intervals last marks"),
+        (NUMBERS, "numbers_after intervals (given_last last number) marks", "numbers_after intervals last marks"),
         why="no function has the marks of a scan at once",
     ),
     Change(

@@ -46,10 +46,10 @@ pub whole_append : (before : ℕ) (xs ys : List ℕ) → is_whole_after before x
 whole_append before [] ys h j = j
 whole_append before (x ∷ xs) ys h j = let p = whole_parts before x xs h in whole_more before x (xs ++ ys) p.0 ∙ whole_append x xs ys p.1 j
 
-pub whole_front : (before : ℕ) (xs ys : List ℕ) → is_whole_after before (xs ++ ys) ≡ true
+pub whole_prefix : (before : ℕ) (xs ys : List ℕ) → is_whole_after before (xs ++ ys) ≡ true
     → (is_whole_after before xs ≡ true) × (is_whole_after (last_after before xs) ys ≡ true)
-whole_front before [] ys h = (whole_end before, h)
-whole_front before (x ∷ xs) ys h = let p = whole_parts before x (xs ++ ys) h in let r = whole_front x xs ys p.1 in (whole_more before x xs p.0 ∙ r.0, r.1)
+whole_prefix before [] ys h = (whole_end before, h)
+whole_prefix before (x ∷ xs) ys h = let p = whole_parts before x (xs ++ ys) h in let r = whole_prefix x xs ys p.1 in (whole_more before x xs p.0 ∙ r.0, r.1)
 
 pub bytes_append : (xs ys : List ℕ) → AreBytes xs → AreBytes ys → AreBytes (xs ++ ys)
 bytes_append [] ys h j = j
@@ -60,15 +60,15 @@ last_append before [] y = refl
 last_append before (x ∷ xs) y = last_append x xs y
 
 -- a list whose last element is x
-front_of : (x y : ℕ) (ys : List ℕ) (v : ℕ) → last_after y ys ≡ v → (front : List ℕ) × (x ∷ (y ∷ ys) ≡ front ++ v ∷ [])
-front_of x y [] v e = (x ∷ [], ap (λ z. x ∷ (z ∷ [])) e)
-front_of x y (z ∷ zs) v e = let r = front_of y z zs v e in (x ∷ r.0, ap (λ u. x ∷ u) r.1)
+prefix_of : (x y : ℕ) (ys : List ℕ) (v : ℕ) → last_after y ys ≡ v → (prefix : List ℕ) × (x ∷ (y ∷ ys) ≡ prefix ++ v ∷ [])
+prefix_of x y [] v e = (x ∷ [], ap (λ z. x ∷ (z ∷ [])) e)
+prefix_of x y (z ∷ zs) v e = let r = prefix_of y z zs v e in (x ∷ r.0, ap (λ u. x ∷ u) r.1)
 
 -- bytes that end in 0xFF
-pub last_is : (before : ℕ) (xs : List ℕ) → (before ≡ 255 → ⊥) → last_after before xs ≡ 255 → (front : List ℕ) × (xs ≡ front ++ 255 ∷ [])
+pub last_is : (before : ℕ) (xs : List ℕ) → (before ≡ 255 → ⊥) → last_after before xs ≡ 255 → (prefix : List ℕ) × (xs ≡ prefix ++ 255 ∷ [])
 last_is before [] h e = absurd (h e)
 last_is before (x ∷ []) h e = ([], ap (λ z. z ∷ []) e)
-last_is before (x ∷ (y ∷ ys)) h e = front_of x y ys 255 e
+last_is before (x ∷ (y ∷ ys)) h e = prefix_of x y ys 255 e
 
 -- whole bytes have seven data bits each at least
 pub many_bits : (before : ℕ) (xs : List ℕ) → is_whole_after before xs ≡ true → 7 * length xs ≤ length (bits_read_after before xs)

@@ -8,12 +8,12 @@ use Rattle.std.proofs.Math.Nat.{mod-eq_of_lt}
 use Rattle.std.proofs.lemmas.Bool.{cases_lt, ltb-false, lt-ltb, le-ltb, le-leb, and_from}
 use Rattle.jls_bits.specs.Bits.{bits}
 use Rattle.jls_bits.specs.Golomb.{is_short, golomb, has_golomb}
-use Rattle.jls_bits.specs.CodeState.{bits_told, IsOpen, BeginsCode, RefusesCode, StepIs}
+use Rattle.jls_bits.specs.CodeState.{bits_fed, IsOpen, BeginsCode, RefusesCode, StepIs}
 use Rattle.jls_bits.specs.declared.code_state.CodeState.{CodeState}
 use Rattle.jls_bits.specs.declared.code_state.CodeState.TheVariants.{Zeros, Remainder, Escape}
 use Rattle.jls_bits.specs.declared.code_state.CodeStep.TheVariants.{More, Done}
 use Rattle.jls_bits.proofs.NumberBits.{bits_none, bits_more, bits_split, bits_same, bits_cong, bits_push_bool}
-use Rattle.jls_bits.proofs.Codes.{golomb_short, golomb_long, golomb_same, escape_range, many_zeros, escape_behind_zeros, short_code, escape_code, zeros_push, zeros_then_one}
+use Rattle.jls_bits.proofs.Codes.{golomb_short, golomb_long, golomb_same, escape_range, many_zeros, escape_after_zeros, short_code, escape_code, zeros_push, zeros_then_one}
 
 -- the power of a sum
 power_of_rest : (c n : ℕ) → c ≤ n → 2 ^ n ≡ 2 ^ c * 2 ^ (n - c)
@@ -67,9 +67,9 @@ module _ (k g q : ℕ) (room : q + 2 ≤ g) where
   zeros_open z l h = elim (cases_lt z esc) [ inl s ↦ zeros_begin z s | inr s ↦ (let e : z ≡ esc = omega arith in escape_begins z e (h e)) ]
 
   -- the first bits of a number's bits
-  front_bits : (n c x v : ℕ) → c < n → (x / 2 ^ (n - c)) % 2 ^ c ≡ v % 2 ^ c
+  prefix_bits : (n c x v : ℕ) → c < n → (x / 2 ^ (n - c)) % 2 ^ c ≡ v % 2 ^ c
       → (b : Bool) × (more : List Bool) × (bits n x ≡ bits c v ++ b ∷ more)
-  front_bits n c x v l e =
+  prefix_bits n c x v l e =
       let d = n - c in let s : n ≡ c + d = omega arith in
       (eqb (x / 2 ^ (d - 1) % 2) 1, bits (d - 1) x, ap (λ z. bits z x) s ∙ bits_split c d x ∙ ap (λ z. z ++ bits d x) (bits_cong c (x / 2 ^ d) v e) ∙ ap (λ z. bits c v ++ z) (bits_more d x (omega arith)))
 
@@ -84,7 +84,7 @@ module _ (k g q : ℕ) (room : q + 2 ≤ g) where
       let short : is_short k g q m ≡ true = lt-ltb (m / 2 ^ k) esc (omega arith) in
       let e : m ≡ (z * 2 ^ c + v) * 2 ^ d = rw p (omega arith) in
       let f : m / 2 ^ d ≡ z * 2 ^ c + v = ap (λ x. x / 2 ^ d) e ∙ shl-shr (z * 2 ^ c + v) d in
-      let r = front_bits k c m v s (ap (λ x. x % 2 ^ c) f ∙ mod_low z c v b ∙ sym (mod-eq_of_lt b)) in
+      let r = prefix_bits k c m v s (ap (λ x. x % 2 ^ c) f ∙ mod_low z c v b ∙ sym (mod-eq_of_lt b)) in
       record { number = m; next = r.0; more = r.1; has = rw short refl; code = code_of_short m short ∙ ap (λ x. replicate x false ++ true ∷ bits k m) h ∙ joined (replicate z false) (bits k m) (r.0 ∷ r.1) (bits c v) r.2 }
 
   escape_open : (c v : ℕ) → c < q → v < 2 ^ c → esc * 2 ^ k ≤ (v + 1) * 2 ^ (q - c)
@@ -96,20 +96,20 @@ module _ (k g q : ℕ) (room : q + 2 ≤ g) where
       let p = power_of_rest c q (omega arith) in
       let high : m ≤ 2 ^ q = rw p (mul-le (v + 1) (2 ^ d) (2 ^ c) (2 ^ d) (omega arith) (omega arith)) in
       let long : is_short k g q m ≡ false = le-ltb (m / 2 ^ k) esc (le-div esc m (2 ^ k) (pow_pos k) l) in
-      let r = front_bits q c (m - 1) v s (ap (λ x. x % 2 ^ c) f) in
+      let r = prefix_bits q c (m - 1) v s (ap (λ x. x % 2 ^ c) f) in
       record { number = m; next = r.0; more = r.1; has = has_long m long (omega arith) high; code = code_of_long m long ∙ joined (replicate esc false) (bits q (m - 1)) (r.0 ∷ r.1) (bits c v) r.2 }
 
   -- from an open state some code goes on
-  pub begins : (s : CodeState) → IsOpen k g q s → BeginsCode k g q (bits_told g q s)
+  pub begins : (s : CodeState) → IsOpen k g q s → BeginsCode k g q (bits_fed g q s)
   begins (Zeros z) h = zeros_open z h.0 h.1
   begins (Remainder z c v) h = remainder_open z c v h.0 h.1 h.2
   begins (Escape c v) h = escape_open c v h.0 h.1 h.2
 
   -- a new state, by the bits that led to it
-  pub told : (s : CodeState) (given : List Bool) → IsOpen k g q s → bits_told g q s ≡ given → StepIs k g q given (More s)
-  told s given h e = (h, e, subst (BeginsCode k g q) e (begins s h))
+  pub fed : (s : CodeState) (given : List Bool) → IsOpen k g q s → bits_fed g q s ≡ given → StepIs k g q given (More s)
+  fed s given h e = (h, e, subst (BeginsCode k g q) e (begins s h))
 
-  -- no code stands at the front of bits that begin one
+  -- no code stands at the start of bits that begin one
   pub none_whole : (given : List Bool) → BeginsCode k g q given → (m : ℕ) (rest : List Bool) → has_golomb k g q m ≡ true
       → given ≡ golomb k g q m ++ rest → ⊥
   none_whole given b m rest h e =
@@ -124,10 +124,10 @@ module _ (k g q : ℕ) (room : q + 2 ≤ g) where
       → (replicate z false ++ bit ∷ []) ++ more ≡ replicate (z + 1) false ++ more
   one_more_zero z bit more e = append_assoc (replicate z false) (bit ∷ []) more ∙ ap (λ x. replicate z false ++ x ∷ more) e ∙ zeros_push z more
 
-  -- a zero behind zeros
+  -- a zero after zeros
   pub zero_more : (z : ℕ) (bit : Bool) → bit ≡ false → z + 1 ≤ esc → (z + 1 ≡ esc → esc * 2 ^ k ≤ 2 ^ q)
       → StepIs k g q (replicate z false ++ bit ∷ []) (More (Zeros (z + 1)))
-  zero_more z bit e l h = told (Zeros (z + 1)) (replicate z false ++ bit ∷ []) (l, h) (sym (sym (append-nil (replicate z false ++ bit ∷ [])) ∙ one_more_zero z bit [] e ∙ append-nil (replicate (z + 1) false)))
+  zero_more z bit e l h = fed (Zeros (z + 1)) (replicate z false ++ bit ∷ []) (l, h) (sym (sym (append-nil (replicate z false ++ bit ∷ [])) ∙ one_more_zero z bit [] e ∙ append-nil (replicate (z + 1) false)))
 
   pub zero_too_many : (z : ℕ) (bit : Bool) → bit ≡ false → z ≡ esc → RefusesCode k g q (replicate z false ++ bit ∷ [])
   zero_too_many z bit e h m more rest has c = many_zeros k g q (z + 1) more m rest (omega arith) (sym (one_more_zero z bit more e) ∙ c)
@@ -136,23 +136,23 @@ module _ (k g q : ℕ) (room : q + 2 ≤ g) where
       → RefusesCode k g q (replicate z false ++ bit ∷ [])
   zero_without_escape z bit e h l m more rest has c =
       let s : replicate esc false ++ more ≡ golomb k g q m ++ rest = ap (λ x. replicate x false ++ more) (sym h) ∙ sym (one_more_zero z bit more e) ∙ c in
-      let long = escape_behind_zeros k g q more m rest s in let r = escape_range k g q m has long in
+      let long = escape_after_zeros k g q more m rest s in let r = escape_range k g q m has long in
       let d : esc ≤ m / 2 ^ k = ltb-false (m / 2 ^ k) esc long in
       let f : m / 2 ^ k < esc = div_below m (2 ^ k) esc (pow_pos k) (omega arith) in omega arith
 
   one_bits : (z : ℕ) (bit : Bool) → bit ≡ true → replicate z false ++ true ∷ bits 0 0 ≡ replicate z false ++ bit ∷ []
   one_bits z bit e = ap (λ x. replicate z false ++ true ∷ x) (bits_none 0) ∙ ap (λ x. replicate z false ++ x ∷ []) (sym e)
 
-  -- a one behind zeros
+  -- a one after zeros
   pub one_of_escape : (z : ℕ) (bit : Bool) → bit ≡ true → 0 < q → z ≡ esc → esc * 2 ^ k ≤ 2 ^ q
       → StepIs k g q (replicate z false ++ bit ∷ []) (More (Escape 0 0))
   one_of_escape z bit e l h j =
       let p : q - 0 ≡ q = omega arith in let s : esc * 2 ^ k ≤ 1 * 2 ^ (q - 0) = rw p (omega arith) in
-      told (Escape 0 0) (replicate z false ++ bit ∷ []) (l, omega arith, s) (ap (λ x. replicate x false ++ true ∷ bits 0 0) (sym h) ∙ one_bits z bit e)
+      fed (Escape 0 0) (replicate z false ++ bit ∷ []) (l, omega arith, s) (ap (λ x. replicate x false ++ true ∷ bits 0 0) (sym h) ∙ one_bits z bit e)
 
   pub one_of_short : (z : ℕ) (bit : Bool) → bit ≡ true → z < esc → 0 < k
       → StepIs k g q (replicate z false ++ bit ∷ []) (More (Remainder z 0 0))
-  one_of_short z bit e l h = told (Remainder z 0 0) (replicate z false ++ bit ∷ []) (l, h, omega arith) (one_bits z bit e)
+  one_of_short z bit e l h = fed (Remainder z 0 0) (replicate z false ++ bit ∷ []) (l, h, omega arith) (one_bits z bit e)
 
   pub one_alone : (z : ℕ) (bit : Bool) → bit ≡ true → z < esc → k ≡ 0 → StepIs k g q (replicate z false ++ bit ∷ []) (Done z)
   one_alone z bit e l h =
@@ -169,7 +169,7 @@ module _ (k g q : ℕ) (room : q + 2 ≤ g) where
   pub remainder_more : (z c v : ℕ) (bit : Bool) → z < esc → v < 2 ^ c → c + 1 < k
       → StepIs k g q ((replicate z false ++ true ∷ bits c v) ++ bit ∷ []) (More (Remainder z (c + 1) (2 * v + bool_byte bit)))
   remainder_more z c v bit l b s =
-      told (Remainder z (c + 1) (2 * v + bool_byte bit)) ((replicate z false ++ true ∷ bits c v) ++ bit ∷ []) (l, s, (bits_push_bool bit c v b).1) (more_bits (replicate z false) bit c v b)
+      fed (Remainder z (c + 1) (2 * v + bool_byte bit)) ((replicate z false ++ true ∷ bits c v) ++ bit ∷ []) (l, s, (bits_push_bool bit c v b).1) (more_bits (replicate z false) bit c v b)
 
   pub remainder_whole : (z c v m : ℕ) (bit : Bool) → z < esc → v < 2 ^ c → c + 1 ≡ k → m ≡ z * 2 ^ k + (2 * v + bool_byte bit)
       → StepIs k g q ((replicate z false ++ true ∷ bits c v) ++ bit ∷ []) (Done m)
@@ -184,7 +184,7 @@ module _ (k g q : ℕ) (room : q + 2 ≤ g) where
   pub escape_more : (c v : ℕ) (bit : Bool) → v < 2 ^ c → c + 1 < q → esc * 2 ^ k ≤ (2 * v + bool_byte bit + 1) * 2 ^ (q - (c + 1))
       → StepIs k g q ((replicate esc false ++ true ∷ bits c v) ++ bit ∷ []) (More (Escape (c + 1) (2 * v + bool_byte bit)))
   escape_more c v bit b s l =
-      told (Escape (c + 1) (2 * v + bool_byte bit)) ((replicate esc false ++ true ∷ bits c v) ++ bit ∷ []) (s, (bits_push_bool bit c v b).1, l) (more_bits (replicate esc false) bit c v b)
+      fed (Escape (c + 1) (2 * v + bool_byte bit)) ((replicate esc false ++ true ∷ bits c v) ++ bit ∷ []) (s, (bits_push_bool bit c v b).1, l) (more_bits (replicate esc false) bit c v b)
 
   pub escape_whole : (c v : ℕ) (bit : Bool) → v < 2 ^ c → c + 1 ≡ q → esc * 2 ^ k ≤ 2 * v + bool_byte bit + 1
       → StepIs k g q ((replicate esc false ++ true ∷ bits c v) ++ bit ∷ []) (Done (2 * v + bool_byte bit + 1))
@@ -199,7 +199,7 @@ module _ (k g q : ℕ) (room : q + 2 ≤ g) where
   escape_too_small c v bit b s l m more rest has e =
       let n = c + 1 in let d = q - n in let w = 2 * v + bool_byte bit in let p = bits_push_bool bit c v b in
       let a : replicate esc false ++ true ∷ (bits n w ++ more) ≡ golomb k g q m ++ rest = sym (append_assoc (replicate esc false) (true ∷ bits n w) more) ∙ ap (λ x. x ++ more) (more_bits (replicate esc false) bit c v b) ∙ e in
-      let long = escape_behind_zeros k g q (true ∷ (bits n w ++ more)) m rest a in let r = escape_range k g q m has long in
+      let long = escape_after_zeros k g q (true ∷ (bits n w ++ more)) m rest a in let r = escape_range k g q m has long in
       let t = zeros_then_one esc esc (bits n w ++ more) (bits q (m - 1) ++ rest) (a ∙ golomb_long k g q m rest long) in
       let u : q ≡ n + d = omega arith in
       let f = bits_same n w ((m - 1) / 2 ^ d) more (bits d (m - 1) ++ rest) (t.1 ∙ ap (λ x. bits x (m - 1) ++ rest) u ∙ ap (λ x. x ++ rest) (bits_split n d (m - 1)) ∙ append_assoc (bits n ((m - 1) / 2 ^ d)) (bits d (m - 1)) rest) in
@@ -211,11 +211,11 @@ module _ (k g q : ℕ) (room : q + 2 ≤ g) where
       let j : esc ≤ m / 2 ^ k = ltb-false (m / 2 ^ k) esc long in
       let z : m / 2 ^ k < esc = div_below m (2 ^ k) esc (pow_pos k) (omega arith) in omega arith
 
--- a bit goes from what is left to what was told
-pub told_on : (given told left after : List Bool) (bit : Bool) → given ≡ told ++ left → left ≡ bit ∷ after
-    → (told ++ bit ∷ []) ++ after ≡ given
-told_on given told left after bit e f = append_assoc told (bit ∷ []) after ∙ ap (λ z. told ++ z) (sym f) ∙ sym e
+-- a bit goes from what is left to what was fed
+pub fed_on : (given fed left after : List Bool) (bit : Bool) → given ≡ fed ++ left → left ≡ bit ∷ after
+    → (fed ++ bit ∷ []) ++ after ≡ given
+fed_on given fed left after bit e f = append_assoc fed (bit ∷ []) after ∙ ap (λ z. fed ++ z) (sym f) ∙ sym e
 
 -- nothing is left
-pub told_all : (given told left : List Bool) → given ≡ told ++ left → left ≡ [] → told ≡ given
-told_all given told left e f = sym (e ∙ ap (λ z. told ++ z) f ∙ append-nil told)
+pub fed_all : (given fed left : List Bool) → given ≡ fed ++ left → left ≡ [] → fed ≡ given
+fed_all given fed left e f = sym (e ∙ ap (λ z. fed ++ z) f ∙ append-nil fed)

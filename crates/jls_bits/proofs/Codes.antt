@@ -1,4 +1,4 @@
--- Golomb codes: the two kinds, what stands at the front of some bits, and that no code begins another.
+-- Golomb codes: the two kinds, what stands at the start of some bits, and that no code begins another.
 use Rattle.std.proofs.Common.{◌≡◌, ℕ, zero, suc, ◌+◌, ◌-◌, ◌*◌, ◌/◌, ◌%◌, ◌^◌, ◌<◌, ◌≤◌, Bool, true, false, ◌&&◌, eqb, leb, List, [], ◌∷◌, ◌++◌, replicate, refl, sym, ap, ◌∙◌, arith, inl, inr, append_assoc, length, length-append}
 use Rattle.std.proofs.lemmas.List.{append-nil, length-replicate}
 use Rattle.std.proofs.lemmas.Nat.{div-add-mod', shr_high, mod_low, mod_below, pow_pos}
@@ -61,15 +61,15 @@ module _ (k g q : ℕ) where
   golomb_same m n s t h h' e =
       elim (cases_Bool (is_short k g q m)) [ inl a ↦ elim (cases_Bool (is_short k g q n)) [ inl b ↦ (let z = zeros_then_one _ _ _ _ (sym (golomb_short m s a) ∙ e ∙ golomb_short n t b) in let r = bits_same k m n s t z.1 in (short_number k m n z.0 r.0, r.1)) | inr b ↦ (let z = zeros_then_one _ _ _ _ (sym (golomb_short m s a) ∙ e ∙ golomb_long n t b) in let l = ltb-true _ _ a in absurd (omega (arith, z.0, l))) ] | inr a ↦ elim (cases_Bool (is_short k g q n)) [ inl b ↦ (let z = zeros_then_one _ _ _ _ (sym (golomb_long m s a) ∙ e ∙ golomb_short n t b) in let l = ltb-true _ _ b in absurd (omega (arith, z.0, l))) | inr b ↦ (let z = zeros_then_one _ _ _ _ (sym (golomb_long m s a) ∙ e ∙ golomb_long n t b) in let r = bits_same q (m - 1) (n - 1) s t z.1 in let u = escape_range m h a in let v = escape_range n h' b in (escape_number q m n u.0 u.1 v.0 v.1 r.0, r.1)) ] ]
 
-  -- behind more zeros than an escape has stands no code
+  -- after more zeros than an escape has stands no code
   pub many_zeros : (n : ℕ) (more : List Bool) (m : ℕ) (rest : List Bool) → esc < n → replicate n false ++ more ≡ golomb k g q m ++ rest → ⊥
   many_zeros n more m rest l e =
       elim (cases_Bool (is_short k g q m)) [ inl h ↦ (let s = ltb-true (m / 2 ^ k) esc h in zeros_differ n (m / 2 ^ k) more (bits k m ++ rest) (omega arith) (e ∙ golomb_short m rest h)) | inr h ↦ zeros_differ n esc more (bits q (m - 1) ++ rest) l (e ∙ golomb_long m rest h) ]
 
-  -- behind an escape's zeros stands an escape
-  pub escape_behind_zeros : (more : List Bool) (m : ℕ) (rest : List Bool) → replicate esc false ++ more ≡ golomb k g q m ++ rest
+  -- after an escape's zeros stands an escape
+  pub escape_after_zeros : (more : List Bool) (m : ℕ) (rest : List Bool) → replicate esc false ++ more ≡ golomb k g q m ++ rest
       → is_short k g q m ≡ false
-  escape_behind_zeros more m rest e =
+  escape_after_zeros more m rest e =
       elim (cases_Bool (is_short k g q m)) [ inl h ↦ (let s = ltb-true (m / 2 ^ k) esc h in absurd (zeros_differ esc (m / 2 ^ k) more (bits k m ++ rest) s (e ∙ golomb_short m rest h))) | inr h ↦ h ]
 
   -- where zeros and a one stand and then the remainder of a short code, the code is whole

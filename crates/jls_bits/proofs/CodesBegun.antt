@@ -20,13 +20,13 @@ zeros_parted n z s l =
     ap (λ x. replicate x false ++ s) (sym e) ∙ ap (λ x. x ++ s) (sym (replicate-append-replicate z (n - z) false)) ∙ append_assoc (replicate z false) (replicate (n - z) false) s
 
 -- the first bits of a number, where they are known
-front_known : (n c x v : ℕ) → c ≤ n → (x / 2 ^ (n - c)) % 2 ^ c ≡ v % 2 ^ c → bits n x ≡ bits c v ++ bits (n - c) x
-front_known n c x v l e =
+prefix_known : (n c x v : ℕ) → c ≤ n → (x / 2 ^ (n - c)) % 2 ^ c ≡ v % 2 ^ c → bits n x ≡ bits c v ++ bits (n - c) x
+prefix_known n c x v l e =
     let s : c + (n - c) ≡ n = omega arith in
     ap (λ z. bits z x) (sym s) ∙ bits_split c (n - c) x ∙ ap (λ z. z ++ bits (n - c) x) (bits_cong c (x / 2 ^ (n - c)) v e)
 
-front_same : (n c x v : ℕ) (rest : List Bool) → c ≤ n → bits n x ≡ bits c v ++ rest → (x / 2 ^ (n - c)) % 2 ^ c ≡ v % 2 ^ c
-front_same n c x v rest l e =
+prefix_same : (n c x v : ℕ) (rest : List Bool) → c ≤ n → bits n x ≡ bits c v ++ rest → (x / 2 ^ (n - c)) % 2 ^ c ≡ v % 2 ^ c
+prefix_same n c x v rest l e =
     let s : c + (n - c) ≡ n = omega arith in
     (bits_same c (x / 2 ^ (n - c)) v (bits (n - c) x) rest (sym (bits_split c (n - c) x) ∙ ap (λ z. bits z x) s ∙ e)).0
 
@@ -62,15 +62,15 @@ module _ (k g q : ℕ) (room : q + 2 ≤ g) where
     remainder_begins_code e =
         let d = quotient_is e in let s : is_short k g q m ≡ true = lt-ltb (m / 2 ^ k) esc (omega arith) in
         let low : (m / 2 ^ (k - c)) % 2 ^ c ≡ v % 2 ^ c = ap (λ x. x % 2 ^ c) e ∙ mod_low z c v small ∙ sym (mod-eq_of_lt small) in
-        record { rest = bits (k - c) m; code = code_of_short k g q room m s ∙ ap (λ x. replicate x false ++ true ∷ bits k m) d ∙ joined k g q room (replicate z false) (bits k m) (bits (k - c) m) (bits c v) (front_known k c m v (omega arith) low) }
+        record { rest = bits (k - c) m; code = code_of_short k g q room m s ∙ ap (λ x. replicate x false ++ true ∷ bits k m) d ∙ joined k g q room (replicate z false) (bits k m) (bits (k - c) m) (bits c v) (prefix_known k c m v (omega arith) low) }
 
     pub remainder_counted : BeginsCodeOf k g q (replicate z false ++ true ∷ bits c v) m → m / 2 ^ (k - c) ≡ z * 2 ^ c + v
     remainder_counted b =
-        let front = sym (append_assoc (replicate z false) (true ∷ bits c v) b.rest) in
+        let prefix = sym (append_assoc (replicate z false) (true ∷ bits c v) b.rest) in
         elim (cases_Bool (is_short k g q m)) [
           | inl s ↦ (
               let p = zeros_then_one (m / 2 ^ k) z (bits k m) (bits c v ++ b.rest) (sym (code_of_short k g q room m s) ∙ b.code ∙ append_assoc (replicate z false) (true ∷ bits c v) b.rest) in
-              let low = front_same k c m v b.rest (omega arith) p.1 in
+              let low = prefix_same k c m v b.rest (omega arith) p.1 in
               let t : k - c + c ≡ k = omega arith in
               let high : m / 2 ^ (k - c) / 2 ^ c ≡ z = shr-shr m (k - c) c ∙ ap (λ x. m / 2 ^ x) t ∙ p.0 in
               let split = div-add-mod' (m / 2 ^ (k - c)) (2 ^ c) in
@@ -86,7 +86,7 @@ module _ (k g q : ℕ) (room : q + 2 ≤ g) where
     pub escape_begins_code : esc ≤ m / 2 ^ k → (m - 1) / 2 ^ (q - c) ≡ v → BeginsCodeOf k g q (replicate esc false ++ true ∷ bits c v) m
     escape_begins_code l e =
         let s : is_short k g q m ≡ false = le-ltb (m / 2 ^ k) esc l in
-        record { rest = bits (q - c) (m - 1); code = code_of_long k g q room m s ∙ joined k g q room (replicate esc false) (bits q (m - 1)) (bits (q - c) (m - 1)) (bits c v) (front_known q c (m - 1) v (omega arith) (ap (λ x. x % 2 ^ c) e)) }
+        record { rest = bits (q - c) (m - 1); code = code_of_long k g q room m s ∙ joined k g q room (replicate esc false) (bits q (m - 1)) (bits (q - c) (m - 1)) (bits c v) (prefix_known q c (m - 1) v (omega arith) (ap (λ x. x % 2 ^ c) e)) }
 
     pub escape_counted : m ≤ 2 ^ q → BeginsCodeOf k g q (replicate esc false ++ true ∷ bits c v) m
         → (esc ≤ m / 2 ^ k) × ((m - 1) / 2 ^ (q - c) ≡ v)
@@ -98,7 +98,7 @@ module _ (k g q : ℕ) (room : q + 2 ≤ g) where
               absurd (omega (arith, n, p.0)))
           | inr s ↦ (
               let p = zeros_then_one esc esc (bits q (m - 1)) (bits c v ++ b.rest) (sym (code_of_long k g q room m s) ∙ b.code ∙ append_assoc (replicate esc false) (true ∷ bits c v) b.rest) in
-              let low = front_same q c (m - 1) v b.rest (omega arith) p.1 in
+              let low = prefix_same q c (m - 1) v b.rest (omega arith) p.1 in
               let t : c + (q - c) ≡ q = omega arith in
               let some_code = pow_pos q in
               let less : m - 1 < 2 ^ (c + (q - c)) = rw t (omega arith) in

@@ -41,7 +41,7 @@ length_more before x xs h =
     let a = ap length (data_more before x xs h) in let b = length-append (bits (width_after before) x) (bits_read_after x xs) in
     let c = length-bits (width_after before) x in omega (arith, a, b, c)
 
--- the same at a place in the bytes: the bytes behind place i follow `before`
+-- the same at a place in the bytes: the bytes after place i follow `before`
 module _ (before : ℕ) (xs : List ℕ) (i : ℕ) where
   pub data_at_end : length xs ≤ i → bits_read_after before (drop i xs) ≡ []
   data_at_end h = ap (bits_read_after before) (drop_all i xs h) ∙ data_end before

@@ -1,7 +1,7 @@
 -- Where the bits pushed to a `GolombReader` have come to.
 use Rattle.std.proofs.Common.{◌≡◌, ℕ, ◌+◌, ◌^◌, ◌≤◌, Bool, false, [], ◌∷◌, ◌++◌, Decides, eqb, refl, sym, subst}
 use Rattle.jls_bits.specs.Golomb.{golomb, BeginsCodeOf}
-use Rattle.jls_bits.specs.CodeState.{BeginsCode, bits_told}
+use Rattle.jls_bits.specs.CodeState.{BeginsCode, bits_fed}
 use Rattle.jls_bits.specs.GolombReading.{bits_of, IsProgress}
 use Rattle.jls_bits.specs.declared.code_state.CodeState.{CodeState}
 use Rattle.jls_bits.specs.declared.golomb_reader.Progress.{Progress}
@@ -14,7 +14,7 @@ module _ (k g q : ℕ) (room : q + 2 ≤ g) where
   begun_is_open (Open s) i b h = h s refl
   begun_is_open (Done n) i b h = begun_not_whole k g q room (golomb k g q n) b n (record { has = i; code = refl })
   begun_is_open (Refused s x) i b h =
-      let given = bits_told g q s ++ x ∷ [] in begun_not_none k g q room given b (refused_begins_none k g q room given i)
+      let given = bits_fed g q s ++ x ∷ [] in begun_not_none k g q room given b (refused_begins_none k g q room given i)
 
   pub done_allows : (p : Progress) (n m : ℕ) → p ≡ Done n → IsProgress k g q p → m ≤ 2 ^ q
       → Decides (eqb n m) (BeginsCodeOf k g q (bits_of k g q p) m)
@@ -24,5 +24,5 @@ module _ (k g q : ℕ) (room : q + 2 ≤ g) where
   pub refused_allows : (p : Progress) (s : CodeState) (x : Bool) (m : ℕ) → p ≡ Refused s x → IsProgress k g q p → m ≤ 2 ^ q
       → Decides false (BeginsCodeOf k g q (bits_of k g q p) m)
   refused_allows p s bit m e i few =
-      let given = bits_told g q s ++ bit ∷ [] in
+      let given = bits_fed g q s ++ bit ∷ [] in
       subst (λ x. Decides false (BeginsCodeOf k g q (bits_of k g q x) m)) (sym e) (refused_decided k g q room given m (subst (IsProgress k g q) e i) few)

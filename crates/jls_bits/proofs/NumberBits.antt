@@ -16,7 +16,7 @@ unfolding bits
 bits_more zero x h = absurd (omega arith)
 bits_more (suc n) x h = let e : suc n - 1 ≡ n = omega arith in rw e refl
 
--- a number's first bit, and the bits behind it
+-- a number's first bit, and the bits after it
 pub first_bit : (n x : ℕ) (more : List Bool) → 0 < n → bits n x ++ more ≡ eqb (x / 2 ^ (n - 1) % 2) 1 ∷ (bits (n - 1) x ++ more)
 first_bit n x more h = ap (λ z. z ++ more) (bits_more n x h)
 

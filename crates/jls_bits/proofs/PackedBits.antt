@@ -1,4 +1,4 @@
--- Bits that wait for whole bytes, up to 64 of them: the next byte is taken from their front.
+-- Bits that wait for whole bytes, up to 64 of them: the next byte is taken from their start.
 use Rattle.std.proofs.Common.{◌≡◌, ℕ, ◌+◌, ◌-◌, ◌*◌, ◌/◌, ◌%◌, ◌^◌, ◌<◌, ◌≤◌, Bool, false, List, [], ◌∷◌, ◌++◌, replicate, sym, ap, ◌∙◌, subst, arith, append_assoc}
 use mir.Val.{bool_byte}
 use Rattle.std.proofs.lemmas.List.{replicate-append-replicate}
@@ -10,7 +10,7 @@ use Rattle.jls_bits.proofs.Appending.{filled_more}
 use Rattle.jls_bits.proofs.Padding.{zero_bits}
 use Rattle.jls_bits.proofs.ChunkBits.{joined_bits, joined_small, low_bits, shifted}
 
--- a number's bits behind those that wait
+-- a number's bits after those that wait
 module _ (count waiting n value : ℕ) (few : count + n < 64) (small : waiting < 2 ^ count) (low : value < 2 ^ n) where
   pub waiting_shifted : (waiting * 2 ^ n % 18446744073709551616 ≡ waiting * 2 ^ n) × (waiting * 2 ^ n + value < 18446744073709551616)
   waiting_shifted = shifted count n waiting value (omega arith) small low
@@ -22,13 +22,13 @@ module _ (count waiting n value : ℕ) (few : count + n < 64) (small : waiting <
   waiting_bits given =
       ap (λ z. given ++ bits (count + n) (z + value)) waiting_shifted.0 ∙ ap (λ z. given ++ z) (joined_bits count n waiting value low) ∙ sym (append_assoc given (bits count waiting) (bits n value))
 
--- zeros in front of a number's bits
-pub zeros_in_front : (zeros n value : ℕ) → value < 2 ^ n → (bits (zeros + n) value ≡ replicate zeros false ++ bits n value) × (value < 2 ^ (zeros + n))
-zeros_in_front zeros n value low =
+-- zeros before a number's bits
+pub zeros_in_prefix : (zeros n value : ℕ) → value < 2 ^ n → (bits (zeros + n) value ≡ replicate zeros false ++ bits n value) × (value < 2 ^ (zeros + n))
+zeros_in_prefix zeros n value low =
     let e : 0 * 2 ^ n + value ≡ value = omega arith in let none : 0 < 2 ^ zeros = pow_pos zeros in
     (ap (bits (zeros + n)) (sym e) ∙ joined_bits zeros n 0 value low ∙ ap (λ z. z ++ bits n value) (zero_bits zeros), subst (λ z. z < 2 ^ (zeros + n)) e (joined_small zeros n 0 value none low))
 
--- the byte at the front of the waiting bits, and the bits that go on waiting
+-- the byte at the start of the waiting bits, and the bits that go on waiting
 module _ (bytes : List ℕ) (last width left waiting : ℕ) (f : AreFilled bytes) (e : last ≡ last_after 0 bytes) (w : width ≡ width_after last) (h : width ≤ left) (small : waiting < 2 ^ left) where
   abbrev rest : ℕ
   rest = left - width

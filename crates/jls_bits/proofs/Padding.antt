@@ -9,7 +9,7 @@ use Rattle.jls_bits.specs.Pad.{Carries, IsPad, last_bytes, pad_after, pad}
 use Rattle.jls_bits.specs.Appending.{last_after, AreFilled}
 use Rattle.jls_bits.proofs.NumberBits.{length-bits, bits_none, bits_cong, bits_split, cons_same}
 use Rattle.jls_bits.proofs.DataBits.{width_bounds, data_end, whole_end}
-use Rattle.jls_bits.proofs.Appending.{data_append, whole_front, last_append, last_is, many_bits, same_stream, filled_more, below_256}
+use Rattle.jls_bits.proofs.Appending.{data_append, whole_prefix, last_append, last_is, many_bits, same_stream, filled_more, below_256}
 
 -- bytes that carry the bits have as many data bits at least
 carried_length : (given : List Bool) (bytes : List ℕ) → Carries given bytes → length given ≤ length (bits_read bytes)
@@ -17,13 +17,13 @@ carried_length given bytes c = let e = ap length c.data_bits.read in let a = len
 
 -- Other bytes that carry the bits, where they are no more than these bytes, begin these bytes. What these bytes carry and
 -- `tail` are the bits
-carried_front : (given tail : List Bool) (bytes others : List ℕ) → AreFilled bytes → given ≡ bits_read bytes ++ tail → Carries given others
+carried_prefix : (given tail : List Bool) (bytes others : List ℕ) → AreFilled bytes → given ≡ bits_read bytes ++ tail → Carries given others
     → length others ≤ length bytes
     → (rest : List ℕ) × (bytes ≡ others ++ rest) × (length (bits_read others) + 7 * length rest ≤ length (bits_read bytes))
-carried_front given tail bytes others f e c l =
+carried_prefix given tail bytes others f e c l =
     let a : bits_read others ++ [] ≡ bits_read bytes ++ (tail ++ replicate c.zeros false) = append-nil (bits_read others) ∙ c.data_bits.read ∙ ap (λ z. z ++ replicate c.zeros false) e ∙ append_assoc (bits_read bytes) tail (replicate c.zeros false) in
     let r = same_stream 0 others bytes [] (tail ++ replicate c.zeros false) c.are_bytes f.are_bytes c.data_bits.whole f.whole a l in
-    let w = whole_front 0 others r.0 (subst (λ z. is_whole_after 0 z ≡ true) r.1 f.whole) in
+    let w = whole_prefix 0 others r.0 (subst (λ z. is_whole_after 0 z ≡ true) r.1 f.whole) in
     let b = ap length (ap (bits_read_after 0) r.1 ∙ data_append 0 others r.0 w.0) in
     let d = length-append (bits_read others) (bits_read_after (last_after 0 others) r.0) in
     let m = many_bits (last_after 0 others) r.0 w.1 in
@@ -76,15 +76,15 @@ filled_byte : (w : ℕ) (bs : List Bool) → length bs ≡ w → (bits w (value_
 filled_byte w bs e = (ap (λ z. bits z (value_of_bits bs)) (sym e) ∙ bits_of_value bs, subst (λ z. value_of_bits bs < 2 ^ z) e (value_bound bs))
 
 -- bytes that don't end in 0xFF
-not_last : (bytes : List ℕ) → (last_after 0 bytes ≡ 255 → ⊥) → (front : List ℕ) → bytes ≡ front ++ 255 ∷ [] → ⊥
-not_last bytes h front e = h (ap (last_after 0) e ∙ last_append 0 front 255)
+not_last : (bytes : List ℕ) → (last_after 0 bytes ≡ 255 → ⊥) → (prefix : List ℕ) → bytes ≡ prefix ++ 255 ∷ [] → ⊥
+not_last bytes h prefix e = h (ap (last_after 0) e ∙ last_append 0 prefix 255)
 
 -- Whole bytes that carry the bits alone, and don't end in 0xFF, are the pad
 pub whole_pad : (given : List Bool) (bytes : List ℕ) → AreFilled bytes → given ≡ bits_read bytes → (last_after 0 bytes ≡ 255 → ⊥)
     → IsPad given bytes
 whole_pad given bytes f e h = record {
   carries = record { are_bytes = f.are_bytes; zeros = 0; data_bits = record { whole = f.whole; read = sym e ∙ sym (append-nil given) }; last = not_last bytes h };
-  shortest = λ others c. elim (cases_lt (length others) (length bytes)) [ inl l ↦ (let r = carried_front given [] bytes others f (e ∙ sym (append-nil (bits_read bytes))) c (omega arith) in let n = carried_length given others c in let k = ap length e in let z = ap length r.1 in let y = length-append others r.0 in let b = r.2 in absurd (omega (arith, n, k, z, y, b))) | inr l ↦ l ];
+  shortest = λ others c. elim (cases_lt (length others) (length bytes)) [ inl l ↦ (let r = carried_prefix given [] bytes others f (e ∙ sym (append-nil (bits_read bytes))) c (omega arith) in let n = carried_length given others c in let k = ap length e in let z = ap length r.1 in let y = length-append others r.0 in let b = r.2 in absurd (omega (arith, n, k, z, y, b))) | inr l ↦ l ];
 }
 
 -- where they end in 0xFF, a byte of zeros follows
@@ -99,7 +99,7 @@ stuffed_pad given bytes f e h zs =
   where
     all_of : (others : List ℕ) → Carries given others → length others ≤ length bytes → ⊥
     all_of others c l =
-        let r = carried_front given [] bytes others f (e ∙ sym (append-nil (bits_read bytes))) c l in
+        let r = carried_prefix given [] bytes others f (e ∙ sym (append-nil (bits_read bytes))) c l in
         let n = carried_length given others c in let k = ap length e in let b = r.2 in
         let z : r.0 ≡ [] = nil_from_length r.0 (omega (arith, n, k, b)) in
         let same : bytes ≡ others = r.1 ∙ ap (λ x. others ++ x) z ∙ append-nil others in
@@ -113,7 +113,7 @@ partial_pad given left bytes x f e some few small xs =
     let w = width_after (last_after 0 bytes) in let zs = replicate (w - length left) false in let p = filled_more bytes x f small in
     record {
       carries = record { are_bytes = p.0.are_bytes; zeros = w - length left; data_bits = record { whole = p.0.whole; read = p.1 ∙ ap (λ z. bits_read bytes ++ z) xs ∙ sym (append_assoc (bits_read bytes) left zs) ∙ ap (λ z. z ++ zs) (sym e) }; last = not_last (bytes ++ x ∷ []) (λ q. not_ones w x left (w - length left) (width_bounds (last_after 0 bytes)) (sym (last_append 0 bytes x) ∙ q) (omega arith) xs) };
-      shortest = λ others c. elim (cases_lt (length bytes) (length others)) [ inl l ↦ (let a = length-append bytes (x ∷ []) in omega (arith, a)) | inr l ↦ (let r = carried_front given left bytes others f e c l in let n = carried_length given others c in let k = ap length e in let a = length-append (bits_read bytes) left in let b = r.2 in absurd (omega (arith, n, k, a, b))) ];
+      shortest = λ others c. elim (cases_lt (length bytes) (length others)) [ inl l ↦ (let a = length-append bytes (x ∷ []) in omega (arith, a)) | inr l ↦ (let r = carried_prefix given left bytes others f e c l in let n = carried_length given others c in let k = ap length e in let a = length-append (bits_read bytes) left in let b = r.2 in absurd (omega (arith, n, k, a, b))) ];
     }
 
 -- two pads of the same bits are one
@@ -129,7 +129,7 @@ one_pad given xs ys a b =
     let z : r.0 ≡ [] = nil_from_length r.0 (omega (arith, d, k)) in
     sym (r.1 ∙ ap (λ x. xs ++ x) z ∙ append-nil xs)
 
--- the last bytes, behind whole ones
+-- the last bytes, after whole ones
 last_pad : (given pending : List Bool) (bytes : List ℕ) → AreFilled bytes → length pending < width_after (last_after 0 bytes)
     → given ≡ bits_read bytes ++ pending
     → IsPad given (bytes ++ last_bytes (last_after 0 bytes) pending)
@@ -180,7 +180,7 @@ pads_from given pending (b ∷ bs) bytes f few e =
 pub pad_is_pad : (given : List Bool) → IsPad given (pad given)
 pad_is_pad given = pads_from given [] given [] (record { are_bytes = tt; whole = whole_end 0 }) (let w = width_bounds 0 in omega (arith, w)) (ap (λ z. z ++ given) (sym (data_end 0)))
 
--- the bits behind whole bytes, at the top of a byte of zeros
+-- the bits after whole bytes, at the top of a byte of zeros
 top_bits : (w count partial : ℕ) → count < w → partial < 2 ^ count
     → (bits w (partial * 2 ^ (w - count)) ≡ bits count partial ++ replicate (w - count) false) × (partial * 2 ^ (w - count) < 2 ^ w)
 top_bits w count partial l b =

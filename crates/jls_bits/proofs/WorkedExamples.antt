@@ -42,7 +42,7 @@ not_whole_at_ff : is_whole (255 ∷ 255 ∷ []) ≡ false
 unfolding ends_data is_whole_after
 not_whole_at_ff = refl
 
--- 0x80 and more end nothing behind another byte than 0xFF
+-- 0x80 and more end nothing after another byte than 0xFF
 eight_after_80 : bits_read (128 ∷ 129 ∷ []) ≡ true ∷ replicate 7 false ++ true ∷ replicate 6 false ++ true ∷ []
 unfolding bits width_after ends_data bits_read_after
 eight_after_80 = refl

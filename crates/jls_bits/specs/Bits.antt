@@ -41,7 +41,7 @@ is_whole bytes = is_whole_after 0 bytes
 
 -- each byte that follows 0xFF is below 0x80, as its stuffed bit makes it: the same as `is_whole`, said of the list as a whole (T.87 A.1)
 abbrev pub BelowMarkers : List ℕ → Type 0
-BelowMarkers bytes = (front back : List ℕ) (x : ℕ) → bytes ≡ front ++ 0xFF ∷ (x ∷ back) → x < 0x80
+BelowMarkers bytes = (prefix back : List ℕ) (x : ℕ) → bytes ≡ prefix ++ 0xFF ∷ (x ∷ back) → x < 0x80
 
 -- The bytes have data bits, and these are they. Bytes in which one of 0x80 or more follows 0xFF have none (T.87 A.1)
 pub record AreDataBits (bytes : List ℕ) (given : List Bool) : Type 0 where

@@ -11,13 +11,13 @@ AllTaken (Done number) unread = Unit {0}
 AllTaken Refused unread = Unit {0}
 
 -- the answer to several bits at once: which of them were taken, and what the bits so far are
-pub record ChunkStep (k g qbpp : ℕ) (told chunk unread : List Bool) (step : CodeStep) : Type 0 where
+pub record ChunkStep (k g qbpp : ℕ) (fed chunk unread : List Bool) (step : CodeStep) : Type 0 where
   pub taken : List Bool
   pub chunk_is : chunk ≡ taken ++ unread
-  pub step_is : StepIs k g qbpp (told ++ taken) step
+  pub step_is : StepIs k g qbpp (fed ++ taken) step
   pub all : AllTaken step unread
 
--- fewer than `limit` zeros, a one, and k bits behind it don't stand at the front
-abbrev pub NoShortFront : ℕ → ℕ → List Bool → Type 0
-NoShortFront limit k given =
+-- fewer than `limit` zeros, a one, and k bits after it don't stand at the start
+abbrev pub NoShortPrefix : ℕ → ℕ → List Bool → Type 0
+NoShortPrefix limit k given =
     (zeros : ℕ) (low rest : List Bool) → zeros < limit → length low ≡ k → given ≡ replicate zeros false ++ true ∷ (low ++ rest) → ⊥

@@ -8,10 +8,10 @@ use Rattle.jls_bits.specs.declared.code_state.CodeStep.{CodeStep}
 use Rattle.jls_bits.specs.declared.code_state.CodeStep.TheVariants.{More, Done, Refused}
 
 -- the bits that led to the state
-abbrev pub bits_told : ℕ → ℕ → CodeState → List Bool
-bits_told g qbpp (Zeros zeros) = replicate zeros false
-bits_told g qbpp (Remainder quotient count value) = replicate quotient false ++ true ∷ bits count value
-bits_told g qbpp (Escape count value) = replicate (escape_zeros g qbpp) false ++ true ∷ bits count value
+abbrev pub bits_fed : ℕ → ℕ → CodeState → List Bool
+bits_fed g qbpp (Zeros zeros) = replicate zeros false
+bits_fed g qbpp (Remainder quotient count value) = replicate quotient false ++ true ∷ bits count value
+bits_fed g qbpp (Escape count value) = replicate (escape_zeros g qbpp) false ++ true ∷ bits count value
 
 -- The bits of the state begin some code and are not all of it. An escape is open as long as the largest number that its bits can still give
 -- has no short code (T.87 A.5.3)
@@ -43,6 +43,6 @@ RefusesCode k g qbpp given =
 
 -- what the answer of a step means for the bits so far and the new one
 abbrev pub StepIs : ℕ → ℕ → ℕ → List Bool → CodeStep → Type 0
-StepIs k g qbpp given (More state) = IsOpen k g qbpp state × (bits_told g qbpp state ≡ given) × BeginsCode k g qbpp given
+StepIs k g qbpp given (More state) = IsOpen k g qbpp state × (bits_fed g qbpp state ≡ given) × BeginsCode k g qbpp given
 StepIs k g qbpp given (Done number) = (has_golomb k g qbpp number ≡ true) × (golomb k g qbpp number ≡ given)
 StepIs k g qbpp given Refused = RefusesCode k g qbpp given

@@ -4,11 +4,11 @@ use Rattle.jls_bits.specs.Bits.{bits, bits_read}
 use Rattle.jls_bits.specs.Appending.{last_after, AreFilled}
 use Rattle.jls_bits.specs.declared.packing.Packing.{Packing}
 
--- all bits that were appended: those of the whole bytes, and those behind them
+-- all bits that were appended: those of the whole bytes, and those after them
 unfoldable pub bits_put : Packing → List Bool
 bits_put p = bits_read p.bytes.items ++ bits p.count p.waiting
 
--- the bytes have data bits, and there is place for the bits behind them
+-- the bytes have data bits, and there is place for the bits after them
 pub record IsPacking (p : Packing) : Type 0 where
   pub filled : AreFilled p.bytes.items
   pub last : p.last ≡ last_after 0 p.bytes.items

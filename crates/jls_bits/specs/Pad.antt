@@ -9,7 +9,7 @@ pub record Carries (given : List Bool) (bytes : List ℕ) : Type 0 where
   pub are_bytes : AllByRecursion (λ x. x < 256) bytes
   pub zeros : ℕ
   pub data_bits : AreDataBits bytes (given ++ replicate zeros false)
-  pub last : (front : List ℕ) → bytes ≡ front ++ 0xFF ∷ [] → ⊥
+  pub last : (prefix : List ℕ) → bytes ≡ prefix ++ 0xFF ∷ [] → ⊥
 
 -- the shortest such bytes (T.87 A.1)
 pub record IsPad (given : List Bool) (bytes : List ℕ) : Type 0 where

@@ -3,7 +3,7 @@
 ghost use Rattle.std.specs.Prelude.{◌≡◌, ◌↔◌, ◌+◌, ◌≤◌, ◌<◌, ◌^◌, true, false, [], ◌∷◌, ◌++◌, length, replicate, IsTrue, IfSome, IfNone};
 ghost use Rattle.jls_bits.specs.Bits.{bits};
 ghost use Rattle.jls_bits.specs.Golomb.{golomb, has_golomb, NoShortCodeBegins};
-ghost use Rattle.jls_bits.specs.Chunk.{NoShortFront};
+ghost use Rattle.jls_bits.specs.Chunk.{NoShortPrefix};
 
 use std::marker::Model;
 
@@ -104,7 +104,7 @@ impl Chunk {
         }
     }
 
-    /// How many zeros stand before the first one, how many bits behind it, and the number of these. None where there is no one.
+    /// How many zeros stand before the first one, how many bits after it, and the number of these. None where there is no one.
     #[inline(always)]
     pub(crate) fn first_one(&self) -> Option<(u8, u8, u64)>
         ensures some { IfSome result (λ x. self.now ≡ replicate x.0 false ++ true ∷ bits x.1 x.2) }
@@ -118,14 +118,14 @@ impl Chunk {
         Some((self.count - first - 1, first, self.value % (1 << first)))
     }
 
-    /// Takes fewer than `limit` zeros, a one, and the k bits behind it, where they stand at the front: how many zeros,
+    /// Takes fewer than `limit` zeros, a one, and the k bits after it, where they stand at the start: how many zeros,
     /// and the number of the k bits. Else it takes nothing.
     pub(crate) fn take_short(&mut self, limit: u8, k: u8) -> Option<(u8, u32)>
         requires k { k ≤ 16 }
         ensures some { IfSome result (λ x. self.old ≡ replicate x.0 false ++ true ∷ (bits k x.1 ++ self.new)) }
         ensures small { IfSome result (λ x. (x.0 < limit) × (x.1 < 2 ^ k)) }
         ensures none { IfNone result (self.new ≡ self.old) }
-        ensures none_stands { IfNone result (NoShortFront limit k self.old) }
+        ensures none_stands { IfNone result (NoShortPrefix limit k self.old) }
     {
         if self.value == 0 {
             return None;

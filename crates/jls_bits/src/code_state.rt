@@ -1,15 +1,15 @@
-//! A Golomb code as a machine that is told its bits as they come.
+//! A Golomb code as a machine that is fed its bits as they come.
 
 ghost use Rattle.std.specs.Prelude.{◌≡◌, ℕ, ◌↔◌, ◌+◌, ◌^◌, ◌<◌, ◌≤◌, true, false, [], ◌∷◌, ◌++◌, length, replicate, IsTrue, IfSome, IfNone};
 ghost use Rattle.jls_bits.specs.Golomb.{escape_zeros, BeginsCodeOf};
 ghost use Rattle.jls_bits.specs.Bits.{bits};
-ghost use Rattle.jls_bits.specs.CodeState.{bits_told, IsOpen, IsOfShort, StepIs};
+ghost use Rattle.jls_bits.specs.CodeState.{bits_fed, IsOpen, IsOfShort, StepIs};
 ghost use Rattle.jls_bits.specs.Chunk.{ChunkStep};
 ghost use Rattle.jls_bits.specs.declared.code_state.CodeState.TheVariants.{Zeros, Remainder, Escape};
 
 use crate::chunk::Chunk;
 
-/// How far an incomplete code was read. A contract sees its bits so far as `bits_told`.
+/// How far an incomplete code was read. A contract sees its bits so far as `bits_fed`.
 #[derive(Clone, Copy)]
 pub enum CodeState {
     /// So many zeros, and nothing else.
@@ -41,7 +41,7 @@ impl CodeState {
         requires qbpp { (1 ≤ qbpp) × (qbpp ≤ 16) }
         requires g { (qbpp + 2 ≤ g) × (g ≤ 64) }
         requires open { IsOpen k g qbpp self }
-        ensures { StepIs k g qbpp (bits_told g qbpp self ++ bit ∷ []) result }
+        ensures { StepIs k g qbpp (bits_fed g qbpp self ++ bit ∷ []) result }
     {
         match self {
             CodeState::Zeros(zeros) => push_to_zeros(zeros, k, g, qbpp, bit),
@@ -64,8 +64,8 @@ impl CodeState {
         requires qbpp { (1 ≤ qbpp) × (qbpp ≤ 16) }
         requires g { (qbpp + 2 ≤ g) × (g ≤ 64) }
         ensures opened { IfSome result (λ s. IsOpen k g qbpp s) }
-        ensures told { IfSome result (λ s. bits_told g qbpp s ≡ chunk.now) }
-        ensures none { IfNone result ((s : CodeState) → IsOfShort g qbpp s → IsOpen k g qbpp s → bits_told g qbpp s ≡ chunk.now → ⊥) }
+        ensures fed { IfSome result (λ s. bits_fed g qbpp s ≡ chunk.now) }
+        ensures none { IfNone result ((s : CodeState) → IsOfShort g qbpp s → IsOpen k g qbpp s → bits_fed g qbpp s ≡ chunk.now → ⊥) }
     {
         let escape = g - qbpp - 1;
         match chunk.first_one() {
@@ -91,14 +91,14 @@ impl CodeState {
         }
     }
 
-    /// The bits told so far, to be told once more with those that follow. None where they are more than 56.
-    pub fn told(self, g: u8, qbpp: u8) -> Option<Chunk>
+    /// The bits fed so far, to be fed once more with those that follow. None where they are more than 56.
+    pub fn fed(self, g: u8, qbpp: u8) -> Option<Chunk>
         requires qbpp { (1 ≤ qbpp) × (qbpp ≤ 16) }
         requires g { (qbpp + 2 ≤ g) × (g ≤ 64) }
         requires open { (k : ℕ) × IsOpen k g qbpp self }
-        ensures some { IfSome result (λ c. c ≡ bits_told g qbpp self) }
+        ensures some { IfSome result (λ c. c ≡ bits_fed g qbpp self) }
         ensures few { IfSome result (λ c. length c ≤ 56) }
-        ensures none { IfNone result (56 < length (bits_told g qbpp self)) }
+        ensures none { IfNone result (56 < length (bits_fed g qbpp self)) }
     {
         match self {
             CodeState::Zeros(zeros) => {
@@ -112,9 +112,9 @@ impl CodeState {
                 quotient,
                 count,
                 value,
-            } => told_one(quotient, FirstBits { count, value }),
+            } => fed_one(quotient, FirstBits { count, value }),
             CodeState::Escape { count, value } => {
-                told_one(g - qbpp - 1, FirstBits { count, value })
+                fed_one(g - qbpp - 1, FirstBits { count, value })
             }
         }
     }
@@ -127,7 +127,7 @@ impl CodeState {
         requires qbpp { (1 ≤ qbpp) × (qbpp ≤ 16) }
         requires g { (qbpp + 2 ≤ g) × (g ≤ 64) }
         requires open { IsOpen k g qbpp self }
-        ensures { ChunkStep k g qbpp (bits_told g qbpp self) chunk.old chunk.new result }
+        ensures { ChunkStep k g qbpp (bits_fed g qbpp self) chunk.old chunk.new result }
     {
         if let CodeState::Zeros(0) = self {
             if let Some(number) = chunk.take_code(k, g, qbpp) {
@@ -141,14 +141,14 @@ impl CodeState {
         push_bit_by_bit(self, k, g, qbpp, chunk)
     }
 
-    /// Whether the bits told so far begin the code of a number, or are all of it.
+    /// Whether the bits fed so far begin the code of a number, or are all of it.
     pub fn allows(self, k: u8, g: u8, qbpp: u8, mapped: u32) -> bool
         requires k { k ≤ 16 }
         requires qbpp { (1 ≤ qbpp) × (qbpp ≤ 16) }
         requires g { (qbpp + 2 ≤ g) × (g ≤ 64) }
         requires open { IsOpen k g qbpp self }
         requires mapped { mapped ≤ 2 ^ qbpp }
-        ensures { IsTrue result ↔ BeginsCodeOf k g qbpp (bits_told g qbpp self) mapped }
+        ensures { IsTrue result ↔ BeginsCodeOf k g qbpp (bits_fed g qbpp self) mapped }
     {
         let escape = (g - qbpp - 1) as u32;
         match self {
@@ -166,7 +166,7 @@ impl CodeState {
 }
 
 /// So many zeros, a one, and the first bits of a number. None where they are more than 56.
-fn told_one(zeros: u8, number: FirstBits) -> Option<Chunk>
+fn fed_one(zeros: u8, number: FirstBits) -> Option<Chunk>
     requires { number.value < 2 ^ number.count }
     ensures some { IfSome result (λ c. c ≡ replicate zeros false ++ true ∷ bits number.count number.value) }
     ensures few { IfSome result (λ c. length c ≤ 56) }
@@ -180,14 +180,14 @@ fn told_one(zeros: u8, number: FirstBits) -> Option<Chunk>
     }
 }
 
-/// Takes bits from the front of a chunk, one after another.
+/// Takes bits from the start of a chunk, one after another.
 #[inline(never)]
 fn push_bit_by_bit(state: CodeState, k: u8, g: u8, qbpp: u8, chunk: &mut Chunk) -> CodeStep
     requires k { k ≤ 16 }
     requires qbpp { (1 ≤ qbpp) × (qbpp ≤ 16) }
     requires g { (qbpp + 2 ≤ g) × (g ≤ 64) }
     requires open { IsOpen k g qbpp state }
-    ensures { ChunkStep k g qbpp (bits_told g qbpp state) chunk.old chunk.new result }
+    ensures { ChunkStep k g qbpp (bits_fed g qbpp state) chunk.old chunk.new result }
 {
     let mut now = state;
     while let Some(bit) = chunk.take_bit() {
@@ -199,13 +199,13 @@ fn push_bit_by_bit(state: CodeState, k: u8, g: u8, qbpp: u8, chunk: &mut Chunk) 
     CodeStep::More(now)
 }
 
-/// Takes a bit behind zeros alone.
+/// Takes a bit after zeros alone.
 fn push_to_zeros(zeros: u8, k: u8, g: u8, qbpp: u8, bit: bool) -> CodeStep
     requires k { k ≤ 16 }
     requires qbpp { (1 ≤ qbpp) × (qbpp ≤ 16) }
     requires g { (qbpp + 2 ≤ g) × (g ≤ 64) }
     requires open { IsOpen k g qbpp (Zeros zeros) }
-    ensures { StepIs k g qbpp (bits_told g qbpp (Zeros zeros) ++ bit ∷ []) result }
+    ensures { StepIs k g qbpp (bits_fed g qbpp (Zeros zeros) ++ bit ∷ []) result }
 {
     let escape = g - qbpp - 1;
     if bit {
@@ -236,7 +236,7 @@ fn push_to_remainder(quotient: u8, count: u8, value: u32, k: u8, bit: bool) -> C
     requires count { count < k }
     requires value { value < 2 ^ count }
     ensures { (g qbpp : ℕ) → qbpp + 2 ≤ g → quotient < escape_zeros g qbpp
-        → StepIs k g qbpp (bits_told g qbpp (Remainder quotient count value) ++ bit ∷ []) result }
+        → StepIs k g qbpp (bits_fed g qbpp (Remainder quotient count value) ++ bit ∷ []) result }
 {
     let value = 2 * value + bit as u32;
     let count = count + 1;
@@ -264,7 +264,7 @@ fn push_to_escape(number: FirstBits, k: u8, g: u8, qbpp: u8, bit: bool) -> CodeS
     requires qbpp { qbpp ≤ 16 }
     requires g { (qbpp + 2 ≤ g) × (g ≤ 64) }
     requires open { IsOpen k g qbpp (Escape number.count number.value) }
-    ensures { StepIs k g qbpp (bits_told g qbpp (Escape number.count number.value) ++ bit ∷ []) result }
+    ensures { StepIs k g qbpp (bits_fed g qbpp (Escape number.count number.value) ++ bit ∷ []) result }
 {
     let FirstBits { count, value } = number;
     let escape = g - qbpp - 1;

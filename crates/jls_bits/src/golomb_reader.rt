@@ -23,7 +23,7 @@ pub enum GolombStep {
 enum Progress {
     Open(CodeState),
     Done(u32),
-    /// The last bit is of no code behind those before it.
+    /// The last bit is of no code after those before it.
     Refused(CodeState, bool),
 }
 

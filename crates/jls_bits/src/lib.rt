@@ -11,7 +11,7 @@
 //! - `golomb`, `golomb_reader`: the public forms: over a `BitReader`, and bit by bit
 //!
 //! A decoder of an interval keeps a `CodeState`, and computes k, g and qbpp anew. `of_short` finds the state of an incomplete short code
-//! from all its bits at once, and `told` gives these bits back.
+//! from all its bits at once, and `fed` gives these bits back.
 //!
 //! Definitions: `Bits`, `Pad`, `Golomb`, `CodeState`, `Chunk`, `Unread`, `GolombBits`. Inside the crate: `Packing`, `Appending`,
 //! `Unstuffing`, `GolombReading`.

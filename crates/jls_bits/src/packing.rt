@@ -18,7 +18,7 @@ pub(crate) struct Packing {
     bytes: Vec<u8>,
     /// The last of them, or 0 where there is none.
     last: u8,
-    /// How many bits wait behind them.
+    /// How many bits wait after them.
     count: u8,
     /// Those bits.
     waiting: u64,

@@ -10,7 +10,7 @@ use std::marker::Model;
 /// of 0x80 or more that follows 0xFF (ITU-T T.87, A.1).
 #[derive(Drop)]
 pub struct BitReader<'a> {
-    /// The bytes behind `byte`.
+    /// The bytes after `byte`.
     rest: &'a [u8],
     /// The last byte that was taken from the input, or 0 before the first.
     byte: u8,
@@ -33,7 +33,7 @@ impl<'a> Model for BitReader<'a> {
     ghost invariant = { λ r. r.count ≤ 8 };
 }
 
-/// The next byte with data bits, how many of its low bits those are, and the bytes behind it.
+/// The next byte with data bits, how many of its low bits those are, and the bytes after it.
 #[tactic(auto, using(crate::proofs::DataBits::data_laws))]
 fn next_byte(before: u8, bytes: &[u8]) -> Option<(u8, u8, &[u8])>
     ensures bits { IfSome result (λ x. bits_read_after before bytes.now ≡ bits x.1 x.0 ++ bits_read_after x.0 x.2.now) }
@@ -53,7 +53,7 @@ fn next_byte(before: u8, bytes: &[u8]) -> Option<(u8, u8, &[u8])>
     }
 }
 
-/// How many data bits the bytes behind `before` have, up to the first byte that ends the data.
+/// How many data bits the bytes after `before` have, up to the first byte that ends the data.
 #[tactic(auto, using(crate::proofs::DataBits::data_laws))]
 fn count_bits(before: u8, bytes: &[u8]) -> u128
     ensures count { result ≡ length (bits_read_after before bytes.now) }
@@ -71,7 +71,7 @@ fn count_bits(before: u8, bytes: &[u8]) -> u128
     count
 }
 
-/// Whether none of the bytes behind `before` ends the data.
+/// Whether none of the bytes after `before` ends the data.
 #[tactic(auto, using(crate::proofs::DataBits::data_laws))]
 fn is_whole_from(before: u8, bytes: &[u8]) -> bool
     ensures { result ≡ is_whole_after before bytes.now }
@@ -154,6 +154,6 @@ impl<'a> BitReader<'a> {
 /// the first byte of 0x80 or more that follows 0xFF.
 pub fn data_bits_end_at_a_marker()
     ensures whole { (bytes : List ℕ) → (is_whole bytes ≡ true) ↔ BelowMarkers bytes }
-    ensures read { (front back : List ℕ) (x : ℕ) → is_whole (front ++ 0xFF ∷ []) ≡ true → 0x80 ≤ x
-        → bits_read (front ++ 0xFF ∷ (x ∷ back)) ≡ bits_read (front ++ 0xFF ∷ []) }
+    ensures read { (prefix back : List ℕ) (x : ℕ) → is_whole (prefix ++ 0xFF ∷ []) ≡ true → 0x80 ≤ x
+        → bits_read (prefix ++ 0xFF ∷ (x ∷ back)) ≡ bits_read (prefix ++ 0xFF ∷ []) }
 {}

@@ -13,7 +13,7 @@ pub(crate) fn width_after(before: u8) -> u8
     if before == 0xFF { 7 } else { 8 }
 }
 
-/// Whether `next` ends the data behind `before`: with its stuffed bit it would be below 0x80.
+/// Whether `next` ends the data after `before`: with its stuffed bit it would be below 0x80.
 #[tactic(auto, unfolding(crate::specs::Bits::ends_data))]
 pub(crate) fn ends_data(before: u8, next: u8) -> bool
     ensures { result ≡ Bits.ends_data before next }

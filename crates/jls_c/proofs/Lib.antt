@@ -1,7 +1,7 @@
 pub mod Rows
 pub mod Shown
 pub mod Sizes
-pub mod Told
+pub mod Reported
 pub mod Fitting
 pub mod Texts
 pub mod Writes

@@ -15,15 +15,15 @@ use Rattle.jls_c.specs.declared.lines.JlsLine.{JlsLine}
 
 -- ---- a text in a buffer
 
-pub put_as : (p q : PartialPicture) (one told info : JlsInfo) (old new : List ℕ) → p ≡ q → one ≡ told → IsTextPut p one info old new
-    → IsTextPut q told info old new
-put_as p q one told info old new same same_told is =
-    subst (λ (t : JlsInfo). IsTextPut q t info old new) same_told (subst (λ (z : PartialPicture). IsTextPut z one info old new) same is)
+pub put_as : (p q : PartialPicture) (one reported info : JlsInfo) (old new : List ℕ) → p ≡ q → one ≡ reported → IsTextPut p one info old new
+    → IsTextPut q reported info old new
+put_as p q one reported info old new same same_reported is =
+    subst (λ (t : JlsInfo). IsTextPut q t info old new) same_reported (subst (λ (z : PartialPicture). IsTextPut z one info old new) same is)
 
-pub longer_as : (p q : PartialPicture) (one told info : JlsInfo) (room : ℕ) → p ≡ q → one ≡ told → IsTextLonger p one info room
-    → IsTextLonger q told info room
-longer_as p q one told info room same same_told is =
-    subst (λ (t : JlsInfo). IsTextLonger q t info room) same_told (subst (λ (z : PartialPicture). IsTextLonger z one info room) same is)
+pub longer_as : (p q : PartialPicture) (one reported info : JlsInfo) (room : ℕ) → p ≡ q → one ≡ reported → IsTextLonger p one info room
+    → IsTextLonger q reported info room
+longer_as p q one reported info room same same_reported is =
+    subst (λ (t : JlsInfo). IsTextLonger q t info room) same_reported (subst (λ (z : PartialPicture). IsTextLonger z one info room) same is)
 
 -- ---- two texts
 

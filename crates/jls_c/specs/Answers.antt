@@ -13,7 +13,7 @@ use Rattle.jls_c.specs.declared.info.JlsPiece.{JlsPiece}
 abbrev pub BeginsWith : {X : Type 0} → List X → List X → List X → Type 0
 BeginsWith values old new = new ≡ values ++ drop (length values) old
 
--- what a copy gives is told: `info`, and the first records of pieces, as many as there is room for
+-- what a copy gives is reported: `info`, and the first records of pieces, as many as there is room for
 pub record IsChecked (copy : List ℕ) (info : JlsInfo) (old new : List JlsPiece) : Type 0 where
   pub read : ReadCopy
   pub reads : CopyReads copy read
@@ -45,7 +45,7 @@ pub record IsRoomShortForCopy (copy : List ℕ) (info : JlsInfo) (samples status
   pub reads : CopyReads copy read
   pub short : IsRoomShort read info samples statuses
 
--- a copy has no frame, and why is told
+-- a copy has no frame, and why is reported
 pub record HasNoPicture (copy : List ℕ) (info : JlsInfo) : Type 0 where
   pub fault : MarkerFault
   pub offset : ℕ

@@ -1,4 +1,4 @@
--- What a caller is told of a copy beside its lines.
+-- What a caller learns of a copy beside its lines.
 use Rattle.std.specs.Prelude.{ℕ, ◌*◌, ◌==◌, length, count_by}
 use Rattle.jls_copy.specs.ReadCopy.{ReadCopy}
 use Rattle.jls_copy.specs.declared.end.End.{End}
@@ -46,7 +46,7 @@ end_fault (Eoi offset) = 0
 end_fault (Input offset) = 0
 end_fault (Header fault offset) = fault_number fault
 
--- what is told of a partial picture: its shape, and how many lines have each status
+-- what is reported of a partial picture: its shape, and how many lines have each status
 abbrev pub info_of_partial : PartialPicture → JlsInfo
 info_of_partial p = record {
   samples = sample_count p.shape;
@@ -65,7 +65,7 @@ info_of_partial p = record {
   fault = 0;
 }
 
--- what is told of a copy that was read
+-- what is reported of a copy that was read
 abbrev pub info_of : ReadCopy → JlsInfo
 info_of read = record {
   samples = sample_count read.partial.shape;
@@ -103,7 +103,7 @@ with_bytes info bytes = record {
   fault = info.fault;
 }
 
--- what is told of bytes that give nothing: the number of the fault, and where it is
+-- what is reported of bytes that give nothing: the number of the fault, and where it is
 abbrev pub info_of_fault : ℕ → ℕ → JlsInfo
 info_of_fault number offset = record {
   samples = 0;
@@ -122,7 +122,7 @@ info_of_fault number offset = record {
   fault = number;
 }
 
--- what is told of a copy without a frame
+-- what is reported of a copy without a frame
 abbrev pub info_of_none : MarkerFault → ℕ → JlsInfo
 info_of_none fault offset = info_of_fault (fault_number fault) offset
 
@@ -131,7 +131,7 @@ abbrev pub answer_of : CopyFault → ℕ
 answer_of (NoPicture fault offset) = 2
 answer_of OutOfMemory = 1
 
--- and what is told then, over what stood there
+-- and what is reported then, over what stood there
 abbrev pub refused_info : CopyFault → JlsInfo → JlsInfo
 refused_info (NoPicture fault offset) old = info_of_none fault offset
 refused_info OutOfMemory old = old
@@ -142,6 +142,6 @@ kind_number Broken = 0
 kind_number Long = 1
 kind_number Beyond = 2
 
--- what is told of a piece that didn't read as the lines of its interval
+-- what is reported of a piece that didn't read as the lines of its interval
 abbrev pub piece_of : PieceRecord → JlsPiece
 piece_of r = record { offset = r.offset; interval = r.interval; scan = r.scan; kind = kind_number r.kind }

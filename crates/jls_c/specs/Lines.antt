@@ -25,15 +25,15 @@ component_statuses p component = map (line_status p component) (range_with_len 0
 abbrev pub line_statuses : PartialPicture → List ℕ
 line_statuses p = flat_map (component_statuses p) (range_with_len 0 (length p.shape.ids))
 
--- what is told of a line: how many readings it has, and the number of its status
+-- what is reported of a line: how many readings it has, and the number of its status
 abbrev pub line_of : PartialPicture → ℕ → ℕ → JlsLine
 line_of p component line = record { readings = length (readings_at p component line); status = line_status p component line }
 
--- what is told of the lines of a component
+-- what is reported of the lines of a component
 abbrev pub lines_of_component : PartialPicture → ℕ → List JlsLine
 lines_of_component p component = map (line_of p component) (range_with_len 0 p.shape.height)
 
--- what is told of all lines
+-- what is reported of all lines
 abbrev pub lines_of : PartialPicture → List JlsLine
 lines_of p = flat_map (lines_of_component p) (range_with_len 0 (length p.shape.ids))
 

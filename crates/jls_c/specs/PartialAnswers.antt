@@ -13,17 +13,17 @@ use Rattle.jls_c.specs.TextFaults.{info_of_no_partial}
 use Rattle.jls_c.specs.declared.info.JlsInfo.{JlsInfo}
 use Rattle.jls_c.specs.declared.lines.JlsLine.{JlsLine}
 
--- ---- the text of a partial picture, of which this is told
+-- ---- the text of a partial picture, of which this is reported
 
--- the buffer begins with it, and goes on as it was; how many bytes it has is told too
-pub record IsTextPut (p : PartialPicture) (told info : JlsInfo) (old new : List ℕ) : Type 0 where
-  pub info_is : info ≡ with_bytes told (length (text p))
+-- the buffer begins with it, and goes on as it was; how many bytes it has is reported too
+pub record IsTextPut (p : PartialPicture) (reported info : JlsInfo) (old new : List ℕ) : Type 0 where
+  pub info_is : info ≡ with_bytes reported (length (text p))
   pub fits : length (text p) ≤ length old
   pub bytes_are : BeginsWith (text p) old new
 
--- there is too little room for it; how many bytes it has is told too
-pub record IsTextLonger (p : PartialPicture) (told info : JlsInfo) (room : ℕ) : Type 0 where
-  pub info_is : info ≡ with_bytes told (length (text p))
+-- there is too little room for it; how many bytes it has is reported too
+pub record IsTextLonger (p : PartialPicture) (reported info : JlsInfo) (room : ℕ) : Type 0 where
+  pub info_is : info ≡ with_bytes reported (length (text p))
   pub longer : room < length (text p)
 
 -- ---- a copy as a partial picture
@@ -70,7 +70,7 @@ pub record AreOfTwoShapes (first second : List ℕ) : Type 0 where
   pub second_is : IsTextOf second q
   pub two_shapes : has_same_shape p q ≡ false
 
--- these bytes are no text of a partial picture, and their first fault is told
+-- these bytes are no text of a partial picture, and their first fault is reported
 pub record HasNoPartial (bytes : List ℕ) (info : JlsInfo) : Type 0 where
   pub fault : TextFault
   pub found : read_text bytes ≡ Err fault
@@ -84,7 +84,7 @@ pub record HasNoSecond (first second : List ℕ) (info : JlsInfo) : Type 0 where
 
 -- ---- the lines of a partial picture
 
--- they are shown: what is told of each, and the samples
+-- they are shown: what is reported of each, and the samples
 pub record AreLinesShown (p : PartialPicture) (info : JlsInfo) (old_samples new_samples : List ℕ) (old_lines new_lines : List JlsLine) : Type 0 where
   pub info_is : info ≡ info_of_partial p
   pub samples_fit : sample_count p.shape ≤ length old_samples

@@ -1,4 +1,4 @@
--- What a caller is told of bytes that are no partial picture.
+-- What a caller learns of bytes that are no partial picture.
 use Rattle.std.specs.Prelude.{ℕ}
 use Rattle.jls_partial.specs.declared.text_fault.TextFault.{TextFault}
 use Rattle.jls_partial.specs.declared.text_fault.TextFault.TheVariants.{Magic, BadShape, Truncated, Place, Count, Order, Sample, Trailing, OutOfMemory}
@@ -29,7 +29,7 @@ text_fault_offset (Sample offset) = offset
 text_fault_offset (Trailing offset) = offset
 text_fault_offset OutOfMemory = 0
 
--- what is told of bytes with this fault
+-- what is reported of bytes with this fault
 abbrev pub info_of_no_partial : TextFault → JlsInfo
 info_of_no_partial fault = info_of_fault (text_fault_number fault) (text_fault_offset fault)
 

@@ -1,7 +1,7 @@
 //! Checking a copy.
 
 ghost use Rattle.jls_c.specs.Answers.{BeginsWith, IsChecked, HasNoPicture};
-ghost use Rattle.jls_c.specs.Info as told;
+ghost use Rattle.jls_c.specs.Info as reported;
 ghost use Rattle.std.specs.Prelude.{◌≡◌, ◌≢◌, ◌≤◌, length, map, take, IfOk};
 
 use crate::answer::{DONE, NO_PICTURE, OUT_OF_MEMORY};
@@ -13,7 +13,7 @@ use std::alloc::{AllocError, Global};
 
 /// The first records, and at most so many.
 #[tactic(auto, using(crate::proofs::Rows::take_whole))]
-fn front(records: &[PieceRecord], most: usize) -> &[PieceRecord]
+fn prefix(records: &[PieceRecord], most: usize) -> &[PieceRecord]
     ensures { result.now ≡ take most records.now }
 {
     if records.len() <= most {
@@ -23,9 +23,9 @@ fn front(records: &[PieceRecord], most: usize) -> &[PieceRecord]
     }
 }
 
-/// What is told of these records.
+/// What is reported of these records.
 fn pieces_of(alloc: Global, records: &[PieceRecord]) -> Result<Vec<JlsPiece>, AllocError>
-    ensures { IfOk result (λ pieces. pieces.items ≡ map told.piece_of records.now) }
+    ensures { IfOk result (λ pieces. pieces.items ≡ map reported.piece_of records.now) }
 {
     let mut pieces = Vec::new(alloc);
     for record in records {
@@ -35,19 +35,19 @@ fn pieces_of(alloc: Global, records: &[PieceRecord]) -> Result<Vec<JlsPiece>, Al
 }
 
 /// Tells what was read.
-#[tactic(auto, using(crate::proofs::Rows::front_put, crate::proofs::Rows::few_taken))]
+#[tactic(auto, using(crate::proofs::Rows::prefix_put, crate::proofs::Rows::few_taken))]
 fn tell(alloc: Global, read: &CopyRead, info: &mut JlsInfo, pieces: &mut [JlsPiece]) -> u32
     ensures known { result ≤ 1 }
-    ensures info { result ≡ DONE → info.new ≡ told.info_of read.now }
+    ensures info { result ≡ DONE → info.new ≡ reported.info_of read.now }
     ensures pieces { result ≡ DONE
-        → BeginsWith (map told.piece_of (take (length pieces.old) read.now.pieces)) pieces.old pieces.new }
+        → BeginsWith (map reported.piece_of (take (length pieces.old) read.now.pieces)) pieces.old pieces.new }
     ensures out_of_memory { result ≡ OUT_OF_MEMORY → info.new ≡ info.old }
     ensures pieces_kept { result ≢ DONE → pieces.new ≡ pieces.old }
 {
     let Ok(statuses) = statuses_of(alloc, read.partial()) else {
         return OUT_OF_MEMORY;
     };
-    let Ok(first) = pieces_of(alloc, front(read.pieces(), pieces.len())) else {
+    let Ok(first) = pieces_of(alloc, prefix(read.pieces(), pieces.len())) else {
         return OUT_OF_MEMORY;
     };
     *info = info_of(read, &statuses);
@@ -59,7 +59,7 @@ fn tell(alloc: Global, read: &CopyRead, info: &mut JlsInfo, pieces: &mut [JlsPie
 /// Tells what a copy says of its picture, how many of its lines it gives, and how it ended. `pieces` takes the records of the first faulty
 /// pieces, as many as there is room for, and at most 4,096. At `NO_PICTURE` `info` says why there is none. At any answer but `DONE` no
 /// piece is written, and at `OUT_OF_MEMORY` nothing at all.
-#[tactic(auto, using(crate::proofs::Told::checked, crate::proofs::Told::refusals))]
+#[tactic(auto, using(crate::proofs::Reported::checked, crate::proofs::Reported::refusals))]
 #[unsafe(no_mangle)]
 pub extern "C" fn jls_check(
     alloc: Global,

@@ -1,6 +1,6 @@
-//! What a caller is told beside the lines.
+//! What a caller is reported beside the lines.
 
-ghost use Rattle.jls_c.specs.Info as told;
+ghost use Rattle.jls_c.specs.Info as reported;
 ghost use Rattle.jls_c.specs.Lines.{line_statuses};
 ghost use Rattle.std.specs.Prelude.{◌≡◌, ◌==◌, count_by};
 
@@ -47,7 +47,7 @@ fn count_of(statuses: &[u8], number: u8) -> u64
 
 /// The number of an end.
 fn end_number(ended: End) -> u8
-    ensures { result ≡ told.end_number ended }
+    ensures { result ≡ reported.end_number ended }
 {
     match ended {
         End::Eoi(_) => 0,
@@ -58,7 +58,7 @@ fn end_number(ended: End) -> u8
 
 /// Where an end is.
 fn end_offset(ended: End) -> u64
-    ensures { result ≡ told.end_offset ended }
+    ensures { result ≡ reported.end_offset ended }
 {
     match ended {
         End::Eoi(offset) => offset,
@@ -69,7 +69,7 @@ fn end_offset(ended: End) -> u64
 
 /// The number of the fault of an end, or 0.
 fn end_fault(ended: End) -> u8
-    ensures { result ≡ told.end_fault ended }
+    ensures { result ≡ reported.end_fault ended }
 {
     match ended {
         End::Eoi(_) => 0,
@@ -78,10 +78,10 @@ fn end_fault(ended: End) -> u8
     }
 }
 
-/// What is told of a partial picture whose lines have these statuses.
+/// What is reported of a partial picture whose lines have these statuses.
 pub(crate) fn info_of_partial(partial: &Partial, statuses: &[u8]) -> JlsInfo
     requires { statuses.now ≡ line_statuses partial.now }
-    ensures { result ≡ told.info_of_partial partial.now }
+    ensures { result ≡ reported.info_of_partial partial.now }
 {
     let shape = partial.shape();
     let components = shape.ids().len() as u8;
@@ -104,10 +104,10 @@ pub(crate) fn info_of_partial(partial: &Partial, statuses: &[u8]) -> JlsInfo
     }
 }
 
-/// What is told of a copy whose lines have these statuses.
+/// What is reported of a copy whose lines have these statuses.
 pub(crate) fn info_of(read: &CopyRead, statuses: &[u8]) -> JlsInfo
     requires { statuses.now ≡ line_statuses read.now.partial }
-    ensures { result ≡ told.info_of read.now }
+    ensures { result ≡ reported.info_of read.now }
 {
     let mut info = info_of_partial(read.partial(), statuses);
     info.faulty_pieces = read.piece_count();
@@ -117,9 +117,9 @@ pub(crate) fn info_of(read: &CopyRead, statuses: &[u8]) -> JlsInfo
     info
 }
 
-/// What is told of bytes that give nothing.
+/// What is reported of bytes that give nothing.
 pub(crate) fn info_of_fault(fault: u8, offset: u64) -> JlsInfo
-    ensures { result ≡ told.info_of_fault fault offset }
+    ensures { result ≡ reported.info_of_fault fault offset }
 {
     JlsInfo {
         samples: 0,
@@ -141,8 +141,8 @@ pub(crate) fn info_of_fault(fault: u8, offset: u64) -> JlsInfo
 
 /// Tells why a copy gives nothing, and answers its number.
 pub(crate) fn refuse(fault: CopyFault, info: &mut JlsInfo) -> u32
-    ensures answer { result ≡ told.answer_of fault }
-    ensures info { info.new ≡ told.refused_info fault info.old }
+    ensures answer { result ≡ reported.answer_of fault }
+    ensures info { info.new ≡ reported.refused_info fault info.old }
 {
     match fault {
         CopyFault::NoPicture(fault, offset) => {
@@ -155,7 +155,7 @@ pub(crate) fn refuse(fault: CopyFault, info: &mut JlsInfo) -> u32
 
 /// The number of a kind.
 fn kind_number(kind: PieceKind) -> u8
-    ensures { result ≡ told.kind_number kind }
+    ensures { result ≡ reported.kind_number kind }
 {
     match kind {
         PieceKind::Broken => 0,
@@ -164,9 +164,9 @@ fn kind_number(kind: PieceKind) -> u8
     }
 }
 
-/// What is told of a piece.
+/// What is reported of a piece.
 pub(crate) fn piece_of(piece: PieceRecord) -> JlsPiece
-    ensures { result ≡ told.piece_of piece }
+    ensures { result ≡ reported.piece_of piece }
 {
     JlsPiece {
         offset: piece.offset,

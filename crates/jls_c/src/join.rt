@@ -2,7 +2,7 @@
 
 ghost use Rattle.jls_c.specs.PartialAnswers.{IsTextPut, IsTextLonger, AreTexts, IsJoined, IsJoinLonger, AreOfTwoShapes};
 ghost use Rattle.jls_c.specs.PartialAnswers.{HasNoPartial, HasNoSecond};
-ghost use Rattle.jls_c.specs.Info as told;
+ghost use Rattle.jls_c.specs.Info as reported;
 ghost use Rattle.jls_partial.specs.Text.{IsTextOf};
 ghost use Rattle.std.specs.Prelude.{◌≡◌, ◌≢◌, ◌≤◌, ◌<◌, length, List, ℕ};
 
@@ -18,9 +18,9 @@ use std::alloc::Global;
 /// Puts a partial picture into a buffer, and tells of it.
 fn put_partial(alloc: Global, partial: &Partial, info: &mut JlsInfo, out: &mut [u8]) -> u32
     ensures known { result ≤ 3 }
-    ensures done { result ≡ DONE → IsTextPut partial.now (told.info_of_partial partial.now) info.new out.old out.new }
+    ensures done { result ≡ DONE → IsTextPut partial.now (reported.info_of_partial partial.now) info.new out.old out.new }
     ensures short_room { result ≡ SHORT_ROOM
-        → IsTextLonger partial.now (told.info_of_partial partial.now) info.new (length out.old) }
+        → IsTextLonger partial.now (reported.info_of_partial partial.now) info.new (length out.old) }
     ensures answers { result ≢ 2 }
     ensures out_of_memory { result ≡ OUT_OF_MEMORY → info.new ≡ info.old }
     ensures kept { result ≢ DONE → out.new ≡ out.old }
@@ -28,8 +28,8 @@ fn put_partial(alloc: Global, partial: &Partial, info: &mut JlsInfo, out: &mut [
     let Ok(statuses) = statuses_of(alloc, partial) else {
         return OUT_OF_MEMORY;
     };
-    let told = info_of_partial(partial, &statuses);
-    put_text(alloc, partial, told, info, out)
+    let reported = info_of_partial(partial, &statuses);
+    put_text(alloc, partial, reported, info, out)
 }
 
 /// Joins a partial picture, which has the first bytes as its text, and that of the second bytes.
@@ -49,7 +49,7 @@ fn join_second(
     ensures no_second { result ≡ NO_SECOND_PARTIAL → HasNoPartial second.now info.new }
     ensures shapes_differ { result ≡ SHAPES_DIFFER → (bytes : List ℕ) → IsTextOf bytes first → AreOfTwoShapes bytes second.now }
     ensures out_of_memory { result ≡ OUT_OF_MEMORY → info.new ≡ info.old }
-    ensures shape_untold { result ≡ SHAPES_DIFFER → info.new ≡ info.old }
+    ensures shape_unreported { result ≡ SHAPES_DIFFER → info.new ≡ info.old }
     ensures kept { result ≢ DONE → out.new ≡ out.old }
 {
     let mut partial = first;
@@ -79,7 +79,7 @@ pub extern "C" fn jls_join(
     ensures no_second { result ≡ NO_SECOND_PARTIAL → HasNoSecond first.now second.now info.new }
     ensures shapes_differ { result ≡ SHAPES_DIFFER → AreOfTwoShapes first.now second.now }
     ensures out_of_memory { result ≡ OUT_OF_MEMORY → info.new ≡ info.old }
-    ensures shape_untold { result ≡ SHAPES_DIFFER → info.new ≡ info.old }
+    ensures shape_unreported { result ≡ SHAPES_DIFFER → info.new ≡ info.old }
     ensures kept { result ≢ DONE → joined.new ≡ joined.old }
 {
     match Partial::from_bytes(alloc, first) {

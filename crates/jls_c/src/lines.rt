@@ -1,7 +1,7 @@
 //! The lines of a partial picture.
 
 ghost use Rattle.jls_c.specs.Info.{line_count, sample_count};
-ghost use Rattle.jls_c.specs.Lines as told;
+ghost use Rattle.jls_c.specs.Lines as reported;
 ghost use Rattle.jls_c.specs.PartialAnswers.{AreLinesShown, AreLinesMore, AreLinesOfText, AreLinesOfTextMore, HasNoPartial};
 ghost use Rattle.std.specs.Prelude.{◌≡◌, ◌≢◌, ◌≤◌, ◌<◌, ◌++◌, length, IfOk, OnOk};
 
@@ -21,11 +21,11 @@ pub struct JlsLine {
     pub status: u8,
 }
 
-/// What is told of a line.
+/// What is reported of a line.
 fn line_of(partial: &Partial, component: u8, line: u16) -> JlsLine
     requires component_in { component < length partial.now.shape.ids }
     requires line_in { line < partial.now.shape.height }
-    ensures { result ≡ told.line_of partial.now component line }
+    ensures { result ≡ reported.line_of partial.now component line }
 {
     JlsLine {
         readings: partial.count(component, line) as u64,
@@ -33,10 +33,10 @@ fn line_of(partial: &Partial, component: u8, line: u16) -> JlsLine
     }
 }
 
-/// Appends what is told of the lines of a component.
+/// Appends what is reported of the lines of a component.
 fn push_lines(partial: &Partial, component: u8, lines: &mut Vec<JlsLine>) -> Result<(), AllocError>
     requires { component < length partial.now.shape.ids }
-    ensures { OnOk result (lines.new.items ≡ lines.old.items ++ told.lines_of_component partial.now component) }
+    ensures { OnOk result (lines.new.items ≡ lines.old.items ++ reported.lines_of_component partial.now component) }
 {
     for line in 0..partial.shape().height() {
         lines.push(line_of(partial, component, line))?;
@@ -44,10 +44,10 @@ fn push_lines(partial: &Partial, component: u8, lines: &mut Vec<JlsLine>) -> Res
     Ok(())
 }
 
-/// What is told of all lines.
+/// What is reported of all lines.
 #[tactic(auto, using(crate::proofs::Rows::rows_more))]
 fn lines_of(alloc: Global, partial: &Partial) -> Result<Vec<JlsLine>, AllocError>
-    ensures { IfOk result (λ lines. lines.items ≡ told.lines_of partial.now) }
+    ensures { IfOk result (λ lines. lines.items ≡ reported.lines_of partial.now) }
 {
     let mut lines = Vec::new(alloc);
     for component in 0..partial.shape().ids().len() as u8 {

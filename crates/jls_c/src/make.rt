@@ -2,7 +2,7 @@
 
 ghost use Rattle.jls_c.specs.Answers.{HasNoPicture};
 ghost use Rattle.jls_c.specs.PartialAnswers.{IsTextPut, IsTextLonger, IsPartialMade, IsPartialLonger};
-ghost use Rattle.jls_c.specs.Info as told;
+ghost use Rattle.jls_c.specs.Info as reported;
 ghost use Rattle.jls_partial.specs.Partial.{with_source};
 ghost use Rattle.std.specs.Prelude.{◌≡◌, ◌≢◌, ◌≤◌, length};
 
@@ -17,9 +17,9 @@ use std::alloc::Global;
 /// Puts what was read, each reading with this source, into a buffer.
 fn put_read(alloc: Global, read: CopyRead, source: u32, info: &mut JlsInfo, out: &mut [u8]) -> u32
     ensures known { result ≤ 3 }
-    ensures done { result ≡ DONE → IsTextPut (with_source read.partial source) (told.info_of read) info.new out.old out.new }
+    ensures done { result ≡ DONE → IsTextPut (with_source read.partial source) (reported.info_of read) info.new out.old out.new }
     ensures short_room { result ≡ SHORT_ROOM
-        → IsTextLonger (with_source read.partial source) (told.info_of read) info.new (length out.old) }
+        → IsTextLonger (with_source read.partial source) (reported.info_of read) info.new (length out.old) }
     ensures answers { result ≢ NO_PICTURE }
     ensures out_of_memory { result ≡ OUT_OF_MEMORY → info.new ≡ info.old }
     ensures kept { result ≢ DONE → out.new ≡ out.old }
@@ -27,18 +27,18 @@ fn put_read(alloc: Global, read: CopyRead, source: u32, info: &mut JlsInfo, out:
     let Ok(statuses) = statuses_of(alloc, read.partial()) else {
         return OUT_OF_MEMORY;
     };
-    let told = info_of(&read, &statuses);
+    let reported = info_of(&read, &statuses);
     let mut partial = read.into_partial();
     let Ok(()) = partial.mark(source) else {
         return OUT_OF_MEMORY;
     };
-    put_text(alloc, &partial, told, info, out)
+    put_text(alloc, &partial, reported, info, out)
 }
 
 /// Reads a copy, which may be damaged, and writes what it gives as a partial picture, each of its readings with this source. At `DONE`
 /// and `SHORT_ROOM` `info` is what the copy says, and `bytes` how many bytes the partial picture has. At `NO_PICTURE` it says why there
 /// is none. At any answer but `DONE` nothing is written beside `info`, and at `OUT_OF_MEMORY` nothing at all.
-#[tactic(auto, using(crate::proofs::Told::partial_made, crate::proofs::Told::partial_longer, crate::proofs::Told::refusals))]
+#[tactic(auto, using(crate::proofs::Reported::partial_made, crate::proofs::Reported::partial_longer, crate::proofs::Reported::refusals))]
 #[unsafe(no_mangle)]
 pub extern "C" fn jls_partial(
     alloc: Global,

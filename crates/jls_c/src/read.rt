@@ -57,7 +57,7 @@ fn show(
 /// Reads a copy, which may be damaged. At `DONE` and `SHORT_ROOM` `info` is what the copy says. At `NO_PICTURE` it says why there is none.
 /// At `SHORT_ROOM` it says how much room is needed: `samples` numbers of 16 bits, and `lines` bytes. At any answer but `DONE` nothing is
 /// written beside `info`, and at `OUT_OF_MEMORY` nothing at all.
-#[tactic(auto, using(crate::proofs::Told::copy_shown, crate::proofs::Told::room_short, crate::proofs::Told::refusals))]
+#[tactic(auto, using(crate::proofs::Reported::copy_shown, crate::proofs::Reported::room_short, crate::proofs::Reported::refusals))]
 #[unsafe(no_mangle)]
 pub extern "C" fn jls_read(
     alloc: Global,

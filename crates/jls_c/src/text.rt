@@ -1,7 +1,7 @@
 //! Partial pictures as bytes in a buffer.
 
 ghost use Rattle.jls_c.specs.PartialAnswers.{IsTextPut, IsTextLonger, HasNoPartial};
-ghost use Rattle.jls_c.specs.TextFaults as told;
+ghost use Rattle.jls_c.specs.TextFaults as reported;
 ghost use Rattle.jls_partial.specs.TextReading.{Fails, read_text};
 ghost use Rattle.std.specs.Prelude.{◌≡◌, ◌≢◌, ◌≤◌, length, List, ℕ};
 
@@ -10,17 +10,17 @@ use crate::info::{JlsInfo, info_of_fault};
 use jls_partial::{Partial, TextFault};
 use std::alloc::Global;
 
-/// Puts the text of a partial picture into a buffer, and tells what is told of it, with how many bytes the text has.
+/// Puts the text of a partial picture into a buffer, and tells what is reported of it, with how many bytes the text has.
 pub(crate) fn put_text(
     alloc: Global,
     partial: &Partial,
-    told: JlsInfo,
+    reported: JlsInfo,
     info: &mut JlsInfo,
     out: &mut [u8],
 ) -> u32
     ensures known { result ≤ 3 }
-    ensures done { result ≡ DONE → IsTextPut partial.now told info.new out.old out.new }
-    ensures short_room { result ≡ SHORT_ROOM → IsTextLonger partial.now told info.new (length out.old) }
+    ensures done { result ≡ DONE → IsTextPut partial.now reported info.new out.old out.new }
+    ensures short_room { result ≡ SHORT_ROOM → IsTextLonger partial.now reported info.new (length out.old) }
     ensures answers { result ≢ 2 }
     ensures out_of_memory { result ≡ OUT_OF_MEMORY → info.new ≡ info.old }
     ensures kept { result ≢ DONE → out.new ≡ out.old }
@@ -29,7 +29,7 @@ pub(crate) fn put_text(
         return OUT_OF_MEMORY;
     };
     let count = text.len();
-    *info = told;
+    *info = reported;
     info.bytes = count as u64;
     if count > out.len() {
         return SHORT_ROOM;
@@ -40,7 +40,7 @@ pub(crate) fn put_text(
 
 /// The number of a fault.
 fn fault_number(fault: TextFault) -> u8
-    ensures { result ≡ told.text_fault_number fault }
+    ensures { result ≡ reported.text_fault_number fault }
 {
     match fault {
         TextFault::Magic(_) => 20,
@@ -57,7 +57,7 @@ fn fault_number(fault: TextFault) -> u8
 
 /// Where a fault is.
 fn fault_offset(fault: TextFault) -> u64
-    ensures { result ≡ told.text_fault_offset fault }
+    ensures { result ≡ reported.text_fault_offset fault }
 {
     match fault {
         TextFault::Magic(offset) => offset,
@@ -72,11 +72,11 @@ fn fault_offset(fault: TextFault) -> u64
     }
 }
 
-/// Tells why bytes are no partial picture, and answers this number. After want of memory nothing is told.
+/// Tells why bytes are no partial picture, and answers this number. After want of memory nothing is reported.
 #[tactic(auto, using(crate::proofs::Texts::no_partial))]
 pub(crate) fn refuse_text(fault: TextFault, number: u32, info: &mut JlsInfo) -> u32
     requires { 4 ≤ number }
-    ensures answers { result ≡ told.text_answer fault number }
+    ensures answers { result ≡ reported.text_answer fault number }
     ensures none { result ≡ number → (bytes : List ℕ) → Fails fault (read_text bytes) → HasNoPartial bytes info.new }
     ensures out_of_memory { result ≢ number → info.new ≡ info.old }
 {

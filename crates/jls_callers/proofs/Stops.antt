@@ -26,16 +26,16 @@ Shows Whole count reads = Unit {0}
 Shows Failed count reads = list_any is_failed_read reads ≡ true
 Shows Turns count reads = (length reads ≡ 4294967295) × (4294967295 ≤ count)
 
-failed_behind : (on : List Event) → list_any is_failed_read (on ++ read_failed ∷ []) ≡ true
-failed_behind [] = refl
-failed_behind (opened name ∷ on) = failed_behind on
-failed_behind (not_opened name ∷ on) = failed_behind on
-failed_behind (gave room bytes ∷ on) = failed_behind on
-failed_behind (read_failed ∷ on) = refl
-failed_behind (created name ∷ on) = failed_behind on
-failed_behind (not_created name ∷ on) = failed_behind on
-failed_behind (took bytes ∷ on) = failed_behind on
-failed_behind (write_failed ∷ on) = failed_behind on
+failed_after : (on : List Event) → list_any is_failed_read (on ++ read_failed ∷ []) ≡ true
+failed_after [] = refl
+failed_after (opened name ∷ on) = failed_after on
+failed_after (not_opened name ∷ on) = failed_after on
+failed_after (gave room bytes ∷ on) = failed_after on
+failed_after (read_failed ∷ on) = refl
+failed_after (created name ∷ on) = failed_after on
+failed_after (not_created name ∷ on) = failed_after on
+failed_after (took bytes ∷ on) = failed_after on
+failed_after (write_failed ∷ on) = failed_after on
 
 module _ (E : List ℕ → Type 0) where
   -- each read that went on gave a byte at least
@@ -90,7 +90,7 @@ module _ (E : List ℕ → Type 0) where
   shown reads bytes Whole h = tt
   shown reads bytes Failed h =
       let last = last_of bytes h.last Failed h.stops in
-      ap (list_any is_failed_read) (h.reads_are ∙ ap (λ (x : List Event). h.on ++ x) last) ∙ failed_behind h.on
+      ap (list_any is_failed_read) (h.reads_are ∙ ap (λ (x : List Event). h.on ++ x) last) ∙ failed_after h.on
   shown reads bytes Turns h =
       let last = last_of bytes h.last Turns h.stops in
       let on : reads ≡ h.on = h.reads_are ∙ ap (λ (x : List Event). h.on ++ x) last ∙ append-nil h.on in
@@ -128,16 +128,16 @@ input_whole_if_few _ _ known _ reads (by_copy source bytes read stop copied is) 
     let within : length bytes ≤ length known = k in
     whole_if_few stop (length bytes) reads h (λ many. absurd (omega (arith, many, within, below)))
 
--- where the count is that of a front of known bytes, and the stop is not whole
-pub only_turns : (stop : ReadStop) (count : ℕ) (reads : List Event) (bytes front behind : List ℕ) → Shows stop count reads
+-- where the count is that of a prefix of known bytes, and the stop is not whole
+pub only_turns : (stop : ReadStop) (count : ℕ) (reads : List Event) (bytes prefix following : List ℕ) → Shows stop count reads
     → list_any is_failed_read reads ≡ false → (stop ≡ Whole → ⊥)
-    → count ≡ length front → bytes ≡ front ++ behind → (stop ≡ Turns) × (4294967295 ≤ length bytes)
-only_turns Whole count reads bytes front behind h none not n is = absurd (not refl)
-only_turns Failed count reads bytes front behind h none not n is = absurd (false≢true (sym none ∙ h))
-only_turns Turns count reads bytes front behind h none not n is =
-    let l : length bytes ≡ length (front ++ behind) = ap length is in
+    → count ≡ length prefix → bytes ≡ prefix ++ following → (stop ≡ Turns) × (4294967295 ≤ length bytes)
+only_turns Whole count reads bytes prefix following h none not n is = absurd (not refl)
+only_turns Failed count reads bytes prefix following h none not n is = absurd (false≢true (sym none ∙ h))
+only_turns Turns count reads bytes prefix following h none not n is =
+    let l : length bytes ≡ length (prefix ++ following) = ap length is in
     let most = h.1 in
-    (refl, omega (arith, most, n, l, length-append front behind))
+    (refl, omega (arith, most, n, l, length-append prefix following))
 
 -- ---- a copy that a station takes
 
@@ -155,7 +155,7 @@ stop_shows : (f : TakeFault) (reads : List Event) → CopyStops f reads → Refu
 stop_shows _ _ (taking.no_picture bytes f offset reads is none) = tt
 stop_shows _ _ (taking.not_read bytes stop f offset reads not is none) = shown IsCopyDone reads bytes stop is
 stop_shows _ _ (taking.between_reads reads is) = tt
-stop_shows _ _ (taking.behind_the_last bytes stop reads is) = tt
+stop_shows _ _ (taking.after_the_last bytes stop reads is) = tt
 
 pub refusal_shows : (source : Option ℕ) (old new : PartialPicture) (f : TakeFault) (reads : List Event) → RefusesCopy source old new f reads
     → RefusalShows f reads

@@ -1,4 +1,4 @@
--- What is said of the front of a copy, and what follows for the whole.
+-- What is said of the prefix of a copy, and what follows for the whole.
 use Rattle.std.proofs.Common.{◌≡◌, ◌⊎◌, inl, inr, ℕ, List, [], ◌++◌, append-nil, Option, Some, None, true, refl, sym, ap, ◌∙◌, subst}
 use Rattle.jls_partial.specs.Partial.{PartialPicture, has_same_shape}
 use Rattle.jls_copy.specs.Course.{Course}
@@ -10,7 +10,7 @@ use Rattle.jls_copy.specs.declared.reader.CopyFault.TheVariants as copy
 use Rattle.jls_marker.specs.declared.fault.MarkerFault.{MarkerFault}
 use Rattle.jls_station.specs.Given.{marked}
 use Rattle.jls_station.specs.Inputs.{IsCopyDone}
-use Rattle.jls_station.specs.KnownCopies.{IsFrontOf}
+use Rattle.jls_station.specs.KnownCopies.{IsPrefixOf}
 use Rattle.jls_station.specs.declared.input.ReadStop.TheVariants.{Whole}
 
 -- a source or none changes no shape
@@ -19,16 +19,16 @@ shape_kept None old p = refl
 shape_kept (Some source) old p = refl
 
 module _ (one : OneCourse) (stay : FinalEndsStay) where
-  all_read : (front behind : List ℕ) (read : ReadCopy) → IsCopyDone front ⊎ (behind ≡ []) → CopyReads front read
-      → CopyReads (front ++ behind) read
-  all_read front behind read (inr none) h =
-      subst (λ (t : List ℕ). CopyReads t read) (sym (append-nil front) ∙ ap (λ (t : List ℕ). front ++ t) (sym none)) h
-  all_read front behind read (inl (c, is, final)) h =
-      let same : c ≡ h.course = one front c h.course is h.is_course in
+  all_read : (prefix following : List ℕ) (read : ReadCopy) → IsCopyDone prefix ⊎ (following ≡ []) → CopyReads prefix read
+      → CopyReads (prefix ++ following) read
+  all_read prefix following read (inr none) h =
+      subst (λ (t : List ℕ). CopyReads t read) (sym (append-nil prefix) ∙ ap (λ (t : List ℕ). prefix ++ t) (sym none)) h
+  all_read prefix following read (inl (c, is, final)) h =
+      let same : c ≡ h.course = one prefix c h.course is h.is_course in
       let ends : is_final_end h.course.end ≡ true = ap (λ (x : Course). is_final_end x.end) (sym same) ∙ sym final in
       record {
         course = h.course;
-        is_course = stay front behind h.course h.is_course ends;
+        is_course = stay prefix following h.course h.is_course ends;
         shape = h.shape;
         framed = h.framed;
         outcomes = h.outcomes;
@@ -41,21 +41,21 @@ module _ (one : OneCourse) (stay : FinalEndsStay) where
         ended_is = h.ended_is;
       }
 
-  none_given : (front behind : List ℕ) (f : MarkerFault) (offset : ℕ) → IsCopyDone front ⊎ (behind ≡ [])
-      → CopyGivesNone front (copy.NoPicture f offset) → CopyGivesNone (front ++ behind) (copy.NoPicture f offset)
-  none_given front behind f offset (inr none) h =
-      subst (λ (t : List ℕ). CopyGivesNone t (copy.NoPicture f offset)) (sym (append-nil front) ∙ ap (λ (t : List ℕ). front ++ t) (sym none)) h
-  none_given front behind f offset (inl (c, is, final)) (d, is_course, framed, fault_is) =
-      let same : c ≡ d = one front c d is is_course in
+  none_given : (prefix following : List ℕ) (f : MarkerFault) (offset : ℕ) → IsCopyDone prefix ⊎ (following ≡ [])
+      → CopyGivesNone prefix (copy.NoPicture f offset) → CopyGivesNone (prefix ++ following) (copy.NoPicture f offset)
+  none_given prefix following f offset (inr none) h =
+      subst (λ (t : List ℕ). CopyGivesNone t (copy.NoPicture f offset)) (sym (append-nil prefix) ∙ ap (λ (t : List ℕ). prefix ++ t) (sym none)) h
+  none_given prefix following f offset (inl (c, is, final)) (d, is_course, framed, fault_is) =
+      let same : c ≡ d = one prefix c d is is_course in
       let ends : is_final_end d.end ≡ true = ap (λ (x : Course). is_final_end x.end) (sym same) ∙ sym final in
-      (d, stay front behind d is_course ends, framed, fault_is)
+      (d, stay prefix following d is_course ends, framed, fault_is)
 
   -- what was read of known bytes as whole is what all of them give
-  pub whole_reads : (bytes front : List ℕ) (read : ReadCopy) → IsFrontOf bytes front Whole → CopyReads front read → CopyReads bytes read
-  whole_reads bytes front read is h =
-      subst (λ (t : List ℕ). CopyReads t read) (sym is.bytes_are) (all_read front is.behind read (is.enough refl) h)
+  pub whole_reads : (bytes prefix : List ℕ) (read : ReadCopy) → IsPrefixOf bytes prefix Whole → CopyReads prefix read → CopyReads bytes read
+  whole_reads bytes prefix read is h =
+      subst (λ (t : List ℕ). CopyReads t read) (sym is.bytes_are) (all_read prefix is.following read (is.enough refl) h)
 
-  pub whole_gives_none : (bytes front : List ℕ) (f : MarkerFault) (offset : ℕ) → IsFrontOf bytes front Whole
-      → CopyGivesNone front (copy.NoPicture f offset) → CopyGivesNone bytes (copy.NoPicture f offset)
-  whole_gives_none bytes front f offset is h =
-      subst (λ (t : List ℕ). CopyGivesNone t (copy.NoPicture f offset)) (sym is.bytes_are) (none_given front is.behind f offset (is.enough refl) h)
+  pub whole_gives_none : (bytes prefix : List ℕ) (f : MarkerFault) (offset : ℕ) → IsPrefixOf bytes prefix Whole
+      → CopyGivesNone prefix (copy.NoPicture f offset) → CopyGivesNone bytes (copy.NoPicture f offset)
+  whole_gives_none bytes prefix f offset is h =
+      subst (λ (t : List ℕ). CopyGivesNone t (copy.NoPicture f offset)) (sym is.bytes_are) (none_given prefix is.following f offset (is.enough refl) h)

@@ -31,9 +31,9 @@ pub fn take_known<S: Source>(
         → IsErrOf result (TakeFault.NoPicture f offset) → CopyGivesNone bytes (CopyFault.NoPicture f offset) }
     ensures not_read { (bytes : List ℕ) (stop : ReadStop) (count : ℕ) → S.remaining device.old ≡ Some bytes
         → IsErrOf result (TakeFault.Read stop count)
-        → (front behind : List ℕ) × (bytes ≡ front ++ behind) × (count ≡ length front) }
+        → (prefix following : List ℕ) × (bytes ≡ prefix ++ following) × (count ≡ length prefix) }
     ensures other_shape { (bytes : List ℕ) → S.remaining device.old ≡ Some bytes → IsErrOf result TakeFault.ShapeDiffers
-        → (front behind : List ℕ) × (read : ReadCopy) × (bytes ≡ front ++ behind) × CopyReads front read
+        → (prefix following : List ℕ) × (read : ReadCopy) × (bytes ≡ prefix ++ following) × CopyReads prefix read
         × (has_same_shape station.old read.partial ≡ false) }
 {
     copies_have_one_course();

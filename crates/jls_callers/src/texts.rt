@@ -50,15 +50,15 @@ pub fn take_its_text(
 pub fn take_cut_text(
     station: &mut Station,
     other: &Station,
-    front: &[u8],
+    prefix: &[u8],
 ) -> Result<(), MergeTextFault>
-    ensures { (behind : List ℕ) (copies over more further : List SourcedCopy) → IsTextOf (front.now ++ behind) other.now
+    ensures { (following : List ℕ) (copies over more further : List SourcedCopy) → IsTextOf (prefix.now ++ following) other.now
         → Collected station.old copies over → Collected other.now more further
         → OnErr result (Collected station.new copies (over ++ (more ++ further))) }
 {
     cut_texts_are_held();
     let _other = other.partial();
-    station.take_text(front)
+    station.take_text(prefix)
 }
 
 /// A station refuses a text of another shape, whatever text it is.

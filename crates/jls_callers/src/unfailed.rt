@@ -38,7 +38,7 @@ pub fn take_unfailed<S: Source>(
     ensures no_picture { (bytes : List ℕ) (f : MarkerFault) (offset : ℕ) → S.remaining device.old ≡ Some bytes
         → IsErrOf result (TakeFault.NoPicture f offset) → CopyGivesNone bytes (CopyFault.NoPicture f offset) }
     ensures other_shape { (bytes : List ℕ) → S.remaining device.old ≡ Some bytes → IsErrOf result TakeFault.ShapeDiffers
-        → (front behind : List ℕ) × (read : ReadCopy) × (bytes ≡ front ++ behind) × CopyReads front read
+        → (prefix following : List ℕ) × (read : ReadCopy) × (bytes ≡ prefix ++ following) × CopyReads prefix read
         × (has_same_shape station.old read.partial ≡ false) }
     ensures not_read { (bytes : List ℕ) (stop : ReadStop) (count : ℕ) → S.remaining device.old ≡ Some bytes
         → IsErrOf result (TakeFault.Read stop count) → GrewBy (λ reads. list_any is_failed_read reads ≡ false

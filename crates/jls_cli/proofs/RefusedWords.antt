@@ -4,7 +4,7 @@ use Rattle.std.specs.Prelude.{codes}
 use Rattle.std.proofs.lemmas.List.{append-nil}
 use Rattle.clap.specs.declared.error.kind.ErrorKind.{ErrorKind}
 use Rattle.jls_io.specs.Event.{History, GrewBy}
-use Rattle.jls_io.specs.Writing.{Wrote, WroteFront, Printed}
+use Rattle.jls_io.specs.Writing.{Wrote, WrotePrefix, Printed}
 use Rattle.jls_io.specs.FaultLines.{not_written_line, out_of_memory_line}
 use Rattle.jls_cli.specs.Answers.{is_help, is_want_of_memory, ran_out, usage, help, cut, Answered}
 
@@ -19,7 +19,7 @@ module _ (program : List ℕ) (k : ErrorKind) (report report' faults faults' : H
   pub answer_help : (text : List ℕ) → is_help k ≡ true → GrewBy (Wrote text) report report' → Answered program k 0 report report' faults faults
   answer_help text n h = record { report_events = h.events; fault_events = []; report_is = h.grew; faults_are = sym (append-nil faults); answer = help k text h.events n h.they_are }
 
-  pub answer_cut : (text : List ℕ) (count : ℕ) → is_help k ≡ true → GrewBy (WroteFront text count) report report'
+  pub answer_cut : (text : List ℕ) (count : ℕ) → is_help k ≡ true → GrewBy (WrotePrefix text count) report report'
       → GrewBy (Printed (not_written_line program (codes "-") count)) faults faults'
       → Answered program k 4 report report' faults faults'
   answer_cut text count n h f = record { report_events = h.events; fault_events = f.events; report_is = h.grew; faults_are = f.grew; answer = cut k text count h.events f.events n h.they_are f.they_are }

@@ -108,9 +108,9 @@ pub version_of_check : AreRefused (codes "jls-salvage" ∷ codes "check" ∷ cod
 unfolding clap_on_literals
 version_of_check = refused (codes "jls-salvage" ∷ codes "check" ∷ codes "--version" ∷ []) kind.DisplayVersion refl refl
 
-pub version_behind_file : AreRefused (codes "jls-salvage" ∷ codes "check" ∷ codes "A" ∷ codes "--version" ∷ []) kind.DisplayVersion
+pub version_after_file : AreRefused (codes "jls-salvage" ∷ codes "check" ∷ codes "A" ∷ codes "--version" ∷ []) kind.DisplayVersion
 unfolding clap_on_literals
-version_behind_file = refused (codes "jls-salvage" ∷ codes "check" ∷ codes "A" ∷ codes "--version" ∷ []) kind.DisplayVersion refl refl
+version_after_file = refused (codes "jls-salvage" ∷ codes "check" ∷ codes "A" ∷ codes "--version" ∷ []) kind.DisplayVersion refl refl
 
 -- a format that there is not
 pub as_gif-nothing : AskForNothing (as_format (codes "gif"))

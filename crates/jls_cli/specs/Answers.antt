@@ -3,7 +3,7 @@ use Rattle.std.specs.Prelude.{◌≡◌, ℕ, Bool, true, false, List, [], ◌++
 use Rattle.clap.specs.declared.error.kind.ErrorKind.{ErrorKind}
 use Rattle.clap.specs.declared.error.kind.ErrorKind.TheVariants as kind
 use Rattle.jls_io.specs.Event.{Event, History}
-use Rattle.jls_io.specs.Writing.{Wrote, WroteFront, Printed}
+use Rattle.jls_io.specs.Writing.{Wrote, WrotePrefix, Printed}
 use Rattle.jls_io.specs.FaultLines.{not_written_line, out_of_memory_line}
 
 -- clap itself ran out of memory
@@ -23,7 +23,7 @@ pub data Answer (program : List ℕ) : ErrorKind → ℕ → List Event → List
   usage : (k : ErrorKind) (text : List ℕ) (faults : List Event)
       → is_want_of_memory k ≡ false → is_help k ≡ false → Printed text faults → Answer program k 2 [] faults
   help : (k : ErrorKind) (text : List ℕ) (report : List Event) → is_help k ≡ true → Wrote text report → Answer program k 0 report []
-  cut : (k : ErrorKind) (text : List ℕ) (count : ℕ) (report faults : List Event) → is_help k ≡ true → WroteFront text count report
+  cut : (k : ErrorKind) (text : List ℕ) (count : ℕ) (report faults : List Event) → is_help k ≡ true → WrotePrefix text count report
       → Printed (not_written_line program (codes "-") count) faults → Answer program k 4 report faults
 
 -- the histories of the two outputs grew by the events of such an answer

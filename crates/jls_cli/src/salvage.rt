@@ -1,6 +1,6 @@
 //! The words of `jls-salvage`.
 //!
-//! - `command`: what clap is told to take (`matches`)
+//! - `command`: what clap is to take (`matches`)
 //! - `texts`: the texts of help
 //! - `asked`: what the words ask for: one value, `Asked`, by one function of what clap reads
 

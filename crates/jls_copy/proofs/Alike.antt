@@ -16,50 +16,50 @@ and_false : (b : Bool) → (b && false) ≡ false
 and_false true = refl
 and_false false = refl
 
-and_front : (b c d : Bool) → (c ≡ false → d ≡ false) → (b && c) ≡ false → (b && d) ≡ false
-and_front true c d f e = f e
-and_front false c d f e = refl
+and_prefix : (b c d : Bool) → (c ≡ false → d ≡ false) → (b && c) ≡ false → (b && d) ≡ false
+and_prefix true c d f e = f e
+and_prefix false c d f e = refl
 
 unwhole_append : (before : ℕ) (xs ys : List ℕ) → is_whole_after before xs ≡ false → is_whole_after before (xs ++ ys) ≡ false
 unfolding is_whole_after
 unwhole_append before [] ys e = cc
-unwhole_append before (x ∷ xs) ys e = and_front (not (ends_data before x)) (is_whole_after x xs) (is_whole_after x (xs ++ ys)) (unwhole_append x xs ys) e
+unwhole_append before (x ∷ xs) ys e = and_prefix (not (ends_data before x)) (is_whole_after x xs) (is_whole_after x (xs ++ ys)) (unwhole_append x xs ys) e
 
 two_break : (before : ℕ) (xs ys : List ℕ) → is_whole_after before (xs ++ (255 ∷ 255 ∷ ys)) ≡ false
 unfolding is_whole_after ends_data
 two_break before [] ys = and_false (not (ends_data before 255))
 two_break before (x ∷ xs) ys = ap (λ t. not (ends_data before x) && t) (two_break x xs ys) ∙ and_false (not (ends_data before x))
 
-same_equal : (told piece : List ℕ) (n b : ℕ) → told ≡ piece → (held : Held) → HeldIs held n
-    → SameBytes (told ++ (held_bytes held ++ b ∷ [])) (piece ++ (fill_bytes n ++ b ∷ []))
-same_equal told piece n b e Nothing h = inl (rw (h, e) refl)
-same_equal told piece n b e One h = inl (rw (h, e) refl)
-same_equal told piece n b e More (m, h) = inr (two_break 0 told (b ∷ []), rw h (two_break 0 piece (fill_bytes m ++ b ∷ [])))
+same_equal : (fed piece : List ℕ) (n b : ℕ) → fed ≡ piece → (held : Held) → HeldIs held n
+    → SameBytes (fed ++ (held_bytes held ++ b ∷ [])) (piece ++ (fill_bytes n ++ b ∷ []))
+same_equal fed piece n b e Nothing h = inl (rw (h, e) refl)
+same_equal fed piece n b e One h = inl (rw (h, e) refl)
+same_equal fed piece n b e More (m, h) = inr (two_break 0 fed (b ∷ []), rw h (two_break 0 piece (fill_bytes m ++ b ∷ [])))
 
--- what is told goes on as the piece does
-pub same_more : (told piece : List ℕ) (held : Held) (n b : ℕ) → HeldIs held n → SameBytes told piece
-    → SameBytes (told ++ (held_bytes held ++ b ∷ [])) (piece ++ (fill_bytes n ++ b ∷ []))
-same_more told piece held n b h (inl e) = same_equal told piece n b e held h
-same_more told piece held n b h (inr e) = inr (unwhole_append 0 told (held_bytes held ++ b ∷ []) e.0, unwhole_append 0 piece (fill_bytes n ++ b ∷ []) e.1)
+-- what is fed goes on as the piece does
+pub same_more : (fed piece : List ℕ) (held : Held) (n b : ℕ) → HeldIs held n → SameBytes fed piece
+    → SameBytes (fed ++ (held_bytes held ++ b ∷ [])) (piece ++ (fill_bytes n ++ b ∷ []))
+same_more fed piece held n b h (inl e) = same_equal fed piece n b e held h
+same_more fed piece held n b h (inr e) = inr (unwhole_append 0 fed (held_bytes held ++ b ∷ []) e.0, unwhole_append 0 piece (fill_bytes n ++ b ∷ []) e.1)
 
 pub never_both : (b : Bool) → b ≡ true → b ≡ false → ⊥
 never_both b e f = let g : true ≡ false = sym e ∙ f in cc
 
 -- and so has the same outcome
-pub same_outcome : (s : Scan) (k : ℕ) (told piece : List ℕ) (o : PieceOutcome) → SameBytes told piece → IsOutcomeAt s (Interval k) told o
+pub same_outcome : (s : Scan) (k : ℕ) (fed piece : List ℕ) (o : PieceOutcome) → SameBytes fed piece → IsOutcomeAt s (Interval k) fed o
     → IsOutcomeAt s (Interval k) piece o
-same_outcome s k told piece o (inl e) h = subst (λ bytes. IsOutcomeAt s (Interval k) bytes o) e h
-same_outcome s k told piece (Lines lines) (inr e) h = absurd (never_both (is_whole told) h.begins.data_bits.whole e.0)
-same_outcome s k told piece (Fault kind.Long) (inr e) h = absurd (never_both (is_whole told) h.begins.data_bits.whole e.0)
-same_outcome s k told piece (Fault kind.Broken) (inr e) h = record {
+same_outcome s k fed piece o (inl e) h = subst (λ bytes. IsOutcomeAt s (Interval k) bytes o) e h
+same_outcome s k fed piece (Lines lines) (inr e) h = absurd (never_both (is_whole fed) h.begins.data_bits.whole e.0)
+same_outcome s k fed piece (Fault kind.Long) (inr e) h = absurd (never_both (is_whole fed) h.begins.data_bits.whole e.0)
+same_outcome s k fed piece (Fault kind.Broken) (inr e) h = record {
   not_read = λ lines r. never_both (is_whole piece) r.begins.data_bits.whole e.1;
   not_long = λ r. never_both (is_whole piece) r.begins.data_bits.whole e.1;
 }
-same_outcome s k told piece (Fault kind.Beyond) (inr e) h = h
+same_outcome s k fed piece (Fault kind.Beyond) (inr e) h = h
 
 -- and the same head
-pub same_head : (s : Scan) (k : ℕ) (told piece : List ℕ) (head : List (List ℕ)) → SameBytes told piece → IsHeadAt s (Interval k) told head
+pub same_head : (s : Scan) (k : ℕ) (fed piece : List ℕ) (head : List (List ℕ)) → SameBytes fed piece → IsHeadAt s (Interval k) fed head
     → IsHeadAt s (Interval k) piece head
-same_head s k told piece head (inl e) h = subst (λ bytes. IsHeadAt s (Interval k) bytes head) e h
-same_head s k told piece head (inr e) (inl h) = absurd (never_both (is_whole told) h.0 e.0)
-same_head s k told piece head (inr e) (inr h) = inr (e.1, h.1)
+same_head s k fed piece head (inl e) h = subst (λ bytes. IsHeadAt s (Interval k) bytes head) e h
+same_head s k fed piece head (inr e) (inl h) = absurd (never_both (is_whole fed) h.0 e.0)
+same_head s k fed piece head (inr e) (inr h) = inr (e.1, h.1)

@@ -53,7 +53,7 @@ is_course =
         final,
         0xFF ∷ 0xD9 ∷ [],
         refl,
-        ((refl, lit< tt), refl, tt, ((λ h. refl), ((λ h. refl), ((λ h. refl), ((λ h. refl), ((λ h. refl), (λ (h : 0x80 ≡ 0xFF). omega (arith, h))))))), record { fill = 0; code = 0xD9; behind = []; bytes_are = refl; ends = refl }),
+        ((refl, lit< tt), refl, tt, ((λ h. refl), ((λ h. refl), ((λ h. refl), ((λ h. refl), ((λ h. refl), (λ (h : 0x80 ≡ 0xFF). omega (arith, h))))))), record { fill = 0; code = 0xD9; following = []; bytes_are = refl; ends = refl }),
         (refl, for_good final 41 (0xFF ∷ 0xD9 ∷ []) (Eoi 41) (at_eoi final 41 0 [] refl)),
       ),
     )

@@ -124,12 +124,12 @@ one_reading bytes low r s k l =
     let each = subst (λ c. AreOutcomes (pieces c) l.outcomes) (sym same) l.each in
     let outcomes = one_outcomes (pieces k.course) k.outcomes l.outcomes (course_has bytes k.course low k.is_course) k.each each in
     let heads = one_head_of_cut (cut_pieces k.course) k.head l.head (cut_has k.course (course_has bytes k.course low k.is_course)) k.head_is (subst (λ c. IsHeadOfCut (cut_pieces c) l.head) (sym same) l.head_is) in
-    let told = ap (λ c. records (pieces c) k.outcomes) same ∙ ap (records (pieces l.course)) outcomes in
+    let fed = ap (λ c. records (pieces c) k.outcomes) same ∙ ap (records (pieces l.course)) outcomes in
     read_eq r s
     (k.partial_is ∙ ap (λ c. given c k.shape k.outcomes k.head) same ∙ ap (λ x. given l.course x k.outcomes k.head) shape
     ∙ ap (λ os. given l.course l.shape os k.head) outcomes ∙ ap (given l.course l.shape l.outcomes) heads ∙ sym l.partial_is)
-    (k.pieces_are ∙ ap (take 4096) told ∙ sym l.pieces_are)
-    (k.count_is ∙ ap length told ∙ sym l.count_is)
+    (k.pieces_are ∙ ap (take 4096) fed ∙ sym l.pieces_are)
+    (k.count_is ∙ ap length fed ∙ sym l.count_is)
     (k.ended_is ∙ ap (λ (c : Course). c.end) same ∙ sym l.ended_is)
 
 fault_is : (f g : MarkerFault) (m n : ℕ) → NoPicture f m ≡ NoPicture g n → (f ≡ g) × (m ≡ n)

@@ -17,7 +17,7 @@ use Rattle.jls_interval.specs.declared.cut_end.CutEnd.TheVariants.{Whole, Head}
 use Rattle.jls_interval.specs.declared.decode_piece.PieceFault.{PieceFault}
 use Rattle.jls_interval.specs.declared.decode_piece.PieceFault.TheVariants as piece_fault
 use Rattle.jls_interval.proofs.CutStates.{over_head}
-use Rattle.jls_interval.proofs.HeadLines.{front_lines}
+use Rattle.jls_interval.proofs.HeadLines.{prefix_lines}
 use Rattle.jls_marker.specs.Scan.{Scan, IsScan, intervals, row_count, first_row}
 use Rattle.jls_copy.specs.Pieces.{placed, Lines, Fault}
 use Rattle.jls_copy.specs.Findings.{AddsCut, IsKindOf, with_readings, picture_of, kept_with}
@@ -48,7 +48,7 @@ head_lines : (p : CodingParameters) (w c n : ℕ) (bytes : List ℕ) (head : Lis
     → (count : ℕ) × (count ≤ n) × AreLines p w count head
 head_lines p w c n bytes head (inl (whole, inl (cut, f))) =
     let l = length-append head f.begins.others in let e = ap length f.begins.lines_are in let k = cut.are_lines.count_is in
-    (length head, omega (arith, l, e, k), front_lines p w n cut.lines head f.begins.others cut.are_lines f.begins.lines_are)
+    (length head, omega (arith, l, e, k), prefix_lines p w n cut.lines head f.begins.others cut.are_lines f.begins.lines_are)
 head_lines p w c n bytes head (inl (whole, inr (none, e))) = (0, omega arith, subst (AreLines p w 0) (sym e) (record { count_is = refl; each = tt }))
 head_lines p w c n bytes head (inr (none, e)) = (0, omega arith, subst (AreLines p w 0) (sym e) (record { count_is = refl; each = tt }))
 
@@ -63,16 +63,16 @@ module _ (s : Scan) (k : ℕ) (d : IntervalBytes) (piece : OpenPiece) (is : piec
   abbrev open_is : IsDecodingOf s k d
   open_is = subst (IsOpenPiece s) is sound
 
-  abbrev told_bytes : List ℕ
-  told_bytes = open_is.bytes
+  abbrev fed_bytes : List ℕ
+  fed_bytes = open_is.bytes
 
   abbrev count : ℕ
   count = row_count s k * length s.components
 
-  whole : piece ≡ Within k (decoding_with s k told_bytes)
+  whole : piece ≡ Within k (decoding_with s k fed_bytes)
   whole = is ∙ ap (Within k) (decoding_is s k d open_is)
 
-  said : (end : CutEnd) → CutFinishes d end → CutEndIs (interval_shape s.params s.width (length s.components) count) told_bytes end
+  said : (end : CutEnd) → CutFinishes d end → CutEndIs (interval_shape s.params s.width (length s.components) count) fed_bytes end
   said end h = subst (λ x. CutFinishes x end) (decoding_is s k d open_is) h
 
   pub cut_interval : k < intervals s
@@ -88,8 +88,8 @@ module _ (s : Scan) (k : ℕ) (d : IntervalBytes) (piece : OpenPiece) (is : piec
 
   pub cut_lines : (head : Vec (Vec ℕ Global) Global) (fault : PieceFault) → CutFinishes d (Head head fault)
       → (n : ℕ) × (n ≤ count) × AreLines s.params s.width n (items head)
-  cut_lines head piece_fault.Long h = head_lines s.params s.width (length s.components) count told_bytes (items head) (said (Head head piece_fault.Long) h).1
-  cut_lines head piece_fault.Broken h = head_lines s.params s.width (length s.components) count told_bytes (items head) (said (Head head piece_fault.Broken) h).1
+  cut_lines head piece_fault.Long h = head_lines s.params s.width (length s.components) count fed_bytes (items head) (said (Head head piece_fault.Long) h).1
+  cut_lines head piece_fault.Broken h = head_lines s.params s.width (length s.components) count fed_bytes (items head) (said (Head head piece_fault.Broken) h).1
   cut_lines head piece_fault.OutOfMemory h = absurd (said (Head head piece_fault.OutOfMemory) h)
 
   module _ (ok : IsScan s) (shape : PictureShape) (index offset : ℕ) (old new : Findings) where
@@ -98,8 +98,8 @@ module _ (s : Scan) (k : ℕ) (d : IntervalBytes) (piece : OpenPiece) (is : piec
         → new.records.items ≡ old.records.items → new.record_count ≡ old.record_count
         → AddsCut (Some shape) (piece_found index s offset piece ∷ []) old new
     whole_adds lines h p r c =
-        let now : Reads (interval_shape s.params s.width (length s.components) count) told_bytes (items lines) = said (Whole lines) h in
-        let none = no_head s.params s.width (length s.components) count told_bytes (items lines) ok.params (let w = ok.width_at_least in omega arith) now in
+        let now : Reads (interval_shape s.params s.width (length s.components) count) fed_bytes (items lines) = said (Whole lines) h in
+        let none = no_head s.params s.width (length s.components) count fed_bytes (items lines) ok.params (let w = ok.width_at_least in omega arith) now in
         let found = placed s.components (first_row s k) 0 (items lines) in
         rw whole (
           shape,

@@ -7,14 +7,14 @@ use Rattle.jls_partial.specs.Reading.{reading_of}
 use Rattle.jls_marker.specs.Scan.{Scan}
 use Rattle.jls_interval.specs.Lines.{interval_shape}
 use Rattle.jls_copy.specs.ScanData.{closes_piece, IsPiece, closed_bytes, IsClosedPiece}
-use Rattle.jls_copy.specs.Numbers.{Interval, BeyondLast, next_number, numbers_behind, RiseByEightAtMost, mark_before}
+use Rattle.jls_copy.specs.Numbers.{Interval, BeyondLast, next_number, numbers_after, RiseByEightAtMost, mark_before}
 use Rattle.jls_copy.specs.IntervalOf.{interval_of}
 use Rattle.jls_copy.specs.Course.{by_input, by_marker, segment, scan, unit_bytes, IsClosing}
 use Rattle.jls_copy.specs.Pieces.{placed}
 
 -- Pieces ---------------------------------------------------------------------------------------------------------
 
--- the codes behind a byte 0xFF that end a piece: RST0 to RST7, EOI, SOS, DRI, APP0 to APP15, LSE and COM
+-- the codes after a byte 0xFF that end a piece: RST0 to RST7, EOI, SOS, DRI, APP0 to APP15, LSE and COM
 codes_that_close : filter closes_piece (range_with_len 0 256)
     ≡ 0xD0 ∷ 0xD1 ∷ 0xD2 ∷ 0xD3 ∷ 0xD4 ∷ 0xD5 ∷ 0xD6 ∷ 0xD7 ∷ 0xD9 ∷ 0xDA ∷ 0xDD ∷ 0xE0 ∷ 0xE1 ∷ 0xE2 ∷ 0xE3 ∷ 0xE4 ∷ 0xE5 ∷ 0xE6 ∷ 0xE7
     ∷ 0xE8 ∷ 0xE9 ∷ 0xEA ∷ 0xEB ∷ 0xEC ∷ 0xED ∷ 0xEE ∷ 0xEF ∷ 0xF8 ∷ 0xFE ∷ []
@@ -41,28 +41,28 @@ no_mark_above_seven c = (let n = c.1 in omega (arith, n))
 
 -- Numbers --------------------------------------------------------------------------------------------------------
 
--- the number behind RST0 to RST7, where 0, 5, 8 and 15 were given last: the least above it that follows such a mark
-behind_0 : map (next_number 0) (range_with_len 0 8) ≡ 1 ∷ 2 ∷ 3 ∷ 4 ∷ 5 ∷ 6 ∷ 7 ∷ 8 ∷ []
-behind_0 = refl
+-- the number after RST0 to RST7, where 0, 5, 8 and 15 were given last: the least above it that follows such a mark
+after_0 : map (next_number 0) (range_with_len 0 8) ≡ 1 ∷ 2 ∷ 3 ∷ 4 ∷ 5 ∷ 6 ∷ 7 ∷ 8 ∷ []
+after_0 = refl
 
-behind_5 : map (next_number 5) (range_with_len 0 8) ≡ 9 ∷ 10 ∷ 11 ∷ 12 ∷ 13 ∷ 6 ∷ 7 ∷ 8 ∷ []
-behind_5 = refl
+after_5 : map (next_number 5) (range_with_len 0 8) ≡ 9 ∷ 10 ∷ 11 ∷ 12 ∷ 13 ∷ 6 ∷ 7 ∷ 8 ∷ []
+after_5 = refl
 
-behind_8 : map (next_number 8) (range_with_len 0 8) ≡ 9 ∷ 10 ∷ 11 ∷ 12 ∷ 13 ∷ 14 ∷ 15 ∷ 16 ∷ []
-behind_8 = refl
+after_8 : map (next_number 8) (range_with_len 0 8) ≡ 9 ∷ 10 ∷ 11 ∷ 12 ∷ 13 ∷ 14 ∷ 15 ∷ 16 ∷ []
+after_8 = refl
 
-behind_15 : map (next_number 15) (range_with_len 0 8) ≡ 17 ∷ 18 ∷ 19 ∷ 20 ∷ 21 ∷ 22 ∷ 23 ∷ 16 ∷ []
-behind_15 = refl
+after_15 : map (next_number 15) (range_with_len 0 8) ≡ 17 ∷ 18 ∷ 19 ∷ 20 ∷ 21 ∷ 22 ∷ 23 ∷ 16 ∷ []
+after_15 = refl
 
 -- the marks before the intervals 1 to 9
 marks_before : map mark_before (range_with_len 1 9) ≡ 0 ∷ 1 ∷ 2 ∷ 3 ∷ 4 ∷ 5 ∷ 6 ∷ 7 ∷ 0 ∷ []
 marks_before = refl
 
 -- of three intervals the last has the number 2; a mark beyond it gives no number, and the next counts from the number given before
-numbers_of_three : numbers_behind 3 0 (0 ∷ 1 ∷ 2 ∷ 1 ∷ []) ≡ Interval 1 ∷ Interval 2 ∷ BeyondLast 3 ∷ BeyondLast 10 ∷ []
+numbers_of_three : numbers_after 3 0 (0 ∷ 1 ∷ 2 ∷ 1 ∷ []) ≡ Interval 1 ∷ Interval 2 ∷ BeyondLast 3 ∷ BeyondLast 10 ∷ []
 numbers_of_three = refl
 
-beyond_is_not_given : numbers_behind 3 0 (5 ∷ 0 ∷ []) ≡ BeyondLast 6 ∷ Interval 1 ∷ []
+beyond_is_not_given : numbers_after 3 0 (5 ∷ 0 ∷ []) ≡ BeyondLast 6 ∷ Interval 1 ∷ []
 beyond_is_not_given = refl
 
 -- seven markers in a row can be lost, and the mark before interval 8 still gives 8
@@ -73,7 +73,7 @@ seven_lost_rise = (lit< tt, lit≤ tt, lit< tt, (lit< tt, lit≤ tt, lit< tt, tt
 eight_lost_do_not_rise : RiseByEightAtMost 10 0 (9 ∷ []) → ⊥
 eight_lost_do_not_rise rise = (let n = rise.1 in omega (arith, n))
 
-eight_lost_give_one : numbers_behind 10 0 (mark_before 9 ∷ []) ≡ Interval 1 ∷ []
+eight_lost_give_one : numbers_after 10 0 (mark_before 9 ∷ []) ≡ Interval 1 ∷ []
 eight_lost_give_one = refl
 
 -- nor is the number of intervals one of theirs, nor does one come twice
@@ -130,7 +130,7 @@ scan_unit_before_a_marker = refl
 
 -- EOI after a fill byte closes the last piece, and RST0 doesn't
 eoi_closes : IsClosing by_marker (0xFF ∷ 0xFF ∷ 0xD9 ∷ [])
-eoi_closes = record { fill = 1; code = 0xD9; behind = []; bytes_are = refl; ends = refl }
+eoi_closes = record { fill = 1; code = 0xD9; following = []; bytes_are = refl; ends = refl }
 
 nothing_follows_the_input : IsClosing (by_input 1) (0xFF ∷ []) → ⊥
 nothing_follows_the_input e = cc

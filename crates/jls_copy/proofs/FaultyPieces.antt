@@ -2,14 +2,14 @@
 use Rattle.std.proofs.Common.{◌≡◌, ℕ, List, [], ◌∷◌, ◌++◌, length, refl, sym, subst, inl}
 use Rattle.std.specs.List.{Contains}
 use Rattle.std.proofs.lemmas.List.Elements.{Contains-append_left}
-use Rattle.jls_copy.specs.Fronts.{StaysFaulty}
+use Rattle.jls_copy.specs.Prefixes.{StaysFaulty}
 use Rattle.jls_copy.specs.Pieces.{AreOutcomes, Fault, FoundPiece, IsOutcome, Lines, PieceOutcome, pieces, records}
 use Rattle.jls_copy.specs.Reader.{all_pieces}
 use Rattle.jls_copy.specs.ReaderState.{Reading, closed_at, reading, reading_from, reading_with}
 use Rattle.jls_copy.specs.declared.piece.PieceKind.{PieceKind}
-use Rattle.jls_copy.proofs.CopyTold.{outcome_alike}
-use Rattle.jls_copy.proofs.CourseTold.{course_told}
-use Rattle.jls_copy.proofs.Fronts.{alike_of, among_all, from_append, in_rest, is_first}
+use Rattle.jls_copy.proofs.CopyFed.{outcome_alike}
+use Rattle.jls_copy.proofs.CourseFed.{course_fed}
+use Rattle.jls_copy.proofs.Prefixes.{alike_of, among_all, from_append, in_rest, is_first}
 use Rattle.jls_copy.proofs.OneCourse.{one_course}
 
 -- of these pieces one is faulty
@@ -30,14 +30,14 @@ closed_stay : (r : Reading) (bytes : List ℕ) (p : FoundPiece) → Contains r.p
 closed_stay r [] p h = h
 closed_stay r (b ∷ bytes) p h = closed_stay (reading_with r b) bytes p (Contains-append_left r.pieces (closed_at r.state.place b) p h)
 
-pub stays_faulty : (front : List ℕ) → SomeFault (reading front).pieces → StaysFaulty front
-stays_faulty front (p, among, kind, fault) more low c is =
-    let later : Contains (reading (front ++ more)).pieces p =
-    subst (λ r. Contains r.pieces p) (sym (from_append _ front more)) (closed_stay (reading front) more p among) in
-    let u = course_told (front ++ more) low in
-    let q = alike_of (all_pieces (reading (front ++ more))) (pieces u.0) p u.4 (among_all (reading (front ++ more)) p (inl later)) in (
+pub stays_faulty : (prefix : List ℕ) → SomeFault (reading prefix).pieces → StaysFaulty prefix
+stays_faulty prefix (p, among, kind, fault) more low c is =
+    let later : Contains (reading (prefix ++ more)).pieces p =
+    subst (λ r. Contains r.pieces p) (sym (from_append _ prefix more)) (closed_stay (reading prefix) more p among) in
+    let u = course_fed (prefix ++ more) low in
+    let q = alike_of (all_pieces (reading (prefix ++ more))) (pieces u.0) p u.4 (among_all (reading (prefix ++ more)) p (inl later)) in (
       q.0,
-      subst (λ d. Contains (pieces d) q.0) (one_course (front ++ more) u.0 c u.1 is) q.1,
+      subst (λ d. Contains (pieces d) q.0) (one_course (prefix ++ more) u.0 c u.1 is) q.1,
       kind,
       outcome_alike p q.0 (Fault kind) q.2 fault,
     )

@@ -10,20 +10,20 @@ use Rattle.jls_copy.specs.declared.end.End.TheVariants.{Eoi, Header}
 use Rattle.jls_marker.specs.declared.fault.MarkerFault.TheVariants as fault
 
 -- something stands in these lists
-some_behind : (xs : List ℕ) (y : ℕ) (ys : List ℕ) → 0 < length (xs ++ y ∷ ys)
-some_behind xs y ys = let e = length-append xs (y ∷ ys) in omega arith
+some_after : (xs : List ℕ) (y : ℕ) (ys : List ℕ) → 0 < length (xs ++ y ∷ ys)
+some_after xs y ys = let e = length-append xs (y ∷ ys) in omega arith
 
 some_segment : (n code : ℕ) (payload more : List ℕ) → 0 < length (segment_unit_bytes n code payload ++ more)
 some_segment n code payload more =
     let e = length-append (segment_unit_bytes n code payload) more in
-    let s = some_behind (fill_bytes n) 255 (code ∷ (length payload + 2) / 256 ∷ (length payload + 2) % 256 ∷ payload) in omega arith
+    let s = some_after (fill_bytes n) 255 (code ∷ (length payload + 2) / 256 ∷ (length payload + 2) % 256 ∷ payload) in omega arith
 
 stops_some : (h : HeaderState) (at : ℕ) (x : List ℕ) (e : End) → EndsHere h at x e → 0 < length x
-stops_some _ _ _ _ (at_eoi h at n after p) = some_behind (fill_bytes n) 255 (217 ∷ after)
-stops_some _ _ _ _ (at_eoi_before_a_frame h at n after p) = some_behind (fill_bytes n) 255 (217 ∷ after)
+stops_some _ _ _ _ (at_eoi h at n after p) = some_after (fill_bytes n) 255 (217 ∷ after)
+stops_some _ _ _ _ (at_eoi_before_a_frame h at n after p) = some_after (fill_bytes n) 255 (217 ∷ after)
 stops_some _ _ _ _ (at_no_marker h at b after p) = omega arith
-stops_some _ _ _ _ (at_unknown_code h at n code after p q r) = some_behind (fill_bytes n) 255 (code ∷ after)
-stops_some _ _ _ _ (at_short_length h at n code a b after p q) = some_behind (fill_bytes n) 255 (code ∷ a ∷ b ∷ after)
+stops_some _ _ _ _ (at_unknown_code h at n code after p q r) = some_after (fill_bytes n) 255 (code ∷ after)
+stops_some _ _ _ _ (at_short_length h at n code a b after p q) = some_after (fill_bytes n) 255 (code ∷ a ∷ b ∷ after)
 stops_some _ _ _ _ (at_refused_segment h at n code payload after f p r) = some_segment n code payload after
 
 -- what ends a copy for good does so whatever follows
@@ -57,16 +57,16 @@ closing_stays (by_input n) rest more some e = absurd (let l = ap length e in ome
 closing_stays by_marker rest more some b = record {
   fill = b.fill;
   code = b.code;
-  behind = b.behind ++ more;
-  bytes_are = ap (λ y. y ++ more) b.bytes_are ∙ append_assoc (fill_bytes b.fill) (255 ∷ b.code ∷ b.behind) more;
+  following = b.following ++ more;
+  bytes_are = ap (λ y. y ++ more) b.bytes_are ∙ append_assoc (fill_bytes b.fill) (255 ∷ b.code ∷ b.following) more;
   ends = b.ends;
 }
 
 unit_stays : (before : HeaderState) (u : CopyUnit) (after : HeaderState) (rest more : List ℕ) → 0 < length rest → IsUnit before u after rest
     → IsUnit before u after (rest ++ more)
 unit_stays before (segment fill code payload) after rest more some u = u
-unit_stays before (scan fill code payload plan closed last closing) after rest more some (known, taken, each, piece, behind) =
-    (known, taken, each, piece, closing_stays closing rest more some behind)
+unit_stays before (scan fill code payload plan closed last closing) after rest more some (known, taken, each, piece, following) =
+    (known, taken, each, piece, closing_stays closing rest more some following)
 
 units_stay : (h : HeaderState) (at : ℕ) (x : List ℕ) (us : List CopyUnit) (final : HeaderState) (e : End) (more : List ℕ)
     → is_final_end e ≡ true

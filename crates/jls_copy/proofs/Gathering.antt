@@ -32,7 +32,7 @@ use Rattle.jls_copy.specs.declared.findings.Findings.{Findings}
 use Rattle.jls_copy.specs.declared.piece.PieceRecord.{PieceRecord}
 use Rattle.jls_copy.specs.declared.place.Place.{Place}
 use Rattle.jls_copy.specs.declared.place.Place.TheVariants.{Start, AtMarker, AtLength, InLength, InPayload, InScan, Done}
-use Rattle.jls_copy.proofs.Kept.{behind_some}
+use Rattle.jls_copy.proofs.Kept.{after_some}
 
 pub are_more : (ps : List FoundPiece) (os : List PieceOutcome) (p : FoundPiece) (o : PieceOutcome) → AreOutcomes ps os → IsOutcome p o
     → AreOutcomes (ps ++ p ∷ []) (os ++ o ∷ [])
@@ -234,7 +234,7 @@ reading_on m n bytes xs count h t small low =
     let before : reading bytes ≡ record { state = state_of m; pieces = (reading bytes).pieces } =
     ap (λ s. record { state = s; pieces = (reading bytes).pieces }) (sym h.state_is) in
     let total : m.count + length (take count xs) ≡ n.count + count = omega (arith, size, t.count_is) in
-    let told : reading (bytes ++ take count xs)
+    let fed : reading (bytes ++ take count xs)
     ≡ record { state = record (state_of n) { count = n.count + count }; pieces = (reading bytes).pieces ++ closed } =
     from_append _ bytes (take count xs) ∙ ap (λ r. reading_from r (take count xs)) before ∙ t.leads (reading bytes).pieces
     ∙ ap (λ (k : ℕ). counted (state_of n) ((reading bytes).pieces ++ closed) k) total in
@@ -245,32 +245,32 @@ reading_on m n bytes xs count h t small low =
     (gathers_pieces m.headers.frame (reading bytes).pieces closed m.findings n.findings h.gathers t.found) in
     let one : n.findings.record_count ≤ m.findings.record_count + 1 = adds_one m.headers.frame closed m.findings n.findings t.found in
     record {
-      state_is = sym (ap (λ r. r.state) told);
-      gathers = subst (λ ps. Gathers n.headers.frame ps n.findings) (sym (ap (λ r. r.pieces) told)) gathered;
+      state_is = sym (ap (λ r. r.state) fed);
+      gathers = subst (λ ps. Gathers n.headers.frame ps n.findings) (sym (ap (λ r. r.pieces) fed)) gathered;
       count_is = omega (arith, t.count_is, h.count_is, length-append bytes (take count xs), size);
       few = omega (arith, length-append bytes (take count xs), size, t.within, small);
       are_bytes = low_all bytes (take count xs) h.are_bytes low;
       place_is = t.place_is;
-      behind = behind_some n.place (n.count + count) (omega (arith, t.some));
+      following = after_some n.place (n.count + count) (omega (arith, t.some));
       records_counted = omega (arith, t.count_is, one, h.records_counted, t.some);
       records_kept = rw gathered.records_are (omega (arith, length-take 4096 (records ((reading bytes).pieces ++ closed) gathered.outcomes)));
       header_bytes = t.header_bytes;
     }
 
-all_behind : (at : ℕ) (xs : List ℕ) → AllByRecursion (λ x. x < 256) xs → AllByRecursion (λ x. x < 256) (drop at xs)
-all_behind zero xs low = low
-all_behind (suc at) [] low = tt
-all_behind (suc at) (x ∷ xs) low = all_behind at xs low.1
+all_after : (at : ℕ) (xs : List ℕ) → AllByRecursion (λ x. x < 256) xs → AllByRecursion (λ x. x < 256) (drop at xs)
+all_after zero xs low = low
+all_after (suc at) [] low = tt
+all_after (suc at) (x ∷ xs) low = all_after at xs low.1
 
-all_front : (n : ℕ) (xs : List ℕ) → AllByRecursion (λ x. x < 256) xs → AllByRecursion (λ x. x < 256) (take n xs)
-all_front zero xs low = tt
-all_front (suc n) [] low = tt
-all_front (suc n) (x ∷ xs) low = (low.0, all_front n xs low.1)
+all_prefix : (n : ℕ) (xs : List ℕ) → AllByRecursion (λ x. x < 256) xs → AllByRecursion (λ x. x < 256) (take n xs)
+all_prefix zero xs low = tt
+all_prefix (suc n) [] low = tt
+all_prefix (suc n) (x ∷ xs) low = (low.0, all_prefix n xs low.1)
 
 -- bytes from the middle of a slice
 pub bytes_between : (n m at : ℕ) (xs : List ℕ) → ((k : ℕ) → get_or xs k 0 < 256) → AllByRecursion (λ x. x < 256) (take n (take m (drop at xs)))
 bytes_between n m at xs each =
-    all_front n (take m (drop at xs)) (all_front m (drop at xs) (all_behind at xs (all xs each)))
+    all_prefix n (take m (drop at xs)) (all_prefix m (drop at xs) (all_after at xs (all xs each)))
   where
     all : (xs : List ℕ) → ((k : ℕ) → get_or xs k 0 < 256) → AllByRecursion (λ x. x < 256) xs
     all [] each = tt

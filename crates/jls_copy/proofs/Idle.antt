@@ -13,7 +13,7 @@ module _ (h : HeaderState) (payload : List ℕ) (ps : List FoundPiece) where
   abbrev at : Place → ℕ → Reading
   at place count = record { state = record { count = count; place = place; headers = h; payload = payload }; pieces = ps }
 
-  -- bytes at the front, each of which leaves the place as it is
+  -- bytes at the start, each of which leaves the place as it is
   stays : (place : Place) (P : ℕ → Type 0) → ((count b : ℕ) → P b → reading_with (at place count) b ≡ at place (count + 1))
       → (xs : List ℕ) (n : ℕ) → ((k : ℕ) → k < n → P (get_or xs k 0)) → n ≤ length xs
       → (count : ℕ) → reading_from (at place count) (take n xs) ≡ at place (count + length (take n xs))

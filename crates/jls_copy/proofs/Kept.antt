@@ -5,7 +5,7 @@ use Rattle.jls_marker.specs.HeaderState.{HeaderState}
 use Rattle.jls_marker.specs.Scan.{Scan}
 use Rattle.jls_marker.specs.Headers.{headers_after}
 use Rattle.jls_copy.specs.ReaderState.{Step, segment_taken, length_known}
-use Rattle.jls_copy.specs.Machine.{IsBehind}
+use Rattle.jls_copy.specs.Machine.{IsAfterStart}
 use Rattle.jls_marker.specs.declared.fault.MarkerFault.{MarkerFault}
 use Rattle.jls_copy.specs.declared.place.Place.{Place}
 use Rattle.jls_copy.specs.declared.place.Place.TheVariants.{Start, AtMarker, AtLength, InLength, InPayload, InScan, Done}
@@ -23,11 +23,11 @@ pub length_keeps : (count : ℕ) (h : HeaderState) (marker code size : ℕ) → 
 length_keeps count h marker code size =
     cond_payload (nat_lt size 2) _ _ [] refl (cond_payload (size == 2) _ _ [] (taken_payload count h [] marker (headers_after h code [])) refl)
 
-pub behind_some : (p : Place) (n : ℕ) → 1 ≤ n → IsBehind p n
-behind_some (Start fill) n h = λ e. h
-behind_some (AtMarker fill) n h = h
-behind_some (AtLength marker code) n h = h
-behind_some (InLength marker code high) n h = h
-behind_some (InPayload marker code size) n h = h
-behind_some (InScan scan) n h = h
-behind_some (Done e) n h = tt
+pub after_some : (p : Place) (n : ℕ) → 1 ≤ n → IsAfterStart p n
+after_some (Start fill) n h = λ e. h
+after_some (AtMarker fill) n h = h
+after_some (AtLength marker code) n h = h
+after_some (InLength marker code high) n h = h
+after_some (InPayload marker code size) n h = h
+after_some (InScan scan) n h = h
+after_some (Done e) n h = tt

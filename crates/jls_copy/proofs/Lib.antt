@@ -19,7 +19,7 @@ mod TellsMore
 mod TellsScan
 mod TellsSegment
 mod ReadingTells
-mod CourseTold
+mod CourseFed
 mod Stretches
 mod Idle
 mod PayloadStretch
@@ -31,7 +31,7 @@ mod Gathering
 mod Clones
 mod CutOutcomes
 mod CutGathering
-mod CopyTold
+mod CopyFed
 pub mod ScansOfCourse
 pub mod BytesDecide
 pub mod FinalEnds
@@ -39,6 +39,6 @@ mod SegmentFaults
 mod TellingLaws
 mod OtherEnds
 mod EndExamples
-mod Fronts
+mod Prefixes
 mod FaultyPieces
-mod FrontReadings
+mod PrefixReadings

@@ -112,9 +112,9 @@ taken_payload n payload rest e =
     let two : nat_lt n 2 ≡ false = grind (arith, nat_tests, e) in
     let room : nat_lt (length (payload ++ rest) + 2) n ≡ false = grind (arith, nat_tests, e, length-append payload rest) in
     let size : n - 2 ≡ length payload = omega (arith, e) in
-    let front : take (n - 2) (payload ++ rest) ≡ payload = rw size (take-append_seam payload rest) in
+    let prefix : take (n - 2) (payload ++ rest) ≡ payload = rw size (take-append_seam payload rest) in
     let tail : drop (n - 2) (payload ++ rest) ≡ rest = rw size (drop-append_seam payload rest) in
-    rw (back, two, room, front, tail) refl
+    rw (back, two, room, prefix, tail) refl
 
 read_segment : (h : HeaderState) (at total n code : ℕ) (payload rest : List ℕ) → has_segment code ≡ true
     → after_marker h at total (marker_at (segment_unit_bytes n code payload ++ rest)) ≡ after_taken n code payload rest at (headers_after h code payload)
@@ -135,7 +135,7 @@ step_is : (h : HeaderState) (at : ℕ) (u : CopyUnit) (after : HeaderState) (res
     → IsUnit h u after rest → step h at x ≡ unit_step u after rest
 step_is h at (segment n code payload) after rest x e (known, t) =
     ap (λ y. after_marker h at (at + length x) (marker_at y)) e ∙ read_segment h at (at + length x) n code payload rest known.0 ∙ ap (after_taken n code payload rest at) t
-step_is h at (scan n code payload s closed last closing) after rest x e (known, t, each, piece, behind) =
+step_is h at (scan n code payload s closed last closing) after rest x e (known, t, each, piece, following) =
     let left = scan_data_bytes closed last closing ++ rest in
     ap (λ y. after_marker h at (at + length x) (marker_at y)) (e ∙ append_assoc (segment_unit_bytes n code payload) (scan_data_bytes closed last closing) rest)
     ∙ read_segment h at (at + length x) n code payload left known.0 ∙ ap (after_taken n code payload left at) t
@@ -170,7 +170,7 @@ ends_step _ _ _ _ (in_a_unit h at x p) = part_step h at (at + length x) x p
 
 end_of : (closing : LastClosed) (rest : List ℕ) → IsClosing closing rest → ScanEnd
 end_of (by_input count) rest e = at_input count
-end_of by_marker rest b = at_marker b.fill b.code b.behind
+end_of by_marker rest b = at_marker b.fill b.code b.following
 
 cut_is : (closed : List ClosedPiece) (last : List ℕ) (closing : LastClosed) (rest : List ℕ) → AllByRecursion IsClosedPiece closed
     → IsPiece last → (b : IsClosing closing rest)
@@ -200,11 +200,11 @@ same_unit h (segment n code payload) (segment m c q) a b r s p t e =
     record { units = cc; headers = cc; rests = cc }
 same_unit h (segment n code payload) (scan m c q plan closed last closing) a b r s p t e = absurd cc
 same_unit h (scan n code payload plan closed last closing) (segment m c q) a b r s p t e = absurd cc
-same_unit h (scan n code payload plan closed last closing) (scan m c q plan' closed' last' closing') a b r s (k, t, each, piece, behind) (k', t', each', piece', behind') e =
+same_unit h (scan n code payload plan closed last closing) (scan m c q plan' closed' last' closing') a b r s (k, t, each, piece, following) (k', t', each', piece', following') e =
     let left : scan_data_bytes closed last closing ++ r ≡ scan_data_bytes closed' last' closing' ++ s = cc in
-    let cut = same_cut _ (record { closed = closed; last = last; end = end_of closing r behind }) (record { closed = closed'; last = last'; end = end_of closing' s behind' })
-    (cut_is closed last closing r each piece behind) (subst (λ x. IsCut x (record { closed = closed'; last = last'; end = end_of closing' s behind' })) (sym left) (cut_is closed' last' closing' s each' piece' behind')) in
-    let ends = closing_is closing closing' r s behind behind' (ap (λ x. x.end) cut) in
+    let cut = same_cut _ (record { closed = closed; last = last; end = end_of closing r following }) (record { closed = closed'; last = last'; end = end_of closing' s following' })
+    (cut_is closed last closing r each piece following) (subst (λ x. IsCut x (record { closed = closed'; last = last'; end = end_of closing' s following' })) (sym left) (cut_is closed' last' closing' s each' piece' following')) in
+    let ends = closing_is closing closing' r s following following' (ap (λ x. x.end) cut) in
     let one : n ≡ m = cc in let two : code ≡ c = cc in let three : payload ≡ q = cc in let four : plan ≡ plan' = cc in
     let five : closed ≡ closed' = ap (λ x. x.closed) cut in let six : last ≡ last' = ap (λ x. x.last) cut in
     let seven : closing ≡ closing' = ends.0 in
@@ -245,19 +245,19 @@ one_from h at x (u ∷ us) (v ∷ vs) l m d e (a, r, f, t, p) (b, s, g, w, q) =
 
 -- The whole -------------------------------------------------------------------------------------------------------
 
-abbrev Behind : Found → ℕ → Course → Type 0
-Behind nothing total c = c ≡ without_units 0 (Header fault.Ended 0)
-Behind no_ff total c = c ≡ without_units 0 (Header fault.NoSoi 0)
-Behind cut_off total c = c ≡ without_units total (Header fault.Ended total)
-Behind (marker n code more) total c =
+abbrev After : Found → ℕ → Course → Type 0
+After nothing total c = c ≡ without_units 0 (Header fault.Ended 0)
+After no_ff total c = c ≡ without_units 0 (Header fault.NoSoi 0)
+After cut_off total c = c ≡ without_units total (Header fault.Ended total)
+After (marker n code more) total c =
     ((code ≡ 216) × (c.begin ≡ n + 2) × AreUnits no_headers (n + 2) more c.units c.headers c.end) ⊎ ((code ≢ 216) × (c ≡ without_units n (Header fault.NoSoi n)))
 
-behind : (bytes : List ℕ) (c : Course) → IsCourse bytes c → Behind (marker_at bytes) (length bytes) c
-behind _ _ (with_soi n bytes units l e h) = let f = found n 216 bytes (λ z. omega (arith, z)) in rw f (inl (refl, refl, h))
-behind _ _ (with_another_marker n code bytes p q) = let f = found n code bytes p in rw f (inr (q, refl))
-behind _ _ (with_no_marker b bytes p) = let f : (b == 255) ≡ false = grind (arith, nat_tests, p) in rw f refl
-behind _ _ (with_fill_alone zero) = refl
-behind _ _ (with_fill_alone (suc n)) =
+following : (bytes : List ℕ) (c : Course) → IsCourse bytes c → After (marker_at bytes) (length bytes) c
+following _ _ (with_soi n bytes units l e h) = let f = found n 216 bytes (λ z. omega (arith, z)) in rw f (inl (refl, refl, h))
+following _ _ (with_another_marker n code bytes p q) = let f = found n code bytes p in rw f (inr (q, refl))
+following _ _ (with_no_marker b bytes p) = let f : (b == 255) ≡ false = grind (arith, nat_tests, p) in rw f refl
+following _ _ (with_fill_alone zero) = refl
+following _ _ (with_fill_alone (suc n)) =
     let e : length (fill_bytes (suc n)) ≡ suc n = length-replicate (suc n) 255 in let f = code_ends 0 n in
     rw (f, e) refl
 
@@ -265,7 +265,7 @@ course_eq : (c d : Course) → c.begin ≡ d.begin → c.units ≡ d.units → c
 course_eq c d e f g h =
     let x : c ≡ record { begin = d.begin; units = d.units; headers = d.headers; end = d.end } = rw (sym e, sym f, sym g, sym h) refl in x
 
-same : (m : Found) (total : ℕ) (c d : Course) → Behind m total c → Behind m total d → c ≡ d
+same : (m : Found) (total : ℕ) (c d : Course) → After m total c → After m total d → c ≡ d
 same nothing total c d p q = p ∙ sym q
 same no_ff total c d p q = p ∙ sym q
 same cut_off total c d p q = p ∙ sym q
@@ -277,4 +277,4 @@ same (marker n code more) total c d (inr p) (inl q) = absurd (p.0 q.0)
 same (marker n code more) total c d (inr p) (inr q) = p.1 ∙ sym q.1
 
 pub one_course : OneCourse
-one_course bytes c d p q = same (marker_at bytes) (length bytes) c d (behind bytes c p) (behind bytes d q)
+one_course bytes c d p q = same (marker_at bytes) (length bytes) c d (following bytes c p) (following bytes d q)

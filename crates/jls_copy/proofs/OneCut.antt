@@ -13,7 +13,7 @@ abbrev IsBreakTail : List ℕ → Type 0
 IsBreakTail [] = Unit {0}
 IsBreakTail (c ∷ x) = (closes_piece c ≡ true) ⊎ ((c ≡ 255) × IsBreakTail x)
 
--- what stands behind a piece
+-- what stands after a piece
 abbrev IsBreak : List ℕ → Type 0
 IsBreak [] = Unit {0}
 IsBreak (b ∷ x) = (b ≡ 255) × IsBreakTail x
@@ -123,10 +123,10 @@ no_more_marks (at_marker n c y) k m x p low e =
     let r1 : c ≡ 208 + m = r.1 in let never : ends_scan_data (208 + m) ≡ false = mark_no_end m low in
     let ends : ends_scan_data (208 + m) ≡ true = rw r1 at p in cc
 
--- a closed piece in front of some bytes
-front : (w : List ℕ) (k m : ℕ) (x : List ℕ)
+-- a closed piece before some bytes
+prefix : (w : List ℕ) (k m : ℕ) (x : List ℕ)
     → (w ++ (fill_bytes k ++ (255 ∷ (208 + m) ∷ []))) ++ x ≡ w ++ (fill_bytes k ++ (255 ∷ (208 + m) ∷ x))
-front w k m x = simp append_assoc refl
+prefix w k m x = simp append_assoc refl
 
 abbrev closed_of : List ℕ → ℕ → ℕ → ClosedPiece
 closed_of w k m = record { piece = w; fill = k; mark = m }

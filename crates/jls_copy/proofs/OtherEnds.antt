@@ -1,4 +1,4 @@
--- An end that isn't final is the input's, so that bytes behind a copy change it.
+-- An end that isn't final is the input's, so that bytes after a copy change it.
 use Rattle.std.proofs.Common.{◌≡◌, ℕ, true, false, List, length, refl, sym, ap, ◌∙◌, arith, length-append}
 use Rattle.jls_copy.specs.CopyReads.{is_final_end}
 use Rattle.jls_copy.specs.CopyLaws.{OtherEndsChange}
@@ -31,8 +31,8 @@ stands_at_length copy _ (no_marker_first byte p s) other = absurd cc
 stands_at_length copy _ (too_early offset l) other = l
 
 pub other_ends_change : OtherEndsChange
-other_ends_change front more c d is other some longer same =
-    let a = stands_at_length front c.end (ends_stand_at_their_offsets front c is) other in
+other_ends_change prefix more c d is other some longer same =
+    let a = stands_at_length prefix c.end (ends_stand_at_their_offsets prefix c is) other in
     let b = stands_at_length _ d.end (ends_stand_at_their_offsets _ d longer) (ap is_final_end same ∙ other) in
     let o = ap offset_of same in
-    let l = length-append front more in omega (arith, a, b, o, l, some)
+    let l = length-append prefix more in omega (arith, a, b, o, l, some)

@@ -26,7 +26,7 @@ pub on_ok3 : {A B P Q R S : Type 0} (r : Result A B) → (P → Q → R → S) �
 on_ok3 (Ok x) f p q t = f p q t
 on_ok3 (Err e) f p q t = tt
 
--- the decoder of an interval that was told these bytes
+-- the decoder of an interval that was fed these bytes
 abbrev pub decoding_with : Scan → ℕ → List ℕ → IntervalBytes
 decoding_with s k bytes = record { parameters = s.params; width = s.width; components = length s.components; rows = row_count s k; bytes = Some bytes }
 
@@ -52,17 +52,17 @@ module _ (shape : PictureShape) (index : ℕ) (s : Scan) (offset k : ℕ) (old n
     abbrev open_is : IsDecodingOf s k d
     open_is = subst (IsOpenPiece s) is sound
 
-    abbrev told_bytes : List ℕ
-    told_bytes = open_is.bytes
+    abbrev fed_bytes : List ℕ
+    fed_bytes = open_is.bytes
 
-    whole : piece ≡ Within k (decoding_with s k told_bytes)
+    whole : piece ≡ Within k (decoding_with s k fed_bytes)
     whole = is ∙ ap (Within k) (decoding_is s k d open_is)
 
     pub long_adds : Finishes d (Err piece_fault.Long) → new.partial ≡ old.partial
         → new.records.items ≡ kept_with old.records.items (record { scan = index; interval = k; offset = offset; kind = kind.Long } ∷ []) → new.record_count ≡ old.record_count + 1
         → Adds (Some shape) (piece_found index s offset piece ∷ []) old new
     long_adds h p r c =
-        let now : IsLong (interval_of s k) told_bytes =
+        let now : IsLong (interval_of s k) fed_bytes =
         subst (λ x. Finishes x (Err piece_fault.Long)) (decoding_is s k d open_is) h in
         rw whole (shape, refl, Fault kind.Long, now, record { picture_is = rw p refl; records_are = r; count_is = c })
 
@@ -70,7 +70,7 @@ module _ (shape : PictureShape) (index : ℕ) (s : Scan) (offset k : ℕ) (old n
         → new.records.items ≡ kept_with old.records.items (record { scan = index; interval = k; offset = offset; kind = kind.Broken } ∷ []) → new.record_count ≡ old.record_count + 1
         → Adds (Some shape) (piece_found index s offset piece ∷ []) old new
     broken_adds h p r c =
-        let now : IsBroken (interval_of s k) told_bytes =
+        let now : IsBroken (interval_of s k) fed_bytes =
         subst (λ x. Finishes x (Err piece_fault.Broken)) (decoding_is s k d open_is) h in
         rw whole (shape, refl, Fault kind.Broken, now, record { picture_is = rw p refl; records_are = r; count_is = c })
 
@@ -79,13 +79,13 @@ module _ (shape : PictureShape) (index : ℕ) (s : Scan) (offset k : ℕ) (old n
         → new.records.items ≡ old.records.items → new.record_count ≡ old.record_count
         → Adds (Some shape) (piece_found index s offset piece ∷ []) old new
     lines_add lines h p r c =
-        let now : Reads (interval_of s k) told_bytes (map (λ line. line.items) lines.items) =
+        let now : Reads (interval_of s k) fed_bytes (map (λ line. line.items) lines.items) =
         subst (λ x. Finishes x (Ok lines)) (decoding_is s k d open_is) h in
         rw whole (shape, refl, Lines (map (λ line. line.items) lines.items), now, record { picture_is = rw p refl; records_are = r; count_is = rw add-zero c })
 
 -- telling a piece more leaves it sound
-pub told_sound : (s : Scan) (piece : OpenPiece) (more : List ℕ) → IsOpenPiece s piece → IsOpenPiece s (piece_with piece more)
-told_sound s (Within k d) more i = record {
+pub fed_sound : (s : Scan) (piece : OpenPiece) (more : List ℕ) → IsOpenPiece s piece → IsOpenPiece s (piece_with piece more)
+fed_sound s (Within k d) more i = record {
   within = i.within;
   parameters_are = i.parameters_are;
   width_is = i.width_is;
@@ -94,7 +94,7 @@ told_sound s (Within k d) more i = record {
   bytes = i.bytes ++ more;
   bytes_are = let e : d.bytes ≡ Some i.bytes = i.bytes_are in rw e refl;
 }
-told_sound s (Beyond k) more i = i
+fed_sound s (Beyond k) more i = i
 
-pub told_sound_scan : (scan : OpenScan) (b : ℕ) (next : OpenScan) → next ≡ scan_with scan b → IsOpenScan scan → IsOpenScan next
-told_sound_scan scan b next e h = rw e (h.0, told_sound scan.plan scan.piece _ h.1)
+pub fed_sound_scan : (scan : OpenScan) (b : ℕ) (next : OpenScan) → next ≡ scan_with scan b → IsOpenScan scan → IsOpenScan next
+fed_sound_scan scan b next e h = rw e (h.0, fed_sound scan.plan scan.piece _ h.1)

@@ -40,7 +40,7 @@ tells_more (AtLength marker code) h payload ps x b count low c d =
       record {
         before = d.before;
         fill = d.fill;
-        behind = d.behind;
+        following = d.following;
         units = d.units;
         passed = d.passed;
         whole = ap (λ y. y ++ b ∷ []) d.whole ∙ simp append_assoc refl;
@@ -50,9 +50,9 @@ tells_more (AtLength marker code) h payload ps x b count low c d =
       },
     )
 tells_more (InLength marker code high) h payload ps x b count low c (lh, d) =
-    rw append-nil (length_more d.before h d.units ps d.behind d.passed d.fill code d.known d.follows x count marker high b lh low d.whole c d.marker_at)
+    rw append-nil (length_more d.before h d.units ps d.following d.passed d.fill code d.known d.follows x count marker high b lh low d.whole c d.marker_at)
 tells_more (InPayload marker code size) h payload ps x b count low c (within, small, d) =
-    rw append-nil (payload_more d.before h d.units ps d.behind d.passed d.fill code d.known d.follows x payload count marker size b d.whole within small c d.marker_at)
+    rw append-nil (payload_more d.before h d.units ps d.following d.passed d.fill code d.known d.follows x payload count marker size b d.whole within small c d.marker_at)
 tells_more (InScan o) h payload ps x b count low c d = scan_more o h ps x d b payload count c
 tells_more (Done e) h payload ps x b count low c d = rw append-nil (ended_more e h ps x b d)
 

@@ -14,7 +14,7 @@ use Rattle.jls_copy.specs.declared.scan.ByteClass.TheVariants.{Fill, Data}
 use Rattle.jls_copy.specs.declared.scan.Held.{Held}
 use Rattle.jls_copy.specs.declared.scan.Held.TheVariants.{Nothing, One, More}
 use Rattle.jls_copy.specs.declared.scan.OpenScan.{OpenScan}
-use Rattle.jls_copy.proofs.Outcomes.{told_sound_scan}
+use Rattle.jls_copy.proofs.Outcomes.{fed_sound_scan}
 use Rattle.jls_copy.proofs.Stretches.{stretch_leads, stretch_sound}
 
 fill_or_data : (scan : OpenScan) (t : Bool) → closed_by (cond t Fill Data) scan ≡ []
@@ -27,44 +27,44 @@ free_closes_none Nothing scan b free = fill_or_data scan (b == 0xFF)
 free_closes_none One scan b free = absurd cc
 free_closes_none More scan b free = absurd cc
 
-pub takes_told : (old new : OpenScan) (bytes : List ℕ) (count : ℕ) → old.held ≡ Nothing → 0 < count → count ≤ length bytes
+pub takes_fed : (old new : OpenScan) (bytes : List ℕ) (count : ℕ) → old.held ≡ Nothing → 0 < count → count ≤ length bytes
     → IsStretch (take count bytes) → new ≡ record old { piece = piece_with old.piece (take count bytes) } → TakesData old bytes new count
-takes_told old new bytes count free some within ok told = record {
+takes_fed old new bytes count free some within ok fed = record {
   some = some;
   within = within;
-  leads = stretch_leads old new (take count bytes) free ok told;
+  leads = stretch_leads old new (take count bytes) free ok fed;
   closes_none = free_closes_none old.held old (get_or bytes 0 0) free;
-  sound = stretch_sound old new (take count bytes) told;
+  sound = stretch_sound old new (take count bytes) fed;
 }
 
 data_leads : (old new : OpenScan) (bytes : List ℕ) → 0 < length bytes → class_of old.held (get_or bytes 0 0) ≡ Data
     → new ≡ scan_with old (get_or bytes 0 0) → LeadsTo (InScan old) (take 1 bytes) (InScan new)
-data_leads old new [] some is told = absurd (omega (arith, some))
-data_leads old new (b ∷ bytes) some is told = λ payload count h ps. rw (is, told, append-nil ps) refl
+data_leads old new [] some is fed = absurd (omega (arith, some))
+data_leads old new (b ∷ bytes) some is fed = λ payload count h ps. rw (is, fed, append-nil ps) refl
 
 pub takes_data : (old new : OpenScan) (bytes : List ℕ) → 0 < length bytes → class_of old.held (get_or bytes 0 0) ≡ Data
     → new ≡ scan_with old (get_or bytes 0 0) → TakesData old bytes new 1
-takes_data old new bytes some is told = record {
+takes_data old new bytes some is fed = record {
   some = omega arith;
   within = omega (arith, some);
-  leads = data_leads old new bytes some is told;
+  leads = data_leads old new bytes some is fed;
   closes_none = rw is refl;
   sound = λ frame payload h. (
-    told_sound_scan old (get_or bytes 0 0) new told h.0,
-    subst (IsOfFrame frame) (sym (ap (λ (scan : OpenScan). scan.plan) told)) h.1,
+    fed_sound_scan old (get_or bytes 0 0) new fed h.0,
+    subst (IsOfFrame frame) (sym (ap (λ (scan : OpenScan). scan.plan) fed)) h.1,
   );
 }
 
--- behind FF bytes it is all one how many there are
+-- after FF bytes it is all one how many there are
 pub class_one : (held : Held) (b : ℕ) (class : ByteClass) → (held ≡ Nothing → ⊥) → class ≡ class_of One b → class_of held b ≡ class
 class_one Nothing b class some is = absurd (some refl)
 class_one One b class some is = sym is
 class_one More b class some is = sym is
 
--- a piece that was told more
-pub within_told : (piece : OpenPiece) (k : ℕ) (d d' : IntervalBytes) (more : List ℕ) → piece ≡ Within k d → d' ≡ with_bytes d more
+-- a piece that was fed more
+pub within_fed : (piece : OpenPiece) (k : ℕ) (d d' : IntervalBytes) (more : List ℕ) → piece ≡ Within k d → d' ≡ with_bytes d more
     → Within k d' ≡ piece_with piece more
-within_told piece k d d' more is told = ap (Within k) told ∙ ap (λ (p : OpenPiece). piece_with p more) (sym is)
+within_fed piece k d d' more is fed = ap (Within k) fed ∙ ap (λ (p : OpenPiece). piece_with p more) (sym is)
 
-pub beyond_told : (piece : OpenPiece) (k : ℕ) (more : List ℕ) → piece ≡ Beyond k → piece ≡ piece_with piece more
-beyond_told piece k more is = is ∙ ap (λ (p : OpenPiece). piece_with p more) (sym is)
+pub beyond_fed : (piece : OpenPiece) (k : ℕ) (more : List ℕ) → piece ≡ Beyond k → piece ≡ piece_with piece more
+beyond_fed piece k more is = is ∙ ap (λ (p : OpenPiece). piece_with p more) (sym is)

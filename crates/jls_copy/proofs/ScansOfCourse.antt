@@ -7,7 +7,7 @@ use Rattle.jls_marker.specs.SegmentLaws.{AreBytes}
 use Rattle.jls_marker.proofs.HeaderSteps.{scans_are_in_range}
 use Rattle.jls_marker.proofs.HeadersKept.{headers_kept, no_headers_kept}
 use Rattle.jls_copy.specs.ScanData.{fill_bytes, ClosedPiece, closed_bytes}
-use Rattle.jls_copy.specs.Numbers.{PieceNumber, number_behind, given_last}
+use Rattle.jls_copy.specs.Numbers.{PieceNumber, number_after, given_last}
 use Rattle.jls_copy.specs.Pieces.{FoundPiece, pieces_from, pieces_in, pieces, piece_begun}
 use Rattle.jls_copy.specs.Course.{CopyUnit, segment, scan, segment_unit_bytes, scan_data_bytes, AreUnits, Course, IsCourse, with_soi, with_another_marker, with_no_marker, with_fill_alone}
 use Rattle.jls_copy.specs.declared.end.End.{End}
@@ -29,7 +29,7 @@ pieces_have : (index : ℕ) (s : Scan) (last : ℕ) (number : PieceNumber) (at :
     → AllByRecursion HasScan (pieces_from (piece_begun index s number at) last closed bytes)
 pieces_have index s last number at [] bytes ok = (ok, tt)
 pieces_have index s last number at (c ∷ closed) bytes ok =
-    let next = number_behind (intervals s) last c.mark in
+    let next = number_after (intervals s) last c.mark in
     (ok, pieces_have index s (given_last last next) next (at + length (closed_bytes c)) closed bytes ok)
 
 payload_bytes : (fill code : ℕ) (payload : List ℕ) → AreBytes (segment_unit_bytes fill code payload) → AreBytes payload

@@ -1,4 +1,4 @@
--- A segment that stands whole at the front leads, taken at once, where its bytes do one after another.
+-- A segment that stands whole at the start leads, taken at once, where its bytes do one after another.
 use Rattle.std.proofs.Common.{◌≡◌, ℕ, suc, ◌+◌, ◌-◌, ◌*◌, ◌<◌, ◌≤◌, ◌≢◌, Bool, true, false, List, [], ◌∷◌, take, drop, length, get_or, refl, sym, ap, ◌∙◌, subst, arith}
 use Rattle.std.specs.Prelude.{◌==◌, nat_lt}
 use Rattle.std.proofs.lemmas.List.{append-nil, length-take-le}

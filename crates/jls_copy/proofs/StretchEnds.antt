@@ -4,7 +4,7 @@ use Rattle.std.proofs.lemmas.Bool.{cases_lt}
 use Rattle.jls_copy.specs.ScanData.{IsCutPlace}
 use Rattle.jls_copy.specs.Stretch.{IsStretch}
 
--- so many bytes at the front hold no place of a cut
+-- so many bytes at the start hold no place of a cut
 abbrev NoCut : List ℕ → ℕ → Type 0
 NoCut bytes n = (i : ℕ) → i < n → IsCutPlace bytes i → ⊥
 
@@ -15,11 +15,11 @@ shifted b bytes i h = record {
   is_code = subst (λ j. 0x80 ≤ get_or (b ∷ bytes) j 0) (let e : suc (i + 1) ≡ suc i + 1 = omega arith in e) h.is_code;
 }
 
-behind : (b : ℕ) (bytes : List ℕ) (n : ℕ) → NoCut (b ∷ bytes) (suc n) → NoCut bytes n
-behind b bytes n none i low h = none (suc i) (omega (arith, low)) (shifted b bytes i h)
+following : (b : ℕ) (bytes : List ℕ) (n : ℕ) → NoCut (b ∷ bytes) (suc n) → NoCut bytes n
+following b bytes n none i low h = none (suc i) (omega (arith, low)) (shifted b bytes i h)
 
-low_behind : (b c : ℕ) (more : List ℕ) (n : ℕ) → NoCut (b ∷ c ∷ more) (suc n) → b ≡ 0xFF → c < 0x80
-low_behind b c more n none e = elim (cases_lt c 0x80) [
+low_after : (b c : ℕ) (more : List ℕ) (n : ℕ) → NoCut (b ∷ c ∷ more) (suc n) → b ≡ 0xFF → c < 0x80
+low_after b c more n none e = elim (cases_lt c 0x80) [
   | inl low ↦ low
   | inr high ↦ absurd (none 0 (omega arith) (record { within = omega arith; is_ff = e; is_code = high }))
 ]
@@ -31,7 +31,7 @@ stretch_of [] (suc n) none within last = absurd (omega (arith, within))
 stretch_of (b ∷ bytes) (suc zero) none within last = last (omega arith)
 stretch_of (b ∷ []) (suc (suc n)) none within last = absurd (omega (arith, within))
 stretch_of (b ∷ c ∷ more) (suc (suc n)) none within last =
-    (low_behind b c more (suc n) none, stretch_of (c ∷ more) (suc n) (behind b (c ∷ more) (suc n) none) (omega (arith, within)) (λ _. moved (last (omega arith))))
+    (low_after b c more (suc n) none, stretch_of (c ∷ more) (suc n) (following b (c ∷ more) (suc n) none) (omega (arith, within)) (λ _. moved (last (omega arith))))
   where
     moved : get_or (b ∷ c ∷ more) (suc (suc n) - 1) 0 ≢ 0xFF → get_or (c ∷ more) (suc n - 1) 0 ≢ 0xFF
     moved = subst (λ j. get_or (b ∷ c ∷ more) j 0 ≢ 0xFF) (let e : suc (suc n) - 1 ≡ suc (suc n - 1) = omega arith in e)

@@ -11,7 +11,7 @@ use Rattle.jls_copy.specs.ScanData.{is_restart_code, ends_scan_data}
 use Rattle.jls_copy.specs.ReaderState.{Reading, reading_from, reading_with, piece_with, scan_with, class_of}
 use Rattle.jls_copy.specs.Sound.{IsPlace}
 use Rattle.jls_copy.specs.Stretch.{IsStretch, LeadsTo}
-use Rattle.jls_copy.proofs.Outcomes.{told_sound}
+use Rattle.jls_copy.proofs.Outcomes.{fed_sound}
 use Rattle.jls_values.specs.Shape.{PictureShape}
 use Rattle.jls_copy.specs.declared.piece.OpenPiece.{OpenPiece}
 use Rattle.jls_copy.specs.declared.piece.OpenPiece.TheVariants as open_piece
@@ -22,29 +22,29 @@ use Rattle.jls_copy.specs.declared.scan.OpenScan.{OpenScan}
 use Rattle.jls_copy.specs.declared.place.Place.TheVariants.{InScan}
 
 -- telling a piece nothing, or in two parts
-told_none : (o : Option (List ℕ)) → option_map (λ bytes. bytes ++ []) o ≡ o
-told_none None = refl
-told_none (Some bytes) = ap Some (append-nil bytes)
+fed_none : (o : Option (List ℕ)) → option_map (λ bytes. bytes ++ []) o ≡ o
+fed_none None = refl
+fed_none (Some bytes) = ap Some (append-nil bytes)
 
-told_parts : (o : Option (List ℕ)) (xs ys : List ℕ)
+fed_parts : (o : Option (List ℕ)) (xs ys : List ℕ)
     → option_map (λ bytes. bytes ++ ys) (option_map (λ bytes. bytes ++ xs) o) ≡ option_map (λ bytes. bytes ++ (xs ++ ys)) o
-told_parts None xs ys = refl
-told_parts (Some bytes) xs ys = ap Some (append_assoc bytes xs ys)
+fed_parts None xs ys = refl
+fed_parts (Some bytes) xs ys = ap Some (append_assoc bytes xs ys)
 
 with_none : (piece : OpenPiece) → piece_with piece [] ≡ piece
-with_none (open_piece.Within k d) = ap (λ o. open_piece.Within k (record d { bytes = o })) (told_none d.bytes)
+with_none (open_piece.Within k d) = ap (λ o. open_piece.Within k (record d { bytes = o })) (fed_none d.bytes)
 with_none (open_piece.Beyond k) = refl
 
 with_parts : (piece : OpenPiece) (xs ys : List ℕ) → piece_with (piece_with piece xs) ys ≡ piece_with piece (xs ++ ys)
-with_parts (open_piece.Within k d) xs ys = ap (λ o. open_piece.Within k (record d { bytes = o })) (told_parts d.bytes xs ys)
+with_parts (open_piece.Within k d) xs ys = ap (λ o. open_piece.Within k (record d { bytes = o })) (fed_parts d.bytes xs ys)
 with_parts (open_piece.Beyond k) xs ys = refl
 
 data_alone : (b : ℕ) → b ≢ 0xFF → class_of Nothing b ≡ Data
 data_alone b ne = let not_fill : (b == 0xFF) ≡ false = grind (arith, nat_tests) in rw not_fill refl
 
 -- a byte below 0x80 is no code of a marker
-data_behind : (b : ℕ) → b < 0x80 → class_of One b ≡ Data
-data_behind b low =
+data_after : (b : ℕ) → b < 0x80 → class_of One b ≡ Data
+data_after b low =
     let not_fill : (b == 0xFF) ≡ false = grind (arith, nat_tests, low) in
     let no_mark : is_restart_code b ≡ false = grind (arith, nat_tests, low) in
     let no_end : ends_scan_data b ≡ false = grind (arith, nat_tests, low) in
@@ -74,7 +74,7 @@ module _ (scan : OpenScan) (h : HeaderState) (payload : List ℕ) where
       → reading_from (at count Nothing piece ps) (0xFF ∷ c ∷ more) ≡ reading_from (at (count + 1 + 1) Nothing (piece_with piece (0xFF ∷ c ∷ [])) ps) more
   pair_steps count piece ps c more low =
       ap (λ r. reading_from (reading_with r c) more) (fill_step count piece ps)
-      ∙ ap (λ r. reading_from r more) (data_step (count + 1) One piece ps c (data_behind c low))
+      ∙ ap (λ r. reading_from r more) (data_step (count + 1) One piece ps c (data_after c low))
 
   byte_step : (count : ℕ) (piece : OpenPiece) (ps : List FoundPiece) (b : ℕ) (more : List ℕ) → b ≢ 0xFF
       → reading_from (at count Nothing piece ps) (b ∷ more) ≡ reading_from (at (count + 1) Nothing (piece_with piece (b ∷ [])) ps) more
@@ -93,11 +93,11 @@ module _ (scan : OpenScan) (h : HeaderState) (payload : List ℕ) where
       by : ((k : ℕ) (p : OpenPiece) (qs : List FoundPiece) → reading_from (at k Nothing p qs) more ≡ at (k + length more) Nothing (piece_with p more) qs)
           → ((k : ℕ) (p : OpenPiece) (qs : List FoundPiece) → reading_from (at k Nothing p qs) (c ∷ more) ≡ at (k + length (c ∷ more)) Nothing (piece_with p (c ∷ more)) qs)
           → (b ≡ 0xFF) ⊎ (b ≢ 0xFF) → reading_from (at count Nothing piece ps) (b ∷ c ∷ more) ≡ at (count + length (b ∷ c ∷ more)) Nothing (piece_with piece (b ∷ c ∷ more)) ps
-      by behind next (inl e) =
+      by following next (inl e) =
           let size : count + 1 + 1 + length more ≡ count + length (b ∷ c ∷ more) = omega arith in
           let same : piece_with (piece_with piece (0xFF ∷ c ∷ [])) more ≡ piece_with piece (0xFF ∷ c ∷ more) = with_parts piece (0xFF ∷ c ∷ []) more in
-          rw e (pair_steps count piece ps c more (ok.0 e) ∙ behind (count + 1 + 1) (piece_with piece (0xFF ∷ c ∷ [])) ps ∙ rw (size, same) refl)
-      by behind next (inr ne) =
+          rw e (pair_steps count piece ps c more (ok.0 e) ∙ following (count + 1 + 1) (piece_with piece (0xFF ∷ c ∷ [])) ps ∙ rw (size, same) refl)
+      by following next (inr ne) =
           let size : count + 1 + length (c ∷ more) ≡ count + length (b ∷ c ∷ more) = omega arith in
           let same : piece_with (piece_with piece (b ∷ [])) (c ∷ more) ≡ piece_with piece (b ∷ c ∷ more) = with_parts piece (b ∷ []) (c ∷ more) in
           byte_step count piece ps b (c ∷ more) ne ∙ next (count + 1) (piece_with piece (b ∷ [])) ps ∙ rw (size, same) refl
@@ -105,13 +105,13 @@ module _ (scan : OpenScan) (h : HeaderState) (payload : List ℕ) where
 -- a scan that holds nothing back takes a stretch at once
 pub stretch_leads : (scan next : OpenScan) (xs : List ℕ) → scan.held ≡ Nothing → IsStretch xs → next ≡ record scan { piece = piece_with scan.piece xs }
     → LeadsTo (InScan scan) xs (InScan next)
-stretch_leads scan next xs free ok told payload count h ps =
+stretch_leads scan next xs free ok fed payload count h ps =
     let before : scan ≡ holding scan Nothing scan.piece = ap (λ held. record scan { held = held }) free in
-    let after : next ≡ holding scan Nothing (piece_with scan.piece xs) = told ∙ ap (λ held. record scan { held = held; piece = piece_with scan.piece xs }) free in
+    let after : next ≡ holding scan Nothing (piece_with scan.piece xs) = fed ∙ ap (λ held. record scan { held = held; piece = piece_with scan.piece xs }) free in
     rw after (subst (λ s. reading_from (record { state = record { count = count; place = InScan s; headers = h; payload = payload }; pieces = ps }) xs
     ≡ at scan h payload (count + length xs) Nothing (piece_with scan.piece xs) ps) (sym before) (stretched scan h payload xs ok count scan.piece ps))
 
 -- and is still a scan of the frame
 pub stretch_sound : (scan next : OpenScan) (xs : List ℕ) → next ≡ record scan { piece = piece_with scan.piece xs } → (frame : Option PictureShape) (payload : List ℕ)
     → IsPlace frame (InScan scan) payload → IsPlace frame (InScan next) payload
-stretch_sound scan next xs told frame payload h = rw told ((h.0.0, told_sound scan.plan scan.piece xs h.0.1), h.1)
+stretch_sound scan next xs fed frame payload h = rw fed ((h.0.0, fed_sound scan.plan scan.piece xs h.0.1), h.1)

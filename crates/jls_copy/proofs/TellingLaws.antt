@@ -1,4 +1,4 @@
--- What stands at the offsets that are told of a copy, and which pieces have records.
+-- What stands at the offsets that are reported of a copy, and which pieces have records.
 use Rattle.std.proofs.Common.{◌≡◌, ℕ, ◌+◌, ◌/◌, ◌%◌, List, [], ◌∷◌, ◌++◌, length, refl, sym, ap, ◌∙◌, subst, append_assoc, arith, length-append}
 use Rattle.std.proofs.lemmas.List.{length-replicate}
 use Rattle.std.specs.List.{flat_map, AllByRecursion}
@@ -6,7 +6,7 @@ use Rattle.jls_marker.specs.HeaderState.{HeaderState, no_headers}
 use Rattle.jls_marker.specs.Scan.{Scan, intervals}
 use Rattle.jls_marker.specs.declared.fault.MarkerFault.TheVariants as fault
 use Rattle.jls_copy.specs.ScanData.{fill_bytes, ClosedPiece, closed_bytes}
-use Rattle.jls_copy.specs.Numbers.{PieceNumber, Interval, number_behind, given_last}
+use Rattle.jls_copy.specs.Numbers.{PieceNumber, Interval, number_after, given_last}
 use Rattle.jls_copy.specs.Pieces.{FoundPiece, pieces_from, pieces_in, pieces, PieceOutcome, Lines, Fault, AreOutcomes, value_of, records, piece_begun}
 use Rattle.jls_copy.specs.Course.{CopyUnit, segment, scan, segment_unit_bytes, scan_data_bytes, unit_bytes, dropped_bytes, EndsHere, at_eoi, at_eoi_before_a_frame, at_no_marker, at_unknown_code, at_short_length, at_refused_segment, Ends, for_good, with_the_input, in_a_unit, AreUnits, with_soi, with_another_marker, with_no_marker, with_fill_alone}
 use Rattle.jls_copy.specs.TellingLaws.{StandsAt, PiecesStandAtTheirOffsets, EndStands, eoi, input, eoi_before_a_frame, refused_segment, unknown_marker, no_marker, another_marker, no_marker_first, too_early, EndsStandAtTheirOffsets, AreRecordsOf, of_none, reads, faulty, RecordsAreOfFaultyPieces}
@@ -22,65 +22,65 @@ both_stand : (copy : List ℕ) (ps qs : List FoundPiece) → AllByRecursion (Sta
 both_stand copy [] qs h k = k
 both_stand copy (p ∷ ps) qs h k = (h.0, both_stand copy ps qs h.1 k)
 
--- a copy in which these bytes stand behind a front of this length
-record Behind (copy front bytes : List ℕ) (at : ℕ) : Type 0 where
-  copy_is : copy ≡ front ++ bytes
-  at_is : at ≡ length front
+-- a copy in which these bytes stand after a prefix of this length
+record After (copy prefix bytes : List ℕ) (at : ℕ) : Type 0 where
+  copy_is : copy ≡ prefix ++ bytes
+  at_is : at ≡ length prefix
 
-behind : (copy front xs ys : List ℕ) (at : ℕ) → Behind copy front (xs ++ ys) at → Behind copy (front ++ xs) ys (at + length xs)
-behind copy front xs ys at b = record {
-  copy_is = b.copy_is ∙ sym (append_assoc front xs ys);
-  at_is = let e = length-append front xs in let l = b.at_is in omega (arith, e, l);
+following : (copy prefix xs ys : List ℕ) (at : ℕ) → After copy prefix (xs ++ ys) at → After copy (prefix ++ xs) ys (at + length xs)
+following copy prefix xs ys at b = record {
+  copy_is = b.copy_is ∙ sym (append_assoc prefix xs ys);
+  at_is = let e = length-append prefix xs in let l = b.at_is in omega (arith, e, l);
 }
 
-others : (copy front xs ys : List ℕ) (at : ℕ) → xs ≡ ys → Behind copy front xs at → Behind copy front ys at
-others copy front xs ys at e b = record { copy_is = b.copy_is ∙ ap (λ z. front ++ z) e; at_is = b.at_is }
+others : (copy prefix xs ys : List ℕ) (at : ℕ) → xs ≡ ys → After copy prefix xs at → After copy prefix ys at
+others copy prefix xs ys at e b = record { copy_is = b.copy_is ∙ ap (λ z. prefix ++ z) e; at_is = b.at_is }
 
-stands : (copy front bytes back : List ℕ) (at : ℕ) → Behind copy front (bytes ++ back) at → StandsAt copy at bytes
-stands copy front bytes back at b = record { front = front; back = back; copy_is = b.copy_is; offset_is = b.at_is }
+stands : (copy prefix bytes back : List ℕ) (at : ℕ) → After copy prefix (bytes ++ back) at → StandsAt copy at bytes
+stands copy prefix bytes back at b = record { prefix = prefix; back = back; copy_is = b.copy_is; offset_is = b.at_is }
 
 -- Pieces -----------------------------------------------------------------------------------------------------------
 
-pieces_stand : (copy front : List ℕ) (index : ℕ) (s : Scan) (last : ℕ) (number : PieceNumber) (at : ℕ) (closed : List ClosedPiece)
+pieces_stand : (copy prefix : List ℕ) (index : ℕ) (s : Scan) (last : ℕ) (number : PieceNumber) (at : ℕ) (closed : List ClosedPiece)
     → (bytes rest : List ℕ)
-    → Behind copy front (flat_map closed_bytes closed ++ (bytes ++ rest)) at
+    → After copy prefix (flat_map closed_bytes closed ++ (bytes ++ rest)) at
     → AllByRecursion (Stands copy) (pieces_from (piece_begun index s number at) last closed bytes)
-pieces_stand copy front index s last number at [] bytes rest b = (stands copy front bytes rest at b, tt)
-pieces_stand copy front index s last number at (c ∷ closed) bytes rest b =
-    let next = number_behind (intervals s) last c.mark in
+pieces_stand copy prefix index s last number at [] bytes rest b = (stands copy prefix bytes rest at b, tt)
+pieces_stand copy prefix index s last number at (c ∷ closed) bytes rest b =
+    let next = number_after (intervals s) last c.mark in
     let more : List ℕ = flat_map closed_bytes closed ++ (bytes ++ rest) in
-    let whole = others copy front _ (closed_bytes c ++ more) at (append_assoc (closed_bytes c) (flat_map closed_bytes closed) (bytes ++ rest)) b in
-    let first = others copy front _ (c.piece ++ ((fill_bytes c.fill ++ (0xFF ∷ (0xD0 + c.mark) ∷ [])) ++ more)) at
+    let whole = others copy prefix _ (closed_bytes c ++ more) at (append_assoc (closed_bytes c) (flat_map closed_bytes closed) (bytes ++ rest)) b in
+    let first = others copy prefix _ (c.piece ++ ((fill_bytes c.fill ++ (0xFF ∷ (0xD0 + c.mark) ∷ [])) ++ more)) at
     (append_assoc c.piece (fill_bytes c.fill ++ (0xFF ∷ (0xD0 + c.mark) ∷ [])) more) whole in (
-      stands copy front c.piece _ at first,
-      pieces_stand copy (front ++ closed_bytes c) index s (given_last last next) next (at + length (closed_bytes c)) closed bytes rest
-          (behind copy front (closed_bytes c) more at whole),
+      stands copy prefix c.piece _ at first,
+      pieces_stand copy (prefix ++ closed_bytes c) index s (given_last last next) next (at + length (closed_bytes c)) closed bytes rest
+          (following copy prefix (closed_bytes c) more at whole),
     )
 
 regrouped : (head closed last dropped rest : List ℕ) → (head ++ (closed ++ (last ++ dropped))) ++ rest ≡ head ++ (closed ++ (last ++ (dropped ++ rest)))
 regrouped head closed last dropped rest = simp append_assoc refl
 
-units_stand : (copy front : List ℕ) (h : HeaderState) (at : ℕ) (bytes : List ℕ) (us : List CopyUnit) (final : HeaderState) (e : End) (index : ℕ)
-    → Behind copy front bytes at
+units_stand : (copy prefix : List ℕ) (h : HeaderState) (at : ℕ) (bytes : List ℕ) (us : List CopyUnit) (final : HeaderState) (e : End) (index : ℕ)
+    → After copy prefix bytes at
     → AreUnits h at bytes us final e → AllByRecursion (Stands copy) (pieces_in index at us)
-units_stand copy front h at bytes [] final e index b u = tt
-units_stand copy front h at bytes (segment fill code payload ∷ us) final e index b (after, rest, whole, unit, more) =
-    let parted = others copy front bytes (segment_unit_bytes fill code payload ++ rest) at whole b in
-    units_stand copy (front ++ segment_unit_bytes fill code payload) after (at + length (segment_unit_bytes fill code payload)) rest us final e (index + 0)
-    (behind copy front (segment_unit_bytes fill code payload) rest at parted) more
-units_stand copy front h at bytes (scan fill code payload plan closed last closing ∷ us) final e index b (after, rest, whole, unit, more) =
+units_stand copy prefix h at bytes [] final e index b u = tt
+units_stand copy prefix h at bytes (segment fill code payload ∷ us) final e index b (after, rest, whole, unit, more) =
+    let parted = others copy prefix bytes (segment_unit_bytes fill code payload ++ rest) at whole b in
+    units_stand copy (prefix ++ segment_unit_bytes fill code payload) after (at + length (segment_unit_bytes fill code payload)) rest us final e (index + 0)
+    (following copy prefix (segment_unit_bytes fill code payload) rest at parted) more
+units_stand copy prefix h at bytes (scan fill code payload plan closed last closing ∷ us) final e index b (after, rest, whole, unit, more) =
     let head = segment_unit_bytes fill code payload in
     let unit_is : List ℕ = head ++ scan_data_bytes closed last closing in
-    let parted = others copy front bytes (unit_is ++ rest) at whole b in
-    let in_data = others copy front _ (head ++ (flat_map closed_bytes closed ++ (last ++ (dropped_bytes closing ++ rest)))) at
+    let parted = others copy prefix bytes (unit_is ++ rest) at whole b in
+    let in_data = others copy prefix _ (head ++ (flat_map closed_bytes closed ++ (last ++ (dropped_bytes closing ++ rest)))) at
     (regrouped head (flat_map closed_bytes closed) last (dropped_bytes closing) rest) parted in
     both_stand copy (pieces_from (piece_begun index plan (Interval 0) (at + length head)) 0 closed last) _
-    (pieces_stand copy (front ++ head) index plan 0 (Interval 0) (at + length head) closed last (dropped_bytes closing ++ rest)
-    (behind copy front head _ at in_data))
-    (units_stand copy (front ++ unit_is) after (at + length unit_is) rest us final e (index + 1) (behind copy front unit_is rest at parted) more)
+    (pieces_stand copy (prefix ++ head) index plan 0 (Interval 0) (at + length head) closed last (dropped_bytes closing ++ rest)
+    (following copy prefix head _ at in_data))
+    (units_stand copy (prefix ++ unit_is) after (at + length unit_is) rest us final e (index + 1) (following copy prefix unit_is rest at parted) more)
 
 -- SOI stands before the units
-soi : (n : ℕ) (bytes : List ℕ) → Behind (fill_bytes n ++ (0xFF ∷ 0xD8 ∷ bytes)) (fill_bytes n ++ (0xFF ∷ 0xD8 ∷ [])) bytes (n + 2)
+soi : (n : ℕ) (bytes : List ℕ) → After (fill_bytes n ++ (0xFF ∷ 0xD8 ∷ bytes)) (fill_bytes n ++ (0xFF ∷ 0xD8 ∷ [])) bytes (n + 2)
 soi n bytes = record {
   copy_is = sym (append_assoc (fill_bytes n) (0xFF ∷ 0xD8 ∷ []) bytes);
   at_is = let e = length-append (fill_bytes n) (0xFF ∷ 0xD8 ∷ []) in let l = length-replicate {A = ℕ} n 0xFF in omega (arith, e, l);
@@ -95,55 +95,55 @@ pieces_stand_at_their_offsets _ _ (with_fill_alone n) = tt
 
 -- Ends -------------------------------------------------------------------------------------------------------------
 
--- behind fill bytes
-filled : (copy front : List ℕ) (n : ℕ) (bytes : List ℕ) (at : ℕ) → Behind copy front (fill_bytes n ++ bytes) at
-    → Behind copy (front ++ fill_bytes n) bytes (at + n)
-filled copy front n bytes at b = record {
-  copy_is = b.copy_is ∙ sym (append_assoc front (fill_bytes n) bytes);
-  at_is = let e = length-append front (fill_bytes n) in let l = length-replicate {A = ℕ} n 0xFF in let k = b.at_is in omega (arith, e, l, k);
+-- after fill bytes
+filled : (copy prefix : List ℕ) (n : ℕ) (bytes : List ℕ) (at : ℕ) → After copy prefix (fill_bytes n ++ bytes) at
+    → After copy (prefix ++ fill_bytes n) bytes (at + n)
+filled copy prefix n bytes at b = record {
+  copy_is = b.copy_is ∙ sym (append_assoc prefix (fill_bytes n) bytes);
+  at_is = let e = length-append prefix (fill_bytes n) in let l = length-replicate {A = ℕ} n 0xFF in let k = b.at_is in omega (arith, e, l, k);
 }
 
-whole_behind : (copy front bytes : List ℕ) (at : ℕ) → Behind copy front bytes at → at + length bytes ≡ length copy
-whole_behind copy front bytes at b =
-    let e = ap length b.copy_is in let l = length-append front bytes in let k = b.at_is in omega (arith, e, l, k)
+whole_after : (copy prefix bytes : List ℕ) (at : ℕ) → After copy prefix bytes at → at + length bytes ≡ length copy
+whole_after copy prefix bytes at b =
+    let e = ap length b.copy_is in let l = length-append prefix bytes in let k = b.at_is in omega (arith, e, l, k)
 
-marker_stands : (copy front : List ℕ) (n code : ℕ) (more : List ℕ) (at : ℕ) → Behind copy front (fill_bytes n ++ (0xFF ∷ code ∷ more)) at
+marker_stands : (copy prefix : List ℕ) (n code : ℕ) (more : List ℕ) (at : ℕ) → After copy prefix (fill_bytes n ++ (0xFF ∷ code ∷ more)) at
     → StandsAt copy (at + n) (0xFF ∷ code ∷ [])
-marker_stands copy front n code more at b = stands copy (front ++ fill_bytes n) (0xFF ∷ code ∷ []) more (at + n) (filled copy front n (0xFF ∷ code ∷ more) at b)
+marker_stands copy prefix n code more at b = stands copy (prefix ++ fill_bytes n) (0xFF ∷ code ∷ []) more (at + n) (filled copy prefix n (0xFF ∷ code ∷ more) at b)
 
-stop_stands : (copy front : List ℕ) (h : HeaderState) (at : ℕ) (bytes : List ℕ) (e : End) → Behind copy front bytes at → EndsHere h at bytes e
+stop_stands : (copy prefix : List ℕ) (h : HeaderState) (at : ℕ) (bytes : List ℕ) (e : End) → After copy prefix bytes at → EndsHere h at bytes e
     → EndStands copy e
-stop_stands copy front _ _ _ _ b (at_eoi h at n more p) = eoi (at + n) (marker_stands copy front n 0xD9 more at b)
-stop_stands copy front _ _ _ _ b (at_eoi_before_a_frame h at n more p) =
-    eoi_before_a_frame (at + n) (marker_stands copy front n 0xD9 more at b)
-stop_stands copy front _ _ _ _ b (at_no_marker h at x more p) = no_marker at x p (stands copy front (x ∷ []) more at b)
-stop_stands copy front _ _ _ _ b (at_unknown_code h at n code more p q r) =
-    unknown_marker (at + n) code p q r (marker_stands copy front n code more at b)
-stop_stands copy front _ _ _ _ b (at_short_length h at n code high low more p q) =
-    refused_segment fault.Length (at + n) code refl p (marker_stands copy front n code (high ∷ low ∷ more) at b)
-stop_stands copy front _ _ _ _ b (at_refused_segment h at n code payload more f p r) =
+stop_stands copy prefix _ _ _ _ b (at_eoi h at n more p) = eoi (at + n) (marker_stands copy prefix n 0xD9 more at b)
+stop_stands copy prefix _ _ _ _ b (at_eoi_before_a_frame h at n more p) =
+    eoi_before_a_frame (at + n) (marker_stands copy prefix n 0xD9 more at b)
+stop_stands copy prefix _ _ _ _ b (at_no_marker h at x more p) = no_marker at x p (stands copy prefix (x ∷ []) more at b)
+stop_stands copy prefix _ _ _ _ b (at_unknown_code h at n code more p q r) =
+    unknown_marker (at + n) code p q r (marker_stands copy prefix n code more at b)
+stop_stands copy prefix _ _ _ _ b (at_short_length h at n code high low more p q) =
+    refused_segment fault.Length (at + n) code refl p (marker_stands copy prefix n code (high ∷ low ∷ more) at b)
+stop_stands copy prefix _ _ _ _ b (at_refused_segment h at n code payload more f p r) =
     let size : ℕ = length payload + 2 in
-    let whole = others copy front _ (fill_bytes n ++ (0xFF ∷ code ∷ (size / 256 ∷ size % 256 ∷ payload) ++ more)) at
+    let whole = others copy prefix _ (fill_bytes n ++ (0xFF ∷ code ∷ (size / 256 ∷ size % 256 ∷ payload) ++ more)) at
     (append_assoc (fill_bytes n) (0xFF ∷ code ∷ size / 256 ∷ size % 256 ∷ payload) more) b in
     refused_segment f (at + n) code (segment_fault h code payload f p.0 r) p.0
-    (marker_stands copy front n code ((size / 256 ∷ size % 256 ∷ payload) ++ more) at whole)
+    (marker_stands copy prefix n code ((size / 256 ∷ size % 256 ∷ payload) ++ more) at whole)
 
-ends_stand : (copy front : List ℕ) (h : HeaderState) (at : ℕ) (bytes : List ℕ) (e : End) → Behind copy front bytes at → Ends h at bytes e
+ends_stand : (copy prefix : List ℕ) (h : HeaderState) (at : ℕ) (bytes : List ℕ) (e : End) → After copy prefix bytes at → Ends h at bytes e
     → EndStands copy e
-ends_stand copy front _ _ _ _ b (for_good h at bytes e s) = stop_stands copy front h at bytes e b s
-ends_stand copy front _ _ _ _ b (with_the_input h at) = input at (let e = whole_behind copy front [] at b in omega (arith, e))
-ends_stand copy front _ _ _ _ b (in_a_unit h at bytes p) = too_early (at + length bytes) (whole_behind copy front bytes at b)
+ends_stand copy prefix _ _ _ _ b (for_good h at bytes e s) = stop_stands copy prefix h at bytes e b s
+ends_stand copy prefix _ _ _ _ b (with_the_input h at) = input at (let e = whole_after copy prefix [] at b in omega (arith, e))
+ends_stand copy prefix _ _ _ _ b (in_a_unit h at bytes p) = too_early (at + length bytes) (whole_after copy prefix bytes at b)
 
-last_stands : (copy front : List ℕ) (h : HeaderState) (at : ℕ) (bytes : List ℕ) (us : List CopyUnit) (final : HeaderState) (e : End)
-    → Behind copy front bytes at
+last_stands : (copy prefix : List ℕ) (h : HeaderState) (at : ℕ) (bytes : List ℕ) (us : List CopyUnit) (final : HeaderState) (e : End)
+    → After copy prefix bytes at
     → AreUnits h at bytes us final e → EndStands copy e
-last_stands copy front h at bytes [] final e b u = ends_stand copy front h at bytes e b u.1
-last_stands copy front h at bytes (u ∷ us) final e b (after, rest, whole, unit, more) =
-    last_stands copy (front ++ unit_bytes u) after (at + length (unit_bytes u)) rest us final e
-    (behind copy front (unit_bytes u) rest at (others copy front bytes (unit_bytes u ++ rest) at whole b)) more
+last_stands copy prefix h at bytes [] final e b u = ends_stand copy prefix h at bytes e b u.1
+last_stands copy prefix h at bytes (u ∷ us) final e b (after, rest, whole, unit, more) =
+    last_stands copy (prefix ++ unit_bytes u) after (at + length (unit_bytes u)) rest us final e
+    (following copy prefix (unit_bytes u) rest at (others copy prefix bytes (unit_bytes u ++ rest) at whole b)) more
 
--- a copy behind nothing
-all_of : (copy : List ℕ) → Behind copy [] copy 0
+-- a copy after nothing
+all_of : (copy : List ℕ) → After copy [] copy 0
 all_of copy = record { copy_is = refl; at_is = refl }
 
 pub ends_stand_at_their_offsets : EndsStandAtTheirOffsets

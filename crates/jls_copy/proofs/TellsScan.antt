@@ -8,7 +8,7 @@ use Rattle.std.proofs.lemmas.Bool.Decides.{nat_tests}
 use Rattle.std.specs.List.{flat_map}
 use Rattle.jls_copy.proofs.HeaderFacts.{scan_has_frame}
 use Rattle.jls_copy.specs.ScanData.{fill_bytes, ClosedPiece, closed_bytes, ends_scan_data, is_restart_code, closes_piece}
-use Rattle.jls_copy.specs.Numbers.{PieceNumber, Interval, BeyondLast, number_behind, given_last}
+use Rattle.jls_copy.specs.Numbers.{PieceNumber, Interval, BeyondLast, number_after, given_last}
 use Rattle.jls_marker.specs.HeaderState.{HeaderState}
 use Rattle.jls_marker.specs.Scan.{Scan, intervals}
 use Rattle.jls_marker.specs.MarkerCodes.{has_segment}
@@ -16,8 +16,8 @@ use Rattle.jls_copy.specs.Pieces.{FoundPiece, piece_begun}
 use Rattle.jls_copy.specs.Course.{by_marker, CopyUnit, scan, segment_unit_bytes, unit_bytes}
 use Rattle.jls_copy.specs.Pieces.{pieces_from}
 use Rattle.jls_copy.specs.ReaderState as state
-use Rattle.jls_copy.specs.ReaderState.{class_of, one_more, held_bytes, piece_with, piece_opened, number_of, bytes_of, found, scan_with, scan_behind}
-use Rattle.jls_copy.specs.Tells.{SameBytes, HeldIs, ToldAs, IsTold, AlikePiece, AlikePieces, Passed, passed_scan, InScanData, given_after, Tells}
+use Rattle.jls_copy.specs.ReaderState.{class_of, one_more, held_bytes, piece_with, piece_opened, number_of, bytes_of, found, scan_with, scan_after}
+use Rattle.jls_copy.specs.Tells.{SameBytes, HeldIs, FedAs, IsFed, AlikePiece, AlikePieces, Passed, passed_scan, InScanData, given_after, Tells}
 use Rattle.jls_copy.specs.declared.piece.OpenPiece.{OpenPiece}
 use Rattle.jls_copy.specs.declared.piece.OpenPiece.TheVariants as open_piece
 use Rattle.jls_copy.specs.declared.scan.Held.{Held}
@@ -74,42 +74,42 @@ alike_more (x ∷ ps) (y ∷ qs) p q h a = (h.0, alike_more ps qs p q h.1 a)
 pieces_snoc : (index : ℕ) (s : Scan) (given : ℕ) (number : PieceNumber) (at : ℕ) (cs : List ClosedPiece) (c : ClosedPiece) (w : List ℕ)
     → pieces_from (piece_begun index s number at) given (cs ++ c ∷ []) w
     ≡ pieces_from (piece_begun index s number at) given cs c.piece
-    ++ record { scan = index; plan = s; number = number_behind (intervals s) (given_after (intervals s) given cs) c.mark; offset = at + length (flat_map closed_bytes cs) + length (closed_bytes c); bytes = w } ∷ []
+    ++ record { scan = index; plan = s; number = number_after (intervals s) (given_after (intervals s) given cs) c.mark; offset = at + length (flat_map closed_bytes cs) + length (closed_bytes c); bytes = w } ∷ []
 pieces_snoc index s given number at [] c w = rw add-zero refl
 pieces_snoc index s given number at (x ∷ cs) c w =
-    let next = number_behind (intervals s) given x.mark in
+    let next = number_after (intervals s) given x.mark in
     let e : at + length (closed_bytes x) + length (flat_map closed_bytes cs) ≡ at + length (closed_bytes x ++ flat_map closed_bytes cs) = omega (arith, length-append (closed_bytes x) (flat_map closed_bytes cs)) in
     ap (λ t. record { scan = index; plan = s; number = number; offset = at; bytes = x.piece } ∷ t)
     (pieces_snoc index s (given_last given next) next (at + length (closed_bytes x)) cs c w ∙ rw e refl)
 
 given_snoc : (n given : ℕ) (cs : List ClosedPiece) (c : ClosedPiece)
-    → given_after n given (cs ++ c ∷ []) ≡ given_last (given_after n given cs) (number_behind n (given_after n given cs) c.mark)
+    → given_after n given (cs ++ c ∷ []) ≡ given_last (given_after n given cs) (number_after n (given_after n given cs) c.mark)
 given_snoc n given [] c = refl
-given_snoc n given (x ∷ cs) c = given_snoc n (given_last given (number_behind n given x.mark)) cs c
+given_snoc n given (x ∷ cs) c = given_snoc n (given_last given (number_after n given x.mark)) cs c
 
--- an open piece that is told more
+-- an open piece that is fed more
 number_with : (p : OpenPiece) (more : List ℕ) → number_of (piece_with p more) ≡ number_of p
 number_with (open_piece.Within k d) more = refl
 number_with (open_piece.Beyond k) more = refl
 
-told_with : (p : OpenPiece) (more : List ℕ) → IsTold p → IsTold (piece_with p more)
-told_with (open_piece.Within k d) more (bytes, e) = (bytes ++ more, rw e refl)
-told_with (open_piece.Beyond k) more t = tt
+fed_with : (p : OpenPiece) (more : List ℕ) → IsFed p → IsFed (piece_with p more)
+fed_with (open_piece.Within k d) more (bytes, e) = (bytes ++ more, rw e refl)
+fed_with (open_piece.Beyond k) more t = tt
 
-told_more : (p : OpenPiece) (w : List ℕ) (held : Held) (n b : ℕ) → HeldIs held n → IsTold p → ToldAs (number_of p) (bytes_of p) w
-    → ToldAs (number_of (piece_with p (held_bytes held ++ b ∷ []))) (bytes_of (piece_with p (held_bytes held ++ b ∷ []))) (w ++ (fill_bytes n ++ b ∷ []))
-told_more (open_piece.Within k d) w held n b h (bytes, e) t = let u : SameBytes bytes w = rw e at t in rw e (same_more bytes w held n b h u)
-told_more (open_piece.Beyond k) w held n b h i t = tt
+fed_more : (p : OpenPiece) (w : List ℕ) (held : Held) (n b : ℕ) → HeldIs held n → IsFed p → FedAs (number_of p) (bytes_of p) w
+    → FedAs (number_of (piece_with p (held_bytes held ++ b ∷ []))) (bytes_of (piece_with p (held_bytes held ++ b ∷ []))) (w ++ (fill_bytes n ++ b ∷ []))
+fed_more (open_piece.Within k d) w held n b h (bytes, e) t = let u : SameBytes bytes w = rw e at t in rw e (same_more bytes w held n b h u)
+fed_more (open_piece.Beyond k) w held n b h i t = tt
 
 opened_number : (s : Scan) (number : PieceNumber) → number_of (piece_opened s number) ≡ number
 opened_number s (Interval k) = refl
 opened_number s (BeyondLast k) = refl
 
-opened_told : (s : Scan) (number : PieceNumber) → IsTold (piece_opened s number)
-opened_told s (Interval k) = ([], refl)
-opened_told s (BeyondLast k) = tt
+opened_fed : (s : Scan) (number : PieceNumber) → IsFed (piece_opened s number)
+opened_fed s (Interval k) = ([], refl)
+opened_fed s (BeyondLast k) = tt
 
-opened_as : (s : Scan) (number : PieceNumber) → ToldAs (number_of (piece_opened s number)) (bytes_of (piece_opened s number)) []
+opened_as : (s : Scan) (number : PieceNumber) → FedAs (number_of (piece_opened s number)) (bytes_of (piece_opened s number)) []
 opened_as s (Interval k) = inl refl
 opened_as s (BeyondLast k) = tt
 
@@ -123,7 +123,7 @@ module _ (o : OpenScan) (h : HeaderState) (ps : List FoundPiece) (x : List ℕ) 
     old = d.old;
     units = d.units;
     earlier = d.earlier;
-    behind = d.behind;
+    following = d.following;
     passed = d.passed;
     fill = d.fill;
     code = d.code;
@@ -137,14 +137,14 @@ module _ (o : OpenScan) (h : HeaderState) (ps : List FoundPiece) (x : List ℕ) 
     each = d.each;
     piece = d.piece;
     piece_is = d.piece_is;
-    front = d.front;
+    prefix = d.prefix;
     pieces_are = d.pieces_are;
     given_is = d.given_is;
     offset_is = d.offset_is;
     here = d.here;
     here_alike = d.here_alike;
-    told_as = d.told_as;
-    told_is = d.told_is;
+    fed_as = d.fed_as;
+    fed_is = d.fed_is;
     held = suc d.held;
     held_is = more_held o.held d.held d.held_is;
     found_are = append-nil ps ∙ d.found_are;
@@ -157,7 +157,7 @@ module _ (o : OpenScan) (h : HeaderState) (ps : List FoundPiece) (x : List ℕ) 
     old = d.old;
     units = d.units;
     earlier = d.earlier;
-    behind = d.behind;
+    following = d.following;
     passed = d.passed;
     fill = d.fill;
     code = d.code;
@@ -171,14 +171,14 @@ module _ (o : OpenScan) (h : HeaderState) (ps : List FoundPiece) (x : List ℕ) 
     each = d.each;
     piece = d.piece ++ (fill_bytes d.held ++ b ∷ []);
     piece_is = piece_more d.piece d.held b d.piece_is ne free;
-    front = d.front;
+    prefix = d.prefix;
     pieces_are = rw number_with d.pieces_are;
     given_is = d.given_is;
     offset_is = d.offset_is;
     here = d.here;
     here_alike = d.here_alike;
-    told_as = told_more o.piece d.piece o.held d.held b d.held_is d.told_is d.told_as;
-    told_is = told_with o.piece _ d.told_is;
+    fed_as = fed_more o.piece d.piece o.held d.held b d.held_is d.fed_is d.fed_as;
+    fed_is = fed_with o.piece _ d.fed_is;
     held = 0;
     held_is = refl;
     found_are = append-nil ps ∙ d.found_are;
@@ -186,10 +186,10 @@ module _ (o : OpenScan) (h : HeaderState) (ps : List FoundPiece) (x : List ℕ) 
   }
 
   pub alike_now : AlikePiece (found o) (record { scan = d.old.scans; plan = o.plan; number = number_of o.piece; offset = o.offset; bytes = d.piece })
-  alike_now = record { scan_is = d.index_is; plan_is = refl; number_is = refl; offset_is = refl; told_as = d.told_as }
+  alike_now = record { scan_is = d.index_is; plan_is = refl; number_is = refl; offset_is = refl; fed_as = d.fed_as }
 
   mark_tells : (m count : ℕ) → d.held ≡ suc m → is_restart_code b ≡ true → count ≡ length x
-      → InScanData (scan_behind o (number_behind (intervals o.plan) o.last (b - 208)) (count + 1)) h (ps ++ found o ∷ []) (x ++ b ∷ [])
+      → InScanData (scan_after o (number_after (intervals o.plan) o.last (b - 208)) (count + 1)) h (ps ++ found o ∷ []) (x ++ b ∷ [])
   mark_tells m count hm r c =
       let low : b - 208 < 8 = grind (arith, nat_tests) in
       let back : 208 + (b - 208) ≡ b = grind (arith, nat_tests) in
@@ -200,13 +200,13 @@ module _ (o : OpenScan) (h : HeaderState) (ps : List FoundPiece) (x : List ℕ) 
       let size : count + 1 ≡ length d.before + length (segment_unit_bytes d.fill d.code d.payload) + length (flat_map closed_bytes (d.closed ++ closing ∷ [])) =
       ap (λ n. n + 1) c ∙ sym (length-append x (b ∷ [])) ∙ ap length bytes ∙ length-append d.before _
       ∙ (omega (arith, length-append (segment_unit_bytes d.fill d.code d.payload) (flat_map closed_bytes (d.closed ++ closing ∷ []) ++ []), ap length (append-nil (flat_map closed_bytes (d.closed ++ closing ∷ []))))) in
-      let number : PieceNumber = number_behind (intervals o.plan) o.last (b - 208) in
+      let number : PieceNumber = number_after (intervals o.plan) o.last (b - 208) in
       record {
         before = d.before;
         old = d.old;
         units = d.units;
         earlier = d.earlier;
-        behind = d.behind;
+        following = d.following;
         passed = d.passed;
         fill = d.fill;
         code = d.code;
@@ -220,17 +220,17 @@ module _ (o : OpenScan) (h : HeaderState) (ps : List FoundPiece) (x : List ℕ) 
         each = each_more d.closed closing d.each (d.piece_is, low);
         piece = [];
         piece_is = tt;
-        front = d.front ++ record { scan = d.old.scans; plan = o.plan; number = number_of o.piece; offset = o.offset; bytes = d.piece } ∷ [];
+        prefix = d.prefix ++ record { scan = d.old.scans; plan = o.plan; number = number_of o.piece; offset = o.offset; bytes = d.piece } ∷ [];
         pieces_are = λ w.
             pieces_snoc d.old.scans o.plan 0 (Interval 0) (length d.before + length (segment_unit_bytes d.fill d.code d.payload)) d.closed closing w
-            ∙ rw (d.pieces_are d.piece, opened_number, ← given, size) (ap (λ k. (d.front ++ record { scan = d.old.scans; plan = o.plan; number = number_of o.piece; offset = o.offset; bytes = d.piece } ∷ [])
+            ∙ rw (d.pieces_are d.piece, opened_number, ← given, size) (ap (λ k. (d.prefix ++ record { scan = d.old.scans; plan = o.plan; number = number_of o.piece; offset = o.offset; bytes = d.piece } ∷ [])
             ++ record { scan = d.old.scans; plan = o.plan; number = number; offset = k; bytes = w } ∷ []) (shut d.before closing));
         given_is = rw (given_snoc, ← given) refl;
         offset_is = size;
         here = d.here ++ found o ∷ [];
-        here_alike = alike_more d.here d.front (found o) _ d.here_alike alike_now;
-        told_as = opened_as o.plan number;
-        told_is = opened_told o.plan number;
+        here_alike = alike_more d.here d.prefix (found o) _ d.here_alike alike_now;
+        fed_as = opened_as o.plan number;
+        fed_is = opened_fed o.plan number;
         held = 0;
         held_is = refl;
         found_are = ap (λ y. y ++ found o ∷ []) d.found_are ∙ append_assoc d.earlier d.here (found o ∷ []);
@@ -248,19 +248,19 @@ module _ (o : OpenScan) (h : HeaderState) (ps : List FoundPiece) (x : List ℕ) 
       let unit : CopyUnit = scan d.fill d.code d.payload o.plan d.closed d.piece by_marker in
       let y : List ℕ = d.before ++ unit_bytes unit in
       let alike : AlikePieces (d.here ++ found o ∷ []) (pieces_from (piece_begun d.old.scans o.plan (Interval 0) (length d.before + length (segment_unit_bytes d.fill d.code d.payload))) 0 d.closed d.piece) =
-      subst (AlikePieces (d.here ++ found o ∷ [])) (sym (d.pieces_are d.piece)) (alike_more d.here d.front (found o) _ d.here_alike alike_now) in
+      subst (AlikePieces (d.here ++ found o ∷ [])) (sym (d.pieces_are d.piece)) (alike_more d.here d.prefix (found o) _ d.here_alike alike_now) in
       let passed : Passed y h (d.units ++ unit ∷ []) (d.earlier ++ (d.here ++ found o ∷ [])) true =
-      passed_scan d.before d.old d.units d.earlier d.behind d.passed d.fill d.code d.payload h y d.known d.size d.follows o.plan d.plan_is d.closed d.piece (d.here ++ found o ∷ []) d.each d.piece_is alike refl in
+      passed_scan d.before d.old d.units d.earlier d.following d.passed d.fill d.code d.payload h y d.known d.size d.follows o.plan d.plan_is d.closed d.piece (d.here ++ found o ∷ []) d.each d.piece_is alike refl in
       let all : x ≡ y ++ fill_bytes (suc m) = d.whole ∙ rw hm (simp (append_assoc, append-nil) refl) in
       let bytes : y ++ (fill_bytes (suc m) ++ b ∷ []) ≡ x ++ b ∷ [] = rw all (sym (append_assoc y (fill_bytes (suc m)) (b ∷ []))) in
       let pieces : d.earlier ++ (d.here ++ found o ∷ []) ≡ ps ++ found o ∷ [] = rw d.found_are (sym (append_assoc d.earlier d.here (found o ∷ []))) in
       let size : count ≡ length y + suc m = c ∙ ap length all ∙ length-append y (fill_bytes (suc m)) ∙ ap (λ k. length y + k) (fill_length (suc m)) in
       let framed : is_some h.frame ≡ true = scan_has_frame d.old h d.code d.payload o.plan d.plan_is in
-      let told : Tells (state.from_marker true (is_some h.frame) count b) h payload (d.earlier ++ (d.here ++ found o ∷ [])) (y ++ (fill_bytes (suc m) ++ b ∷ [])) =
+      let fed : Tells (state.from_marker true (is_some h.frame) count b) h payload (d.earlier ++ (d.here ++ found o ∷ [])) (y ++ (fill_bytes (suc m) ++ b ∷ [])) =
       fill_marker_more y h (d.units ++ unit ∷ []) (d.earlier ++ (d.here ++ found o ∷ [])) true payload m b count passed size (λ _. s) (inr ne) (cases_eq b 217) (inl framed) (cases_Bool (has_segment b)) (inl refl) in
       subst (λ q. Tells (state.from_marker true q count b) h payload (ps ++ found o ∷ []) (x ++ b ∷ [])) framed
       (subst (λ q. Tells (state.from_marker true (is_some h.frame) count b) h payload q (x ++ b ∷ [])) pieces
-      (subst (λ q. Tells (state.from_marker true (is_some h.frame) count b) h payload (d.earlier ++ (d.here ++ found o ∷ [])) q) bytes told))
+      (subst (λ q. Tells (state.from_marker true (is_some h.frame) count b) h payload (d.earlier ++ (d.here ++ found o ∷ [])) q) bytes fed))
 
 pub scan_more : (o : OpenScan) (h : HeaderState) (ps : List FoundPiece) (x : List ℕ) (d : InScanData o h ps x) (b : ℕ) (payload : List ℕ) (count : ℕ)
     → count ≡ length x

@@ -94,7 +94,7 @@ is_course =
             refl,
             tt,
             ((λ h. refl), ((λ h. refl), ((λ h. refl), ((λ h. refl), ((λ h. refl), (λ (h : 0x00 ≡ 0xFF). omega (arith, h))))))),
-            record { fill = 1; code = 0xDD; behind = 0x00 ∷ 0x05 ∷ 0x00 ∷ 0x00 ∷ 0x02 ∷ 0xFF ∷ 0xDA ∷ 0x00 ∷ 0x08 ∷ 0x01 ∷ 0x02 ∷ 0x00 ∷ 0x00 ∷ 0x00 ∷ 0x00 ∷ 0x08 ∷ 0xF0 ∷ 0x23 ∷ 0x46 ∷ 0xFF ∷ 0xFF ∷ 0xD0 ∷ 0xA0 ∷ 0x00 ∷ 0xFF ∷ 0xD9 ∷ []; bytes_are = refl; ends = refl },
+            record { fill = 1; code = 0xDD; following = 0x00 ∷ 0x05 ∷ 0x00 ∷ 0x00 ∷ 0x02 ∷ 0xFF ∷ 0xDA ∷ 0x00 ∷ 0x08 ∷ 0x01 ∷ 0x02 ∷ 0x00 ∷ 0x00 ∷ 0x00 ∷ 0x00 ∷ 0x08 ∷ 0xF0 ∷ 0x23 ∷ 0x46 ∷ 0xFF ∷ 0xFF ∷ 0xD0 ∷ 0xA0 ∷ 0x00 ∷ 0xFF ∷ 0xD9 ∷ []; bytes_are = refl; ends = refl },
           ),
           (
             restarting,
@@ -110,7 +110,7 @@ is_course =
                 refl,
                 ((((λ h. refl), ((λ h. refl), ((λ h. refl), (λ (h : 0x46 ≡ 0xFF). omega (arith, h))))), lit< tt), tt),
                 ((λ h. refl), (λ (h : 0x00 ≡ 0xFF). omega (arith, h))),
-                record { fill = 0; code = 0xD9; behind = []; bytes_are = refl; ends = refl },
+                record { fill = 0; code = 0xD9; following = []; bytes_are = refl; ends = refl },
               ),
               (refl, for_good final 76 (0xFF ∷ 0xD9 ∷ []) (Eoi 76) (at_eoi final 76 0 [] refl)),
             ),

@@ -18,9 +18,9 @@ cut_so closed last (by_input count) rest each piece h = (
   record { whole = rw h (append-nil (flat_map closed_bytes closed ++ (last ++ fill_bytes count))); each = each; last = piece; end = tt },
 )
 cut_so closed last by_marker rest each piece h = (
-  at_marker h.fill h.code h.behind,
+  at_marker h.fill h.code h.following,
   record {
-    whole = let is : rest ≡ fill_bytes h.fill ++ (0xFF ∷ h.code ∷ h.behind) = h.bytes_are in rw is (simp (append_assoc, append-nil) refl);
+    whole = let is : rest ≡ fill_bytes h.fill ++ (0xFF ∷ h.code ∷ h.following) = h.bytes_are in rw is (simp (append_assoc, append-nil) refl);
     each = each;
     last = piece;
     end = h.ends;

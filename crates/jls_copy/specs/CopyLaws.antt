@@ -20,9 +20,9 @@ BytesDecide = (bytes : List ℕ) → AllByRecursion (λ b. b < 256) bytes → Co
 
 -- a course whose end is final is that of every longer list of bytes too: the same units, headers and end
 abbrev pub FinalEndsStay : Type 0
-FinalEndsStay = (front more : List ℕ) (c : Course) → IsCourse front c → is_final_end c.end ≡ true → IsCourse (front ++ more) c
+FinalEndsStay = (prefix more : List ℕ) (c : Course) → IsCourse prefix c → is_final_end c.end ≡ true → IsCourse (prefix ++ more) c
 
 -- if the end isn't final, any bytes after the copy change it
 abbrev pub OtherEndsChange : Type 0
-OtherEndsChange = (front more : List ℕ) (c d : Course) → IsCourse front c → is_final_end c.end ≡ false → 0 < length more
-    → IsCourse (front ++ more) d → d.end ≢ c.end
+OtherEndsChange = (prefix more : List ℕ) (c d : Course) → IsCourse prefix c → is_final_end c.end ≡ false → 0 < length more
+    → IsCourse (prefix ++ more) d → d.end ≢ c.end

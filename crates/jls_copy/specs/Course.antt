@@ -1,4 +1,4 @@
--- The course of a copy: SOI, then units one behind the other, and the copy's end (T.81 B.1.1.2 to B.1.1.4 and B.2.1). That a fault of
+-- The course of a copy: SOI, then units one after the other, and the copy's end (T.81 B.1.1.2 to B.1.1.4 and B.2.1). That a fault of
 -- the headers ends a copy, and which markers end scan data, is this profile's choice.
 use Rattle.std.specs.Prelude.{◌≡◌, ℕ, suc, ◌+◌, ◌*◌, ◌^◌, ◌/◌, ◌%◌, ◌<◌, ◌≢◌, true, false, is_some, List, [], ◌∷◌, ◌++◌, length, Some, None}
 use Rattle.std.specs.Prelude.{Ok, Err}
@@ -48,8 +48,8 @@ unit_bytes (scan fill code payload plan closed last closing) = segment_unit_byte
 pub record BeginsWithEnd (bytes : List ℕ) : Type 0 where
   pub fill : ℕ
   pub code : ℕ
-  pub behind : List ℕ
-  pub bytes_are : bytes ≡ fill_bytes fill ++ (0xFF ∷ code ∷ behind)
+  pub following : List ℕ
+  pub bytes_are : bytes ≡ fill_bytes fill ++ (0xFF ∷ code ∷ following)
   pub ends : ends_scan_data code ≡ true
 
 -- what closes the last piece of scan data, if these bytes follow it (T.81 B.1.1.2 to B.1.1.4, B.2.1)

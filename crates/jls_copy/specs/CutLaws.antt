@@ -4,7 +4,7 @@ use Rattle.jls_marker.specs.HeaderState.{HeaderState}
 use Rattle.jls_marker.specs.Scan.{Scan}
 use Rattle.jls_copy.specs.ScanData.{ClosedPiece, ScanCut, IsCut}
 use Rattle.jls_copy.specs.Course.{scan, LastClosed, scan_data_bytes, IsUnit}
-use Rattle.jls_copy.specs.Numbers.{IsNextNumber, next_number, Interval, BeyondLast, numbers_behind, RiseByEightAtMost, mark_before}
+use Rattle.jls_copy.specs.Numbers.{IsNextNumber, next_number, Interval, BeyondLast, numbers_after, RiseByEightAtMost, mark_before}
 
 -- every list of bytes that begins where scan data does is cut in one way, and in no other
 abbrev pub OneCut : Type 0
@@ -26,9 +26,9 @@ NumbersAreLeast = (last m : ℕ) → m < 8 → IsNextNumber last m (next_number 
 -- numbers. This is of lists of marks
 abbrev pub LostMarksAreBridged : Type 0
 LostMarksAreBridged = (intervals last : ℕ) (numbers : List ℕ) → RiseByEightAtMost intervals last numbers
-    → numbers_behind intervals last (map mark_before numbers) ≡ map Interval numbers
+    → numbers_after intervals last (map mark_before numbers) ≡ map Interval numbers
 
 -- a mark whose number is beyond the last interval leaves the numbers after it as they were without it
 abbrev pub MarksBeyondChangeNothing : Type 0
 MarksBeyondChangeNothing = (intervals last m : ℕ) (marks : List ℕ) → intervals ≤ next_number last m
-    → numbers_behind intervals last (m ∷ marks) ≡ BeyondLast (next_number last m) ∷ numbers_behind intervals last marks
+    → numbers_after intervals last (m ∷ marks) ≡ BeyondLast (next_number last m) ∷ numbers_after intervals last marks

@@ -22,4 +22,4 @@ pub mod Conclusion
 pub mod CopyReads
 pub mod TellingLaws
 pub mod CopyLaws
-pub mod Fronts
+pub mod Prefixes

@@ -4,7 +4,7 @@ use Rattle.jls_interval.specs.Reads.{Reads, IsLong, IsBroken}
 use Rattle.jls_partial.specs.Reading.{Reading, reading_of}
 use Rattle.jls_marker.specs.Scan.{Scan, intervals, first_row}
 use Rattle.jls_copy.specs.ScanData.{ClosedPiece, closed_bytes}
-use Rattle.jls_copy.specs.Numbers.{PieceNumber, Interval, BeyondLast, number_behind, given_last}
+use Rattle.jls_copy.specs.Numbers.{PieceNumber, Interval, BeyondLast, number_after, given_last}
 use Rattle.jls_copy.specs.Course.{CopyUnit, segment, scan, segment_unit_bytes, unit_bytes, Course}
 use Rattle.jls_copy.specs.declared.piece.PieceKind.{PieceKind}
 use Rattle.jls_copy.specs.declared.piece.PieceKind.TheVariants as kind
@@ -30,7 +30,7 @@ piece_begun index plan number offset = record { scan = index; plan = plan; numbe
 abbrev pub pieces_from : FoundPiece → ℕ → List ClosedPiece → List ℕ → List FoundPiece
 pieces_from piece last [] bytes = record piece { bytes = bytes } ∷ []
 pieces_from piece last (c ∷ closed) bytes =
-    let next = number_behind (intervals piece.plan) last c.mark in let following = piece.offset + length (closed_bytes c) in
+    let next = number_after (intervals piece.plan) last c.mark in let following = piece.offset + length (closed_bytes c) in
     record piece { bytes = c.piece }
     ∷ pieces_from (piece_begun piece.scan piece.plan next following) (given_last last next) closed bytes
 

@@ -1,4 +1,4 @@
--- What is told of a copy that was read.
+-- What is reported of a copy that was read.
 use Rattle.std.specs.Prelude.{ℕ, List, ◌++◌, Option, Some, None}
 use Rattle.jls_partial.specs.Partial.{PartialPicture}
 use Rattle.jls_copy.specs.declared.end.End.{End}

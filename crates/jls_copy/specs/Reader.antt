@@ -4,7 +4,7 @@ use Rattle.std.specs.List.{AllByRecursion}
 use Rattle.jls_copy.specs.Pieces.{FoundPiece}
 use Rattle.jls_copy.specs.ReaderState.{reading, Reading, closed_at_end}
 use Rattle.jls_copy.specs.Sound.{IsPlace}
-use Rattle.jls_copy.specs.Machine.{state_of, IsBehind}
+use Rattle.jls_copy.specs.Machine.{state_of, IsAfterStart}
 use Rattle.jls_copy.specs.Gathers.{Gathers}
 use Rattle.jls_copy.specs.declared.machine.Machine.{Machine}
 
@@ -17,7 +17,7 @@ pub record IsReading (m : Machine) (bytes : List ℕ) : Type 0 where
   pub few : length bytes < 2 ^ 63
   pub are_bytes : AllByRecursion (λ b. b < 256) bytes
   pub place_is : IsPlace m.headers.frame m.place m.payload.items
-  pub behind : IsBehind m.place m.count
+  pub following : IsAfterStart m.place m.count
   pub records_counted : m.findings.record_count ≤ m.count
   pub records_kept : length m.findings.records.items ≤ 4096
   pub header_bytes : length m.payload.items ≤ 65535

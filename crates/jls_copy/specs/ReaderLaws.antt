@@ -17,14 +17,14 @@ use Rattle.jls_copy.specs.ScanData.{fill_bytes}
 use Rattle.jls_copy.specs.Tells.{Tells, SameBytes, HeldIs, AlikePieces}
 use Rattle.jls_copy.specs.declared.scan.Held.{Held}
 
--- what a reader is told of a piece goes on as the piece does
-abbrev pub ToldGoesOn : Type 0
-ToldGoesOn = (told piece : List ℕ) (held : Held) (n b : ℕ) → HeldIs held n → SameBytes told piece
-    → SameBytes (told ++ (held_bytes held ++ b ∷ [])) (piece ++ (fill_bytes n ++ b ∷ []))
+-- what a reader is fed of a piece goes on as the piece does
+abbrev pub FedGoesOn : Type 0
+FedGoesOn = (fed piece : List ℕ) (held : Held) (n b : ℕ) → HeldIs held n → SameBytes fed piece
+    → SameBytes (fed ++ (held_bytes held ++ b ∷ [])) (piece ++ (fill_bytes n ++ b ∷ []))
 
 -- and has the same outcome
 abbrev pub SameOutcome : Type 0
-SameOutcome = (s : Scan) (k : ℕ) (told piece : List ℕ) (o : PieceOutcome) → SameBytes told piece → IsOutcomeAt s (Interval k) told o
+SameOutcome = (s : Scan) (k : ℕ) (fed piece : List ℕ) (o : PieceOutcome) → SameBytes fed piece → IsOutcomeAt s (Interval k) fed o
     → IsOutcomeAt s (Interval k) piece o
 
 -- the reader's place tells the course of the bytes so far
@@ -38,12 +38,12 @@ CourseIs bytes e headers ps cut =
     (c : Course) × IsCourse bytes c × (c.headers ≡ headers) × (c.end ≡ e) × AlikePieces ps (pieces c) × AlikePieces cut (cut_pieces c)
 
 -- where a reader stands after some bytes tells their course
-abbrev pub CourseTold : Type 0
-CourseTold = (bytes : List ℕ) → AllByRecursion (λ b. b < 256) bytes
+abbrev pub CourseFed : Type 0
+CourseFed = (bytes : List ℕ) → AllByRecursion (λ b. b < 256) bytes
     → CourseIs bytes (end_at (reading bytes).state.place (reading bytes).state.count) (reading bytes).state.headers
     (all_pieces (reading bytes)) (closed_at_end (reading bytes).state.place)
 
 -- and what a reader answers is what the copy gives
-abbrev pub ConclusionTold : Type 0
-ConclusionTold = (bytes : List ℕ) → AllByRecursion (λ b. b < 256) bytes → (read : ReadCopy) → Concludes (reading bytes) read
+abbrev pub ConclusionFed : Type 0
+ConclusionFed = (bytes : List ℕ) → AllByRecursion (λ b. b < 256) bytes → (read : ReadCopy) → Concludes (reading bytes) read
     → CopyReads bytes read

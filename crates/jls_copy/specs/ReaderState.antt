@@ -5,7 +5,7 @@ use Rattle.jls_marker.specs.HeaderState.{HeaderState, no_headers}
 use Rattle.jls_marker.specs.Scan.{Scan, intervals, row_count}
 use Rattle.jls_marker.specs.MarkerCodes.{has_segment}
 use Rattle.jls_marker.specs.Headers.{headers_after}
-use Rattle.jls_copy.specs.Numbers.{PieceNumber, Interval, BeyondLast, number_behind, given_last}
+use Rattle.jls_copy.specs.Numbers.{PieceNumber, Interval, BeyondLast, number_after, given_last}
 use Rattle.jls_copy.specs.ScanData.{is_restart_code, ends_scan_data}
 use Rattle.std.specs.Option.{option_map}
 use Rattle.jls_interval.specs.IntervalBytes.{IntervalBytes}
@@ -24,7 +24,7 @@ use Rattle.jls_copy.specs.declared.scan.OpenScan.{OpenScan}
 use Rattle.jls_copy.specs.declared.place.Place.{Place}
 use Rattle.jls_copy.specs.declared.place.Place.TheVariants.{Start, AtMarker, AtLength, InLength, InPayload, InScan, Done}
 
--- how many bytes were told, where they end, what headers have set, and what came of a payload
+-- how many bytes were fed, where they end, what headers have set, and what came of a payload
 pub record ReaderState : Type 0 where
   pub count : ℕ
   pub place : Place
@@ -35,7 +35,7 @@ pub record ReaderState : Type 0 where
 abbrev pub first_state : ReaderState
 first_state = record { count = 0; place = Start false; headers = no_headers; payload = [] }
 
--- before SOI, behind fill bytes or none
+-- before SOI, after fill bytes or none
 abbrev pub from_start : Bool → ℕ → ℕ → Place
 from_start fill count b =
     if b == 0xFF then Start true
@@ -43,7 +43,7 @@ from_start fill count b =
     else if b == 0xD8 then AtMarker false
     else Done (end.Header fault.NoSoi (count - 1))
 
--- where a marker may begin, behind fill bytes or none
+-- where a marker may begin, after fill bytes or none
 abbrev pub from_marker : Bool → Bool → ℕ → ℕ → Place
 from_marker fill has_frame count b =
     if b == 0xFF then AtMarker true
@@ -52,11 +52,11 @@ from_marker fill has_frame count b =
     else if has_segment b then AtLength (count - 1) b
     else Done (end.Header fault.UnknownMarker (count - 1))
 
--- a decoder of an interval that was told nothing
+-- a decoder of an interval that was fed nothing
 abbrev pub decoding_of : Scan → ℕ → IntervalBytes
 decoding_of s k = record { parameters = s.params; width = s.width; components = length s.components; rows = row_count s k; bytes = Some [] }
 
--- a decoder that was told more bytes
+-- a decoder that was fed more bytes
 abbrev pub with_bytes : IntervalBytes → List ℕ → IntervalBytes
 with_bytes d more = record d { bytes = option_map (λ bytes. bytes ++ more) d.bytes }
 
@@ -106,7 +106,7 @@ abbrev pub payload_grown : ℕ → HeaderState → List ℕ → ℕ → ℕ → 
 payload_grown count h payload marker code size =
     if length payload + 2 == size then with_segment count h payload marker code else step_to h payload (InPayload marker code size)
 
--- what a byte of scan data does behind FF bytes or none
+-- what a byte of scan data does after FF bytes or none
 abbrev pub class_of : Held → ℕ → ByteClass
 class_of Nothing b = if b == 0xFF then Fill else Data
 class_of One b = if b == 0xFF then Fill else if is_restart_code b then Mark else if ends_scan_data b then Stop else Data
@@ -134,14 +134,14 @@ abbrev pub scan_with : OpenScan → ℕ → OpenScan
 scan_with scan b = record scan { held = Nothing; piece = piece_with scan.piece (held_bytes scan.held ++ b ∷ []) }
 
 -- a scan after a mark, at its next piece
-abbrev pub scan_behind : OpenScan → PieceNumber → ℕ → OpenScan
-scan_behind scan number offset =
+abbrev pub scan_after : OpenScan → PieceNumber → ℕ → OpenScan
+scan_after scan number offset =
     record scan { last = given_last scan.last number; held = Nothing; offset = offset; piece = piece_opened scan.plan number }
 
 -- scan data
 abbrev pub from_scan : ByteClass → OpenScan → ℕ → ℕ → Place
 from_scan Fill scan count b = InScan (record scan { held = one_more scan.held })
-from_scan Mark scan count b = InScan (scan_behind scan (number_behind (intervals scan.plan) scan.last (b - 0xD0)) (count + 1))
+from_scan Mark scan count b = InScan (scan_after scan (number_after (intervals scan.plan) scan.last (b - 0xD0)) (count + 1))
 from_scan Stop scan count b = from_marker true true count b
 from_scan Data scan count b = InScan (scan_with scan b)
 
@@ -168,14 +168,14 @@ abbrev pub number_of : OpenPiece → PieceNumber
 number_of (open_piece.Within k d) = Interval k
 number_of (open_piece.Beyond k) = BeyondLast k
 
--- the bytes that a decoder was told, or none once memory was refused
-abbrev pub told : Option (List ℕ) → List ℕ
-told (Some bytes) = bytes
-told None = []
+-- the bytes that a decoder was fed, or none once memory was refused
+abbrev pub fed : Option (List ℕ) → List ℕ
+fed (Some bytes) = bytes
+fed None = []
 
 -- the bytes of an open piece; of a piece beyond the last interval none are kept
 abbrev pub bytes_of : OpenPiece → List ℕ
-bytes_of (open_piece.Within k d) = told d.bytes
+bytes_of (open_piece.Within k d) = fed d.bytes
 bytes_of (open_piece.Beyond k) = []
 
 -- an open piece of a scan as a found one

@@ -54,7 +54,7 @@ closed_bytes c = c.piece ++ (fill_bytes c.fill ++ (0xFF ∷ (0xD0 + c.mark) ∷ 
 -- the bytes after the last piece, to the end of the input
 abbrev pub end_bytes : ScanEnd → List ℕ
 end_bytes (at_input count) = fill_bytes count
-end_bytes (at_marker fill code behind) = fill_bytes fill ++ (0xFF ∷ code ∷ behind)
+end_bytes (at_marker fill code following) = fill_bytes fill ++ (0xFF ∷ code ∷ following)
 
 -- the bytes that are cut so
 abbrev pub cut_bytes : ScanCut → List ℕ
@@ -67,7 +67,7 @@ IsClosedPiece c = IsPiece c.piece × (c.mark < 8)
 -- if scan data ends at a marker, its code is one that ends scan data
 abbrev pub IsScanEnd : ScanEnd → Type 0
 IsScanEnd (at_input count) = Unit {0}
-IsScanEnd (at_marker fill code behind) = ends_scan_data code ≡ true
+IsScanEnd (at_marker fill code following) = ends_scan_data code ≡ true
 
 -- the bytes, which begin where scan data does, are cut so (T.81 B.1.1.2)
 pub record IsCut (bytes : List ℕ) (c : ScanCut) : Type 0 where

@@ -32,7 +32,7 @@ Leads from bytes to closed =
     (ps : List FoundPiece) → reading_from (record { state = from; pieces = ps }) bytes
     ≡ record { state = record to { count = from.count + length bytes }; pieces = ps ++ closed }
 
--- A scan took so many bytes at the front of these as data or as what may be fill
+-- A scan took so many bytes at the start of these as data or as what may be fill
 pub record TakesData (old : OpenScan) (bytes : List ℕ) (new : OpenScan) (count : ℕ) : Type 0 where
   pub some : 0 < count
   pub within : count ≤ length bytes

@@ -1,4 +1,4 @@
--- The laws of what is told of a copy beside its readings: offsets, and records of faulty pieces. Each is the contract of a function with
+-- The laws of what is reported of a copy beside its readings: offsets, and records of faulty pieces. Each is the contract of a function with
 -- an empty body.
 use Rattle.std.specs.Prelude.{◌≡◌, ℕ, ◌≢◌, Bool, true, false, List, [], ◌∷◌, ◌++◌, length, take}
 use Rattle.std.specs.List.{AllByRecursion}
@@ -15,10 +15,10 @@ use Rattle.jls_marker.specs.declared.fault.MarkerFault.TheVariants as fault
 
 -- after so many bytes of the copy come these bytes
 pub record StandsAt (copy : List ℕ) (offset : ℕ) (bytes : List ℕ) : Type 0 where
-  pub front : List ℕ
+  pub prefix : List ℕ
   pub back : List ℕ
-  pub copy_is : copy ≡ front ++ (bytes ++ back)
-  pub offset_is : offset ≡ length front
+  pub copy_is : copy ≡ prefix ++ (bytes ++ back)
+  pub offset_is : offset ≡ length prefix
 
 -- the bytes of each piece of a course are at its offset in the copy
 abbrev pub PiecesStandAtTheirOffsets : Type 0

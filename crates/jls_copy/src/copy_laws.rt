@@ -1,7 +1,7 @@
 //! The laws of what a copy gives. Each is a function that does nothing and whose contract is the law.
 
 ghost use Rattle.jls_copy.specs.CopyLaws.{BytesDecide, FinalEndsStay, OtherEndsChange};
-ghost use Rattle.jls_copy.specs.Fronts.{FrontsKeepReadings, FrontsStayBroken};
+ghost use Rattle.jls_copy.specs.Prefixes.{PrefixesKeepReadings, PrefixesStayBroken};
 ghost use Rattle.jls_copy.specs.TellingLaws.{RecordsAreOfFaultyPieces};
 
 /// A law: what a copy gives, or that it gives no picture and why, is determined by its bytes.
@@ -21,17 +21,17 @@ pub fn other_ends_change()
 {}
 
 /// A law: each piece of a copy's course reads as the lines of its interval, or it has a record. A record has the scan, the number and the
-/// offset of the piece, and why it doesn't read. No other record is counted. The first 4,096 of these records are those that are told.
+/// offset of the piece, and why it doesn't read. No other record is counted. The first 4,096 of these records are those that are reported.
 pub fn records_are_of_faulty_pieces()
     ensures { RecordsAreOfFaultyPieces }
 {}
 
 /// A law: where the piece in hand is broken whatever follows, each list of bytes that begins so has a faulty piece there.
-pub fn fronts_stay_broken()
-    ensures { FrontsStayBroken }
+pub fn prefixes_stay_broken()
+    ensures { PrefixesStayBroken }
 {}
 
 /// A law: what some bytes give, each list of bytes that begins with them gives too, if each of its pieces reads as lines.
-pub fn fronts_keep_readings()
-    ensures { FrontsKeepReadings }
+pub fn prefixes_keep_readings()
+    ensures { PrefixesKeepReadings }
 {}

@@ -23,7 +23,7 @@ fn count_before_ff(bytes: &[u8], at: usize) -> usize
     }
 }
 
-/// The same one by one, for the bytes behind the last sixteen.
+/// The same one by one, for the bytes after the last sixteen.
 fn next_ff_one_by_one(bytes: &[u8], from: usize) -> usize
     requires { from ≤ length bytes.now }
     ensures within { (from ≤ result) × (result ≤ length bytes.now) }

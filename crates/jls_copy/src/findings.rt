@@ -11,7 +11,7 @@ ghost use Rattle.jls_marker.specs.Scan.{IsScanOf, intervals, first_row, row_coun
 ghost use Rattle.jls_copy.specs.ReaderState.{piece_found};
 ghost use Rattle.jls_copy.specs.Sound.{IsOpenPiece};
 
-use crate::piece::{OpenPiece, PieceKind, PieceRecord, ToldPiece};
+use crate::piece::{FedPiece, OpenPiece, PieceKind, PieceRecord};
 use jls_interval::{CutEnd, PieceFault};
 use jls_marker::ScanPlan;
 use jls_partial::{InsertFault, Partial};
@@ -153,19 +153,19 @@ impl Findings {
         alloc: Global,
         shape: &Shape,
         plan: &ScanPlan,
-        told: ToldPiece,
+        fed: FedPiece,
     ) -> Result<(), AllocError>
         requires count { self.old.record_count < 2 ^ 63 }
-        requires sound { IsOpenPiece plan.now told.piece }
+        requires sound { IsOpenPiece plan.now fed.piece }
         requires scan { IsScanOf shape.now plan.now }
         requires held { HoldsShape self.old.partial shape.now }
-        ensures { OnOk result (Adds (Some shape.now) (piece_found told.scan plan.now told.offset told.piece ∷ []) self.old self.new) }
+        ensures { OnOk result (Adds (Some shape.now) (piece_found fed.scan plan.now fed.offset fed.piece ∷ []) self.old self.new) }
     {
-        let ToldPiece {
+        let FedPiece {
             scan,
             offset,
             piece,
-        } = told;
+        } = fed;
         match piece {
             OpenPiece::Beyond(interval) => self.note(PieceRecord {
                 scan,
@@ -222,20 +222,20 @@ impl Findings {
         alloc: Global,
         shape: &Shape,
         plan: &ScanPlan,
-        told: ToldPiece,
+        fed: FedPiece,
     ) -> Result<(), AllocError>
         requires count { self.old.record_count < 2 ^ 63 }
-        requires sound { IsOpenPiece plan.now told.piece }
+        requires sound { IsOpenPiece plan.now fed.piece }
         requires scan { IsScanOf shape.now plan.now }
         requires held { HoldsShape self.old.partial shape.now }
-        ensures { OnOk result (AddsCut (Some shape.now) (piece_found told.scan plan.now told.offset told.piece ∷ []) self.old self.new) }
+        ensures { OnOk result (AddsCut (Some shape.now) (piece_found fed.scan plan.now fed.offset fed.piece ∷ []) self.old self.new) }
     {
         let _width = plan.width();
-        let ToldPiece {
+        let FedPiece {
             scan,
             offset,
             piece,
-        } = told;
+        } = fed;
         match piece {
             OpenPiece::Beyond(interval) => self.note(PieceRecord {
                 scan,

@@ -12,7 +12,7 @@
 //! - `course_laws`, `cut_laws`, `copy_laws`: the laws
 //!
 //! Definitions: `ScanData`, `Numbers`, `Course`, `IntervalOf`, `Pieces`, `CutPieces`, `ReadCopy`, `CopyReads`, `CutLaws`, `CourseLaws`,
-//! `CopyLaws`, `Fronts`, `TellingLaws`. The other files are needed inside the crate only.
+//! `CopyLaws`, `Prefixes`, `TellingLaws`. The other files are needed inside the crate only.
 //!
 //! Not proved:
 //!
@@ -122,7 +122,7 @@ mod reader;
 mod scan;
 
 pub use copy_laws::{
-    bytes_decide, final_ends_stay, fronts_keep_readings, fronts_stay_broken, other_ends_change,
+    bytes_decide, final_ends_stay, other_ends_change, prefixes_keep_readings, prefixes_stay_broken,
     records_are_of_faulty_pieces,
 };
 pub use course_laws::{

@@ -23,7 +23,7 @@ use std::alloc::{AllocError, Global};
 #[derive(Drop)]
 pub(crate) struct Machine {
     pub(crate) alloc: Global,
-    /// How many bytes were told.
+    /// How many bytes were fed.
     pub(crate) count: u64,
     pub(crate) place: Place,
     pub(crate) headers: Headers,
@@ -32,7 +32,7 @@ pub(crate) struct Machine {
     pub(crate) findings: Findings,
 }
 
-/// Takes what the piece of a scan gives that is closed so. What stays of it was told nothing.
+/// Takes what the piece of a scan gives that is closed so. What stays of it was fed nothing.
 fn close(
     alloc: Global,
     headers: &Headers,
@@ -47,12 +47,12 @@ fn close(
     ensures rest { scan.new ≡ record scan.old { piece = scan.new.piece } }
     ensures found { OnOk result (AddsBy by headers.now.frame (state.found scan.old ∷ []) findings.old findings.new) }
 {
-    let told = scan.close();
+    let fed = scan.close();
     match headers.shape() {
         None => unreachable!(),
         Some(shape) => match by {
-            ClosedBy::Marker => findings.close(alloc, shape, &scan.plan, told),
-            ClosedBy::Input => findings.close_cut(alloc, shape, &scan.plan, told),
+            ClosedBy::Marker => findings.close(alloc, shape, &scan.plan, fed),
+            ClosedBy::Input => findings.close_cut(alloc, shape, &scan.plan, fed),
         },
     }
 }
@@ -91,7 +91,7 @@ fn whole_segment_size(bytes: &[u8]) -> Option<u16>
 }
 
 impl Machine {
-    /// A second machine that was told the same bytes.
+    /// A second machine that was fed the same bytes.
     pub(crate) fn try_clone(&self) -> Result<Machine, AllocError>
         ensures state { IfOk result (λ clone. state_of clone ≡ state_of self.now) }
         ensures picture { IfOk result (λ clone. clone.findings.partial ≡ self.now.findings.partial) }
@@ -183,7 +183,7 @@ impl Machine {
     /// Before SOI.
     fn take_at_start(&mut self, fill: bool, bytes: &[u8]) -> usize
         requires some { 0 < length bytes.now }
-        requires behind { fill ≡ true → 1 ≤ self.old.count }
+        requires following { fill ≡ true → 1 ≤ self.old.count }
         requires place { self.old.place ≡ Start fill }
         requires header_bytes { length self.old.payload.items ≤ 65535 }
         ensures { Takes self.old bytes.now self.new result }
@@ -202,7 +202,7 @@ impl Machine {
     fn take_at_marker(&mut self, fill: bool, bytes: &[u8]) -> Result<usize, AllocError>
         requires some { 0 < length bytes.now }
         requires few { self.old.count + length bytes.now < 2 ^ 63 }
-        requires behind { 1 ≤ self.old.count }
+        requires following { 1 ≤ self.old.count }
         requires place { self.old.place ≡ AtMarker fill }
         requires header_bytes { length self.old.payload.items ≤ 65535 }
         ensures { IfOk result (Takes self.old bytes.now self.new) }

@@ -1,7 +1,7 @@
 //! Pieces of scan data.
 
 ghost use Rattle.std.specs.Prelude.{◌≡◌, ◌<◌, ◌^◌, true, IfOk};
-ghost use Rattle.jls_copy.specs.Fronts.{OpenReadsNoMore};
+ghost use Rattle.jls_copy.specs.Prefixes.{OpenReadsNoMore};
 ghost use Rattle.jls_marker.specs.Scan.{intervals};
 ghost use Rattle.jls_copy.specs.Numbers.{numbered};
 ghost use Rattle.jls_copy.specs.ReaderState.{piece_opened};
@@ -38,7 +38,7 @@ pub struct PieceRecord {
     pub kind: PieceKind,
 }
 
-/// A piece that is told byte after byte, under its number.
+/// A piece that is fed byte after byte, under its number.
 #[derive(Drop)]
 pub(crate) enum OpenPiece {
     Within(u32, PieceDecoder),
@@ -54,16 +54,16 @@ pub(crate) enum ClosedBy {
     Input,
 }
 
-/// A piece that was told all its bytes: the scan of the copy, counted from 0, and the offset of its first byte.
+/// A piece that was fed all its bytes: the scan of the copy, counted from 0, and the offset of its first byte.
 #[derive(Drop)]
-pub(crate) struct ToldPiece {
+pub(crate) struct FedPiece {
     pub(crate) scan: u8,
     pub(crate) offset: u64,
     pub(crate) piece: OpenPiece,
 }
 
 impl OpenPiece {
-    /// The piece of this number, told nothing.
+    /// The piece of this number, fed nothing.
     pub(crate) fn open(alloc: Global, plan: &ScanPlan, number: u32) -> OpenPiece
         requires { number < 2 ^ 17 }
         ensures opened { result ≡ piece_opened plan.now (numbered (intervals plan.now) number) }
@@ -84,7 +84,7 @@ impl OpenPiece {
         OpenPiece::Within(number, PieceDecoder::new(alloc, shape))
     }
 
-    /// The piece as it was told. What stays was told nothing.
+    /// The piece as it was fed. What stays was fed nothing.
     pub(crate) fn take(&mut self) -> OpenPiece
         ensures { result ≡ self.old }
     {
@@ -94,7 +94,7 @@ impl OpenPiece {
         }
     }
 
-    /// A second piece of this number that was told the same bytes.
+    /// A second piece of this number that was fed the same bytes.
     pub(crate) fn try_clone(&self) -> Result<OpenPiece, AllocError>
         ensures { IfOk result (λ clone. clone ≡ self.now) }
     {

@@ -6,7 +6,7 @@ ghost use Rattle.jls_interval.specs.PieceFaults.{OutcomeIs};
 ghost use Rattle.jls_interval.specs.CutEnds.{CutEndIs};
 ghost use Rattle.jls_interval.specs.declared.decode_piece.PieceFault.TheVariants as PieceFault;
 ghost use Rattle.jls_interval.specs.IntervalBytes.{interval_asked};
-ghost use Rattle.jls_copy.specs.PieceDecoder.{untold};
+ghost use Rattle.jls_copy.specs.PieceDecoder.{unfed};
 ghost use Rattle.jls_copy.specs.ReaderState.{with_bytes};
 
 use crate::interval_shape::IntervalShape;
@@ -14,9 +14,9 @@ use jls_interval::{CutEnd, IntervalDecoder, PieceFault};
 use std::alloc::{AllocError, Global};
 use std::marker::Model;
 
-/// A decoder that was told nothing.
-fn untold_decoder(alloc: Global, shape: IntervalShape) -> IntervalDecoder
-    ensures { result ≡ untold shape }
+/// A decoder that was fed nothing.
+fn unfed_decoder(alloc: Global, shape: IntervalShape) -> IntervalDecoder
+    ensures { result ≡ unfed shape }
 {
     IntervalDecoder::new(
         alloc,
@@ -27,16 +27,16 @@ fn untold_decoder(alloc: Global, shape: IntervalShape) -> IntervalDecoder
     )
 }
 
-/// A decoder on the heap that was told these bytes.
+/// A decoder on the heap that was fed these bytes.
 #[inline(never)]
 fn decoder_with(
     alloc: Global,
     shape: IntervalShape,
     bytes: &[u8],
 ) -> Result<Box<IntervalDecoder>, AllocError>
-    ensures { IfOk result (λ made. made.value ≡ with_bytes (untold shape) bytes.now) }
+    ensures { IfOk result (λ made. made.value ≡ with_bytes (unfed shape) bytes.now) }
 {
-    let mut made = Box::new(alloc, untold_decoder(alloc, shape))?;
+    let mut made = Box::new(alloc, unfed_decoder(alloc, shape))?;
     made.push_all(bytes)?;
     Ok(made)
 }
@@ -53,17 +53,17 @@ pub(crate) struct PieceDecoder {
 
 impl Model for PieceDecoder {
     ghost use Rattle.jls_interval.specs.IntervalBytes.{IntervalBytes};
-    ghost use Rattle.jls_copy.specs.PieceDecoder.{made_or_untold};
+    ghost use Rattle.jls_copy.specs.PieceDecoder.{made_or_unfed};
 
     ghost Value = { IntervalBytes };
 
-    ghost view = { λ d. made_or_untold d.made d.shape };
+    ghost view = { λ d. made_or_unfed d.made d.shape };
 }
 
 impl PieceDecoder {
-    /// A decoder that was told nothing. It takes no memory yet.
+    /// A decoder that was fed nothing. It takes no memory yet.
     pub(crate) fn new(alloc: Global, shape: IntervalShape) -> PieceDecoder
-        ensures { result ≡ untold shape }
+        ensures { result ≡ unfed shape }
     {
         PieceDecoder {
             alloc,
@@ -72,7 +72,7 @@ impl PieceDecoder {
         }
     }
 
-    /// The decoder as it was told. What stays was told nothing.
+    /// The decoder as it was fed. What stays was fed nothing.
     pub(crate) fn take(&mut self) -> PieceDecoder
         ensures { result ≡ self.old }
     {
@@ -83,7 +83,7 @@ impl PieceDecoder {
         }
     }
 
-    /// A second decoder that was told the same bytes. It takes memory only if there are some.
+    /// A second decoder that was fed the same bytes. It takes memory only if there are some.
     pub(crate) fn try_clone(&self) -> Result<PieceDecoder, AllocError>
         ensures { IfOk result (λ clone. clone ≡ self.now) }
     {
@@ -143,7 +143,7 @@ impl PieceDecoder {
     {
         match self.made {
             Some(decoder) => Box::into_inner(decoder).finish_cut(),
-            None => untold_decoder(self.alloc, self.shape).finish_cut(),
+            None => unfed_decoder(self.alloc, self.shape).finish_cut(),
         }
     }
 }

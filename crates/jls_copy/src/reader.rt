@@ -2,7 +2,7 @@
 
 ghost use Rattle.std.specs.Prelude.{◌≡◌, ◌+◌, ◌-◌, ◌≤◌, ◌<◌, ◌^◌, [], length, Some, None, IfSome, OnOk, OnErr, IsOk, IsSome};
 ghost use Rattle.std.specs.Prelude.{IsErr, IfOk, IfErr, IfNone, take, true};
-ghost use Rattle.jls_copy.specs.Fronts.{IsPieceBroken, StaysFaulty};
+ghost use Rattle.jls_copy.specs.Prefixes.{IsPieceBroken, StaysFaulty};
 ghost use Rattle.jls_copy.specs.ReadCopy.{after};
 ghost use Rattle.jls_copy.specs.Conclusion as reader;
 ghost use Rattle.jls_copy.specs.CopyReads as copy;
@@ -208,7 +208,7 @@ impl CopyReader {
     }
 
     /// Whether the piece in hand is known to be broken, whatever follows. If so, each list of bytes that begins with those fed so far has
-    /// a faulty piece there (`fronts_stay_broken`). `false` says nothing. No memory is taken.
+    /// a faulty piece there (`prefixes_stay_broken`). `false` says nothing. No memory is taken.
     pub fn is_piece_broken(&self) -> bool
         ensures { result ≡ true → IfSome self.now (λ bytes. IsPieceBroken bytes) }
     {

@@ -1,7 +1,7 @@
 //! Scan data, byte after byte.
 
 ghost use Rattle.std.specs.Prelude.{◌≡◌, ◌+◌, ◌-◌, ◌^◌, ◌<◌, ◌≤◌, ◌∷◌, [], ◌++◌, IfOk, length, slice_index};
-ghost use Rattle.jls_copy.specs.Numbers.{next_number as number_rule, number_behind};
+ghost use Rattle.jls_copy.specs.Numbers.{next_number as number_rule, number_after};
 ghost use Rattle.jls_copy.specs.ScanData.{is_restart_code as restart_code, ends_scan_data as end_code};
 ghost use Rattle.jls_copy.specs.ReaderState as state;
 ghost use Rattle.jls_copy.specs.declared.scan.ByteClass.TheVariants.{Mark};
@@ -11,12 +11,12 @@ ghost use Rattle.jls_copy.specs.Stretch.{TakesStep};
 ghost use Rattle.jls_marker.specs.Scan.{intervals};
 
 use crate::cut_search::stretch_len;
-use crate::piece::{OpenPiece, ToldPiece};
+use crate::piece::{FedPiece, OpenPiece};
 use jls_marker::ScanPlan;
 use jls_marker::codes::{APP0, APP15, COM, DRI, EOI, LSE, RST0, RST7, SOS};
 use std::alloc::{AllocError, Global};
 
-/// How many FF bytes stand at the end of what was told.
+/// How many FF bytes stand at the end of what was fed.
 #[derive(Clone, Copy)]
 pub(crate) enum Held {
     Nothing,
@@ -48,7 +48,7 @@ pub(crate) enum ScanStep {
     End,
 }
 
-/// A scan whose data is told byte after byte.
+/// A scan whose data is fed byte after byte.
 #[derive(Drop)]
 pub(crate) struct OpenScan {
     pub(crate) index: u8,
@@ -78,8 +78,8 @@ fn ends_scan_data(code: u8) -> bool
         || (code >= APP0 && code <= APP15)
 }
 
-/// What a byte of scan data does behind FF bytes.
-fn class_behind(byte: u8) -> ByteClass
+/// What a byte of scan data does after FF bytes.
+fn class_after(byte: u8) -> ByteClass
     ensures class { result ≡ state.class_of One byte }
     ensures mark { result ≡ Mark → (0xD0 ≤ byte) × (byte ≤ 0xD7) }
 {
@@ -94,7 +94,7 @@ fn class_behind(byte: u8) -> ByteClass
     }
 }
 
-/// The number of the piece behind RSTm, where `last` was given last.
+/// The number of the piece after RSTm, where `last` was given last.
 fn next_number(last: u32, mark: u8) -> u32
     requires mark { mark < 8 }
     requires last { last < 2 ^ 16 }
@@ -121,7 +121,7 @@ impl OpenScan {
         }
     }
 
-    /// A second scan that was told the same bytes.
+    /// A second scan that was fed the same bytes.
     pub(crate) fn try_clone(&self) -> Result<OpenScan, AllocError>
         ensures { IfOk result (λ clone. clone ≡ self.now) }
     {
@@ -136,14 +136,14 @@ impl OpenScan {
         })
     }
 
-    /// Takes the first of these bytes behind FF bytes. If it is data, the piece is told these FF bytes with it, which is `told`.
-    fn take_behind(&mut self, bytes: &[u8], told: &[u8]) -> Result<ScanStep, AllocError>
+    /// Takes the first of these bytes after FF bytes. If it is data, the piece is fed these FF bytes with it, which is `fed`.
+    fn take_after(&mut self, bytes: &[u8], fed: &[u8]) -> Result<ScanStep, AllocError>
         requires some { 0 < length bytes.now }
         requires held { self.old.held ≡ Nothing → ⊥ }
-        requires told { told.now ≡ state.held_bytes self.old.held ++ slice_index bytes.now 0 ∷ [] }
+        requires fed { fed.now ≡ state.held_bytes self.old.held ++ slice_index bytes.now 0 ∷ [] }
         ensures { IfOk result (λ step. TakesStep self.old bytes.now self.new step) }
     {
-        match class_behind(bytes[0]) {
+        match class_after(bytes[0]) {
             ByteClass::Fill => {
                 self.held = Held::More;
                 Ok(ScanStep::Data(1))
@@ -151,7 +151,7 @@ impl OpenScan {
             ByteClass::Data => {
                 self.held = Held::Nothing;
                 match &mut self.piece {
-                    OpenPiece::Within(_, decoder) => decoder.push_all(told)?,
+                    OpenPiece::Within(_, decoder) => decoder.push_all(fed)?,
                     OpenPiece::Beyond(_) => {}
                 }
                 Ok(ScanStep::Data(1))
@@ -161,7 +161,7 @@ impl OpenScan {
         }
     }
 
-    /// Takes the first of these bytes, or as many as the piece can be told at once, and says what came of them. The code of a marker is
+    /// Takes the first of these bytes, or as many as the piece can be fed at once, and says what came of them. The code of a marker is
     /// left to the caller, since it closes the piece.
     pub(crate) fn take(&mut self, bytes: &[u8]) -> Result<ScanStep, AllocError>
         requires { 0 < length bytes.now }
@@ -180,28 +180,28 @@ impl OpenScan {
                 }
                 Ok(ScanStep::Data(count))
             }
-            Held::One => self.take_behind(bytes, &[0xff, bytes[0]]),
-            Held::More => self.take_behind(bytes, &[0xff, 0xff, bytes[0]]),
+            Held::One => self.take_after(bytes, &[0xff, bytes[0]]),
+            Held::More => self.take_after(bytes, &[0xff, 0xff, bytes[0]]),
         }
     }
 
-    /// Gives the piece as it was told. What stays of it was told nothing.
-    pub(crate) fn close(&mut self) -> ToldPiece
-        ensures told { result ≡ record { scan = self.old.index; offset = self.old.offset; piece = self.old.piece } }
+    /// Gives the piece as it was fed. What stays of it was fed nothing.
+    pub(crate) fn close(&mut self) -> FedPiece
+        ensures fed { result ≡ record { scan = self.old.index; offset = self.old.offset; piece = self.old.piece } }
         ensures rest { self.new ≡ record self.old { piece = self.new.piece } }
     {
-        ToldPiece {
+        FedPiece {
             scan: self.index,
             offset: self.offset,
             piece: self.piece.take(),
         }
     }
 
-    /// Begins the piece behind RSTm at this offset.
+    /// Begins the piece after RSTm at this offset.
     pub(crate) fn begin(&mut self, alloc: Global, mark: u8, offset: u64)
         requires mark { mark < 8 }
         requires last { self.old.last < intervals self.old.plan }
-        ensures scan { self.new ≡ state.scan_behind self.old (number_behind (intervals self.old.plan) self.old.last mark) offset }
+        ensures scan { self.new ≡ state.scan_after self.old (number_after (intervals self.old.plan) self.old.last mark) offset }
         ensures sound { IsOpenScan self.new }
     {
         let count = self.plan.intervals();

@@ -55,9 +55,9 @@ unit_of_course : (h : HeaderState) (u : CopyUnit) (after : HeaderState) (rest : 
     → IsCopyUnit h u after rest
 unit_of_course h (segment fill code payload) after rest low (whole, taken) =
     (whole.1, headers_set h after code payload None (payload_bytes fill code payload low) taken)
-unit_of_course h (scan fill code payload s closed last closing) after rest low (whole, taken, each, piece, behind) =
+unit_of_course h (scan fill code payload s closed last closing) after rest low (whole, taken, each, piece, following) =
     let in_segment = scan_payload_bytes fill code payload (scan_data_bytes closed last closing) low in
-    (whole.1, headers_set h after code payload (Some s) in_segment taken, each, piece, behind)
+    (whole.1, headers_set h after code payload (Some s) in_segment taken, each, piece, following)
 
 -- a unit of a copy is one of a course
 pub unit_of_copy : (h : HeaderState) (u : CopyUnit) (after : HeaderState) (rest : List ℕ) → IsHeaderState h → AreBytes (unit_bytes u)
@@ -66,28 +66,28 @@ unit_of_copy h (segment fill code payload) after rest state low (small, set) = (
   (sets_has_segment h code payload after None set, small),
   sets_taken h code payload after None state (payload_bytes fill code payload low) set,
 )
-unit_of_copy h (scan fill code payload s closed last closing) after rest state low (small, set, each, piece, behind) =
+unit_of_copy h (scan fill code payload s closed last closing) after rest state low (small, set, each, piece, following) =
     let in_segment = scan_payload_bytes fill code payload (scan_data_bytes closed last closing) low in (
       (sets_has_segment h code payload after (Some s) set, small),
       sets_taken h code payload after (Some s) state in_segment set,
       each,
       piece,
-      behind,
+      following,
     )
 
--- headers stay in their ranges behind a unit
+-- headers stay in their ranges after a unit
 pub unit_keeps : (h : HeaderState) (u : CopyUnit) (after : HeaderState) (rest : List ℕ) → IsHeaderState h → AreBytes (unit_bytes u)
     → IsUnit h u after rest → IsHeaderState after
 unit_keeps h (segment fill code payload) after rest state low (whole, taken) =
     headers_kept h after code payload None state (payload_bytes fill code payload low) taken
-unit_keeps h (scan fill code payload s closed last closing) after rest state low (whole, taken, each, piece, behind) =
+unit_keeps h (scan fill code payload s closed last closing) after rest state low (whole, taken, each, piece, following) =
     headers_kept h after code payload (Some s) state (scan_payload_bytes fill code payload (scan_data_bytes closed last closing) low) taken
 
 -- a unit that begins bytes consists of bytes, and so does what follows it
 pub unit_parts : (bytes rest : List ℕ) (u : CopyUnit) → AreBytes bytes → bytes ≡ unit_bytes u ++ rest → AreBytes (unit_bytes u) × AreBytes rest
 unit_parts bytes rest u low e = byte_parts (unit_bytes u) rest (subst AreBytes e low)
 
--- ---- units one behind the other
+-- ---- units one after the other
 
 -- the units of a course are those of a copy
 pub units_of_course : (h : HeaderState) (at : ℕ) (bytes : List ℕ) (units : List CopyUnit) (final : HeaderState) (e : End) → IsHeaderState h
@@ -122,7 +122,7 @@ same_units h bytes (u ∷ us) (v ∷ vs) l m state low (a, r, is, unit, more) (b
 
 -- ---- the first marker
 
--- behind fill bytes a marker and what follows it are read in one way
+-- after fill bytes a marker and what follows it are read in one way
 same_marker : (m n c d : ℕ) (x y : List ℕ) → c ≢ 255 → d ≢ 255 → fill_bytes m ++ (255 ∷ c ∷ x) ≡ fill_bytes n ++ (255 ∷ d ∷ y)
     → (c ≡ d) × (x ≡ y)
 same_marker zero zero c d x y p q e = (cc, cc)
@@ -153,9 +153,9 @@ soi = 216
 soi_not_fill : soi ≢ 255
 soi_not_fill e = omega (arith, e)
 
--- what stands behind SOI consists of bytes
-behind_soi_bytes : (n : ℕ) (bytes : List ℕ) → AreBytes (fill_bytes n ++ (255 ∷ 216 ∷ bytes)) → AreBytes bytes
-behind_soi_bytes n bytes low = (byte_parts (fill_bytes n) (255 ∷ 216 ∷ bytes) low).1.1.1
+-- what stands after SOI consists of bytes
+after_soi_bytes : (n : ℕ) (bytes : List ℕ) → AreBytes (fill_bytes n ++ (255 ∷ 216 ∷ bytes)) → AreBytes bytes
+after_soi_bytes n bytes low = (byte_parts (fill_bytes n) (255 ∷ 216 ∷ bytes) low).1.1.1
 
 -- ---- a copy
 
@@ -169,11 +169,11 @@ pub course_has_scans : (copy : List ℕ) (c : Course) (shape : PictureShape) →
 course_has_scans _ _ shape low (with_soi n bytes units final e is) framed = record {
   are_bytes = low;
   fill = n;
-  behind_soi = bytes;
+  after_soi = bytes;
   copy_is = refl;
   units = units;
   headers = final;
-  are_units = units_of_course no_headers (n + 2) bytes units final e no_headers_kept (behind_soi_bytes n bytes low) is;
+  are_units = units_of_course no_headers (n + 2) bytes units final e no_headers_kept (after_soi_bytes n bytes low) is;
   framed = framed;
   scans_are = refl;
 }
@@ -185,16 +185,16 @@ course_has_scans _ _ shape low (with_fill_alone n) framed = absurd (no_frame sha
 pub course_has_units : (copy : List ℕ) (c : Course) (shape : PictureShape) (scans : List ScanWithData) → IsCourse copy c
     → (h : HasScans copy shape scans) → (h.units ≡ c.units) × (h.headers ≡ c.headers)
 course_has_units _ _ shape scans (with_soi n bytes units final e is) h =
-    let behind : h.behind_soi ≡ bytes = sym (same_marker n h.fill soi soi bytes h.behind_soi soi_not_fill soi_not_fill h.copy_is).1 in
-    let low = behind_soi_bytes n bytes h.are_bytes in
+    let following : h.after_soi ≡ bytes = sym (same_marker n h.fill soi soi bytes h.after_soi soi_not_fill soi_not_fill h.copy_is).1 in
+    let low = after_soi_bytes n bytes h.are_bytes in
     same_units no_headers bytes h.units units h.headers final no_headers_kept low
-    (subst (λ x. AreCopyUnits no_headers x h.units h.headers) behind h.are_units)
+    (subst (λ x. AreCopyUnits no_headers x h.units h.headers) following h.are_units)
     (units_of_course no_headers (n + 2) bytes units final e no_headers_kept low is)
 course_has_units _ _ shape scans (with_another_marker n code bytes p q) h =
-    absurd (q (same_marker n h.fill code soi bytes h.behind_soi p soi_not_fill h.copy_is).0)
+    absurd (q (same_marker n h.fill code soi bytes h.after_soi p soi_not_fill h.copy_is).0)
 course_has_units _ _ shape scans (with_no_marker b bytes p) h =
-    absurd (other_no_marker b h.fill soi h.behind_soi bytes p h.copy_is)
-course_has_units _ _ shape scans (with_fill_alone n) h = absurd (fill_no_marker n h.fill soi h.behind_soi soi_not_fill h.copy_is)
+    absurd (other_no_marker b h.fill soi h.after_soi bytes p h.copy_is)
+course_has_units _ _ shape scans (with_fill_alone n) h = absurd (fill_no_marker n h.fill soi h.after_soi soi_not_fill h.copy_is)
 
 -- the course of bytes that have a frame and scans takes this frame, and has these scans
 pub scans_of_course : (copy : List ℕ) (c : Course) (shape : PictureShape) (scans : List ScanWithData) → IsCourse copy c
@@ -207,9 +207,9 @@ scans_of_course copy c shape scans is h =
 pub has_course_with : SomeCourse → (copy : List ℕ) (shape : PictureShape) (scans : List ScanWithData) → HasScans copy shape scans
     → HasCourseWith copy shape scans
 has_course_with some copy shape scans h =
-    let told = some copy h.are_bytes in
-    let of = scans_of_course copy told.0 shape scans told.1 h in
-    record { course = told.0; is_course = told.1; framed = of.0; scans_are = of.1 }
+    let fed = some copy h.are_bytes in
+    let of = scans_of_course copy fed.0 shape scans fed.1 h in
+    record { course = fed.0; is_course = fed.1; framed = of.0; scans_are = of.1 }
 
 -- bytes whose course has a frame and scans have these
 pub has_scans : (copy : List ℕ) (shape : PictureShape) (scans : List ScanWithData) → AreBytes copy → HasCourseWith copy shape scans
@@ -228,11 +228,11 @@ same_frame shape shape' e = cc
 -- the law: a copy has one frame and one list of scans at most
 pub one_list_of_scans : OneListOfScans
 one_list_of_scans copy shape shape' scans scans' h k =
-    let first = same_marker k.fill h.fill soi soi k.behind_soi h.behind_soi soi_not_fill soi_not_fill (sym k.copy_is ∙ h.copy_is) in
-    let behind : h.behind_soi ≡ k.behind_soi = sym first.1 in
-    let low : AreBytes k.behind_soi = behind_soi_bytes k.fill k.behind_soi (subst AreBytes k.copy_is k.are_bytes) in
-    let same = same_units no_headers k.behind_soi h.units k.units h.headers k.headers no_headers_kept low
-    (subst (λ x. AreCopyUnits no_headers x h.units h.headers) behind h.are_units) k.are_units in (
+    let first = same_marker k.fill h.fill soi soi k.after_soi h.after_soi soi_not_fill soi_not_fill (sym k.copy_is ∙ h.copy_is) in
+    let following : h.after_soi ≡ k.after_soi = sym first.1 in
+    let low : AreBytes k.after_soi = after_soi_bytes k.fill k.after_soi (subst AreBytes k.copy_is k.are_bytes) in
+    let same = same_units no_headers k.after_soi h.units k.units h.headers k.headers no_headers_kept low
+    (subst (λ x. AreCopyUnits no_headers x h.units h.headers) following h.are_units) k.are_units in (
       same_frame shape shape' (sym h.framed ∙ ap (λ (x : HeaderState). x.frame) same.1 ∙ k.framed),
       h.scans_are ∙ ap (λ us. flat_map scans_of_unit us) same.0 ∙ sym k.scans_are,
     )

@@ -21,15 +21,15 @@ some_pieces : (index : ℕ) (s : Scan) (last : ℕ) (number : PieceNumber) (at :
 some_pieces index s last number at [] bytes = (_, [], refl)
 some_pieces index s last number at (c ∷ closed) bytes = (_, _, refl)
 
-last_behind : (xs : List FoundPiece) (p : FoundPiece) (ps : List FoundPiece) → last_piece (xs ++ p ∷ ps) ≡ last_piece (p ∷ ps)
-last_behind [] p ps = refl
-last_behind (x ∷ []) p ps = refl
-last_behind (x ∷ y ∷ xs) p ps = last_behind (y ∷ xs) p ps
+last_after : (xs : List FoundPiece) (p : FoundPiece) (ps : List FoundPiece) → last_piece (xs ++ p ∷ ps) ≡ last_piece (p ∷ ps)
+last_after [] p ps = refl
+last_after (x ∷ []) p ps = refl
+last_after (x ∷ y ∷ xs) p ps = last_after (y ∷ xs) p ps
 
-some_behind : (xs : List FoundPiece) (p : FoundPiece) (ps : List FoundPiece)
+some_after : (xs : List FoundPiece) (p : FoundPiece) (ps : List FoundPiece)
     → (q : FoundPiece) × (qs : List FoundPiece) × (xs ++ p ∷ ps ≡ q ∷ qs)
-some_behind [] p ps = (p, ps, refl)
-some_behind (x ∷ xs) p ps = (x, xs ++ p ∷ ps, refl)
+some_after [] p ps = (p, ps, refl)
+some_after (x ∷ xs) p ps = (x, xs ++ p ∷ ps, refl)
 
 pub last_short : (ps : List FoundPiece) → length (last_piece ps) ≤ 1
 last_short [] = omega arith
@@ -49,14 +49,14 @@ closed_some (scan fill code payload s closed last (by_input n) ∷ []) index at 
 closed_some (scan fill code payload s closed last by_marker ∷ []) index at e = absurd cc
 closed_some (u ∷ v ∷ us) index at e =
     let r = closed_some (v ∷ us) (index + scans_in u) (at + length (unit_bytes u)) e in
-    let q = some_behind (unit_pieces index at u) r.0 r.1 in
+    let q = some_after (unit_pieces index at u) r.0 r.1 in
     (q.0, q.1, ap (λ ps. unit_pieces index at u ++ ps) r.2 ∙ q.2)
 
 -- the piece of units that the input's end closes
 abbrev pub cut_of : ℕ → ℕ → List CopyUnit → List FoundPiece
 cut_of index at us = if closed_by_input us then last_piece (pieces_in index at us) else []
 
--- is that of the units behind the first
+-- is that of the units after the first
 cut_of_more : (u v : CopyUnit) (us : List CopyUnit) (index at : ℕ)
     → cut_of index at (u ∷ v ∷ us) ≡ cut_of (index + scans_in u) (at + length (unit_bytes u)) (v ∷ us)
 cut_of_more u v us index at = by (closed_by_input (v ∷ us)) refl
@@ -69,7 +69,7 @@ cut_of_more u v us index at = by (closed_by_input (v ∷ us)) refl
         ≡ (if b then last_piece (pieces_in (index + scans_in u) (at + length (unit_bytes u)) (v ∷ us)) else [])
     by true e =
         let r = closed_some (v ∷ us) (index + scans_in u) (at + length (unit_bytes u)) e in
-        ap (λ ps. last_piece (unit_pieces index at u ++ ps)) r.2 ∙ last_behind (unit_pieces index at u) r.0 r.1 ∙ ap last_piece (sym r.2)
+        ap (λ ps. last_piece (unit_pieces index at u ++ ps)) r.2 ∙ last_after (unit_pieces index at u) r.0 r.1 ∙ ap last_piece (sym r.2)
     by false e = refl
 
 cut_of_one : (u : CopyUnit) (index at : ℕ) → is_cut u ≡ true → cut_of index at (u ∷ []) ≡ last_piece (unit_pieces index at u)
@@ -109,10 +109,10 @@ no_unit (scan fill code payload s closed last closing) more e =
     empty [] e = refl
     empty (x ∷ xs) e = absurd (omega (arith, e))
 
-nothing_behind : (h after : HeaderState) (u : CopyUnit) (rest : List ℕ) → is_cut u ≡ true → IsUnit h u after rest → rest ≡ []
-nothing_behind h after (segment fill code payload) rest e is = absurd cc
-nothing_behind h after (scan fill code payload s closed last (by_input n)) rest e is = is.4
-nothing_behind h after (scan fill code payload s closed last by_marker) rest e is = absurd cc
+nothing_after : (h after : HeaderState) (u : CopyUnit) (rest : List ℕ) → is_cut u ≡ true → IsUnit h u after rest → rest ≡ []
+nothing_after h after (segment fill code payload) rest e is = absurd cc
+nothing_after h after (scan fill code payload s closed last (by_input n)) rest e is = is.4
+nothing_after h after (scan fill code payload s closed last by_marker) rest e is = absurd cc
 
 -- so its last piece is that of the course
 pub cut_stands : (us : List CopyUnit) (index at : ℕ) (h : HeaderState) (from : ℕ) (bytes : List ℕ) (final : HeaderState) (e : End) (u : CopyUnit)
@@ -131,7 +131,7 @@ cut_stands (v ∷ []) index at h from bytes final e u are c cut =
     ]
 cut_stands (v ∷ w ∷ us) index at h from bytes final e u (after, rest, whole, is, (after', rest', whole', is', more)) c cut =
     elim (first_or_rest u v (w ∷ us) c) [
-      | inl same ↦ absurd (no_unit w rest' (sym whole' ∙ nothing_behind h after v rest (subst (λ x. is_cut x ≡ true) (sym same) cut) is))
+      | inl same ↦ absurd (no_unit w rest' (sym whole' ∙ nothing_after h after v rest (subst (λ x. is_cut x ≡ true) (sym same) cut) is))
       | inr later ↦ (
           let there = cut_stands (w ∷ us) (index + scans_in v) (at + length (unit_bytes v)) after _ rest final e u (after', rest', whole', is', more) later cut in
           (there.0, there.1, λ p m. subst (λ ps. Contains ps p) (sym (cut_of_more v w us index at)) (there.2 p m)))

@@ -118,7 +118,7 @@ gives_row_1 = (
   (0, whole_piece (0x08 ∷ 0xF0 ∷ 0x23 ∷ 0x46 ∷ []), (0, lit< tt, refl), (_, inl two_scans_read.rows_0_and_1, (1, lit< tt, refl))),
 )
 
--- and row 2 from the one behind RST0, whose interval is shorter
+-- and row 2 from the one after RST0, whose interval is shorter
 gives_row_2 : GivesReading two.file (reading_of 1 2 (0 ∷ 4095 ∷ []))
 gives_row_2 = (
   two.shape,

@@ -7,7 +7,7 @@ use Rattle.jls_partial.specs.Reading.{Reading}
 use Rattle.jls_marker.specs.Scan.{Scan, intervals}
 use Rattle.jls_marker.specs.SegmentLaws.{AreBytes}
 use Rattle.jls_copy.specs.ScanData.{ClosedPiece, closed_bytes}
-use Rattle.jls_copy.specs.Numbers.{PieceNumber, Interval, BeyondLast, number_behind, given_last, numbers_behind}
+use Rattle.jls_copy.specs.Numbers.{PieceNumber, Interval, BeyondLast, number_after, given_last, numbers_after}
 use Rattle.jls_copy.specs.Course.{LastClosed, by_input, by_marker, CopyUnit, segment, scan, segment_unit_bytes, unit_bytes}
 use Rattle.jls_copy.specs.Course.{Course, IsCourse}
 use Rattle.jls_copy.specs.Pieces.{FoundPiece, pieces_from, unit_pieces, scans_in, pieces_in, piece_begun}
@@ -39,7 +39,7 @@ scan_pieces closed last cut = map (λ c. record { bytes = c.piece; ended_by_inpu
 -- these pieces with their numbers, of which this is the first, where `given` was given last
 abbrev numbered_pieces : Scan → PieceNumber → ℕ → List ClosedPiece → List ℕ → Bool → List (PieceNumber × ScanPiece)
 numbered_pieces s number given closed last cut =
-    zip (number ∷ numbers_behind (intervals s) given (map (λ c. c.mark) closed)) (scan_pieces closed last cut)
+    zip (number ∷ numbers_after (intervals s) given (map (λ c. c.mark) closed)) (scan_pieces closed last cut)
 
 -- a piece that is found is one of them
 record Corresponds (index : ℕ) (s : Scan) (numbered : List (PieceNumber × ScanPiece)) (p : FoundPiece) : Type 0 where
@@ -64,11 +64,11 @@ found_corresponds index s number given at [] last cut p m =
       | inr later ↦ absurd (none_in p later)
     ]
 found_corresponds index s number given at (c ∷ closed) last cut p m =
-    let next = number_behind (intervals s) given c.mark in
-    let behind = at + length (closed_bytes c) in
+    let next = number_after (intervals s) given c.mark in
+    let following = at + length (closed_bytes c) in
     let others = numbered_pieces s next (given_last given next) closed last cut in
-    let found_behind = pieces_from (piece_begun index s next behind) (given_last given next) closed last in
-    elim (first_or_rest p (found index s number at c.piece) found_behind m) [
+    let found_after = pieces_from (piece_begun index s next following) (given_last given next) closed last in
+    elim (first_or_rest p (found index s number at c.piece) found_after m) [
       | inl e ↦ record {
         number = number;
         piece = whole_piece c;
@@ -77,7 +77,7 @@ found_corresponds index s number given at (c ∷ closed) last cut p m =
         same = sym e;
       }
       | inr later ↦ (
-          let r = found_corresponds index s next (given_last given next) behind closed last cut p later in
+          let r = found_corresponds index s next (given_last given next) following closed last cut p later in
           record {
             number = r.number;
             piece = r.piece;
@@ -109,11 +109,11 @@ last_corresponds index s number given at [] last cut p m =
       | inr later ↦ absurd (none_in p later)
     ]
 last_corresponds index s number given at (c ∷ closed) last cut p m =
-    let next = number_behind (intervals s) given c.mark in
-    let behind = at + length (closed_bytes c) in
+    let next = number_after (intervals s) given c.mark in
+    let following = at + length (closed_bytes c) in
     let others = numbered_pieces s next (given_last given next) closed last cut in
-    let later = behind_first (found index s number at c.piece) (piece_begun index s next behind) (given_last given next) closed last p m in
-    let r = last_corresponds index s next (given_last given next) behind closed last cut p later in
+    let later = after_first (found index s number at c.piece) (piece_begun index s next following) (given_last given next) closed last p m in
+    let r = last_corresponds index s next (given_last given next) following closed last cut p later in
     record {
       number = r.number;
       offset = r.offset;
@@ -121,11 +121,11 @@ last_corresponds index s number given at (c ∷ closed) last cut p m =
       same = r.same;
     }
   where
-    -- the last piece is behind the first
-    behind_first : (q begun : FoundPiece) (given : ℕ) (closed : List ClosedPiece) (last : List ℕ) (p : FoundPiece)
+    -- the last piece is after the first
+    after_first : (q begun : FoundPiece) (given : ℕ) (closed : List ClosedPiece) (last : List ℕ) (p : FoundPiece)
         → Contains (last_piece (q ∷ pieces_from begun given closed last)) p → Contains (last_piece (pieces_from begun given closed last)) p
-    behind_first q begun given [] last p m = m
-    behind_first q begun given (d ∷ closed) last p m = m
+    after_first q begun given [] last p m = m
+    after_first q begun given (d ∷ closed) last p m = m
 
 -- each of them is found
 number_found : (index : ℕ) (s : Scan) (number : PieceNumber) (given at : ℕ) (closed : List ClosedPiece) (last : List ℕ) (cut : Bool)
@@ -141,9 +141,9 @@ number_found index s number given at [] last cut n piece m =
       | inr later ↦ absurd (none_in (n, piece) later)
     ]
 number_found index s number given at (c ∷ closed) last cut n piece m =
-    let next = number_behind (intervals s) given c.mark in
-    let behind = at + length (closed_bytes c) in
-    let others = pieces_from (piece_begun index s next behind) (given_last given next) closed last in
+    let next = number_after (intervals s) given c.mark in
+    let following = at + length (closed_bytes c) in
+    let others = pieces_from (piece_begun index s next following) (given_last given next) closed last in
     elim (first_or_rest (n, piece) (number, whole_piece c) (numbered_pieces s next (given_last given next) closed last cut) m) [
       | inl e ↦ (
         at,
@@ -151,7 +151,7 @@ number_found index s number given at (c ∷ closed) last cut n piece m =
             (is_first (found index s number at c.piece) others),
       )
       | inr later ↦ (
-          let r = number_found index s next (given_last given next) behind closed last cut n piece later in
+          let r = number_found index s next (given_last given next) following closed last cut n piece later in
           (r.0, in_rest (found index s n r.0 piece.bytes) (found index s number at c.piece) others r.1))
     ]
 
@@ -171,25 +171,25 @@ cut_found index s number given at [] last cut n piece m is =
       | inr later ↦ absurd (none_in (n, piece) later)
     ]
 cut_found index s number given at (c ∷ closed) last cut n piece m is =
-    let next = number_behind (intervals s) given c.mark in
-    let behind = at + length (closed_bytes c) in
+    let next = number_after (intervals s) given c.mark in
+    let following = at + length (closed_bytes c) in
     elim (first_or_rest (n, piece) (number, whole_piece c) (numbered_pieces s next (given_last given next) closed last cut) m) [
       | inl e ↦ absurd (not_both (ap (λ (q : PieceNumber × ScanPiece). q.1.ended_by_input) e ∙ is))
       | inr later ↦ (
-          let r = cut_found index s next (given_last given next) behind closed last cut n piece later is in
+          let r = cut_found index s next (given_last given next) following closed last cut n piece later is in
           let p = found index s n r.0 piece.bytes in
           let q = found index s number at c.piece in
-          (r.0, r.1, last_behind_one q (piece_begun index s next behind) (given_last given next) closed last p r.2))
+          (r.0, r.1, last_after_one q (piece_begun index s next following) (given_last given next) closed last p r.2))
     ]
   where
     not_both : false ≡ true → ⊥
     not_both e = cc
 
-    -- the last piece is the last behind the first
-    last_behind_one : (q begun : FoundPiece) (given : ℕ) (closed : List ClosedPiece) (last : List ℕ) (p : FoundPiece)
+    -- the last piece is the last after the first
+    last_after_one : (q begun : FoundPiece) (given : ℕ) (closed : List ClosedPiece) (last : List ℕ) (p : FoundPiece)
         → Contains (last_piece (pieces_from begun given closed last)) p → Contains (last_piece (q ∷ pieces_from begun given closed last)) p
-    last_behind_one q begun given [] last p m = m
-    last_behind_one q begun given (d ∷ closed) last p m = m
+    last_after_one q begun given [] last p m = m
+    last_after_one q begun given (d ∷ closed) last p m = m
 
 -- What a piece gives -----------------------------------------------------------------------------------------------
 
@@ -223,14 +223,14 @@ unit_gives index at (scan fill code payload s closed last closing) p r m g =
     let begin = at + length (segment_unit_bytes fill code payload) in
     let cut = is_by_input closing in
     let f = found_corresponds index s (Interval 0) 0 begin closed last cut p m in
-    let told = piece_gives index s f.number f.offset f.piece r (subst (λ x. FoundPieceGives x r) f.same g) in (
+    let fed = piece_gives index s f.number f.offset f.piece r (subst (λ x. FoundPieceGives x r) f.same g) in (
       scan_with s closed last closing,
       is_first (scan_with s closed last closing) [],
       (
-        told.0,
+        fed.0,
         f.piece,
-        subst (λ n. Contains (numbered_pieces s (Interval 0) 0 closed last cut) (n, f.piece)) told.1 f.among,
-        told.2,
+        subst (λ n. Contains (numbered_pieces s (Interval 0) 0 closed last cut) (n, f.piece)) fed.1 f.among,
+        fed.2,
       ),
     )
 
@@ -244,14 +244,14 @@ cut_unit_gives index at (scan fill code payload s closed last (by_input n)) p r 
     let begin = at + length (segment_unit_bytes fill code payload) in
     let piece : ScanPiece = record { bytes = last; ended_by_input = true } in
     let f = last_corresponds index s (Interval 0) 0 begin closed last true p m in
-    let told = head_gives index s f.number f.offset piece r refl (subst (λ x. FoundHeadGives x r) f.same g) in (
+    let fed = head_gives index s f.number f.offset piece r refl (subst (λ x. FoundHeadGives x r) f.same g) in (
       scan_with s closed last (by_input n),
       is_first (scan_with s closed last (by_input n)) [],
       (
-        told.0,
+        fed.0,
         piece,
-        subst (λ k. Contains (numbered_pieces s (Interval 0) 0 closed last true) (k, piece)) told.1 f.among,
-        told.2,
+        subst (λ k. Contains (numbered_pieces s (Interval 0) 0 closed last true) (k, piece)) fed.1 f.among,
+        fed.2,
       ),
     )
 
@@ -300,16 +300,16 @@ cut_tells : (us : List CopyUnit) (r : Reading) (index at : ℕ) (u : CopyUnit) �
     → AllByRecursion (HeadTells us r) (last_piece (unit_pieces index at u))
 cut_tells us r index at u among is =
     all_from (HeadTells us r) (last_piece (unit_pieces index at u)) (λ p there gives.
-    let told = cut_unit_gives index at u p r is there gives in
-    (told.0, in_flat_map scans_of_unit us u told.0 among told.1, told.2))
+    let fed = cut_unit_gives index at u p r is there gives in
+    (fed.0, in_flat_map scans_of_unit us u fed.0 among fed.1, fed.2))
 
 -- what a course gives is given by a scan of its units
 pub units_give : (c : Course) (r : Reading) → CourseGives c r
     → (d : ScanWithData) × Contains (flat_map scans_of_unit c.units) d × ScanGives d r
 units_give c r (inl (p, m, g)) =
     let i = in_some_unit c.units 0 c.begin p m in
-    let told = unit_gives i.2 i.3 i.0 p r i.4 g in
-    (told.0, in_flat_map scans_of_unit c.units i.0 told.0 i.1 told.1, told.2)
+    let fed = unit_gives i.2 i.3 i.0 p r i.4 g in
+    (fed.0, in_flat_map scans_of_unit c.units i.0 fed.0 i.1 fed.1, fed.2)
 units_give c r (inr (p, m, g)) = all_at (HeadTells c.units r) (cut_pieces c) p each m g
   where
     each : AllByRecursion (HeadTells c.units r) (cut_pieces c)
@@ -369,7 +369,7 @@ by_course has one copy c shape r low is framed = (there, back)
         given_by_units copy c r is d (subst (λ ds. Contains ds d) same m) g
 
     back : CourseGives c r → GivesReading copy r
-    back g = let told = units_give c r g in (shape, flat_map scans_of_unit c.units, has copy c shape low is framed, told.0, told.1, told.2)
+    back g = let fed = units_give c r g in (shape, flat_map scans_of_unit c.units, has copy c shape low is framed, fed.0, fed.1, fed.2)
 
 pub readings_are_of_the_course : ReadingsAreOfTheCourse
 readings_are_of_the_course = by_course course_has_scans one_list_of_scans

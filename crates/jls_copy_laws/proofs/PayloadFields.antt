@@ -25,7 +25,7 @@ abbrev frame_bytes : ℕ → ℕ → ℕ → List ℕ → List ℕ → List ℕ
 frame_bytes precision height width ids tables =
     precision ∷ to_be_bytes w16 height ++ to_be_bytes w16 width ++ length ids ∷ flat_map sampled_once (zip ids tables)
 
--- components that are sampled once are told by their identifiers and tables
+-- components that are sampled once are determined by their identifiers and tables
 bytes_of_components : (cs : List FrameComponent) → AllByRecursion (λ c. c.sampling ≡ 0x11) cs
     → flat_map frame_component_bytes cs ≡ flat_map sampled_once (zip (map (λ c. c.id) cs) (map (λ c. c.table) cs))
 bytes_of_components [] once = refl
@@ -37,9 +37,9 @@ bytes_of_components (c ∷ cs) once =
 bytes_of_header : (h : FrameHeader) → AllByRecursion (λ c. c.sampling ≡ 0x11) h.components
     → frame_header_bytes h ≡ frame_bytes h.precision h.height h.width (map (λ c. c.id) h.components) (map (λ c. c.table) h.components)
 bytes_of_header h once =
-    let front = λ (rest : List ℕ). h.precision ∷ to_be_bytes w16 h.height ++ to_be_bytes w16 h.width ++ rest in
-    ap (λ (n : ℕ). front (n ∷ flat_map frame_component_bytes h.components)) (sym (length-map h.components (λ (c : FrameComponent). c.id)))
-    ∙ ap (λ (rest : List ℕ). front (length (map (λ c. c.id) h.components) ∷ rest)) (bytes_of_components h.components once)
+    let prefix = λ (rest : List ℕ). h.precision ∷ to_be_bytes w16 h.height ++ to_be_bytes w16 h.width ++ rest in
+    ap (λ (n : ℕ). prefix (n ∷ flat_map frame_component_bytes h.components)) (sym (length-map h.components (λ (c : FrameComponent). c.id)))
+    ∙ ap (λ (rest : List ℕ). prefix (length (map (λ c. c.id) h.components) ∷ rest)) (bytes_of_components h.components once)
 
 -- a payload that is read as a frame header is one
 pub frame_payload_read : (shape : PictureShape) (payload : List ℕ) (h : FrameHeader) → HasFrameLayout payload h → IsFrameHeaderOf shape h
@@ -91,10 +91,10 @@ pub frame_payload_laid : (shape : PictureShape) (payload : List ℕ) → IsFrame
 frame_payload_laid shape payload is =
     let h = header_of shape is.tables in
     let pairs = zip shape.ids is.tables in
-    let front = λ (rest : List ℕ). shape.precision ∷ to_be_bytes w16 shape.height ++ to_be_bytes w16 shape.width ++ rest in
+    let prefix = λ (rest : List ℕ). shape.precision ∷ to_be_bytes w16 shape.height ++ to_be_bytes w16 shape.width ++ rest in
     let same : frame_header_bytes h ≡ frame_bytes shape.precision shape.height shape.width shape.ids is.tables =
-    ap (λ (n : ℕ). front (n ∷ flat_map frame_component_bytes (map component_of pairs))) (components_count shape.ids is.tables is.as_many)
-    ∙ ap (λ (rest : List ℕ). front (length shape.ids ∷ rest)) (flat_map-map frame_component_bytes component_of pairs) in
+    ap (λ (n : ℕ). prefix (n ∷ flat_map frame_component_bytes (map component_of pairs))) (components_count shape.ids is.tables is.as_many)
+    ∙ ap (λ (rest : List ℕ). prefix (length shape.ids ∷ rest)) (flat_map-map frame_component_bytes component_of pairs) in
     let laid : HasFrameLayout payload h = record {
       bytes = is.layout ∙ sym same;
       height_below = is.is_shape.height_below;
@@ -116,7 +116,7 @@ frame_payload_laid shape payload is =
 abbrev scan_bytes : List ℕ → ℕ → ℕ → ℕ → List ℕ
 scan_bytes ids near interleave approximation = length ids ∷ flat_map (λ id. id ∷ 0 ∷ []) ids ++ near ∷ interleave ∷ approximation ∷ []
 
--- components without a mapping table are told by their identifiers
+-- components without a mapping table are determined by their identifiers
 bytes_of_ids : (cs : List ScanComponent) → AllByRecursion (λ c. c.table ≡ 0) cs
     → flat_map scan_component_bytes cs ≡ flat_map (λ id. id ∷ 0 ∷ []) (map (λ c. c.id) cs)
 bytes_of_ids [] none = refl
@@ -184,7 +184,7 @@ ids_are_bytes : (ids tail : List ℕ) → AreBytes (flat_map (λ id. id ∷ 0 �
 ids_are_bytes [] tail bytes = tt
 ids_are_bytes (id ∷ ids) tail bytes = (bytes.0, ids_are_bytes ids tail bytes.1.1)
 
--- ILV of 0 or 1 is told by whether it is 1
+-- ILV of 0 or 1 is determined by whether it is 1
 interleave_again : (ids : List ℕ) (interleave : ℕ) → (interleave ≡ 1) ⊎ ((interleave ≡ 0) × (length ids ≡ 1))
     → (interleave ≡ (if interleave == 1 then 1 else 0)) × (1 < length ids → (interleave == 1) ≡ true)
 interleave_again ids interleave (inl one) = rw one (refl, λ several. refl)

@@ -22,7 +22,7 @@ abbrev pub BeginsNoUnit : HeaderState → List ℕ → Type 0
 BeginsNoUnit h bytes = (unit : CopyUnit) (after : HeaderState) (rest : List ℕ) → bytes ≡ unit_bytes unit ++ rest
     → IsCopyUnit h unit after rest → ⊥
 
--- the bytes are these units, one after the other, and then bytes at whose front no unit stands; the last unit leaves the headers `final`
+-- the bytes are these units, one after the other, and then bytes at whose start no unit stands; the last unit leaves the headers `final`
 -- (T.81 B.2.1)
 abbrev pub AreCopyUnits : HeaderState → List ℕ → List CopyUnit → HeaderState → Type 0
 AreCopyUnits h bytes [] final = (final ≡ h) × BeginsNoUnit h bytes
@@ -61,10 +61,10 @@ scans_of_unit (scan fill code payload s closed last closing) = record {
 pub record HasScans (copy : List ℕ) (shape : PictureShape) (scans : List ScanWithData) : Type 0 where
   pub are_bytes : AllByRecursion (λ b. b < 256) copy
   pub fill : ℕ
-  pub behind_soi : List ℕ
-  pub copy_is : copy ≡ fill_bytes fill ++ 0xFF ∷ 0xD8 ∷ behind_soi
+  pub after_soi : List ℕ
+  pub copy_is : copy ≡ fill_bytes fill ++ 0xFF ∷ 0xD8 ∷ after_soi
   pub units : List CopyUnit
   pub headers : HeaderState
-  pub are_units : AreCopyUnits no_headers behind_soi units headers
+  pub are_units : AreCopyUnits no_headers after_soi units headers
   pub framed : headers.frame ≡ Some shape
   pub scans_are : scans ≡ flat_map scans_of_unit units

@@ -8,7 +8,7 @@ use Rattle.jls_interval.specs.Heads.{IsHeadOfPiece}
 use Rattle.jls_interval.specs.Reads.{Reads}
 use Rattle.jls_marker.specs.Scan.{Scan, intervals, first_row}
 use Rattle.jls_copy.specs.IntervalOf.{interval_of}
-use Rattle.jls_copy.specs.Numbers.{Interval, numbers_behind}
+use Rattle.jls_copy.specs.Numbers.{Interval, numbers_after}
 use Rattle.jls_copy.specs.Pieces.{placed}
 use Rattle.jls_copy_laws.specs.CopyScans.{ScanPiece, ScanWithData, HasScans}
 
@@ -26,7 +26,7 @@ PieceGives s k piece r = (lines : List (List ℕ)) × GivesLines s k piece lines
 -- others. A piece beyond the last interval gives nothing
 abbrev pub ScanGives : ScanWithData → Reading → Type 0
 ScanGives d r = (k : ℕ) × (piece : ScanPiece)
-    × Contains (zip (Interval 0 ∷ numbers_behind (intervals d.scan) 0 d.marks) d.pieces) (Interval k, piece) × PieceGives d.scan k piece r
+    × Contains (zip (Interval 0 ∷ numbers_after (intervals d.scan) 0 d.marks) d.pieces) (Interval k, piece) × PieceGives d.scan k piece r
 
 -- one of the copy's scans gives the reading
 abbrev pub GivesReading : List ℕ → Reading → Type 0

@@ -1,4 +1,4 @@
--- What a marker segment without fault sets: a relation between the headers before it and behind it (T.81 B.2; T.87 C.2).
+-- What a marker segment without fault sets: a relation between the headers before it and after it (T.81 B.2; T.87 C.2).
 use Rattle.std.specs.Prelude.{◌≡◌, ℕ, ◌*◌, ◌-◌, ◌<◌, ◌≤◌, ◌^◌, ◌+◌, true, false, List, [], ◌∷◌, ◌++◌, length, map, get_or, Option, Some, None, ◌⊎◌, replicate}
 use Rattle.std.specs.List.{AllByRecursion, flat_map, zip}
 use Rattle.std.specs.Int.{to_be_bytes, from_be_bytes, w16, w32}

@@ -27,7 +27,7 @@ all_of P Q (x ∷ xs) f h = (f x h.0, all_of P Q xs f h.1)
 
 -- The group that is open, as it ends ----------------------------------------------------------------------------------
 
--- a group that ends at the end of the parts, or at the border of this part, behind the one where it begins
+-- a group that ends at the end of the parts, or at the border of this part, after the one where it begins
 abbrev IsEnd : List Part → ℕ → Option Border → Type 0
 IsEnd ps count end = IfSome end (λ border. IsBorder ps border × (border.part ≡ count))
 
@@ -46,7 +46,7 @@ module _ (ps : List Part) (count : ℕ) (found : Found) (end : Option Border) (i
   The = record { head = found.head; begin = found.begin; end = end }
 
   the_group : IsGroup ps The × (The.head ≡ found.head)
-  the_group = ((is.begin, is.head, end_is_later ps count found.begin.part end is.behind is_end), refl)
+  the_group = ((is.begin, is.head, end_is_later ps count found.begin.part end is.following is_end), refl)
 
   groups_if : (was_open : Bool) → AllByRecursion (λ (group : Group). IsGroup ps group × (group.head ≡ found.head))
       (if was_open then found.groups.items ++ The ∷ [] else found.groups.items)
@@ -57,10 +57,10 @@ module _ (ps : List Part) (count : ℕ) (found : Found) (end : Option Border) (i
   in_more place (group, among, inside) = (group, Contains-append_left found.groups.items (The ∷ []) group among, inside)
 
   in_the_group : (place : ℕ) → place < count → found.begin.part < place → IsInSome (found.groups.items ++ The ∷ []) place
-  in_the_group place l behind = (
+  in_the_group place l following = (
     The,
     Contains-append_right found.groups.items (The ∷ []) The (0, omega arith, refl),
-    inr (behind, place_is_before ps count place end l is_end),
+    inr (following, place_is_before ps count place end l is_end),
   )
 
   -- what is covered stands in the head or in one of the groups then
@@ -87,7 +87,7 @@ module _ (ps : List Part) (count : ℕ) (found : Found) (is : IsFound ps count f
   pub pass_differ : (after : Found) → after ≡ record found { is_open = true } → IsFound ps (count + 1) after
   pass_differ after e = subst (IsFound ps (count + 1)) (sym e) (record {
     begin = is.begin;
-    behind = (let l = is.behind in let g : found.begin.part < count + 1 = omega (arith, l) in g);
+    following = (let l = is.following in let g : found.begin.part < count + 1 = omega (arith, l) in g);
     head = is.head;
     groups = is.groups;
     covered = λ place l differs. elim (last_or_before place count l) [
@@ -95,7 +95,7 @@ module _ (ps : List Part) (count : ℕ) (found : Found) (is : IsFound ps count f
         | inl h ↦ inl h
         | inr r ↦ elim r [ inl h ↦ inr (inl h) | inr h ↦ inr (inr (refl, h.1)) ]
       ]
-      | inr here ↦ inr (inr (refl, (let l = is.behind in omega (arith, l, here))))
+      | inr here ↦ inr (inr (refl, (let l = is.following in omega (arith, l, here))))
     ];
   })
 
@@ -110,7 +110,7 @@ module _ (ps : List Part) (count : ℕ) (found : Found) (is : IsFound ps count f
   pub pass_same : (Differs (get_or ps count (Same [])) → ⊥) → IsFound ps (count + 1) found
   pass_same same = record {
     begin = is.begin;
-    behind = (let l = is.behind in let g : found.begin.part < count + 1 = omega (arith, l) in g);
+    following = (let l = is.following in let g : found.begin.part < count + 1 = omega (arith, l) in g);
     head = is.head;
     groups = is.groups;
     covered = λ place l differs. is.covered place (not_here same place l differs) differs;
@@ -124,8 +124,8 @@ module _ (ps : List Part) (count : ℕ) (found : Found) (is : IsFound ps count f
       let heads : closed.head ≡ found.head = c.head in
       subst (IsFound ps (count + 1)) (sym e) (record {
         begin = is_next;
-        behind = (let g : next.part < count + 1 = omega (arith, at_next) in g);
-        head = (let h = is.head in let b = is.behind in let g : closed.head ≤ next.part = omega (arith, h, b, at_next, heads) in g);
+        following = (let g : next.part < count + 1 = omega (arith, at_next) in g);
+        head = (let h = is.head in let b = is.following in let g : closed.head ≤ next.part = omega (arith, h, b, at_next, heads) in g);
         groups =
             subst (λ gs. AllByRecursion (λ (group : Group). IsGroup ps group × (group.head ≡ closed.head)) gs) (sym c.groups)
             (subst (λ n. AllByRecursion (λ (group : Group). IsGroup ps group × (group.head ≡ n)) (closed_groups found (Some end))) (sym heads)
@@ -137,13 +137,13 @@ module _ (ps : List Part) (count : ℕ) (found : Found) (is : IsFound ps count f
             ];
       })
 
--- before the first part behind the first border
+-- before the first part after the first border
 pub found_first : (ps : List Part) (first : Border) (found : Found) → IsBorder ps first → found.head ≡ first.part → found.begin ≡ first
     → found.groups.items ≡ [] → ((place : ℕ) → place < first.part + 1 → Differs (get_or ps place (Same [])) → place < first.part)
     → IsFound ps (first.part + 1) found
 found_first ps first found is head_is begin_is none before = record {
   begin = subst (IsBorder ps) (sym begin_is) is;
-  behind = (let e : found.begin.part ≡ first.part = ap (λ (b : Border). b.part) begin_is in omega (arith, e));
+  following = (let e : found.begin.part ≡ first.part = ap (λ (b : Border). b.part) begin_is in omega (arith, e));
   head = (let e : found.begin.part ≡ first.part = ap (λ (b : Border). b.part) begin_is in omega (arith, e, head_is));
   groups = subst (AllByRecursion (λ (group : Group). IsGroup ps group × (group.head ≡ found.head))) (sym none) tt;
   covered = λ place l differs. inl (subst (λ n. place < n) (sym head_is) (before place l differs));
@@ -153,7 +153,7 @@ found_first ps first found is head_is begin_is none before = record {
 pub found_all : (ps : List Part) (count : ℕ) (found : Found) → length ps ≤ count → IsFound ps count found → IsFound ps (length ps) found
 found_all ps count found l is = record {
   begin = is.begin;
-  behind = is.begin.0;
+  following = is.begin.0;
   head = is.head;
   groups = is.groups;
   covered = λ place less differs. is.covered place (omega (arith, less, l)) differs;

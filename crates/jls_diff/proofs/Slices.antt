@@ -4,7 +4,7 @@ use Rattle.std.specs.Prelude.{get_or}
 use Rattle.std.proofs.Math.ListN.{get_or-map}
 use Rattle.jls_diff.specs.PartsOf.{bytes_of}
 
--- what stands behind the end of slices
+-- what stands after the end of slices
 abbrev pub none : Bor (List ℕ)
 none = record { ref_ptr = (0, 0); now = [] }
 

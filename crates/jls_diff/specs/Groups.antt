@@ -54,7 +54,7 @@ pub record IsClosed (before : Found) (end : Option Border) (after : Found) : Typ
 -- what is found of so many parts
 pub record IsFound (parts : List Part) (count : ℕ) (found : Found) : Type 0 where
   pub begin : IsBorder parts found.begin
-  pub behind : found.begin.part < count
+  pub following : found.begin.part < count
   pub head : found.head ≤ found.begin.part
   pub groups : AllByRecursion (λ group. IsGroup parts group × (group.head ≡ found.head)) found.groups.items
   pub covered : (place : ℕ) → place < count → Differs (get_or parts place (Same [])) → IsCovered found place

@@ -1,12 +1,12 @@
-//! Borders of groups: places behind a marker in parts that all copies have alike.
+//! Borders of groups: places after a marker in parts that all copies have alike.
 
 ghost use Rattle.std.specs.Prelude.{◌≡◌, ◌<◌, length, IsTrue, IfSome};
 ghost use Rattle.jls_diff.specs.PartsOf.{part_of, parts_of};
-ghost use Rattle.jls_diff.specs.Borders.{IsMark, IsBehindMark, IsBorder, IsBorderOf};
+ghost use Rattle.jls_diff.specs.Borders.{IsMark, IsAfterMark, IsBorder, IsBorderOf};
 
 use crate::part::Part;
 
-/// A place behind a restart marker, or behind the two bytes of SOS, that stands whole in a part that all copies have alike.
+/// A place after a restart marker, or after the two bytes of SOS, that stands whole in a part that all copies have alike.
 #[derive(Clone, Copy, Debug, PartialEq, Eq)]
 pub struct Border {
     /// The number of the part.
@@ -25,9 +25,9 @@ fn is_mark(code: u8) -> bool
     0xD0 <= code && code <= 0xD7
 }
 
-/// Whether such a marker ends behind so many of the bytes.
-fn is_behind_mark(bytes: &[u8], at: usize) -> bool
-    ensures { IsTrue result → IsBehindMark bytes.now at }
+/// Whether such a marker ends after so many of the bytes.
+fn is_after_mark(bytes: &[u8], at: usize) -> bool
+    ensures { IsTrue result → IsAfterMark bytes.now at }
 {
     if at < 2 || at > bytes.len() {
         return false;
@@ -44,19 +44,19 @@ fn is_scan_header(bytes: &[u8], at: usize) -> bool {
     }
 }
 
-/// Whether a border is proposed there: behind a restart marker, or behind SOS where a scan header follows.
+/// Whether a border is proposed there: after a restart marker, or after SOS where a scan header follows.
 fn is_border(bytes: &[u8], at: usize) -> bool
-    ensures { IsTrue result → IsBehindMark bytes.now at }
+    ensures { IsTrue result → IsAfterMark bytes.now at }
 {
-    if !is_behind_mark(bytes, at) {
+    if !is_after_mark(bytes, at) {
         return false;
     }
     bytes[at - 1] != 0xDA || is_scan_header(bytes, at)
 }
 
-/// The first and the last border that is proposed in these bytes, at a place or behind it.
+/// The first and the last border that is proposed in these bytes, at a place or after it.
 fn borders_in(bytes: &[u8], from: usize) -> Option<(usize, usize)>
-    ensures { IfSome result (λ places. IsBehindMark bytes.now places.0 × IsBehindMark bytes.now places.1) }
+    ensures { IfSome result (λ places. IsAfterMark bytes.now places.0 × IsAfterMark bytes.now places.1) }
 {
     let mut borders = None;
     for at in from..bytes.len() + 1 {
@@ -91,7 +91,7 @@ fn borders_of(part: &Part<'_>, from: usize) -> Option<(usize, usize)>
     }
 }
 
-/// The first and the last border in the part of this number, at a place in it or behind that.
+/// The first and the last border in the part of this number, at a place in it or after that.
 pub(crate) fn borders_at(parts: &[Part<'_>], part: usize, from: usize) -> Option<(Border, Border)>
     requires { part < length parts.now }
     ensures borders { IfSome result (λ borders. IsBorder (parts_of parts.now) borders.0 × IsBorder (parts_of parts.now) borders.1) }

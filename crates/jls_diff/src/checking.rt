@@ -28,15 +28,15 @@ fn has_ways(part: &Part<'_>, count: usize) -> bool
     }
 }
 
-/// What stands behind this front, if the bytes begin with it.
-fn behind<'b>(bytes: &'b [u8], front: &[u8]) -> Option<&'b [u8]>
-    ensures { IfSome result (λ rest. bytes.now ≡ front.now ++ rest.now) }
+/// What stands after this prefix, if the bytes begin with it.
+fn following<'b>(bytes: &'b [u8], prefix: &[u8]) -> Option<&'b [u8]>
+    ensures { IfSome result (λ rest. bytes.now ≡ prefix.now ++ rest.now) }
 {
-    if bytes.len() < front.len() {
+    if bytes.len() < prefix.len() {
         return None;
     }
-    let (begin, rest) = bytes.split_at(front.len());
-    if begin == front { Some(rest) } else { None }
+    let (begin, rest) = bytes.split_at(prefix.len());
+    if begin == prefix { Some(rest) } else { None }
 }
 
 /// Whether the parts, as this copy has them, make these bytes.
@@ -45,7 +45,7 @@ fn makes(parts: &[Part<'_>], copy: usize, bytes: &[u8]) -> bool
 {
     let mut rest = bytes;
     for part in parts {
-        match behind(rest, way(part, copy)) {
+        match following(rest, way(part, copy)) {
             Some(others) => rest = others,
             None => return false,
         }

@@ -19,7 +19,7 @@ pub(crate) struct Found {
     head: usize,
     /// The last border.
     begin: Border,
-    /// Whether copies differ behind it.
+    /// Whether copies differ after it.
     is_open: bool,
     /// The groups before it.
     groups: Vec<Group>,
@@ -113,7 +113,7 @@ fn found_in(alloc: Global, parts: &[Part<'_>], first: Border) -> Result<Found, A
 
 /// The groups of some parts, in the order of the file. A group goes over parts in which copies differ, from one marker to the next. Both
 /// stand whole in parts that all copies have alike. The last group can end with the parts. There is no group where copies differ nowhere
-/// behind SOS, or where SOS stands in no such part. `Err` comes where memory is refused.
+/// after SOS, or where SOS stands in no such part. `Err` comes where memory is refused.
 ///
 /// Which markers are taken is a proposal, as bytes that look like one can stand in a segment. SOS is taken where a scan header follows.
 #[tactic(auto, using(crate::proofs::GroupSteps::are_groups, crate::proofs::GroupSteps::groups_cover))]

@@ -1,7 +1,7 @@
 //! Stretches inside one in which some copies have other lengths: those of the same length are aligned with each other.
 
 use crate::lengths::Lengths;
-use crate::steps::front;
+use crate::steps::prefix;
 use crate::stretches::{Before, Stretch, add_stretches};
 use std::alloc::{AllocError, Global};
 
@@ -34,18 +34,18 @@ fn aligned<'a>(
     let mut out = Vec::new(alloc);
     for (rest, length) in rests.iter().zip(lengths) {
         if *length == common {
-            out.push(front(rest, common))?;
+            out.push(prefix(rest, common))?;
         }
     }
     Ok(out)
 }
 
-/// Where a copy of another length is cut, if those of the common one are cut there: what it has less or more stands in front.
+/// Where a copy of another length is cut, if those of the common one are cut there: what it has less or more stands before it.
 fn cut_of(length: usize, common: usize, cut: usize) -> usize {
     length.saturating_sub(common.saturating_sub(cut))
 }
 
-/// How many bytes each copy has from one cut to the next; from the front where the first cut is 0.
+/// How many bytes each copy has from one cut to the next; from the start where the first cut is 0.
 fn between_cuts(
     alloc: Global,
     lengths: &[usize],
@@ -88,7 +88,7 @@ fn cuts_between(
     Ok(cuts)
 }
 
-/// Adds a stretch in which copies have these lengths, behind what stands before it. Where most have one length, they part it.
+/// Adds a stretch in which copies have these lengths, after what stands before it. Where most have one length, they part it.
 pub(crate) fn add_shifted(
     alloc: Global,
     stretches: &mut Vec<Stretch>,
@@ -106,16 +106,16 @@ pub(crate) fn add_shifted(
     let mut inner = Vec::new(alloc);
     let _ = add_stretches(alloc, &mut inner, &copies, common, none)?;
     let mut start = 0usize;
-    let mut in_front = before;
+    let mut in_prefix = before;
     for (cut, agreed) in cuts_between(alloc, &inner, common)? {
         let counts = between_cuts(alloc, lengths, common, (start, cut))?;
         stretches.push(Stretch {
-            same: in_front.same,
-            apart: if start == 0 { in_front.apart } else { agreed },
+            same: in_prefix.same,
+            apart: if start == 0 { in_prefix.apart } else { agreed },
             lengths: Lengths::Each(counts),
-            is_group: in_front.is_group,
+            is_group: in_prefix.is_group,
         })?;
-        in_front = none;
+        in_prefix = none;
         start = cut;
     }
     Ok(())

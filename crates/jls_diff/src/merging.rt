@@ -7,7 +7,7 @@ use std::alloc::{AllocError, Global};
 /// How many stretches of one group stay apart, however near they are.
 const MOST_APART: usize = 11;
 
-/// How many sizes of gaps are told apart: up to `FIRM`, which stands for all that are larger.
+/// How many sizes of gaps are distinguished: up to `FIRM`, which stands for all that are larger.
 const SIZES: usize = 9;
 
 /// Which gaps of a group part its stretches: the larger ones, and so many of this size. Firm ones always do.

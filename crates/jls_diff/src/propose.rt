@@ -5,18 +5,18 @@ use crate::lengths::{Lengths, lengths_to_step};
 use crate::merging::merged;
 use crate::part::Part;
 use crate::seeds::Seeds;
-use crate::steps::{agreeing, front, rest_of};
+use crate::steps::{agreeing, prefix, rest_of};
 use crate::stretches::{Before, Stretch, add_stretches, has_mark};
 use std::alloc::{AllocError, Global};
 
-/// What all copies have alike in front, as it stands before a stretch.
+/// What all copies have alike at the start, as it stands before a stretch.
 fn before_stretch(rests: &[&[u8]]) -> Before {
     let same = agreeing(rests);
     let first = rests.first();
     Before {
         same,
         apart: same,
-        is_group: first.is_some_and(|first| has_mark(front(first, same))),
+        is_group: first.is_some_and(|first| has_mark(prefix(first, same))),
     }
 }
 
@@ -110,14 +110,14 @@ pub(crate) fn proposed<'a>(
     for stretch in stretches.iter() {
         if let Some(first) = rests.first() {
             if stretch.same > 0 {
-                parts.push(Part::Same(front(first, stretch.same)))?;
+                parts.push(Part::Same(prefix(first, stretch.same)))?;
             }
         }
         let mut ways = Vec::new(alloc);
         for (copy, rest) in rests.iter_mut().enumerate() {
-            let behind = rest_of(rest, stretch.same);
-            ways.push(front(behind, stretch.lengths.of(copy)))?;
-            *rest = rest_of(behind, stretch.lengths.of(copy));
+            let following = rest_of(rest, stretch.same);
+            ways.push(prefix(following, stretch.lengths.of(copy)))?;
+            *rest = rest_of(following, stretch.lengths.of(copy));
         }
         parts.push(Part::Differ(ways))?;
     }

@@ -1,11 +1,11 @@
-//! Where two copies agree again behind bytes that one of them lost or has more.
+//! Where two copies agree again after bytes that one of them lost or has more.
 
 use std::alloc::{AllocError, Global};
 
 /// How many bytes agree where copies are taken to be in step again.
 pub(crate) const SEED: usize = 24;
 
-/// How far behind a difference two copies are compared, one reach after the other: what is near costs little.
+/// How far after a difference two copies are compared, one reach after the other: what is near costs little.
 const REACHES: [usize; 5] = [256, 1024, 4096, 16384, 65536];
 
 /// How many places the table has.

@@ -1,7 +1,7 @@
 //! Copies compared byte by byte, without a shift.
 
-/// How many bytes at their fronts are equal.
-fn equal_front(first: &[u8], second: &[u8]) -> usize {
+/// How many bytes at their starts are equal.
+fn equal_prefix(first: &[u8], second: &[u8]) -> usize {
     for (at, byte) in first.iter().enumerate() {
         if second.get(at).copied() != Some(*byte) {
             return at;
@@ -17,7 +17,7 @@ pub(crate) fn agreeing(rests: &[&[u8]]) -> usize {
     };
     let mut count = first.len();
     for rest in rests.iter().skip(1) {
-        count = equal_front(front(first, count), rest);
+        count = equal_prefix(prefix(first, count), rest);
     }
     count
 }
@@ -55,12 +55,12 @@ pub(crate) fn in_step(rests: &[&[u8]], wanted: usize, before: usize) -> Option<u
     None
 }
 
-/// The front of a slice, or all of it where it is shorter.
-pub(crate) fn front(bytes: &[u8], count: usize) -> &[u8] {
+/// The prefix of a slice, or all of it where it is shorter.
+pub(crate) fn prefix(bytes: &[u8], count: usize) -> &[u8] {
     &bytes[..count.min(bytes.len())]
 }
 
-/// What is behind that front.
+/// What is after that prefix.
 pub(crate) fn rest_of(bytes: &[u8], count: usize) -> &[u8] {
     &bytes[count.min(bytes.len())..]
 }

@@ -70,7 +70,7 @@ impl Open {
         zeros == self.zeros && (at.saturating_sub(self.end) < gap || (zeros != 0 && self.is_steady))
     }
 
-    /// What stands between it and a difference behind it.
+    /// What stands between it and a difference after it.
     fn between(&self, rests: &[&[u8]], at: usize, zeros: u64) -> Before {
         let same = at.saturating_sub(self.end);
         let bytes = rests.first().and_then(|rest| rest.get(self.end..at));
@@ -92,7 +92,7 @@ impl Open {
     }
 }
 
-/// Adds the stretches in so many bytes of each copy, without a shift, behind what stands before them. Answers where the last one ends.
+/// Adds the stretches in so many bytes of each copy, without a shift, after what stands before them. Answers where the last one ends.
 pub(crate) fn add_stretches(
     alloc: Global,
     stretches: &mut Vec<Stretch>,
@@ -131,7 +131,7 @@ pub(crate) fn add_stretches(
     Ok(last.end)
 }
 
-/// The stretch in hand behind one more difference: the one before, which it belongs to, or a new one, and then the one before is added.
+/// The stretch in hand after one more difference: the one before, which it belongs to, or a new one, and then the one before is added.
 /// `None` where there was none.
 fn next_open(
     stretches: &mut Vec<Stretch>,

@@ -15,7 +15,7 @@ struct Run {
     is_long: bool,
 }
 
-/// In which copies zeros stand, place by place from the front on.
+/// In which copies zeros stand, place by place from the start on.
 #[derive(Drop)]
 pub(crate) struct ZeroRuns {
     runs: Vec<Run>,

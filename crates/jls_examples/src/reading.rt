@@ -13,15 +13,15 @@ const MOST: usize = 1 << 61;
 
 /// What a copy gives whose bytes come in two slices: the same, wherever they are parted. `NoPicture` comes if no frame was taken.
 /// `OutOfMemory` comes if memory runs out, or if a slice has more than 2^61 bytes. Then nothing is said of the copy.
-pub fn read_slices(alloc: Global, front: &[u8], rest: &[u8]) -> Result<CopyRead, CopyFault>
-    ensures read { IfOk result (λ read. CopyReads (front.now ++ rest.now) read) }
-    ensures none { IfErr result (λ fault. CopyGivesNone (front.now ++ rest.now) fault) }
+pub fn read_slices(alloc: Global, prefix: &[u8], rest: &[u8]) -> Result<CopyRead, CopyFault>
+    ensures read { IfOk result (λ read. CopyReads (prefix.now ++ rest.now) read) }
+    ensures none { IfErr result (λ fault. CopyGivesNone (prefix.now ++ rest.now) fault) }
 {
-    if front.len() > MOST || rest.len() > MOST {
+    if prefix.len() > MOST || rest.len() > MOST {
         return Err(CopyFault::OutOfMemory);
     }
     let mut reader = CopyReader::new(alloc);
-    match reader.feed(front) {
+    match reader.feed(prefix) {
         Ok(()) => {}
         Err(_) => return Err(CopyFault::OutOfMemory),
     }

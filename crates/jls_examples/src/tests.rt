@@ -24,7 +24,7 @@ const WHOLE: &[u8] =
 /// The PNM file of the whole picture.
 const PNM: &[u8] = b"P5\n1 10\n255\n\x00\x01\x02\x03\x04\x05\x06\x07\x08\x09";
 
-/// What stands behind the headers of two copies, the report of what both give, and whether each line is settled.
+/// What stands after the headers of two copies, the report of what both give, and whether each line is settled.
 const COPIES: [(&[u8], &[u8], &[u8], bool); 3] = [
     // The end is lost in one, and seven markers in the other.
     (

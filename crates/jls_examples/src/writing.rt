@@ -3,7 +3,7 @@
 ghost use Rattle.jls_examples.specs.Written.{StopsAt};
 ghost use Rattle.jls_write.specs.WrittenFile.{written_file};
 ghost use Rattle.jls_write.specs.Options.{OptionsFit};
-ghost use Rattle.jls_write.specs.Outcomes.{HandedOut, HandedFront, StoppedBy};
+ghost use Rattle.jls_write.specs.Outcomes.{HandedOut, HandedPrefix, StoppedBy};
 ghost use Rattle.jls_write.specs.Pnm.{pnm};
 ghost use Rattle.std.specs.Prelude.{IfErr, OnOk};
 
@@ -24,7 +24,7 @@ pub enum WriteFault {
 pub fn hand_out_pnm<W: Sink>(picture: &Picture<'_>, sink: &mut W) -> Result<(), OutputFault>
     ensures all { OnOk result (HandedOut (W.history sink.old) (W.history sink.new)
         (W.contents sink.old) (W.contents sink.new) (pnm picture.now)) }
-    ensures front { IfErr result (λ fault. StoppedBy fault 0 (HandedFront (W.history sink.old) (W.history sink.new)
+    ensures prefix { IfErr result (λ fault. StoppedBy fault 0 (HandedPrefix (W.history sink.old) (W.history sink.new)
         (W.contents sink.old) (W.contents sink.new) (pnm picture.now))) }
 {
     write_pnm(picture, sink)

@@ -37,7 +37,7 @@ all_append P [] ys h k = k
 all_append P (x ∷ xs) ys h k = (h.0, all_append P xs ys h.1 k)
 
 module _ (pic : WholePicture) where
-  -- one row, from the component behind these on
+  -- one row, from the component after these on
   placed_row : (all pre : List ℕ) (c : ℕ) (cs : List ℕ) (row : ℕ) (rest : List (List ℕ)) → all ≡ pre ++ (c ∷ cs)
       → placed all row (length pre) (map (λ x. line_of pic x row) (c ∷ cs) ++ rest) ≡ row_readings pic (c ∷ cs) row ++ placed all (row + 1) 0 rest
   placed_row all pre c [] row rest e =

@@ -325,7 +325,7 @@ heads_are_taken pic o can =
     let scans = components_of_scans pic o in
     let few = few_scans (length pic.shape.ids) o.line shape.ids_at_most in
     record {
-      behind = taken_so pic o can pr o.restart_interval 0;
+      following = taken_so pic o can pr o.restart_interval 0;
       before = (
         taken_so pic o can no_presets 0 0,
         (sof_code, frame_short pic.shape shape.ids_at_most),

@@ -28,11 +28,11 @@ AreBytes xs = AllByRecursion (λ b. b < 256) xs
 
 -- ---- lists of bytes
 
--- bytes behind bytes are bytes
+-- bytes after bytes are bytes
 joined : (xs ys : List ℕ) → AreBytes xs → AreBytes ys → AreBytes (xs ++ ys)
 joined xs ys h k = all_append (λ b. b < 256) xs ys h k
 
--- where each element gives bytes, all of them one behind the other are bytes
+-- where each element gives bytes, all of them one after the other are bytes
 each_joined : {X : Type 0} (f : X → List ℕ) (xs : List X) → AllByRecursion (λ x. AreBytes (f x)) xs → AreBytes (flat_map f xs)
 each_joined f [] h = tt
 each_joined f (x ∷ xs) h = joined (f x) (flat_map f xs) h.0 (each_joined f xs h.1)
@@ -53,7 +53,7 @@ left_over zero xs h = h
 left_over (suc n) [] h = tt
 left_over (suc n) (x ∷ xs) h = left_over n xs h.1
 
--- an element of bytes, or 0 behind their end, is a byte
+-- an element of bytes, or 0 after their end, is a byte
 byte_there : (xs : List ℕ) (i : ℕ) → AreBytes xs → get_or xs i 0 < 256
 byte_there [] i h = omega arith
 byte_there (x ∷ xs) zero h = h.0

@@ -29,12 +29,12 @@ use Rattle.jls_file_laws.specs.FileLaw.{IsWritable}
 closes_none : (c : ℕ) → c < 128 → closes_piece c ≡ false
 closes_none c h = grind (arith, nat_tests, h)
 
-piece_of : (bytes : List ℕ) → BelowMarkers bytes → ((front : List ℕ) → bytes ≡ front ++ 0xFF ∷ [] → ⊥) → IsPiece bytes
+piece_of : (bytes : List ℕ) → BelowMarkers bytes → ((prefix : List ℕ) → bytes ≡ prefix ++ 0xFF ∷ [] → ⊥) → IsPiece bytes
 piece_of [] below last = tt
 piece_of (b ∷ []) below last = λ e. last [] (ap (λ x. x ∷ []) e)
 piece_of (b ∷ c ∷ more) below last = (
   λ e. closes_none c (below [] more c (ap (λ x. x ∷ c ∷ more) e)),
-  piece_of (c ∷ more) (λ front back x e. below (b ∷ front) back x (ap (λ t. b ∷ t) e)) (λ front e. last (b ∷ front) (ap (λ t. b ∷ t) e)),
+  piece_of (c ∷ more) (λ prefix back x e. below (b ∷ prefix) back x (ap (λ t. b ∷ t) e)) (λ prefix e. last (b ∷ prefix) (ap (λ t. b ∷ t) e)),
 )
 
 pub packed_is_piece : (p : CodingParameters) (w c : ℕ) (lines : List (List ℕ)) → IsPiece (packed p w c lines)

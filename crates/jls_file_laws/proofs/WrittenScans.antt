@@ -8,7 +8,7 @@ use Rattle.std.specs.List.{flat_map, AllByRecursion, range_with_len}
 use Rattle.jls_partial.specs.Reading.{Reading}
 use Rattle.jls_marker.specs.Scan.{Scan, intervals}
 use Rattle.jls_copy.specs.ScanData.{ClosedPiece, closed_bytes, IsClosedPiece, IsPiece}
-use Rattle.jls_copy.specs.Numbers.{PieceNumber, Interval, BeyondLast, number_behind, next_number}
+use Rattle.jls_copy.specs.Numbers.{PieceNumber, Interval, BeyondLast, number_after, next_number}
 use Rattle.jls_copy.specs.Pieces.{FoundPiece, PieceOutcome, Lines, IsOutcome, readings_of, AreOutcomes, readings, records, pieces_from, piece_begun}
 use Rattle.jls_write.specs.Picture.{WholePicture}
 use Rattle.jls_write.specs.Options.{WriteOptions}
@@ -52,8 +52,8 @@ module _ (pic : WholePicture) (s : Scan) where
   last_piece k zero = packed_is_piece s.params s.width (length s.components) (interval_lines pic s k)
   last_piece k (suc n) = last_piece (k + 1) n
 
--- the number behind the mark of interval k is k + 1
-number_is : (n k : ℕ) → k + 1 < n → number_behind n k (k % 8) ≡ Interval (k + 1)
+-- the number after the mark of interval k is k + 1
+number_is : (n k : ℕ) → k + 1 < n → number_after n k (k % 8) ≡ Interval (k + 1)
 number_is n k h =
     let back : next_number k (k % 8) ≡ k + 1 = omega arith in
     let under : nat_lt (k + 1) n ≡ true = grind (arith, nat_tests, h) in

@@ -44,7 +44,7 @@ two_bytes n h = be_bytes_2 (n / 256 ∷ n % 256 ∷ []) n refl (two_fit (n / 256
 segment_is : (s : Segment) → length (payload_of s) + 2 < 2 ^ 16 → bytes_of s ≡ segment_unit_bytes 0 (code_of s) (payload_of s)
 segment_is s short = ap (λ t. 0xFF ∷ code_of s ∷ (t ++ payload_of s)) (two_bytes (length (payload_of s) + 2) short)
 
--- the segments before the scans are taken, one behind the other
+-- the segments before the scans are taken, one after the other
 abbrev pub Steps : HeaderState → List Segment → HeaderState → Type 0
 Steps h [] last = last ≡ h
 Steps h (s ∷ more) last = (after : HeaderState) × IsWholeSegment (code_of s) (payload_of s) × (headers_after h (code_of s) (payload_of s) ≡ Ok (after, None)) × Steps after more last
@@ -58,10 +58,10 @@ module _ (pic : WholePicture) (o : WriteOptions) where
       × (headers_after h 0xDA (payload_of (scan_segment pic components)) ≡ Ok (after, Some (scan_of pic o components))) × ScanSteps after more last
 
   pub record AreTaken : Type 0 where
-    pub behind : HeaderState
-    pub before : Steps no_headers (header_segments pic o) behind
+    pub following : HeaderState
+    pub before : Steps no_headers (header_segments pic o) following
     pub last : HeaderState
-    pub scans : ScanSteps behind (components_of_scans pic o) last
+    pub scans : ScanSteps following (components_of_scans pic o) last
     pub framed : last.frame ≡ Some pic.shape
 
   -- ---- units
@@ -105,12 +105,12 @@ module _ (pic : WholePicture) (o : WriteOptions) where
       ∙ ap (λ t. head ++ t) (bytes_are pic s 0 n ∙ ap (λ t. flat_map closed_bytes (closed_from pic s 0 n) ++ t) (sym (append-nil (last_from pic s 0 n))))
 
   -- a marker that ends scan data follows each scan
-  behind_scan : (scans : List (List ℕ)) → 1 ≤ pic.shape.height → (last h : HeaderState) → ScanSteps h scans last
+  after_scan : (scans : List (List ℕ)) → 1 ≤ pic.shape.height → (last h : HeaderState) → ScanSteps h scans last
       → IsClosing by_marker (flat_map scan_part scans ++ eoi)
-  behind_scan [] some last h steps = record { fill = 0; code = 0xD9; behind = []; bytes_are = refl; ends = refl }
-  behind_scan (c ∷ scans) some last h steps =
+  after_scan [] some last h steps = record { fill = 0; code = 0xD9; following = []; bytes_are = refl; ends = refl }
+  after_scan (c ∷ scans) some last h steps =
       let e = ap (λ t. (t ++ flat_map scan_part scans) ++ eoi) (scan_is c some steps.1.1) in
-      subst (IsClosing by_marker) (sym e) (record { fill = 0; code = 0xDA; behind = _; bytes_are = refl; ends = refl })
+      subst (IsClosing by_marker) (sym e) (record { fill = 0; code = 0xDA; following = _; bytes_are = refl; ends = refl })
 
   from_scans : (h : HeaderState) (at : ℕ) (scans : List (List ℕ)) (last : HeaderState) → 1 ≤ pic.shape.height → ScanSteps h scans last
       → is_some last.frame ≡ true
@@ -121,21 +121,21 @@ module _ (pic : WholePicture) (o : WriteOptions) where
         steps.0,
         flat_map scan_part scans ++ eoi,
         append_assoc (scan_part c) (flat_map scan_part scans) eoi ∙ ap (λ t. t ++ (flat_map scan_part scans ++ eoi)) (scan_is c some steps.1.1),
-        (steps.1, steps.2, each_closed pic s 0 (intervals s - 1), last_piece pic s 0 (intervals s - 1), behind_scan scans some last steps.0 steps.3),
+        (steps.1, steps.2, each_closed pic s 0 (intervals s - 1), last_piece pic s 0 (intervals s - 1), after_scan scans some last steps.0 steps.3),
         from_scans steps.0 (at + length (unit_bytes (scan_unit c))) scans last some steps.3 framed,
       )
 
-  from_heads : (h : HeaderState) (at : ℕ) (before : List Segment) (behind : HeaderState) (scans : List (List ℕ)) (last : HeaderState)
-      → 1 ≤ pic.shape.height → Steps h before behind → ScanSteps behind scans last → is_some last.frame ≡ true
+  from_heads : (h : HeaderState) (at : ℕ) (before : List Segment) (following : HeaderState) (scans : List (List ℕ)) (last : HeaderState)
+      → 1 ≤ pic.shape.height → Steps h before following → ScanSteps following scans last → is_some last.frame ≡ true
       → AreUnits h at (flat_map bytes_of before ++ (flat_map scan_part scans ++ eoi)) (units before scans) last (Eoi (end_of at (units before scans)))
-  from_heads h at [] behind scans last some steps scan_steps framed = from_scans h at scans last some (subst (λ (t : HeaderState). ScanSteps t scans last) steps scan_steps) framed
-  from_heads h at (x ∷ before) behind scans last some steps scan_steps framed =
+  from_heads h at [] following scans last some steps scan_steps framed = from_scans h at scans last some (subst (λ (t : HeaderState). ScanSteps t scans last) steps scan_steps) framed
+  from_heads h at (x ∷ before) following scans last some steps scan_steps framed =
       let rest : List ℕ = flat_map bytes_of before ++ (flat_map scan_part scans ++ eoi) in (
         steps.0,
         rest,
         append_assoc (bytes_of x) (flat_map bytes_of before) (flat_map scan_part scans ++ eoi) ∙ ap (λ t. t ++ rest) (segment_is x steps.1.1),
         (steps.1, steps.2),
-        from_heads steps.0 (at + length (unit_bytes (head_unit x))) before behind scans last some steps.3 scan_steps framed,
+        from_heads steps.0 (at + length (unit_bytes (head_unit x))) before following scans last some steps.3 scan_steps framed,
       )
 
   -- ---- pieces
@@ -162,11 +162,11 @@ module _ (pic : WholePicture) (o : WriteOptions) where
       ∙ ap (λ t. scan_readings pic s ++ t) (scans_lines can scans are.1 _ _)
 
   -- segments alone have none
-  pieces_behind : (before : List Segment) (us : List CopyUnit) (index at : ℕ)
+  pieces_after : (before : List Segment) (us : List CopyUnit) (index at : ℕ)
       → (at' : ℕ) × (pieces_in index at (map head_unit before ++ us) ≡ pieces_in (index + 0) at' us)
-  pieces_behind [] us index at = (at, let e : index + 0 ≡ index = omega arith in rw e refl)
-  pieces_behind (x ∷ before) us index at =
-      let r = pieces_behind before us (index + 0) (at + length (segment_unit_bytes 0 (code_of x) (payload_of x))) in
+  pieces_after [] us index at = (at, let e : index + 0 ≡ index = omega arith in rw e refl)
+  pieces_after (x ∷ before) us index at =
+      let r = pieces_after before us (index + 0) (at + length (segment_unit_bytes 0 (code_of x) (payload_of x))) in
       (r.0, let e : index + 0 + 0 ≡ index + 0 = omega arith in rw e at r.1)
 
   -- the input's end closes none
@@ -193,14 +193,14 @@ module _ (pic : WholePicture) (o : WriteOptions) where
       let scans = components_of_scans pic o in
       let us = units before scans in
       let are : AllByRecursion (IsScanOf (length pic.shape.ids)) scans = scans_of (length pic.shape.ids) o.line can.whole.shape.ids_at_least in
-      let behind = pieces_behind before (map scan_unit scans) 0 2 in
-      let give : AllByRecursion (GivesLines pic) (pieces_in 0 2 us) = rw behind.1 (scans_give can scans are _ behind.0) in
-      let lines : flat_map (lines_of pic) (pieces_in 0 2 us) ≡ written_readings pic o = ap (flat_map (lines_of pic)) behind.1 ∙ scans_lines can scans are _ behind.0 in
+      let following = pieces_after before (map scan_unit scans) 0 2 in
+      let give : AllByRecursion (GivesLines pic) (pieces_in 0 2 us) = rw following.1 (scans_give can scans are _ following.0) in
+      let lines : flat_map (lines_of pic) (pieces_in 0 2 us) ≡ written_readings pic o = ap (flat_map (lines_of pic)) following.1 ∙ scans_lines can scans are _ following.0 in
       let outs = some_outcomes pic (pieces_in 0 2 us) give in
       record {
         course = record { begin = 2; units = us; headers = taken.last; end = Eoi (end_of 2 us) };
         is_course = with_soi 0 (flat_map bytes_of before ++ (flat_map scan_part scans ++ eoi)) us taken.last (Eoi (end_of 2 us))
-            (from_heads no_headers 2 before taken.behind scans taken.last can.whole.shape.height_at_least taken.before taken.scans (ap is_some taken.framed));
+            (from_heads no_headers 2 before taken.following scans taken.last can.whole.shape.height_at_least taken.before taken.scans (ap is_some taken.framed));
         framed = taken.framed;
         uncut = uncut_pieces 2 us taken.last (Eoi (end_of 2 us))
             (none_cut us (all_append (λ u. is_cut u ≡ false) (map head_unit before) (map scan_unit scans) (heads_uncut before) (scans_uncut scans)));

@@ -1,6 +1,6 @@
 //! Readers that are cloned inside of a copy.
 
-use crate::copies::{bytes_of, feed_piece, told};
+use crate::copies::{bytes_of, feed_piece, reported};
 use crate::known::COPIES;
 use jls_copy::{CopyFault, CopyRead, CopyReader};
 use std::alloc::Global;
@@ -23,11 +23,11 @@ fn read_on(mut reader: CopyReader, bytes: &[u8]) -> Result<CopyRead, CopyFault> 
 /// What a reader that was fed the first bytes gives after the others, or what its clone does. Both are fed these, the other one first.
 fn read_of_pair(
     alloc: Global,
-    front: &[u8],
+    prefix: &[u8],
     back: &[u8],
     of_clone: bool,
 ) -> Result<CopyRead, CopyFault> {
-    let reader = fed(alloc, front)?;
+    let reader = fed(alloc, prefix)?;
     let clone = match reader.try_clone() {
         Ok(clone) => clone,
         Err(_) => return Err(CopyFault::OutOfMemory),
@@ -49,9 +49,9 @@ fn check_clone(
     place: usize,
     wanted: &str,
 ) -> Result<(), Fail> {
-    let (front, back) = bytes.split_at(place.min(bytes.len()));
+    let (prefix, back) = bytes.split_at(place.min(bytes.len()));
     for of_clone in [false, true] {
-        let read = told(alloc, read_of_pair(alloc, front, back, of_clone))?;
+        let read = reported(alloc, read_of_pair(alloc, prefix, back, of_clone))?;
         assert!(rt;
             read.as_str() == wanted,
             "after {place} bytes, the clone: {of_clone}"

@@ -28,10 +28,10 @@ pub fn feed_piece(reader: &mut CopyReader, piece: &[u8]) -> Result<(), CopyFault
     }
 }
 
-/// The sizes of slices; 0 stands for slices that end behind each byte 0xFF.
+/// The sizes of slices; 0 stands for slices that end after each byte 0xFF.
 const SIZES: [usize; 6] = [0, 1, 2, 3, 7, 4096];
 
-/// Feeds a copy in slices that end behind each byte 0xFF.
+/// Feeds a copy in slices that end after each byte 0xFF.
 fn feed_to_each_ff(reader: &mut CopyReader, bytes: &[u8]) -> Result<(), CopyFault> {
     let mut start = 0;
     for place in 0..bytes.len() {
@@ -94,7 +94,7 @@ fn text_of(alloc: Global, read: &CopyRead) -> Result<String, Fail> {
 }
 
 /// What a copy gave, as a text: its readings, the records of its faulty pieces, and its end; or why it gave nothing.
-pub fn told(alloc: Global, read: Result<CopyRead, CopyFault>) -> Result<String, Fail> {
+pub fn reported(alloc: Global, read: Result<CopyRead, CopyFault>) -> Result<String, Fail> {
     match read {
         Ok(read) => text_of(alloc, &read),
         Err(fault) => Ok(format!(in alloc; "{fault:?}")?),
@@ -106,7 +106,7 @@ fn check_copy(rt: &impl Abort, alloc: Global, bytes: &[u8], wanted: &str) -> Res
     for size in SIZES {
         let read = read_in_pieces(alloc, bytes, size);
         assert!(rt;
-            told(alloc, read)?.as_str() == wanted,
+            reported(alloc, read)?.as_str() == wanted,
             "in slices of {size}: {wanted}"
         );
     }
@@ -114,10 +114,10 @@ fn check_copy(rt: &impl Abort, alloc: Global, bytes: &[u8], wanted: &str) -> Res
 }
 
 /// What a reader says of a copy that has 100,000 fill bytes between these parts.
-fn read_with_fill(alloc: Global, front: &[u8], back: &[u8]) -> Result<CopyRead, CopyFault> {
+fn read_with_fill(alloc: Global, prefix: &[u8], back: &[u8]) -> Result<CopyRead, CopyFault> {
     let fill = [0xFF; 1000];
     let mut reader = CopyReader::new(alloc);
-    feed_piece(&mut reader, front)?;
+    feed_piece(&mut reader, prefix)?;
     for _ in 0..100 {
         feed_piece(&mut reader, &fill)?;
     }
@@ -150,11 +150,11 @@ fn many_fill_bytes(rt: HostRuntime) -> Result<(), Fail> {
     let alloc = rt.alloc();
     for &(text, count, wanted) in &FILLED {
         let bytes = bytes_of(alloc, text)?;
-        let (front, back) = bytes.split_at(count.min(bytes.len()));
-        let read = read_with_fill(alloc, front, back);
+        let (prefix, back) = bytes.split_at(count.min(bytes.len()));
+        let read = read_with_fill(alloc, prefix, back);
         assert!(rt;
-            told(alloc, read)?.as_str() == wanted,
-            "behind {count} bytes"
+            reported(alloc, read)?.as_str() == wanted,
+            "after {count} bytes"
         );
     }
     Ok(())
@@ -195,13 +195,13 @@ fn copies_cut_anywhere(rt: HostRuntime) -> Result<(), Fail> {
     let whole = bytes_of(alloc, TEN_LINES)?;
     for end in 0..=61usize {
         let bytes = &whole[..end.min(whole.len())];
-        check_copy(&rt, alloc, bytes, &read_of_front(alloc, end)?)?;
+        check_copy(&rt, alloc, bytes, &read_of_prefix(alloc, end)?)?;
     }
     Ok(())
 }
 
 /// What these bytes give.
-fn read_of_front(alloc: Global, end: usize) -> Result<String, Fail> {
+fn read_of_prefix(alloc: Global, end: usize) -> Result<String, Fail> {
     Ok(match end {
         0..=14 => format!(in alloc; "NoPicture(Ended, {end})")?,
         15 | 21 => format!(in alloc; "| 0 Input({end})")?,
@@ -230,7 +230,7 @@ fn lines_and_end(alloc: Global, end: usize) -> Result<String, Fail> {
     Ok(out)
 }
 
-/// A picture of 4,096 lines whose input ends behind eight times FF 7F: 45 lines stand whole.
+/// A picture of 4,096 lines whose input ends after eight times FF 7F: 45 lines stand whole.
 #[test]
 fn a_large_picture_is_cut(rt: HostRuntime) -> Result<(), Fail> {
     let mut bytes = bytes_of(rt.alloc(), LARGE_PICTURE)?;
@@ -307,7 +307,7 @@ fn many_faulty_pieces(rt: HostRuntime) -> Result<(), Fail> {
     Ok(())
 }
 
-/// A copy of one line of one sample behind a comment of 65,533 bytes.
+/// A copy of one line of one sample after a comment of 65,533 bytes.
 fn commented(alloc: Global) -> Result<Vec<u8>, Fail> {
     let mut bytes = bytes_of(alloc, "FF D8 FF FE FF FF")?;
     for _ in 0..65_533u32 {
@@ -325,11 +325,11 @@ fn commented(alloc: Global) -> Result<Vec<u8>, Fail> {
 fn a_long_comment(rt: HostRuntime) -> Result<(), Fail> {
     let bytes = commented(rt.alloc())?;
     let read = read_in_pieces(rt.alloc(), &bytes, 1000);
-    assert!(rt; told(rt.alloc(), read)?.as_str() == "0.0=[0] | 0 Eoi(65563)");
+    assert!(rt; reported(rt.alloc(), read)?.as_str() == "0.0=[0] | 0 Eoi(65563)");
     Ok(())
 }
 
-/// What the copy of four lines gives, of which the input ends behind so many bytes of the scan data: 30 bytes and EOI.
+/// What the copy of four lines gives, of which the input ends after so many bytes of the scan data: 30 bytes and EOI.
 fn read_of_cut(alloc: Global, left: usize) -> Result<String, Fail> {
     let lines = match left {
         0..6 => "",
@@ -350,7 +350,7 @@ fn cut_copies(rt: HostRuntime) -> Result<(), Fail> {
     let whole = bytes_of(alloc, FOUR_LINES)?;
     for left in 0..=31usize {
         let bytes = &whole[..(25 + left).min(whole.len())];
-        let read = told(alloc, read_in_pieces(alloc, bytes, 5))?;
+        let read = reported(alloc, read_in_pieces(alloc, bytes, 5))?;
         let wanted = read_of_cut(alloc, left)?;
         assert!(rt; read == wanted, "{left} bytes of scan data");
     }

@@ -73,8 +73,8 @@ fn scans_and_their_intervals_are_counted(rt: HostRuntime) {
     assert_eq!(rt; first_other(&mut headers, &rows), None);
     let sixteen: [Row<'_>; 16] = [(0xDA, &SCAN, 0); 16];
     assert_eq!(rt; first_other(&mut headers, &sixteen), None);
-    let behind: [Row<'_>; 3] = [(0xDA, &SCAN, 16), (0xDD, &[0, 0], 0), (0xDA, &SCAN, 15)];
-    assert_eq!(rt; first_other(&mut headers, &behind), None);
+    let following: [Row<'_>; 3] = [(0xDA, &SCAN, 16), (0xDD, &[0, 0], 0), (0xDA, &SCAN, 15)];
+    assert_eq!(rt; first_other(&mut headers, &following), None);
     assert!(rt; headers.scans() == 16);
 }
 

@@ -29,7 +29,7 @@ pub const COPIES: [(&str, &str); 42] = [
          57 40 00 00 6E E6 00 00 01 BC 18 00 00 05 D8 00 00 91 60 FF D9",
         "0.0=[0, 0, 90, 74] 0.1=[68, 50, 43, 205] 0.2=[64, 145, 145, 145] 0.3=[100, 145, 145, 145] | 0 Eoi(55)",
     ),
-    // The same behind an application segment.
+    // The same after an application segment.
     (
         "FF D8 FF E8 00 04 AA BB FF F7 00 0B 08 00 04 00 04 01 01 11 00 FF DA 00 08 01 01 00 00 00 00 C0 00 00 6C 80 \
          20 8E 01 C0 00 00 57 40 00 00 6E E6 00 00 01 BC 18 00 00 05 D8 00 00 91 60 FF D9",
@@ -122,7 +122,7 @@ pub const COPIES: [(&str, &str); 42] = [
          D1 70 FF D2 28 FF D3 38 FF D4 14 FF D5 1C FF D6 0A FF D7 0E FF D0 05 FF D9",
         "| 0 Header(Lossy, 21)",
     ),
-    // The input ends behind FF.
+    // The input ends after FF.
     (
         "FF D8 FF F7 00 0B 08 00 0A 00 01 01 01 11 00 FF DD 00 04 00 01 FF DA 00 08 01 01 00 00 00 00 80 FF D0 50 FF \
          D1 70 FF D2 28 FF D3 38 FF",
@@ -146,7 +146,7 @@ pub const COPIES: [(&str, &str); 42] = [
          57 40 00 00 6E E6 00 00 01 BC 18 00 00 05 D8 00 00 91 60 00 FF D9",
         "| 0 0 25 Long; 1 Eoi(56)",
     ),
-    // Bytes behind the end of the image change nothing.
+    // Bytes after the end of the image change nothing.
     (
         "FF D8 FF F7 00 0B 08 00 01 00 01 01 01 11 00 FF DA 00 08 01 01 00 00 00 00 80 FF D9 FF DA 00",
         "0.0=[0] | 0 Eoi(26)",
@@ -171,7 +171,7 @@ pub const COPIES: [(&str, &str); 42] = [
         "FF D8 FF F7 00 0B 08 00 02 00 01 01 01 11 00 FF DA 00 08 01 01 00 00 00 00 50 00 00 10",
         "| 0 0 25 Broken; 1 Input(29)",
     ),
-    // Behind so many zeros that no code begins with them.
+    // After so many zeros that no code begins with them.
     (
         "FF D8 FF F7 00 0B 08 00 02 00 01 01 01 11 00 FF DA 00 08 01 01 00 00 00 00 50 00 00 00 00",
         "| 0 0 25 Broken; 1 Input(30)",
@@ -210,12 +210,12 @@ pub const COPIES: [(&str, &str); 42] = [
     ),
     // A large picture of which there are eight bytes FF 7F.
     (LARGE_PICTURE, "| 0 0 25 Broken; 1 Eoi(41)"),
-    // Two components by line, cut behind the first line of the second row.
+    // Two components by line, cut after the first line of the second row.
     (
         "FF D8 FF F7 00 0E 08 00 02 00 01 02 01 11 00 02 11 00 FF DA 00 0A 02 01 00 02 00 00 01 00 07 07 80 10",
         "0.0=[10] 0.1=[30] 1.0=[20] | 0 0 30 Broken; 1 Input(34)",
     ),
-    // The same, cut behind the first line of all.
+    // The same, cut after the first line of all.
     (
         "FF D8 FF F7 00 0E 08 00 02 00 01 02 01 11 00 02 11 00 FF DA 00 0A 02 01 00 02 00 00 01 00 07 07",
         "0.0=[10] | 0 0 30 Broken; 1 Input(32)",
@@ -233,7 +233,7 @@ pub const COPIES: [(&str, &str); 42] = [
          D0 FF A3 FF FF FF D9",
         "0.0=[15] 0.1=[15] 1.0=[15] | 1 1 73 Broken; 1 Eoi(77)",
     ),
-    // A length of 1 behind fill.
+    // A length of 1 after fill.
     (
         "FF D8 FF F7 00 0B 08 00 01 00 01 01 01 11 00 FF FF E0 00 01",
         "| 0 Header(Length, 16)",

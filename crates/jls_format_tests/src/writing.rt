@@ -34,7 +34,7 @@ fn restart_intervals_take_the_fewest_bytes(rt: HostRuntime) -> Result<(), Fail> 
 }
 
 #[test]
-fn segments_stand_one_behind_the_other(rt: HostRuntime) -> Result<(), Fail> {
+fn segments_stand_one_after_the_other(rt: HostRuntime) -> Result<(), Fail> {
     let mut bytes = Vec::new(rt.alloc());
     write_segment(&mut bytes, &Segment::Frame(Shape::new(8, 1, 1, &[1, 2])?))?;
     write_segment(

@@ -45,7 +45,7 @@ fn push_bit(rt: HostRuntime) {
     assert!(rt; tally.is_single());
 }
 
-/// Writes the byte A5 so many times, 4 at once behind one.
+/// Writes the byte A5 so many times, 4 at once after one.
 fn push_four_bytes(rt: &impl Abort, alloc: Global, count: usize) -> Result<Met, Stopped> {
     let mut met = Met::Done;
     let mut writer = BitWriter::new(alloc);
@@ -117,8 +117,8 @@ fn finish_ones(rt: &impl Abort, alloc: Global, times: usize) -> Result<Met, Stop
         ended = of_ones(alloc, count)?.finish();
     }
     let bytes = ended?;
-    let (front, last) = bytes.split_at(bytes.len().saturating_sub(1));
-    assert!(rt; are_repeated(front, &[0xFF, 0x7F], times));
+    let (prefix, last) = bytes.split_at(bytes.len().saturating_sub(1));
+    assert!(rt; are_repeated(prefix, &[0xFF, 0x7F], times));
     assert!(rt; last == [0x80].as_slice());
     Ok(met)
 }

@@ -51,7 +51,7 @@ fn feed_slices(rt: &impl Abort, alloc: Global, height: u16, size: usize) -> Resu
 
 #[test]
 fn feed(rt: HostRuntime) {
-    let mut tally = Tally::of("CopyReader::feed, and finish behind it");
+    let mut tally = Tally::of("CopyReader::feed, and finish after it");
     for (height, size) in [(1, 1), (10, 4096), (60, 7), (60, 4096)] {
         tally.note(&rt, feed_slices(&rt, rt.alloc(), height, size));
     }

@@ -13,7 +13,7 @@ fn failed() -> io::Error {
 /// An input by its name.
 pub type File<'a> = (&'a str, &'a [u8]);
 
-/// Files in memory: inputs, and room for what all outputs take, one behind the other.
+/// Files in memory: inputs, and room for what all outputs take, one after the other.
 #[derive(Drop)]
 pub struct Files<'a> {
     files: &'a [File<'a>],

@@ -177,7 +177,7 @@ fn push_slices(
 
 #[test]
 fn push_all(rt: HostRuntime) {
-    let mut tally = Tally::of("IntervalDecoder::push_all, and finish behind it");
+    let mut tally = Tally::of("IntervalDecoder::push_all, and finish after it");
     for interval in &INTERVALS {
         for size in [2, 4096] {
             tally.note(&rt, push_slices(&rt, rt.alloc(), interval, size));
@@ -201,14 +201,14 @@ fn push_bytes(rt: &impl Abort, alloc: Global, interval: &Interval) -> Result<Met
 
 #[test]
 fn push(rt: HostRuntime) {
-    let mut tally = Tally::of("IntervalDecoder::push, and finish behind it");
+    let mut tally = Tally::of("IntervalDecoder::push, and finish after it");
     for interval in &INTERVALS {
         tally.note(&rt, push_bytes(&rt, rt.alloc(), interval));
     }
     assert!(rt; tally.is_single());
 }
 
-/// Pushes a piece byte by byte, and asks for what stands whole where the input ends behind it.
+/// Pushes a piece byte by byte, and asks for what stands whole where the input ends after it.
 fn cut_one(rt: &impl Abort, alloc: Global, interval: &Interval) -> Result<Met, Stopped> {
     let mut decoder = interval.decoder(alloc)?;
     for byte in interval.piece {
@@ -228,7 +228,7 @@ fn cut_one(rt: &impl Abort, alloc: Global, interval: &Interval) -> Result<Met, S
 
 #[test]
 fn finish_cut(rt: HostRuntime) {
-    let mut tally = Tally::of("IntervalDecoder::finish_cut, behind a push");
+    let mut tally = Tally::of("IntervalDecoder::finish_cut, after a push");
     for interval in &INTERVALS {
         tally.note(&rt, cut_one(&rt, rt.alloc(), interval));
     }

@@ -13,7 +13,7 @@ pub enum Met {
     Refused,
 }
 
-/// A case that ended before the call or behind it, for want of memory there.
+/// A case that ended before the call or after it, for want of memory there.
 #[derive(Clone, Copy)]
 pub struct Stopped;
 

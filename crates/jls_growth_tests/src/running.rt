@@ -20,7 +20,7 @@ struct Ending {
     faults: Room,
 }
 
-/// What a run with ample memory leaves behind: its status, what all outputs that it creates have, and what is printed, if that is known.
+/// What a run with ample memory leaves: its status, what all outputs that it creates have, and what is printed, if that is known.
 #[derive(Drop)]
 pub struct Wanted {
     pub status: u8,
@@ -51,11 +51,11 @@ fn run_line(alloc: Global, line: &str, files: &[File<'_>]) -> Result<Ending, All
     let mut files = Files::new(alloc, files)?;
     let desk = &mut Counted::closed(&mut files);
     let printed = &mut Counted::new(&mut report);
-    let told = &mut Counted::new(&mut faults);
+    let reported = &mut Counted::new(&mut faults);
     let status = if is_splice(line) {
-        jls_splice_run::run(alloc, &words, desk, printed, told)
+        jls_splice_run::run(alloc, &words, desk, printed, reported)
     } else {
-        jls_salvage_run::run(alloc, &words, desk, printed, told)
+        jls_salvage_run::run(alloc, &words, desk, printed, reported)
     };
     Ok(Ending {
         status,
@@ -97,12 +97,12 @@ fn says_refused(faults: &[u8], wanted: &Wanted, line: &str) -> bool {
     }
 }
 
-/// Whether a run ended for want of memory, and said and left behind nothing else than the first bytes of a file.
+/// Whether a run ended for want of memory, and said and left nothing else than the first bytes of a file.
 fn is_refused(found: &Ending, wanted: &Wanted, line: &str) -> bool {
-    let is_front = line.contains(" jls ") && wanted.output.starts_with(&found.output);
+    let is_prefix = line.contains(" jls ") && wanted.output.starts_with(&found.output);
     says_refused(found.faults.held(), wanted, line)
         && found.report.held().is_empty()
-        && (found.created == 0 || is_front)
+        && (found.created == 0 || is_prefix)
 }
 
 /// Runs the program, and again where memory ran out.
@@ -209,7 +209,7 @@ struct Row {
     gives: Gives,
 }
 
-const fn told(line: &'static str, status: u8, gives: Gives) -> Row {
+const fn reported(line: &'static str, status: u8, gives: Gives) -> Row {
     Row {
         line,
         status,
@@ -230,15 +230,15 @@ fn run_rows(rt: &(impl Abort + Print), alloc: Global, call: &'static str, rows: 
 
 #[test]
 fn check(rt: HostRuntime) {
-    let rows = [told("jls-salvage check copy", 0, Gives::Trace)];
+    let rows = [reported("jls-salvage check copy", 0, Gives::Trace)];
     run_rows(&rt, rt.alloc(), "run with check", &rows);
 }
 
 #[test]
 fn show(rt: HostRuntime) {
     let rows = [
-        told("jls-salvage show text", 0, Gives::Report),
-        told("jls-salvage show copy", 0, Gives::Report),
+        reported("jls-salvage show text", 0, Gives::Report),
+        reported("jls-salvage show copy", 0, Gives::Report),
     ];
     run_rows(&rt, rt.alloc(), "run with show", &rows);
 }
@@ -246,15 +246,15 @@ fn show(rt: HostRuntime) {
 #[test]
 fn join(rt: HostRuntime) {
     let rows = [
-        told("jls-salvage join OUT text copy", 0, Gives::Text),
-        told("jls-salvage join OUT copy text", 0, Gives::Text),
+        reported("jls-salvage join OUT text copy", 0, Gives::Text),
+        reported("jls-salvage join OUT copy text", 0, Gives::Text),
     ];
     run_rows(&rt, rt.alloc(), "run with join", &rows);
 }
 
 #[test]
 fn join_under_a_source(rt: HostRuntime) {
-    let rows = [told(
+    let rows = [reported(
         "jls-salvage join --source 7 OUT text copy",
         0,
         Gives::MarkedText,
@@ -264,23 +264,23 @@ fn join_under_a_source(rt: HostRuntime) {
 
 #[test]
 fn write_as_jls(rt: HostRuntime) {
-    let rows = [told("jls-salvage write --as jls --ri 1 OUT text", 0, Gives::Jls)];
+    let rows = [reported("jls-salvage write --as jls --ri 1 OUT text", 0, Gives::Jls)];
     run_rows(&rt, rt.alloc(), "run with write --as jls", &rows);
 }
 
 #[test]
 fn write_as_pnm(rt: HostRuntime) {
-    let rows = [told("jls-salvage write --as pnm OUT copy", 0, Gives::Pnm)];
+    let rows = [reported("jls-salvage write --as pnm OUT copy", 0, Gives::Pnm)];
     run_rows(&rt, rt.alloc(), "run with write --as pnm", &rows);
 }
 
 #[test]
 fn help_and_usage(rt: HostRuntime) {
     let rows = [
-        told("jls-salvage --help", 0, Gives::Nothing),
-        told("jls-salvage join", 2, Gives::Nothing),
-        told("jls-splice --help", 0, Gives::Nothing),
-        told("jls-splice OUT copy", 2, Gives::Nothing),
+        reported("jls-salvage --help", 0, Gives::Nothing),
+        reported("jls-salvage join", 2, Gives::Nothing),
+        reported("jls-splice --help", 0, Gives::Nothing),
+        reported("jls-splice OUT copy", 2, Gives::Nothing),
     ];
     run_rows(&rt, rt.alloc(), "run with help and usage", &rows);
 }

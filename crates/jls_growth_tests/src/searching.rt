@@ -88,7 +88,7 @@ fn search_one(rt: &impl Abort, alloc: Global, is_mended: bool) -> Result<Met, St
 
 #[test]
 fn searches(rt: HostRuntime) {
-    let mut tally = Tally::of("search_copies, and complete_by_groups behind it");
+    let mut tally = Tally::of("search_copies, and complete_by_groups after it");
     for is_mended in [true, false] {
         tally.note(&rt, search_one(&rt, rt.alloc(), is_mended));
     }

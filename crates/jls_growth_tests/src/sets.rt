@@ -6,7 +6,7 @@ use jls_values::{Merge, MergeFault, SourceSet, merge_all};
 use std::alloc::{AllocError, Global};
 use std::process::Abort;
 
-/// So many numbers, from this one on, and each two behind the one before.
+/// So many numbers, from this one on, and each two after the one before.
 fn sources_from(alloc: Global, first: u32, count: u32) -> Result<SourceSet, AllocError> {
     let mut set = SourceSet::empty(alloc);
     for i in 0..count {
@@ -15,7 +15,7 @@ fn sources_from(alloc: Global, first: u32, count: u32) -> Result<SourceSet, Allo
     Ok(set)
 }
 
-/// Whether the numbers are these: `first`, and each `step` behind the one before.
+/// Whether the numbers are these: `first`, and each `step` after the one before.
 fn are(numbers: &[u32], first: u32, step: u32, count: u32) -> bool {
     let mut wanted = first;
     for number in numbers {

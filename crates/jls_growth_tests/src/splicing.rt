@@ -20,7 +20,7 @@ struct Row {
     /// The lines of OUT, and the number of the first.
     lines: &'static [&'static [u16]],
     begin: u16,
-    /// Whether the file is written behind OUT.
+    /// Whether the file is written after OUT.
     has_file: bool,
     report: &'static str,
     faults: &'static str,

@@ -13,7 +13,7 @@ use std::alloc::{AllocError, Global};
 use std::fmt::Write;
 use std::process::Abort;
 
-/// The segments that set a restart interval of 5 lines, behind so many others.
+/// The segments that set a restart interval of 5 lines, after so many others.
 fn write_segments(rt: &impl Abort, alloc: Global, count: usize) -> Result<Met, Stopped> {
     let mut met = Met::Done;
     let mut bytes = Vec::new(alloc);

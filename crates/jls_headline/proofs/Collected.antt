@@ -26,7 +26,7 @@ use Rattle.jls_station.specs.TakingCopies.{CopyGives, RefusesCopy, gives_none, o
 use Rattle.jls_station.specs.declared.take_copy.TakeFault.{TakeFault}
 use Rattle.jls_station.specs.declared.take_copy.TakeFault.TheVariants as fault
 use Rattle.jls_copy_laws.specs.Gives.{GivesReading}
-use Rattle.jls_copy_laws.proofs.Members.{none_in, in_map, of_map, all_at, all_append, all_front}
+use Rattle.jls_copy_laws.proofs.Members.{none_in, in_map, of_map, all_at, all_append, all_prefix}
 use Rattle.jls_salvage_run.proofs.InputBytes.{all_reads}
 use Rattle.jls_headline.specs.Stations.{HasShape, ReadingsOf}
 use Rattle.jls_headline.specs.Sources.{SourcedCopy, copies_of}
@@ -52,7 +52,7 @@ module _ (P : PartialPicture → List SourcedCopy → List SourcedCopy → Type 
     → P (union p q) (copies ++ more) (over ++ further))
     (part : (p q new : PartialPicture) (copies over more further : List SourcedCopy) → P p copies over → P q more further
     → IsBetween union p new (union p q) → P new copies (over ++ (more ++ further)))
-    (front : (p q : PartialPicture) (ks : List (Reading × List ℕ)) (copies over more further : List SourcedCopy) → P p copies over → P q more further
+    (prefix : (p q : PartialPicture) (ks : List (Reading × List ℕ)) (copies over more further : List SourcedCopy) → P p copies over → P q more further
     → AllByRecursion (HoldsEntry q) ks → P (with_all p ks) copies (over ++ (more ++ further)))
     (weaker : (p : PartialPicture) (copies over more : List SourcedCopy) → P p copies over → P p copies (over ++ more)) where
   -- one copy, of the bytes that reads gave
@@ -133,21 +133,21 @@ module _ (P : PartialPicture → List SourcedCopy → List SourcedCopy → Type 
       part old other new copies over more further (by_calls old copies over g) (by_calls other more further k) between
   by_calls _ _ _ (text_cut_short old new other copies over more further bytes g k held t) =
       subst (λ (q : PartialPicture). P q copies (over ++ (more ++ further))) (sym t.new_is)
-      (front old other t.taken copies over more further (by_calls old copies over g) (by_calls other more further k)
-      (all_front (HoldsEntry other) t.taken t.left (subst (AllByRecursion (HoldsEntry other)) t.parts held)))
+      (prefix old other t.taken copies over more further (by_calls old copies over g) (by_calls other more further k)
+      (all_prefix (HoldsEntry other) t.taken t.left (subst (AllByRecursion (HoldsEntry other)) t.parts held)))
 
--- The front of a text --------------------------------------------------------------------------------------------
+-- The prefix of a text --------------------------------------------------------------------------------------------
 
 abbrev readings_of : List (Reading × List ℕ) → List Reading
 readings_of ks = map (λ k. k.0) ks
 
-front_keeps_readings : (p : PartialPicture) (ks : List (Reading × List ℕ)) (r : Reading) → is_read p r ≡ true → is_read (with_all p ks) r ≡ true
-front_keeps_readings p ks r h =
+prefix_keeps_readings : (p : PartialPicture) (ks : List (Reading × List ℕ)) (r : Reading) → is_read p r ≡ true → is_read (with_all p ks) r ≡ true
+prefix_keeps_readings p ks r h =
     contains-insert_all reading_total p.readings (readings_of ks) r ∙ or_first (is_read p r) (list_any (eq_by_cmp reading_cmp r) (readings_of ks)) h
 
-front_has_readings : (p q : PartialPicture) (ks : List (Reading × List ℕ)) → AllByRecursion (HoldsEntry q) ks → (r : Reading)
+prefix_has_readings : (p q : PartialPicture) (ks : List (Reading × List ℕ)) → AllByRecursion (HoldsEntry q) ks → (r : Reading)
     → is_read (with_all p ks) r ≡ true → (is_read p r ≡ true) ⊎ (is_read q r ≡ true)
-front_has_readings p q ks held r h =
+prefix_has_readings p q ks held r h =
     either ((is_read p r ≡ true) ⊎ (is_read q r ≡ true)) (is_read p r) (list_any (eq_by_cmp reading_cmp r) (readings_of ks)) (λ x. inl x)
     (λ x. inr (here (item_of_any reading_total reading_exact (readings_of ks) r x)))
     (sym (contains-insert_all reading_total p.readings (readings_of ks) r) ∙ h)
@@ -157,8 +157,8 @@ front_has_readings p q ks held r h =
         let from = of_map (λ (k : Reading × List ℕ). k.0) ks r c in
         subst (λ x. is_read q x ≡ true) from.2 (all_at (HoldsEntry q) ks from.0 held from.1).0
 
-front_keeps_marks : (p : PartialPicture) (ks : List (Reading × List ℕ)) (m : Mark) → is_marked p m ≡ true → is_marked (with_all p ks) m ≡ true
-front_keeps_marks p ks m h =
+prefix_keeps_marks : (p : PartialPicture) (ks : List (Reading × List ℕ)) (m : Mark) → is_marked p m ≡ true → is_marked (with_all p ks) m ≡ true
+prefix_keeps_marks p ks m h =
     contains-insert_all marks_total p.marks (marks_of ks) m ∙ or_first (is_marked p m) (list_any (eq_by_cmp (mark_cmp reading_cmp) m) (marks_of ks)) h
 
 held_marks : (q : PartialPicture) (ks : List (Reading × List ℕ)) → AllByRecursion (HoldsEntry q) ks → (m : Mark) → Contains (marks_of ks) m
@@ -172,9 +172,9 @@ held_marks q (k ∷ ks) held m c =
       | inr later ↦ held_marks q ks held.1 m later
     ]
 
-front_has_marks : (p q : PartialPicture) (ks : List (Reading × List ℕ)) → AllByRecursion (HoldsEntry q) ks → (m : Mark)
+prefix_has_marks : (p q : PartialPicture) (ks : List (Reading × List ℕ)) → AllByRecursion (HoldsEntry q) ks → (m : Mark)
     → is_marked (with_all p ks) m ≡ true → (is_marked p m ≡ true) ⊎ (is_marked q m ≡ true)
-front_has_marks p q ks held m h =
+prefix_has_marks p q ks held m h =
     either ((is_marked p m ≡ true) ⊎ (is_marked q m ≡ true)) (is_marked p m) (list_any (eq_by_cmp (mark_cmp reading_cmp) m) (marks_of ks)) (λ x. inl x)
     (λ x. inr (held_marks q ks held m (item_of_any marks_total marks_exact (marks_of ks) m x)))
     (sym (contains-insert_all marks_total p.marks (marks_of ks) m) ∙ h)
@@ -242,14 +242,14 @@ after_part p q new copies over more further h k between = record {
       (between_keeps GivesMark is_marked union_marked p q new between) (between_only GivesMark is_marked union_marked p q new between);
 }
 
-after_front : (p q : PartialPicture) (ks : List (Reading × List ℕ)) (copies over more further : List SourcedCopy) → After p copies over
+after_prefix : (p q : PartialPicture) (ks : List (Reading × List ℕ)) (copies over more further : List SourcedCopy) → After p copies over
     → After q more further → AllByRecursion (HoldsEntry q) ks → After (with_all p ks) copies (over ++ (more ++ further))
-after_front p q ks copies over more further h k held = record {
+after_prefix p q ks copies over more further h k held = record {
   shapes = h.shapes;
   readings = part_collected GivesOwn is_read union_read p q (with_all p ks) copies over more further h.readings k.readings
-      (front_keeps_readings p ks) (front_has_readings p q ks held);
+      (prefix_keeps_readings p ks) (prefix_has_readings p q ks held);
   marks = part_collected GivesMark is_marked union_marked p q (with_all p ks) copies over more further h.marks k.marks
-      (front_keeps_marks p ks) (front_has_marks p q ks held);
+      (prefix_keeps_marks p ks) (prefix_has_marks p q ks held);
 }
 
 after_more : (p : PartialPicture) (copies over more : List SourcedCopy) → After p copies over → After p copies (over ++ more)
@@ -260,7 +260,7 @@ after_more p copies over more h = record {
 }
 
 after_calls : (p : PartialPicture) (copies over : List SourcedCopy) → Collected p copies over → After p copies over
-after_calls = by_calls After after_new after_copy after_both after_part after_front after_more
+after_calls = by_calls After after_new after_copy after_both after_part after_prefix after_more
 
 -- The laws -------------------------------------------------------------------------------------------------------
 

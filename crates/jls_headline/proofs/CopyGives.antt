@@ -102,8 +102,8 @@ course_gives copy low read reads r = (there, back)
     there h =
         let ps = pieces reads.course in
         let cs = cut_pieces reads.course in
-        let told = made_holds (readings ps reads.outcomes ++ head_readings cs reads.head) r in
-        let c = told.0 (subst (λ (p : PartialPicture). set.contains p.readings r ≡ true) reads.partial_is h) in
+        let reported = made_holds (readings ps reads.outcomes ++ head_readings cs reads.head) r in
+        let c = reported.0 (subst (λ (p : PartialPicture). set.contains p.readings r ≡ true) reads.partial_is h) in
         elim (Contains-append_cases (readings ps reads.outcomes) (head_readings cs reads.head) r c) [
           | inl m ↦ inl (listed ps reads.outcomes r reads.each m)
           | inr m ↦ inr (head_listed cs reads.head r reads.head_is m)
@@ -114,9 +114,9 @@ course_gives copy low read reads r = (there, back)
         let ps = pieces reads.course in
         let cs = cut_pieces reads.course in
         let has = course_has copy reads.course low reads.is_course in
-        let told = made_holds (readings ps reads.outcomes ++ head_readings cs reads.head) r in
+        let reported = made_holds (readings ps reads.outcomes ++ head_readings cs reads.head) r in
         subst (λ (p : PartialPicture). set.contains p.readings r ≡ true) (sym reads.partial_is)
-        (told.1 (elim g [
+        (reported.1 (elim g [
           | inl m ↦ Contains-append_left (readings ps reads.outcomes) (head_readings cs reads.head) r (given ps reads.outcomes m.0 r has reads.each m.1 m.2)
           | inr m ↦ Contains-append_right (readings ps reads.outcomes) (head_readings cs reads.head) r
               (head_given cs reads.head m.0 r (cut_short reads.course) (cut_has reads.course has) reads.head_is m.1 m.2)

@@ -27,7 +27,7 @@ use Rattle.jls_headline.proofs.Collected.{collected_holds}
 use Rattle.jls_headline.proofs.CollectedExamples.{both_copies, with_both, collected_both}
 use Rattle.jls_headline.proofs.StationPictures.{exactly_gives_the_picture}
 
--- a scan of one component with the defaults of 8 bits, and a restart marker behind each row but the last
+-- a scan of one component with the defaults of 8 bits, and a restart marker after each row but the last
 abbrev pub options : WriteOptions
 options = record { line = false; restart_interval = 1; params = bits_8 }
 

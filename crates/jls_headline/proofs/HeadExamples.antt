@@ -27,7 +27,7 @@ use Rattle.jls_copy_laws.specs.CopyScans.{ScanPiece, ScanWithData, HasScans}
 use Rattle.jls_copy_laws.specs.Gives.{GivesReading}
 use Rattle.jls_copy_laws.proofs.CopyScans.{course_has_scans}
 use Rattle.jls_headline.specs.Damaged.{Damaged, picture_reading, Survives}
-use Rattle.jls_headline.specs.Trimmed.{front, TrimmedCopy}
+use Rattle.jls_headline.specs.Trimmed.{prefix, TrimmedCopy}
 use Rattle.jls_headline.proofs.LostIntervals.{damaged_copies_give_no_other, surviving_lines_are_given}
 use Rattle.jls_headline.proofs.Trims.{trimmed_copies_are_damaged}
 use Rattle.jls_headline.proofs.PremiseExamples.{both_lines, another_head}
@@ -120,7 +120,7 @@ is_trimmed = (
     (
       [],
       record { rise = tt; marks_are = refl },
-      (record { bytes = 0x50 ∷ 0x80 ∷ []; reads = both.both_read; trimmed = front (0x50 ∷ []) (0x80 ∷ []) }, tt),
+      (record { bytes = 0x50 ∷ 0x80 ∷ []; reads = both.both_read; trimmed = prefix (0x50 ∷ []) (0x80 ∷ []) }, tt),
     ),
     tt,
   ),

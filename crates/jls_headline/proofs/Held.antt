@@ -61,9 +61,9 @@ module _ {K : Type 0} {R : K → K → Ordering} (total : IsTotalOrder R) (exact
   -- a set made of a list holds the members of the list
   pub set_of_list_holds : (ks : List K) (k : K) → (set.contains (set.insert_all {R = R} set.empty ks) k ≡ true) ↔ Contains ks k
   set_of_list_holds ks k =
-      let told : set.contains (set.insert_all {R = R} set.empty ks) k ≡ list_any (eq_by_cmp R k) ks =
+      let reported : set.contains (set.insert_all {R = R} set.empty ks) k ≡ list_any (eq_by_cmp R k) ks =
       contains-insert_all total set.empty ks k ∙ ap (λ b. b || list_any (eq_by_cmp R k) ks) (contains-empty R k) in
-      (λ h. item_of_any ks k (sym told ∙ h), λ c. told ∙ any_of_item ks k c)
+      (λ h. item_of_any ks k (sym reported ∙ h), λ c. reported ∙ any_of_item ks k c)
 
   -- what a set holds are its items
   pub set_holds_items : (s : set.OrderedSet R) (k : K) → (set.contains s k ≡ true) ↔ Contains (set.items s) k

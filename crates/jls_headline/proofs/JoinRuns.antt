@@ -80,7 +80,7 @@ filled_is_no_text (suc fill) bytes = refl
 
 pub scans_are_no_text : (bytes : List ℕ) (shape : PictureShape) (scans : List ScanWithData) → HasScans bytes shape scans
     → is_text bytes ≡ false
-scans_are_no_text bytes shape scans has = ap is_text has.copy_is ∙ filled_is_no_text has.fill has.behind_soi
+scans_are_no_text bytes shape scans has = ap is_text has.copy_is ∙ filled_is_no_text has.fill has.after_soi
 
 pub runs_with_texts_give_the_picture : RunsWithTextsGiveThePicture
 runs_with_texts_give_the_picture source out names joined settled whole events h copies stand pic is damaged each =

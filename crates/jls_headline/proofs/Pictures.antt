@@ -12,7 +12,7 @@ use Rattle.jls_headline.specs.Damaged.{picture_reading}
 use Rattle.jls_headline.specs.ReadsAs.{GivesPicture}
 use Rattle.jls_headline.specs.HeadlineLaws.{FilesReadAsOne}
 
--- a list is told by its items
+-- a list is determined by its items
 listed_by : {A : Type 0} (d : A) (f : ℕ → A) (xs : List A) (from : ℕ) → ((i : ℕ) → i < length xs → f (from + i) ≡ get_or xs i d)
     → map f (range_with_len from (length xs)) ≡ xs
 listed_by d f [] from h = refl
@@ -63,7 +63,7 @@ gives_picture station pic is e one = (settled, is_picture_of pic station.shape (
     settled : IsSettled station
     settled c l y k = ap status_of (one c y (subst (λ (s : PictureShape). c < length s.ids) e l) (subst (λ (s : PictureShape). y < s.height) e k))
 
--- a picture is told by its lines
+-- a picture is determined by its lines
 pub one_picture : (pic other : WholePicture) → IsPicture pic → IsPicture other → pic.shape ≡ other.shape
     → ((c y : ℕ) → c < length pic.shape.ids → y < pic.shape.height → line_of pic c y ≡ line_of other c y) → pic ≡ other
 one_picture pic other is is' e same =

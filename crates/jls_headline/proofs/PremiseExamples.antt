@@ -120,7 +120,7 @@ ran_out_over_first a reads =
 holds_more : (p : PartialPicture) → set.contains p.readings (picture_reading pic 0 0) ≡ true → HoldsExactly p [] → ⊥
 holds_more p held h = (let from = (h.readings (picture_reading pic 0 0)).0 held in none_in from.0 from.1)
 
--- A piece that the input's end cuts off, with another line at its front -------------------------------------------
+-- A piece that the input's end cuts off, with another line at its start -------------------------------------------
 
 -- both lines in one interval
 abbrev pub both_lines : Scan
@@ -184,7 +184,7 @@ none_if_not_cut : HasPictureLines pic both_lines (0, record { bytes = 0x50 ∷ [
 none_if_not_cut lines (inl reads) = absurd (reads_as_none lines reads)
 none_if_not_cut lines (inr (cut, head)) = absurd cc
 
--- A whole piece behind a changed header --------------------------------------------------------------------------
+-- A whole piece after a changed header --------------------------------------------------------------------------
 
 -- MAXVAL is 15, where the picture was written with 255
 abbrev small_samples : CodingParameters
@@ -194,12 +194,12 @@ abbrev changed : Scan
 changed = record { components = 0 ∷ []; params = small_samples; width = 1; height = 2; restart_interval = 1 }
 
 -- so 0x40, which nothing has damaged, reads as the sample 15
-record ReadBehind : Type 0 where
+record ReadAfter : Type 0 where
   fifteen_read : Reads (interval_shape small_samples 1 1 1) (0x40 ∷ []) ((15 ∷ []) ∷ [])
 
-read_behind : ReadBehind
+read_after : ReadAfter
 unfolding least_from bits width_after golomb quantized_gradient is_negative context modulo_reduced corrected_prediction golomb_k updated run_updated events_from events_after cell_before run_cell_before block_columns full_blocks blocks run_index_before event_bits bits_of_events code bits_read_after is_whole_after ends_data
-read_behind = record {
+read_after = record {
   fifteen_read = record {
     unread = replicate 5 false;
     begins = record { are_bytes = (lit< tt, tt); are_lines = record { count_is = refl; each = ((refl, (lit≤ tt, tt)), tt) }; data_bits = record { whole = refl; read = refl } };
@@ -210,4 +210,4 @@ read_behind = record {
 -- which is no line of the picture
 another_line_read : HasPictureLines pic changed (1, piece_of (0x40 ∷ [])) → ⊥
 another_line_read h =
-    (let e = ap (λ (lines : List (List ℕ)). get_or (get_or lines 0 []) 0 0) (h ((15 ∷ []) ∷ []) (inl read_behind.fifteen_read)) in omega (arith, e))
+    (let e = ap (λ (lines : List (List ℕ)). get_or (get_or lines 0 []) 0 0) (h ((15 ∷ []) ∷ []) (inl read_after.fifteen_read)) in omega (arith, e))

@@ -6,9 +6,9 @@ use Rattle.jls_copy_laws.specs.CopyScans.{HasScans}
 use Rattle.jls_copy_laws.specs.Gives.{GivesReading}
 use Rattle.jls_copy.proofs.FinalEnds.{final_ends_stay}
 use Rattle.jls_copy_laws.proofs.CopyScans.{course_has_scans, scans_of_course, one_list_of_scans}
-use Rattle.jls_copy_laws.proofs.Members.{all_append, all_front}
+use Rattle.jls_copy_laws.proofs.Members.{all_append, all_prefix}
 use Rattle.jls_headline.specs.Stations.{ReadingsOf, HasShape, IsSameCopy, AreAmong}
-use Rattle.jls_headline.specs.HeadlineLaws.{BytesBehindTheEndChangeNothing}
+use Rattle.jls_headline.specs.HeadlineLaws.{BytesAfterTheEndChangeNothing}
 use Rattle.jls_headline.proofs.LostIntervals.{given_by_scan}
 
 pub same_copy_gives : (copy other : List ℕ) (r : Reading) → IsSameCopy copy other → GivesReading copy r → GivesReading other r
@@ -16,13 +16,13 @@ same_copy_gives copy other r (inl e) g = subst (λ x. GivesReading x r) e g
 same_copy_gives copy other r (inr (shape, scans, has, has')) g =
     let own = given_by_scan copy shape scans has r g in (shape, scans, has', own.0, own.1, own.2)
 
--- bytes behind the end of a copy change nothing
-pub bytes_behind_the_end_change_nothing : BytesBehindTheEndChangeNothing
-bytes_behind_the_end_change_nothing front behind behind' shape (c, is, done) (scans, has) low =
-    let own = scans_of_course (front ++ behind) c shape scans (final_ends_stay front behind c is (sym done)) has in
-    let bytes = all_append (λ b. b < 256) front behind' (all_front (λ b. b < 256) front behind has.are_bytes) low in
-    let there = course_has_scans (front ++ behind') c shape bytes (final_ends_stay front behind' c is (sym done)) own.0 in
-    inr (shape, scans, has, subst (HasScans (front ++ behind') shape) (sym own.1) there)
+-- bytes after the end of a copy change nothing
+pub bytes_after_the_end_change_nothing : BytesAfterTheEndChangeNothing
+bytes_after_the_end_change_nothing prefix following following' shape (c, is, done) (scans, has) low =
+    let own = scans_of_course (prefix ++ following) c shape scans (final_ends_stay prefix following c is (sym done)) has in
+    let bytes = all_append (λ b. b < 256) prefix following' (all_prefix (λ b. b < 256) prefix following has.are_bytes) low in
+    let there = course_has_scans (prefix ++ following') c shape bytes (final_ends_stay prefix following' c is (sym done)) own.0 in
+    inr (shape, scans, has, subst (HasScans (prefix ++ following') shape) (sym own.1) there)
 
 -- the same copy has the same shape
 pub same_copy_has_shape : (copy other : List ℕ) (s : PictureShape) → IsSameCopy copy other → HasShape s copy → HasShape s other

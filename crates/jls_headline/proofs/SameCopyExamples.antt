@@ -1,4 +1,4 @@
--- The same copies: in another order, one of them twice, and one with bytes behind its end.
+-- The same copies: in another order, one of them twice, and one with bytes after its end.
 use Rattle.std.proofs.Common.{ℕ, zero, suc, List, [], ◌∷◌, ◌++◌, Some, refl, sym, ap, subst, lit<, arith, inl, inr}
 use Rattle.std.specs.List.{Contains}
 use Rattle.jls_copy.specs.Course.{IsCourse}
@@ -11,7 +11,7 @@ use Rattle.jls_headline.specs.Sources.{SourcedCopy, IsSameUnder, SameCopiesUnder
 use Rattle.jls_headline.specs.Sources.{sourced_copy}
 use Rattle.jls_headline.proofs.TwoLineCopies.{shape, first, second, lost_first, course_with, second_course, bytes_of_test, second_data, second_scans}
 
--- the second copy, with bytes behind EOI
+-- the second copy, with bytes after EOI
 abbrev second_and_more : List ℕ
 second_and_more = second ++ (1 ∷ 2 ∷ [])
 

@@ -4,7 +4,7 @@ use Rattle.std.specs.Prelude.{nat_lt}
 use Rattle.std.specs.List.{AllByRecursion, Contains, zip}
 use Rattle.std.proofs.lemmas.Bool.Decides.{nat_tests}
 use Rattle.jls_marker.specs.Scan.{intervals}
-use Rattle.jls_copy.specs.Numbers.{PieceNumber, Interval, next_number, number_behind, given_last, RiseByEightAtMost, mark_before, numbers_behind}
+use Rattle.jls_copy.specs.Numbers.{PieceNumber, Interval, next_number, number_after, given_last, RiseByEightAtMost, mark_before, numbers_after}
 use Rattle.jls_copy.specs.Pieces.{value_of}
 use Rattle.jls_copy_laws.specs.CopyScans.{ScanPiece, ScanWithData}
 use Rattle.jls_headline.specs.Damaged.{AreNumbers, numbered_pieces}
@@ -15,23 +15,23 @@ given_back : (number next : ℕ) → number < next → next ≤ number + 8 → n
 given_back number next above near = omega arith
 
 -- a mark gives its number
-behind_is : (n number next : ℕ) → number < next → next ≤ number + 8 → next < n → number_behind n number (mark_before next) ≡ Interval next
-behind_is n number next above near low =
+after_is : (n number next : ℕ) → number < next → next ≤ number + 8 → next < n → number_after n number (mark_before next) ≡ Interval next
+after_is n number next above near low =
     let back : next_number number (mark_before next) ≡ next = given_back number next above near in
     let under : nat_lt next n ≡ true = grind (arith, nat_tests) in
     rw (back, under) refl
 
 come_back : (n last : ℕ) (numbers : List ℕ) → RiseByEightAtMost n last numbers
-    → numbers_behind n last (map mark_before numbers) ≡ map Interval numbers
+    → numbers_after n last (map mark_before numbers) ≡ map Interval numbers
 come_back n last [] rise = refl
 come_back n last (next ∷ numbers) rise =
-    let is = behind_is n last next rise.0 rise.1 rise.2 in
-    ap (λ number. number ∷ numbers_behind n (given_last last number) (map mark_before numbers)) is
+    let is = after_is n last next rise.0 rise.1 rise.2 in
+    ap (λ number. number ∷ numbers_after n (given_last last number) (map mark_before numbers)) is
     ∙ ap (λ later. Interval next ∷ later) (come_back n next numbers rise.3)
 
 pub numbers_come_back : NumbersComeBack
 numbers_come_back d numbers are =
-    ap (numbers_behind (intervals d.scan) 0) are.marks_are ∙ come_back (intervals d.scan) 0 numbers are.rise
+    ap (numbers_after (intervals d.scan) 0) are.marks_are ∙ come_back (intervals d.scan) 0 numbers are.rise
 
 -- Numbered pieces --------------------------------------------------------------------------------------------------
 

@@ -21,10 +21,10 @@ pub same_frame : (f g : PictureShape) → some_frame f ≡ Some g → f ≡ g
 same_frame f g e = cc
 
 -- a unit leaves a frame that was taken before it
-frame_behind : (h : HeaderState) (u : CopyUnit) (after : HeaderState) (rest : List ℕ) (f : PictureShape) → IsUnit h u after rest
+frame_after : (h : HeaderState) (u : CopyUnit) (after : HeaderState) (rest : List ℕ) (f : PictureShape) → IsUnit h u after rest
     → h.frame ≡ Some f → after.frame ≡ Some f
-frame_behind h (segment fill code payload) after rest f unit framed = frame_stays h after code payload None f unit.1 framed
-frame_behind h (scan fill code payload s closed last closing) after rest f unit framed =
+frame_after h (segment fill code payload) after rest f unit framed = frame_stays h after code payload None f unit.1 framed
+frame_after h (scan fill code payload s closed last closing) after rest f unit framed =
     frame_stays h after code payload (Some s) f unit.1 framed
 
 -- and so do units
@@ -34,7 +34,7 @@ frame_through [] h bytes final f is low p framed = ap (λ (x : HeaderState). x.f
 frame_through (u ∷ units) h bytes final f is low (after, rest, whole, unit, p) framed =
     let parts = unit_parts bytes rest u low whole in
     let own = unit_of_copy h u after rest is parts.0 unit in
-    frame_through units after rest final f (unit_keeps h u after rest is parts.0 own) parts.1 p (frame_behind h u after rest f own framed)
+    frame_through units after rest final f (unit_keeps h u after rest is parts.0 own) parts.1 p (frame_after h u after rest f own framed)
 
 -- the scan of a unit, before units that leave a frame
 scan_is_under : (h : HeaderState) (u : CopyUnit) (after : HeaderState) (rest : List ℕ) (f : PictureShape) → IsHeaderState h
@@ -66,5 +66,5 @@ units_are (u ∷ units) h bytes final f is low (after, rest, whole, unit, p) fra
 pub scans_are_of_the_frame : ScansAreOfTheFrame
 scans_are_of_the_frame copy shape scans has =
     let low = (all_back (λ b. b < 256) (fill_bytes has.fill) _ (subst AreBytes has.copy_is has.are_bytes)).1.1 in
-    let under = units_are has.units no_headers has.behind_soi has.headers shape no_headers_kept low has.are_units has.framed in
+    let under = units_are has.units no_headers has.after_soi has.headers shape no_headers_kept low has.are_units has.framed in
     (under.0, subst (AllByRecursion (λ (d : ScanWithData). IsScanUnder shape d.scan)) (sym has.scans_are) under.1)

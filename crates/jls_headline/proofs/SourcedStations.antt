@@ -56,14 +56,14 @@ marks_of_readings : (source : ℕ) (rs : set.OrderedSet reading_cmp) (m : Mark)
     ↔ ((source ≡ m.1) × (set.contains rs m.0 ≡ true))
 marks_of_readings source rs m = (there, back)
   where
-    told : (set.contains (set.insert_all {R = mark_cmp reading_cmp} set.empty (map (with_number source) (set.items rs))) m ≡ true)
+    reported : (set.contains (set.insert_all {R = mark_cmp reading_cmp} set.empty (map (with_number source) (set.items rs))) m ≡ true)
         ↔ Contains (map (with_number source) (set.items rs)) m
-    told = set_of_list_holds marks_total marks_exact (map (with_number source) (set.items rs)) m
+    reported = set_of_list_holds marks_total marks_exact (map (with_number source) (set.items rs)) m
 
     there : set.contains (set.insert_all {R = mark_cmp reading_cmp} set.empty (map (with_number source) (set.items rs))) m ≡ true
         → (source ≡ m.1) × (set.contains rs m.0 ≡ true)
     there h =
-        let from = of_map (with_number source) (set.items rs) m (told.0 h) in (
+        let from = of_map (with_number source) (set.items rs) m (reported.0 h) in (
           ap (λ (x : Mark). x.1) from.2,
           subst (λ (r : Reading). set.contains rs r ≡ true) (ap (λ (x : Mark). x.0) from.2) ((set_holds_items reading_total reading_exact rs from.0).1 from.1),
         )
@@ -71,7 +71,7 @@ marks_of_readings source rs m = (there, back)
     back : (source ≡ m.1) × (set.contains rs m.0 ≡ true)
         → set.contains (set.insert_all {R = mark_cmp reading_cmp} set.empty (map (with_number source) (set.items rs))) m ≡ true
     back (e, h) =
-        told.1 (subst (λ (n : ℕ). Contains (map (with_number source) (set.items rs)) (m.0, n)) e
+        reported.1 (subst (λ (n : ℕ). Contains (map (with_number source) (set.items rs)) (m.0, n)) e
         (in_map (with_number source) (set.items rs) m.0 ((set_holds_items reading_total reading_exact rs m.0).0 h)))
 
 -- what was read of a copy has no source of its own

@@ -5,7 +5,7 @@ use Rattle.std.proofs.lemmas.List.{append-nil}
 use Rattle.jls_values.specs.Params.{CodingParameters, AreCodingParameters}
 use Rattle.jls_bits.specs.Bits.{bits_read, bits_read_after, is_whole}
 use Rattle.jls_bits.specs.Appending.{last_after}
-use Rattle.jls_bits.proofs.Appending.{data_append, whole_front}
+use Rattle.jls_bits.proofs.Appending.{data_append, whole_prefix}
 use Rattle.jls_interval.specs.Code.{code}
 use Rattle.jls_interval.specs.Lines.{AreLines, interval_shape}
 use Rattle.jls_interval.specs.Reads.{Reads}
@@ -13,7 +13,7 @@ use Rattle.jls_interval.specs.Laws.{IsCutCode}
 use Rattle.jls_interval.specs.Heads.{BeginsWithFirst, AreWholeLines, IsHead, IsHeadOfPiece}
 use Rattle.jls_interval.proofs.CodesApart.{codes_apart}
 use Rattle.jls_interval.proofs.PiecesReadOnce.{reads_once}
-use Rattle.jls_interval.proofs.HeadLines.{front_lines, code_parts}
+use Rattle.jls_interval.proofs.HeadLines.{prefix_lines, code_parts}
 use Rattle.jls_interval.proofs.StepwiseCodes.{one_begins}
 use Rattle.jls_marker.specs.Scan.{row_count}
 use Rattle.jls_write.specs.Picture.{WholePicture}
@@ -21,7 +21,7 @@ use Rattle.jls_write.specs.WrittenFile.{interval_lines}
 use Rattle.jls_copy_laws.specs.CopyScans.{ScanPiece, ScanWithData}
 use Rattle.jls_copy_laws.proofs.Members.{all_map}
 use Rattle.jls_headline.specs.Damaged.{numbered_pieces, HasPictureLines, DamagedScan}
-use Rattle.jls_headline.specs.Trimmed.{Trimmed, whole, front, longer, IsTrimmed, TrimmedScan}
+use Rattle.jls_headline.specs.Trimmed.{Trimmed, whole, prefix, longer, IsTrimmed, TrimmedScan}
 use Rattle.jls_headline.specs.ScanLaws.{IsScanUnder}
 use Rattle.jls_headline.specs.LostIntervalLaws.{TrimmedPiecesAreHarmless, TrimmedPiecesHaveHeads, TrimmedPiecesHavePictureLines, TrimmedCopiesAreDamaged}
 use Rattle.jls_headline.proofs.ScansInRange.{scans_are_of_the_frame}
@@ -35,14 +35,14 @@ first_lines zero xs h = ([], xs, refl, refl)
 first_lines (suc n) [] h = absurd (omega arith)
 first_lines (suc n) (x ∷ xs) h = let r = first_lines n xs (omega arith) in (x ∷ r.0, r.1, ap (λ z. x ∷ z) r.2, ap suc r.3)
 
-own_front : (ys zs : List (List ℕ)) → take (length ys) (ys ++ zs) ≡ ys
-own_front [] zs = refl
-own_front (y ∷ ys) zs = ap (λ t. y ∷ t) (own_front ys zs)
+own_prefix : (ys zs : List (List ℕ)) → take (length ys) (ys ++ zs) ≡ ys
+own_prefix [] zs = refl
+own_prefix (y ∷ ys) zs = ap (λ t. y ∷ t) (own_prefix ys zs)
 
 module _ (p : CodingParameters) (ok : AreCodingParameters p) (w c n : ℕ) (some : 0 < w) where
-  -- bytes, and the same with more behind them, read as the same lines
-  same_front : (bytes more : List ℕ) (xs ys : List (List ℕ)) → Reads (interval_shape p w c n) bytes xs → Reads (interval_shape p w c n) (bytes ++ more) ys → xs ≡ ys
-  same_front bytes more xs ys a b =
+  -- bytes, and the same with more after them, read as the same lines
+  same_prefix : (bytes more : List ℕ) (xs ys : List (List ℕ)) → Reads (interval_shape p w c n) bytes xs → Reads (interval_shape p w c n) (bytes ++ more) ys → xs ≡ ys
+  same_prefix bytes more xs ys a b =
       let rest : List Bool = bits_read_after (last_after 0 bytes) more in
       let e : code p w c ys ++ b.unread ≡ (code p w c xs ++ a.unread) ++ rest =
       sym b.begins.data_bits.read ∙ data_append 0 bytes more a.begins.data_bits.whole ∙ ap (λ z. z ++ rest) a.begins.data_bits.read in
@@ -51,8 +51,8 @@ module _ (p : CodingParameters) (ok : AreCodingParameters p) (w c n : ℕ) (some
   trimmed_reads : (bytes piece : List ℕ) (xs ys : List (List ℕ)) → Trimmed bytes piece → Reads (interval_shape p w c n) bytes xs → Reads (interval_shape p w c n) piece ys
       → ys ≡ xs
   trimmed_reads _ _ xs ys (whole bytes) a b = reads_once p ok w c n some bytes ys xs b a
-  trimmed_reads _ _ xs ys (front piece lost) a b = same_front piece lost ys xs b a
-  trimmed_reads _ _ xs ys (longer bytes first more) a b = sym (same_front bytes (first ∷ more) xs ys a b)
+  trimmed_reads _ _ xs ys (prefix piece lost) a b = same_prefix piece lost ys xs b a
+  trimmed_reads _ _ xs ys (longer bytes first more) a b = sym (same_prefix bytes (first ∷ more) xs ys a b)
 
   -- Bits that are a whole code, and perhaps more, lack none of any code
   none_missing : (given t : List Bool) (xs : List (List ℕ)) → AreLines p w n xs → given ≡ code p w c xs ++ t → IsCutCode (interval_shape p w c n) given → ⊥
@@ -72,9 +72,9 @@ module _ (p : CodingParameters) (ok : AreCodingParameters p) (w c n : ℕ) (some
       let rest = bits_read_after (last_after 0 bytes) (first ∷ more) in
       absurd (none_missing (bits_read (bytes ++ first ∷ more)) (a.unread ++ rest) xs a.begins.are_lines
       (data_append 0 bytes (first ∷ more) a.begins.data_bits.whole ∙ ap (λ z. z ++ rest) a.begins.data_bits.read ∙ append_assoc (code p w c xs) a.unread rest) cut)
-  cut_in_own _ _ xs (front piece lost) a cut =
+  cut_in_own _ _ xs (prefix piece lost) a cut =
       let rest = bits_read_after (last_after 0 piece) lost in
-      let own = (whole_front 0 piece lost a.begins.data_bits.whole).0 in
+      let own = (whole_prefix 0 piece lost a.begins.data_bits.whole).0 in
       let both : bits_read piece ++ rest ≡ code p w c xs ++ a.unread = sym (data_append 0 piece lost own) ∙ a.begins.data_bits.read in
       by_length rest (one_begins (bits_read piece) rest (code p w c xs) a.unread both)
     where
@@ -83,7 +83,7 @@ module _ (p : CodingParameters) (ok : AreCodingParameters p) (w c n : ℕ) (some
       by_length rest (inl t) = absurd (none_missing (bits_read piece) t.0 xs a.begins.are_lines t.1 cut)
       by_length rest (inr t) = (t.1, t.0, sym t.2)
 
-  -- and then it is no more than a front, so its bits are all there
+  -- and then it is no more than a prefix, so its bits are all there
   own_cut : (given : List Bool) (xs : List (List ℕ)) → AreLines p w n xs → Lacks given xs → IsCutCode (interval_shape p w c n) given
   own_cut given xs are l = record { lines = xs; are_lines = are; missing = l.0; more_missing = l.1; code_is = l.2 }
 
@@ -96,8 +96,8 @@ module _ (p : CodingParameters) (ok : AreCodingParameters p) (w c n : ℕ) (some
       let more = a.missing ∷ a.more_missing in
       let parts = code_parts p w c t.0 t.1 in
       let bits_are : code p w c xs ++ (f.unread ++ more) ≡ code p w c t.0 ++ parts.0 = sym (append_assoc (code p w c xs) f.unread more) ∙ ap (λ v. v ++ more) (sym f.given_is) ∙ a.code_is ∙ ap (code p w c) t.2 ∙ parts.1 in
-      let wide : AreLines p w (length xs) t.0 = subst (λ k. AreLines p w k t.0) t.3 (front_lines p w n a.lines t.0 t.1 a.are_lines t.2) in
-      let same = codes_apart p w c (length xs) ok some xs t.0 (f.unread ++ more) parts.0 (front_lines p w n b.lines xs f.others b.are_lines f.lines_are) wide bits_are in
+      let wide : AreLines p w (length xs) t.0 = subst (λ k. AreLines p w k t.0) t.3 (prefix_lines p w n a.lines t.0 t.1 a.are_lines t.2) in
+      let same = codes_apart p w c (length xs) ok some xs t.0 (f.unread ++ more) parts.0 (prefix_lines p w n b.lines xs f.others b.are_lines f.lines_are) wide bits_are in
       record { others = t.1; lines_are = t.2 ∙ ap (λ v. v ++ t.1) (sym same.0); unread = f.unread; given_is = f.given_is }
 
   -- the head of bits that lack a bit of these lines' code is those of them that stand whole
@@ -114,7 +114,7 @@ module _ (p : CodingParameters) (ok : AreCodingParameters p) (w c n : ℕ) (some
   lacking_is_whole : (bytes piece : List ℕ) (xs : List (List ℕ)) → Trimmed bytes piece → Reads (interval_shape p w c n) bytes xs
       → Lacks (bits_read piece) xs → is_whole piece ≡ true
   lacking_is_whole _ _ xs (whole bytes) a l = a.begins.data_bits.whole
-  lacking_is_whole _ _ xs (front piece lost) a l = (whole_front 0 piece lost a.begins.data_bits.whole).0
+  lacking_is_whole _ _ xs (prefix piece lost) a l = (whole_prefix 0 piece lost a.begins.data_bits.whole).0
   lacking_is_whole _ _ xs (longer bytes first more) a l =
       let rest = bits_read_after (last_after 0 bytes) (first ∷ more) in
       absurd (none_missing (bits_read (bytes ++ first ∷ more)) (a.unread ++ rest) xs a.begins.are_lines
@@ -135,7 +135,7 @@ module _ (p : CodingParameters) (ok : AreCodingParameters p) (w c n : ℕ) (some
     head_of_these : (head : List (List ℕ)) → IsHeadOfPiece (interval_shape p w c n) piece head → head ≡ take (length head) xs
     head_of_these head (inl (is, inl (cut, f))) =
         let lines = whole_lines (bits_read piece) xs head a.begins.are_lines (cut_in_own bytes piece xs trim a cut) (inl (cut, f)) in
-        sym (ap (take (length head)) lines.begins.lines_are ∙ own_front head lines.begins.others)
+        sym (ap (take (length head)) lines.begins.lines_are ∙ own_prefix head lines.begins.others)
     head_of_these head (inl (is, inr (none, e))) = subst (λ h. h ≡ take (length h) xs) (sym e) refl
     head_of_these head (inr (broken, e)) = subst (λ h. h ≡ take (length h) xs) (sym e) refl
 

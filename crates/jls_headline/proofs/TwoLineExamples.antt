@@ -6,7 +6,7 @@ use Rattle.std.specs.List.{AllByRecursion, Contains}
 use Rattle.jls_interval.proofs.PiecesReadOnce.{reads_once}
 use Rattle.jls_partial.specs.Reading.{Reading, reading_of}
 use Rattle.jls_marker.specs.Scan.{Scan, intervals}
-use Rattle.jls_copy.specs.Numbers.{PieceNumber, Interval, mark_before, numbers_behind}
+use Rattle.jls_copy.specs.Numbers.{PieceNumber, Interval, mark_before, numbers_after}
 use Rattle.jls_copy.specs.Pieces.{placed, value_of}
 use Rattle.jls_copy.specs.CopyReads.{CopyReads}
 use Rattle.jls_copy.specs.ReadCopy.{ReadCopy}
@@ -15,7 +15,7 @@ use Rattle.jls_copy_laws.specs.CopyScans.{ScanPiece, ScanWithData, HasScans}
 use Rattle.jls_copy_laws.specs.Gives.{PieceGives, ScanGives, GivesReading}
 use Rattle.jls_copy_laws.proofs.CopyScans.{one_list_of_scans}
 use Rattle.jls_headline.specs.Damaged.{Damaged, picture_reading, Survives, EachLineSurvives}
-use Rattle.jls_headline.specs.Trimmed.{whole, front, TrimmedCopy}
+use Rattle.jls_headline.specs.Trimmed.{whole, prefix, TrimmedCopy}
 use Rattle.jls_copy_laws.proofs.Members.{none_in, first_or_rest}
 use Rattle.jls_headline.proofs.CopyGives.{copy_has_shape}
 use Rattle.jls_headline.proofs.LostIntervals.{given_by_scan, surviving_lines_are_given}
@@ -48,7 +48,7 @@ second_is_trimmed more = (
       1 ∷ [],
       record { rise = (lit< tt, lit≤ tt, lit< tt, tt); marks_are = refl },
       (
-        record { bytes = 0x80 ∷ []; reads = pieces_read.zero_read; trimmed = front [] (0x80 ∷ []) },
+        record { bytes = 0x80 ∷ []; reads = pieces_read.zero_read; trimmed = prefix [] (0x80 ∷ []) },
         (record { bytes = 0x40 ∷ []; reads = pieces_read.largest_read; trimmed = whole (0x40 ∷ []) }, tt),
       ),
     ),
@@ -158,5 +158,5 @@ another_is_not_of_it is = (let e = ap (λ xs. get_or xs 0 0) is.2 in omega (arit
 abbrev ten_lines : Scan
 ten_lines = record { components = 0 ∷ []; params = bits_8; width = 1; height = 10; restart_interval = 1 }
 
-eight_marks_lost : numbers_behind (intervals ten_lines) 0 (mark_before 9 ∷ []) ≡ Interval 1 ∷ []
+eight_marks_lost : numbers_after (intervals ten_lines) 0 (mark_before 9 ∷ []) ≡ Interval 1 ∷ []
 eight_marks_lost = refl

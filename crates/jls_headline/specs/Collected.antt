@@ -9,9 +9,9 @@ use Rattle.jls_values.specs.OrderedSet as set
 use Rattle.jls_values.specs.Shape.{PictureShape}
 use Rattle.jls_partial.specs.Reading.{Reading}
 use Rattle.jls_partial.specs.Partial.{PartialPicture, nothing_known, has_same_shape, union}
-use Rattle.jls_partial.specs.Merging.{TakesFront}
+use Rattle.jls_partial.specs.Merging.{TakesPrefix}
 use Rattle.jls_partial.specs.Text.{IsTextOf}
-use Rattle.jls_partial.specs.TextFront.{text_front}
+use Rattle.jls_partial.specs.TextPrefix.{text_prefix}
 use Rattle.jls_partial.specs.TextMerging.{MergesText}
 use Rattle.jls_io.specs.Event.{Event, bytes_given}
 use Rattle.jls_copy.specs.CopyReads.{CopyReads}
@@ -30,8 +30,8 @@ HoldsEntry p entry =
     (set.contains p.readings entry.0 ≡ true) × AllByRecursion (λ source. set.contains p.marks (entry.0, source) ≡ true) entry.1
 
 -- so is each entry that stands in these bytes before their first fault as a text
-abbrev pub HoldsFront : PartialPicture → List ℕ → Type 0
-HoldsFront p bytes = AllByRecursion (HoldsEntry p) (text_front bytes)
+abbrev pub HoldsPrefix : PartialPicture → List ℕ → Type 0
+HoldsPrefix p bytes = AllByRecursion (HoldsEntry p) (text_prefix bytes)
 
 -- `Collected p copies over`: public calls came to the partial picture `p`, alone or in a station. For it they took `copies`, each under a
 -- source or under none; copies that were refused are not counted. For those in `over` memory ran out: any of their readings may be held,
@@ -82,7 +82,7 @@ pub data Collected : PartialPicture → List SourcedCopy → List SourcedCopy �
   -- It answered a fault for other bytes, and something collected holds each entry before their fault. Such is a text that was cut short. A
   -- station that refused any other text has no history from then on, unless the refusal left it as it was
   text_cut_short : (old new other : PartialPicture) (copies over more further : List SourcedCopy) (bytes : List ℕ)
-      → Collected old copies over → Collected other more further → HoldsFront other bytes → TakesFront old new (text_front bytes)
+      → Collected old copies over → Collected other more further → HoldsPrefix other bytes → TakesPrefix old new (text_prefix bytes)
       → Collected new copies (over ++ (more ++ further))
 
 -- Public calls took these copies for it, and no others. Each copy for which memory ran out is the same as one of them, taken before or

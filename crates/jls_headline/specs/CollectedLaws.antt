@@ -4,7 +4,7 @@ use Rattle.jls_partial.specs.Partial.{PartialPicture}
 use Rattle.jls_partial.specs.Text.{IsTextOf}
 use Rattle.jls_headline.specs.Stations.{HoldsExactly}
 use Rattle.jls_headline.specs.Sources.{SourcedCopy, copies_of, HoldsExactlyUnder}
-use Rattle.jls_headline.specs.Collected.{HoldsFront, CollectedFrom, CollectedUnder}
+use Rattle.jls_headline.specs.Collected.{HoldsPrefix, CollectedFrom, CollectedUnder}
 
 -- Whatever calls collected from copies holds exactly the readings that these copies give
 abbrev pub CollectedHoldsExactly : Type 0
@@ -14,6 +14,6 @@ CollectedHoldsExactly = (p : PartialPicture) (copies : List SourcedCopy) → Col
 abbrev pub CollectedHoldsExactlyUnder : Type 0
 CollectedHoldsExactlyUnder = (p : PartialPicture) (copies : List SourcedCopy) → CollectedUnder p copies → HoldsExactlyUnder p copies
 
--- each entry that stands in the front of a text is held by the partial picture of the whole text
+-- each entry that stands in the prefix of a text is held by the partial picture of the whole text
 abbrev pub CutTextsAreHeld : Type 0
-CutTextsAreHeld = (p : PartialPicture) (front behind : List ℕ) → IsTextOf (front ++ behind) p → HoldsFront p front
+CutTextsAreHeld = (p : PartialPicture) (prefix following : List ℕ) → IsTextOf (prefix ++ following) p → HoldsPrefix p prefix

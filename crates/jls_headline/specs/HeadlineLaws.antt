@@ -1,4 +1,4 @@
--- Laws beside the headline: what is written of a station, bytes behind the end of a copy, and files that read as one picture.
+-- Laws beside the headline: what is written of a station, bytes after the end of a copy, and files that read as one picture.
 use Rattle.std.specs.Prelude.{◌≡◌, ℕ, ◌<◌, true, List, ◌++◌}
 use Rattle.std.specs.List.{AllByRecursion}
 use Rattle.jls_values.specs.Shape.{PictureShape}
@@ -17,10 +17,10 @@ use Rattle.jls_headline.specs.Collected.{CollectedFrom, CollectedUnder}
 use Rattle.jls_write.specs.WholePictures.{IsPicture}
 use Rattle.jls_headline.specs.ReadsAs.{ReadsAs}
 
--- Bytes behind the end of a copy change nothing: copies that differ there alone are one copy
-abbrev pub BytesBehindTheEndChangeNothing : Type 0
-BytesBehindTheEndChangeNothing = (front behind behind' : List ℕ) (shape : PictureShape) → IsDone front true
-    → HasShape shape (front ++ behind) → AllByRecursion (λ b. b < 256) behind' → IsSameCopy (front ++ behind) (front ++ behind')
+-- Bytes after the end of a copy change nothing: copies that differ there alone are one copy
+abbrev pub BytesAfterTheEndChangeNothing : Type 0
+BytesAfterTheEndChangeNothing = (prefix following following' : List ℕ) (shape : PictureShape) → IsDone prefix true
+    → HasShape shape (prefix ++ following) → AllByRecursion (λ b. b < 256) following' → IsSameCopy (prefix ++ following) (prefix ++ following')
 
 -- A file reads as one picture at most
 abbrev pub FilesReadAsOne : Type 0

@@ -79,7 +79,7 @@ WrittenJoinsAreSettled =
     → (format : Format) (name : Bor (List ℕ)) (id line : ℕ) (disputed : Bool) (writing : List Event)
     → WritesWhatWasJoined joining format (Err (Unsettled name id line disputed)) writing → ⊥
 
--- The same behind a `join` with texts among its inputs -------------------------------------------------------------
+-- The same after a `join` with texts among its inputs -------------------------------------------------------------
 
 -- Where such a `write` is done, it handed the file of that picture to its output
 abbrev pub WrittenTextJoinsAreThePicture : Type 0

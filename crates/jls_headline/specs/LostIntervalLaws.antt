@@ -7,7 +7,7 @@ use Rattle.jls_interval.specs.Reads.{Reads}
 use Rattle.jls_partial.specs.Reading.{Reading}
 use Rattle.jls_marker.specs.Scan.{Scan, IsScan, intervals}
 use Rattle.jls_copy.specs.IntervalOf.{interval_of}
-use Rattle.jls_copy.specs.Numbers.{Interval, numbers_behind}
+use Rattle.jls_copy.specs.Numbers.{Interval, numbers_after}
 use Rattle.jls_write.specs.Picture.{WholePicture}
 use Rattle.jls_write.specs.WrittenFile.{interval_lines}
 use Rattle.jls_file_laws.specs.Covering.{IsLineOf}
@@ -21,7 +21,7 @@ use Rattle.jls_headline.specs.Trimmed.{IsTrimmed, LacksABit, TrimmedCopy}
 -- the numbers that the marks of some intervals give are those of these intervals. No piece is beyond the last one
 abbrev pub NumbersComeBack : Type 0
 NumbersComeBack = (d : ScanWithData) (numbers : List ℕ) → AreNumbers d numbers
-    → numbers_behind (intervals d.scan) 0 d.marks ≡ map Interval numbers
+    → numbers_after (intervals d.scan) 0 d.marks ≡ map Interval numbers
 
 -- a scan whose marks are those of some intervals gives what its pieces have as these intervals
 abbrev pub NumberedPiecesGive : Type 0

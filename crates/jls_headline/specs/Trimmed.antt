@@ -1,4 +1,4 @@
--- Trimmed pieces: what is left where nothing but the front of an interval's bytes came, or bytes came behind them.
+-- Trimmed pieces: what is left where nothing but the prefix of an interval's bytes came, or bytes came after them.
 use Rattle.std.specs.Prelude.{◌≡◌, ℕ, Bool, List, ◌∷◌, ◌++◌, length}
 use Rattle.std.specs.List.{AllByRecursion}
 use Rattle.jls_bits.specs.Bits.{bits_read}
@@ -11,10 +11,10 @@ use Rattle.jls_write.specs.WrittenFile.{interval_lines}
 use Rattle.jls_copy_laws.specs.CopyScans.{ScanPiece, ScanWithData, HasScans}
 use Rattle.jls_headline.specs.Damaged.{AreNumbers, numbered_pieces}
 
--- the whole of the bytes, so many of them from the front on, or all of them and at least one more
+-- the whole of the bytes, so many of them from the start on, or all of them and at least one more
 pub data Trimmed : List ℕ → List ℕ → Type 0 where
   whole : (bytes : List ℕ) → Trimmed bytes bytes
-  front : (kept lost : List ℕ) → Trimmed (kept ++ lost) kept
+  prefix : (kept lost : List ℕ) → Trimmed (kept ++ lost) kept
   longer : (bytes : List ℕ) (first : ℕ) (more : List ℕ) → Trimmed bytes (bytes ++ first ∷ more)
 
 -- a piece trimmed from one that reads as the picture's lines of interval k

@@ -10,7 +10,7 @@ pub fn collected_copies_are_held()
     ensures sources { CollectedHoldsExactlyUnder }
 {}
 
-/// A law: each reading that stands in the front of a text is one of the whole text, with the sources that stand there. So a station that
+/// A law: each reading that stands in the prefix of a text is one of the whole text, with the sources that stand there. So a station that
 /// refuses a text that was cut short gains nothing but what the whole text holds, and its history goes on (`text_cut_short`).
 pub fn cut_texts_are_held()
     ensures { CutTextsAreHeld }

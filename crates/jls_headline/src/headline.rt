@@ -3,7 +3,7 @@
 
 ghost use Rattle.jls_headline.specs.Headline.{SameCopiesHoldTheSame, SameCopiesWriteTheSame, SameSourcesAreOneStation};
 ghost use Rattle.jls_headline.specs.Headline.{DamagedCopiesWriteThePicture};
-ghost use Rattle.jls_headline.specs.HeadlineLaws.{SameReadingsSayTheSame, SameCopiesSayTheSame, BytesBehindTheEndChangeNothing};
+ghost use Rattle.jls_headline.specs.HeadlineLaws.{SameReadingsSayTheSame, SameCopiesSayTheSame, BytesAfterTheEndChangeNothing};
 ghost use Rattle.jls_headline.specs.HeadlineLaws.{FilesReadAsOne, SameSourcesSameText};
 ghost use Rattle.jls_headline.specs.ReadsAs.{FilesReadBack};
 
@@ -38,10 +38,10 @@ pub fn same_copies_write_the_same_bytes()
     ensures same_sources { SameSourcesSameText }
 {}
 
-/// A law: bytes behind the end of a copy, as behind its EOI, change nothing. Two lists of bytes that differ there alone are one copy
+/// A law: bytes after the end of a copy, as after its EOI, change nothing. Two lists of bytes that differ there alone are one copy
 /// (`IsSameCopy`).
-pub fn bytes_behind_the_end_change_nothing()
-    ensures { BytesBehindTheEndChangeNothing }
+pub fn bytes_after_the_end_change_nothing()
+    ensures { BytesAfterTheEndChangeNothing }
 {}
 
 /// A law: the JPEG-LS file of each picture that `Picture::of` answers, under any options that fit it, reads as that picture and no other.

@@ -13,10 +13,10 @@ mod trimmed;
 
 pub use calls::{collected_copies_are_held, cut_texts_are_held};
 pub use headline::{
-    bytes_behind_the_end_change_nothing, files_read_as_one, same_copies_give_the_picture,
+    bytes_after_the_end_change_nothing, files_read_as_one, same_copies_give_the_picture,
     same_copies_write_the_same_bytes, written_pictures_read_back,
 };
-pub use lines::{damaged_copies_say_no_other, lines_are_told, never_another_picture};
+pub use lines::{damaged_copies_say_no_other, lines_are_reported, never_another_picture};
 pub use lost_intervals::{
     damaged_copies_give_the_picture, numbers_come_back, surviving_lines_are_given,
 };

@@ -7,7 +7,7 @@ ghost use Rattle.jls_headline.specs.LineLaws.{NeverAnotherPicture, DamagedAtSays
 /// gives another reading of the line than the picture's, the line is missing, or settled as the picture's; it is settled if some copy gives
 /// it. If the line survives in one copy, whatever the others are, it is among the readings, and where the line is settled it is the
 /// picture's. A line that the report doesn't name has one reading.
-pub fn lines_are_told()
+pub fn lines_are_reported()
     ensures stations { StationsTellOfLines }
     ensures runs { RunsTellOfLines }
     ensures unnamed { UnnamedLinesHaveOneReading }

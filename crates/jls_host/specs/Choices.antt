@@ -22,5 +22,5 @@ abbrev pub ending_of : ℕ → ℕ → Ending
 ending_of status write_failures = if (write_failures == 0) && not (status == 5) then Keep else Drop
 
 -- two bytes are FF D8, or FF FF (T.81 B.1.1.2, B.2.1)
-abbrev pub is_jpeg_front : ℕ → ℕ → Bool
-is_jpeg_front first second = (first == 0xFF) && ((second == 0xD8) || (second == 0xFF))
+abbrev pub is_jpeg_prefix : ℕ → ℕ → Bool
+is_jpeg_prefix first second = (first == 0xFF) && ((second == 0xD8) || (second == 0xFF))

@@ -1,7 +1,7 @@
 //! How an output is made, and what becomes of it.
 
 ghost use Rattle.std.specs.Prelude.{◌≡◌};
-ghost use Rattle.jls_host.specs.Choices.{ending_of, is_jpeg_front, way_of};
+ghost use Rattle.jls_host.specs.Choices.{ending_of, is_jpeg_prefix, way_of};
 
 /// What stands at a name, where a link is not followed.
 #[derive(Clone, Copy, Debug, PartialEq, Eq)]
@@ -10,7 +10,7 @@ pub enum Standing {
     Absent,
     /// A regular file with these permission bits.
     Regular(u32),
-    /// A link, a directory, a pipe or a device; or it can't be told.
+    /// A link, a directory, a pipe or a device; or it isn't known.
     Other,
 }
 
@@ -63,7 +63,7 @@ pub fn ending_of_run(status: u8, write_failures: u64) -> Ending
 
 /// Whether a file that begins with these two bytes is a JPEG file: with SOI, or with a fill byte before a marker (T.81 B.1.1.2).
 pub fn begins_as_jpeg(first: u8, second: u8) -> bool
-    ensures { result ≡ is_jpeg_front first second }
+    ensures { result ≡ is_jpeg_prefix first second }
 {
     first == 0xFF && (second == 0xD8 || second == 0xFF)
 }

@@ -55,7 +55,7 @@ pub struct HostFiles<'a> {
 }
 
 /// The first two bytes of a regular file, each of one read; zeros where there is none. A read that fails isn't made again.
-fn front(rt: &HostRuntime, name: &str) -> io::Result<[u8; 2]> {
+fn prefix(rt: &HostRuntime, name: &str) -> io::Result<[u8; 2]> {
     let mut first = [0; 1];
     let mut second = [0; 1];
     if fs::metadata(rt, name)?.is_file() {
@@ -100,8 +100,8 @@ impl Machine for Calls<'_> {
     }
 
     fn is_jpeg(&mut self, name: &str) -> bool {
-        match front(self.0, name) {
-            Ok(front) => begins_as_jpeg(front[0], front[1]),
+        match prefix(self.0, name) {
+            Ok(prefix) => begins_as_jpeg(prefix[0], prefix[1]),
             Err(_) => false,
         }
     }
@@ -152,7 +152,7 @@ impl<'a> HostFiles<'a> {
         }
     }
 
-    /// The name of an output that was not created, since it is a JPEG file. A name of more than 4,096 bytes is not told.
+    /// The name of an output that was not created, since it is a JPEG file. A name of more than 4,096 bytes is not reported.
     pub fn guarded(&self) -> Option<&str> {
         match &self.guarded {
             Some(name) => Some(name.as_str()),

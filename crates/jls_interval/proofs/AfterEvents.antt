@@ -62,7 +62,7 @@ module _ (p : CodingParameters) (cells : Variables) (run_indices : List ℕ) (ea
   indices_after e k r within others own j =
       elim (cases_eq j k) [ inl s ↦ ap (λ z. get_or (set run_indices k r) z 0) s ∙ get_or-set_same run_indices k r 0 within ∙ own ∙ ap (run_index_before (earlier ++ e ∷ [])) (sym s) | inr n ↦ get_or-set_other run_indices k j r 0 n ∙ index_other earlier e j (get_or run_indices j 0) (others j n) (t.run_indices_are j) ]
 
-  -- no sample of regular mode stands at the front
+  -- no sample of regular mode stands at the start
   pub sample_missing : (near : Neighbours) (given : List Bool) → NoSample p (cell_at cells (context p near)) near given
       → (s : ℕ) (rest : List Bool) → s ≤ p.maxval → given ≡ event_bits p earlier (regular near s) ++ rest → ⊥
   unfolding event_bits

@@ -49,7 +49,7 @@ module _ (r0 w0 : ℕ) (given : List Bool) (r w : ℕ) (left : List Bool) (t : T
         bits_are = t.bits_are ∙ ap (λ z. replicate t.full_blocks true ++ z) e ∙ ones_push t.full_blocks left';
       }
 
-  -- more bits behind
+  -- more bits after
   pub taken_with : (more : List Bool) → Taken r0 w0 (given ++ more) r w (left ++ more)
   taken_with more = record {
     begins_within = t.begins_within;
@@ -71,13 +71,13 @@ module _ (r0 w0 : ℕ) (given : List Bool) (r w : ℕ) (left : List Bool) (t : T
       parts : (n : ℕ) (b : Blocks) (s : List Bool) → run_to_end_bits (after_blocks n b) ++ s ≡ replicate n true ++ (run_to_end_bits b ++ s)
       parts n b s = ap (λ z. z ++ s) (ones_add n b.full_blocks _) ∙ append_assoc (replicate n true) (run_to_end_bits b) s
 
-  broken_front : (n : ℕ) (s : List Bool)
+  broken_prefix : (n : ℕ) (s : List Bool)
       → interrupted_run_bits (blocks r0 (t.taken + n)) s ≡ replicate t.full_blocks true ++ interrupted_run_bits (blocks r n) s
-  broken_front n s = ap (λ b. interrupted_run_bits b s) (t.blocks_are n) ∙ front t.full_blocks (blocks r n) s
+  broken_prefix n s = ap (λ b. interrupted_run_bits b s) (t.blocks_are n) ∙ prefix t.full_blocks (blocks r n) s
     where
-      front : (m : ℕ) (b : Blocks) (s : List Bool)
+      prefix : (m : ℕ) (b : Blocks) (s : List Bool)
           → interrupted_run_bits (after_blocks m b) s ≡ replicate m true ++ interrupted_run_bits b s
-      front m b s = ap (λ z. z ++ s) (ones_add m b.full_blocks (false ∷ bits (run_order b.run_index) b.remaining)) ∙ append_assoc (replicate m true) (replicate b.full_blocks true ++ false ∷ bits (run_order b.run_index) b.remaining) s
+      prefix m b s = ap (λ z. z ++ s) (ones_add m b.full_blocks (false ∷ bits (run_order b.run_index) b.remaining)) ∙ append_assoc (replicate m true) (replicate b.full_blocks true ++ false ∷ bits (run_order b.run_index) b.remaining) s
 
   -- Answers ---------------------------------------------------------------------
 
@@ -101,18 +101,18 @@ module _ (r0 w0 : ℕ) (given : List Bool) (r w : ℕ) (left : List Bool) (t : T
       → (given ≡ interrupted_run_bits (blocks r0 (w0 - w + n)) rest) × ((blocks r0 (w0 - w + n)).run_index ≡ r)
   broken_here n rest h e =
       let all = t.total in let c : w0 - w + n ≡ t.taken + n = omega arith in
-      (t.bits_are ∙ ap (λ z. replicate t.full_blocks true ++ z) (e ∙ sym (broken_none r n rest t.within h)) ∙ sym (broken_front n rest) ∙ ap (λ z. interrupted_run_bits (blocks r0 z) rest) (sym c), ap (λ z. (blocks r0 z).run_index) c ∙ ap (λ (b : Blocks). b.run_index) (t.blocks_are n) ∙ ap (λ (b : Blocks). b.run_index) (blocks_none r n t.within h))
+      (t.bits_are ∙ ap (λ z. replicate t.full_blocks true ++ z) (e ∙ sym (broken_none r n rest t.within h)) ∙ sym (broken_prefix n rest) ∙ ap (λ z. interrupted_run_bits (blocks r0 z) rest) (sym c), ap (λ z. (blocks r0 z).run_index) c ∙ ap (λ (b : Blocks). b.run_index) (t.blocks_are n) ∙ ap (λ (b : Blocks). b.run_index) (blocks_none r n t.within h))
 
-  -- What a run at the front leaves behind the blocks taken ------------------------
+  -- What a run at the start leaves the blocks taken ------------------------
 
-  pub end_behind : (rest : List Bool) → given ≡ run_to_end_bits (blocks r0 w0) ++ rest → left ≡ run_to_end_bits (blocks r w) ++ rest
-  end_behind rest e = append_cancel_left (replicate t.full_blocks true) left (run_to_end_bits (blocks r w) ++ rest) (sym t.bits_are ∙ e ∙ end_is rest)
+  pub end_after : (rest : List Bool) → given ≡ run_to_end_bits (blocks r0 w0) ++ rest → left ≡ run_to_end_bits (blocks r w) ++ rest
+  end_after rest e = append_cancel_left (replicate t.full_blocks true) left (run_to_end_bits (blocks r w) ++ rest) (sym t.bits_are ∙ e ∙ end_is rest)
 
-  pub broken_behind : (c : ℕ) (rest : List Bool) → c < w0 → given ≡ interrupted_run_bits (blocks r0 c) rest
+  pub broken_after : (c : ℕ) (rest : List Bool) → c < w0 → given ≡ interrupted_run_bits (blocks r0 c) rest
       → (n : ℕ) × (c ≡ t.taken + n) × (n < w) × (left ≡ interrupted_run_bits (blocks r n) rest)
-  broken_behind c rest h e =
+  broken_after c rest h e =
       let all = t.total in let q = pow_pos (run_order r) in
-      elim (cases_lt c t.taken) [ inl l ↦ absurd (run_apart c r0 c t.taken rest left t.begins_within (omega arith) l (sym e ∙ whole)) | inr l ↦ (let n = c - t.taken in let s : c ≡ t.taken + n = omega arith in (n, s, omega arith, append_cancel_left (replicate t.full_blocks true) left (interrupted_run_bits (blocks r n) rest) (sym t.bits_are ∙ e ∙ ap (λ z. interrupted_run_bits (blocks r0 z) rest) s ∙ broken_front n rest))) ]
+      elim (cases_lt c t.taken) [ inl l ↦ absurd (run_apart c r0 c t.taken rest left t.begins_within (omega arith) l (sym e ∙ whole)) | inr l ↦ (let n = c - t.taken in let s : c ≡ t.taken + n = omega arith in (n, s, omega arith, append_cancel_left (replicate t.full_blocks true) left (interrupted_run_bits (blocks r n) rest) (sym t.bits_are ∙ e ∙ ap (λ z. interrupted_run_bits (blocks r0 z) rest) s ∙ broken_prefix n rest))) ]
     where
       tidy : (n : ℕ) (s : List Bool) → replicate n true ++ s ≡ run_to_end_bits (record { full_blocks = n; run_index = r; remaining = 0 }) ++ s
       tidy n s = sym (append_assoc (replicate n true) [] s)
@@ -138,16 +138,16 @@ module _ (r0 w0 : ℕ) (given : List Bool) (r w : ℕ) (left : List Bool) (t : T
   -- the bits end
   pub no_run_empty : left ≡ [] → NoRun r0 w0 given
   no_run_empty h =
-      (λ rest e. (let a = end_behind r0 w0 given r w left t rest e in let b = end_cases r w rest t.within some in let c : [] ≡ true ∷ b.0 = sym h ∙ a ∙ b.1 in cc), λ c rest l e. (let a = broken_behind r0 w0 given r w left t c rest l e in elim (broken_cases r a.0 rest left t.within a.3) [ inl b ↦ (let d : [] ≡ false ∷ (bits (run_order r) a.0 ++ rest) = sym h ∙ b.1 in cc) | inr b ↦ (let d : [] ≡ true ∷ b.0 = sym h ∙ b.1 in cc) ]))
+      (λ rest e. (let a = end_after r0 w0 given r w left t rest e in let b = end_cases r w rest t.within some in let c : [] ≡ true ∷ b.0 = sym h ∙ a ∙ b.1 in cc), λ c rest l e. (let a = broken_after r0 w0 given r w left t c rest l e in elim (broken_cases r a.0 rest left t.within a.3) [ inl b ↦ (let d : [] ≡ false ∷ (bits (run_order r) a.0 ++ rest) = sym h ∙ b.1 in cc) | inr b ↦ (let d : [] ≡ true ∷ b.0 = sym h ∙ b.1 in cc) ]))
 
-  -- a zero, and no count behind it that is below the columns left
-  pub no_run_zero : (behind : List Bool) → left ≡ false ∷ behind
-      → ((n : ℕ) (rest : List Bool) → n < w → n < 2 ^ run_order r → behind ≡ bits (run_order r) n ++ rest → ⊥) → NoRun r0 w0 given
-  no_run_zero behind h none =
-      (λ rest e. (let a = end_behind r0 w0 given r w left t rest e in let b = end_cases r w rest t.within some in let c : false ∷ behind ≡ true ∷ b.0 = sym h ∙ a ∙ b.1 in cc), λ c rest l e. (let a = broken_behind r0 w0 given r w left t c rest l e in elim (broken_cases r a.0 rest left t.within a.3) [ inl b ↦ none a.0 rest a.2 b.0 (tail_same false behind (bits (run_order r) a.0 ++ rest) (sym h ∙ b.1)) | inr b ↦ (let d : false ∷ behind ≡ true ∷ b.0 = sym h ∙ b.1 in cc) ]))
+  -- a zero, and no count after it that is below the columns left
+  pub no_run_zero : (following : List Bool) → left ≡ false ∷ following
+      → ((n : ℕ) (rest : List Bool) → n < w → n < 2 ^ run_order r → following ≡ bits (run_order r) n ++ rest → ⊥) → NoRun r0 w0 given
+  no_run_zero following h none =
+      (λ rest e. (let a = end_after r0 w0 given r w left t rest e in let b = end_cases r w rest t.within some in let c : false ∷ following ≡ true ∷ b.0 = sym h ∙ a ∙ b.1 in cc), λ c rest l e. (let a = broken_after r0 w0 given r w left t c rest l e in elim (broken_cases r a.0 rest left t.within a.3) [ inl b ↦ none a.0 rest a.2 b.0 (tail_same false following (bits (run_order r) a.0 ++ rest) (sym h ∙ b.1)) | inr b ↦ (let d : false ∷ following ≡ true ∷ b.0 = sym h ∙ b.1 in cc) ]))
 
   -- a count that passes the columns left
-  pub no_run_long : (n : ℕ) (behind rest : List Bool) → left ≡ false ∷ behind → n < 2 ^ run_order r → behind ≡ bits (run_order r) n ++ rest
+  pub no_run_long : (n : ℕ) (following rest : List Bool) → left ≡ false ∷ following → n < 2 ^ run_order r → following ≡ bits (run_order r) n ++ rest
       → w ≤ n → NoRun r0 w0 given
-  no_run_long n behind rest h l e j =
-      no_run_zero behind h (λ m rest' a b f. (let z = bits_same (run_order r) m n rest' rest (sym f ∙ e) in let x : m % 2 ^ run_order r ≡ m = mod-eq_of_lt b in let y : n % 2 ^ run_order r ≡ n = mod-eq_of_lt l in let o = z.0 in omega arith))
+  no_run_long n following rest h l e j =
+      no_run_zero following h (λ m rest' a b f. (let z = bits_same (run_order r) m n rest' rest (sym f ∙ e) in let x : m % 2 ^ run_order r ≡ m = mod-eq_of_lt b in let y : n % 2 ^ run_order r ≡ n = mod-eq_of_lt l in let o = z.0 in omega arith))

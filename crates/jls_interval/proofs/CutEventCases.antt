@@ -23,7 +23,7 @@ use Rattle.jls_interval.specs.Cells.{is_same, cell_before, run_cell_before, regu
 use Rattle.jls_interval.specs.Runs.{run_order, run_index_raised, block_columns, full_blocks, Blocks, blocks, run_index_before}
 use Rattle.jls_interval.specs.Code.{event_bits, run_to_end_bits, interrupting_bits}
 use Rattle.jls_interval.specs.Growth.{Position, here, IsNext, HasSamples}
-use Rattle.jls_interval.specs.CutEvents.{IsProperPrefix, CutsNextEvent, CutsSample, CutsBlocks, CutsCount, behind_run, CutsInterruption, CutsByCases}
+use Rattle.jls_interval.specs.CutEvents.{IsProperPrefix, CutsNextEvent, CutsSample, CutsBlocks, CutsCount, after_run, CutsInterruption, CutsByCases}
 use Rattle.jls_interval.proofs.StepwiseCodes.{one_begins}
 use Rattle.jls_interval.proofs.Runs.{full_fit, full_only}
 use Rattle.jls_interval.proofs.EventsApart.{predicted_small, b_small, small_back}
@@ -35,31 +35,31 @@ cons_is : (x y : Bool) (xs ys : List Bool) → x ∷ xs ≡ y ∷ ys → (x ≡ 
 cons_is x y xs ys e = (cc, cc)
 
 -- the first of some ones
-front_of_ones : (xs : List Bool) (y : Bool) (ys : List Bool) (n : ℕ) → xs ++ y ∷ ys ≡ replicate n true
+prefix_of_ones : (xs : List Bool) (y : Bool) (ys : List Bool) (n : ℕ) → xs ++ y ∷ ys ≡ replicate n true
     → (xs ≡ replicate (length xs) true) × (length xs < n)
-front_of_ones [] y ys zero e = cc
-front_of_ones [] y ys (suc n) e = (refl, omega arith)
-front_of_ones (x ∷ xs) y ys zero e = cc
-front_of_ones (x ∷ xs) y ys (suc n) e =
-    let h : x ≡ true = cc in let r = front_of_ones xs y ys n (cc) in
+prefix_of_ones [] y ys zero e = cc
+prefix_of_ones [] y ys (suc n) e = (refl, omega arith)
+prefix_of_ones (x ∷ xs) y ys zero e = cc
+prefix_of_ones (x ∷ xs) y ys (suc n) e =
+    let h : x ≡ true = cc in let r = prefix_of_ones xs y ys n (cc) in
     (let q = r.0 in cc, omega (arith, r.1))
 
 -- the first of a number's bits
-front_of_bits : (xs : List Bool) (y : Bool) (ys : List Bool) (n v : ℕ) → xs ++ y ∷ ys ≡ bits n v
+prefix_of_bits : (xs : List Bool) (y : Bool) (ys : List Bool) (n v : ℕ) → xs ++ y ∷ ys ≡ bits n v
     → (length xs < n) × (xs ≡ bits (length xs) (v / 2 ^ (n - length xs)))
-front_of_bits xs y ys n v e =
+prefix_of_bits xs y ys n v e =
     let l = ap length e in let a = length-append xs (y ∷ ys) in let b = length-bits n v in
     let few : length xs < n = omega (arith, l, a, b) in
     let d = n - length xs in let s : length xs + d ≡ n = omega arith in
     let h = bits_split (length xs) d v in
     let two : bits (length xs) (v / 2 ^ d) ++ bits d v ≡ xs ++ y ∷ ys = sym h ∙ ap (λ z. bits z v) s ∙ sym e in
-    (few, sym (same_front (bits (length xs) (v / 2 ^ d)) xs (bits d v) (y ∷ ys) (length-bits (length xs) (v / 2 ^ d)) two))
+    (few, sym (same_prefix (bits (length xs) (v / 2 ^ d)) xs (bits d v) (y ∷ ys) (length-bits (length xs) (v / 2 ^ d)) two))
   where
-    same_front : (a b c d : List Bool) → length a ≡ length b → a ++ c ≡ b ++ d → a ≡ b
-    same_front [] [] c d l e = refl
-    same_front [] (y ∷ b) c d l e = absurd (omega arith)
-    same_front (x ∷ a) [] c d l e = absurd (omega arith)
-    same_front (x ∷ a) (y ∷ b) c d l e = let h : x ≡ y = cc in let r = same_front a b c d (omega arith) (cc) in cc
+    same_prefix : (a b c d : List Bool) → length a ≡ length b → a ++ c ≡ b ++ d → a ≡ b
+    same_prefix [] [] c d l e = refl
+    same_prefix [] (y ∷ b) c d l e = absurd (omega arith)
+    same_prefix (x ∷ a) [] c d l e = absurd (omega arith)
+    same_prefix (x ∷ a) (y ∷ b) c d l e = let h : x ≡ y = cc in let r = same_prefix a b c d (omega arith) (cc) in cc
 
 -- Blocks ----------------------------------------------------------------------------------------------
 
@@ -110,13 +110,13 @@ module _ (r : ℕ) where
       elim (cases_Bool (eqb t.rest 0)) [
         | inl h ↦ (
             let z = eqb-true t.rest 0 h in
-            let f = front_of_ones begun c.missing c.more_missing t.full (rw (h, append-nil) at e) in
+            let f = prefix_of_ones begun c.missing c.more_missing t.full (rw (h, append-nil) at e) in
             let g = columns_more (length begun) in let k = columns_grow (suc (length begun)) t.full (omega (arith, f.1)) in
             record { full = length begun; columns_left = (let q = t.count_is in omega arith); begun_is = f.0 })
         | inr h ↦ (
             let z = eqb-false t.rest 0 h in
             let e' : begun ++ c.missing ∷ c.more_missing ≡ replicate (t.full + 1) true = (rw h at e) ∙ replicate-append-replicate t.full 1 true in
-            let f = front_of_ones begun c.missing c.more_missing (t.full + 1) e' in
+            let f = prefix_of_ones begun c.missing c.more_missing (t.full + 1) e' in
             let k = columns_grow (length begun) t.full (omega (arith, f.1)) in
             let some : t.rest ≡ 0 → ⊥ = z in
             let more : 0 < t.rest = elim (cases_eq t.rest 0) [ inl q ↦ absurd (z q) | inr q ↦ omega arith ] in
@@ -137,10 +137,10 @@ module _ (r : ℕ) where
       → IsProperPrefix begun (interrupted_bits full rest code)
       → CutsBlocks r columns begun ⊎ (CutsCount r columns begun ⊎ InCode full rest code begun)
   interrupted_cut full rest columns code begun fits within c =
-      let front = replicate full true ++ false ∷ bits (run_order (run_index_raised r full)) rest in
-      elim (one_begins begun (c.missing ∷ c.more_missing) front code (sym c.whole_is)) [
+      let prefix = replicate full true ++ false ∷ bits (run_order (run_index_raised r full)) rest in
+      elim (one_begins begun (c.missing ∷ c.more_missing) prefix code (sym c.whole_is)) [
         | inl q ↦ inr (inr (q.0, q.1, record { missing = c.missing; more_missing = c.more_missing; whole_is = sym q.2 }))
-        | inr q ↦ in_front q.1 q.0 (sym q.2)
+        | inr q ↦ in_prefix q.1 q.0 (sym q.2)
       ]
     where
       in_count : (xs : List Bool) (y : Bool) (ys : List Bool) → begun ≡ replicate full true ++ xs
@@ -150,7 +150,7 @@ module _ (r : ℕ) where
       in_count (x ∷ xs) y ys a e =
           let order = run_order (run_index_raised r full) in
           let h = cons_is x false (xs ++ y ∷ ys) (bits order rest) e in
-          let f = front_of_bits xs y ys order rest h.1 in
+          let f = prefix_of_bits xs y ys order rest h.1 in
           let n = length xs in let d = order - n in let s : n + d ≡ order = omega (arith, f.0) in
           let small : rest / 2 ^ d < 2 ^ n = shr_below rest n d (subst (λ z. rest < 2 ^ z) (sym s) fits) in
           let low = div-mul-le_self rest (2 ^ d) in
@@ -164,14 +164,14 @@ module _ (r : ℕ) where
             begun_is = a ∙ ap (λ z. replicate full true ++ z ∷ xs) h.0 ∙ ap (λ z. replicate full true ++ false ∷ z) f.1;
           }))
 
-      in_front : (y : Bool) (ys : List Bool)
+      in_prefix : (y : Bool) (ys : List Bool)
           → begun ++ y ∷ ys ≡ replicate full true ++ false ∷ bits (run_order (run_index_raised r full)) rest
           → CutsBlocks r columns begun ⊎ (CutsCount r columns begun ⊎ InCode full rest code begun)
-      in_front y ys e =
+      in_prefix y ys e =
           elim (one_begins begun (y ∷ ys) (replicate full true) (false ∷ bits (run_order (run_index_raised r full)) rest) e) [
             | inl q ↦ in_count q.0 y ys q.1 q.2
             | inr q ↦ (
-                let f = front_of_ones begun q.1 q.0 full (sym q.2) in
+                let f = prefix_of_ones begun q.1 q.0 full (sym q.2) in
                 let k = columns_grow (length begun) full (omega (arith, f.1)) in
                 inl (record { full = length begun; columns_left = omega arith; begun_is = f.0 }))
           ]
@@ -217,7 +217,7 @@ module _ (p : CodingParameters) (ok : AreCodingParameters p) (w c n : ℕ) (z : 
   r = run_index_before z.earlier k
 
   abbrev there : ℕ → Neighbours
-  there count = behind_run w up z.line count
+  there count = after_run w up z.line count
 
   abbrev cell : Cell
   cell = cell_before p z.earlier (context p near)
@@ -354,12 +354,12 @@ module _ (p : CodingParameters) (ok : AreCodingParameters p) (w c n : ℕ) (z : 
           let i = there h.count in let negative = ltb i.rb i.ra in
           let t = sample_with p negative i.rb h.error (with_sign negative h.error) (prediction_small h.count) h.is_error refl in
           let order = run_order (run_index_raised r h.full) in let run_cell = run_cell_before p z.earlier (is_same i) in
-          let front = replicate h.full true ++ false ∷ bits order h.remaining in
+          let prefix = replicate h.full true ++ false ∷ bits order h.remaining in
           let code_is : interrupting_bits p run_cell i order t.0 ≡ h.code_begun ++ h.cut.missing ∷ h.cut.more_missing = ap (λ v. golomb (run_k (is_same i) run_cell) (limit p - order - 1) (qbpp p) (interruption_mapped (is_same i) run_cell v)) t.2 ∙ h.cut.whole_is in
           interrupted h.full h.remaining h.count t.0 h.remaining_fits h.count_is h.within t.1 (λ e. h.not_own (sym t.2 ∙ ap (λ v. interruption_error p i v) e)) (record {
             missing = h.cut.missing;
             more_missing = h.cut.more_missing;
-            whole_is = ap (λ v. front ++ v) code_is ∙ sym (append_assoc front h.code_begun (h.cut.missing ∷ h.cut.more_missing)) ∙ ap (λ v. v ++ h.cut.missing ∷ h.cut.more_missing) (sym h.begun_is);
+            whole_is = ap (λ v. prefix ++ v) code_is ∙ sym (append_assoc prefix h.code_begun (h.cut.missing ∷ h.cut.more_missing)) ∙ ap (λ v. v ++ h.cut.missing ∷ h.cut.more_missing) (sym h.begun_is);
           })
 
     from_cases : CutsByCases p w c z begun → Next begun

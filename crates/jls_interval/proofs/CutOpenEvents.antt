@@ -16,7 +16,7 @@ use Rattle.jls_interval.specs.Growth.{Fits}
 use Rattle.jls_interval.specs.Reading.{NoInterruption}
 use Rattle.jls_interval.specs.RunState.{RunIs}
 use Rattle.jls_interval.specs.After.{IsAfter}
-use Rattle.jls_interval.specs.OpenEvents.{now_at, behind, NoEvent}
+use Rattle.jls_interval.specs.OpenEvents.{now_at, following, NoEvent}
 use Rattle.jls_interval.specs.CutEvents.{IsProperPrefix}
 use Rattle.jls_interval.specs.CutEventsOpen.{BeginsSample, BeginsInterruption, BeginsRun, BeginsEvent}
 use Rattle.jls_interval.specs.declared.run_reader.Run.TheVariants.{Interrupted}
@@ -49,9 +49,9 @@ module _ (p : CodingParameters) (ok : AreCodingParameters p) (w k : ℕ) (up : A
       first [] none = absurd (none refl)
       first (x ∷ xs) none = record { missing = x; more_missing = xs; whole_is = refl }
 
-  pub sample_begins : is_run_mode near ≡ false → (told : List Bool) → BeginsSample p (cell_at cells (context p near)) near told
-      → BeginsEvent p w k up line told earlier
-  sample_begins mode told b = record {
+  pub sample_begins : is_run_mode near ≡ false → (fed : List Bool) → BeginsSample p (cell_at cells (context p near)) near fed
+      → BeginsEvent p w k up line fed earlier
+  sample_begins mode fed b = record {
     event = regular near b.sample;
     fits = (mode, refl, b.at_most);
     cut = record { missing = b.cut.missing; more_missing = b.cut.more_missing; whole_is = sample_bits p cells ri earlier t near b.sample ∙ b.cut.whole_is };
@@ -59,16 +59,16 @@ module _ (p : CodingParameters) (ok : AreCodingParameters p) (w k : ℕ) (up : A
 
   module _ (run : is_run_mode near ≡ true) where
     abbrev there : ℕ → Neighbours
-    there count = behind w up line count
+    there count = following w up line count
 
     abbrev cell : ℕ → RunCell
     cell count = run_cell_before p earlier (is_same (there count))
 
-    -- a run with a sample behind it
-    with_sample : (count : ℕ) → count < w0 → (s : ℕ) → s ≤ p.maxval → (s ≡ (there count).ra → ⊥) → (told : List Bool)
-        → IsProperPrefix told (interrupted_run_bits (blocks r count) (interrupting_bits p (cell count) (there count) (run_order (blocks r count).run_index) s))
-        → BeginsEvent p w k up line told earlier
-    with_sample count l s small other told cut =
+    -- a run with a sample after it
+    with_sample : (count : ℕ) → count < w0 → (s : ℕ) → s ≤ p.maxval → (s ≡ (there count).ra → ⊥) → (fed : List Bool)
+        → IsProperPrefix fed (interrupted_run_bits (blocks r count) (interrupting_bits p (cell count) (there count) (run_order (blocks r count).run_index) s))
+        → BeginsEvent p w k up line fed earlier
+    with_sample count l s small other fed cut =
         let j = run_order (blocks r count).run_index in let sample = interrupting_bits p (cell count) (there count) j s in
         let given = interrupted_run_bits (blocks r count) (sample ++ []) in
         let is = run_broken p (wide p ok) w k up above_small line earlier r (t.run_indices_are k) w0 w0_is given run count l (sample ++ []) refl (cell count) refl j refl s [] refl in
@@ -84,12 +84,12 @@ module _ (p : CodingParameters) (ok : AreCodingParameters p) (w k : ℕ) (up : A
     another v = let one = ok.maxval_at_least in
         elim (cases_eq v 0) [ inl e ↦ (1, one, λ q. omega arith) | inr e ↦ (0, omega arith, λ q. e (sym q)) ]
 
-    pub run_begins : (told : List Bool) → BeginsRun r w0 told → BeginsEvent p w k up line told earlier
-    run_begins told b =
+    pub run_begins : (fed : List Bool) → BeginsRun r w0 fed → BeginsEvent p w k up line fed earlier
+    run_begins fed b =
         let s = another (there b.count).ra in
-        with_sample b.count b.short s.0 s.1 s.2 told (b.cut (interrupting_bits p (cell b.count) (there b.count) (run_order (blocks r b.count).run_index) s.0))
+        with_sample b.count b.short s.0 s.1 s.2 fed (b.cut (interrupting_bits p (cell b.count) (there b.count) (run_order (blocks r b.count).run_index) s.0))
 
-    module _ (count rx : ℕ) (told code : List Bool) (h : RunIs r w0 told code (Interrupted count rx)) where
+    module _ (count rx : ℕ) (fed code : List Bool) (h : RunIs r w0 fed code (Interrupted count rx)) where
       order_is : run_order rx ≡ run_order (blocks r count).run_index
       order_is = ap run_order (sym h.2)
 
@@ -97,17 +97,17 @@ module _ (p : CodingParameters) (ok : AreCodingParameters p) (w k : ℕ) (up : A
       cell_is = t.run_cells (is_same (there count))
 
       pub interruption_begins : BeginsInterruption p (run_cell_at cells (is_same (there count))) (there count) (run_order rx) code
-          → BeginsEvent p w k up line told earlier
+          → BeginsEvent p w k up line fed earlier
       interruption_begins b =
           let sample = interrupting_bits p (cell count) (there count) (run_order (blocks r count).run_index) b.sample in
           let same : sample ≡ code ++ b.cut.missing ∷ b.cut.more_missing = ap (λ z. interrupting_bits p (cell count) (there count) z b.sample) (sym order_is) ∙ ap (λ (z : RunCell). interrupting_bits p z (there count) (run_order rx) b.sample) (sym cell_is) ∙ b.cut.whole_is in
-          with_sample count h.0 b.sample b.at_most b.another told (record {
+          with_sample count h.0 b.sample b.at_most b.another fed (record {
             missing = b.cut.missing;
             more_missing = b.cut.more_missing;
             whole_is = ap (interrupted_run_bits (blocks r count)) same ∙ sym (broken_with (blocks r count) code (b.cut.missing ∷ b.cut.more_missing)) ∙ ap (λ z. z ++ b.cut.missing ∷ b.cut.more_missing) (sym h.1);
           })
 
       pub interruption_missing : ((more : List Bool) → NoInterruption p (run_cell_at cells (is_same (there count))) (there count) (run_order rx) (code ++ more))
-          → (more : List Bool) → NoEvent p w k up line (told ++ more) earlier
+          → (more : List Bool) → NoEvent p w k up line (fed ++ more) earlier
       interruption_missing none more =
-          run_alone p (wide p ok) w k up above_small line earlier r (t.run_indices_are k) w0 w0_is (told ++ more) run count h.0 (code ++ more) (ap (λ z. z ++ more) h.1 ∙ broken_with (blocks r count) code more) (run_cell_at cells (is_same (there count))) cell_is (run_order rx) order_is (none more)
+          run_alone p (wide p ok) w k up above_small line earlier r (t.run_indices_are k) w0 w0_is (fed ++ more) run count h.0 (code ++ more) (ap (λ z. z ++ more) h.1 ∙ broken_with (blocks r count) code more) (run_cell_at cells (is_same (there count))) cell_is (run_order rx) order_is (none more)

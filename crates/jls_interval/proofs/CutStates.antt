@@ -30,7 +30,7 @@ module _ (p : CodingParameters) (ok : AreCodingParameters p) (w c n : ℕ) (some
   pub no_code_head : BeginsNoCode p w c n given → IsHead (interval_shape p w c n) given []
   no_code_head no_code = inr (λ cut. no_code (cut.missing ∷ cut.more_missing) cut.lines [] cut.are_lines (cut.code_is ∙ sym (append-nil (code p w c cut.lines))), refl)
 
-  -- bits behind the last line
+  -- bits after the last line
   pub over_head : (lines : List (List ℕ)) (extra : ℕ) → IsComplete p w c n given lines extra → IsHead (interval_shape p w c n) given []
   over_head lines extra o = inr (λ cut. not_cut cut, refl)
     where
@@ -45,24 +45,24 @@ module _ (p : CodingParameters) (ok : AreCodingParameters p) (w c n : ℕ) (some
           nothing_is o.unread cut.missing cut.more_missing (codes_apart p w c n ok some lines cut.lines (o.unread ++ more) [] o.are_lines cut.are_lines e).1
 
   module _ (lines : List (List ℕ)) (line : List ℕ) (cells : Variables) (run_indices : List ℕ) (open_event : OpenEvent) (h : IsWorking p w c n given lines line cells run_indices open_event) where
-    pub cut_head : BeginsEvent p w (length lines % c) (above c lines) line h.told h.earlier → IsHead (interval_shape p w c n) given lines
+    pub cut_head : BeginsEvent p w (length lines % c) (above c lines) line h.fed h.earlier → IsHead (interval_shape p w c n) given lines
     cut_head b = head_is p w c some n given (record {
       whole = h.earlier;
       position = record { lines = lines; line = line; earlier = h.earlier };
       leads = h.leads;
       cut = b.event;
       is_next = (h.few, b.fits);
-      begun = h.told;
+      begun = h.fed;
       given_is = h.bits_are;
       missing = b.cut.missing;
       more_missing = b.cut.more_missing;
       bits_are = b.cut.whole_is;
     })
 
-    pub stuck_head : ((more : List Bool) → NoEvent p w (length lines % c) (above c lines) line (h.told ++ more) h.earlier)
+    pub stuck_head : ((more : List Bool) → NoEvent p w (length lines % c) (above c lines) line (h.fed ++ more) h.earlier)
         → IsHead (interval_shape p w c n) given []
     stuck_head none =
-        no_code_head (subst (BeginsNoCode p w c n) (append-nil given) (working_refused p ok w c n some given lines line cells run_indices open_event h [] (λ more. subst (λ z. NoEvent p w (length lines % c) (above c lines) line (z ++ more) h.earlier) (sym (append-nil h.told)) (none more))))
+        no_code_head (subst (BeginsNoCode p w c n) (append-nil given) (working_refused p ok w c n some given lines line cells run_indices open_event h [] (λ more. subst (λ z. NoEvent p w (length lines % c) (above c lines) line (z ++ more) h.earlier) (sym (append-nil h.fed)) (none more))))
 
   -- where no lines are to come, or none can
   pub idle_head : (lines : List (List ℕ)) (line : List ℕ) (cells : Variables) (run_indices : List ℕ) (open_event : OpenEvent) (s : State)
@@ -98,13 +98,13 @@ module _ (p : CodingParameters) (d : IntervalReader) (given : List Bool) (h : Is
   module _ (is : d.state ≡ Working) (k : ℕ) (k_is : k ≡ length lines % n) (up : Above) (up_is : up ≡ above n lines) where
     -- what is answered of the event in hand, in a line of this component below these lines
     abbrev Yes : CodingParameters → ℕ → Above → Type 0
-    Yes q k up = (told : List Bool) (earlier : List Event) → IsAfter q cells ri earlier
+    Yes q k up = (fed : List Bool) (earlier : List Event) → IsAfter q cells ri earlier
         → ((e : Event) → Fits q w k up line (now_at w up line) e → event_bits q earlier e ≡ [] → ⊥)
-        → OpenEventAt q w up line cells (get_or ri k 0) d.reader.open_event told → BeginsEvent q w k up line told earlier
+        → OpenEventAt q w up line cells (get_or ri k 0) d.reader.open_event fed → BeginsEvent q w k up line fed earlier
 
     abbrev No : CodingParameters → ℕ → Above → Type 0
-    No q k up = (told : List Bool) (earlier : List Event) → IsAfter q cells ri earlier
-        → OpenEventAt q w up line cells (get_or ri k 0) d.reader.open_event told → (more : List Bool) → NoEvent q w k up line (told ++ more) earlier
+    No q k up = (fed : List Bool) (earlier : List Event) → IsAfter q cells ri earlier
+        → OpenEventAt q w up line cells (get_or ri k 0) d.reader.open_event fed → (more : List Bool) → NoEvent q w k up line (fed ++ more) earlier
 
     abbrev work : IsWorking p w n d.count given lines line cells ri d.reader.open_event
     work = working p d given h is
@@ -113,9 +113,9 @@ module _ (p : CodingParameters) (d : IntervalReader) (given : List Bool) (h : Is
     reading_cut all =
         let a : Yes p (length lines % n) (above n lines) = subst (λ q. Yes q (length lines % n) (above n lines)) h.parameters (subst (λ z. Yes cells.parameters z (above n lines)) k_is (subst (λ (z : Above). Yes cells.parameters k z) up_is all)) in
         cut_head p (in_range p d given h is) w n d.count h.width_at_least given lines line cells ri d.reader.open_event work
-        (a work.told work.earlier work.is_after (λ e fits. event_some p w n d.count (record { lines = lines; line = line; earlier = work.earlier }) e work.unfinished (work.few, fits)) work.open_event_at)
+        (a work.fed work.earlier work.is_after (λ e fits. event_some p w n d.count (record { lines = lines; line = line; earlier = work.earlier }) e work.unfinished (work.few, fits)) work.open_event_at)
 
     pub reading_stuck : No cells.parameters k up → IsHead (interval_shape p w n d.count) given []
     reading_stuck all =
         let a : No p (length lines % n) (above n lines) = subst (λ q. No q (length lines % n) (above n lines)) h.parameters (subst (λ z. No cells.parameters z (above n lines)) k_is (subst (λ (z : Above). No cells.parameters k z) up_is all)) in
-        stuck_head p (in_range p d given h is) w n d.count h.width_at_least given lines line cells ri d.reader.open_event work (a work.told work.earlier work.is_after work.open_event_at)
+        stuck_head p (in_range p d given h is) w n d.count h.width_at_least given lines line cells ri d.reader.open_event work (a work.fed work.earlier work.is_after work.open_event_at)

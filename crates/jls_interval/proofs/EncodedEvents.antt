@@ -23,7 +23,7 @@ use Rattle.jls_interval.specs.Encoding.{Written, Writes}
 use Rattle.jls_interval.proofs.AfterEvents.{after_regular, after_end, after_interruption}
 use Rattle.jls_interval.proofs.WrittenRuns.{interruption_then}
 
--- One list of events behind another ----------------------------------------------------
+-- One list of events after another ----------------------------------------------------
 
 pub bits_append : (p : CodingParameters) (earlier xs ys : List Event)
     → bits_of_events p earlier (xs ++ ys) ≡ bits_of_events p earlier xs ++ bits_of_events p (earlier ++ xs) ys

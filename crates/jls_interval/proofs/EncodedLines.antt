@@ -13,7 +13,7 @@ use Rattle.jls_interval.specs.Code.{bits_of_events, code}
 use Rattle.jls_interval.specs.After.{IsAfter}
 use Rattle.jls_interval.specs.Encoding.{Written, Writes, WritesColumns, AreWritten}
 use Rattle.jls_interval.proofs.AfterEvents.{after_none}
-use Rattle.jls_interval.proofs.Stretches.{past, more, at_regular, at_front}
+use Rattle.jls_interval.proofs.Stretches.{past, more, at_regular, at_prefix}
 use Rattle.jls_interval.proofs.GrownLines.{fuel_same}
 use Rattle.jls_interval.proofs.EncodedEvents.{bits_append, bits_none, writes_none, writes_then}
 
@@ -66,7 +66,7 @@ module _ (p : CodingParameters) (component : ℕ) (up : Above) (line : List ℕ)
 module _ (w : ℕ) (up : Above) (line : List ℕ) where
   pub neighbours_taken : (x : ℕ) → x ≤ length line → neighbours w up (take x line) x ≡ neighbours w up line x
   neighbours_taken x l =
-      sym (at_front w 0 up (take x line) (drop x line) x (omega (arith, length-take-le x line l))) ∙ ap (λ z. neighbours w up z x) (take-append-drop x line)
+      sym (at_prefix w 0 up (take x line) (drop x line) x (omega (arith, length-take-le x line l))) ∙ ap (λ z. neighbours w up z x) (take-append-drop x line)
 
   -- those of the next column, as they move along
   pub neighbours_next : (x value : ℕ) (near next : Neighbours) → x < length line → value ≡ get_or line x 0 → near ≡ neighbours w up line x

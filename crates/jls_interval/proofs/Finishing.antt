@@ -7,7 +7,7 @@ use Rattle.std.specs.List.{AllByRecursion}
 use Rattle.jls_values.specs.Params.{CodingParameters, AreCodingParameters}
 use Rattle.jls_bits.specs.Bits.{bits_read, is_whole, ends_data, bits_read_after}
 use Rattle.jls_bits.proofs.DataBits.{data_end, data_stop, length_more, width_bounds}
-use Rattle.jls_bits.proofs.Appending.{whole_front}
+use Rattle.jls_bits.proofs.Appending.{whole_prefix}
 use Rattle.jls_interval.specs.Lines.{interval_shape}
 use Rattle.jls_interval.specs.Reads.{Reads, IsLong, IsBroken}
 use Rattle.jls_interval.specs.PieceFaults.{NoLines, OutcomeIs}
@@ -25,7 +25,7 @@ use Rattle.jls_interval.proofs.PiecesReadOnce.{reads_once, read_not_long}
 pub goes_on : (bytes more : List ℕ) (ended : Bool) → (ended ≡ true → is_whole bytes ≡ false) → is_whole (bytes ++ more) ≡ true
     → ended ≡ false
 goes_on bytes more ended h w =
-    elim (cases_Bool ended) [ inl t ↦ (let a : true ≡ false = sym (whole_front 0 bytes more w).0 ∙ h t in cc) | inr o ↦ o ]
+    elim (cases_Bool ended) [ inl t ↦ (let a : true ≡ false = sym (whole_prefix 0 bytes more w).0 ∙ h t in cc) | inr o ↦ o ]
 
 -- elements of a type of bytes
 pub all_bytes : (xs : List ℕ) → ((i : ℕ) → get_or xs i 0 < 256) → AllByRecursion (λ x. x < 256) xs
@@ -112,7 +112,7 @@ module _ (p : CodingParameters) (bytes : List ℕ) (d : IntervalReader) where
   pub before_start : (chunk : List Bool) → chunk ≡ [] → IsReading p (bits_read bytes) d → IsReadingBefore p bytes chunk d
   before_start chunk e h = record { given = bits_read bytes; bits_are = sym (ap (λ z. bits_read bytes ++ z) e ∙ append-nil (bits_read bytes)); reading = h }
 
-  -- bytes behind them, of which the chunk has the bits
+  -- bytes after them, of which the chunk has the bits
   pub before_appended : (bytes' : List ℕ) (chunk chunk' : List Bool)
       → ((given : List Bool) → is_whole bytes' ≡ true → bits_read bytes ≡ given ++ chunk → bits_read bytes' ≡ given ++ chunk')
       → is_whole bytes' ≡ true → IsReadingBefore p bytes chunk d → IsReadingBefore p bytes' chunk' d

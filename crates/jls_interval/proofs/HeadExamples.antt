@@ -74,8 +74,8 @@ Cut piece = IsCutEvent (interval_shape bits_8 1 1 2) (bits_read piece)
 abbrev first_event : Event
 first_event = interrupted_run 0 0 (record { ra = 0; rb = 0; rc = 0; rd = 0 }) 1
 
-abbrev behind_first : Position
-behind_first = record { lines = (1 ∷ []) ∷ []; line = []; earlier = first_event ∷ [] }
+abbrev after_first : Position
+after_first = record { lines = (1 ∷ []) ∷ []; line = []; earlier = first_event ∷ [] }
 
 -- the neighbours of the second
 abbrev near : Neighbours
@@ -83,12 +83,12 @@ near = record { ra = 1; rb = 1; rc = 0; rd = 1 }
 
 -- bits that cut the second event
 abbrev cut_second : (piece : List ℕ) (sample : ℕ) (begun : List Bool) (missing : Bool) (more : List Bool)
-    → IsNext bits_8 1 1 2 behind_first (regular near sample)
+    → IsNext bits_8 1 1 2 after_first (regular near sample)
     → bits_read piece ≡ bits_of_steps (interval_steps bits_8 1 1 2) start (first_event ∷ []) ++ begun
     → event_bits bits_8 (first_event ∷ []) (regular near sample) ≡ begun ++ missing ∷ more → Cut piece
 cut_second piece sample begun missing more a b e = record {
   whole = first_event ∷ [];
-  position = behind_first;
+  position = after_first;
   leads = ((lit< tt, (refl, refl, lit< tt, refl, lit≤ tt, λ (q : 1 ≡ 0). cc)), refl);
   cut = regular near sample;
   is_next = a;
@@ -99,19 +99,19 @@ cut_second piece sample begun missing more a b e = record {
   bits_are = e;
 }
 
--- a code that is refused behind the first event
-none_behind_first : (given begun : List Bool) → given ≡ bits_of_steps (interval_steps bits_8 1 1 2) start (first_event ∷ []) ++ begun
+-- a code that is refused after the first event
+none_after_first : (given begun : List Bool) → given ≡ bits_of_steps (interval_steps bits_8 1 1 2) start (first_event ∷ []) ++ begun
     → RefusesCode 2 32 8 begun
     → IsCutCode (interval_shape bits_8 1 1 2) given → ⊥
 unfolding least_from quantized_gradient is_negative context modulo_reduced corrected_prediction golomb_k updated cell_before event_bits
-none_behind_first given begun e no_code cut =
+none_after_first given begun e no_code cut =
     let m = interval_steps bits_8 1 1 2 in let left = begun ++ cut.missing ∷ cut.more_missing in
-    let second : IsNext bits_8 1 1 2 behind_first (regular near 34) = (lit< tt, (refl, refl, lit≤ tt)) in
+    let second : IsNext bits_8 1 1 2 after_first (regular near 34) = (lit< tt, (refl, refl, lit≤ tt)) in
     let first = bits_of_steps m start (first_event ∷ []) in
     let flat : first ++ left ≡ bits_of_steps m start (events 1 1 cut.lines) ++ [] = sym (append_assoc first begun (cut.missing ∷ cut.more_missing)) ∙ ap (λ v. v ++ cut.missing ∷ cut.more_missing) (sym e) ∙ cut.code_is ∙ code_is bits_8 1 1 2 cut.lines ∙ sym (append-nil (bits_of_steps m start (events 1 1 cut.lines))) in
-    refused m (events_apart bits_8 1 1 2 are_parameters) (kept bits_8 1 1 2) start behind_first (finish 1 1 cut.lines) (first_event ∷ []) (events 1 1 cut.lines) left [] (tt, tt) ((lit< tt, (refl, refl, lit< tt, refl, lit≤ tt, λ (q : 1 ≡ 0). cc)), refl) (lines_grow bits_8 1 1 2 (lit< tt) cut.lines cut.are_lines) (finished bits_8 1 1 2 cut.lines cut.are_lines.count_is) (regular near 34) second stuck flat
+    refused m (events_apart bits_8 1 1 2 are_parameters) (kept bits_8 1 1 2) start after_first (finish 1 1 cut.lines) (first_event ∷ []) (events 1 1 cut.lines) left [] (tt, tt) ((lit< tt, (refl, refl, lit< tt, refl, lit≤ tt, λ (q : 1 ≡ 0). cc)), refl) (lines_grow bits_8 1 1 2 (lit< tt) cut.lines cut.are_lines) (finished bits_8 1 1 2 cut.lines cut.are_lines.count_is) (regular near 34) second stuck flat
   where
-    stuck : (x : Event) (rest : List Bool) → IsNext bits_8 1 1 2 behind_first x
+    stuck : (x : Event) (rest : List Bool) → IsNext bits_8 1 1 2 after_first x
         → begun ++ cut.missing ∷ cut.more_missing ≡ event_bits bits_8 (first_event ∷ []) x ++ rest → ⊥
     stuck (regular n s) rest a q =
         let q' : begun ++ cut.missing ∷ cut.more_missing ≡ event_bits bits_8 (first_event ∷ []) (regular near s) ++ rest = subst (λ v. begun ++ cut.missing ∷ cut.more_missing ≡ event_bits bits_8 (first_event ∷ []) (regular v s) ++ rest) a.1.1 q in
@@ -119,7 +119,7 @@ none_behind_first given begun e no_code cut =
     stuck (run_to_end k count) rest a q = (let mode : false ≡ true = a.1.0 in cc)
     stuck (interrupted_run k count n s) rest a q = (let mode : false ≡ true = a.1.0 in cc)
 
--- more bits behind
+-- more bits after
 refused_on : (begun more : List Bool) → RefusesCode 2 32 8 begun → RefusesCode 2 32 8 (begun ++ more)
 refused_on begun more h = λ m on rest has e. h m (more ++ on) rest has (sym (append_assoc begun more on) ∙ e)
 
@@ -145,8 +145,8 @@ heads = record {
   one_byte = inl (refl, head_is bits_8 1 1 (lit< tt) 2 (bits_read (0x50 ∷ [])) (cut_second (0x50 ∷ []) 34 (replicate 4 false) false (replicate 11 false ++ true ∷ true ∷ false ∷ []) (lit< tt, (refl, refl, lit≤ tt)) refl refl));
   two_bytes = inl (refl, head_is bits_8 1 1 (lit< tt) 2 (bits_read (0x50 ∷ 0x00 ∷ [])) (cut_second (0x50 ∷ 0x00 ∷ []) 34 (replicate 12 false) false (replicate 3 false ++ true ∷ true ∷ false ∷ []) (lit< tt, (refl, refl, lit≤ tt)) refl refl));
   in_an_escape = inl (refl, head_is bits_8 1 1 (lit< tt) 2 (bits_read (0x50 ∷ 0x00 ∷ 0x00 ∷ 0x15 ∷ [])) (cut_second (0x50 ∷ 0x00 ∷ 0x00 ∷ 0x15 ∷ []) 47 (replicate 23 false ++ true ∷ false ∷ true ∷ false ∷ true ∷ []) true (false ∷ true ∷ true ∷ []) (lit< tt, (refl, refl, lit≤ tt)) refl refl));
-  in_no_escape = inl (refl, inr (none_behind_first (bits_read (0x50 ∷ 0x00 ∷ 0x00 ∷ 0x10 ∷ [])) ((replicate 23 false ++ true ∷ bits 3 0) ++ false ∷ []) refl (escape_too_small 2 32 8 (lit≤ tt) 3 0 false (lit< tt) (lit≤ tt) (lit< tt)), refl));
-  too_many_zeros = inl (refl, inr (none_behind_first (bits_read (0x50 ∷ 0x00 ∷ 0x00 ∷ 0x00 ∷ 0x00 ∷ [])) ((replicate 23 false ++ false ∷ []) ++ replicate 12 false) refl (refused_on (replicate 23 false ++ false ∷ []) (replicate 12 false) (zero_too_many 2 32 8 (lit≤ tt) 23 false refl refl)), refl));
+  in_no_escape = inl (refl, inr (none_after_first (bits_read (0x50 ∷ 0x00 ∷ 0x00 ∷ 0x10 ∷ [])) ((replicate 23 false ++ true ∷ bits 3 0) ++ false ∷ []) refl (escape_too_small 2 32 8 (lit≤ tt) 3 0 false (lit< tt) (lit≤ tt) (lit< tt)), refl));
+  too_many_zeros = inl (refl, inr (none_after_first (bits_read (0x50 ∷ 0x00 ∷ 0x00 ∷ 0x00 ∷ 0x00 ∷ [])) ((replicate 23 false ++ false ∷ []) ++ replicate 12 false) refl (refused_on (replicate 23 false ++ false ∷ []) (replicate 12 false) (zero_too_many 2 32 8 (lit≤ tt) 23 false refl refl)), refl));
   whole = record {
     unread = false ∷ [];
     begins = record { are_bytes = (lit< tt, (lit< tt, (lit< tt, tt))); are_lines = record { count_is = refl; each = ((refl, (lit≤ tt, tt)), ((refl, (lit≤ tt, tt)), tt)) }; data_bits = record { whole = refl; read = refl } };

@@ -23,14 +23,14 @@ use Rattle.jls_interval.proofs.EncodedEvents.{bits_append}
 use Rattle.jls_interval.proofs.GrowthEnds.{growth_ends}
 
 -- the first of some lines are lines
-pub all_front : (P : List ℕ → Type 0) (xs ys : List (List ℕ)) → AllByRecursion P (xs ++ ys) → AllByRecursion P xs
-all_front P [] ys h = tt
-all_front P (x ∷ xs) ys h = (h.0, all_front P xs ys h.1)
+pub all_prefix : (P : List ℕ → Type 0) (xs ys : List (List ℕ)) → AllByRecursion P (xs ++ ys) → AllByRecursion P xs
+all_prefix P [] ys h = tt
+all_prefix P (x ∷ xs) ys h = (h.0, all_prefix P xs ys h.1)
 
-pub front_lines : (p : CodingParameters) (w n : ℕ) (lines xs ys : List (List ℕ)) → AreLines p w n lines → lines ≡ xs ++ ys
+pub prefix_lines : (p : CodingParameters) (w n : ℕ) (lines xs ys : List (List ℕ)) → AreLines p w n lines → lines ≡ xs ++ ys
     → AreLines p w (length xs) xs
-front_lines p w n lines xs ys a e =
-    record { count_is = refl; each = all_front (IsLine p w) xs ys (subst (AllByRecursion (IsLine p w)) e a.each) }
+prefix_lines p w n lines xs ys a e =
+    record { count_is = refl; each = all_prefix (IsLine p w) xs ys (subst (AllByRecursion (IsLine p w)) e a.each) }
 
 -- the events of lines, and of those after them
 events_append : (w c : ℕ) (before xs ys : List (List ℕ))
@@ -206,7 +206,7 @@ module _ (p : CodingParameters) (w c : ℕ) (some : 0 < w) where
     -- first lines, and the events that lead to them
     module _ (xs ys : List (List ℕ)) (parts : lines ≡ xs ++ ys) where
       xs_lead : length xs ≤ n → Leads steps start (events w c xs) (finish w c xs)
-      xs_lead few = leads_wider (length xs) n (events w c xs) start (finish w c xs) few (lines_grow p w c (length xs) some xs (front_lines p w n lines xs ys are_lines parts))
+      xs_lead few = leads_wider (length xs) n (events w c xs) start (finish w c xs) few (lines_grow p w c (length xs) some xs (prefix_lines p w n lines xs ys are_lines parts))
 
       few_lines : length xs ≤ n
       few_lines = let a = length-append xs ys in let b = ap length parts in let d = are_lines.count_is in omega (arith, a, b, d)
@@ -275,7 +275,7 @@ module _ (p : CodingParameters) (w c : ℕ) (some : 0 < w) where
 -- One head ------------------------------------------------------------------------------------------
 
 take_drop : (n : ℕ) (xs : List (List ℕ)) → n ≤ length xs
-    → (front : List (List ℕ)) × (back : List (List ℕ)) × (xs ≡ front ++ back) × (length front ≡ n)
+    → (prefix : List (List ℕ)) × (back : List (List ℕ)) × (xs ≡ prefix ++ back) × (length prefix ≡ n)
 take_drop zero xs h = ([], xs, refl, refl)
 take_drop (suc n) [] h = absurd (omega arith)
 take_drop (suc n) (x ∷ xs) h = let r = take_drop n xs (omega arith) in (x ∷ r.0, r.1, ap (λ z. x ∷ z) r.2, ap suc r.3)
@@ -290,16 +290,16 @@ module _ (p : CodingParameters) (w c n : ℕ) (ok : AreCodingParameters p) (some
       let more = a.missing ∷ a.more_missing in
       let parts = code_parts p w c t.0 t.1 in
       let bits_are : code p w c xs ++ (f.unread ++ more) ≡ code p w c t.0 ++ parts.0 = sym (append_assoc (code p w c xs) f.unread more) ∙ ap (λ v. v ++ more) (sym f.given_is) ∙ a.code_is ∙ ap (code p w c) t.2 ∙ parts.1 in
-      let wide : AreLines p w (length xs) t.0 = subst (λ k. AreLines p w k t.0) t.3 (front_lines p w n a.lines t.0 t.1 a.are_lines t.2) in
-      let same = codes_apart p w c (length xs) ok some xs t.0 (f.unread ++ more) parts.0 (front_lines p w n b.lines xs f.others b.are_lines f.lines_are) wide bits_are in
+      let wide : AreLines p w (length xs) t.0 = subst (λ k. AreLines p w k t.0) t.3 (prefix_lines p w n a.lines t.0 t.1 a.are_lines t.2) in
+      let same = codes_apart p w c (length xs) ok some xs t.0 (f.unread ++ more) parts.0 (prefix_lines p w n b.lines xs f.others b.are_lines f.lines_are) wide bits_are in
       record { others = t.1; lines_are = t.2 ∙ ap (λ v. v ++ t.1) (sym same.0); unread = f.unread; given_is = f.given_is }
 
   pub one_head : (xs ys : List (List ℕ)) → IsHead (interval_shape p w c n) given xs → IsHead (interval_shape p w c n) given ys → xs ≡ ys
   one_head xs ys (inl (a, f)) (inl (b, g)) =
       let l = f.longest ys (first_of_others a b ys g.begins) in let k = g.longest xs (first_of_others b a xs f.begins) in
       let e : length ys ≡ length xs = omega arith in
-      let x = front_lines p w n a.lines xs f.begins.others a.are_lines f.begins.lines_are in
-      let y = subst (λ v. AreLines p w v ys) e (front_lines p w n b.lines ys g.begins.others b.are_lines g.begins.lines_are) in
+      let x = prefix_lines p w n a.lines xs f.begins.others a.are_lines f.begins.lines_are in
+      let y = subst (λ v. AreLines p w v ys) e (prefix_lines p w n b.lines ys g.begins.others b.are_lines g.begins.lines_are) in
       (codes_apart p w c (length xs) ok some xs ys f.begins.unread g.begins.unread x y (sym f.begins.given_is ∙ g.begins.given_is)).0
   one_head xs ys (inl (a, f)) (inr (none, e)) = absurd (none a)
   one_head xs ys (inr (none, e)) (inl (b, g)) = absurd (none b)

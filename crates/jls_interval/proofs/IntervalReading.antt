@@ -73,14 +73,14 @@ items vs = map (λ v. v.items) vs
 pub wide_same : (w w' : ℕ) (lines : List (List ℕ)) → w' ≡ w → HaveWidth w lines → HaveWidth w' lines
 wide_same w w' lines e h = subst (λ z. HaveWidth z lines) (sym e) h
 
--- and so do they with a line behind them that has it
+-- and so do they with a line after them that has it
 pub wide_more : (w : ℕ) (lines : List (List ℕ)) (line : List ℕ) → HaveWidth w lines → length line ≡ w → HaveWidth w (lines ++ line ∷ [])
 wide_more w [] line h e = (e, tt)
 wide_more w (x ∷ xs) line h e = (h.0, wide_more w xs line h.1 e)
 
-pub line_fits : (p : CodingParameters) (w k : ℕ) (up : Above) (line line' : List ℕ) (cells' : Variables) (run_indices' : List ℕ) (told : List Bool) (earlier : List Event)
-    → EventDone p w k up line line' cells' run_indices' told earlier → length line < w → length line' ≤ w
-line_fits p w k up line line' cells' run_indices' told earlier m short =
+pub line_fits : (p : CodingParameters) (w k : ℕ) (up : Above) (line line' : List ℕ) (cells' : Variables) (run_indices' : List ℕ) (fed : List Bool) (earlier : List Event)
+    → EventDone p w k up line line' cells' run_indices' fed earlier → length line < w → length line' ≤ w
+line_fits p w k up line line' cells' run_indices' fed earlier m short =
     let f = added_fits p w k up line m.event short m.fits in let e = ap length m.line_is in omega (arith, f, e)
 
 module _ (p : CodingParameters) (n count : ℕ) (lines : List (List ℕ)) (s : State) where
@@ -121,19 +121,19 @@ module _ (p : CodingParameters) (d : IntervalReader) (given : List Bool) (h : Is
   module _ (new : LineReader) (chunk unread : List Bool) (k : ℕ) (k_is : k ≡ component) (up : Above) (up_is : up ≡ above n lines) where
     abbrev Pushes : ℕ → Above → EventStep → Type 0
     Pushes k up step =
-        (told : List Bool) (earlier : List Event) → IsAfter cells.parameters cells run_indices earlier → Holds k up d.reader told → EventPushed k up d.reader new told chunk unread earlier step
+        (fed : List Bool) (earlier : List Event) → IsAfter cells.parameters cells run_indices earlier → Holds k up d.reader fed → EventPushed k up d.reader new fed chunk unread earlier step
 
     pushed : (step : EventStep) → Pushes k up step
-        → EventPushed component (above n lines) d.reader new working.told chunk unread working.earlier step
+        → EventPushed component (above n lines) d.reader new working.fed chunk unread working.earlier step
     pushed step all =
         let a : Pushes component (above n lines) step = subst (λ z. Pushes z (above n lines) step) k_is (subst (λ (z : Above). Pushes k z step) up_is all) in
-        a working.told working.earlier (subst (λ q. IsAfter q cells run_indices working.earlier) (sym h.parameters) working.is_after) (subst (λ q. OpenEventAt q w (above n lines) line cells (get_or run_indices component 0) d.reader.open_event working.told) (sym h.parameters) working.open_event_at)
+        a working.fed working.earlier (subst (λ q. IsAfter q cells run_indices working.earlier) (sym h.parameters) working.is_after) (subst (λ q. OpenEventAt q w (above n lines) line cells (get_or run_indices component 0) d.reader.open_event working.fed) (sym h.parameters) working.open_event_at)
 
     -- the event isn't whole
     pub more_state : Pushes k up More → StateIs p w n d.count (given ++ chunk) lines line cells run_indices new.open_event d.state
     more_state all =
         let e = pushed More all in
-        let at = subst (λ q. OpenEventAt q w (above n lines) line cells (get_or run_indices component 0) new.open_event (working.told ++ e.taken)) h.parameters e.step_is.3 in
+        let at = subst (λ q. OpenEventAt q w (above n lines) line cells (get_or run_indices component 0) new.open_event (working.fed ++ e.taken)) h.parameters e.step_is.3 in
         let whole : e.taken ≡ chunk = sym (e.chunk_is ∙ ap (λ z. e.taken ++ z) e.all ∙ append-nil e.taken) in
         subst (λ s. StateIs p w n d.count (given ++ chunk) lines line cells run_indices new.open_event s) (sym is) (subst (λ z. IsWorking p w n d.count (given ++ z) lines line cells run_indices new.open_event) whole (working_more p in_range w n d.count h.width_at_least given lines line cells run_indices d.reader.open_event working e.taken new.open_event at))
 
@@ -147,15 +147,15 @@ module _ (p : CodingParameters) (d : IntervalReader) (given : List Bool) (h : Is
     pub refused_state : Pushes k up Refused → BeginsNoCode p w n d.count (given ++ chunk)
     refused_state all =
         let e = pushed Refused all in
-        let no_code = working_refused p in_range w n d.count h.width_at_least given lines line cells run_indices d.reader.open_event working e.taken (λ more. subst (λ q. NoEvent q w component (above n lines) line ((working.told ++ e.taken) ++ more) working.earlier) h.parameters (e.step_is.1 more)) in
+        let no_code = working_refused p in_range w n d.count h.width_at_least given lines line cells run_indices d.reader.open_event working e.taken (λ more. subst (λ q. NoEvent q w component (above n lines) line ((working.fed ++ e.taken) ++ more) working.earlier) h.parameters (e.step_is.1 more)) in
         subst (BeginsNoCode p w n d.count) (append_assoc given e.taken unread ∙ ap (λ z. given ++ z) (sym e.chunk_is)) (no_code_more p w n d.count (given ++ e.taken) unread no_code)
 
     -- the event is whole
     pub moved_taken : Pushes k up Moved
-        → (taken : List Bool) × (chunk ≡ taken ++ unread) × EventDone p w component (above n lines) line new.line.items new.coder.cells new.coder.run_indices (working.told ++ taken) working.earlier × (new.open_event ≡ NotBegun)
+        → (taken : List Bool) × (chunk ≡ taken ++ unread) × EventDone p w component (above n lines) line new.line.items new.coder.cells new.coder.run_indices (working.fed ++ taken) working.earlier × (new.open_event ≡ NotBegun)
     moved_taken all =
         let e = pushed Moved all in
-        (e.taken, e.chunk_is, subst (λ q. EventDone q w component (above n lines) line new.line.items new.coder.cells new.coder.run_indices (working.told ++ e.taken) working.earlier) h.parameters e.step_is.0, e.step_is.1)
+        (e.taken, e.chunk_is, subst (λ q. EventDone q w component (above n lines) line new.line.items new.coder.cells new.coder.run_indices (working.fed ++ e.taken) working.earlier) h.parameters e.step_is.0, e.step_is.1)
 
     -- samples that end no line
     pub samples_taken : new.width ≡ w → new.coder.cells.parameters ≡ cells.parameters → TakesInLine k up d.reader new chunk unread

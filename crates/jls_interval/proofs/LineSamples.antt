@@ -31,10 +31,10 @@ rd_is w up line zero h = let t = lt-ltb 1 w h in rw t refl
 rd_is w up line (suc x) h = let t = lt-ltb (x + 2) w (omega arith) in let e : x + 2 ≡ suc x + 1 = omega arith in rw t (ap (λ z. get_or up.line_above z 0) e)
 
 -- Ra is the sample itself, and Rd and Rb become Rb and Rc
-pub behind_sample : (w : ℕ) (up : Above) (line : List ℕ) (near : Neighbours) (value rd x : ℕ) → x ≡ length line
+pub after_sample : (w : ℕ) (up : Above) (line : List ℕ) (near : Neighbours) (value rd x : ℕ) → x ≡ length line
     → near ≡ neighbours w up line x → x + 2 < w → rd ≡ get_or up.line_above (x + 2) 0
     → record { ra = value; rb = near.rd; rc = near.rb; rd = rd } ≡ neighbours w up (line ++ value ∷ []) (x + 1)
-behind_sample w up line near value rd x x_is is room rd_at =
+after_sample w up line near value rd x x_is is room rd_at =
     let line' = line ++ value ∷ [] in let e : x + 1 ≡ suc x = omega arith in let t = lt-ltb (x + 2) w room in
     let ra_is : value ≡ get_or line' x 0 = sym (ap (λ z. get_or line' z 0) x_is ∙ get_or-append_seam line value [] 0) in
     let rb_at : near.rd ≡ get_or up.line_above (suc x) 0 = ap (λ (z : Neighbours). z.rd) is ∙ rd_is w up line x (omega arith) ∙ ap (λ z. get_or up.line_above z 0) e in
@@ -53,14 +53,14 @@ module _ (p : CodingParameters) (near : Neighbours) (value : ℕ) (now next : Li
   sample_more c n given lines near_is room h =
       let w : ℕ = now.width in let up = above c lines in let line : List ℕ = now.line.items in let line' : List ℕ = next.line.items in
       let cells : Variables = now.coder.cells in let cells' : Variables = next.coder.cells in let ri : List ℕ = now.coder.run_indices in let ri' : List ℕ = next.coder.run_indices in
-      let told : h.told ≡ [] = subst (λ z. OpenEventAt p w up line cells (get_or ri (length lines % c) 0) z h.told) not_begun h.open_event_at in
+      let fed : h.fed ≡ [] = subst (λ z. OpenEventAt p w up line cells (get_or ri (length lines % c) 0) z h.fed) not_begun h.open_event_at in
       let taken = event_bits p h.earlier (regular near value) in
-      let done : EventDone p w (length lines % c) up line line' cells' ri' (h.told ++ taken) h.earlier = record {
+      let done : EventDone p w (length lines % c) up line line' cells' ri' (h.fed ++ taken) h.earlier = record {
         event = regular near value;
         fits = (subst (λ (z : Neighbours). is_run_mode z ≡ false) near_is s.not_run, near_is, s.at_most);
         line_is = grown;
         is_after = s.is_after h.earlier h.is_after;
-        bits_are = ap (λ z. z ++ taken) told;
+        bits_are = ap (λ z. z ++ taken) fed;
       } in
       let a = length-append line (value ∷ []) in let b = ap length grown in
       let on = working_on p (subst AreCodingParameters params now.coder.in_range) w c n (omega (arith, room)) given lines line cells ri now.open_event h taken line' cells' ri' done (omega (arith, room, a, b)) in
@@ -104,13 +104,13 @@ pub begun_same : (k : ℕ) (up : Above) (old now : LineReader) (chunk unread unr
 begun_same k up old now chunk unread unread' near code coder' s same not_begun params near_is t = λ c n given lines k_is up_is h.
     let p = old.coder.cells.parameters in let w : ℕ = now.width in let line : List ℕ = now.line.items in let cells : Variables = now.coder.cells in let ri : List ℕ = now.coder.run_indices in
     let a = t c n given lines k_is up_is h in let x = a.works in let there = above c lines in
-    let told : x.told ≡ [] = subst (λ z. OpenEventAt p w there line cells (get_or ri (length lines % c) 0) z x.told) not_begun x.open_event_at in
+    let fed : x.fed ≡ [] = subst (λ z. OpenEventAt p w there line cells (get_or ri (length lines % c) 0) z x.fed) not_begun x.open_event_at in
     let s' = subst (λ q. SampleBegun q near cells code unread unread') params s in
     let near' : near ≡ now_at w there line = subst (λ (z : Above). near ≡ now_at w z line) up_is near_is in
-    let at : OpenEventAt p w there line cells (get_or ri (length lines % c) 0) (Sample code) (x.told ++ unread) = (
+    let at : OpenEventAt p w there line cells (get_or ri (length lines % c) 0) (Sample code) (x.fed ++ unread) = (
       subst (λ (z : Neighbours). is_run_mode z ≡ false) near' s'.not_run,
       subst (λ (z : Neighbours). IsOpen (regular_k (cell_at cells (context p z))) (limit p) (qbpp p) code) near' s'.opened,
-      ap (λ z. z ++ unread) told ∙ s'.told,
+      ap (λ z. z ++ unread) fed ∙ s'.fed,
     ) in
     let more = working_more p (subst AreCodingParameters params now.coder.in_range) w c n (let u = x.unfinished in omega arith) (given ++ a.taken) lines line cells ri now.open_event x unread (Sample code) at in
     let all = append_assoc given a.taken unread in

@@ -100,10 +100,10 @@ module _ (p : CodingParameters) (w c n : ℕ) (some : 0 < w) where
       let is : whole ≡ line' ++ t.rest = e ∙ t.is in
       let af = added_fits p w k up line t.event l t.fits in
       let lt' = length-append line' t.rest in let lis = ap length is in
-      elim (cases_lt (length line') w) [ inl h ↦ (let nx = events_from_next p w k up line t.rest whole t.event l is lw t.fits in let small' = all_of_append (λ s. s ≤ p.maxval) (added (neighbours w up line (length line)).ra t.event) t.rest (subst (λ z. Small p z) (same_front line left (added (neighbours w up line (length line)).ra t.event ++ t.rest) (sym e ∙ is ∙ append_assoc line (added (neighbours w up line (length line)).ra t.event) t.rest)) small) in let r = leads_line fuel lines line' t.rest whole (earlier ++ t.event ∷ []) is lw h small' (omega arith) a in let r' = subst (λ v. Leads (interval_steps p w c n) v (line_tail lines whole (length line')) (at_line (lines ++ whole ∷ []) [] ((earlier ++ t.event ∷ []) ++ line_tail lines whole (length line')))) (sym (grown_part p w c n some lines line' (earlier ++ t.event ∷ []) h)) r in finish_step lines line whole earlier t.event (line_tail lines whole (length line')) nx (leads_cons (at_line lines line earlier) (at_line (lines ++ whole ∷ []) [] ((earlier ++ t.event ∷ []) ++ line_tail lines whole (length line'))) t.event (line_tail lines whole (length line')) (a, t.fits) r')) | inr h ↦ (let le = le_antisymm af.1 h in let none = nil_from_length t.rest (omega arith) in let is' : whole ≡ line' = is ∙ ap (λ z. line' ++ z) none ∙ append-nil line' in let la = events_from_last p w k up line t.event l le t.fits in let la' : line_tail lines whole (length line) ≡ t.event ∷ [] = ap (λ z. line_tail lines z (length line)) is' ∙ la in let gf = grown_full p w c n some lines line' (earlier ++ t.event ∷ []) le in let gf' : grown w lines line' (earlier ++ t.event ∷ []) ≡ at_line (lines ++ whole ∷ []) [] (earlier ++ t.event ∷ []) = gf ∙ ap (λ z. at_line (lines ++ z ∷ []) [] (earlier ++ t.event ∷ [])) (sym is') in subst (λ z. Leads (interval_steps p w c n) (at_line lines line earlier) z (at_line (lines ++ whole ∷ []) [] (earlier ++ z))) (sym la') (leads_cons (at_line lines line earlier) (at_line (lines ++ whole ∷ []) [] (earlier ++ t.event ∷ [])) t.event [] (a, t.fits) gf')) ]
+      elim (cases_lt (length line') w) [ inl h ↦ (let nx = events_from_next p w k up line t.rest whole t.event l is lw t.fits in let small' = all_of_append (λ s. s ≤ p.maxval) (added (neighbours w up line (length line)).ra t.event) t.rest (subst (λ z. Small p z) (same_prefix line left (added (neighbours w up line (length line)).ra t.event ++ t.rest) (sym e ∙ is ∙ append_assoc line (added (neighbours w up line (length line)).ra t.event) t.rest)) small) in let r = leads_line fuel lines line' t.rest whole (earlier ++ t.event ∷ []) is lw h small' (omega arith) a in let r' = subst (λ v. Leads (interval_steps p w c n) v (line_tail lines whole (length line')) (at_line (lines ++ whole ∷ []) [] ((earlier ++ t.event ∷ []) ++ line_tail lines whole (length line')))) (sym (grown_part p w c n some lines line' (earlier ++ t.event ∷ []) h)) r in finish_step lines line whole earlier t.event (line_tail lines whole (length line')) nx (leads_cons (at_line lines line earlier) (at_line (lines ++ whole ∷ []) [] ((earlier ++ t.event ∷ []) ++ line_tail lines whole (length line'))) t.event (line_tail lines whole (length line')) (a, t.fits) r')) | inr h ↦ (let le = le_antisymm af.1 h in let none = nil_from_length t.rest (omega arith) in let is' : whole ≡ line' = is ∙ ap (λ z. line' ++ z) none ∙ append-nil line' in let la = events_from_last p w k up line t.event l le t.fits in let la' : line_tail lines whole (length line) ≡ t.event ∷ [] = ap (λ z. line_tail lines z (length line)) is' ∙ la in let gf = grown_full p w c n some lines line' (earlier ++ t.event ∷ []) le in let gf' : grown w lines line' (earlier ++ t.event ∷ []) ≡ at_line (lines ++ whole ∷ []) [] (earlier ++ t.event ∷ []) = gf ∙ ap (λ z. at_line (lines ++ z ∷ []) [] (earlier ++ t.event ∷ [])) (sym is') in subst (λ z. Leads (interval_steps p w c n) (at_line lines line earlier) z (at_line (lines ++ whole ∷ []) [] (earlier ++ z))) (sym la') (leads_cons (at_line lines line earlier) (at_line (lines ++ whole ∷ []) [] (earlier ++ t.event ∷ [])) t.event [] (a, t.fits) gf')) ]
     where
-      same_front : (a b c : List ℕ) → a ++ b ≡ a ++ c → b ≡ c
-      same_front a b c e = append_cancel_left a b c e
+      same_prefix : (a b c : List ℕ) → a ++ b ≡ a ++ c → b ≡ c
+      same_prefix a b c e = append_cancel_left a b c e
 
       finish_step : (lines : List (List ℕ)) (line whole : List ℕ) (earlier : List Event) (e : Event) (es : List Event)
           → line_tail lines whole (length line) ≡ e ∷ es

@@ -27,24 +27,24 @@ module _ (w0 : ℕ) (first : RunState) (chunk : List Bool) where
   pub record Taking (state : RunState) (unread : List Bool) : Type 0 where
     pub taken : List Bool
     pub chunk_is : chunk ≡ taken ++ unread
-    pub at : (r0 : ℕ) (told : List Bool) → RunAt r0 w0 told first → RunAt r0 w0 (told ++ taken) state
+    pub at : (r0 : ℕ) (fed : List Bool) → RunAt r0 w0 fed first → RunAt r0 w0 (fed ++ taken) state
 
   pub taking_none : Taking first chunk
-  taking_none = record { taken = []; chunk_is = refl; at = λ r0 told h. subst (λ z. RunAt r0 w0 z first) (sym (append-nil told)) h }
+  taking_none = record { taken = []; chunk_is = refl; at = λ r0 fed h. subst (λ z. RunAt r0 w0 z first) (sym (append-nil fed)) h }
 
   module _ (state : RunState) (left left' : List Bool) (b : Bool) (t : Taking state left) (e : left ≡ b ∷ left') where
     one_more : chunk ≡ (t.taken ++ b ∷ []) ++ left'
     one_more = t.chunk_is ∙ ap (λ z. t.taken ++ z) e ∙ sym (append_assoc t.taken (b ∷ []) left')
 
-    step_at : (step : RunStep) → ((r0 : ℕ) (told : List Bool) → RunAt r0 w0 told state → RunStepIs r0 w0 (told ++ b ∷ []) step)
-        → (r0 : ℕ) (told : List Bool) → RunAt r0 w0 told first → RunStepIs r0 w0 (told ++ (t.taken ++ b ∷ [])) step
-    step_at step s r0 told h = subst (λ z. RunStepIs r0 w0 z step) (append_assoc told t.taken (b ∷ [])) (s r0 (told ++ t.taken) (t.at r0 told h))
+    step_at : (step : RunStep) → ((r0 : ℕ) (fed : List Bool) → RunAt r0 w0 fed state → RunStepIs r0 w0 (fed ++ b ∷ []) step)
+        → (r0 : ℕ) (fed : List Bool) → RunAt r0 w0 fed first → RunStepIs r0 w0 (fed ++ (t.taken ++ b ∷ [])) step
+    step_at step s r0 fed h = subst (λ z. RunStepIs r0 w0 z step) (append_assoc fed t.taken (b ∷ [])) (s r0 (fed ++ t.taken) (t.at r0 fed h))
 
     pub taking_more : (next : RunState)
-        → ((r0 : ℕ) (told : List Bool) → RunAt r0 w0 told state → RunStepIs r0 w0 (told ++ b ∷ []) (More next)) → Taking next left'
+        → ((r0 : ℕ) (fed : List Bool) → RunAt r0 w0 fed state → RunStepIs r0 w0 (fed ++ b ∷ []) (More next)) → Taking next left'
     taking_more next s = record { taken = t.taken ++ b ∷ []; chunk_is = one_more; at = step_at (More next) s }
 
-    pub taking_end : (step : RunStep) → ((r0 : ℕ) (told : List Bool) → RunAt r0 w0 told state → RunStepIs r0 w0 (told ++ b ∷ []) step)
+    pub taking_end : (step : RunStep) → ((r0 : ℕ) (fed : List Bool) → RunAt r0 w0 fed state → RunStepIs r0 w0 (fed ++ b ∷ []) step)
         → NotMore step → RunPushed w0 first chunk left' step
     taking_end step s n = record { taken = t.taken ++ b ∷ []; chunk_is = one_more; step_is = step_at step s; all = has_taken step left' n }
 

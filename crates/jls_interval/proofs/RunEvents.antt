@@ -42,7 +42,7 @@ module _ (p : CodingParameters) (wide : range p ≤ 2 ^ qbpp p) (w k : ℕ) (up 
       ap (λ z. event_bits p earlier (interrupted_run z c n s) ++ more) a ∙ broken_is p wide w k up above_small line earlier c n s more ∙ ap (λ z. interrupted_run_bits (blocks z c) (interrupting_bits p (run_cell_before p earlier (is_same n)) n (run_order (blocks z c).run_index) s ++ more)) (sym r_is)
 
   module _ (given : List Bool) (run : is_run_mode now ≡ true) where
-    -- no run at the front
+    -- no run at the start
     pub run_none : NoRun r w0 given → (e : Event) (more : List Bool) → Possible e → given ≡ event_bits p earlier e ++ more → ⊥
     run_none none (regular n s) more fits e = true_false (is_run_mode now) run fits.0
     run_none none (run_to_end k' c) more fits e = let h : length line + c ≡ w = fits.2 in none.0 more (e ∙ to_end_is k' c more fits.1 (omega arith))
@@ -56,7 +56,7 @@ module _ (p : CodingParameters) (wide : range p ≤ 2 ^ qbpp p) (w k : ℕ) (up 
     run_end left e = e ∙ sym (to_end_is k w0 left refl refl)
 
     module _ (c : ℕ) (short : c < w0) (left : List Bool) (is : given ≡ interrupted_run_bits (blocks r c) left) (cell : RunCell) (cell_is : cell ≡ run_cell_before p earlier (is_same (there c))) (j : ℕ) (j_is : j ≡ run_order (blocks r c).run_index) where
-      -- a run with no sample behind it
+      -- a run with no sample after it
       pub run_alone : NoInterruption p cell (there c) j left → (e : Event) (more : List Bool) → Possible e
           → given ≡ event_bits p earlier e ++ more → ⊥
       run_alone none (regular n s) more fits e = true_false (is_run_mode now) run fits.0

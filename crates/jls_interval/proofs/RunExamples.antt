@@ -14,7 +14,7 @@ orders = refl
 abbrev bits_8 : CodingParameters
 bits_8 = record { precision = 8; maxval = 255; t1 = 3; t2 = 7; t3 = 21; reset = 64 }
 
--- the samples 2 and 12 behind these Ra and Rb
+-- the samples 2 and 12 after these Ra and Rb
 abbrev errors : ℕ → ℕ → List ℤ
 errors ra rb = map (interruption_error bits_8 (record { ra = ra; rb = rb; rc = rb; rd = rb })) (2 ∷ 12 ∷ [])
 

@@ -1,4 +1,4 @@
--- A bit more of a run, and a run read from the front of longer bits.
+-- A bit more of a run, and a run read from the start of longer bits.
 use Rattle.std.proofs.Common.{◌≡◌, ℕ, ◌+◌, ◌-◌, ◌*◌, ◌^◌, ◌<◌, ◌≤◌, Bool, true, false, List, [], ◌∷◌, ◌++◌, length, refl, sym, ap, ◌∙◌, subst, arith, length-append}
 use Rattle.std.proofs.lemmas.List.{append-nil}
 use mir.Val.{bool_byte}
@@ -25,7 +25,7 @@ digit_taken r0 w0 given r w have x t b l =
     let d = bits_push_bool b have x l in
     (subst (λ z. Taken r0 w0 (given ++ b ∷ []) r w (false ∷ z)) (sym d.0) (taken_with r0 w0 given r w (false ∷ bits have x) t (b ∷ [])), d.1)
 
--- the bits told so far are no run as a whole
+-- the bits fed so far are no run as a whole
 pub no_whole : (r0 w0 : ℕ) (given : List Bool) (s : RunState) → IsRunState w0 s → RunAt r0 w0 given s → NoRun r0 w0 given
 no_whole r0 w0 given (Blocks r w) i t = no_run_empty r0 w0 given r w [] t i.1 refl
 no_whole r0 w0 given (Count r w have x) i t =
@@ -64,7 +64,7 @@ pub full_end : (r0 w0 : ℕ) (given : List Bool) (r w : ℕ) → Taken r0 w0 giv
 full_end r0 w0 given r w t e =
     ended r0 w0 given (risen r) (w - 2 ^ run_order r) [] (taken_more r0 w0 given r w (true ∷ []) t [] (omega arith) refl) (omega arith)
 
--- a one for a block, with columns behind it
+-- a one for a block, with columns after it
 pub next_block : (r0 w0 : ℕ) (given : List Bool) (r w b : ℕ) → Taken r0 w0 given r w (true ∷ []) → b ≡ 2 ^ run_order r → b ≤ w
     → Taken r0 w0 given (risen r) (w - b) []
 next_block r0 w0 given r w b t e l =

@@ -133,7 +133,7 @@ run_index_before_small earlier k = kept (filter (is_run_of k) earlier) 0 (omega 
 pub tail_same : (x : Bool) (a b : List Bool) → x ∷ a ≡ x ∷ b → a ≡ b
 tail_same x a b e = cc
 
--- a run that is interrupted in a block, and one that goes on behind a full block
+-- a run that is interrupted in a block, and one that goes on after a full block
 pub broken_none : (r n : ℕ) (s : List Bool) → r ≤ 31 → n < 2 ^ run_order r
     → interrupted_run_bits (blocks r n) s ≡ false ∷ (bits (run_order r) n ++ s)
 broken_none r n s q h = ap (λ b. interrupted_run_bits b s) (blocks_none r n q h)

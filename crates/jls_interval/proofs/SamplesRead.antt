@@ -1,4 +1,4 @@
--- What stands at the front, where a Golomb code does or doesn't.
+-- What stands at the start, where a Golomb code does or doesn't.
 use Rattle.std.proofs.Common.{◌≡◌, ℕ, ◌-◌, ◌*◌, ◌^◌, ◌≤◌, Bool, true, ltb, List, ◌++◌, sym, ap, ◌∙◌, subst, arith}
 use Rattle.std.specs.Prelude.{ℤ, pos, unsigned_abs}
 use Rattle.jls_values.specs.Params.{CodingParameters}

@@ -3,7 +3,7 @@ use Rattle.std.proofs.Common.{◌≡◌, Bool, List, [], ◌∷◌, ◌++◌, re
 use Rattle.std.proofs.lemmas.List.{append_cancel_left}
 use Rattle.jls_interval.specs.Stepwise.{StepwiseCode, Leads, bits_of_steps, IsEnd, IsPrefixFree, IsKept}
 
--- of two fronts of one list, one begins the other
+-- of two prefixes of one list, one begins the other
 pub one_begins : {A : Type 0} → (a b c d : List A) → a ++ b ≡ c ++ d
     → ((x : List A) × (a ≡ c ++ x) × (x ++ b ≡ d)) ⊎ ((x : List A) × (y : A) × (c ≡ a ++ (y ∷ x)) × (b ≡ (y ∷ x) ++ d))
 one_begins [] b [] d e = inl ([], refl, e)
@@ -46,7 +46,7 @@ module _ (m : StepwiseCode) (free : IsPrefixFree m) (kept : IsKept m) where
       let r : (es ≡ fs) × (t ≡ u) = one_code (m.after s f) z y es fs t u (kept s f ok q.0) (subst (λ k. Leads m (m.after s k) es z) h p.1) q.1 a b rest in
       (cons_same g f es fs h r.0, r.1)
 
-  -- where no event's bits stand behind those of some first events, no whole code does
+  -- where no event's bits stand after those of some first events, no whole code does
   pub refused : (s z y : m.State) (es fs : List m.Event) (left rest : List Bool) → m.Sound s → Leads m s es z → Leads m s fs y → IsEnd m y
       → (x : m.Event) → m.Next z x → ((e : m.Event) (more : List Bool) → m.Next z e → left ≡ m.step_bits z e ++ more → ⊥)
       → bits_of_steps m s es ++ left ≡ bits_of_steps m s fs ++ rest → ⊥

@@ -47,9 +47,9 @@ module _ (w k : ℕ) (up : Above) where
   at_stop line x stop r e s = let u : ltb stop w ≡ true = lt-ltb _ w s in rw (r, e, u)
 
   -- the neighbours of a place need only the samples before it
-  pub at_front : (line more : List ℕ) (x : ℕ) → x ≤ length line → at (line ++ more) x ≡ at line x
-  at_front line more zero h = refl
-  at_front line more (suc x) h = let e : get_or (line ++ more) x 0 ≡ get_or line x 0 = get_or_append_left line more 0 x (omega arith) in rw e
+  pub at_prefix : (line more : List ℕ) (x : ℕ) → x ≤ length line → at (line ++ more) x ≡ at line x
+  at_prefix line more zero h = refl
+  at_prefix line more (suc x) h = let e : get_or (line ++ more) x 0 ≡ get_or line x 0 = get_or_append_left line more 0 x (omega arith) in rw e
 
   pub run_long : (v n : ℕ) → prefix_len (λ s. eqb s v) (replicate n v) ≡ n
   run_long v zero = refl
@@ -66,7 +66,7 @@ module _ (w k : ℕ) (up : Above) where
       → stretch w k up (line ++ (added (at line (length line)).ra e ++ rest)) (length line) ≡ to e (length line + length (added (at line (length line)).ra e))
   fits_stretch p line rest (regular near sample) l h =
       let x = length line in let whole = line ++ sample ∷ rest in
-      let e1 : at whole x ≡ at line x = at_front line (sample ∷ rest) x (omega arith) in
+      let e1 : at whole x ≡ at line x = at_prefix line (sample ∷ rest) x (omega arith) in
       let e2 : get_or whole x 0 ≡ sample = get_or_at line sample rest 0 x refl in
       let e3 : suc x ≡ x + 1 = omega arith in
       let r : is_run_mode (at whole x) ≡ false = ap is_run_mode e1 ∙ h.0 in
@@ -77,7 +77,7 @@ module _ (w k : ℕ) (up : Above) where
       let lr : length (replicate count v) ≡ count = length-replicate count v in
       let hc : x + count ≡ w = h.2 in
       let none : rest ≡ [] = nil_from_length rest (omega arith) in
-      let e1 : at whole x ≡ at line x = at_front line (replicate count v ++ rest) x (omega arith) in
+      let e1 : at whole x ≡ at line x = at_prefix line (replicate count v ++ rest) x (omega arith) in
       let d : drop x whole ≡ replicate count v ++ rest = drop_at line (replicate count v ++ rest) x refl in
       let d' : drop x whole ≡ replicate count v = d ∙ ap (λ z. replicate count v ++ z) none ∙ append-nil (replicate count v) in
       let len : prefix_len (λ s. eqb s v) (drop x whole) ≡ count = ap (prefix_len (λ s. eqb s v)) d' ∙ run_long v count in
@@ -88,15 +88,15 @@ module _ (w k : ℕ) (up : Above) where
       let sub : w - x ≡ count = omega arith in
       s ∙ stretch_same (run_to_end k (w - x)) (run_to_end c count) w (x + length (replicate count v)) (let n = h.1 in cc) (omega arith)
   fits_stretch p line rest (interrupted_run c count near sample) l h =
-      let x = length line in let v = (at line x).ra in let front = line ++ replicate count v in
+      let x = length line in let v = (at line x).ra in let prefix = line ++ replicate count v in
       let whole = line ++ ((replicate count v ++ sample ∷ []) ++ rest) in
       let lr : length (replicate count v) ≡ count = length-replicate count v in
-      let lf : length front ≡ x + count = length-append line (replicate count v) ∙ ap (λ z. x + z) lr in
+      let lf : length prefix ≡ x + count = length-append line (replicate count v) ∙ ap (λ z. x + z) lr in
       let hc : x + count < w = h.2 in
-      let shape : whole ≡ front ++ sample ∷ rest = regroup line (replicate count v) sample rest in
-      let e1 : at whole x ≡ at line x = at_front line ((replicate count v ++ sample ∷ []) ++ rest) x (omega arith) in
-      let e2 : at whole (x + count) ≡ at front (x + count) = ap (λ z. at z (x + count)) shape ∙ at_front front (sample ∷ rest) (x + count) (omega arith) in
-      let e3 : get_or whole (x + count) 0 ≡ sample = ap (λ z. get_or z (x + count) 0) shape ∙ get_or_at front sample rest 0 (x + count) lf in
+      let shape : whole ≡ prefix ++ sample ∷ rest = regroup line (replicate count v) sample rest in
+      let e1 : at whole x ≡ at line x = at_prefix line ((replicate count v ++ sample ∷ []) ++ rest) x (omega arith) in
+      let e2 : at whole (x + count) ≡ at prefix (x + count) = ap (λ z. at z (x + count)) shape ∙ at_prefix prefix (sample ∷ rest) (x + count) (omega arith) in
+      let e3 : get_or whole (x + count) 0 ≡ sample = ap (λ z. get_or z (x + count) 0) shape ∙ get_or_at prefix sample rest 0 (x + count) lf in
       let d : drop x whole ≡ (replicate count v ++ sample ∷ []) ++ rest = drop_at line ((replicate count v ++ sample ∷ []) ++ rest) x refl in
       let d' : drop x whole ≡ replicate count v ++ sample ∷ rest = d ∙ append_assoc (replicate count v) (sample ∷ []) rest in
       let len : prefix_len (λ s. eqb s v) (drop x whole) ≡ count = ap (prefix_len (λ s. eqb s v)) d' ∙ run_short v count sample rest h.5 in

@@ -46,7 +46,7 @@ record WorkedExamples : Type 0 where
   with_maxval_15 : packed values_16 1 1 ((15 ∷ []) ∷ []) ≡ 0x40 ∷ []
   -- eight full blocks are eight ones, and a byte 0xFF is never the last
   twelve_zeros : packed bits_8 12 1 ((0 ∷ 0 ∷ 0 ∷ 0 ∷ 0 ∷ 0 ∷ 0 ∷ 0 ∷ 0 ∷ 0 ∷ 0 ∷ 0 ∷ []) ∷ []) ≡ 0xFF ∷ 0x00 ∷ []
-  -- a column remains: one more one, behind the stuffed bit
+  -- a column remains: one more one, after the stuffed bit
   thirteen_zeros : packed bits_8 13 1 ((0 ∷ 0 ∷ 0 ∷ 0 ∷ 0 ∷ 0 ∷ 0 ∷ 0 ∷ 0 ∷ 0 ∷ 0 ∷ 0 ∷ 0 ∷ []) ∷ []) ≡ 0xFF ∷ 0x40 ∷ []
   -- the ninth block has four columns, so that nothing remains
   sixteen_zeros : packed bits_8 16 1 ((0 ∷ 0 ∷ 0 ∷ 0 ∷ 0 ∷ 0 ∷ 0 ∷ 0 ∷ 0 ∷ 0 ∷ 0 ∷ 0 ∷ 0 ∷ 0 ∷ 0 ∷ 0 ∷ []) ∷ [])

@@ -30,6 +30,6 @@ module _ (r n : ℕ) (within : r ≤ 31) (short : n < 2 ^ run_order r) where
   pub no_block_remaining : (rest : ℕ) → (blocks r n).remaining ≡ rest → n ≡ rest
   no_block_remaining rest e = ap (λ (b : Blocks). b.remaining) (sym (blocks_none r n within short)) ∙ e
 
--- the sample behind it
+-- the sample after it
 pub interruption_then : (run : Blocks) (rest : List Bool) → interrupted_run_bits run [] ++ rest ≡ interrupted_run_bits run rest
 interruption_then run rest = ap (λ z. z ++ rest) (append-nil _)

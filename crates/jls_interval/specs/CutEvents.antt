@@ -54,8 +54,8 @@ module _ (run_index columns : ℕ) (begun : List Bool) where
     pub begun_is : begun ≡ replicate full true ++ false ∷ bits read value
 
 -- the neighbours of the column after so many of a run, if the line so far has these samples (T.87 A.5.3, A.7)
-abbrev pub behind_run : ℕ → Above → List ℕ → ℕ → Neighbours
-behind_run width up line count =
+abbrev pub after_run : ℕ → Above → List ℕ → ℕ → Neighbours
+after_run width up line count =
     neighbours width up (line ++ replicate count (neighbours width up line (length line)).ra) (length line + count)
 
 -- ones, the zero, the columns that remain, and the first bits of the code of some error of the interrupting sample. The error of the run's
@@ -70,10 +70,10 @@ pub record CutsInterruption (p : CodingParameters) (width : ℕ) (up : Above) (l
   pub within : length line + count < width
   pub error : ℤ
   pub is_error : IsError p error
-  pub not_own : error ≡ interruption_error p (behind_run width up line count) (neighbours width up line (length line)).ra → ⊥
+  pub not_own : error ≡ interruption_error p (after_run width up line count) (neighbours width up line (length line)).ra → ⊥
   pub code_begun : List Bool
   pub begun_is : begun ≡ (replicate full true ++ false ∷ bits (run_order (run_index_raised run_index full)) remaining) ++ code_begun
-  pub cut : let near = behind_run width up line count in let same = is_same near in let cell = run_cell_before p earlier same in
+  pub cut : let near = after_run width up line count in let same = is_same near in let cell = run_cell_before p earlier same in
       let g = limit p - run_order (run_index_raised run_index full) - 1 in
       IsProperPrefix code_begun (golomb (run_k same cell) g (qbpp p) (interruption_mapped same cell error))
 

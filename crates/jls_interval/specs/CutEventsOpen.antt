@@ -11,28 +11,28 @@ use Rattle.jls_interval.specs.Growth.{Fits}
 use Rattle.jls_interval.specs.OpenEvents.{now_at}
 use Rattle.jls_interval.specs.CutEvents.{IsProperPrefix}
 
--- the bits told are a proper prefix of those of a sample of regular mode
-pub record BeginsSample (p : CodingParameters) (cell : Cell) (near : Neighbours) (told : List Bool) : Type 0 where
+-- the bits fed are a proper prefix of those of a sample of regular mode
+pub record BeginsSample (p : CodingParameters) (cell : Cell) (near : Neighbours) (fed : List Bool) : Type 0 where
   pub sample : ℕ
   pub at_most : sample ≤ p.maxval
-  pub cut : IsProperPrefix told (regular_bits p cell near sample)
+  pub cut : IsProperPrefix fed (regular_bits p cell near sample)
 
--- of those of a sample that interrupts a run, behind J bits of its count
-pub record BeginsInterruption (p : CodingParameters) (cell : RunCell) (near : Neighbours) (order : ℕ) (told : List Bool) : Type 0 where
+-- of those of a sample that interrupts a run, after J bits of its count
+pub record BeginsInterruption (p : CodingParameters) (cell : RunCell) (near : Neighbours) (order : ℕ) (fed : List Bool) : Type 0 where
   pub sample : ℕ
   pub at_most : sample ≤ p.maxval
   pub another : sample ≡ near.ra → ⊥
-  pub cut : IsProperPrefix told (interrupting_bits p cell near order sample)
+  pub cut : IsProperPrefix fed (interrupting_bits p cell near order sample)
 
 -- of those of a run, from RUNindex r0 on where w0 columns were left, that any sample interrupts
-pub record BeginsRun (r0 w0 : ℕ) (told : List Bool) : Type 0 where
+pub record BeginsRun (r0 w0 : ℕ) (fed : List Bool) : Type 0 where
   pub count : ℕ
   pub short : count < w0
-  pub cut : (sample : List Bool) → IsProperPrefix told (interrupted_run_bits (blocks r0 count) sample)
+  pub cut : (sample : List Bool) → IsProperPrefix fed (interrupted_run_bits (blocks r0 count) sample)
 
 -- of those of an event that can come next in a line of a component
-pub record BeginsEvent (p : CodingParameters) (w component : ℕ) (up : Above) (line : List ℕ) (told : List Bool)
+pub record BeginsEvent (p : CodingParameters) (w component : ℕ) (up : Above) (line : List ℕ) (fed : List Bool)
     (earlier : List Event) : Type 0 where
   pub event : Event
   pub fits : Fits p w component up line (now_at w up line) event
-  pub cut : IsProperPrefix told (event_bits p earlier event)
+  pub cut : IsProperPrefix fed (event_bits p earlier event)

@@ -17,20 +17,20 @@ use Rattle.jls_interval.specs.declared.interval_reader.State.TheVariants.{Workin
 use Rattle.jls_interval.specs.declared.interval_reader.IntervalReader.{IntervalReader}
 
 -- Lines are still to come. Of the bits given, the first ones are those of whole events, which lead from the start to these finished
--- lines and this begun one; the machine in hand was told the others
+-- lines and this begun one; the machine in hand was fed the others
 pub record IsWorking (p : CodingParameters) (w c n : ℕ) (given : List Bool) (lines : List (List ℕ)) (line : List ℕ) (cells : Variables)
     (run_indices : List ℕ) (open_event : OpenEvent) : Type 0 where
   pub earlier : List Event
-  pub told : List Bool
+  pub fed : List Bool
   pub leads : Leads (interval_steps p w c n) start earlier (record { lines = lines; line = line; earlier = earlier })
-  pub bits_are : given ≡ bits_of_steps (interval_steps p w c n) start earlier ++ told
+  pub bits_are : given ≡ bits_of_steps (interval_steps p w c n) start earlier ++ fed
   pub samples : HasSamples p (record { lines = lines; line = line; earlier = earlier })
   pub unfinished : length line < w
   pub few : length lines < n
   pub is_after : IsAfter p cells run_indices earlier
-  pub open_event_at : OpenEventAt p w (above c lines) line cells (get_or run_indices (length lines % c) 0) open_event told
+  pub open_event_at : OpenEventAt p w (above c lines) line cells (get_or run_indices (length lines % c) 0) open_event fed
 
--- all lines are there, and so many bits, counted up to 8, came behind their code
+-- all lines are there, and so many bits, counted up to 8, came after their code
 pub record IsComplete (p : CodingParameters) (w c n : ℕ) (given : List Bool) (lines : List (List ℕ)) (extra : ℕ) : Type 0 where
   pub unread : List Bool
   pub are_lines : AreLines p w n lines

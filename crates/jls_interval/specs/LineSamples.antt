@@ -1,11 +1,11 @@
--- Samples of regular mode that are taken from the front of a chunk, one after another, in a line that goes on behind them.
+-- Samples of regular mode that are taken from the start of a chunk, one after another, in a line that goes on after them.
 use Rattle.std.specs.Prelude.{◌≡◌, ℕ, ◌%◌, ◌≤◌, Bool, false, List, [], ◌∷◌, ◌++◌, length}
 use Rattle.jls_values.specs.Params.{CodingParameters, limit, qbpp}
 use Rattle.jls_context.specs.declared.mode.Neighbours.{Neighbours}
 use Rattle.jls_context.specs.Mode.{is_run_mode, context}
 use Rattle.jls_context.specs.Regular.{regular_k}
 use Rattle.jls_context.specs.Variables.{Variables, cell_at}
-use Rattle.jls_bits.specs.CodeState.{IsOpen, bits_told}
+use Rattle.jls_bits.specs.CodeState.{IsOpen, bits_fed}
 use Rattle.jls_bits.specs.declared.code_state.CodeState.{CodeState}
 use Rattle.jls_interval.specs.Events.{Event, regular, Above, above}
 use Rattle.jls_interval.specs.Code.{event_bits}
@@ -14,8 +14,8 @@ use Rattle.jls_interval.specs.Decoding.{IsWorking}
 use Rattle.jls_interval.specs.declared.coder.Coder.{Coder}
 use Rattle.jls_interval.specs.declared.line_reader.OpenEvent.{OpenEvent}
 use Rattle.jls_interval.specs.declared.line_reader.LineReader.{LineReader}
-use Rattle.jls_interval.specs.declared.line_samples.Front.{Front}
-use Rattle.jls_interval.specs.declared.line_samples.Front.TheVariants.{Taken, Begun, Other}
+use Rattle.jls_interval.specs.declared.line_samples.Prefix.{Prefix}
+use Rattle.jls_interval.specs.declared.line_samples.Prefix.TheVariants.{Taken, Begun, Other}
 
 -- the bits of a sample of regular mode were taken, and the coder carries what the sample leaves
 pub record SampleTaken (p : CodingParameters) (near : Neighbours) (value : ℕ) (old new : Coder) (chunk unread : List Bool) : Type 0 where
@@ -31,15 +31,15 @@ pub record SampleBegun (p : CodingParameters) (near : Neighbours) (cells : Varia
     (chunk unread : List Bool) : Type 0 where
   pub not_run : is_run_mode near ≡ false
   pub opened : IsOpen (regular_k (cell_at cells (context p near))) (limit p) (qbpp p) code
-  pub told : chunk ≡ bits_told (limit p) (qbpp p) code
+  pub fed : chunk ≡ bits_fed (limit p) (qbpp p) code
   pub all : unread ≡ []
 
--- what stood at the front of the bits, and was taken
-abbrev pub FrontIs : CodingParameters → Neighbours → Coder → Coder → List Bool → List Bool → Front → Type 0
-FrontIs p near old new chunk unread (Taken value) = SampleTaken p near value old new chunk unread
-FrontIs p near old new chunk unread (Begun code) =
+-- what stood at the start of the bits, and was taken
+abbrev pub PrefixIs : CodingParameters → Neighbours → Coder → Coder → List Bool → List Bool → Prefix → Type 0
+PrefixIs p near old new chunk unread (Taken value) = SampleTaken p near value old new chunk unread
+PrefixIs p near old new chunk unread (Begun code) =
     SampleBegun p near old.cells code chunk unread × (new ≡ old)
-FrontIs p near old new chunk unread Other = (new ≡ old) × (unread ≡ chunk)
+PrefixIs p near old new chunk unread Other = (new ≡ old) × (unread ≡ chunk)
 
 -- lines are still to come, and a reader has the one in work
 abbrev pub Works : CodingParameters → ℕ → ℕ → List Bool → List (List ℕ) → LineReader → Type 0

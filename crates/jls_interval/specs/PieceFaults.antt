@@ -22,7 +22,7 @@ OutcomeIs i piece (Err Long) = IsLong i piece
 OutcomeIs i piece (Err Broken) = IsBroken i piece
 OutcomeIs i piece (Err OutOfMemory) = ⊥
 
--- inside the crate: no lines' code stands at the front of the bits
+-- inside the crate: no lines' code stands at the start of the bits
 abbrev pub NoLines : CodingParameters → ℕ → ℕ → ℕ → List Bool → Type 0
 NoLines p width components count given =
     (lines : List (List ℕ)) (rest : List Bool) → AreLines p width count lines → given ≡ code p width components lines ++ rest → ⊥

@@ -11,9 +11,9 @@ HasTakenAll (More state) unread = unread ≡ []
 HasTakenAll (Done run) unread = Unit {0}
 HasTakenAll Refused unread = Unit {0}
 
--- the first bits of the chunk were taken, and the step is what the bits told before and these make of the run
+-- the first bits of the chunk were taken, and the step is what the bits fed before and these make of the run
 pub record RunPushed (w0 : ℕ) (state : RunState) (chunk unread : List Bool) (step : RunStep) : Type 0 where
   pub taken : List Bool
   pub chunk_is : chunk ≡ taken ++ unread
-  pub step_is : (r0 : ℕ) (told : List Bool) → RunAt r0 w0 told state → RunStepIs r0 w0 (told ++ taken) step
+  pub step_is : (r0 : ℕ) (fed : List Bool) → RunAt r0 w0 fed state → RunStepIs r0 w0 (fed ++ taken) step
   pub all : HasTakenAll step unread

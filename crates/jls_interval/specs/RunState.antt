@@ -11,7 +11,7 @@ use Rattle.jls_interval.specs.declared.run_reader.RunState.TheVariants.{Blocks, 
 use Rattle.jls_interval.specs.declared.run_reader.RunStep.{RunStep}
 use Rattle.jls_interval.specs.declared.run_reader.RunStep.TheVariants.{More, Done, Refused}
 
--- the run, from RUNindex r0 on where w0 columns are left, stands at the front of the bits, and these are behind it
+-- the run, from RUNindex r0 on where w0 columns are left, stands at the start of the bits, and these are after it
 abbrev pub RunIs : ℕ → ℕ → List Bool → List Bool → Run → Type 0
 RunIs r0 w0 given unread (ToEnd run_index) =
     (given ≡ run_to_end_bits (blocks r0 w0) ++ unread) × ((blocks r0 w0).run_index ≡ run_index)
@@ -23,7 +23,7 @@ abbrev pub IsRun : ℕ → Run → Type 0
 IsRun w0 (ToEnd run_index) = run_index ≤ 31
 IsRun w0 (Interrupted count run_index) = (count < w0) × (run_index ≤ 31)
 
--- The numbers of a state. Behind the zero of an interrupted run, `count` bits of the columns that remain were read, and `value` is their
+-- The numbers of a state. After the zero of an interrupted run, `count` bits of the columns that remain were read, and `value` is their
 -- number
 abbrev pub IsRunState : ℕ → RunState → Type 0
 IsRunState w0 (Blocks run_index columns) = (run_index ≤ 31) × (0 < columns) × (columns ≤ w0)
@@ -36,13 +36,13 @@ IsRunStep w0 (More state) = IsRunState w0 state
 IsRunStep w0 (Done run) = IsRun w0 run
 IsRunStep w0 Refused = Unit {0}
 
--- the bits told so far lead to the state
+-- the bits fed so far lead to the state
 abbrev pub RunAt : ℕ → ℕ → List Bool → RunState → Type 0
 RunAt r0 w0 given (Blocks run_index columns) = Taken r0 w0 given run_index columns []
 RunAt r0 w0 given (Count run_index columns count value) =
     Taken r0 w0 given run_index columns (false ∷ bits count value)
 
--- what a step says of the bits told so far and the new one
+-- what a step says of the bits fed so far and the new one
 abbrev pub RunStepIs : ℕ → ℕ → List Bool → RunStep → Type 0
 RunStepIs r0 w0 given (More state) = RunAt r0 w0 given state
 RunStepIs r0 w0 given (Done run) = RunIs r0 w0 given [] run

@@ -7,7 +7,7 @@ ghost use Rattle.jls_context.specs.Mode.{is_run_mode, context};
 ghost use Rattle.jls_context.specs.Regular.{regular_k};
 ghost use Rattle.jls_context.specs.Interruption.{run_k};
 ghost use Rattle.jls_context.specs.Variables.{cell_at, run_cell_at};
-ghost use Rattle.jls_bits.specs.CodeState.{IsOpen, bits_told};
+ghost use Rattle.jls_bits.specs.CodeState.{IsOpen, bits_fed};
 ghost use Rattle.jls_interval.specs.Events.{Event};
 ghost use Rattle.jls_interval.specs.Cells.{is_same};
 ghost use Rattle.jls_interval.specs.Code.{event_bits};
@@ -17,7 +17,7 @@ ghost use Rattle.jls_interval.specs.Growth.{Fits};
 ghost use Rattle.jls_interval.specs.Reading.{NoRun, NoSample, NoInterruption};
 ghost use Rattle.jls_interval.specs.Place.{above_of};
 ghost use Rattle.jls_interval.specs.After.{IsAfter};
-ghost use Rattle.jls_interval.specs.OpenEvents.{now_at, behind, Holds, NoEvent};
+ghost use Rattle.jls_interval.specs.OpenEvents.{now_at, following, Holds, NoEvent};
 ghost use Rattle.jls_interval.specs.CutEventsOpen.{BeginsSample, BeginsInterruption, BeginsRun, BeginsEvent};
 
 use crate::coder::RegularMode;
@@ -43,9 +43,9 @@ fn least_count(value: u32, bits: u8, order: u8) -> u32
 /// begins so is below the columns left.
 fn run_goes_on(state: RunState) -> bool
     requires { (w0 : ℕ) × IsRunState w0 state }
-    ensures yes { result ≡ true → (r0 w0 : ℕ) (told : List Bool) → IsRunState w0 state → RunAt r0 w0 told state → BeginsRun r0 w0 told }
-    ensures no { result ≡ false → (r0 w0 : ℕ) (told : List Bool) → IsRunState w0 state → RunAt r0 w0 told state → (more : List Bool)
-        → NoRun r0 w0 (told ++ more) }
+    ensures yes { result ≡ true → (r0 w0 : ℕ) (fed : List Bool) → IsRunState w0 state → RunAt r0 w0 fed state → BeginsRun r0 w0 fed }
+    ensures no { result ≡ false → (r0 w0 : ℕ) (fed : List Bool) → IsRunState w0 state → RunAt r0 w0 fed state → (more : List Bool)
+        → NoRun r0 w0 (fed ++ more) }
 {
     match state {
         RunState::Blocks { .. } => true,
@@ -67,10 +67,10 @@ fn regular_goes_on(reader: &LineReader, place: &Place<'_>, code: CodeState) -> b
         (limit reader.now.coder.cells.parameters) (qbpp reader.now.coder.cells.parameters) code }
     ensures yes { result ≡ true → (let p = reader.now.coder.cells.parameters in
         let near = now_at reader.now.width (above_of place.now) reader.now.line.items in
-        BeginsSample p (cell_at reader.now.coder.cells (context p near)) near (bits_told (limit p) (qbpp p) code)) }
+        BeginsSample p (cell_at reader.now.coder.cells (context p near)) near (bits_fed (limit p) (qbpp p) code)) }
     ensures no { result ≡ false → (more : List Bool) → (let p = reader.now.coder.cells.parameters in
         let near = now_at reader.now.width (above_of place.now) reader.now.line.items in
-        NoSample p (cell_at reader.now.coder.cells (context p near)) near (bits_told (limit p) (qbpp p) code ++ more)) }
+        NoSample p (cell_at reader.now.coder.cells (context p near)) near (bits_fed (limit p) (qbpp p) code ++ more)) }
 {
     let near = place.neighbours(reader.width, &reader.line, reader.line.len());
     match reader.coder.cells.mode(near.ra, near.rb, near.rc, near.rd) {
@@ -90,18 +90,18 @@ fn interrupted_goes_on(reader: &LineReader, place: &Place<'_>, interruption: Int
     requires above { AllByRecursion (λ s. s ≤ reader.now.coder.cells.parameters.maxval) place.now.line_above.now }
     requires columns { interruption.count < reader.now.width - length reader.now.line.items }
     requires run_index { interruption.run_index ≤ 31 }
-    requires opened { let there = behind reader.now.width (above_of place.now) reader.now.line.items interruption.count in
+    requires opened { let there = following reader.now.width (above_of place.now) reader.now.line.items interruption.count in
         IsOpen (run_k (is_same there) (run_cell_at reader.now.coder.cells (is_same there)))
         (limit reader.now.coder.cells.parameters - Runs.run_order interruption.run_index - 1)
         (qbpp reader.now.coder.cells.parameters) interruption.code }
     ensures yes { result ≡ true → (let p = reader.now.coder.cells.parameters in
-        let there = behind reader.now.width (above_of place.now) reader.now.line.items interruption.count in
+        let there = following reader.now.width (above_of place.now) reader.now.line.items interruption.count in
         let j = Runs.run_order interruption.run_index in BeginsInterruption p (run_cell_at reader.now.coder.cells (is_same there)) there j
-        (bits_told (limit p - j - 1) (qbpp p) interruption.code)) }
+        (bits_fed (limit p - j - 1) (qbpp p) interruption.code)) }
     ensures no { result ≡ false → (more : List Bool) → (let p = reader.now.coder.cells.parameters in
-        let there = behind reader.now.width (above_of place.now) reader.now.line.items interruption.count in
+        let there = following reader.now.width (above_of place.now) reader.now.line.items interruption.count in
         let j = Runs.run_order interruption.run_index in NoInterruption p (run_cell_at reader.now.coder.cells (is_same there)) there j
-        (bits_told (limit p - j - 1) (qbpp p) interruption.code ++ more)) }
+        (bits_fed (limit p - j - 1) (qbpp p) interruption.code ++ more)) }
 {
     let Interruption {
         count,
@@ -124,20 +124,20 @@ fn interrupted_goes_on(reader: &LineReader, place: &Place<'_>, interruption: Int
 pub(crate) fn event_goes_on(reader: &LineReader, place: &Place<'_>) -> bool
     requires above { AllByRecursion (λ s. s ≤ reader.now.coder.cells.parameters.maxval) place.now.line_above.now }
     requires columns { length reader.now.line.items < reader.now.width }
-    requires open_event { (told : List Bool) × Holds place.now.component (above_of place.now) reader.now told }
-    ensures yes { result ≡ true → (told : List Bool) (earlier : List Event)
+    requires open_event { (fed : List Bool) × Holds place.now.component (above_of place.now) reader.now fed }
+    ensures yes { result ≡ true → (fed : List Bool) (earlier : List Event)
         → IsAfter reader.now.coder.cells.parameters reader.now.coder.cells reader.now.coder.run_indices earlier
         → ((e : Event) → Fits reader.now.coder.cells.parameters reader.now.width place.now.component
         (above_of place.now) reader.now.line.items (now_at reader.now.width (above_of place.now) reader.now.line.items) e
         → event_bits reader.now.coder.cells.parameters earlier e ≡ [] → ⊥)
-        → Holds place.now.component (above_of place.now) reader.now told
+        → Holds place.now.component (above_of place.now) reader.now fed
         → BeginsEvent reader.now.coder.cells.parameters reader.now.width place.now.component
-        (above_of place.now) reader.now.line.items told earlier }
-    ensures no { result ≡ false → (told : List Bool) (earlier : List Event)
+        (above_of place.now) reader.now.line.items fed earlier }
+    ensures no { result ≡ false → (fed : List Bool) (earlier : List Event)
         → IsAfter reader.now.coder.cells.parameters reader.now.coder.cells reader.now.coder.run_indices earlier
-        → Holds place.now.component (above_of place.now) reader.now told
+        → Holds place.now.component (above_of place.now) reader.now fed
         → (more : List Bool) → NoEvent reader.now.coder.cells.parameters reader.now.width place.now.component
-        (above_of place.now) reader.now.line.items (told ++ more) earlier }
+        (above_of place.now) reader.now.line.items (fed ++ more) earlier }
 {
     match reader.open_event {
         OpenEvent::NotBegun => true,

@@ -7,7 +7,7 @@ ghost use Rattle.jls_context.specs.Regular.{regular_k};
 ghost use Rattle.jls_context.specs.Interruption.{run_k};
 ghost use Rattle.jls_context.specs.Variables.{cell_at, run_cell_at};
 ghost use Rattle.jls_bits.specs.Golomb.{golomb, BeginsCodeOf};
-ghost use Rattle.jls_bits.specs.CodeState.{IsOpen, bits_told};
+ghost use Rattle.jls_bits.specs.CodeState.{IsOpen, bits_fed};
 ghost use Rattle.jls_interval.specs.Cells.{is_same};
 ghost use Rattle.jls_interval.specs.Reading.{NoSample, NoInterruption};
 ghost use Rattle.jls_interval.specs.CutEventsOpen.{BeginsSample, BeginsInterruption};
@@ -38,9 +38,9 @@ fn sample_begins(
         (qbpp coder.now.cells.parameters) code }
     requires mapped { mapped ≤ 2 ^ qbpp coder.now.cells.parameters }
     ensures yes { result ≡ true → BeginsSample coder.now.cells.parameters (cell_at coder.now.cells mode.context) neighbours
-        (bits_told (limit coder.now.cells.parameters) (qbpp coder.now.cells.parameters) code) }
+        (bits_fed (limit coder.now.cells.parameters) (qbpp coder.now.cells.parameters) code) }
     ensures no { result ≡ false → BeginsCodeOf (regular_k (cell_at coder.now.cells mode.context)) (limit coder.now.cells.parameters)
-        (qbpp coder.now.cells.parameters) (bits_told (limit coder.now.cells.parameters) (qbpp coder.now.cells.parameters) code) mapped
+        (qbpp coder.now.cells.parameters) (bits_fed (limit coder.now.cells.parameters) (qbpp coder.now.cells.parameters) code) mapped
         → (given unread : List Bool) → given ≡ golomb (regular_k (cell_at coder.now.cells mode.context)) (limit coder.now.cells.parameters)
         (qbpp coder.now.cells.parameters) mapped ++ unread → NoSample coder.now.cells.parameters
         (cell_at coder.now.cells mode.context) neighbours given }
@@ -66,9 +66,9 @@ pub(crate) fn sample_goes_on(
     requires opened { IsOpen (regular_k (cell_at coder.now.cells mode.context)) (limit coder.now.cells.parameters)
         (qbpp coder.now.cells.parameters) code }
     ensures yes { result ≡ true → BeginsSample coder.now.cells.parameters (cell_at coder.now.cells mode.context) neighbours
-        (bits_told (limit coder.now.cells.parameters) (qbpp coder.now.cells.parameters) code) }
+        (bits_fed (limit coder.now.cells.parameters) (qbpp coder.now.cells.parameters) code) }
     ensures no { result ≡ false → (more : List Bool) → NoSample coder.now.cells.parameters (cell_at coder.now.cells mode.context) neighbours
-        ((bits_told (limit coder.now.cells.parameters) (qbpp coder.now.cells.parameters) code) ++ more) }
+        ((bits_fed (limit coder.now.cells.parameters) (qbpp coder.now.cells.parameters) code) ++ more) }
 {
     for mapped in 0..numbers(coder.lengths.qbpp) {
         if sample_begins(coder, neighbours, mode, code, mapped) {
@@ -78,7 +78,7 @@ pub(crate) fn sample_goes_on(
     false
 }
 
-/// Whether the first bits of a code are those of the sample, behind J bits of a run's count, whose error is mapped to this number,
+/// Whether the first bits of a code are those of the sample, after J bits of a run's count, whose error is mapped to this number,
 /// and whether that sample can interrupt the run.
 fn interruption_begins(
     coder: &Coder,
@@ -94,10 +94,10 @@ fn interruption_begins(
     requires mapped { mapped ≤ 2 ^ qbpp coder.now.cells.parameters }
     ensures yes { result ≡ true → BeginsInterruption coder.now.cells.parameters
         (run_cell_at coder.now.cells (is_same neighbours)) neighbours order
-        (bits_told (limit coder.now.cells.parameters - order - 1) (qbpp coder.now.cells.parameters) code) }
+        (bits_fed (limit coder.now.cells.parameters - order - 1) (qbpp coder.now.cells.parameters) code) }
     ensures no { result ≡ false → BeginsCodeOf (run_k (is_same neighbours) (run_cell_at coder.now.cells (is_same neighbours)))
         (limit coder.now.cells.parameters - order - 1) (qbpp coder.now.cells.parameters)
-        (bits_told (limit coder.now.cells.parameters - order - 1) (qbpp coder.now.cells.parameters) code) mapped
+        (bits_fed (limit coder.now.cells.parameters - order - 1) (qbpp coder.now.cells.parameters) code) mapped
         → (given unread : List Bool) → given ≡ golomb (run_k (is_same neighbours) (run_cell_at coder.now.cells (is_same neighbours)))
         (limit coder.now.cells.parameters - order - 1) (qbpp coder.now.cells.parameters) mapped ++ unread
         → NoInterruption coder.now.cells.parameters (run_cell_at coder.now.cells (is_same neighbours)) neighbours order given }
@@ -113,7 +113,7 @@ fn interruption_begins(
     }
 }
 
-/// Whether the first bits of a code are those of a sample that can interrupt a run, behind J bits of its count.
+/// Whether the first bits of a code are those of a sample that can interrupt a run, after J bits of its count.
 pub(crate) fn interruption_goes_on(
     coder: &Coder,
     neighbours: Neighbours,
@@ -126,10 +126,10 @@ pub(crate) fn interruption_goes_on(
         (limit coder.now.cells.parameters - order - 1) (qbpp coder.now.cells.parameters) code }
     ensures yes { result ≡ true → BeginsInterruption coder.now.cells.parameters
         (run_cell_at coder.now.cells (is_same neighbours)) neighbours order
-        (bits_told (limit coder.now.cells.parameters - order - 1) (qbpp coder.now.cells.parameters) code) }
+        (bits_fed (limit coder.now.cells.parameters - order - 1) (qbpp coder.now.cells.parameters) code) }
     ensures no { result ≡ false → (more : List Bool) → NoInterruption coder.now.cells.parameters
         (run_cell_at coder.now.cells (is_same neighbours)) neighbours order
-        ((bits_told (limit coder.now.cells.parameters - order - 1) (qbpp coder.now.cells.parameters) code) ++ more) }
+        ((bits_fed (limit coder.now.cells.parameters - order - 1) (qbpp coder.now.cells.parameters) code) ++ more) }
 {
     for mapped in 0..numbers(coder.lengths.qbpp) {
         if interruption_begins(coder, neighbours, order, code, mapped) {

@@ -17,7 +17,7 @@ use crate::run_index::{lowered, run_order};
 use jls_context::Mode;
 use std::alloc::AllocError;
 
-/// How many samples from the front on have this value.
+/// How many samples from the start on have this value.
 fn run_length(samples: &[u16], value: u16) -> usize
     ensures { result ≡ prefix_len (λ sample. sample == value) samples.now }
 {

@@ -50,7 +50,7 @@ pub(crate) fn write_regular(
     Ok(())
 }
 
-/// Writes the sample that interrupts a run, behind J bits.
+/// Writes the sample that interrupts a run, after J bits.
 pub(crate) fn write_interrupting(
     encoder: &mut Encoder,
     neighbours: Neighbours,

@@ -44,7 +44,7 @@ pub(crate) fn write_samples(
                 };
                 let sample = line[column];
                 write_regular(encoder, near, mode, sample)?;
-                near = place.neighbours_behind(near, sample, column);
+                near = place.neighbours_after(near, sample, column);
                 second = first;
                 column += 1;
             }

@@ -76,7 +76,7 @@ fn take_back(ended: bool, reader: &mut IntervalReader) -> Chunk
     }
 }
 
-/// Takes the next bytes behind the bits of a chunk, and says whether none of the bytes so far ends the data.
+/// Takes the next bytes after the bits of a chunk, and says whether none of the bytes so far ends the data.
 fn push_bytes(
     unstuffer: &mut Unstuffer,
     reader: &mut IntervalReader,

@@ -16,7 +16,7 @@ use std::mem;
 pub(crate) enum State {
     /// Lines are still to come.
     Working,
-    /// All lines are there, and so many bits came behind their code, counted up to 8.
+    /// All lines are there, and so many bits came after their code, counted up to 8.
     Complete(u8),
     /// They begin with no lines' code, whatever comes.
     NoCode,
@@ -117,7 +117,7 @@ impl IntervalReader {
             return Chunk::new();
         };
         let lengths = self.reader.coder.lengths;
-        match code.told(lengths.limit, lengths.qbpp) {
+        match code.fed(lengths.limit, lengths.qbpp) {
             None => Chunk::new(),
             Some(chunk) => {
                 self.reader.open_event = OpenEvent::NotBegun;
@@ -126,7 +126,7 @@ impl IntervalReader {
         }
     }
 
-    /// Counts the bits that come behind the lines' code.
+    /// Counts the bits that come after the lines' code.
     fn count_bits(&mut self, chunk: &Chunk)
         ensures shape { HasShape self.old self.new }
         ensures bits { (self.old.state ≡ State.Working → ⊥) → TakesAll self.old self.new chunk.now }
@@ -143,7 +143,7 @@ impl IntervalReader {
         matches!(self.state, State::Working)
     }
 
-    /// Takes bits from the front of a chunk, an event after another, as long as there are at least `waiting`: all of
+    /// Takes bits from the start of a chunk, an event after another, as long as there are at least `waiting`: all of
     /// them where that is 0.
     pub(crate) fn push_chunk(&mut self, waiting: u8, chunk: &mut Chunk) -> Result<(), AllocError>
         requires { (p : CodingParameters) × (given : List Bool) × IsReading p given self.old }

@@ -6,11 +6,11 @@ ghost use Rattle.jls_context.specs.Mode.{IsRegularMode, IsStep, quantized_gradie
 ghost use Rattle.jls_context.specs.Errors.{IsError};
 ghost use Rattle.jls_context.specs.Regular.{regular_k};
 ghost use Rattle.jls_context.specs.Variables.{cell_at};
-ghost use Rattle.jls_bits.specs.CodeState.{IsOpen, bits_told};
+ghost use Rattle.jls_bits.specs.CodeState.{IsOpen, bits_fed};
 ghost use Rattle.jls_interval.specs.Cells.{regular_error};
 ghost use Rattle.jls_interval.specs.Code.{regular_bits};
 ghost use Rattle.jls_interval.specs.Place.{above_of};
-ghost use Rattle.jls_interval.specs.LineSamples.{FrontIs, TakesInLine};
+ghost use Rattle.jls_interval.specs.LineSamples.{PrefixIs, TakesInLine};
 
 use crate::code_lengths::CodeLengths;
 use crate::coder::{Coder, RegularMode};
@@ -21,9 +21,9 @@ use jls_bits::{Chunk, CodeState};
 use jls_context::{Mode, Neighbours};
 use std::alloc::AllocError;
 
-/// What stands at the front of a chunk, where a sample of regular mode may come.
+/// What stands at the start of a chunk, where a sample of regular mode may come.
 #[derive(Clone, Copy)]
-pub(crate) enum Front {
+pub(crate) enum Prefix {
     /// This sample, which was taken.
     Taken(u16),
     /// The first bits of a short code and no more, which were all taken.
@@ -32,7 +32,7 @@ pub(crate) enum Front {
     Other,
 }
 
-/// Takes a sample of regular mode whose code is short, where it stands whole at the front, or the first bits of one, where these are all
+/// Takes a sample of regular mode whose code is short, where it stands whole at the start, or the first bits of one, where these are all
 /// bits. The quantized gradients from Rb to Rd and from Rc to Rb are given.
 #[inline(always)]
 fn take_sample(
@@ -41,16 +41,16 @@ fn take_sample(
     first: i32,
     second: i32,
     chunk: &mut Chunk,
-) -> Front
+) -> Prefix
     requires first { first ≡ quantized_gradient coder.old.cells.parameters (pos neighbours.rd -ℤ pos neighbours.rb) }
     requires second { second ≡ quantized_gradient coder.old.cells.parameters (pos neighbours.rb -ℤ pos neighbours.rc) }
     requires steps { IsStep first × IsStep second }
-    ensures front { FrontIs coder.old.cells.parameters neighbours coder.old coder.new chunk.old chunk.new result }
+    ensures prefix { PrefixIs coder.old.cells.parameters neighbours coder.old coder.new chunk.old chunk.new result }
     ensures parameters { coder.new.cells.parameters ≡ coder.old.cells.parameters }
 {
     let third = coder.cells.gradient(neighbours.rc, neighbours.ra);
     match coder.cells.mode_of(first, second, third) {
-        Mode::Run => Front::Other,
+        Mode::Run => Prefix::Other,
         Mode::Regular { cell, negative } => {
             let mode = RegularMode {
                 context: cell,
@@ -61,18 +61,18 @@ fn take_sample(
             let mut ahead = chunk.fork();
             match ahead.take_code(k, limit, qbpp) {
                 None => match CodeState::of_short(k, limit, qbpp, chunk) {
-                    None => Front::Other,
+                    None => Prefix::Other,
                     Some(code) => {
                         *chunk = Chunk::new();
-                        Front::Begun(code)
+                        Prefix::Begun(code)
                     }
                 },
                 Some(mapped) => match sample_of(coder, neighbours, mode, mapped) {
-                    None => Front::Other,
+                    None => Prefix::Other,
                     Some(sample) => {
                         *chunk = ahead;
                         coder.cells.update_regular(cell, sample.error);
-                        Front::Taken(sample.value)
+                        Prefix::Taken(sample.value)
                     }
                 },
             }
@@ -81,7 +81,7 @@ fn take_sample(
 }
 
 /// Takes samples of regular mode as long as there are at least `looked_for` bits and their codes are short and stand whole at the
-/// front, and the first bits of one behind them: none, where an event has begun. The last two columns of the line are not taken.
+/// prefix, and the first bits of one after them: none, where an event has begun. The last two columns of the line are not taken.
 pub(crate) fn take_samples(
     reader: &mut LineReader,
     place: &Place<'_>,
@@ -102,14 +102,14 @@ pub(crate) fn take_samples(
     'columns: while column + 2 < reader.width && chunk.len() >= looked_for {
         let first = reader.coder.cells.gradient(near.rd, near.rb);
         match take_sample(&mut reader.coder, near, first, second, chunk) {
-            Front::Other => return Ok(()),
-            Front::Begun(code) => {
+            Prefix::Other => return Ok(()),
+            Prefix::Begun(code) => {
                 reader.open_event = OpenEvent::Sample(code);
                 return Ok(());
             }
-            Front::Taken(value) => {
+            Prefix::Taken(value) => {
                 reader.line.push(value)?;
-                near = place.neighbours_behind(near, value, column);
+                near = place.neighbours_after(near, value, column);
                 second = first;
                 column += 1;
             }

@@ -45,12 +45,12 @@ impl<'a> Place<'a> {
         neighbours_at(width, self.line_above, self.line_two_above, line, x)
     }
 
-    /// The samples round the column behind column x, which has these samples round it, and this value.
+    /// The samples round the column after column x, which has these samples round it, and this value.
     #[inline(always)]
-    pub(crate) fn neighbours_behind(&self, near: Neighbours, value: u16, x: usize) -> Neighbours
+    pub(crate) fn neighbours_after(&self, near: Neighbours, value: u16, x: usize) -> Neighbours
         requires { x < 2 ^ 16 }
         ensures rolled { (result.rb ≡ near.rd) × (result.rc ≡ near.rb) }
-        ensures behind { (width : ℕ) (line : List ℕ) → x ≡ length line → near ≡ neighbours width (above_of self.now) line x → x + 2 < width
+        ensures following { (width : ℕ) (line : List ℕ) → x ≡ length line → near ≡ neighbours width (above_of self.now) line x → x + 2 < width
             → result ≡ neighbours width (above_of self.now) (line ++ value ∷ []) (x + 1) }
     {
         Neighbours {

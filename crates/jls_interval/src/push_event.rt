@@ -7,14 +7,14 @@ ghost use Rattle.jls_context.specs.Mode.{is_run_mode, IsRegularMode};
 ghost use Rattle.jls_context.specs.Regular.{regular_k};
 ghost use Rattle.jls_context.specs.Interruption.{run_k};
 ghost use Rattle.jls_context.specs.Variables.{cell_at, run_cell_at};
-ghost use Rattle.jls_bits.specs.CodeState.{IsOpen, bits_told};
+ghost use Rattle.jls_bits.specs.CodeState.{IsOpen, bits_fed};
 ghost use Rattle.jls_interval.specs.Events.{Event, Above};
 ghost use Rattle.jls_interval.specs.Cells.{is_same};
 ghost use Rattle.jls_interval.specs.Place.{above_of};
 ghost use Rattle.jls_interval.specs.After.{IsAfter};
 ghost use Rattle.jls_interval.specs.Runs;
 ghost use Rattle.jls_interval.specs.RunState.{IsRunState, RunAt, RunIs};
-ghost use Rattle.jls_interval.specs.OpenEvents.{now_at, behind, Holds, EventPushed};
+ghost use Rattle.jls_interval.specs.OpenEvents.{now_at, following, Holds, EventPushed};
 ghost use Rattle.jls_interval.specs.declared.run_reader.Run.TheVariants.{Interrupted};
 
 use crate::coder::RegularMode;
@@ -39,11 +39,11 @@ fn push_to_regular(
     requires mode { IsRegularMode reader.old.coder.cells.parameters neighbours mode.context mode.negative }
     requires opened { IsOpen (regular_k (cell_at reader.old.coder.cells mode.context)) (limit reader.old.coder.cells.parameters)
         (qbpp reader.old.coder.cells.parameters) code }
-    ensures step { IfOk result (λ s. (component : ℕ) (up : Above) (told : List Bool) (earlier : List Event)
+    ensures step { IfOk result (λ s. (component : ℕ) (up : Above) (fed : List Bool) (earlier : List Event)
         → neighbours ≡ now_at reader.old.width up reader.old.line.items
         → IsAfter reader.old.coder.cells.parameters reader.old.coder.cells reader.old.coder.run_indices earlier
-        → told ≡ bits_told (limit reader.old.coder.cells.parameters) (qbpp reader.old.coder.cells.parameters) code
-        → EventPushed component up reader.old reader.new told chunk.old chunk.new earlier s) }
+        → fed ≡ bits_fed (limit reader.old.coder.cells.parameters) (qbpp reader.old.coder.cells.parameters) code
+        → EventPushed component up reader.old reader.new fed chunk.old chunk.new earlier s) }
     ensures width { reader.new.width ≡ reader.old.width }
     ensures parameters { reader.new.coder.cells.parameters ≡ reader.old.coder.cells.parameters }
 {
@@ -85,16 +85,16 @@ fn push_to_interrupted(
     requires value { value ≡ (now_at reader.old.width (above_of place.now) reader.old.line.items).ra }
     requires columns { interruption.count < reader.old.width - length reader.old.line.items }
     requires run_index { interruption.run_index ≤ 31 }
-    requires opened { let there = behind reader.old.width (above_of place.now) reader.old.line.items interruption.count in
+    requires opened { let there = following reader.old.width (above_of place.now) reader.old.line.items interruption.count in
         IsOpen (run_k (is_same there) (run_cell_at reader.old.coder.cells (is_same there)))
         (limit reader.old.coder.cells.parameters - Runs.run_order interruption.run_index - 1)
         (qbpp reader.old.coder.cells.parameters) interruption.code }
-    ensures step { IfOk result (λ s. (told : List Bool) (earlier : List Event)
+    ensures step { IfOk result (λ s. (fed : List Bool) (earlier : List Event)
         → IsAfter reader.old.coder.cells.parameters reader.old.coder.cells reader.old.coder.run_indices earlier
-        → RunIs (get_or reader.old.coder.run_indices place.now.component 0) (reader.old.width - length reader.old.line.items) told
-        (bits_told (limit reader.old.coder.cells.parameters - Runs.run_order interruption.run_index - 1)
+        → RunIs (get_or reader.old.coder.run_indices place.now.component 0) (reader.old.width - length reader.old.line.items) fed
+        (bits_fed (limit reader.old.coder.cells.parameters - Runs.run_order interruption.run_index - 1)
         (qbpp reader.old.coder.cells.parameters) interruption.code) (Interrupted interruption.count interruption.run_index)
-        → EventPushed place.now.component (above_of place.now) reader.old reader.new told chunk.old chunk.new earlier s) }
+        → EventPushed place.now.component (above_of place.now) reader.old reader.new fed chunk.old chunk.new earlier s) }
     ensures width { reader.new.width ≡ reader.old.width }
     ensures parameters { reader.new.coder.cells.parameters ≡ reader.old.coder.cells.parameters }
 {
@@ -148,10 +148,10 @@ fn push_to_run(
     requires run { is_run_mode (now_at reader.old.width (above_of place.now) reader.old.line.items) ≡ true }
     requires value { value ≡ (now_at reader.old.width (above_of place.now) reader.old.line.items).ra }
     requires state { IsRunState (reader.old.width - length reader.old.line.items) state }
-    ensures step { IfOk result (λ s. (told : List Bool) (earlier : List Event)
+    ensures step { IfOk result (λ s. (fed : List Bool) (earlier : List Event)
         → IsAfter reader.old.coder.cells.parameters reader.old.coder.cells reader.old.coder.run_indices earlier
-        → RunAt (get_or reader.old.coder.run_indices place.now.component 0) (reader.old.width - length reader.old.line.items) told state
-        → EventPushed place.now.component (above_of place.now) reader.old reader.new told chunk.old chunk.new earlier s) }
+        → RunAt (get_or reader.old.coder.run_indices place.now.component 0) (reader.old.width - length reader.old.line.items) fed state
+        → EventPushed place.now.component (above_of place.now) reader.old reader.new fed chunk.old chunk.new earlier s) }
     ensures width { reader.new.width ≡ reader.old.width }
     ensures parameters { reader.new.coder.cells.parameters ≡ reader.old.coder.cells.parameters }
 {
@@ -188,11 +188,11 @@ pub(crate) fn push_to_event(
 ) -> Result<EventStep, AllocError>
     requires above { AllByRecursion (λ s. s ≤ reader.old.coder.cells.parameters.maxval) place.now.line_above.now }
     requires columns { length reader.old.line.items < reader.old.width }
-    requires open_event { (told : List Bool) × Holds place.now.component (above_of place.now) reader.old told }
-    ensures step { IfOk result (λ s. (told : List Bool) (earlier : List Event)
+    requires open_event { (fed : List Bool) × Holds place.now.component (above_of place.now) reader.old fed }
+    ensures step { IfOk result (λ s. (fed : List Bool) (earlier : List Event)
         → IsAfter reader.old.coder.cells.parameters reader.old.coder.cells reader.old.coder.run_indices earlier
-        → Holds place.now.component (above_of place.now) reader.old told
-        → EventPushed place.now.component (above_of place.now) reader.old reader.new told chunk.old chunk.new earlier s) }
+        → Holds place.now.component (above_of place.now) reader.old fed
+        → EventPushed place.now.component (above_of place.now) reader.old reader.new fed chunk.old chunk.new earlier s) }
     ensures width { reader.new.width ≡ reader.old.width }
     ensures parameters { reader.new.coder.cells.parameters ≡ reader.old.coder.cells.parameters }
 {

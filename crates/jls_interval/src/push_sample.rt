@@ -8,7 +8,7 @@ ghost use Rattle.jls_context.specs.Regular.{regular_k};
 ghost use Rattle.jls_context.specs.Interruption.{run_k};
 ghost use Rattle.jls_context.specs.Variables.{cell_at, run_cell_at};
 ghost use Rattle.jls_bits.specs.Golomb.{golomb, has_golomb};
-ghost use Rattle.jls_bits.specs.CodeState.{IsOpen, bits_told};
+ghost use Rattle.jls_bits.specs.CodeState.{IsOpen, bits_fed};
 ghost use Rattle.jls_interval.specs.Cells.{regular_error, is_same, interruption_error};
 ghost use Rattle.jls_interval.specs.Code.{regular_bits, interrupting_bits};
 ghost use Rattle.jls_interval.specs.Reading.{NoSample, NoInterruption};
@@ -83,7 +83,7 @@ pub(crate) fn push_to_sample(
     requires opened { IsOpen (regular_k (cell_at coder.now.cells mode.context)) (limit coder.now.cells.parameters)
         (qbpp coder.now.cells.parameters) code }
     ensures { SamplePushed coder.now.cells.parameters (cell_at coder.now.cells mode.context) neighbours
-        (bits_told (limit coder.now.cells.parameters) (qbpp coder.now.cells.parameters) code) chunk.old chunk.new result }
+        (bits_fed (limit coder.now.cells.parameters) (qbpp coder.now.cells.parameters) code) chunk.old chunk.new result }
 {
     let k = coder.cells.regular_k(mode.context);
     match code.push_chunk(k, coder.lengths.limit, coder.lengths.qbpp, chunk) {
@@ -136,7 +136,7 @@ pub(crate) fn interruption_of(
     }
 }
 
-/// Takes bits of a sample that interrupts a run, behind J bits of its count.
+/// Takes bits of a sample that interrupts a run, after J bits of its count.
 pub(crate) fn push_to_interruption(
     coder: &Coder,
     neighbours: Neighbours,
@@ -149,7 +149,7 @@ pub(crate) fn push_to_interruption(
     requires opened { IsOpen (run_k (is_same neighbours) (run_cell_at coder.now.cells (is_same neighbours)))
         (limit coder.now.cells.parameters - order - 1) (qbpp coder.now.cells.parameters) code }
     ensures { InterruptionPushed coder.now.cells.parameters (run_cell_at coder.now.cells (is_same neighbours)) neighbours order
-        (bits_told (limit coder.now.cells.parameters - order - 1) (qbpp coder.now.cells.parameters) code) chunk.old chunk.new result }
+        (bits_fed (limit coder.now.cells.parameters - order - 1) (qbpp coder.now.cells.parameters) code) chunk.old chunk.new result }
 {
     let k = coder.cells.run_k(neighbours.ra == neighbours.rb);
     let limit = coder.lengths.limit - order - 1;

@@ -20,12 +20,12 @@ pub(crate) enum Run {
 /// Where the bits of a run that isn't whole have come to.
 #[derive(Clone, Copy)]
 pub(crate) enum RunState {
-    /// Full blocks and nothing else: RUNindex after them, and the columns of the line behind them.
+    /// Full blocks and nothing else: RUNindex after them, and the columns of the line after them.
     Blocks {
         run_index: u8,
         columns: u32,
     },
-    /// Behind the blocks the zero, and the first bits of the count of columns that remain.
+    /// After the blocks the zero, and the first bits of the count of columns that remain.
     Count {
         run_index: u8,
         columns: u32,
@@ -86,7 +86,7 @@ impl RunState {
     }
 }
 
-/// Takes a bit behind full blocks.
+/// Takes a bit after full blocks.
 fn push_to_blocks(run_index: u8, columns: u32, width: u32, bit: bool) -> RunStep
     requires { IsRunState width (Blocks run_index columns) }
     ensures state { IsRunStep width result }
@@ -108,7 +108,7 @@ fn push_to_blocks(run_index: u8, columns: u32, width: u32, bit: bool) -> RunStep
     }
 }
 
-/// Takes a one behind full blocks: one block more, or the end of the line.
+/// Takes a one after full blocks: one block more, or the end of the line.
 fn push_one(run_index: u8, columns: u32, width: u32) -> RunStep
     requires { IsRunState width (Blocks run_index columns) }
     ensures state { IsRunStep width result }

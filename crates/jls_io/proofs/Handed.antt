@@ -4,9 +4,9 @@ use Rattle.std.specs.Prelude.{codes}
 use Rattle.std.specs.List.{flat_map}
 use Rattle.std.proofs.lemmas.List.{append-nil, flat_map_more}
 use Rattle.jls_io.specs.Event.{History, GrewBy}
-use Rattle.jls_io.specs.Writing.{Wrote, WroteFront, Printed}
+use Rattle.jls_io.specs.Writing.{Wrote, WrotePrefix, Printed}
 use Rattle.jls_io.proofs.Growing.{grew_as}
-use Rattle.jls_io.proofs.Writes.{written_on, cut_behind, front_before, nothing_written}
+use Rattle.jls_io.proofs.Writes.{written_on, cut_after, prefix_before, nothing_written}
 use Rattle.jls_io.specs.Handing.{HandedBut}
 use Rattle.jls_io.specs.Lines.{line_of, part_bytes}
 use Rattle.jls_io.specs.declared.line.LinePart.{LinePart}
@@ -24,14 +24,14 @@ module _ (line bytes : List ℕ) (before old new : History) where
       (h.0 ++ bytes, written_on before old new h.0 bytes h.1 k, h.2 ∙ sym (append-nil (h.0 ++ bytes)))
   flushed_whole false e k h = absurd cc
 
-  pub flushed_front : (went : Bool) (count : ℕ) → went ≡ true → GrewBy (WroteFront bytes count) old new → HandedBut line went bytes before old
+  pub flushed_prefix : (went : Bool) (count : ℕ) → went ≡ true → GrewBy (WrotePrefix bytes count) old new → HandedBut line went bytes before old
       → HandedBut line false [] before new
-  flushed_front true count e k h = (
+  flushed_prefix true count e k h = (
     length h.0 + count,
-    subst (λ (l : List ℕ). GrewBy (WroteFront l (length h.0 + count)) before new) (sym h.2)
-        (cut_behind before old new h.0 bytes count h.1 k),
+    subst (λ (l : List ℕ). GrewBy (WrotePrefix l (length h.0 + count)) before new) (sym h.2)
+        (cut_after before old new h.0 bytes count h.1 k),
   )
-  flushed_front false count e k h = absurd cc
+  flushed_prefix false count e k h = absurd cc
 
 -- ---- more bytes
 
@@ -40,7 +40,7 @@ pub pushed : (line bytes more : List ℕ) (went : Bool) (before now : History) �
 pushed line bytes more true before now h =
     (h.0, h.1, ap (λ (l : List ℕ). l ++ more) h.2 ∙ append_assoc h.0 bytes more)
 pushed line bytes more false before now h =
-    (h.0, grew_as (WroteFront line h.0) (WroteFront (line ++ more) h.0) before now (λ events w. front_before line more h.0 events w) h.1)
+    (h.0, grew_as (WrotePrefix line h.0) (WrotePrefix (line ++ more) h.0) before now (λ events w. prefix_before line more h.0 events w) h.1)
 
 -- ---- the whole line
 
@@ -57,7 +57,7 @@ printed line bytes true old new e h =
     let whole : line ≡ h.0 = h.2 ∙ (ap (λ (b : List ℕ). h.0 ++ b) e ∙ append-nil h.0) in
     grew_as (Wrote line) (Printed line) old new (λ events w. inl w)
     (subst (λ (l : List ℕ). GrewBy (Wrote l) old new) (sym whole) h.1)
-printed line bytes false old new e h = grew_as (WroteFront line h.0) (Printed line) old new (λ events w. inr (h.0, w)) h.1
+printed line bytes false old new e h = grew_as (WrotePrefix line h.0) (Printed line) old new (λ events w. inr (h.0, w)) h.1
 
 -- ---- items of a list, one after the other
 

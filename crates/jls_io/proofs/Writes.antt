@@ -3,7 +3,7 @@ use Rattle.std.proofs.Common.{◌≡◌, ◌<◌, ℕ, ◌+◌, List, [], ◌∷
 use Rattle.std.proofs.Math.Seq.{take-append-add}
 use Rattle.std.proofs.lemmas.List.{append-nil, length-append, take-append-le}
 use Rattle.jls_io.specs.Event.{Event, History, GrewBy, opened, not_opened, gave, read_failed, created, not_created, took, write_failed, bytes_taken}
-use Rattle.jls_io.specs.Writing.{Wrote, WroteFront}
+use Rattle.jls_io.specs.Writing.{Wrote, WrotePrefix}
 use Rattle.jls_io.proofs.Growing.{grew_not, grew_on}
 
 pub wrote_nothing : Wrote [] []
@@ -29,19 +29,19 @@ wrote_on a b (created name ∷ writes) more h k = absurd h.are_writes
 wrote_on a b (not_created name ∷ writes) more h k = absurd h.are_writes
 wrote_on a b (write_failed ∷ writes) more h k = absurd h.are_writes
 
--- writes took a whole, and then the front of more
-pub front_behind : (a b : List ℕ) (count : ℕ) (writes more : List Event) → Wrote a writes → WroteFront b count more
-    → WroteFront (a ++ b) (length a + count) (writes ++ more)
-front_behind a b count writes more h k = record {
+-- writes took a whole, and then the prefix of more
+pub prefix_after : (a b : List ℕ) (count : ℕ) (writes more : List Event) → Wrote a writes → WrotePrefix b count more
+    → WrotePrefix (a ++ b) (length a + count) (writes ++ more)
+prefix_after a b count writes more h k = record {
   writes = writes ++ k.writes;
   events_are = ap (λ (x : List Event). writes ++ x) k.events_are ∙ sym (append_assoc writes k.writes (write_failed ∷ []));
   wrote = subst (λ (x : List ℕ). Wrote x (writes ++ k.writes)) (sym (take-append-add a b count)) (wrote_on a (take count b) writes k.writes h k.wrote);
   not_all = let n = length-append a b in omega (arith, n, k.not_all);
 }
 
--- the front of a whole is a front of what is longer
-pub front_before : (a b : List ℕ) (count : ℕ) (events : List Event) → WroteFront a count events → WroteFront (a ++ b) count events
-front_before a b count events h = record {
+-- the prefix of a whole is a prefix of what is longer
+pub prefix_before : (a b : List ℕ) (count : ℕ) (events : List Event) → WrotePrefix a count events → WrotePrefix (a ++ b) count events
+prefix_before a b count events h = record {
   writes = h.writes;
   events_are = h.events_are;
   wrote = subst (λ (x : List ℕ). Wrote x h.writes) (sym (take-append-le count a b (omega (arith, h.not_all)))) h.wrote;
@@ -52,9 +52,9 @@ module _ (old mid new : History) where
   pub written_on : (a b : List ℕ) → GrewBy (Wrote a) old mid → GrewBy (Wrote b) mid new → GrewBy (Wrote (a ++ b)) old new
   written_on a b = grew_on (Wrote a) (Wrote b) (Wrote (a ++ b)) old mid new (wrote_on a b)
 
-  pub cut_behind : (a b : List ℕ) (count : ℕ) → GrewBy (Wrote a) old mid → GrewBy (WroteFront b count) mid new
-      → GrewBy (WroteFront (a ++ b) (length a + count)) old new
-  cut_behind a b count = grew_on (Wrote a) (WroteFront b count) (WroteFront (a ++ b) (length a + count)) old mid new (front_behind a b count)
+  pub cut_after : (a b : List ℕ) (count : ℕ) → GrewBy (Wrote a) old mid → GrewBy (WrotePrefix b count) mid new
+      → GrewBy (WrotePrefix (a ++ b) (length a + count)) old new
+  cut_after a b count = grew_on (Wrote a) (WrotePrefix b count) (WrotePrefix (a ++ b) (length a + count)) old mid new (prefix_after a b count)
 
   pub one_write_more : (a b : List ℕ) → GrewBy (Wrote a) old mid → 0 < length b → new ≡ mid ++ took b ∷ [] → GrewBy (Wrote (a ++ b)) old new
   one_write_more a b h lt e = written_on a b h (record { events = took b ∷ []; grew = e; they_are = one_write b lt })

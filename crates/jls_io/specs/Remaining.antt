@@ -1,10 +1,10 @@
--- What is known of the bytes behind a device.
+-- What is known of the bytes of a device.
 use Rattle.std.specs.Prelude.{◌≡◌, ℕ, Bool, List, [], ◌++◌, Option, Some, None, if◌then◌else◌}
 use Rattle.jls_io.specs.Event.{History, bytes_given, bytes_taken}
 
--- what reads of a device will give, where the stream behind it has these bytes left: none where no input is open
-abbrev pub remaining_behind : Bool → Option (List ℕ) → Option (List ℕ)
-remaining_behind is_open left = if is_open then left else Some []
+-- what reads of a device will give, where the stream after it has these bytes left: none where no input is open
+abbrev pub remaining_after : Bool → Option (List ℕ) → Option (List ℕ)
+remaining_after is_open left = if is_open then left else Some []
 
 -- reads gave the first bytes of a content, in order, and reads will give the rest
 abbrev pub HasGiven : List ℕ → History → Option (List ℕ) → Type 0

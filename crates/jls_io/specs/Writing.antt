@@ -14,7 +14,7 @@ pub record Wrote (bytes : List ℕ) (writes : List Event) : Type 0 where
   pub they_took : bytes_taken writes ≡ bytes
 
 -- writes took so many of the bytes, from the first on, and not all; then one failed, and there was no other
-pub record WroteFront (bytes : List ℕ) (count : ℕ) (events : List Event) : Type 0 where
+pub record WrotePrefix (bytes : List ℕ) (count : ℕ) (events : List Event) : Type 0 where
   pub writes : List Event
   pub events_are : events ≡ writes ++ write_failed ∷ []
   pub wrote : Wrote (take count bytes) writes
@@ -22,4 +22,4 @@ pub record WroteFront (bytes : List ℕ) (count : ℕ) (events : List Event) : T
 
 -- a line was printed; a write that fails ends it, and is ignored
 abbrev pub Printed : List ℕ → List Event → Type 0
-Printed line events = Wrote line events ⊎ ((count : ℕ) × WroteFront line count events)
+Printed line events = Wrote line events ⊎ ((count : ℕ) × WrotePrefix line count events)

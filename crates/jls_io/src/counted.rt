@@ -4,7 +4,7 @@ ghost use Rattle.std.specs.Prelude.{◌≡◌, ℕ, List, [], ◌∷◌, ◌++�
 ghost use Rattle.std.specs.Io.KnownBytes.{Keeps, IsAtEnd};
 ghost use Rattle.jls_io.specs.Asked.{AskedOnce, Request, input, output as request_output};
 ghost use Rattle.jls_io.specs.Event.{opened, not_opened, created, not_created, has_input};
-ghost use Rattle.jls_io.specs.Remaining.{remaining_behind};
+ghost use Rattle.jls_io.specs.Remaining.{remaining_after};
 
 use crate::device::{Desk, DeskFault, Device, Sink, SinkFault, Source, SourceFault};
 use crate::history::Noted;
@@ -88,7 +88,7 @@ impl<T> Counted<T> {
 }
 
 impl<R: Read> Source for Counted<R> {
-    ghost remaining = { λ c. remaining_behind (has_input c.ledger) (R.remaining c.inner) };
+    ghost remaining = { λ c. remaining_after (has_input c.ledger) (R.remaining c.inner) };
 
     fn read_some(&mut self, into: &mut [u8]) -> Result<usize, SourceFault> {
         if !self.ledger.has_input() {

@@ -31,7 +31,7 @@ pub trait Source: Device {
     // The bytes that reads will still give, where they are known.
     ghost remaining: { Self → Option (List ℕ) } = { λ _. None };
 
-    /// Reads some bytes into the front of the buffer and answers how many. If the buffer has room, 0 is the end.
+    /// Reads some bytes into the start of the buffer and answers how many. If the buffer has room, 0 is the end.
     fn read_some(&mut self, into: &mut [u8]) -> Result<usize, SourceFault>
         ensures within { IfOk result (λ n. n ≤ length into.new) }
         ensures read { IfOk result (λ n. Self.history self.new
@@ -54,7 +54,7 @@ pub trait Sink: Device {
     // The bytes that it holds, where they are known.
     ghost contents: { Self → Option (List ℕ) } = { λ _. None };
 
-    /// Hands out some of the bytes, from the front on, and answers how many: at least 1 if there are any.
+    /// Hands out some of the bytes, from the start on, and answers how many: at least 1 if there are any.
     fn write_some(&mut self, bytes: &[u8]) -> Result<usize, SinkFault>
         ensures within { IfOk result (λ n. n ≤ length bytes.now) }
         ensures some { IfOk result (λ n. 0 < length bytes.now → 0 < n) }

@@ -31,7 +31,7 @@ pub fn reads_give_the_content<S: Source>(
         → HasGiven content (S.history source.new) (S.remaining source.new) }
     ensures end { (content : List ℕ) → HasGiven content (S.history source.old) (S.remaining source.old)
         → IfOk result (λ n. n ≡ 0 → 0 < length into.new → bytes_given (S.history source.new) ≡ content) }
-    ensures told { MatchResult result (λ n. S.history source.new ≡ S.history source.old ++ gave (length into.new) (take n into.new) ∷ [])
+    ensures reported { MatchResult result (λ n. S.history source.new ≡ S.history source.old ++ gave (length into.new) (take n into.new) ∷ [])
         (λ _. S.history source.new ≡ S.history source.old ++ read_failed ∷ []) }
 {
     source.read_some(into)
@@ -42,7 +42,7 @@ pub fn reads_give_the_content<S: Source>(
 pub fn writes_are_held<W: Sink>(sink: &mut W, bytes: &[u8]) -> Result<usize, SinkFault>
     ensures held { (before : List ℕ) → HasTaken before (W.history sink.old) (W.contents sink.old)
         → HasTaken before (W.history sink.new) (W.contents sink.new) }
-    ensures told { MatchResult result (λ n. W.history sink.new ≡ W.history sink.old ++ took (take n bytes.now) ∷ [])
+    ensures reported { MatchResult result (λ n. W.history sink.new ≡ W.history sink.old ++ took (take n bytes.now) ∷ [])
         (λ _. W.history sink.new ≡ W.history sink.old ++ write_failed ∷ []) }
     ensures some { IfOk result (λ n. 0 < length bytes.now → 0 < n) }
 {

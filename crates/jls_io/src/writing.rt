@@ -3,7 +3,7 @@
 ghost use Rattle.std.specs.Prelude.{take, IfErr, OnOk, MatchResult};
 ghost use Rattle.std.specs.Io.KnownBytes.{Appends};
 ghost use Rattle.jls_io.specs.Event.{GrewBy};
-ghost use Rattle.jls_io.specs.Writing.{Wrote, WroteFront};
+ghost use Rattle.jls_io.specs.Writing.{Wrote, WrotePrefix};
 
 use crate::device::Sink;
 
@@ -11,7 +11,7 @@ use crate::device::Sink;
 /// is made then.
 pub fn write_all<W: Sink>(sink: &mut W, bytes: &[u8]) -> Result<(), u64>
     ensures written { OnOk result (GrewBy (Wrote bytes.now) (W.history sink.old) (W.history sink.new)) }
-    ensures stopped { IfErr result (λ count. GrewBy (WroteFront bytes.now count) (W.history sink.old) (W.history sink.new)) }
+    ensures stopped { IfErr result (λ count. GrewBy (WrotePrefix bytes.now count) (W.history sink.old) (W.history sink.new)) }
     ensures holds { MatchResult result (λ _. Appends (W.contents sink.old) (W.contents sink.new) bytes.now)
         (λ count. Appends (W.contents sink.old) (W.contents sink.new) (take count bytes.now)) }
 {

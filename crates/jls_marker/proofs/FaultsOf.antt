@@ -57,7 +57,7 @@ restart_fault : (o : Option ℕ) (f : MarkerFault) → restart_of o ≡ Err f �
 restart_fault None f e = ap is_other (sym (refused_is fault.Length f e))
 restart_fault (Some n) f e = absurd cc
 
--- so an unknown code is told of a code without a segment alone
+-- so an unknown code is reported of a code without a segment alone
 module _ (code : ℕ) (payload : List ℕ) where
   abbrev from_skipped : Result Segment MarkerFault
   from_skipped = cond (is_skipped code) (Ok (segment.Skipped code)) (Err UnknownMarker)

@@ -25,7 +25,7 @@ use Rattle.jls_marker.proofs.SegmentsRead.{is_payload}
 abbrev pub After : Type 0
 After = HeaderState × Option Scan
 
--- what is left is told by its parts
+-- what is left is determined by its parts
 pub parts : (x y : After) → fine x ≡ fine y → (x.0 ≡ y.0) × (x.1 ≡ y.1)
 parts x y e = let p = fine_is x y e in (ap (λ (z : After). z.0) p, ap (λ (z : After). z.1) p)
 

@@ -1,4 +1,4 @@
--- What is in force behind a segment, and what a scan has of it.
+-- What is in force after a segment, and what a scan has of it.
 use Rattle.std.proofs.Common.{◌≡◌, ℕ, true, List, [], ◌∷◌, Option, Some, None, Result, Ok, refl, sym, ap, ◌∙◌}
 use Rattle.std.specs.Prelude.{is_none, is_ok}
 use Rattle.jls_values.specs.Params.{CodingParameters}

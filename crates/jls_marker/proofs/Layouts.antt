@@ -161,12 +161,12 @@ scan_header_again h p q =
     let len : length xs ≡ 2 * n = length-scan_bytes h.components in
     let whole : length (xs ++ tail) ≡ 2 * n + 3 = length-append xs tail ∙ omega arith in
     let test : scan_test n (length (xs ++ tail)) ≡ true = and_from _ _ (le-leb _ _ p) (and_from _ _ (le-leb _ _ q) (eq-eqb _ _ whole)) in
-    let front : take (2 * n) (xs ++ tail) ≡ xs = ap (λ (k : ℕ). take k (xs ++ tail)) (sym len) ∙ take-append_seam xs tail in
+    let prefix : take (2 * n) (xs ++ tail) ≡ xs = ap (λ (k : ℕ). take k (xs ++ tail)) (sym len) ∙ take-append_seam xs tail in
     let at0 : get_or (xs ++ tail) (2 * n) 0 ≡ h.near = ap (λ (k : ℕ). get_or (xs ++ tail) k 0) (omega (arith, len)) ∙ get_or-append-add xs tail 0 0 in
     let at1 : get_or (xs ++ tail) (2 * n + 1) 0 ≡ h.interleave = ap (λ (k : ℕ). get_or (xs ++ tail) k 0) (omega (arith, len)) ∙ get_or-append-add xs tail 1 0 in
     let at2 : get_or (xs ++ tail) (2 * n + 2) 0 ≡ h.approximation = ap (λ (k : ℕ). get_or (xs ++ tail) k 0) (omega (arith, len)) ∙ get_or-append-add xs tail 2 0 in
     if_true (scan_test n (length (xs ++ tail))) _ _ test
-    ∙ ap (λ (t : List ℕ). scan_made t (get_or (xs ++ tail) (2 * n) 0) (get_or (xs ++ tail) (2 * n + 1) 0) (get_or (xs ++ tail) (2 * n + 2) 0)) front
+    ∙ ap (λ (t : List ℕ). scan_made t (get_or (xs ++ tail) (2 * n) 0) (get_or (xs ++ tail) (2 * n + 1) 0) (get_or (xs ++ tail) (2 * n + 2) 0)) prefix
     ∙ ap (λ (a : ℕ). scan_made xs a (get_or (xs ++ tail) (2 * n + 1) 0) (get_or (xs ++ tail) (2 * n + 2) 0)) at0
     ∙ ap (λ (a : ℕ). scan_made xs h.near a (get_or (xs ++ tail) (2 * n + 2) 0)) at1
     ∙ ap (λ (a : ℕ). scan_made xs h.near h.interleave a) at2
@@ -194,13 +194,13 @@ scan_layout n body p q e =
     let at0 : get_or tail 0 0 ≡ get_or body (2 * n) 0 = get_or-drop (2 * n) body 0 0 ∙ ap (λ (k : ℕ). get_or body k 0) (omega arith) in
     let at1 : get_or tail 1 0 ≡ get_or body (2 * n + 1) 0 = get_or-drop (2 * n) body 1 0 in
     let at2 : get_or tail 2 0 ≡ get_or body (2 * n + 2) 0 = get_or-drop (2 * n) body 2 0 in
-    let behind : tail ≡ get_or body (2 * n) 0 ∷ get_or body (2 * n + 1) 0 ∷ get_or body (2 * n + 2) 0 ∷ [] =
+    let following : tail ≡ get_or body (2 * n) 0 ∷ get_or body (2 * n + 1) 0 ∷ get_or body (2 * n + 2) 0 ∷ [] =
     last ∙ ap (λ (a : ℕ). a ∷ get_or tail 1 0 ∷ get_or tail 2 0 ∷ []) at0 ∙ ap (λ (a : ℕ). get_or body (2 * n) 0 ∷ a ∷ get_or tail 2 0 ∷ []) at1 ∙ ap (λ (a : ℕ). get_or body (2 * n) 0 ∷ get_or body (2 * n + 1) 0 ∷ a ∷ []) at2 in
     record {
       bytes =
           sym (ap (λ (k : ℕ). k ∷ (flat_map scan_component_bytes cs ++ (get_or body (2 * n) 0 ∷ get_or body (2 * n + 1) 0 ∷ get_or body (2 * n + 2) 0 ∷ []))) count
           ∙ ap (λ (t : List ℕ). n ∷ (t ++ (get_or body (2 * n) 0 ∷ get_or body (2 * n + 1) 0 ∷ get_or body (2 * n + 2) 0 ∷ []))) (scan_bytes_again n xs len)
-          ∙ ap (λ (t : List ℕ). n ∷ (xs ++ t)) (sym behind)
+          ∙ ap (λ (t : List ℕ). n ∷ (xs ++ t)) (sym following)
           ∙ ap (λ (t : List ℕ). n ∷ t) (take-append-drop (2 * n) body));
       components_at_least = omega (arith, count);
       components_at_most = omega (arith, count);
@@ -315,17 +315,17 @@ restart_of_layout (a ∷ b ∷ []) n l =
     let below : n < 65536 = l.below in
     let x : n / 16777216 % 256 ≡ 0 = omega arith in
     let y : n / 65536 % 256 ≡ 0 = omega arith in
-    let behind = drop 2 (to_be_bytes w32 n) in
+    let following = drop 2 (to_be_bytes w32 n) in
     ap (λ (t : List ℕ). some (from_be_bytes w32 (0 ∷ 0 ∷ t))) l.bytes
-    ∙ ap (λ (k : ℕ). some (from_be_bytes w32 (k ∷ 0 ∷ behind))) (sym x)
-    ∙ ap (λ (k : ℕ). some (from_be_bytes w32 (n / 16777216 % 256 ∷ k ∷ behind))) (sym y)
+    ∙ ap (λ (k : ℕ). some (from_be_bytes w32 (k ∷ 0 ∷ following))) (sym x)
+    ∙ ap (λ (k : ℕ). some (from_be_bytes w32 (n / 16777216 % 256 ∷ k ∷ following))) (sym y)
     ∙ ap (λ (k : ℕ). some k) (from_be_bytes-to_be_bytes_4 n (omega arith))
 restart_of_layout (a ∷ b ∷ c ∷ []) n l =
     let below : n < 16777216 = l.below in
     let x : n / 16777216 % 256 ≡ 0 = omega arith in
-    let behind = drop 1 (to_be_bytes w32 n) in
+    let following = drop 1 (to_be_bytes w32 n) in
     ap (λ (t : List ℕ). some (from_be_bytes w32 (0 ∷ t))) l.bytes
-    ∙ ap (λ (k : ℕ). some (from_be_bytes w32 (k ∷ behind))) (sym x)
+    ∙ ap (λ (k : ℕ). some (from_be_bytes w32 (k ∷ following))) (sym x)
     ∙ ap (λ (k : ℕ). some k) (from_be_bytes-to_be_bytes_4 n (omega arith))
 restart_of_layout (a ∷ b ∷ c ∷ d ∷ []) n l =
     let below : n < 4294967296 = l.below in

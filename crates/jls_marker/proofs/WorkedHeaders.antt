@@ -1,4 +1,4 @@
--- The headers behind several segments, and which codes have a segment, worked out by hand.
+-- The headers after several segments, and which codes have a segment, worked out by hand.
 use Rattle.std.proofs.Common.{◌≡◌, ℕ, List, [], ◌∷◌, Option, Some, None, Result, Ok, Err, refl}
 use Rattle.std.specs.List.{filter, range_with_len}
 use Rattle.jls_marker.specs.ComponentIndex.{index_of}
@@ -13,13 +13,13 @@ use Rattle.jls_marker.specs.declared.fault.MarkerFault.{MarkerFault}
 use Rattle.jls_marker.specs.declared.segment.Segment.TheVariants as segment
 
 -- these segments one after another, each a code and a payload; what the last one gives
-abbrev behind : List (ℕ × List ℕ) → Result (HeaderState × Option Scan) MarkerFault → Result (HeaderState × Option Scan) MarkerFault
-behind [] so_far = so_far
-behind (s ∷ more) (Ok now) = behind more (taking now.0 (segment_of s.0 s.1))
-behind (s ∷ more) (Err f) = Err f
+abbrev following : List (ℕ × List ℕ) → Result (HeaderState × Option Scan) MarkerFault → Result (HeaderState × Option Scan) MarkerFault
+following [] so_far = so_far
+following (s ∷ more) (Ok now) = following more (taking now.0 (segment_of s.0 s.1))
+following (s ∷ more) (Err f) = Err f
 
 abbrev all_of : List (ℕ × List ℕ) → Result (HeaderState × Option Scan) MarkerFault
-all_of segments = behind segments (Ok (no_headers, None))
+all_of segments = following segments (Ok (no_headers, None))
 
 -- a frame of one column and ten lines; a restart interval of two rows; a scan; a comment and APP5; LSE of ID 1 and of ID 2
 abbrev sof : ℕ × List ℕ
@@ -93,7 +93,7 @@ unfolding index_of
 taken_away = refl
 
 -- the sixteenth scan begins
-sixteenth : behind (sos ∷ []) (Ok (record { frame = Some (record { precision = 8; width = 1; height = 10; ids = 1 ∷ [] }); preset = no_presets; restart_interval = 0; scans = 15 }, None))
+sixteenth : following (sos ∷ []) (Ok (record { frame = Some (record { precision = 8; width = 1; height = 10; ids = 1 ∷ [] }); preset = no_presets; restart_interval = 0; scans = 15 }, None))
     ≡ Ok (
       record { frame = Some (record { precision = 8; width = 1; height = 10; ids = 1 ∷ [] }); preset = no_presets; restart_interval = 0; scans = 16 },
       Some (record { components = 0 ∷ []; params = record { precision = 8; maxval = 255; t1 = 3; t2 = 7; t3 = 21; reset = 64 }; width = 1; height = 10; restart_interval = 0 }),

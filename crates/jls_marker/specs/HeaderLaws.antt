@@ -56,7 +56,7 @@ NeverEnded = (h : HeaderState) (code : ℕ) (payload : List ℕ) → headers_aft
 abbrev pub IntervalsPartTheLines : Type 0
 IntervalsPartTheLines = (s : Scan) → 1 ≤ s.height → PartTheLines s
 
--- ---- what is in force behind a segment
+-- ---- what is in force after a segment
 
 -- the restart interval that a segment sets: that of DRI, or none (T.81 B.2.4.4; T.87 C.2.5)
 abbrev pub interval_in : Segment → Option ℕ

@@ -33,7 +33,7 @@ pub fn scans_begin()
     ensures { ScansBegin }
 {}
 
-/// Headers are in their ranges before the first segment, and behind each that is taken, if its payload consists of bytes.
+/// Headers are in their ranges before the first segment, and after each that is taken, if its payload consists of bytes.
 pub fn headers_stay_in_range()
     ensures { HeadersStayInRange }
 {}

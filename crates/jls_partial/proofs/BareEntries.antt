@@ -97,18 +97,18 @@ places_again shape es p kept is =
 later : (p q : LinePlace) → place_cmp p q ≡ Less → is_at (place_cmp q) p ≡ false
 later p q h = ap is_eq (place_total.antisymm q p ∙ ap ordering_reverse h)
 
--- what is found behind an earlier entry is found
-found_behind : (e : BareEntry) (es fs : List BareEntry) → AllByRecursion (λ q. place_cmp e.0 q ≡ Less) (map (λ f. f.0) fs)
+-- what is found after an earlier entry is found
+found_after : (e : BareEntry) (es fs : List BareEntry) → AllByRecursion (λ q. place_cmp e.0 q ≡ Less) (map (λ f. f.0) fs)
     → AllByRecursion (λ f. samples_at es f.0 ≡ f.1) fs → AllByRecursion (λ f. samples_at (e ∷ es) f.0 ≡ f.1) fs
-found_behind e es [] h k = tt
-found_behind e es (f ∷ fs) h k =
-    (ap (λ b. unwrap_or (cond b (Some e.1) (lookup (is_at (place_cmp f.0)) es)) []) (later e.0 f.0 h.0) ∙ k.0, found_behind e es fs h.1 k.1)
+found_after e es [] h k = tt
+found_after e es (f ∷ fs) h k =
+    (ap (λ b. unwrap_or (cond b (Some e.1) (lookup (is_at (place_cmp f.0)) es)) []) (later e.0 f.0 h.0) ∙ k.0, found_after e es fs h.1 k.1)
 
 all_found : (es : List BareEntry) → IsStrictlySortedBy place_cmp (map (λ e. e.0) es) → AllByRecursion (λ e. samples_at es e.0 ≡ e.1) es
 unfolding IsStrictlySortedBy
 all_found [] h = tt
 all_found (e ∷ es) h =
-    (ap (λ b. unwrap_or (cond b (Some e.1) (lookup (is_at (place_cmp e.0)) es)) []) (ap is_eq (tied_itself place_total e.0)), found_behind e es es h.0 (all_found es h.1))
+    (ap (λ b. unwrap_or (cond b (Some e.1) (lookup (is_at (place_cmp e.0)) es)) []) (ap is_eq (tied_itself place_total e.0)), found_after e es es h.0 (all_found es h.1))
 
 made_again : (f : LinePlace → List (List ℕ)) (es : List BareEntry) → AllByRecursion (λ e. f e.0 ≡ e.1) es
     → map (λ at. (at, f at)) (map (λ e. e.0) es) ≡ es

@@ -1,4 +1,4 @@
--- Lists in the order of a fork: those before the middle, the middle, and those behind it.
+-- Lists in the order of a fork: those before the middle, the middle, and those after it.
 use Rattle.std.proofs.Common.{◌≡◌, ℕ, zero, suc, ◌+◌, ◌<◌, List, [], ◌∷◌, ◌++◌, length, get_or, set, refl, ap, sym, arith}
 use Rattle.std.specs.List.{insert}
 use Rattle.std.proofs.lemmas.List.{get_or_append_left}
@@ -15,21 +15,21 @@ module _ {X : Type 0} where
   read_middle (y ∷ l) m r zero d e = absurd (omega arith)
   read_middle (y ∷ l) m r (suc i) d e = read_middle l m r i d (omega arith)
 
-  -- what is read behind the middle
+  -- what is read after the middle
   pub read_right : (l : List X) (m : X) (r : List X) (i k : ℕ) (d : X) → i ≡ length l + 1 + k → get_or (l ++ m ∷ r) i d ≡ get_or r k d
   read_right [] m r zero k d e = absurd (omega arith)
   read_right [] m r (suc i) k d e = let same : i ≡ k = omega arith in ap (λ (n : ℕ). get_or r n d) same
   read_right (y ∷ l) m r zero k d e = absurd (omega arith)
   read_right (y ∷ l) m r (suc i) k d e = read_right l m r i k d (omega arith)
 
-  -- what is put behind the middle
+  -- what is put after the middle
   pub insert_right : (l : List X) (m : X) (r : List X) (i k : ℕ) (x : X) → i ≡ length l + 1 + k → insert (l ++ m ∷ r) i x ≡ l ++ m ∷ insert r k x
   insert_right [] m r zero k x e = absurd (omega arith)
   insert_right [] m r (suc i) k x e = let same : i ≡ k = omega arith in ap (λ (n : ℕ). m ∷ insert r n x) same
   insert_right (y ∷ l) m r zero k x e = absurd (omega arith)
   insert_right (y ∷ l) m r (suc i) k x e = ap (λ t. y ∷ t) (insert_right l m r i k x (omega arith))
 
--- sources that are added before the middle, to it, and behind it
+-- sources that are added before the middle, to it, and after it
 pub sources_left : (l : List Slot) (m : Slot) (r : List Slot) (i : ℕ) (ss : List ℕ) → i < length l
     → with_sources_at (l ++ m ∷ r) i ss ≡ with_sources_at l i ss ++ m ∷ r
 sources_left [] m r i ss lt = absurd (omega arith)

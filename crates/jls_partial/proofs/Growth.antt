@@ -12,14 +12,14 @@ use Rattle.jls_partial.specs.Held.{kept_entry}
 use Rattle.jls_partial.specs.LineEntries.{LineEntry}
 use Rattle.jls_partial.specs.LineSet.{PictureLines, kept_lines, line_sources}
 use Rattle.jls_partial.specs.Marks.{marks_of}
-use Rattle.jls_partial.specs.Merging.{TakesFront}
+use Rattle.jls_partial.specs.Merging.{TakesPrefix}
 use Rattle.jls_partial.specs.Packed.{Kept}
 use Rattle.jls_partial.specs.Partial.{PartialPicture, with_all, union, AreMarksHeld}
 use Rattle.jls_partial.specs.Reading.{Reading, reading_cmp}
 use Rattle.jls_partial.specs.ReadingOrder.{reading_total, reading_exact, marks_total, marks_exact}
 use Rattle.jls_partial.specs.Text.{entries}
 use Rattle.jls_partial.proofs.KeptEntries.{holds_reading, holds_mark, partial_again}
-use Rattle.jls_partial.proofs.MarkSets.{any_items, any_marks, front_above, marks_of-append}
+use Rattle.jls_partial.proofs.MarkSets.{any_items, any_marks, prefix_above, marks_of-append}
 
 -- two lists, one after the other
 pub with_all-append : (p : PartialPicture) (xs ys : List (Reading × List ℕ)) → with_all p (xs ++ ys) ≡ with_all (with_all p xs) ys
@@ -55,7 +55,7 @@ module _ (L : PictureLines) (i : ℕ) (x ss : List ℕ) (lt : i < length (set.it
   pub kept_next : drop i (kept_lines L) ≡ (x, ss) ∷ drop (i + 1) (kept_lines L)
   kept_next = drop_more (kept_lines L) i (kept x) below ∙ ap (λ (k : Kept). k ∷ drop (i + 1) (kept_lines L)) here
 
--- ---- a front of all readings
+-- ---- a prefix of all readings
 
 -- of all readings those before the ones that are left were taken
 pub record IsSoFar (old new : PartialPicture) (all left : List (Reading × List ℕ)) : Type 0 where
@@ -72,10 +72,10 @@ more_so_far p q r all ks left h is = record {
   new_is = is ∙ ap (λ (z : PartialPicture). with_all z ks) h.new_is ∙ sym (with_all-append p h.taken ks);
 }
 
--- of the next a front is taken
-pub front_so_far : (p q r : PartialPicture) (all ks left : List (Reading × List ℕ)) → IsSoFar p q all (ks ++ left) → TakesFront q r ks
-    → TakesFront p r all
-front_so_far p q r all ks left h f = record {
+-- of the next a prefix is taken
+pub prefix_so_far : (p q r : PartialPicture) (all ks left : List (Reading × List ℕ)) → IsSoFar p q all (ks ++ left) → TakesPrefix q r ks
+    → TakesPrefix p r all
+prefix_so_far p q r all ks left h f = record {
   taken = h.taken ++ f.taken;
   left = f.left ++ left;
   parts = h.parts ∙ ap (λ t. h.taken ++ t) (ap (λ t. t ++ left) f.parts ∙ append_assoc f.taken f.left left) ∙ sym (append_assoc h.taken f.taken (f.left ++ left));
@@ -114,12 +114,12 @@ all_is_union p q held = entries_union p q.shape (entries q) ∙ ap (union p) (pa
 above_old : (p : PartialPicture) (ks : List (Reading × List ℕ)) → IsBelow union p (with_all p ks)
 above_old p ks = λ i. record {
   shape = p.shape;
-  readings = front_above reading_total reading_exact p.readings (map (λ k. k.0) ks) i;
-  marks = front_above marks_total marks_exact p.marks (marks_of ks) i;
+  readings = prefix_above reading_total reading_exact p.readings (map (λ k. k.0) ks) i;
+  marks = prefix_above marks_total marks_exact p.marks (marks_of ks) i;
 }
 
--- a front of what makes the union is between what was there and that
-pub between_of : (p r high : PartialPicture) (all : List (Reading × List ℕ)) → with_all p all ≡ high → TakesFront p r all
+-- a prefix of what makes the union is between what was there and that
+pub between_of : (p r high : PartialPicture) (all : List (Reading × List ℕ)) → with_all p all ≡ high → TakesPrefix p r all
     → IsBetween union p r high
 between_of p r high all is f =
     let whole : with_all (with_all p f.taken) f.left ≡ high = sym (with_all-append p f.taken f.left) ∙ ap (with_all p) (sym f.parts) ∙ is in
@@ -128,5 +128,5 @@ between_of p r high all is f =
       subst (λ (z : PartialPicture). IsBelow union (with_all p f.taken) z) whole (above_old (with_all p f.taken) f.left),
     )
 
-pub front_between : (p q r : PartialPicture) → AreMarksHeld q → TakesFront p r (kept_readings (entries q)) → IsBetween union p r (union p q)
-front_between p q r held f = between_of p r (union p q) (kept_readings (entries q)) (all_is_union p q held) f
+pub prefix_between : (p q r : PartialPicture) → AreMarksHeld q → TakesPrefix p r (kept_readings (entries q)) → IsBetween union p r (union p q)
+prefix_between p q r held f = between_of p r (union p q) (kept_readings (entries q)) (all_is_union p q held) f

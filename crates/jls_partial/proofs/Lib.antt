@@ -21,7 +21,7 @@ pub mod Store
 pub mod StoredLines
 pub mod TextEntries
 pub mod TextFields
-pub mod TextFronts
+pub mod TextPrefixes
 pub mod TextLaws
 pub mod TextLoops
 pub mod TextMerges

@@ -307,33 +307,33 @@ module _ {K : Type 0} {R : K → K → Ordering} (o : IsTotalOrder R) (exact : C
   absorbed true b = refl
   absorbed false b = refl
 
-  front_above : (s : sets.OrderedSet R) (xs : List K) → sets.union s (sets.insert_all s xs) ≡ sets.insert_all s xs
-  front_above s xs = same_set o exact _ _ (λ q.
+  prefix_above : (s : sets.OrderedSet R) (xs : List K) → sets.union s (sets.insert_all s xs) ≡ sets.insert_all s xs
+  prefix_above s xs = same_set o exact _ _ (λ q.
       contains-union o s (sets.insert_all s xs) q
       ∙ ap (λ b. sets.contains s q || b) (contains-insert_all o s xs q)
       ∙ absorbed (sets.contains s q) (list_any (eq_by_cmp R q) xs)
       ∙ sym (contains-insert_all o s xs q))
 
-  front_below : (s : sets.OrderedSet R) (xs ys : List K)
+  prefix_below : (s : sets.OrderedSet R) (xs ys : List K)
       → sets.union (sets.insert_all s xs) (sets.insert_all s (xs ++ ys)) ≡ sets.insert_all s (xs ++ ys)
-  front_below s xs ys = ap (sets.union (sets.insert_all s xs)) (insert_all-append s xs ys) ∙ front_above (sets.insert_all s xs) ys ∙ sym (insert_all-append s xs ys)
+  prefix_below s xs ys = ap (sets.union (sets.insert_all s xs)) (insert_all-append s xs ys) ∙ prefix_above (sets.insert_all s xs) ys ∙ sym (insert_all-append s xs ys)
 
 -- some of the lines are held: all that was held is, and nothing that the union does not hold
-pub front_between : (s p : PictureLines) → AreLineMarksHeld p → (xs ys : List Kept) → kept_lines_of p ≡ xs ++ ys
+pub prefix_between : (s p : PictureLines) → AreLineMarksHeld p → (xs ys : List Kept) → kept_lines_of p ≡ xs ++ ys
     → IsBelow union_of_lines s (with_lines s xs) × IsBelow union_of_lines (with_lines s xs) (union_of_lines s p)
-front_between s p held xs ys is =
+prefix_between s p held xs ys is =
     let all : union_of_lines s p ≡ with_lines s (xs ++ ys) = sym (all_is_union s p held) ∙ ap (with_lines s) is in (
       λ j. record {
         precision = s.precision;
         width = s.width;
-        lines = front_above lines_total lines_exact s.lines (map (λ (k : Kept). k.0) xs) j;
-        marks = front_above line_marks_total line_marks_exact s.marks (marks_of xs) j;
+        lines = prefix_above lines_total lines_exact s.lines (map (λ (k : Kept). k.0) xs) j;
+        marks = prefix_above line_marks_total line_marks_exact s.marks (marks_of xs) j;
       },
       subst (λ (z : PictureLines). IsBelow union_of_lines (with_lines s xs) z) (sym all) (λ j. record {
         precision = s.precision;
         width = s.width;
-        lines = (ap (λ ls. sets.union (sets.insert_all s.lines (map (λ (k : Kept). k.0) xs)) (sets.insert_all s.lines ls)) (map-append (λ (k : Kept). k.0) xs ys) ∙ front_below lines_total lines_exact s.lines (map (λ (k : Kept). k.0) xs) (map (λ (k : Kept). k.0) ys) ∙ ap (sets.insert_all s.lines) (sym (map-append (λ (k : Kept). k.0) xs ys))) j;
-        marks = (ap (λ ms. sets.union (sets.insert_all s.marks (marks_of xs)) (sets.insert_all s.marks ms)) (marks_of-append xs ys) ∙ front_below line_marks_total line_marks_exact s.marks (marks_of xs) (marks_of ys) ∙ ap (sets.insert_all s.marks) (sym (marks_of-append xs ys))) j;
+        lines = (ap (λ ls. sets.union (sets.insert_all s.lines (map (λ (k : Kept). k.0) xs)) (sets.insert_all s.lines ls)) (map-append (λ (k : Kept). k.0) xs ys) ∙ prefix_below lines_total lines_exact s.lines (map (λ (k : Kept). k.0) xs) (map (λ (k : Kept). k.0) ys) ∙ ap (sets.insert_all s.lines) (sym (map-append (λ (k : Kept). k.0) xs ys))) j;
+        marks = (ap (λ ms. sets.union (sets.insert_all s.marks (marks_of xs)) (sets.insert_all s.marks ms)) (marks_of-append xs ys) ∙ prefix_below line_marks_total line_marks_exact s.marks (marks_of xs) (marks_of ys) ∙ ap (sets.insert_all s.marks) (sym (marks_of-append xs ys))) j;
       }),
     )
 

@@ -77,14 +77,14 @@ module _ {K : Type 0} (R : K → K → Ordering) where
     abbrev HasOwn : List (K × List ℕ) → K × List ℕ → Type 0
     HasOwn ks k = (s : ℕ) → has_mark k.0 s ks ≡ list_any (eq_by_cmp nat_cmp s) k.1
 
-    behind : (first : K × List ℕ) (ks later : List (K × List ℕ)) → AllByRecursion (λ y. R first.0 y ≡ Less) (map (λ k. k.0) later)
+    following : (first : K × List ℕ) (ks later : List (K × List ℕ)) → AllByRecursion (λ y. R first.0 y ≡ Less) (map (λ k. k.0) later)
         → AllByRecursion (HasOwn ks) later → AllByRecursion (HasOwn (first ∷ ks)) later
-    behind first ks [] h a = tt
-    behind first ks (k ∷ later) h a = (
+    following first ks [] h a = tt
+    following first ks (k ∷ later) h a = (
       λ s.
           let apart : eq_by_cmp R k.0 first.0 ≡ false = (eq_by_cmp_equiv o).symm k.0 first.0 ∙ ap is_eq h.0 in
           ap (λ b. (b && list_any (eq_by_cmp nat_cmp s) first.1) || has_mark k.0 s ks) apart ∙ a.0 s,
-      behind first ks later h.1 a.1,
+      following first ks later h.1 a.1,
     )
 
     pub each_has_own : (ks : List (K × List ℕ)) → IsStrictlySortedBy R (map (λ k. k.0) ks) → AllByRecursion (HasOwn ks) ks
@@ -92,7 +92,7 @@ module _ {K : Type 0} (R : K → K → Ordering) where
     each_has_own [] h = tt
     each_has_own (k ∷ ks) h = (
       λ s. (λ i. (is_eq (tied_itself o k.0 i) && list_any (eq_by_cmp nat_cmp s) k.1) || not_above k.0 (list_any (eq_by_cmp nat_cmp s)) ks h.0 i) ∙ or_none (list_any (eq_by_cmp nat_cmp s) k.1),
-      behind k ks ks h.0 (each_has_own ks h.1),
+      following k ks ks h.0 (each_has_own ks h.1),
     )
 
     -- all items of a list with the sources that a set of marks gives them
@@ -129,8 +129,8 @@ sources_again R marks x ss rises same =
 
 -- what is put into a set is above what was there
 module _ {K : Type 0} {R : K → K → Ordering} (o : IsTotalOrder R) (exact : CmpEqualImpliesEq R) where
-  pub front_above : (s : set.OrderedSet R) (xs : List K) → set.union s (set.insert_all s xs) ≡ set.insert_all s xs
-  front_above s xs = same_set o exact _ _ (λ q.
+  pub prefix_above : (s : set.OrderedSet R) (xs : List K) → set.union s (set.insert_all s xs) ≡ set.insert_all s xs
+  prefix_above s xs = same_set o exact _ _ (λ q.
       contains-union o s (set.insert_all s xs) q
       ∙ ap (λ b. set.contains s q || b) (contains-insert_all o s xs q)
       ∙ absorbed (set.contains s q) (list_any (eq_by_cmp R q) xs)

@@ -142,8 +142,8 @@ marked_more old now new s c l i is lt more =
     ∙ ap (with_marks old s) (sym (ap (map f) at.2 ∙ map-append f (take i xs) (at.0 ∷ [])))
 
 -- the first readings of a line are held
-pub front_held : (p : PartialPicture) (c l i : ℕ)
+pub prefix_held : (p : PartialPicture) (c l i : ℕ)
     → AllByRecursion (λ r. set.contains p.readings r ≡ true) (map (reading_of c l) (take i (readings_at p c l)))
-front_held p c l i = all_of (λ r. set.contains p.readings r ≡ true) (map (reading_of c l) (take i (readings_at p c l))) (λ r h.
+prefix_held p c l i = all_of (λ r. set.contains p.readings r ≡ true) (map (reading_of c l) (take i (readings_at p c l))) (λ r h.
     held_in_line p r c l (ap (list_any (eq_by_cmp reading_cmp r)) (ap (map (reading_of c l)) (sym (take-append-drop i (readings_at p c l))) ∙ map-append (reading_of c l) (take i (readings_at p c l)) (drop i (readings_at p c l)))
     ∙ list_any-append (eq_by_cmp reading_cmp r) (map (reading_of c l) (take i (readings_at p c l))) (map (reading_of c l) (drop i (readings_at p c l))) ∙ or_left _ _ h))

@@ -39,12 +39,12 @@ module _ (lines : List (List ℕ)) (sorted : IsStrictlySortedBy S lines) (x : Li
         | inr after ↦ let same : k ≡ middle = omega arith in subst (λ (j : ℕ). S (get_or lines j x) x ≡ Less) (sym same) here
       ]
 
-  -- the line in the middle is above, and so all behind it
+  -- the line in the middle is above, and so all after it
   pub all_above : S (get_or lines middle x) x ≡ Greater → (k : ℕ) → middle ≤ k → k < length lines → S x (get_or lines k x) ≡ Less
   all_above here k le lt =
       let first = turned_greater nat_list_cmp_total (get_or lines middle x) x here in
       elim (cases_lt middle k) [
-        | inl behind ↦ nat_list_cmp_total.trans x (get_or lines middle x) (get_or lines k x) first (Less-from_sorted S lines middle k x sorted behind lt)
+        | inl following ↦ nat_list_cmp_total.trans x (get_or lines middle x) (get_or lines k x) first (Less-from_sorted S lines middle k x sorted following lt)
         | inr at ↦ let same : k ≡ middle = omega arith in subst (λ (j : ℕ). S x (get_or lines j x) ≡ Less) (sym same) first
       ]
 
@@ -150,7 +150,7 @@ lines_stay width packed more (s ∷ slots) h =
     ap (take width) (drop-append-le s.start packed more (omega (arith, first))) ∙ take-append-le width (drop s.start packed) more (omega (arith, first, length-drop s.start packed)) in
     λ i. (stays i, set.items s.sources) ∷ lines_stay width packed more slots h.1 i
 
--- and what was appended is read behind them
+-- and what was appended is read after them
 pub line_appended : (width : ℕ) (packed samples : List ℕ) → length samples ≡ width
     → take width (drop (length packed) (packed ++ samples)) ≡ samples
 line_appended width packed samples len = ap (take width) (drop-append_seam packed samples ∙ sym (append-nil samples)) ∙ take_at samples [] width len

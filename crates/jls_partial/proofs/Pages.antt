@@ -110,16 +110,16 @@ none_elsewhere q page (r ∷ rows) h own =
     let apart : is_at (place_cmp q) r.0 ≡ false = other_line q r.0 (ap (is_at (page_cmp (page_of q))) own.0 ∙ h) in
     ap (λ b. cond b (Some r.1) (lookup (is_at (place_cmp q)) rows)) apart ∙ none_elsewhere q page rows h own.1
 
--- nor in the pages behind its own
-none_behind : (q : LinePlace) (page : PageNumber) (ps : Pages) → is_at (page_cmp (page_of q)) page ≡ true
+-- nor in the pages after its own
+none_after : (q : LinePlace) (page : PageNumber) (ps : Pages) → is_at (page_cmp (page_of q)) page ≡ true
     → AllByRecursion (λ k. page_cmp page k ≡ Less) (map (λ p. p.0) ps) → AllByRecursion (λ p. IsPage p.0 p.1.items) ps
     → lookup (is_at (place_cmp q)) (rows_of ps) ≡ None
-none_behind q page [] h above each = refl
-none_behind q page (p ∷ ps) h above each =
+none_after q page [] h above each = refl
+none_after q page (p ∷ ps) h above each =
     let same : page_of q ≡ page = same_page (page_of q) page h in
     let apart : is_at (page_cmp (page_of q)) p.0 ≡ false = ap (λ (z : PageNumber). is_at (page_cmp z) p.0) same ∙ ap is_eq above.0 in
     none_first (is_at (place_cmp q)) p.1.items (rows_of ps) (none_elsewhere q p.0 p.1.items apart each.0.own)
-    ∙ none_behind q page ps h above.1 each.1
+    ∙ none_after q page ps h above.1 each.1
 
 -- what is found of a line among all rows is found in its page
 found_in_page : (ps : Pages) (q : LinePlace) → IsStrictlySortedBy page_cmp (map (λ p. p.0) ps) → AllByRecursion (λ p. IsPage p.0 p.1.items) ps
@@ -129,7 +129,7 @@ found_in_page [] q sorted each = refl
 found_in_page (p ∷ ps) q sorted each =
     let t = is_at (place_cmp q) in
     elim (is_at (page_cmp (page_of q)) p.0) as (λ b. is_at (page_cmp (page_of q)) p.0 ≡ b → lookup t (p.1.items ++ rows_of ps) ≡ lookup t (items_or (cond b (Some p.1) (lookup (is_at (page_cmp (page_of q))) ps)))) [
-      | true ↦ λ e. none_second t p.1.items (rows_of ps) (none_behind q p.0 ps e sorted.0 each.1)
+      | true ↦ λ e. none_second t p.1.items (rows_of ps) (none_after q p.0 ps e sorted.0 each.1)
       | false ↦ λ e. none_first t p.1.items (rows_of ps) (none_elsewhere q p.0 p.1.items e each.0.own) ∙ found_in_page ps q sorted.1 each.1
     ] refl
 

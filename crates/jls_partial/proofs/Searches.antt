@@ -17,19 +17,19 @@ use Rattle.jls_partial.proofs.PackedLines.{turned_greater, all_below, all_above,
 abbrev S : List ℕ → List ℕ → Ordering
 S = slice_cmp nat_cmp
 
--- the rest stands in the whole, with so many slots before it, all of which are below what is looked for; those behind it are above
+-- the rest stands in the whole, with so many slots before it, all of which are below what is looked for; those after it are above
 pub record IsLeft (width : ℕ) (packed : List ℕ) (whole rest : List Slot) (before : ℕ) (x : List ℕ) : Type 0 where
-  pub front : List Slot
+  pub prefix : List Slot
   pub back : List Slot
-  pub parts : whole ≡ front ++ (rest ++ back)
-  pub many : length front ≡ before
+  pub parts : whole ≡ prefix ++ (rest ++ back)
+  pub many : length prefix ≡ before
   pub below : (k : ℕ) → k < before → S (get_or (lines_of width packed whole) k x) x ≡ Less
   pub above : (k : ℕ) → before + length rest ≤ k → k < length whole → S x (get_or (lines_of width packed whole) k x) ≡ Less
 
 -- at first all of it is left
 pub all_left : (width : ℕ) (packed : List ℕ) (whole : List Slot) (x : List ℕ) → IsLeft width packed whole whole 0 x
 all_left width packed whole x = record {
-  front = [];
+  prefix = [];
   back = [];
   parts = sym (append-nil whole);
   many = refl;
@@ -42,7 +42,7 @@ module _ (width : ℕ) (packed : List ℕ) (whole rest : List Slot) (before : �
   many_lines = length-map whole (λ (t : Slot). take width (drop t.start packed))
 
   many_slots : length whole ≡ before + (length rest + length is.back)
-  many_slots = ap length is.parts ∙ length-append is.front (rest ++ is.back) ∙ (λ i. is.many i + length-append rest is.back i)
+  many_slots = ap length is.parts ∙ length-append is.prefix (rest ++ is.back) ∙ (λ i. is.many i + length-append rest is.back i)
 
   -- where nothing is left, what is looked for belongs there
   pub none_left : rest ≡ [] → IsGap S (lines_of width packed whole) before x
@@ -66,9 +66,9 @@ module _ (width : ℕ) (packed : List ℕ) (whole rest : List Slot) (before : �
 
     pub middle_is : m ≡ get_or whole (before + length l) m
     middle_is = sym (
-        ap (λ (z : List Slot). get_or z (before + length l) m) (is.parts ∙ ap (λ (z : List Slot). is.front ++ (z ++ is.back)) fork ∙ ap (λ (z : List Slot). is.front ++ z) (append_assoc l (m ∷ r) is.back))
-        ∙ ap (λ (n : ℕ). get_or (is.front ++ (l ++ m ∷ (r ++ is.back))) (n + length l) m) (sym is.many)
-        ∙ get_or-append-add is.front (l ++ m ∷ (r ++ is.back)) (length l) m
+        ap (λ (z : List Slot). get_or z (before + length l) m) (is.parts ∙ ap (λ (z : List Slot). is.prefix ++ (z ++ is.back)) fork ∙ ap (λ (z : List Slot). is.prefix ++ z) (append_assoc l (m ∷ r) is.back))
+        ∙ ap (λ (n : ℕ). get_or (is.prefix ++ (l ++ m ∷ (r ++ is.back))) (n + length l) m) (sym is.many)
+        ∙ get_or-append-add is.prefix (l ++ m ∷ (r ++ is.back)) (length l) m
         ∙ get_or-append_seam l m (r ++ is.back) m)
 
     pub middle_inside : AllByRecursion (λ (s : Slot). s.start + width ≤ length packed) whole → m.start + width ≤ length packed
@@ -85,17 +85,17 @@ module _ (width : ℕ) (packed : List ℕ) (whole rest : List Slot) (before : �
       pub found : S line x ≡ Equal → get_or (lines_of width packed whole) (before + length l) x ≡ x
       found test = lines_exact _ _ (at_middle Equal test)
 
-      -- or be below it, and then those behind the middle are left
+      -- or be below it, and then those after the middle are left
       pub right_left : S line x ≡ Less → IsLeft width packed whole r (before + length l + 1) x
       right_left test =
           let rests = many_rest in
           record {
-            front = is.front ++ (l ++ m ∷ []);
+            prefix = is.prefix ++ (l ++ m ∷ []);
             back = is.back;
-            parts = is.parts ∙ ap (λ (z : List Slot). is.front ++ (z ++ is.back)) fork
-                ∙ ap (λ (z : List Slot). is.front ++ z) (append_assoc l (m ∷ r) is.back ∙ sym (append_assoc l (m ∷ []) (r ++ is.back)))
-                ∙ sym (append_assoc is.front (l ++ m ∷ []) (r ++ is.back));
-            many = let a = length-append is.front (l ++ m ∷ []) in let b = length-append l (m ∷ []) in let c = is.many in omega (arith, a, b, c);
+            parts = is.parts ∙ ap (λ (z : List Slot). is.prefix ++ (z ++ is.back)) fork
+                ∙ ap (λ (z : List Slot). is.prefix ++ z) (append_assoc l (m ∷ r) is.back ∙ sym (append_assoc l (m ∷ []) (r ++ is.back)))
+                ∙ sym (append_assoc is.prefix (l ++ m ∷ []) (r ++ is.back));
+            many = let a = length-append is.prefix (l ++ m ∷ []) in let b = length-append l (m ∷ []) in let c = is.many in omega (arith, a, b, c);
             below = all_below (lines_of width packed whole) sorted x (before + length l) in_lines (at_middle Less test);
             above = λ k le lt. is.above k (omega (arith, rests, le)) lt;
           }
@@ -105,9 +105,9 @@ module _ (width : ℕ) (packed : List ℕ) (whole rest : List Slot) (before : �
       left_left test =
           let lines = many_lines in
           record {
-            front = is.front;
+            prefix = is.prefix;
             back = (m ∷ r) ++ is.back;
-            parts = is.parts ∙ ap (λ (z : List Slot). is.front ++ (z ++ is.back)) fork ∙ ap (λ (z : List Slot). is.front ++ z) (append_assoc l (m ∷ r) is.back);
+            parts = is.parts ∙ ap (λ (z : List Slot). is.prefix ++ (z ++ is.back)) fork ∙ ap (λ (z : List Slot). is.prefix ++ z) (append_assoc l (m ∷ r) is.back);
             many = is.many;
             below = is.below;
             above = λ k le lt. all_above (lines_of width packed whole) sorted x (before + length l) in_lines (at_middle Greater test) k le (omega (arith, lines, lt));

@@ -1,4 +1,4 @@
--- The store of all lines of a picture: what stays where samples are put behind those that it has, and what one line more leaves.
+-- The store of all lines of a picture: what stays where samples are put after those that it has, and what one line more leaves.
 use Rattle.std.proofs.Common.{◌≡◌, ℕ, ◌+◌, ◌≤◌, ◌<◌, ◌^◌, Bool, true, false, cond, List, [], ◌∷◌, ◌++◌, length, map, Option, Some, None, refl, ap, sym, subst, ◌∙◌, arith}
 use Rattle.std.specs.Prelude.{IfSome, unwrap_or}
 use Rattle.std.specs.declared.cmp.Ordering.{Ordering}
@@ -30,7 +30,7 @@ use Rattle.jls_partial.proofs.KeyedLists.{lookup-map, each_by, lookup_by}
 use Rattle.jls_partial.proofs.LineSets.{none_kept, put_kept, put_seen, with_own, fitting_length, length_kept, marks_held}
 use Rattle.jls_partial.proofs.PackedLines.{lines_stay, kept_lines, inside_more}
 
--- ---- more samples behind those that are there
+-- ---- more samples after those that are there
 
 module _ (p w : ℕ) (packed more : List ℕ) where
   lines_same : (slots : List Slot) → AllByRecursion (λ s. s.start + w ≤ length packed) slots
@@ -234,7 +234,7 @@ module _ (p w : ℕ) (packed x ss : List ℕ) (slots : List Slot) (narrow : p �
       ∙ put_seen p w packed x [] 0 (none_kept p w packed narrow wide) gap fits (fitting_length p w x fits) (set.insert_all set.empty ss)
       ∙ with_own (no_lines p w) x ss
 
--- so it is there once its samples are put behind the others
+-- so it is there once its samples are put after the others
 pub record IsFirst (old new : PackedLines) (x ss : List ℕ) (slots : List Slot) : Type 0 where
   pub longer : Extends old new
   pub kept : IsLineSet new.precision new.width new.samples.items slots

@@ -59,7 +59,7 @@ done x = Ok x
 pub ok_is : {A : Type 0} (x y : A) → done x ≡ done y → x ≡ y
 ok_is x y e = cc
 
--- what a reader took from the front
+-- what a reader took from the start
 pub record Takes (bytes text rest : List ℕ) : Type 0 where
   pub parts : bytes ≡ text ++ rest
   pub rest_fits : IsBytes rest
@@ -106,8 +106,8 @@ number_takes size w limit wide bytes n rest fits e =
     let long : byte_len w ≤ length bytes = ltb-false _ _ g.0 in
     let n-is : from_be_bytes w (take (byte_len w) bytes) ≡ n = ap (λ (p : ℕ × List ℕ). p.0) g.1 in
     let rest-is : drop (byte_len w) bytes ≡ rest = ap (λ (p : ℕ × List ℕ). p.1) g.1 in
-    let front : to_be_bytes w n ≡ take (byte_len w) bytes = rw (← n-is) (wide.back (take (byte_len w) bytes) (omega (arith, length-take (byte_len w) bytes)) (IsBytes-take (byte_len w) bytes fits)) in
-    (record { parts = rw (front, ← rest-is) (sym (take-append-drop (byte_len w) bytes)); rest_fits = rw (← rest-is) (IsBytes-drop (byte_len w) bytes fits) }, rw (← n-is) (wide.below (take (byte_len w) bytes) (IsBytes-take (byte_len w) bytes fits)))
+    let prefix : to_be_bytes w n ≡ take (byte_len w) bytes = rw (← n-is) (wide.back (take (byte_len w) bytes) (omega (arith, length-take (byte_len w) bytes)) (IsBytes-take (byte_len w) bytes fits)) in
+    (record { parts = rw (prefix, ← rest-is) (sym (take-append-drop (byte_len w) bytes)); rest_fits = rw (← rest-is) (IsBytes-drop (byte_len w) bytes fits) }, rw (← n-is) (wide.below (take (byte_len w) bytes) (IsBytes-take (byte_len w) bytes fits)))
 
 pub number_again : (size : ℕ) (w : Width) (limit : ℕ) (wide : IsWide w limit) (n : ℕ) (rest : List ℕ) → n < limit
     → number_field size w (to_be_bytes w n ++ rest) ≡ Ok (n, rest)
@@ -145,7 +145,7 @@ bytes_again size xs rest =
     let long : ltb (length (xs ++ rest)) (length xs) ≡ false = le-ltb _ _ (omega (arith, length-append xs rest)) in
     rw (long, take_at xs rest (length xs) refl, drop_at xs rest (length xs) refl) refl
 
--- what is read behind a byte of the magic
+-- what is read after a byte of the magic
 abbrev pub magic_then : ℕ → ℕ → List ℕ → List ℕ → ℕ × List ℕ → Result (List ℕ) TextFault
 magic_then size wanted others bytes first = cond (eqb first.0 wanted) (magic_field size others first.1) (Err (fault.Magic (offset size bytes)))
 
@@ -247,35 +247,35 @@ shape_made p x y ids s e =
     no_repeat true h = absurd cc
     no_repeat false h = (refl, cc)
 
-abbrev behind_ids : ℕ → ℕ → ℕ → List ℕ × List ℕ → Result (PictureShape × List ℕ) TextFault
-behind_ids p x y ids = shape_or_fault (shape_of p x y ids.0) >>= λ shape. Ok (shape, ids.1)
+abbrev after_ids : ℕ → ℕ → ℕ → List ℕ × List ℕ → Result (PictureShape × List ℕ) TextFault
+after_ids p x y ids = shape_or_fault (shape_of p x y ids.0) >>= λ shape. Ok (shape, ids.1)
 
-abbrev behind_sizes : ℕ → ℕ → ℕ → ℕ → ℕ → List ℕ → Result (PictureShape × List ℕ) TextFault
-behind_sizes size p x y n bytes = bytes_field size n bytes >>= behind_ids p x y
+abbrev after_sizes : ℕ → ℕ → ℕ → ℕ → ℕ → List ℕ → Result (PictureShape × List ℕ) TextFault
+after_sizes size p x y n bytes = bytes_field size n bytes >>= after_ids p x y
 
-abbrev behind_count : ℕ → ℕ → ℕ → ℕ → ℕ × List ℕ → Result (PictureShape × List ℕ) TextFault
-behind_count size p x y n = unless_bad_shape (size_fault p x y n.0) n.1 >>= behind_sizes size p x y n.0
+abbrev after_count : ℕ → ℕ → ℕ → ℕ → ℕ × List ℕ → Result (PictureShape × List ℕ) TextFault
+after_count size p x y n = unless_bad_shape (size_fault p x y n.0) n.1 >>= after_sizes size p x y n.0
 
-abbrev behind_height : ℕ → ℕ → ℕ → ℕ × List ℕ → Result (PictureShape × List ℕ) TextFault
-behind_height size p x y = byte_field size y.1 >>= behind_count size p x y.0
+abbrev after_height : ℕ → ℕ → ℕ → ℕ × List ℕ → Result (PictureShape × List ℕ) TextFault
+after_height size p x y = byte_field size y.1 >>= after_count size p x y.0
 
-abbrev behind_width : ℕ → ℕ → ℕ × List ℕ → Result (PictureShape × List ℕ) TextFault
-behind_width size p x = number_field size w16 x.1 >>= behind_height size p x.0
+abbrev after_width : ℕ → ℕ → ℕ × List ℕ → Result (PictureShape × List ℕ) TextFault
+after_width size p x = number_field size w16 x.1 >>= after_height size p x.0
 
-abbrev behind_precision : ℕ → ℕ × List ℕ → Result (PictureShape × List ℕ) TextFault
-behind_precision size p = number_field size w16 p.1 >>= behind_width size p.0
+abbrev after_precision : ℕ → ℕ × List ℕ → Result (PictureShape × List ℕ) TextFault
+after_precision size p = number_field size w16 p.1 >>= after_width size p.0
 
 pub shape_takes : (size : ℕ) (bytes : List ℕ) (shape : PictureShape) (rest : List ℕ) → IsBytes bytes
     → shape_fields size bytes ≡ Ok (shape, rest) → Takes bytes (shape_text shape) rest × IsShape shape
 unfolding shape_fields
 shape_takes size bytes shape rest fits e =
-    let p = bind_ok (byte_field size bytes) (behind_precision size) (shape, rest) e in
-    let x = bind_ok (number_field size w16 p.0.1) (behind_width size p.0.0) (shape, rest) p.2 in
-    let y = bind_ok (number_field size w16 x.0.1) (behind_height size p.0.0 x.0.0) (shape, rest) x.2 in
-    let n = bind_ok (byte_field size y.0.1) (behind_count size p.0.0 x.0.0 y.0.0) (shape, rest) y.2 in
-    let j = bind_ok (unless_bad_shape (size_fault p.0.0 x.0.0 y.0.0 n.0.0) n.0.1) (behind_sizes size p.0.0 x.0.0 y.0.0 n.0.0) (shape, rest) n.2 in
+    let p = bind_ok (byte_field size bytes) (after_precision size) (shape, rest) e in
+    let x = bind_ok (number_field size w16 p.0.1) (after_width size p.0.0) (shape, rest) p.2 in
+    let y = bind_ok (number_field size w16 x.0.1) (after_height size p.0.0 x.0.0) (shape, rest) x.2 in
+    let n = bind_ok (byte_field size y.0.1) (after_count size p.0.0 x.0.0 y.0.0) (shape, rest) y.2 in
+    let j = bind_ok (unless_bad_shape (size_fault p.0.0 x.0.0 y.0.0 n.0.0) n.0.1) (after_sizes size p.0.0 x.0.0 y.0.0 n.0.0) (shape, rest) n.2 in
     let g = judged_ok (size_fault p.0.0 x.0.0 y.0.0 n.0.0) n.0.1 j.0 j.1 in
-    let i = bind_ok (bytes_field size n.0.0 j.0) (behind_ids p.0.0 x.0.0 y.0.0) (shape, rest) j.2 in
+    let i = bind_ok (bytes_field size n.0.0 j.0) (after_ids p.0.0 x.0.0 y.0.0) (shape, rest) j.2 in
     let s = bind_ok (shape_or_fault (shape_of p.0.0 x.0.0 y.0.0 i.0.0)) (λ shape. Ok (shape, i.0.1)) (shape, rest) i.2 in
     let t0 = byte_takes size bytes p.0.0 p.0.1 fits p.1 in
     let t1 = number_takes size w16 (2 ^ 16) wide16 p.0.1 x.0.0 x.0.1 t0.0.rest_fits x.1 in

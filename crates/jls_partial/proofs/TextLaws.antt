@@ -70,15 +70,15 @@ said_from_follow version shape es follow each =
     record { entries = record { sorted = subst (IsStrictlySortedBy place_cmp) (sym (bare_places es)) (sorted_from_follow shape es follow); each = parts.0 }; said = parts.1 }
 
 -- all that a text is made of
-abbrev behind_version : ℕ → Version × List ℕ → Result Parts TextFault
-behind_version size version = shape_fields size version.1 >>= λ shape. number_field size w32 shape.1 >>= λ count. entries_fields size version.0 shape.0 None count.0 count.1 >>= λ es. Ok (shape.0, es.0, es.1)
+abbrev after_version : ℕ → Version × List ℕ → Result Parts TextFault
+after_version size version = shape_fields size version.1 >>= λ shape. number_field size w32 shape.1 >>= λ count. entries_fields size version.0 shape.0 None count.0 count.1 >>= λ es. Ok (shape.0, es.0, es.1)
 
 text_takes : (size : ℕ) (bytes : List ℕ) (x : Parts) → IsBytes bytes → text_fields size bytes ≡ Ok x
     → (version : Version) × (bytes ≡ text_of version x.0 x.1 ++ x.2) × IsShape x.0 × AreSaid version x.0 x.1
 unfolding text_fields
 text_takes size bytes x fits e =
-    let m = bind_ok (magic_field size magic bytes) (λ version_bytes. version_field size version_bytes >>= behind_version size) x e in
-    let v = bind_ok (version_field size m.0) (behind_version size) x m.2 in
+    let m = bind_ok (magic_field size magic bytes) (λ version_bytes. version_field size version_bytes >>= after_version size) x e in
+    let v = bind_ok (version_field size m.0) (after_version size) x m.2 in
     let version = v.0.0 in
     let s = bind_ok (shape_fields size v.0.1) (λ shape. number_field size w32 shape.1 >>= λ count. entries_fields size version shape.0 None count.0 count.1 >>= λ es. Ok (shape.0, es.0, es.1)) x v.2 in
     let n = bind_ok (number_field size w32 s.0.1) (λ count. entries_fields size version s.0.0 None count.0 count.1 >>= λ es. Ok (s.0.0, es.0, es.1)) x s.2 in

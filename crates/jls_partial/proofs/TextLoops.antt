@@ -68,12 +68,12 @@ magic_done size wanted bytes total is so_far = sym so_far ∙ ap (λ (w : List �
 
 -- the samples that were read before, and those that are still read
 abbrev pub after_samples : List ℕ → Result (List ℕ × List ℕ) TextFault → Result (List ℕ × List ℕ) TextFault
-after_samples front read = read >>= λ x. Ok (front ++ x.0, x.1)
+after_samples prefix read = read >>= λ x. Ok (prefix ++ x.0, x.1)
 
-regroup_samples : (front : List ℕ) (x : ℕ) (read : Result (List ℕ × List ℕ) TextFault)
-    → after_samples front (read >>= λ y. Ok (x ∷ y.0, y.1)) ≡ after_samples (front ++ x ∷ []) read
-regroup_samples front x (Ok y) = ap (λ (xs : List ℕ). Ok (xs, y.1)) (sym (append_assoc front (x ∷ []) y.0))
-regroup_samples front x (Err f) = refl
+regroup_samples : (prefix : List ℕ) (x : ℕ) (read : Result (List ℕ × List ℕ) TextFault)
+    → after_samples prefix (read >>= λ y. Ok (x ∷ y.0, y.1)) ≡ after_samples (prefix ++ x ∷ []) read
+regroup_samples prefix x (Ok y) = ap (λ (xs : List ℕ). Ok (xs, y.1)) (sym (append_assoc prefix (x ∷ []) y.0))
+regroup_samples prefix x (Err f) = refl
 
 -- a sample that is read has taken two bytes
 pub sample_len : (size limit : ℕ) (bytes : List ℕ) (x : ℕ) (after : List ℕ) → sample_field size limit bytes ≡ Ok (x, after)
@@ -87,60 +87,60 @@ sample_len size limit bytes x after e =
     let rest : length (drop 2 bytes) ≡ length after = ap (λ (p : ℕ × List ℕ). length p.1) (g.1 ∙ h.1) in
     omega (arith, long, rest, length-drop 2 bytes)
 
-pub samples_go_on : (size limit : ℕ) (front : List ℕ) (count i : ℕ) (bytes : List ℕ) (x : ℕ) (after : List ℕ) (total : Result (List ℕ × List ℕ) TextFault)
+pub samples_go_on : (size limit : ℕ) (prefix : List ℕ) (count i : ℕ) (bytes : List ℕ) (x : ℕ) (after : List ℕ) (total : Result (List ℕ × List ℕ) TextFault)
     → i < count → sample_field size limit bytes ≡ Ok (x, after)
-    → after_samples front (samples_fields size limit (count - i) bytes) ≡ total → after_samples (front ++ x ∷ []) (samples_fields size limit (count - (i + 1)) after) ≡ total
+    → after_samples prefix (samples_fields size limit (count - i) bytes) ≡ total → after_samples (prefix ++ x ∷ []) (samples_fields size limit (count - (i + 1)) after) ≡ total
 unfolding samples_fields
-samples_go_on size limit front count i bytes x after total lt h so_far =
+samples_go_on size limit prefix count i bytes x after total lt h so_far =
     let k : count - i ≡ suc (count - (i + 1)) = omega arith in
-    let one : after_samples front (samples_fields size limit (count - i) bytes) ≡ after_samples (front ++ x ∷ []) (samples_fields size limit (count - (i + 1)) after) = rw (k, h) (regroup_samples front x (samples_fields size limit (count - (i + 1)) after)) in
+    let one : after_samples prefix (samples_fields size limit (count - i) bytes) ≡ after_samples (prefix ++ x ∷ []) (samples_fields size limit (count - (i + 1)) after) = rw (k, h) (regroup_samples prefix x (samples_fields size limit (count - (i + 1)) after)) in
     sym one ∙ so_far
 
-pub samples_end : (e : TextFault) (size limit : ℕ) (front : List ℕ) (count i : ℕ) (bytes : List ℕ) (total : Result (List ℕ × List ℕ) TextFault)
+pub samples_end : (e : TextFault) (size limit : ℕ) (prefix : List ℕ) (count i : ℕ) (bytes : List ℕ) (total : Result (List ℕ × List ℕ) TextFault)
     → i < count → Fails e (sample_field size limit bytes)
-    → after_samples front (samples_fields size limit (count - i) bytes) ≡ total → Fails e total
+    → after_samples prefix (samples_fields size limit (count - i) bytes) ≡ total → Fails e total
 unfolding samples_fields
-samples_end e size limit front count i bytes total lt h so_far =
+samples_end e size limit prefix count i bytes total lt h so_far =
     let k : suc (count - (i + 1)) ≡ count - i = omega arith in
     let rest = λ (first : ℕ × List ℕ). samples_fields size limit (count - (i + 1)) first.1 >>= λ others. Ok (first.0 ∷ others.0, others.1) in
     let here : Fails e (samples_fields size limit (suc (count - (i + 1))) bytes) = fails_then e (sample_field size limit bytes) rest h in
-    subst (Fails e) so_far (fails_then e (samples_fields size limit (count - i) bytes) (λ x. Ok (front ++ x.0, x.1)) (subst (λ (n : ℕ). Fails e (samples_fields size limit n bytes)) k here))
+    subst (Fails e) so_far (fails_then e (samples_fields size limit (count - i) bytes) (λ x. Ok (prefix ++ x.0, x.1)) (subst (λ (n : ℕ). Fails e (samples_fields size limit n bytes)) k here))
 
-pub samples_done : (size limit : ℕ) (front : List ℕ) (count i : ℕ) (bytes : List ℕ) (total : Result (List ℕ × List ℕ) TextFault) → count ≤ i
-    → after_samples front (samples_fields size limit (count - i) bytes) ≡ total → total ≡ Ok (front, bytes)
+pub samples_done : (size limit : ℕ) (prefix : List ℕ) (count i : ℕ) (bytes : List ℕ) (total : Result (List ℕ × List ℕ) TextFault) → count ≤ i
+    → after_samples prefix (samples_fields size limit (count - i) bytes) ≡ total → total ≡ Ok (prefix, bytes)
 unfolding samples_fields
-samples_done size limit front count i bytes total le so_far =
+samples_done size limit prefix count i bytes total le so_far =
     let k : count - i ≡ 0 = omega arith in
-    let one : after_samples front (samples_fields size limit (count - i) bytes) ≡ Ok (front, bytes) = rw k (ap (λ (xs : List ℕ). Ok (xs, bytes)) (append-nil front)) in
+    let one : after_samples prefix (samples_fields size limit (count - i) bytes) ≡ Ok (prefix, bytes) = rw k (ap (λ (xs : List ℕ). Ok (xs, bytes)) (append-nil prefix)) in
     sym so_far ∙ one
 
 -- ---- sources
 
-pub sources_go_on : (size : ℕ) (before : Option ℕ) (front : List ℕ) (count i : ℕ) (bytes : List ℕ) (x : ℕ) (after : List ℕ) (total : Result (List ℕ × List ℕ) TextFault)
+pub sources_go_on : (size : ℕ) (before : Option ℕ) (prefix : List ℕ) (count i : ℕ) (bytes : List ℕ) (x : ℕ) (after : List ℕ) (total : Result (List ℕ × List ℕ) TextFault)
     → i < count → source_field size before bytes ≡ Ok (x, after)
-    → after_samples front (sources_fields size before (count - i) bytes) ≡ total → after_samples (front ++ x ∷ []) (sources_fields size (Some x) (count - (i + 1)) after) ≡ total
+    → after_samples prefix (sources_fields size before (count - i) bytes) ≡ total → after_samples (prefix ++ x ∷ []) (sources_fields size (Some x) (count - (i + 1)) after) ≡ total
 unfolding sources_fields
-sources_go_on size before front count i bytes x after total lt h so_far =
+sources_go_on size before prefix count i bytes x after total lt h so_far =
     let k : count - i ≡ suc (count - (i + 1)) = omega arith in
-    let one : after_samples front (sources_fields size before (count - i) bytes) ≡ after_samples (front ++ x ∷ []) (sources_fields size (Some x) (count - (i + 1)) after) = rw (k, h) (regroup_samples front x (sources_fields size (Some x) (count - (i + 1)) after)) in
+    let one : after_samples prefix (sources_fields size before (count - i) bytes) ≡ after_samples (prefix ++ x ∷ []) (sources_fields size (Some x) (count - (i + 1)) after) = rw (k, h) (regroup_samples prefix x (sources_fields size (Some x) (count - (i + 1)) after)) in
     sym one ∙ so_far
 
-pub sources_end : (e : TextFault) (size : ℕ) (before : Option ℕ) (front : List ℕ) (count i : ℕ) (bytes : List ℕ) (total : Result (List ℕ × List ℕ) TextFault)
+pub sources_end : (e : TextFault) (size : ℕ) (before : Option ℕ) (prefix : List ℕ) (count i : ℕ) (bytes : List ℕ) (total : Result (List ℕ × List ℕ) TextFault)
     → i < count → Fails e (source_field size before bytes)
-    → after_samples front (sources_fields size before (count - i) bytes) ≡ total → Fails e total
+    → after_samples prefix (sources_fields size before (count - i) bytes) ≡ total → Fails e total
 unfolding sources_fields
-sources_end e size before front count i bytes total lt h so_far =
+sources_end e size before prefix count i bytes total lt h so_far =
     let k : suc (count - (i + 1)) ≡ count - i = omega arith in
     let rest = λ (first : ℕ × List ℕ). sources_fields size (Some first.0) (count - (i + 1)) first.1 >>= λ others. Ok (first.0 ∷ others.0, others.1) in
     let here : Fails e (sources_fields size before (suc (count - (i + 1))) bytes) = fails_then e (source_field size before bytes) rest h in
-    subst (Fails e) so_far (fails_then e (sources_fields size before (count - i) bytes) (λ x. Ok (front ++ x.0, x.1)) (subst (λ (n : ℕ). Fails e (sources_fields size before n bytes)) k here))
+    subst (Fails e) so_far (fails_then e (sources_fields size before (count - i) bytes) (λ x. Ok (prefix ++ x.0, x.1)) (subst (λ (n : ℕ). Fails e (sources_fields size before n bytes)) k here))
 
-pub sources_done : (size : ℕ) (before : Option ℕ) (front : List ℕ) (count i : ℕ) (bytes : List ℕ) (total : Result (List ℕ × List ℕ) TextFault)
-    → count ≤ i → after_samples front (sources_fields size before (count - i) bytes) ≡ total → total ≡ Ok (front, bytes)
+pub sources_done : (size : ℕ) (before : Option ℕ) (prefix : List ℕ) (count i : ℕ) (bytes : List ℕ) (total : Result (List ℕ × List ℕ) TextFault)
+    → count ≤ i → after_samples prefix (sources_fields size before (count - i) bytes) ≡ total → total ≡ Ok (prefix, bytes)
 unfolding sources_fields
-sources_done size before front count i bytes total le so_far =
+sources_done size before prefix count i bytes total le so_far =
     let k : count - i ≡ 0 = omega arith in
-    let one : after_samples front (sources_fields size before (count - i) bytes) ≡ Ok (front, bytes) = rw k (ap (λ (xs : List ℕ). Ok (xs, bytes)) (append-nil front)) in
+    let one : after_samples prefix (sources_fields size before (count - i) bytes) ≡ Ok (prefix, bytes) = rw k (ap (λ (xs : List ℕ). Ok (xs, bytes)) (append-nil prefix)) in
     sym so_far ∙ one
 
 -- ---- readings of one line

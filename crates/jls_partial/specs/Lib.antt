@@ -23,7 +23,7 @@ pub mod Slots
 pub mod Status
 pub mod Stored
 pub mod Text
-pub mod TextFront
+pub mod TextPrefix
 pub mod TextInto
 pub mod TextMerging
 pub mod TextReading

@@ -20,7 +20,7 @@ lines_in packed slots = seen_lines packed.precision packed.width packed.samples.
 abbrev pub AreSlotsOf : PackedLines → Slots → Type 0
 AreSlotsOf packed slots = IsLineSet packed.precision packed.width packed.samples.items (slots_of slots)
 
--- the same samples with more of them behind
+-- the same samples with more of them after
 pub record Extends (old new : PackedLines) : Type 0 where
   pub precision : new.precision ≡ old.precision
   pub width : new.width ≡ old.width

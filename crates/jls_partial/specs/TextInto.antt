@@ -24,7 +24,7 @@ with_entry p read = read >>= λ x. Ok (with_all p (map (kept_at_place x.0.0) x.0
 abbrev pub with_entries : PartialPicture → Result (List Entry × List ℕ) TextFault → Result (PartialPicture × List ℕ) TextFault
 with_entries p read = read >>= λ x. Ok (with_all p (kept_readings x.0), x.1)
 
--- with those of all entries, behind which nothing may stand
+-- with those of all entries, after which nothing may stand
 abbrev pub with_rest : ℕ → PartialPicture → Result (List Entry × List ℕ) TextFault → Result PartialPicture TextFault
 with_rest size p read = with_entries p read >>= λ x. if length x.1 == 0 then Ok x.0 else Err (fault.Trailing (offset size x.1))
 

@@ -1,4 +1,4 @@
--- Reading a text from the front, with the first fault that is met and its offset.
+-- Reading a text from the start, with the first fault that is met and its offset.
 -- Each reader answers a value and the bytes after it, or a fault; the magic has no value. `size` is the length of the
 -- whole text, so that the offset of what is next is the size less the length of what is left.
 use Rattle.std.specs.Prelude.{◌≡◌, ℕ, zero, suc, ◌-◌, ◌^◌, Bool, true, ◌&&◌, ◌==◌, nat_lt, nat_le, List, [], ◌∷◌, length, take, drop}

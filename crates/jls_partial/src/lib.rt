@@ -24,7 +24,7 @@
 //!
 //! Definitions: `Reading`, `Partial`, `InsertFaults`, `Status`, `Marks`, `LineSet`, `Entries`, `LinePlace`, `Text`, `TextReading`,
 //! `Equality`, `Parts`. Laws that implementations of `Merge` cite: `PartialLaws`, `LineSetLaws`, `ReadingOrder`. Of `merge_text`:
-//! `TextFront`, `TextMerging`. Inside the crate: `Held`, `LineEntries`, `Packed`, `PackedLines`, `Pages`, `Marking`, `TextInto`. And
+//! `TextPrefix`, `TextMerging`. Inside the crate: `Held`, `LineEntries`, `Packed`, `PackedLines`, `Pages`, `Marking`, `TextInto`. And
 //! `Stored`, which has what a store is seen as and how a call changes it (`ChangesAt`).
 #![tactic(auto)]
 

@@ -3,7 +3,7 @@
 ghost use Rattle.jls_partial.specs.InsertFaults.{samples_fault, Refuses};
 ghost use Rattle.jls_partial.specs.LineSet.{no_lines, line_sources, AreLineMarksHeld, with_line, with_lines, union_of_lines};
 ghost use Rattle.jls_partial.specs.LineSet.{has_same_line_shape, kept_lines};
-ghost use Rattle.jls_partial.specs.Merging.{TakesFrontOfLines};
+ghost use Rattle.jls_partial.specs.Merging.{TakesPrefixOfLines};
 ghost use Rattle.jls_values.specs.Join.{IsBetween};
 ghost use Rattle.jls_values.specs.OrderedSet as set;
 ghost use Rattle.jls_values.specs.declared.merge.MergeFault.TheVariants.{ShapeDiffers, OutOfMemory};
@@ -126,7 +126,7 @@ fn merge_lines(into: &mut LineSet, other: &LineSet) -> Result<(), AllocError>
     requires { has_same_line_shape into.old other.now ≡ true }
     ensures ok { OnOk result (into.new ≡ union_of_lines into.old other.now) }
     ensures err { OnErr result (IsBetween union_of_lines into.old into.new (union_of_lines into.old other.now)) }
-    ensures front { OnErr result (TakesFrontOfLines into.old into.new (kept_lines other.now)) }
+    ensures prefix { OnErr result (TakesPrefixOfLines into.old into.new (kept_lines other.now)) }
 {
     for i in 0..other.len() {
         into.take(other.get(i), other.sources(i))?;
@@ -156,7 +156,7 @@ impl Merge for LineSet {
             → IsBetween union_of_lines self.old self.new (union_of_lines self.old other.now) }
         ensures keeps_shape { has_same_line_shape self.old self.new ≡ true }
         // Each line that was taken has all of its sources.
-        ensures front { IsErrOf result OutOfMemory → TakesFrontOfLines self.old self.new (kept_lines other.now) }
+        ensures prefix { IsErrOf result OutOfMemory → TakesPrefixOfLines self.old self.new (kept_lines other.now) }
     {
         if !self.has_same_shape(other) {
             return Err(MergeFault::ShapeDiffers);

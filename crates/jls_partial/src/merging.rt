@@ -3,7 +3,7 @@
 ghost use Rattle.jls_partial.specs.Entries.{kept_at_place, kept_readings};
 ghost use Rattle.jls_partial.specs.Held.{IsLineEntry};
 ghost use Rattle.jls_partial.specs.LineSet.{kept_lines};
-ghost use Rattle.jls_partial.specs.Merging.{TakesFront};
+ghost use Rattle.jls_partial.specs.Merging.{TakesPrefix};
 ghost use Rattle.jls_partial.specs.Partial.{with_all, has_same_shape, union};
 ghost use Rattle.jls_partial.specs.Text.{entries};
 ghost use Rattle.jls_values.specs.Join.{IsBetween};
@@ -20,7 +20,7 @@ use std::alloc::AllocError;
 fn merge_line(into: &mut Partial, at: LinePlace, lines: &Lines<'_>) -> Result<(), AllocError>
     requires { IsLineEntry into.old.shape (at, lines.now) }
     ensures ok { OnOk result (into.new ≡ with_all into.old (map (kept_at_place at) (kept_lines lines.now))) }
-    ensures err { OnErr result (TakesFront into.old into.new (map (kept_at_place at) (kept_lines lines.now))) }
+    ensures err { OnErr result (TakesPrefix into.old into.new (map (kept_at_place at) (kept_lines lines.now))) }
 {
     for i in 0..lines.len() {
         into.take(at, lines.get(i), lines.sources(i))?;
@@ -32,7 +32,7 @@ fn merge_line(into: &mut Partial, at: LinePlace, lines: &Lines<'_>) -> Result<()
 fn merge_entries(into: &mut Partial, other: &Partial) -> Result<(), AllocError>
     requires { into.old.shape ≡ other.now.shape }
     ensures ok { OnOk result (into.new ≡ with_all into.old (kept_readings (entries other.now))) }
-    ensures err { OnErr result (TakesFront into.old into.new (kept_readings (entries other.now))) }
+    ensures err { OnErr result (TakesPrefix into.old into.new (kept_readings (entries other.now))) }
 {
     for (at, lines) in other.entries() {
         merge_line(into, at, &lines)?;
@@ -60,7 +60,7 @@ impl Merge for Partial {
         ensures out_of_memory { IsErrOf result OutOfMemory → IsBetween union self.old self.new (union self.old other.now) }
         ensures keeps_shape { has_same_shape self.old self.new ≡ true }
         // Each reading that was taken has all of its sources.
-        ensures front { IsErrOf result OutOfMemory → TakesFront self.old self.new (kept_readings (entries other.now)) }
+        ensures prefix { IsErrOf result OutOfMemory → TakesPrefix self.old self.new (kept_readings (entries other.now)) }
     {
         if *self.shape() != *other.shape() {
             return Err(MergeFault::ShapeDiffers);

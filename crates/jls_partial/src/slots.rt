@@ -40,7 +40,7 @@ pub(crate) struct Tree {
     root: Option<Box<Fork>>,
 }
 
-/// A slot, with those before it and those behind it.
+/// A slot, with those before it and those after it.
 #[cycle(tree)]
 #[derive(Drop)]
 pub(crate) struct Fork {
@@ -219,7 +219,7 @@ impl Tree {
         self.len
     }
 
-    /// A slot with those before it and those behind it, unless there is none.
+    /// A slot with those before it and those after it, unless there is none.
     pub(crate) fn parts(&self) -> Option<(&Tree, &Slot, &Tree)>
         ensures { MatchOption result (self.now ≡ []) (λ parts. self.now ≡ parts.0.now ++ parts.1.now ∷ parts.2.now) }
     {

@@ -1,4 +1,4 @@
-//! The fields of a text, read from the front. `size` is the length of the whole text in bytes, so that
+//! The fields of a text, read from the start. `size` is the length of the whole text in bytes, so that
 //! what is left of it tells the offset.
 
 ghost use Rattle.jls_partial.specs.TextReading.{GivesText, byte_field, bytes_field, number_field, magic_field, version_field};
@@ -11,7 +11,7 @@ use crate::text_fault::TextFault;
 use crate::version::Version;
 use jls_values::{Shape, ShapeFault};
 
-/// Where the fields of the shape begin, behind the magic and the version.
+/// Where the fields of the shape begin, after the magic and the version.
 const SHAPE_OFFSET: u64 = 5;
 
 /// The offset of what is left.
@@ -37,8 +37,8 @@ fn read_u16(size: u64, bytes: &[u8]) -> Result<(u16, &[u8]), TextFault>
     if bytes.len() < 2 {
         return Err(TextFault::Truncated(size));
     }
-    let (front, rest) = bytes.split_at(2);
-    Ok((u16::from_be_bytes([front[0], front[1]]), rest))
+    let (prefix, rest) = bytes.split_at(2);
+    Ok((u16::from_be_bytes([prefix[0], prefix[1]]), rest))
 }
 
 /// A number of four bytes.
@@ -48,8 +48,8 @@ pub(crate) fn read_u32(size: u64, bytes: &[u8]) -> Result<(u32, &[u8]), TextFaul
     if bytes.len() < 4 {
         return Err(TextFault::Truncated(size));
     }
-    let (front, rest) = bytes.split_at(4);
-    let number = u32::from_be_bytes([front[0], front[1], front[2], front[3]]);
+    let (prefix, rest) = bytes.split_at(4);
+    let number = u32::from_be_bytes([prefix[0], prefix[1], prefix[2], prefix[3]]);
     Ok((number, rest))
 }
 
@@ -60,9 +60,9 @@ pub(crate) fn read_u64(size: u64, bytes: &[u8]) -> Result<(u64, &[u8]), TextFaul
     if bytes.len() < 8 {
         return Err(TextFault::Truncated(size));
     }
-    let (front, rest) = bytes.split_at(8);
+    let (prefix, rest) = bytes.split_at(8);
     let number = u64::from_be_bytes([
-        front[0], front[1], front[2], front[3], front[4], front[5], front[6], front[7],
+        prefix[0], prefix[1], prefix[2], prefix[3], prefix[4], prefix[5], prefix[6], prefix[7],
     ]);
     Ok((number, rest))
 }

@@ -1,9 +1,9 @@
 //! Texts whose readings go straight into a partial picture that is held.
 
-ghost use Rattle.jls_partial.specs.Merging.{TakesFront};
+ghost use Rattle.jls_partial.specs.Merging.{TakesPrefix};
 ghost use Rattle.jls_partial.specs.Partial.{PartialPicture, union};
 ghost use Rattle.jls_partial.specs.Text.{IsTextOf};
-ghost use Rattle.jls_partial.specs.TextFront.{text_front};
+ghost use Rattle.jls_partial.specs.TextPrefix.{text_prefix};
 ghost use Rattle.jls_partial.specs.TextMerging.{MergesText, RefusesText, HasOtherHead};
 ghost use Rattle.jls_partial.specs.declared.text_merging.MergeTextFault.TheVariants.{Text, ShapeDiffers};
 ghost use Rattle.jls_values.specs.Join.{IsBetween};
@@ -11,7 +11,7 @@ ghost use Rattle.std.specs.Prelude.{◌≡◌, OnOk, OnErr, IfErr, IsErrOf};
 
 use crate::partial::Partial;
 use crate::text_fault::TextFault;
-use crate::text_reading::{read_behind, read_head, read_rest};
+use crate::text_reading::{read_after, read_head, read_rest};
 use std::alloc::Global;
 use thiserror::Error;
 
@@ -47,14 +47,14 @@ impl Partial {
         // Whatever the answer.
         ensures other_head { HasOtherHead self.old bytes.now → self.new ≡ self.old }
         // What is held after a fault.
-        ensures front { OnErr result (TakesFront self.old self.new (text_front bytes.now)) }
+        ensures prefix { OnErr result (TakesPrefix self.old self.new (text_prefix bytes.now)) }
         // Where memory ran out for what is a text.
         ensures between { (p : PartialPicture) → IsTextOf bytes.now p
             → OnErr result (IsBetween union self.old self.new (union self.old p)) }
     {
         let head = read_head(alloc, bytes)?;
         if *self.shape() != head.shape {
-            read_behind(head)?;
+            read_after(head)?;
             return Err(MergeTextFault::ShapeDiffers);
         }
         read_rest(head.form, self, head.count, head.rest)?;

@@ -1,10 +1,10 @@
 //! Partial pictures from their texts.
 
 ghost use Rattle.jls_partial.specs.Entries.{kept_at_place};
-ghost use Rattle.jls_partial.specs.Merging.{TakesFront};
+ghost use Rattle.jls_partial.specs.Merging.{TakesPrefix};
 ghost use Rattle.jls_partial.specs.Partial.{PartialPicture, nothing_known};
 ghost use Rattle.jls_partial.specs.Text.{IsTextOf};
-ghost use Rattle.jls_partial.specs.TextFront.{readings_front, entry_front, entries_front};
+ghost use Rattle.jls_partial.specs.TextPrefix.{readings_prefix, entry_prefix, entries_prefix};
 ghost use Rattle.jls_partial.specs.TextInto.{with_readings, with_entry, with_entries, with_rest, head_fields};
 ghost use Rattle.jls_partial.specs.TextReading.{GivesText, reading_fields, sources_fields, own_sources_fields, kept_fields};
 ghost use Rattle.jls_partial.specs.TextReading.{readings_fields, entry_fields, entries_fields, read_text};
@@ -112,8 +112,8 @@ fn read_kept<'a>(
     ensures { GivesText (λ x. ((x.0.items, x.1.items), x.2.now)) result
         (kept_fields form.size form.version shape.now (option_map (λ v. v.items) before.now) bytes.now) }
 {
-    let (samples, behind) = read_reading(form.alloc, form.size, shape, before, bytes)?;
-    let (sources, rest) = read_own_sources(form.alloc, form.size, form.version, behind)?;
+    let (samples, following) = read_reading(form.alloc, form.size, shape, before, bytes)?;
+    let (sources, rest) = read_own_sources(form.alloc, form.size, form.version, following)?;
     Ok((samples, sources, rest))
 }
 
@@ -129,8 +129,8 @@ fn read_readings<'a>(
     requires line_in { at.line < partial.now.shape.height }
     ensures read { GivesText (λ x. (partial.new, x.now)) result
         (with_readings partial.old at (readings_fields form.size form.version partial.old.shape None count bytes.now)) }
-    ensures front { OnErr result (TakesFront partial.old partial.new
-        (map (kept_at_place at) (readings_front form.size form.version partial.old.shape None count bytes.now))) }
+    ensures prefix { OnErr result (TakesPrefix partial.old partial.new
+        (map (kept_at_place at) (readings_prefix form.size form.version partial.old.shape None count bytes.now))) }
 {
     let mut before = None;
     let mut rest = bytes;
@@ -153,8 +153,8 @@ fn read_entry<'a>(
 ) -> Result<(LinePlace, &'a [u8]), TextFault>
     ensures read { GivesText (λ x. (partial.new, x.0, x.1.now)) result
         (with_entry partial.old (entry_fields form.size form.version partial.old.shape before bytes.now)) }
-    ensures front { OnErr result (TakesFront partial.old partial.new
-        (entry_front form.size form.version partial.old.shape before bytes.now)) }
+    ensures prefix { OnErr result (TakesPrefix partial.old partial.new
+        (entry_prefix form.size form.version partial.old.shape before bytes.now)) }
 {
     let (at, rest) = read_place(form.size, partial.shape(), before, bytes)?;
     let (count, rest) = read_count(form.size, rest)?;
@@ -171,8 +171,8 @@ fn read_entries<'a>(
 ) -> Result<&'a [u8], TextFault>
     ensures read { GivesText (λ x. (partial.new, x.now)) result
         (with_entries partial.old (entries_fields form.size form.version partial.old.shape None count bytes.now)) }
-    ensures front { OnErr result (TakesFront partial.old partial.new
-        (entries_front form.size form.version partial.old.shape None count bytes.now)) }
+    ensures prefix { OnErr result (TakesPrefix partial.old partial.new
+        (entries_prefix form.size form.version partial.old.shape None count bytes.now)) }
 {
     let mut before = None;
     let mut rest = bytes;
@@ -216,7 +216,7 @@ pub(crate) fn read_head(alloc: Global, bytes: &[u8]) -> Result<Head<'_>, TextFau
     })
 }
 
-/// Takes the readings of all entries, behind which nothing may stand.
+/// Takes the readings of all entries, after which nothing may stand.
 pub(crate) fn read_rest(
     form: Form,
     partial: &mut Partial,
@@ -225,8 +225,8 @@ pub(crate) fn read_rest(
 ) -> Result<(), TextFault>
     ensures read { GivesText (λ _. partial.new) result
         (with_rest form.size partial.old (entries_fields form.size form.version partial.old.shape None count bytes.now)) }
-    ensures front { OnErr result (TakesFront partial.old partial.new
-        (entries_front form.size form.version partial.old.shape None count bytes.now)) }
+    ensures prefix { OnErr result (TakesPrefix partial.old partial.new
+        (entries_prefix form.size form.version partial.old.shape None count bytes.now)) }
 {
     let rest = read_entries(form, partial, count, bytes)?;
     if !rest.is_empty() {
@@ -236,7 +236,7 @@ pub(crate) fn read_rest(
 }
 
 /// The partial picture of a text of which the head was read.
-pub(crate) fn read_behind(head: Head<'_>) -> Result<Partial, TextFault>
+pub(crate) fn read_after(head: Head<'_>) -> Result<Partial, TextFault>
     ensures { GivesText (λ p. p) result (with_rest head.entry.form.size (nothing_known head.entry.shape)
         (entries_fields head.entry.form.size head.entry.form.version head.entry.shape None head.entry.count head.entry.rest.now)) }
 {
@@ -254,7 +254,7 @@ pub(crate) fn read_behind(head: Head<'_>) -> Result<Partial, TextFault>
 fn read_partial(alloc: Global, bytes: &[u8]) -> Result<Partial, TextFault>
     ensures { GivesText (λ p. p) result (read_text bytes.now) }
 {
-    read_behind(read_head(alloc, bytes)?)
+    read_after(read_head(alloc, bytes)?)
 }
 
 impl Partial {

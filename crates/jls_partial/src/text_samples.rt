@@ -17,8 +17,8 @@ fn samples_in(alloc: Global, count: usize, bytes: &[u8]) -> Result<Vec<u16>, All
     let mut samples = Vec::with_capacity(alloc, count)?;
     let mut rest = bytes;
     for _ in 0..count {
-        let (front, after) = rest.split_at(2);
-        samples.push_reserved(u16::from_be_bytes([front[0], front[1]]));
+        let (prefix, after) = rest.split_at(2);
+        samples.push_reserved(u16::from_be_bytes([prefix[0], prefix[1]]));
         rest = after;
     }
     Ok(samples)
@@ -35,7 +35,7 @@ fn largest(samples: &[u16]) -> u16
     largest
 }
 
-/// The samples that stand in front, read at one go, where all are there and below the limit.
+/// The samples that stand first, read at one go, where all are there and below the limit.
 fn read_samples_below(
     alloc: Global,
     limit: u32,
@@ -48,8 +48,8 @@ fn read_samples_below(
     if bytes.len() < count * 2 {
         return Ok(None);
     }
-    let (front, rest) = bytes.split_at(count * 2);
-    let samples = samples_in(alloc, count, front)?;
+    let (prefix, rest) = bytes.split_at(count * 2);
+    let samples = samples_in(alloc, count, prefix)?;
     if limit <= largest(&samples) as u32 {
         return Ok(None);
     }

@@ -5,6 +5,6 @@
 pub enum Version {
     /// It has no sources.
     One,
-    /// It has the sources of each reading behind its samples.
+    /// It has the sources of each reading after its samples.
     Two,
 }

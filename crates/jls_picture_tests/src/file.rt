@@ -39,7 +39,7 @@ struct Row<'a> {
     file: &'a [u8],
 }
 
-/// The picture is written as the file; a write that fails after n bytes is told, for each n.
+/// The picture is written as the file; a write that fails after n bytes is reported, for each n.
 fn check(rt: &impl Abort, alloc: Global, row: &Row<'_>) -> Result<(), Fail> {
     let partial = settled(alloc, &row.lines)?;
     let picture = Picture::of(&partial).expect(rt, "a line is not settled");
@@ -74,7 +74,7 @@ fn check(rt: &impl Abort, alloc: Global, row: &Row<'_>) -> Result<(), Fail> {
 
 /// One sample; four lines; two components in one scan and in two; two with two rows, row by row; three in one scan; a restart interval
 /// of one row, with ILV of one component; a MAXVAL of 15, whose thresholds are no defaults; and this with restart intervals, whose DRI
-/// stands behind the LSE.
+/// stands after the LSE.
 const FILES: [Row<'static>; 9] = [
     Row {
         lines: Lines {

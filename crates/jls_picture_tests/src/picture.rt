@@ -26,7 +26,7 @@ fn written(
     (result, sink.held)
 }
 
-/// The lines are written as this file, and a write that fails after n bytes is told, for each n.
+/// The lines are written as this file, and a write that fails after n bytes is reported, for each n.
 fn check(rt: &impl Abort, alloc: Global, lines: &Lines<'_>, file: &[u8]) -> Result<(), Fail> {
     let partial = settled(alloc, lines)?;
     let picture = Picture::of(&partial).expect(rt, "a line is not settled");

@@ -285,7 +285,7 @@ fn outputs_of_failed_runs_are_dropped(rt: HostRuntime) {
 }
 
 /// The first two bytes of a file, and whether it is a JPEG file: SOI, and a fill byte; then APP0, `P5` and `JL`.
-const FRONTS: [(u8, u8, bool); 6] = [
+const PREFIXES: [(u8, u8, bool); 6] = [
     (0xFF, 0xD8, true),
     (0xFF, 0xFF, true),
     (0xFF, 0xE0, false),
@@ -296,7 +296,7 @@ const FRONTS: [(u8, u8, bool); 6] = [
 
 #[test]
 fn jpeg_files_are_known_by_two_bytes(rt: HostRuntime) {
-    for &(first, second, is_jpeg) in &FRONTS {
+    for &(first, second, is_jpeg) in &PREFIXES {
         assert_eq!(rt; begins_as_jpeg(first, second), is_jpeg, "{first} {second}");
     }
 }

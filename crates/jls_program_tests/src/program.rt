@@ -20,14 +20,14 @@ use std::alloc::{AllocError, Global};
 #[derive(Drop)]
 struct Ending {
     status: u8,
-    /// The names of the outputs that were created, each with a blank behind it.
+    /// The names of the outputs that were created, each with a blank after it.
     created: String,
     output: Option<Vec<u8>>,
     report: Vec<u8>,
     faults: Vec<u8>,
 }
 
-/// Runs the program with the words of a line behind its name. The answer is the status and what is on the fault output.
+/// Runs the program with the words of a line after its name. The answer is the status and what is on the fault output.
 fn run_line<W: Sink>(
     alloc: Global,
     line: &str,

@@ -81,8 +81,8 @@ module _ (missing : ℕ → Bool) (height : ℕ) where
   one_step false true more rest count e = omega (arith, e)
   one_step false false more rest count e = omega (arith, e)
 
-  behind_one : (line : ℕ) → (line + 1 == 0 || not (missing (line + 1 - 1))) ≡ not (missing line)
-  behind_one line =
+  after_one : (line : ℕ) → (line + 1 == 0 || not (missing (line + 1 - 1))) ≡ not (missing line)
+  after_one line =
       let e : line + 1 - 1 ≡ line = omega arith in let z : (line + 1 == 0) ≡ false = grind (arith, nat_tests) in rw (e, z) refl
 
   -- the lines of ranges that begin from this line on, and those that a range above it has here
@@ -93,7 +93,7 @@ module _ (missing : ℕ → Bool) (height : ℕ) where
   all_runs line zero false whole is = refl
   all_runs line (suc n) above whole is =
       let left : height - line ≡ suc n = omega (arith, whole) in
-      let rest = all_runs (line + 1) n (missing line) (omega (arith, whole)) (behind_one line) in
+      let rest = all_runs (line + 1) n (missing line) (omega (arith, whole)) (after_one line) in
       let step = one_step (missing line) above (prefix_len missing (range_with_len (line + 1) n)) _ _ rest in
       let first : cond (begins line) (run line) 0 ≡ cond (missing line && not above) (prefix_len missing (range_with_len line (suc n))) 0 =
       ap (λ b. cond (missing line && b) (run line) 0) is ∙ ap (λ m. cond (missing line && not above) (prefix_len missing (range_with_len line m)) 0) left in

@@ -14,7 +14,7 @@ use Rattle.jls_report.specs.Report.{begins_range, missing_from, entries_at, comp
 use Rattle.jls_report.proofs.Members.{found_over, member_over, one_of, first_of_two, second_of_two}
 use Rattle.jls_report.proofs.RangeEnds.{prefix_is}
 
--- ---- numbers that pass, from the front on
+-- ---- numbers that pass, from the start on
 
 passes : (test : ℕ → Bool) (a n k : ℕ) → k < prefix_len test (range_with_len a n) → test (a + k) ≡ true
 passes test a n k below =

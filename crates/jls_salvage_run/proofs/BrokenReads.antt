@@ -1,11 +1,11 @@
--- What stands behind status 4 where nothing failed but reads; and the greatest status.
+-- What causes status 4 where nothing failed but reads; and the greatest status.
 use Rattle.std.proofs.Common.{Ok, Err, ◌≡◌, ◌≤◌, ◌⊎◌, inl, inr, ℕ, Bool, true, false, List, [], ◌∷◌, ◌++◌, length, Option, None, sym, subst, ◌∙◌, refl, lit≤, arith}
 use Rattle.std.specs.Prelude.{◌||◌}
 use Rattle.std.specs.List.{list_any}
 use Rattle.std.proofs.lemmas.List.Folds.{list_any-append}
 use Rattle.jls_write.specs.Picture.{picture_of}
 use Rattle.jls_io.specs.Event.{Event, opened, write_failed}
-use Rattle.jls_io.specs.Writing.{WroteFront}
+use Rattle.jls_io.specs.Writing.{WrotePrefix}
 use Rattle.jls_station.specs.Given.{Given}
 use Rattle.jls_station.specs.Inputs.{IsRefused, no_text, no_picture, text_not_read, copy_not_read, IsEnough, ReadsRefuse, for_fault, for_memory}
 use Rattle.jls_salvage_run.specs.AllInputs.{StopsAt, not_there, refused, other_shape, no_memory}
@@ -27,7 +27,7 @@ use Rattle.jls_salvage_run.specs.WritingFiles.{WritesFile, StopsAtFile, FitsForm
 use Rattle.jls_salvage_run.specs.declared.writing.Format.{Format}
 use Rattle.jls_salvage_run.specs.declared.writing.Format.TheVariants.{Pnm, Jls}
 use Rattle.jls_cli.specs.SalvageAsking.{Asked, check, join, show, write_pnm, write_jls, AskFor}
-use Rattle.jls_salvage_run.specs.BrokenReads.{StatusesAreAtMost5, is_other_failure, NothingElseFailed, TellsInPart, JoinsInPart, WritesInPart, DoneInPart, IsUnread, EndsAtUnread, BrokenReadsAreBehindStatus4}
+use Rattle.jls_salvage_run.specs.BrokenReads.{StatusesAreAtMost5, is_other_failure, NothingElseFailed, TellsInPart, JoinsInPart, WritesInPart, DoneInPart, IsUnread, EndsAtUnread, BrokenReadsCauseStatus4}
 use Rattle.jls_salvage_run.specs.Runs.{CameOf, Run, came_of, misused, helped, help_cut, nothing_begun, nothing_asked}
 use Rattle.jls_salvage_run.specs.Statuses.{source_of, inputs_of}
 use Rattle.jls_salvage_run.proofs.Finished.{status_of_unsettled}
@@ -81,7 +81,7 @@ parts_fine : (a b : List Event) → NothingElseFailed (a ++ b) → NothingElseFa
 parts_fine a b h =
     neither (list_any is_other_failure a) (list_any is_other_failure b) (sym (list_any-append is_other_failure a b) ∙ h)
 
-not_cut : (bytes : List ℕ) (count : ℕ) (events : List Event) → WroteFront bytes count events → NothingElseFailed events → ⊥
+not_cut : (bytes : List ℕ) (count : ℕ) (events : List Event) → WrotePrefix bytes count events → NothingElseFailed events → ⊥
 not_cut bytes count events h fine =
     let last : true ≡ false = (parts_fine h.writes (write_failed ∷ []) (subst NothingElseFailed h.events_are fine)).1 in cc
 
@@ -228,6 +228,6 @@ run_in_part words _ _ report faults (help_cut _ kind help count _ _ r n wrote li
 run_in_part words _ _ _ faults (nothing_begun _ _ line) e fine quiet = absurd (omega (arith, e))
 run_in_part words _ _ _ faults (nothing_asked _ _ asks line) e fine quiet = absurd (omega (arith, e))
 
-pub broken_reads_behind : BrokenReadsAreBehindStatus4
-broken_reads_behind words status desk desk' report report' faults faults' ran e fine quiet =
+pub broken_reads_after : BrokenReadsCauseStatus4
+broken_reads_after words status desk desk' report report' faults faults' ran e fine quiet =
     run_in_part words status ran.desk_events ran.report_events ran.fault_events ran.run e fine quiet

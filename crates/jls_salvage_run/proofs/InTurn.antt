@@ -24,9 +24,9 @@ use Rattle.jls_salvage_run.specs.declared.outcome.Refusal.TheVariants as refusal
 -- ---- one input
 
 -- an event, and then others
-pub grew_behind : (A B : List Event → Type 0) (old mid new : History) (e : Event) → ((events : List Event) → A events → B (e ∷ events))
+pub grew_after : (A B : List Event → Type 0) (old mid new : History) (e : Event) → ((events : List Event) → A events → B (e ∷ events))
     → mid ≡ old ++ e ∷ [] → GrewBy A mid new → GrewBy B old new
-grew_behind A B old mid new e see d h = record {
+grew_after A B old mid new e see d h = record {
   events = e ∷ h.events;
   grew = grew_twice old mid new (e ∷ []) h.events d h.grew;
   they_are = see h.events h.they_are;
@@ -35,13 +35,13 @@ grew_behind A B old mid new e see d h = record {
 module _ (source : Option ℕ) (old mid new : History) (name : List ℕ) where
   pub opened_and_given : (g : Given) → mid ≡ old ++ opened name ∷ [] → GrewBy (ReadsGive source g) mid new
       → GrewBy (IsTaken source name g) old new
-  opened_and_given g = grew_behind (ReadsGive source g) (IsTaken source name g) old mid new (opened name) (λ reads h. record { reads = reads; events_are = refl; give = h })
+  opened_and_given g = grew_after (ReadsGive source g) (IsTaken source name g) old mid new (opened name) (λ reads h. record { reads = reads; events_are = refl; give = h })
 
 module _ (source : Option ℕ) (old mid new : History) (name : Bor (List ℕ)) where
   pub opened_and_refused : (f : InputFault) (before : List Given) → mid ≡ old ++ opened name.now ∷ [] → GrewBy (ReadsRefuse f) mid new
       → GrewBy (StopsAt source before (refusal.Input name f)) old new
   opened_and_refused f before =
-      grew_behind (ReadsRefuse f) (StopsAt source before (refusal.Input name f)) old mid new (opened name.now) (λ reads h. refused source before name f reads h)
+      grew_after (ReadsRefuse f) (StopsAt source before (refusal.Input name f)) old mid new (opened name.now) (λ reads h. refused source before name f reads h)
 
   pub not_opened_at_all : (before : List Given) (r : Refusal) → r ≡ refusal.NotOpened name → new ≡ old ++ not_opened name.now ∷ []
       → GrewBy (StopsAt source before r) old new

@@ -37,7 +37,7 @@ past_one (not_created name) more h = absurd cc
 past_one (took bytes) more h = absurd cc
 past_one write_failed more h = absurd cc
 
--- what comes behind them is as it was
+-- what comes after them is as it was
 past_all : (events rest : List Event) → AreReads events
     → (before_next is_opening (events ++ rest) ≡ events ++ before_next is_opening rest) × (input_bytes (events ++ rest) ≡ input_bytes rest)
     × (output_bytes (events ++ rest) ≡ output_bytes rest)

@@ -6,7 +6,7 @@ use Rattle.jls_partial.specs.Partial.{PartialPicture}
 use Rattle.jls_partial.specs.Status.{IsSettled}
 use Rattle.jls_partial.specs.Text.{text}
 use Rattle.jls_io.specs.Event.{History, GrewBy, created, not_created}
-use Rattle.jls_io.specs.Writing.{WroteFront}
+use Rattle.jls_io.specs.Writing.{WrotePrefix}
 use Rattle.jls_io.proofs.Growing.{grew_on, grew_as}
 use Rattle.jls_salvage_run.specs.AllInputs.{TakesUnion, StopsAtInput}
 use Rattle.jls_io.specs.Outputs.{HandsOut}
@@ -15,7 +15,7 @@ use Rattle.jls_salvage_run.specs.Joining.{Joins, done, at_input, no_memory, at_o
 use Rattle.jls_salvage_run.specs.Outcomes.{finished, name_of}
 use Rattle.jls_salvage_run.specs.declared.outcome.Refusal.{Refusal}
 use Rattle.jls_salvage_run.specs.declared.outcome.Refusal.TheVariants as refusal
-use Rattle.jls_salvage_run.proofs.InTurn.{grew_behind}
+use Rattle.jls_salvage_run.proofs.InTurn.{grew_after}
 
 -- ---- an output
 
@@ -26,9 +26,9 @@ not_created_at_all old new name bytes r is grew =
     (record { events = not_created name.now ∷ []; grew = grew; they_are = not_there name bytes })
 
 pub created_and_cut : (old mid new : History) (name : Bor (List ℕ)) (bytes : List ℕ) (count : ℕ) → mid ≡ old ++ created name.now ∷ []
-    → GrewBy (WroteFront bytes count) mid new → GrewBy (StopsAtOutput bytes (refusal.NotWritten name count)) old new
+    → GrewBy (WrotePrefix bytes count) mid new → GrewBy (StopsAtOutput bytes (refusal.NotWritten name count)) old new
 created_and_cut old mid new name bytes count =
-    grew_behind (WroteFront bytes count) (StopsAtOutput bytes (refusal.NotWritten name count)) old mid new (created name.now) (λ writes h. cut name bytes count writes h)
+    grew_after (WrotePrefix bytes count) (StopsAtOutput bytes (refusal.NotWritten name count)) old mid new (created name.now) (λ writes h. cut name bytes count writes h)
 
 -- ---- the whole
 

@@ -5,7 +5,7 @@ pub mod InputBytes
 pub mod JoinSteps
 pub mod NextInputs
 mod StatusExamples
-pub mod Told
+pub mod Reported
 mod TooLarge
 mod TraceExamples
 pub mod WholeRuns

@@ -1,4 +1,4 @@
--- What stands behind the exit statuses 2 and 3 of a run.
+-- What causes the exit statuses 2 and 3 of a run.
 use Rattle.std.proofs.Common.{subst, ◌≡◌, ◌⊎◌, inl, inr, ℕ, Bool, true, false, List, [], ◌∷◌, ◌++◌, Option, None, ap, ◌∙◌, refl, arith}
 use Rattle.std.proofs.lemmas.List.{append-nil}
 use Rattle.jls_io.specs.Event.{Event, History, opened}
@@ -24,7 +24,7 @@ use Rattle.jls_cli.specs.SalvageAsking.{Asked, AskFor, AskForNothing, check, joi
 use Rattle.jls_salvage_run.specs.RunLaws.{written_as}
 use Rattle.jls_salvage_run.specs.Runs.{CameOf, Run, came_of, misused, helped, help_cut, nothing_begun, nothing_asked}
 use Rattle.jls_salvage_run.specs.Statuses as statuses
-use Rattle.jls_salvage_run.specs.Statuses.{AreMisused, AskForTooMuch, EndsAtUnfit, InputsAreBehindStatus3, IsUnfit, WordsAreBehindStatus2, inputs_of, source_of}
+use Rattle.jls_salvage_run.specs.Statuses.{AreMisused, AskForTooMuch, EndsAtUnfit, InputsCauseStatus3, IsUnfit, WordsCauseStatus2, inputs_of, source_of}
 use Rattle.jls_salvage_run.proofs.Finished.{status_of_unsettled}
 
 -- ---- neither is done, nor stopped by an output
@@ -140,8 +140,8 @@ run_unfit words _ _ report faults (help_cut _ kind help count _ _ r n wrote line
 run_unfit words _ _ _ faults (nothing_begun _ _ line) e = absurd (omega (arith, e))
 run_unfit words _ _ _ faults (nothing_asked _ _ asks line) e = absurd (omega (arith, e))
 
-pub inputs_behind : InputsAreBehindStatus3
-inputs_behind words status desk desk' report report' faults faults' ran e =
+pub inputs_after : InputsCauseStatus3
+inputs_after words status desk desk' report report' faults faults' ran e =
     let h = run_unfit words status ran.desk_events ran.report_events ran.fault_events ran.run e in
     (h.0, h.1, record { events = ran.desk_events; grew = ran.desk_is; they_are = h.2 })
 
@@ -225,6 +225,6 @@ module _ (words : List (List ℕ)) (desk desk' : History) where
   run_with_2 _ _ _ faults (nothing_begun _ _ line) e grew = absurd (omega (arith, e))
   run_with_2 _ _ _ faults (nothing_asked _ _ asks line) e grew = inr (inl asks)
 
-pub words_behind : WordsAreBehindStatus2
-words_behind words status desk desk' report report' faults faults' ran e =
+pub words_after : WordsCauseStatus2
+words_after words status desk desk' report report' faults faults' ran e =
     run_with_2 words desk desk' status ran.desk_events ran.report_events ran.fault_events ran.run e ran.desk_is

@@ -1,4 +1,4 @@
--- What stands behind the exit statuses 2 to 5 of a run.
+-- What causes the exit statuses 2 to 5 of a run.
 use Rattle.std.proofs.Common.{◌≡◌, ◌≤◌, ◌+◌, ◌⊎◌, inl, inr, ℕ, Bool, true, false, List, [], ◌∷◌, ◌++◌, Option, None, Ok, Err, length, filter, sym, subst, ap, ◌∙◌, refl, arith}
 use Rattle.std.specs.Prelude.{◌||◌, All}
 use Rattle.std.specs.List.{list_any}
@@ -6,10 +6,10 @@ use Rattle.std.proofs.lemmas.List.{append-nil, length-append}
 use Rattle.std.proofs.lemmas.List.Elements.{All-cons, All-nil, filter-append}
 use Rattle.std.proofs.lemmas.List.Folds.{list_any-append}
 use Rattle.jls_io.specs.Event.{Event, opened, not_opened, gave, read_failed, created, not_created, took, write_failed, is_creation, is_read}
-use Rattle.jls_io.specs.Writing.{WroteFront, Printed}
+use Rattle.jls_io.specs.Writing.{WrotePrefix, Printed}
 use Rattle.jls_station.specs.Given.{Given}
 use Rattle.jls_station.specs.Reading.{GoesOn, StopsWith, IsRead}
-use Rattle.jls_station.specs.Inputs.{IsEnough, IsRefused, no_text, no_picture, text_not_read, copy_not_read, between_reads, behind_the_last, ReadsRefuse, for_fault, for_memory}
+use Rattle.jls_station.specs.Inputs.{IsEnough, IsRefused, no_text, no_picture, text_not_read, copy_not_read, between_reads, after_the_last, ReadsRefuse, for_fault, for_memory}
 use Rattle.jls_salvage_run.specs.AllInputs.{IsTaken, TakesInTurn, StopsAt, not_there, refused, other_shape, no_memory}
 use Rattle.jls_salvage_run.specs.Joining as joining
 use Rattle.jls_salvage_run.specs.Joining.{Joins}
@@ -32,7 +32,7 @@ use Rattle.jls_cli.specs.SalvageAsking.{Asked, check, join, show, write_pnm, wri
 use Rattle.jls_io.specs.FaultLines.{out_of_memory_line}
 use Rattle.jls_salvage_run.specs.FaultLines.{fault_line, input_fault_line, program, refusal_line}
 use Rattle.jls_salvage_run.specs.Runs.{CameOf, Run, came_of, misused, helped, help_cut, nothing_begun, nothing_asked}
-use Rattle.jls_salvage_run.specs.Statuses.{is_failure, HadFailure, FailuresAreBehindStatus4, RefusedRunsCreateNothing, WantOfMemoryIsTold}
+use Rattle.jls_salvage_run.specs.Statuses.{is_failure, HadFailure, FailuresCauseStatus4, RefusedRunsCreateNothing, WantOfMemoryIsReported}
 use Rattle.jls_salvage_run.proofs.Finished.{status_of_unsettled}
 
 -- ---- failures among events
@@ -154,8 +154,8 @@ failed_at_output bytes _ _ (outputs.not_there _ _) = inl refl
 failed_at_output bytes _ _ (outputs.cut n _ count writes h) =
     failed_right (created n.now ∷ []) writes (failed_as writes (h.writes ++ write_failed ∷ []) h.events_are (failed_right h.writes (write_failed ∷ []) (inl refl)))
 
-front_failed : (bytes : List ℕ) (count : ℕ) (events : List Event) → WroteFront bytes count events → HadFailure events
-front_failed bytes count events h = failed_as events (h.writes ++ write_failed ∷ []) h.events_are (failed_right h.writes (write_failed ∷ []) (inl refl))
+prefix_failed : (bytes : List ℕ) (count : ℕ) (events : List Event) → WrotePrefix bytes count events → HadFailure events
+prefix_failed bytes count events h = failed_as events (h.writes ++ write_failed ∷ []) h.events_are (failed_right h.writes (write_failed ∷ []) (inl refl))
 
 -- ---- commands that end with 4
 
@@ -184,7 +184,7 @@ tell_failed traced name _ events reported (reporting.done _ g settled whole _ _ 
 tell_failed traced name _ events _ (reporting.at_input _ r _ named h) e = inl (failed_at_input None [] r events h e)
 tell_failed traced name _ events _ (reporting.no_memory _ n g _ named taken) e =
     absurd (omega (arith, e))
-tell_failed traced name _ events reported (reporting.not_printed _ n g count _ _ named taken wrote) e = inr (front_failed (lines traced g) count reported wrote)
+tell_failed traced name _ events reported (reporting.not_printed _ n g count _ _ named taken wrote) e = inr (prefix_failed (lines traced g) count reported wrote)
 
 file_failed : (F L : Type 0) (takes : Bool) (bytes : List ℕ) (r : Refusal) (events : List Event) → StopsAtFile F L takes bytes r events
     → status_of_refusal r ≡ 4 → HadFailure events
@@ -216,12 +216,12 @@ run_failed : (words : List (List ℕ)) (status : ℕ) (desk report faults : List
 run_failed words _ desk report faults (came_of _ asked outcome _ _ _ reads came line) e = came_failed asked outcome desk report came e
 run_failed words _ _ _ faults (misused _ kind usage _ r n line) e = absurd (omega (arith, e))
 run_failed words _ _ report _ (helped _ kind help _ r n wrote) e = absurd (omega (arith, e))
-run_failed words _ _ report faults (help_cut _ kind help count _ _ r n wrote line) e = inr (front_failed help count report wrote)
+run_failed words _ _ report faults (help_cut _ kind help count _ _ r n wrote line) e = inr (prefix_failed help count report wrote)
 run_failed words _ _ _ faults (nothing_begun _ _ line) e = absurd (omega (arith, e))
 run_failed words _ _ _ faults (nothing_asked _ _ asks line) e = absurd (omega (arith, e))
 
-pub failures_behind : FailuresAreBehindStatus4
-failures_behind words status desk desk' report report' faults faults' ran e = run_failed words status ran.desk_events ran.report_events ran.fault_events ran.run e
+pub failures_after : FailuresCauseStatus4
+failures_after words status desk desk' report report' faults faults' ran e = run_failed words status ran.desk_events ran.report_events ran.fault_events ran.run e
 
 -- ---- no creation
 
@@ -263,7 +263,7 @@ module _ (E : List ℕ → Type 0) where
 none_refused : (f : InputFault) (reads : List Event) → ReadsRefuse f reads → list_any is_creation reads ≡ false
 none_refused f reads (for_fault _ bytes stop _ is h) = none_read IsEnough reads bytes stop is
 none_refused _ reads (for_memory _ (between_reads _ is)) = none_on IsEnough [] reads is.0
-none_refused _ reads (for_memory _ (behind_the_last bytes stop _ is t)) = none_read IsEnough reads bytes stop is
+none_refused _ reads (for_memory _ (after_the_last bytes stop _ is t)) = none_read IsEnough reads bytes stop is
 
 none_taken : (source : Option ℕ) (name : List ℕ) (g : Given) (events : List Event) → IsTaken source name g events
     → list_any is_creation events ≡ false
@@ -390,5 +390,5 @@ run_out_of_memory words _ _ report faults (help_cut _ kind help count _ _ r n wr
 run_out_of_memory words _ _ _ faults (nothing_begun _ _ line) e = line
 run_out_of_memory words _ _ _ faults (nothing_asked _ _ asks line) e = absurd (omega (arith, e))
 
-pub memory_told : WantOfMemoryIsTold
-memory_told words status desk desk' report report' faults faults' ran e = run_out_of_memory words status ran.desk_events ran.report_events ran.fault_events ran.run e
+pub memory_reported : WantOfMemoryIsReported
+memory_reported words status desk desk' report report' faults faults' ran e = run_out_of_memory words status ran.desk_events ran.report_events ran.fault_events ran.run e

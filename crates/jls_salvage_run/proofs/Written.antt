@@ -7,7 +7,7 @@ use Rattle.jls_write.specs.Picture.{WholePicture, picture_of}
 use Rattle.jls_write.specs.Options.{WriteOptions, OptionsFit}
 use Rattle.jls_write.specs.WholePictures.{IsPicture}
 use Rattle.jls_write.specs.Pnm.{pnm}
-use Rattle.jls_write.specs.Outcomes.{HandedFront, StoppedBy}
+use Rattle.jls_write.specs.Outcomes.{HandedPrefix, StoppedBy}
 use Rattle.jls_write.specs.declared.output.OutputFault.{OutputFault}
 use Rattle.jls_write.specs.declared.output.OutputFault.TheVariants.{Write, OutOfMemory}
 use Rattle.jls_write.specs.Unsettled.{NamesFirstUnsettled}
@@ -24,7 +24,7 @@ use Rattle.jls_salvage_run.specs.Outputs.{StopsAtOutput}
 use Rattle.jls_salvage_run.specs.Outcomes.{finished, name_of}
 use Rattle.jls_salvage_run.specs.declared.outcome.Refusal.{Refusal}
 use Rattle.jls_salvage_run.specs.declared.outcome.Refusal.TheVariants as refusal
-use Rattle.jls_salvage_run.proofs.InTurn.{grew_behind}
+use Rattle.jls_salvage_run.proofs.InTurn.{grew_after}
 use Rattle.jls_salvage_run.proofs.JoinSteps.{created_and_cut}
 use Rattle.jls_salvage_run.specs.Reporting.{Says}
 use Rattle.jls_salvage_run.specs.WritingFiles.{cut_refusal, file, FitsFormat, IsTooLarge, options_for, takes_memory, StopsAtFile, too_large, at_output, no_memory, unsettled_refusal, WritesFile, done, at_input, unsettled, at_file}
@@ -62,11 +62,11 @@ module _ (f : Format) (out name : List ℕ) (old mid new : History) where
 -- a file that went out in part
 pub cut_after : (f : OutputFault) (old mid new : History) (name : Bor (List ℕ)) (bytes : List ℕ) (held holds : Option (List ℕ))
     → mid ≡ old ++ created name.now ∷ []
-    → StoppedBy f 0 (HandedFront mid new held holds bytes) → GrewBy (StopsAtOutput bytes (cut_refusal name f)) old new
+    → StoppedBy f 0 (HandedPrefix mid new held holds bytes) → GrewBy (StopsAtOutput bytes (cut_refusal name f)) old new
 cut_after (Write count) old mid new name bytes held holds made h =
     let is : count ≡ h.0 = omega (arith, h.1) in
-    let front = subst (HandedFront mid new held holds bytes) (sym is) h.2 in
-    created_and_cut old mid new name bytes count made front.wrote
+    let prefix = subst (HandedPrefix mid new held holds bytes) (sym is) h.2 in
+    created_and_cut old mid new name bytes count made prefix.wrote
 cut_after (OutOfMemory count) old mid new name bytes held holds made h = absurd h
 
 -- the same of a file whose writer takes memory
@@ -78,7 +78,7 @@ cut_in_file F L fit (Write count) old mid new name bytes held holds made h =
     (λ events k. at_output bytes (cut_refusal name (Write count)) events fit k) (cut_after (Write count) old mid new name bytes held holds made h)
 cut_in_file F L fit (OutOfMemory count) old mid new name bytes held holds made h =
     let part = h.2 in
-    grew_behind (Wrote (take h.0 bytes)) (StopsAtFile F L true bytes (refusal.OutOfMemory name)) old mid new (created name.now)
+    grew_after (Wrote (take h.0 bytes)) (StopsAtFile F L true bytes (refusal.OutOfMemory name)) old mid new (created name.now)
     (λ writes w. no_memory name bytes h.0 writes fit refl part.not_all w) made part.out.wrote
 
 -- nothing was created

@@ -97,8 +97,8 @@ pub record EndsAtUnread (source : Option ℕ) (names : List Text) (events : List
 
 -- let a run end with status 4, let all be opened and created, and let no write fail. Then its words ask for something, and that was done
 -- with all that was read, though not all was. Or an input was not read whole that is refused for it, and nothing was reported
-abbrev pub BrokenReadsAreBehindStatus4 : Type 0
-BrokenReadsAreBehindStatus4 =
+abbrev pub BrokenReadsCauseStatus4 : Type 0
+BrokenReadsCauseStatus4 =
     (words : List Text) (status : ℕ) (desk desk' report report' faults faults' : History)
     → (ran : Ran words status desk desk' report report' faults faults')
     → status ≡ 4 → NothingElseFailed ran.desk_events → NothingElseFailed ran.report_events

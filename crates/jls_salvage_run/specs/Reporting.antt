@@ -6,7 +6,7 @@ use Rattle.jls_partial.specs.Status.{IsSettled}
 use Rattle.jls_report.specs.Report.{report_of}
 use Rattle.jls_report.specs.ReportText.{report_text}
 use Rattle.jls_io.specs.Event.{Event}
-use Rattle.jls_io.specs.Writing.{Wrote, WroteFront}
+use Rattle.jls_io.specs.Writing.{Wrote, WrotePrefix}
 use Rattle.jls_station.specs.Given.{Given}
 use Rattle.jls_salvage_run.specs.AllInputs.{IsTaken, StopsAt}
 use Rattle.jls_station.specs.declared.input.ReadStop.TheVariants.{Whole}
@@ -39,5 +39,5 @@ pub data PrintsReport (lines : Given → List ℕ) : List ℕ → Outcome → Li
   no_memory : (name : List ℕ) (file : Bor (List ℕ)) (g : Given) (reading : List Event)
       → file.now ≡ name → IsTaken None name g reading → PrintsReport lines name (Err (refusal.OutOfMemory file)) reading []
   not_printed : (name : List ℕ) (out : Bor (List ℕ)) (g : Given) (count : ℕ) (reading writing : List Event)
-      → out.now ≡ codes "-" → IsTaken None name g reading → WroteFront (lines g) count writing
+      → out.now ≡ codes "-" → IsTaken None name g reading → WrotePrefix (lines g) count writing
       → PrintsReport lines name (Err (refusal.NotWritten out count)) reading writing

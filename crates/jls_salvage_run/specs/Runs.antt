@@ -3,7 +3,7 @@ use Rattle.std.specs.Prelude.{◌≡◌, ℕ, true, false, List, [], ◌++◌, c
 use Rattle.clap.specs.Words.{Text}
 use Rattle.clap.specs.declared.error.kind.ErrorKind.{ErrorKind}
 use Rattle.jls_io.specs.Event.{Event, History}
-use Rattle.jls_io.specs.Writing.{Wrote, WroteFront, Printed}
+use Rattle.jls_io.specs.Writing.{Wrote, WrotePrefix, Printed}
 use Rattle.jls_salvage_run.specs.Joining.{Joins}
 use Rattle.jls_salvage_run.specs.Outcomes.{Outcome, exit_status}
 use Rattle.jls_salvage_run.specs.Reporting.{PrintsReport, lines}
@@ -37,7 +37,7 @@ pub data Run : List Text → ℕ → List Event → List Event → List Event �
       → AreRefused words k → is_help k ≡ true → Wrote help report → Run words 0 [] report []
   -- and a write failed there
   help_cut : (words : List Text) (k : ErrorKind) (help : List ℕ) (count : ℕ) (report faults : List Event)
-      → AreRefused words k → is_help k ≡ true → WroteFront help count report
+      → AreRefused words k → is_help k ≡ true → WrotePrefix help count report
       → Printed (not_written_line program (codes "-") count) faults
       → Run words 4 [] report faults
   -- memory ran out before a command began

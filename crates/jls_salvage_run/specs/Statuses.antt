@@ -32,8 +32,8 @@ HadFailure events = (list_any is_failure events ≡ true) ⊎ (4294967295 ≤ le
 
 -- if a run ends with status 4, one of two things happened. The desk or the report output failed in it, or so many reads were made as one
 -- input can have
-abbrev pub FailuresAreBehindStatus4 : Type 0
-FailuresAreBehindStatus4 =
+abbrev pub FailuresCauseStatus4 : Type 0
+FailuresCauseStatus4 =
     (words : List Text) (status : ℕ) (desk desk' report report' faults faults' : History)
     → (ran : Ran words status desk desk' report report' faults faults')
     → status ≡ 4 → HadFailure ran.desk_events ⊎ HadFailure ran.report_events
@@ -46,8 +46,8 @@ RefusedRunsCreateNothing =
     → 2 ≤ status → status ≤ 3 → (list_any is_creation ran.desk_events ≡ false) × (report' ≡ report)
 
 -- if it ends with status 5, the line that memory ran out was printed as a fault
-abbrev pub WantOfMemoryIsTold : Type 0
-WantOfMemoryIsTold =
+abbrev pub WantOfMemoryIsReported : Type 0
+WantOfMemoryIsReported =
     (words : List Text) (status : ℕ) (desk desk' report report' faults faults' : History)
     → (ran : Ran words status desk desk' report report' faults faults')
     → status ≡ 5 → Printed (out_of_memory_line program) ran.fault_events
@@ -71,8 +71,8 @@ pub record AskForTooMuch (words : List Text) (desk desk' : History) : Type 0 whe
 
 -- if a run ends with status 2, it is for its words. clap refuses them, they ask for nothing, or for a file whose intervals would be too
 -- large
-abbrev pub WordsAreBehindStatus2 : Type 0
-WordsAreBehindStatus2 =
+abbrev pub WordsCauseStatus2 : Type 0
+WordsCauseStatus2 =
     (words : List Text) (status : ℕ) (desk desk' report report' faults faults' : History)
     → Ran words status desk desk' report report' faults faults'
     → status ≡ 2 → AreMisused words ⊎ (AskForNothing words ⊎ AskForTooMuch words desk desk')
@@ -112,8 +112,8 @@ pub record EndsAtUnfit (source : Option ℕ) (names : List Text) (events : List 
   pub events_are : events ≡ reading ++ last
 
 -- if a run ends with status 3, it is for what an input is that its words name
-abbrev pub InputsAreBehindStatus3 : Type 0
-InputsAreBehindStatus3 =
+abbrev pub InputsCauseStatus3 : Type 0
+InputsCauseStatus3 =
     (words : List Text) (status : ℕ) (desk desk' report report' faults faults' : History)
     → Ran words status desk desk' report report' faults faults'
     → status ≡ 3 → (asked : Asked) × AskFor words asked × GrewBy (EndsAtUnfit (source_of asked) (inputs_of asked)) desk desk'

@@ -75,15 +75,15 @@
 //!
 //! - Status 2 or 3: no output was created and nothing was reported (`refused_runs_create_nothing`)
 //! - Status 2: clap refused the words. Or they ask for nothing, or for a JPEG-LS file with an interval that would be too large
-//!   (`words_are_behind_status_2`)
+//!   (`words_cause_status_2`)
 //! - Status 3: the last input that was opened was read whole, and is no text and no copy with a frame. Or it has another shape than the
-//!   first, as far as it was read (`inputs_are_behind_status_3`)
+//!   first, as far as it was read (`inputs_cause_status_3`)
 //! - Status 4: something was not opened or created, a read or a write failed, or the reads of an input were used up
-//!   (`failures_are_behind_status_4`)
+//!   (`failures_cause_status_4`)
 //! - Status 4, and only reads failed: the words ask for a command. It was done with all that was read, though an input was not read whole.
 //!   Or the run stopped at an input that was not read whole, and nothing was reported. That input begins as a text, or no frame was taken
-//!   in what was read of it (`broken_reads_are_behind_status_4`)
-//! - Status 5: the line that memory ran out was printed (`want_of_memory_is_told`)
+//!   in what was read of it (`broken_reads_cause_status_4`)
+//! - Status 5: the line that memory ran out was printed (`want_of_memory_is_reported`)
 //! - Any status is at most 5 (`statuses_are_at_most_5`)
 //!
 //! The texts of help, usage and version are clap's. No contract says what they say, or that there is one.
@@ -110,9 +110,9 @@ pub use printing::{print_not_created, print_not_replaced};
 pub use program::run;
 pub use reporting::print_report;
 pub use run_laws::{
-    broken_reads_are_behind_status_4, done_checks_ran, done_joins_ran, done_shows_ran,
-    done_writes_ran, failures_are_behind_status_4, inputs_are_behind_status_3,
-    refused_runs_create_nothing, statuses_are_at_most_5, unsettled_writes_stop,
-    want_of_memory_is_told, words_are_behind_status_2,
+    broken_reads_cause_status_4, done_checks_ran, done_joins_ran, done_shows_ran, done_writes_ran,
+    failures_cause_status_4, inputs_cause_status_3, refused_runs_create_nothing,
+    statuses_are_at_most_5, unsettled_writes_stop, want_of_memory_is_reported,
+    words_cause_status_2,
 };
 pub use writing::{Format, write};

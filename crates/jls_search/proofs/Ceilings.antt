@@ -12,7 +12,7 @@ use Rattle.jls_partial.proofs.BareEntries.{line_of_fit}
 use Rattle.jls_partial.proofs.Marked.{got_held}
 use Rattle.jls_partial.proofs.Unions.{either, in_its_line}
 use Rattle.jls_copy.specs.CopyReads.{CopyReads}
-use Rattle.jls_copy.specs.Fronts.{Gives, FrontsKeepReadings}
+use Rattle.jls_copy.specs.Prefixes.{Gives, PrefixesKeepReadings}
 use Rattle.jls_copy.specs.ReadCopy.{ReadCopy}
 use Rattle.jls_copy.proofs.OneCourse.{one_course}
 use Rattle.jls_search.specs.Faultless.{IsWithin, IsSought, IsPictureWithin, IsReadWithin}
@@ -64,10 +64,10 @@ module _ (file : List ℕ) (read : ReadCopy) (h : CopyReads file read) where
       picture_within read.partial ceiling (λ r held. within low h.course h.is_course r (held_is_given file read h r held))
 
   -- what a prefix gives, a file that is sought gives too
-  pub front_within : FrontsKeepReadings → (ceiling : Option ℕ) (more : List ℕ) → AllByRecursion (λ b. b < 256) (file ++ more)
+  pub prefix_within : PrefixesKeepReadings → (ceiling : Option ℕ) (more : List ℕ) → AllByRecursion (λ b. b < 256) (file ++ more)
       → IsSought ceiling (file ++ more) → IsReadWithin ceiling read.partial
-  front_within keep None more low sought = tt
-  front_within keep (Some ceiling) more low sought =
+  prefix_within keep None more low sought = tt
+  prefix_within keep (Some ceiling) more low sought =
       let f = sought.0 in
       picture_within read.partial ceiling
       (λ r held. sought.1 low f.course f.is_course r

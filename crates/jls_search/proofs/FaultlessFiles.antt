@@ -10,7 +10,7 @@ use Rattle.jls_copy.specs.ReadCopy.{ReadCopy}
 use Rattle.jls_copy.specs.CopyReads.{CopyReads, CopyGivesNone, IsDone}
 use Rattle.jls_copy.specs.CopyLaws.{FinalEndsStay}
 use Rattle.jls_copy.specs.TellingLaws.{AreRecordsOf, of_none, reads, faulty, RecordsAreOfFaultyPieces}
-use Rattle.jls_copy.specs.Fronts.{HasLines, IsPieceBroken, FrontsStayBroken, StaysFaulty}
+use Rattle.jls_copy.specs.Prefixes.{HasLines, IsPieceBroken, PrefixesStayBroken, StaysFaulty}
 use Rattle.jls_copy.specs.declared.piece.PieceKind.{PieceKind}
 use Rattle.jls_copy.specs.declared.piece.PieceRecord.{PieceRecord}
 use Rattle.jls_copy.specs.declared.reader.CopyFault.TheVariants.{NoPicture, OutOfMemory}
@@ -31,9 +31,9 @@ module _ {X : Type 0} where
   all_at P (y ∷ ys) x h (zero, l, e) = subst P e h.0
   all_at P (y ∷ ys) x h (suc k, l, e) = all_at P ys x h.1 (k, omega (arith, l), e)
 
-  pub all_front : (P : X → Type 0) (xs ys : List X) → AllByRecursion P (xs ++ ys) → AllByRecursion P xs
-  all_front P [] ys h = tt
-  all_front P (x ∷ xs) ys h = (h.0, all_front P xs ys h.1)
+  pub all_prefix : (P : X → Type 0) (xs ys : List X) → AllByRecursion P (xs ++ ys) → AllByRecursion P xs
+  all_prefix P [] ys h = tt
+  all_prefix P (x ∷ xs) ys h = (h.0, all_prefix P xs ys h.1)
 
 -- Pieces -----------------------------------------------------------------------------------------------------------
 
@@ -95,29 +95,29 @@ faulty_without_frame (Some bytes) f n h = λ low faultless.
     let framed : h.0.headers.frame ≡ Some faultless.shape = ap (λ (c : Course). c.headers.frame) e ∙ faultless.framed in
     let none = h.2 in absurd cc
 
--- Fronts -----------------------------------------------------------------------------------------------------------
+-- Prefixes -----------------------------------------------------------------------------------------------------------
 
-pub dead_if_broken : FrontsStayBroken → (fed : Option (List ℕ)) → IfSome fed (λ bytes. IsPieceBroken bytes) → IfSome fed (λ bytes. IsDead IsFaultless bytes)
+pub dead_if_broken : PrefixesStayBroken → (fed : Option (List ℕ)) → IfSome fed (λ bytes. IsPieceBroken bytes) → IfSome fed (λ bytes. IsDead IsFaultless bytes)
 dead_if_broken stay None h = tt
-dead_if_broken stay (Some front) h = λ more low f.
-    let p = stay front more low h f.course f.is_course in
+dead_if_broken stay (Some prefix) h = λ more low f.
+    let p = stay prefix more low h f.course f.is_course in
     let reads = all_at HasLines (pieces f.course) p.0 f.each p.1 in p.5 reads.0 reads.1
 
 pub dead_if_faulty : (fed : Option (List ℕ)) → IfSome fed (λ bytes. StaysFaulty bytes) → IfSome fed (λ bytes. IsDead IsFaultless bytes)
 dead_if_faulty None h = tt
-dead_if_faulty (Some front) h = λ more low f.
+dead_if_faulty (Some prefix) h = λ more low f.
     let p = h more low f.course f.is_course in
     let reads = all_at HasLines (pieces f.course) p.0 f.each p.1 in
-    let scan = all_at HasScan (pieces f.course) p.0 (course_has (front ++ more) f.course low f.is_course) p.1 in
+    let scan = all_at HasScan (pieces f.course) p.0 (course_has (prefix ++ more) f.course low f.is_course) p.1 in
     lines_or_fault p.0 reads.0 p.2 scan reads.1 p.3
 
 pub dead_if_done : FinalEndsStay → (fed : Option (List ℕ)) (done : Bool) → done ≡ true → IfSome fed (λ bytes. IsDone bytes done)
     → IfSome fed (λ bytes. AllByRecursion (λ b. b < 256) bytes → IsFaultless bytes → ⊥) → IfSome fed (λ bytes. IsDead IsFaultless bytes)
 dead_if_done stay None done t h has_fault = tt
-dead_if_done stay (Some front) done t h has_fault = λ more low f.
-    let longer : IsCourse (front ++ more) h.0 = stay front more h.0 h.1 (sym h.2 ∙ t) in
-    let e : f.course ≡ h.0 = one_course (front ++ more) f.course h.0 f.is_course longer in
-    has_fault (all_front (λ b. b < 256) front more low) (record {
+dead_if_done stay (Some prefix) done t h has_fault = λ more low f.
+    let longer : IsCourse (prefix ++ more) h.0 = stay prefix more h.0 h.1 (sym h.2 ∙ t) in
+    let e : f.course ≡ h.0 = one_course (prefix ++ more) f.course h.0 f.is_course longer in
+    has_fault (all_prefix (λ b. b < 256) prefix more low) (record {
       course = h.0;
       is_course = h.1;
       shape = f.shape;

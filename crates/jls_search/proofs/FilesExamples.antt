@@ -1,4 +1,4 @@
--- Two copies without a frame, worked out by hand: the empty one, and SOI alone. They have no shape, the fault that is told is that of the
+-- Two copies without a frame, worked out by hand: the empty one, and SOI alone. They have no shape, the fault that is reported is that of the
 -- first one, and they give a station nothing.
 use Rattle.std.proofs.Common.{ℕ, List, [], ◌∷◌, None, refl}
 use Rattle.std.specs.List.{AllByRecursion}

@@ -14,7 +14,7 @@ use Rattle.jls_diff.specs.declared.group.Group.{Group}
 use Rattle.jls_search.specs.OfGroups.{IsOfGroup, IsOnce}
 use Rattle.jls_search.specs.GroupTries.{AreGroupsSearched}
 use Rattle.jls_search.specs.Found.{IsFound, IsGroupSearch, by_groups_of}
-use Rattle.jls_search.specs.declared.found.GroupsTold.{GroupsTold}
+use Rattle.jls_search.specs.declared.found.GroupsReported.{GroupsReported}
 
 abbrev items_of : Vec ℕ Global → List ℕ
 items_of v = v.items
@@ -26,8 +26,8 @@ lists_append : (vs more : List (Vec ℕ Global)) → lists_of (vs ++ more) ≡ l
 lists_append vs more = map-append items_of vs more
 
 module _ (vs more : List (Vec ℕ Global)) (n : ℕ) (at : n ≡ length vs) where
-  pub front_is : take n (lists_of (vs ++ more)) ≡ lists_of vs
-  front_is =
+  pub prefix_is : take n (lists_of (vs ++ more)) ≡ lists_of vs
+  prefix_is =
       ap (λ (k : ℕ). take k (lists_of (vs ++ more))) (at ∙ sym (count_of vs)) ∙ ap (take (length (lists_of vs))) (lists_append vs more)
       ∙ take-append_seam (lists_of vs) (lists_of more)
 
@@ -37,16 +37,16 @@ module _ (vs more : List (Vec ℕ Global)) (n : ℕ) (at : n ≡ length vs) wher
       ∙ drop-append_seam (lists_of vs) (lists_of more)
 
   -- a search by groups that found those after them
-  pub group_search : (limit copies : ℕ) (ps : List Part) (gs : List Group) (told : GroupsTold) → AllByRecursion (IsGroup ps) gs → CoverParts ps gs
-      → told.groups ≡ length gs → IsOnce (lists_of more) → AreGroupsSearched limit copies ps gs told.tries (lists_of more) told.is_used_up
-      → IsGroupSearch limit copies ps (by_groups_of (drop n (lists_of (vs ++ more))) told)
-  group_search limit copies ps gs told groups cover count once searched = record {
+  pub group_search : (limit copies : ℕ) (ps : List Part) (gs : List Group) (reported : GroupsReported) → AllByRecursion (IsGroup ps) gs → CoverParts ps gs
+      → reported.groups ≡ length gs → IsOnce (lists_of more) → AreGroupsSearched limit copies ps gs reported.tries (lists_of more) reported.is_used_up
+      → IsGroupSearch limit copies ps (by_groups_of (drop n (lists_of (vs ++ more))) reported)
+  group_search limit copies ps gs reported groups cover count once searched = record {
     groups = gs;
     are_groups = groups;
     cover = cover;
     count_is = count;
     once = subst IsOnce (sym back_is) once;
-    searched = subst (λ found. AreGroupsSearched limit copies ps gs told.tries found told.is_used_up) (sym back_is) searched;
+    searched = subst (λ found. AreGroupsSearched limit copies ps gs reported.tries found reported.is_used_up) (sym back_is) searched;
   }
 
 pub all_is : (vs : List (Vec ℕ Global)) (n : ℕ) → n ≡ length vs → take n (lists_of vs) ≡ lists_of vs
@@ -74,17 +74,17 @@ module _ (ceiling : Option ℕ) (copies : List (List ℕ)) (ps : List Part) (vs 
     by_groups = tt;
   }
 
-  pub found_groups : (more : List (Vec ℕ Global)) (gs : List Group) (told : GroupsTold) → (used ≡ false → n ≡ 0)
-      → AllByRecursion (IsGroup ps) gs → CoverParts ps gs → told.groups ≡ length gs → AllByRecursion (IsOfGroup ps) (lists_of more)
+  pub found_groups : (more : List (Vec ℕ Global)) (gs : List Group) (reported : GroupsReported) → (used ≡ false → n ≡ 0)
+      → AllByRecursion (IsGroup ps) gs → CoverParts ps gs → reported.groups ≡ length gs → AllByRecursion (IsOfGroup ps) (lists_of more)
       → IsFound ceiling copies (record {
         parts = ps;
         choices = take n (lists_of (vs ++ more));
         is_used_up = used;
-        by_groups = Some (by_groups_of (drop n (lists_of (vs ++ more))) told);
+        by_groups = Some (by_groups_of (drop n (lists_of (vs ++ more))) reported);
       })
-  found_groups more gs told where_needed groups cover count each = record {
+  found_groups more gs reported where_needed groups cover count each = record {
     are_parts = are;
-    came_to = subst (λ (cs : List (List ℕ)). CameTo (IsSought ceiling) ps cs used) (sym (front_is vs more n at)) came;
+    came_to = subst (λ (cs : List (List ℕ)). CameTo (IsSought ceiling) ps cs used) (sym (prefix_is vs more n at)) came;
     searched = (λ is. needed used refl, λ e. refl);
     by_groups = record {
       groups = gs;
@@ -97,7 +97,7 @@ module _ (ceiling : Option ℕ) (copies : List (List ℕ)) (ps : List Part) (vs 
     where
       needed : (was : Bool) → used ≡ was → (used ≡ true) ⊎ (take n (lists_of (vs ++ more)) ≡ [])
       needed true e = inl e
-      needed false e = inr (front_is vs more n at ∙ empty_is vs (sym at ∙ where_needed e))
+      needed false e = inr (prefix_is vs more n at ∙ empty_is vs (sym at ∙ where_needed e))
 
 -- the files that they make
 pub files_whole : (ps : List Part) (vs : List (Vec ℕ Global)) (n : ℕ) → n ≡ length vs

@@ -31,11 +31,11 @@ or_none : (a : Bool) → (a || false) ≡ a
 or_none true = refl
 or_none false = refl
 
-or_behind : (a b c : Bool) → (a || (b || c)) ≡ ((b || a) || c)
-or_behind true true c = refl
-or_behind true false c = refl
-or_behind false true c = refl
-or_behind false false c = refl
+or_after : (a b c : Bool) → (a || (b || c)) ≡ ((b || a) || c)
+or_after true true c = refl
+or_after true false c = refl
+or_after false true c = refl
+or_after false false c = refl
 
 or_swap : (a b : Bool) → (a || b) ≡ (b || a)
 or_swap true true = refl
@@ -70,7 +70,7 @@ once_push (other ∷ found) choices once new = (
   once_push found choices once.1 (λ was. new (in_rest choices other found was)),
 )
 
--- these were found with a setting, behind those before
+-- these were found with a setting, after those before
 abbrev pub Added : List Part → Setting → List (List ℕ) → List (List ℕ) → Type 0
 Added ps s before found =
     (more : List (List ℕ)) × (found ≡ before ++ more) × AllByRecursion (ReadsWith ps s.group s.copy) more
@@ -220,7 +220,7 @@ goes_more limit copies ps group before mid more h g =
           ∙ ap (λ z. lists_of before.splices.items ++ z) (sym (flat_push (λ (x : SettingSearched). x.splices) ss s));
       few = g.few;
       used_up =
-          g.used_up ∙ ap (λ (b : Bool). s.is_cut_off || b) h.used_up ∙ or_behind s.is_cut_off (is_cut_in ss) before.is_used_up
+          g.used_up ∙ ap (λ (b : Bool). s.is_cut_off || b) h.used_up ∙ or_after s.is_cut_off (is_cut_in ss) before.is_used_up
           ∙ ap (λ (b : Bool). b || before.is_used_up) (sym (any_push (λ (x : SettingSearched). x.is_cut_off) ss s));
     }
 

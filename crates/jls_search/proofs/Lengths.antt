@@ -4,7 +4,7 @@ use Rattle.std.specs.Prelude.{get_or}
 use Rattle.std.specs.List.{AllByRecursion, sum_by}
 use Rattle.std.proofs.lemmas.List.Sums.{sum_by-cons}
 use Rattle.jls_diff.specs.Parts.{Part, Same, Differ, way, made, HasWays}
-use Rattle.jls_search.specs.Choices.{IsPath, HasSomeWay, front_of}
+use Rattle.jls_search.specs.Choices.{IsPath, HasSomeWay, prefix_of}
 use Rattle.jls_search.specs.SearchLaws.{PartsCanBeSearched}
 
 -- Sums -------------------------------------------------------------------------------------------------------------
@@ -44,16 +44,16 @@ way_within count (Same bytes) c some ways path = one_of_total (λ j. length byte
 way_within count (Differ ws) c some ways path =
     one_of_total (λ j. length (get_or ws j [])) count c (subst (λ n. c < n) ways path.0.0)
 
-front_within : (count : ℕ) (ps : List Part) (cs : List ℕ) → 0 < count → AllByRecursion (HasWays count) ps → IsPath ps cs
-    → length (front_of ps cs) ≤ total (λ j. length (made j ps)) count
-front_within count ps [] some ways path = omega arith
-front_within count [] (c ∷ cs) some ways path = absurd path
-front_within count (p ∷ ps) (c ∷ cs) some ways path =
+prefix_within : (count : ℕ) (ps : List Part) (cs : List ℕ) → 0 < count → AllByRecursion (HasWays count) ps → IsPath ps cs
+    → length (prefix_of ps cs) ≤ total (λ j. length (made j ps)) count
+prefix_within count ps [] some ways path = omega arith
+prefix_within count [] (c ∷ cs) some ways path = absurd path
+prefix_within count (p ∷ ps) (c ∷ cs) some ways path =
     let here = way_within count p c some ways.0 (path.0, tt) in
-    let behind = front_within count ps cs some ways.1 path.1 in
+    let after = prefix_within count ps cs some ways.1 path.1 in
     let sum =
     total-add (λ j. length (way j p)) (λ j. length (made j ps)) (λ j. length (made j (p ∷ ps))) count (λ j. length-append (way j p) (made j ps)) in
-    let l = length-append (way c p) (front_of ps cs) in omega (arith, here, behind, sum, l)
+    let l = length-append (way c p) (prefix_of ps cs) in omega (arith, here, after, sum, l)
 
 -- Parts ------------------------------------------------------------------------------------------------------------
 
@@ -66,6 +66,6 @@ pub parts_can_be_searched : PartsCanBeSearched
 parts_can_be_searched copies ps are some short = (
   some_ways (length copies) ps some are.ways,
   λ choices path.
-      let most = front_within (length copies) ps choices some are.ways path in
+      let most = prefix_within (length copies) ps choices some are.ways path in
       let e = total-of_list (λ j. length (made j ps)) copies (λ j l. ap length (are.make j l)) in omega (arith, most, e, short),
 )

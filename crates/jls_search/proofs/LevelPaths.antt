@@ -6,10 +6,10 @@ use Rattle.std.specs.List.{AllByRecursion, Contains}
 use Rattle.std.proofs.lemmas.List.Elements.{Contains-append_left, Contains-append_right}
 use Rattle.std.proofs.lemmas.List.{take_at, take_more}
 use Rattle.jls_diff.specs.Parts.{Part, Same, Differ}
-use Rattle.jls_search.specs.Choices.{IsDiffer, IsFirstWay, IsFront, IsPath, front_of}
+use Rattle.jls_search.specs.Choices.{IsDiffer, IsFirstWay, IsPrefix, IsPath, prefix_of}
 use Rattle.jls_search.specs.Faultless.{IsDead}
 use Rattle.jls_search.specs.Levels.{AreJudged, AreSame, IsNext, IsTaken}
-use Rattle.jls_search.proofs.KeptReaders.{front_and_rest}
+use Rattle.jls_search.proofs.KeptReaders.{prefix_and_rest}
 use Rattle.jls_search.proofs.Members.{all_and_one}
 use Rattle.jls_search.proofs.Paths.{order, path_at, path_len}
 
@@ -32,7 +32,7 @@ only_way : (part : Part) (choice : ℕ) → (IsDiffer part → ⊥) → IsFirstW
 only_way (Same bytes) choice same first = first
 only_way (Differ ways) choice same first = absurd (same tt)
 
--- paths of one length that begin alike, and differ in no part behind that, are one
+-- paths of one length that begin alike, and differ in no part after that, are one
 one_path : (ps : List Part) (cs ds : List ℕ) (from : ℕ) → IsPath ps cs → IsPath ps ds → length cs ≡ length ds → take from cs ≡ take from ds
     → AreSame ps from (length cs) → cs ≡ ds
 one_path ps [] [] from pa pb l e same = refl
@@ -56,7 +56,7 @@ one_path (p ∷ ps) (c ∷ cs) (d ∷ ds) (suc from) pa pb l e same =
 module _ (ps : List Part) (from : ℕ) where
   not_shorter : (cs ds : List ℕ) → IsNext ps from cs → IsNext ps from ds → length cs < length ds → ⊥
   not_shorter cs ds a b less =
-      elim a.front [
+      elim a.prefix [
         | inl differ ↦ b.same (length cs) a.from_on less differ
         | inr end ↦ (let l = path_len ps ds b.is_path in omega (arith, end, l, less))
       ]
@@ -77,16 +77,16 @@ module _ (ps : List Part) (from : ℕ) where
   pub also_next : (cs ds : List ℕ) → IsNext ps from cs → IsPath ps ds → length ds ≡ length cs → IsNext ps from ds
   also_next cs ds a is e = record {
     is_path = is;
-    front = subst (λ n. IsDiffer (get_or ps n (Same [])) ⊎ (n ≡ length ps)) (sym e) a.front;
+    prefix = subst (λ n. IsDiffer (get_or ps n (Same [])) ⊎ (n ≡ length ps)) (sym e) a.prefix;
     from_on = subst (λ n. from ≤ n) (sym e) a.from_on;
     same = subst (AreSame ps from) (sym e) a.same;
   }
 
 -- what was gone on from the first choices of a path
-pub followed : (ps : List Part) (begin path : List ℕ) → IsPath ps path → IsFront ps path → (more : List ℕ) × (path ≡ begin ++ more)
+pub followed : (ps : List Part) (begin path : List ℕ) → IsPath ps path → IsPrefix ps path → (more : List ℕ) × (path ≡ begin ++ more)
     → AreSame ps (length begin) (length path) → IsNext ps (length begin) path
-followed ps begin path is front (more, e) same =
-    let l = ap length e ∙ length-append begin more in record { is_path = is; front = front; from_on = omega (arith, l); same = same }
+followed ps begin path is prefix (more, e) same =
+    let l = ap length e ∙ length-append begin more in record { is_path = is; prefix = prefix; from_on = omega (arith, l); same = same }
 
 pub begins_so : (begin path : List ℕ) → (more : List ℕ) × (path ≡ begin ++ more) → take (length begin) path ≡ begin
 begins_so begin path (more, e) = ap (take (length begin)) e ∙ take_at begin more (length begin) refl
@@ -101,13 +101,13 @@ first_choices [] (c ∷ cs) (suc n) h = absurd h
 first_choices (p ∷ ps) (c ∷ cs) (suc n) h = (h.0, first_choices ps cs n h.1)
 
 module _ (Sought : List ℕ → Type 0) (ps : List Part) where
-  dead_longer : (front rest : List ℕ) → IsDead Sought front → IsDead Sought (front ++ rest)
-  dead_longer front rest dead more low sought =
-      let e = append_assoc front rest more in dead (rest ++ more) (subst (AllByRecursion (λ b. b < 256)) e low) (subst Sought e sought)
+  dead_longer : (prefix rest : List ℕ) → IsDead Sought prefix → IsDead Sought (prefix ++ rest)
+  dead_longer prefix rest dead more low sought =
+      let e = append_assoc prefix rest more in dead (rest ++ more) (subst (AllByRecursion (λ b. b < 256)) e low) (subst Sought e sought)
 
   -- a path that begins with a dead one is dead
-  pub dead_on : (cs : List ℕ) (n : ℕ) → IsPath ps cs → IsDead Sought (front_of ps (take n cs)) → IsDead Sought (front_of ps cs)
-  dead_on cs n is dead = subst (IsDead Sought) (sym (front_and_rest ps cs n is)) (dead_longer (front_of ps (take n cs)) _ dead)
+  pub dead_on : (cs : List ℕ) (n : ℕ) → IsPath ps cs → IsDead Sought (prefix_of ps (take n cs)) → IsDead Sought (prefix_of ps cs)
+  dead_on cs n is dead = subst (IsDead Sought) (sym (prefix_and_rest ps cs n is)) (dead_longer (prefix_of ps (take n cs)) _ dead)
 
   -- A path that was taken ------------------------------------------------------------------------------------------
 
@@ -138,7 +138,7 @@ module _ (Sought : List ℕ → Type 0) (ps : List Part) where
         let same : t.path ≡ other = one_next ps (length begin) t.path other t.is_next next (t.begins ∙ sym e) in
         elim t.added [
           | inl f ↦ inl (subst (λ xs. Contains xs other) (sym f) (Contains-append_right old (t.path ∷ []) other (0, omega arith, same)))
-          | inr r ↦ inr (subst (λ p. IsDead Sought (front_of ps p)) same r.1)
+          | inr r ↦ inr (subst (λ p. IsDead Sought (prefix_of ps p)) same r.1)
         ]
 
   -- more paths that live

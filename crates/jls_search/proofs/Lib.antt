@@ -1,6 +1,6 @@
 -- Lemmas of this crate.
 pub mod Paths
-pub mod Fronts
+pub mod Prefixes
 mod LinesRead
 mod Ceilings
 mod FaultlessFiles

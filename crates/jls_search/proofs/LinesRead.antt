@@ -25,7 +25,7 @@ use Rattle.jls_copy.specs.ReadCopy.{ReadCopy}
 use Rattle.jls_copy.proofs.BytesDecide.{one_outcome, one_head_of_cut, cut_has}
 use Rattle.jls_copy.proofs.ScansOfCourse.{HasScan, course_has}
 use Rattle.jls_diff.proofs.Members.{is_first, in_rest, none_in, first_or_rest}
-use Rattle.jls_copy.specs.Fronts.{Gives}
+use Rattle.jls_copy.specs.Prefixes.{Gives}
 use Rattle.jls_search.specs.Faultless.{GivesEachLine, IsEachLineRead}
 
 -- Sets of readings -------------------------------------------------------------------------------------------------

@@ -4,7 +4,7 @@ use Rattle.std.proofs.Common.{inl, inr, Vec, Global, sym}
 use Rattle.std.specs.List.{AllByRecursion, Contains}
 use Rattle.std.proofs.lemmas.List.{map-append, take_more}
 use Rattle.jls_diff.specs.Parts.{Part}
-use Rattle.jls_search.specs.Choices.{IsWhole, front_of}
+use Rattle.jls_search.specs.Choices.{IsWhole, prefix_of}
 use Rattle.jls_search.specs.Search.{files_of, lists_of}
 
 module _ {X : Type 0} where
@@ -56,8 +56,8 @@ whole_at ps (w ∷ vs) zero v d whole l e = subst (λ (x : Vec ℕ Global). IsWh
 whole_at ps (w ∷ vs) (suc i) v d whole l e = whole_at ps vs i v d whole.1 (omega (arith, l)) e
 
 pub splices_one_more : (ps : List Part) (vs : List (Vec ℕ Global)) (i : ℕ) (v : Vec ℕ Global) → i < length vs → v ≡ get_or vs i v
-    → files_of ps (lists_of (take (i + 1) vs)) ≡ files_of ps (lists_of (take i vs)) ++ front_of ps v.items ∷ []
+    → files_of ps (lists_of (take (i + 1) vs)) ≡ files_of ps (lists_of (take i vs)) ++ prefix_of ps v.items ∷ []
 splices_one_more ps vs i v l e =
     ap (files_of ps) (map_one_more (λ (x : Vec ℕ Global). x.items) vs i v l)
-    ∙ map-append (front_of ps) (lists_of (take i vs)) ((get_or vs i v).items ∷ [])
-    ∙ ap (λ (x : Vec ℕ Global). files_of ps (lists_of (take i vs)) ++ front_of ps x.items ∷ []) (sym e)
+    ∙ map-append (prefix_of ps) (lists_of (take i vs)) ((get_or vs i v).items ∷ [])
+    ∙ ap (λ (x : Vec ℕ Global). files_of ps (lists_of (take i vs)) ++ prefix_of ps x.items ∷ []) (sym e)

@@ -104,7 +104,7 @@ module _ (Sought : List ℕ → Type 0) (ps : List Part) where
   level_is from count living each some count_is all =
       let first = all_from (IsNext ps from) living [] 0 some each in record {
         each = all_weaker (IsNext ps from) (IsOfLevel ps count) living
-            (λ path next. (next.is_path, next.front, one_length ps from path (get_or living 0 []) next first ∙ sym count_is)) each;
+            (λ path next. (next.is_path, next.prefix, one_length ps from path (get_or living 0 []) next first ∙ sym count_is)) each;
         others = λ path is len. all path (also_next ps from (get_or living 0 []) path first is (len ∙ count_is));
       }
 
@@ -127,7 +127,7 @@ module _ (Sought : List ℕ → Type 0) (ps : List Part) where
         | inr r ↦ (taken.path, taken.is_next, r.1)
       ]
 
-  -- the level behind one, each of whose paths was gone on from
+  -- the level after one, each of whose paths was gone on from
   pub next_level_is : (count : ℕ) (old : List (List ℕ)) (next_count : ℕ) (living : List (List ℕ)) → IsLevel Sought ps count old
       → AllByRecursion (AreJudged Sought ps (count + 1) living) old → AllByRecursion (IsNext ps (count + 1)) living → 0 < length living
       → next_count ≡ length (get_or living 0 []) → IsLevel Sought ps next_count living
@@ -147,7 +147,7 @@ module _ (Sought : List ℕ → Type 0) (ps : List Part) where
   lone_is : (count : ℕ) (path : List ℕ) → IsLevel Sought ps count (path ∷ []) → IsLone Sought ps path
   lone_is count path level = record {
     is_path = level.each.0.0;
-    front = level.each.0.1;
+    prefix = level.each.0.1;
     others = λ other is len not. elim (level.others other is (len ∙ level.each.0.2)) [
       | inl lives ↦ elim (first_or_rest other path [] lives) [ inl e ↦ absurd (not (sym e)) | inr rest ↦ absurd (none_in other rest) ]
       | inr dead ↦ dead

@@ -1,4 +1,4 @@
--- Paths, one choice longer and shorter, and the choices behind them.
+-- Paths, one choice longer and shorter, and the choices after them.
 use Rattle.std.proofs.Common.{◌≡◌, ℕ, zero, suc, ◌<◌, ◌≤◌, List, [], ◌∷◌, ◌++◌, map, length, refl, sym, ap, ◌∙◌, arith, ◌⊎◌, inl, inr, Bor}
 use Rattle.std.proofs.Common.{true, false, nat_eq}
 use Rattle.std.specs.Prelude.{get_or}
@@ -6,7 +6,7 @@ use Rattle.std.specs.List.{AllByRecursion}
 use Rattle.std.specs.Cmp.Lexicographic.{pointwise, same_text, other_text}
 use Rattle.jls_diff.specs.Parts.{Part, Same, Differ}
 use Rattle.jls_search.specs.Choices.{IsFirstWay, IsPath, HasSomeWay}
-use Rattle.jls_search.specs.Order.{IsToCome, IsBehind}
+use Rattle.jls_search.specs.Order.{IsToCome, IsLater}
 
 pub get_or-map : {X Y : Type 0} (f : X → Y) (d : X) (e : Y) (xs : List X) (i : ℕ) → i < length xs → get_or (map f xs) i e ≡ f (get_or xs i d)
 get_or-map f d e [] i l = absurd (omega (arith, l))
@@ -53,10 +53,10 @@ to_come_more (c ∷ cs) [] h l = absurd h
 to_come_more (c ∷ cs) (d ∷ ds) (inl less) l = inl less
 to_come_more (c ∷ cs) (d ∷ ds) (inr (e, h)) l = inr (e, to_come_more cs ds h (omega (arith, l)))
 
--- the next way of the part behind the path
+-- the next way of the part after the path
 pub turned : (ps : List Part) (cs ds : List ℕ) (p q : ℕ)
     → ((other : ℕ) → p < other → other < q → IsFirstWay (get_or ps (length cs) (Same [])) other → ⊥)
-    → IsPath ps ds → IsBehind (cs ++ p ∷ []) ds → IsToCome (cs ++ q ∷ []) ds
+    → IsPath ps ds → IsLater (cs ++ p ∷ []) ds → IsToCome (cs ++ q ∷ []) ds
 turned ps [] [] p q none path h = absurd h
 turned [] [] (d ∷ ds) p q none path h = absurd path
 turned (part ∷ ps) [] (d ∷ ds) p q none path (inl less) =
@@ -73,7 +73,7 @@ turned (part ∷ ps) (c ∷ cs) (d ∷ ds) p q none path (inr (e, h)) = inr (e, 
 -- or there is none
 pub passed : (ps : List Part) (cs ds : List ℕ) (p : ℕ)
     → ((other : ℕ) → p < other → IsFirstWay (get_or ps (length cs) (Same [])) other → ⊥)
-    → IsPath ps ds → IsBehind (cs ++ p ∷ []) ds → IsBehind cs ds
+    → IsPath ps ds → IsLater (cs ++ p ∷ []) ds → IsLater cs ds
 passed ps [] [] p none path h = absurd h
 passed [] [] (d ∷ ds) p none path h = absurd path
 passed (part ∷ ps) [] (d ∷ ds) p none path (inl less) = absurd (none d less path.0)
@@ -83,8 +83,8 @@ passed [] (c ∷ cs) (d ∷ ds) p none path h = absurd path
 passed (part ∷ ps) (c ∷ cs) (d ∷ ds) p none path (inl less) = inl less
 passed (part ∷ ps) (c ∷ cs) (d ∷ ds) p none path (inr (e, h)) = inr (e, passed ps cs ds p none path.1 h)
 
-pub none_behind : (ds : List ℕ) → IsBehind [] ds → ⊥
-none_behind ds h = h
+pub none_after : (ds : List ℕ) → IsLater [] ds → ⊥
+none_after ds h = h
 
 -- the first way of a part
 pub zero_is_first : (p : Part) → HasSomeWay p → IsFirstWay p 0
@@ -96,7 +96,7 @@ some_way_at [] i l h = absurd (omega (arith, l))
 some_way_at (p ∷ ps) zero l h = h.0
 some_way_at (p ∷ ps) (suc i) l h = some_way_at ps i (omega (arith, l)) h.1
 
--- what a test of two ways has told
+-- what a test of two ways has said
 module _ (ways : List (Bor (List ℕ))) (i j : ℕ) (d : Bor (List ℕ)) (l : i < length ways) (k : j < length ways) where
   way_at : (n : ℕ) → n < length ways → get_or (map (λ way. way.now) ways) n [] ≡ (get_or ways n d).now
   way_at n h = get_or-map (λ (way : Bor (List ℕ)). way.now) d [] ways n h
@@ -117,21 +117,21 @@ path_at [] (c ∷ cs) i h l = absurd h
 path_at (p ∷ ps) (c ∷ cs) zero h l = (omega arith, h.0)
 path_at (p ∷ ps) (c ∷ cs) (suc i) h l = let r = path_at ps cs i h.1 (omega (arith, l)) in (omega (arith, r.0), r.1)
 
--- what stands behind a path stands behind the path and one choice more
-pub behind_longer : (cs : List ℕ) (c : ℕ) (ds : List ℕ) → IsBehind cs ds → IsBehind (cs ++ c ∷ []) ds
-behind_longer [] c ds h = absurd h
-behind_longer (p ∷ cs) c [] h = absurd h
-behind_longer (p ∷ cs) c (d ∷ ds) (inl less) = inl less
-behind_longer (p ∷ cs) c (d ∷ ds) (inr (e, h)) = inr (e, behind_longer cs c ds h)
+-- what stands after a path stands after the path and one choice more
+pub after_longer : (cs : List ℕ) (c : ℕ) (ds : List ℕ) → IsLater cs ds → IsLater (cs ++ c ∷ []) ds
+after_longer [] c ds h = absurd h
+after_longer (p ∷ cs) c [] h = absurd h
+after_longer (p ∷ cs) c (d ∷ ds) (inl less) = inl less
+after_longer (p ∷ cs) c (d ∷ ds) (inr (e, h)) = inr (e, after_longer cs c ds h)
 
--- what stands behind a path does so with more choices
-pub behind_more : (cs ds more : List ℕ) → IsBehind cs ds → IsBehind cs (ds ++ more)
-behind_more [] ds more h = absurd h
-behind_more (p ∷ cs) [] more h = absurd h
-behind_more (p ∷ cs) (d ∷ ds) more (inl less) = inl less
-behind_more (p ∷ cs) (d ∷ ds) more (inr (e, h)) = inr (e, behind_more cs ds more h)
+-- what stands after a path does so with more choices
+pub after_more : (cs ds more : List ℕ) → IsLater cs ds → IsLater cs (ds ++ more)
+after_more [] ds more h = absurd h
+after_more (p ∷ cs) [] more h = absurd h
+after_more (p ∷ cs) (d ∷ ds) more (inl less) = inl less
+after_more (p ∷ cs) (d ∷ ds) more (inr (e, h)) = inr (e, after_more cs ds more h)
 
 -- a later choice in the place of the last
-pub next_behind : (cs : List ℕ) (p q : ℕ) → p < q → IsBehind (cs ++ p ∷ []) (cs ++ q ∷ [])
-next_behind [] p q less = inl less
-next_behind (c ∷ cs) p q less = inr (refl, next_behind cs p q less)
+pub next_after : (cs : List ℕ) (p q : ℕ) → p < q → IsLater (cs ++ p ∷ []) (cs ++ q ∷ [])
+next_after [] p q less = inl less
+next_after (c ∷ cs) p q less = inr (refl, next_after cs p q less)

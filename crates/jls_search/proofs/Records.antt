@@ -14,7 +14,7 @@ use Rattle.jls_copy.proofs.OneCourse.{one_course}
 use Rattle.jls_copy.proofs.ScansOfCourse.{HasScan, course_has}
 use Rattle.jls_copy.specs.TellingLaws.{AreRecordsOf, IsRecordOf, of_none, reads, faulty, RecordsAreOfFaultyPieces}
 use Rattle.jls_copy.specs.declared.piece.PieceRecord.{PieceRecord}
-use Rattle.jls_copy.specs.Fronts.{HasLines}
+use Rattle.jls_copy.specs.Prefixes.{HasLines}
 use Rattle.jls_search.specs.OfGroups.{HasManyFaults}
 use Rattle.jls_search.specs.ReadsBetween.{IsBetween, Reaches, ReadsBetween}
 use Rattle.jls_search.proofs.FaultlessFiles.{lines_or_fault}
@@ -37,14 +37,14 @@ take_at_most zero rs = omega arith
 take_at_most (suc n) [] = omega arith
 take_at_most (suc n) (r ∷ rs) = let l = take_at_most n rs in omega (arith, l)
 
-all_told : (n : ℕ) (rs told : List PieceRecord) → told ≡ take n rs → length rs ≡ length told → told ≡ rs
-all_told n rs told e l = e ∙ take_all n rs (let t = take_at_most n rs in let a = ap length e in omega (arith, t, a, l))
+all_reported : (n : ℕ) (rs reported : List PieceRecord) → reported ≡ take n rs → length rs ≡ length reported → reported ≡ rs
+all_reported n rs reported e l = e ∙ take_all n rs (let t = take_at_most n rs in let a = ap length e in omega (arith, t, a, l))
 
 module _ (law : RecordsAreOfFaultyPieces) (from : ℕ) (to : Option ℕ) (file : List ℕ) (read : ReadCopy) (h : CopyReads file read) where
   pub read_between : read.piece_count ≡ length read.pieces → NoneBetween from to read.pieces → Reaches from to read.ended → ReadsBetween from to file
   read_between count none reaches =
       let r = law file read h in
-      let e : read.pieces ≡ r.0 = all_told 4096 r.0 read.pieces r.2 (sym r.3 ∙ count) in
+      let e : read.pieces ≡ r.0 = all_reported 4096 r.0 read.pieces r.2 (sym r.3 ∙ count) in
       record {
         course = h.course;
         is_course = h.is_course;
@@ -87,15 +87,15 @@ module _ (law : RecordsAreOfFaultyPieces) (from : ℕ) (to : Option ℕ) (file :
             )
       ]
 
-  pub no_record : (told : PieceRecord) → Contains read.pieces told → IsBetween from to told.offset → ⊥
-  no_record told among here =
+  pub no_record : (reported : PieceRecord) → Contains read.pieces reported → IsBetween from to reported.offset → ⊥
+  no_record reported among here =
       let r = law file read h in
-      let p = piece_of (pieces h.course) r.0 told r.1 (in_more 4096 r.0 told (subst (λ rs. Contains rs told) r.2 among)) in
+      let p = piece_of (pieces h.course) r.0 reported r.1 (in_more 4096 r.0 reported (subst (λ rs. Contains rs reported) r.2 among)) in
       let each : AllByRecursion (λ q. IsBetween from to q.offset → HasLines q) (pieces h.course) =
       subst (λ (c : Course). AllByRecursion (λ q. IsBetween from to q.offset → HasLines q) (pieces c)) one between.each in
       let lines = all_at (λ q. IsBetween from to q.offset → HasLines q) (pieces h.course) p.0 each p.1 (subst (IsBetween from to) p.2.offset here) in
       let scan = all_at HasScan (pieces h.course) p.0 (course_has file h.course low h.is_course) p.1 in
-      lines_or_fault p.0 lines.0 told.kind scan lines.1 p.2.kind
+      lines_or_fault p.0 lines.0 reported.kind scan lines.1 p.2.kind
 
   pub does_reach : Reaches from to read.ended
   does_reach = subst (Reaches from to) (sym h.ended_is) (subst (λ (c : Course). Reaches from to c.end) one between.reaches)

@@ -5,22 +5,22 @@ use Rattle.std.specs.Prelude.{get_or, IfOk, MatchBool}
 use Rattle.std.specs.List.{AllByRecursion, Contains}
 use Rattle.std.specs.declared.alloc.AllocError.{AllocError}
 use Rattle.std.proofs.lemmas.List.Elements.{Contains-append_left, Contains-append_right}
-use Rattle.std.specs.Cmp.Lexicographic.{pointwise, told_text}
+use Rattle.std.specs.Cmp.Lexicographic.{pointwise, reported_text}
 use Rattle.jls_diff.specs.Parts.{Part, Same, Differ, way, HasWays, IsSplice}
-use Rattle.jls_search.specs.Choices.{IsFirstWay, IsFront, IsPath, IsWhole, front_of}
-use Rattle.jls_search.specs.Order.{IsToCome, IsBehind}
+use Rattle.jls_search.specs.Choices.{IsFirstWay, IsPrefix, IsPath, IsWhole, prefix_of}
+use Rattle.jls_search.specs.Order.{IsToCome, IsLater}
 use Rattle.jls_search.specs.Faultless.{IsDead}
 use Rattle.jls_search.specs.Search.{HasEachSplice, MakeFiles, files_of, MakesFile, StandsAt, IsOver, GoesOn, IsStep}
 use Rattle.jls_search.proofs.Paths.{order}
 
 -- Choices of a splice ----------------------------------------------------------------------------------------------
 
-told : {P Q : Type 0} (r : Bool) → MatchBool r P Q → P ⊎ Q
-told true h = inl h
-told false h = inr h
+reported : {P Q : Type 0} (r : Bool) → MatchBool r P Q → P ⊎ Q
+reported true h = inl h
+reported false h = inr h
 
 same : (a b : List ℕ) → (a ≡ b) ⊎ (a ≡ b → ⊥)
-same a b = told (pointwise nat_eq a b) (told_text a b (pointwise nat_eq a b) refl)
+same a b = reported (pointwise nat_eq a b) (reported_text a b (pointwise nat_eq a b) refl)
 
 none_more : (ways : List (List ℕ)) (x : List ℕ) (n : ℕ) → ((i : ℕ) → i < n → get_or ways i [] ≡ x → ⊥) → (get_or ways n [] ≡ x → ⊥)
     → (i : ℕ) → i < suc n → get_or ways i [] ≡ x → ⊥
@@ -47,7 +47,7 @@ first_way ways j l =
     ]
 
 chosen : (count : ℕ) (parts : List Part) (bytes : List ℕ) → AllByRecursion (HasWays count) parts → IsSplice count parts bytes
-    → (choices : List ℕ) × IsPath parts choices × (length choices ≡ length parts) × (bytes ≡ front_of parts choices)
+    → (choices : List ℕ) × IsPath parts choices × (length choices ≡ length parts) × (bytes ≡ prefix_of parts choices)
 chosen count [] bytes h e = ([], tt, refl, e)
 chosen count (Same b ∷ parts) bytes h (j, l, rest, e, more) =
     let r = chosen count parts rest h.1 more in
@@ -72,92 +72,92 @@ has_each_splice Sought parts found over count some ways bytes low splice sought 
       low = subst (AllByRecursion (λ b. b < 256)) r.3 low;
       sought = subst Sought r.3 sought;
     } in
-    subst (Contains (files_of parts found)) (sym r.3) (in_map (front_of parts) found r.0 (over.all r.0 made))
+    subst (Contains (files_of parts found)) (sym r.3) (in_map (prefix_of parts) found r.0 (over.all r.0 made))
 
 -- Choices to come --------------------------------------------------------------------------------------------------
 
--- they begin with the path, or stand behind all that do
-begins_or_behind : (ps : List Part) (path cs : List ℕ) → IsPath ps path → IsPath ps cs → IsToCome path cs
-    → ((rest : List ℕ) × (front_of ps cs ≡ front_of ps path ++ rest)) ⊎ IsBehind path cs
-begins_or_behind ps [] cs h k t = inl (front_of ps cs, refl)
-begins_or_behind [] (c ∷ path) cs h k t = absurd h
-begins_or_behind (p ∷ ps) (c ∷ path) [] h k t = absurd t
-begins_or_behind (p ∷ ps) (c ∷ path) (d ∷ cs) h k (inl less) = inr (inl less)
-begins_or_behind (p ∷ ps) (c ∷ path) (d ∷ cs) h k (inr (e, t)) =
-    elim (begins_or_behind ps path cs h.1 k.1 t) [
-      | inl r ↦ inl (r.0, ap (λ z. way z p ++ front_of ps cs) (sym e) ∙ ap (λ z. way c p ++ z) r.1 ∙ sym (append_assoc (way c p) (front_of ps path) r.0))
+-- they begin with the path, or stand after all that do
+begins_or_after : (ps : List Part) (path cs : List ℕ) → IsPath ps path → IsPath ps cs → IsToCome path cs
+    → ((rest : List ℕ) × (prefix_of ps cs ≡ prefix_of ps path ++ rest)) ⊎ IsLater path cs
+begins_or_after ps [] cs h k t = inl (prefix_of ps cs, refl)
+begins_or_after [] (c ∷ path) cs h k t = absurd h
+begins_or_after (p ∷ ps) (c ∷ path) [] h k t = absurd t
+begins_or_after (p ∷ ps) (c ∷ path) (d ∷ cs) h k (inl less) = inr (inl less)
+begins_or_after (p ∷ ps) (c ∷ path) (d ∷ cs) h k (inr (e, t)) =
+    elim (begins_or_after ps path cs h.1 k.1 t) [
+      | inl r ↦ inl (r.0, ap (λ z. way z p ++ prefix_of ps cs) (sym e) ∙ ap (λ z. way c p ++ z) r.1 ∙ sym (append_assoc (way c p) (prefix_of ps path) r.0))
       | inr b ↦ inr (inr (e, b))
     ]
 
 -- where the path has a choice for each part, they are the path
-pub equal_or_behind : (path cs : List ℕ) → length path ≡ length cs → IsToCome path cs → (path ≡ cs) ⊎ IsBehind path cs
-equal_or_behind [] [] e t = inl refl
-equal_or_behind [] (d ∷ cs) e t = absurd (omega (arith, e))
-equal_or_behind (c ∷ path) [] e t = absurd t
-equal_or_behind (c ∷ path) (d ∷ cs) l (inl less) = inr (inl less)
-equal_or_behind (c ∷ path) (d ∷ cs) l (inr (e, t)) =
-    elim (equal_or_behind path cs (omega (arith, l)) t) [
+pub equal_or_after : (path cs : List ℕ) → length path ≡ length cs → IsToCome path cs → (path ≡ cs) ⊎ IsLater path cs
+equal_or_after [] [] e t = inl refl
+equal_or_after [] (d ∷ cs) e t = absurd (omega (arith, e))
+equal_or_after (c ∷ path) [] e t = absurd t
+equal_or_after (c ∷ path) (d ∷ cs) l (inl less) = inr (inl less)
+equal_or_after (c ∷ path) (d ∷ cs) l (inr (e, t)) =
+    elim (equal_or_after path cs (omega (arith, l)) t) [
       | inl f ↦ inl (ap (λ x. x ∷ path) e ∙ ap (λ xs. d ∷ xs) f)
       | inr b ↦ inr (inr (e, b))
     ]
 
-pub dead_front : (Sought : List ℕ → Type 0) (ps : List Part) (path : List ℕ) → IsPath ps path → IsDead Sought (front_of ps path)
-    → (choices : List ℕ) → MakesFile Sought ps choices → IsToCome path choices → IsBehind path choices
-dead_front Sought ps path is dead choices file t =
-    elim (begins_or_behind ps path choices is file.whole.0 t) [
+pub dead_prefix : (Sought : List ℕ → Type 0) (ps : List Part) (path : List ℕ) → IsPath ps path → IsDead Sought (prefix_of ps path)
+    → (choices : List ℕ) → MakesFile Sought ps choices → IsToCome path choices → IsLater path choices
+dead_prefix Sought ps path is dead choices file t =
+    elim (begins_or_after ps path choices is file.whole.0 t) [
       | inl r ↦ absurd (dead r.0 (subst (AllByRecursion (λ b. b < 256)) r.1 file.low) (subst Sought r.1 file.sought))
       | inr b ↦ b
     ]
 
 pub faulty_file : (Sought : List ℕ → Type 0) (ps : List Part) (path : List ℕ) → length path ≡ length ps
-    → (AllByRecursion (λ b. b < 256) (front_of ps path) → Sought (front_of ps path) → ⊥) → (choices : List ℕ) → MakesFile Sought ps choices
-    → IsToCome path choices → IsBehind path choices
+    → (AllByRecursion (λ b. b < 256) (prefix_of ps path) → Sought (prefix_of ps path) → ⊥) → (choices : List ℕ) → MakesFile Sought ps choices
+    → IsToCome path choices → IsLater path choices
 faulty_file Sought ps path l faulty choices file t =
-    elim (equal_or_behind path choices (l ∙ sym file.whole.1) t) [
-      | inl e ↦ absurd (faulty (subst (λ p. AllByRecursion (λ b. b < 256) (front_of ps p)) (sym e) file.low) (subst (λ p. Sought (front_of ps p)) (sym e) file.sought))
+    elim (equal_or_after path choices (l ∙ sym file.whole.1) t) [
+      | inl e ↦ absurd (faulty (subst (λ p. AllByRecursion (λ b. b < 256) (prefix_of ps p)) (sym e) file.low) (subst (λ p. Sought (prefix_of ps p)) (sym e) file.sought))
       | inr b ↦ b
     ]
 
 -- Steps ------------------------------------------------------------------------------------------------------------
 
 module _ (Sought : List ℕ → Type 0) (ps : List Part) (path next : List ℕ) (found : List (List ℕ)) (stands : StandsAt Sought ps path found) where
-  pub descended : IsPath ps next → IsFront ps next → ((choices : List ℕ) → IsWhole ps choices → IsToCome path choices → IsToCome next choices) → StandsAt Sought ps next found
-  descended is front kept = record {
+  pub descended : IsPath ps next → IsPrefix ps next → ((choices : List ℕ) → IsWhole ps choices → IsToCome path choices → IsToCome next choices) → StandsAt Sought ps next found
+  descended is prefix kept = record {
     is_path = is;
-    front = front;
+    prefix = prefix;
     files = stands.files;
     all = λ choices file. elim (stands.all choices file) [ inl f ↦ inl f | inr t ↦ inr (kept choices file.whole t) ];
   }
 
   -- all that begin with the path are found, or were none
   module _ (more_found : List (List ℕ)) (files : MakeFiles Sought ps more_found)
-      (found_or_behind : (choices : List ℕ) → MakesFile Sought ps choices → Contains more_found choices ⊎ IsBehind path choices) where
+      (found_or_after : (choices : List ℕ) → MakesFile Sought ps choices → Contains more_found choices ⊎ IsLater path choices) where
     pub turned_on : (r : Result Bool AllocError) → IfOk r (λ more. more ≡ true → IsPath ps next)
-        → IfOk r (λ more. more ≡ true → IsFront ps next)
-        → IfOk r (λ more. more ≡ true → (choices : List ℕ) → IsWhole ps choices → IsBehind path choices → IsToCome next choices)
-        → IfOk r (λ more. more ≡ false → (choices : List ℕ) → IsWhole ps choices → IsBehind path choices → ⊥)
+        → IfOk r (λ more. more ≡ true → IsPrefix ps next)
+        → IfOk r (λ more. more ≡ true → (choices : List ℕ) → IsWhole ps choices → IsLater path choices → IsToCome next choices)
+        → IfOk r (λ more. more ≡ false → (choices : List ℕ) → IsWhole ps choices → IsLater path choices → ⊥)
         → IfOk r (λ more. GoesOn Sought ps next more_found more)
     turned_on (Err e) a f b c = tt
     turned_on (Ok true) a f b c = record {
       is_path = a refl;
-      front = f refl;
+      prefix = f refl;
       files = files;
-      all = λ choices file. elim (found_or_behind choices file) [ inl f ↦ inl f | inr t ↦ inr (b refl choices file.whole t) ];
+      all = λ choices file. elim (found_or_after choices file) [ inl f ↦ inl f | inr t ↦ inr (b refl choices file.whole t) ];
     }
     turned_on (Ok false) a f b c = record {
       files = files;
-      all = λ choices file. elim (found_or_behind choices file) [ inl f ↦ f | inr t ↦ absurd (c refl choices file.whole t) ];
+      all = λ choices file. elim (found_or_after choices file) [ inl f ↦ f | inr t ↦ absurd (c refl choices file.whole t) ];
     }
 
-  pub dead_behind : ((choices : List ℕ) → MakesFile Sought ps choices → IsToCome path choices → IsBehind path choices)
-      → (choices : List ℕ) → MakesFile Sought ps choices → Contains found choices ⊎ IsBehind path choices
-  dead_behind dead choices file = elim (stands.all choices file) [ inl f ↦ inl f | inr t ↦ inr (dead choices file t) ]
+  pub dead_after : ((choices : List ℕ) → MakesFile Sought ps choices → IsToCome path choices → IsLater path choices)
+      → (choices : List ℕ) → MakesFile Sought ps choices → Contains found choices ⊎ IsLater path choices
+  dead_after dead choices file = elim (stands.all choices file) [ inl f ↦ inl f | inr t ↦ inr (dead choices file t) ]
 
-  pub found_behind : length path ≡ length ps → (choices : List ℕ) → MakesFile Sought ps choices → Contains (found ++ path ∷ []) choices ⊎ IsBehind path choices
-  found_behind l choices file =
+  pub found_after : length path ≡ length ps → (choices : List ℕ) → MakesFile Sought ps choices → Contains (found ++ path ∷ []) choices ⊎ IsLater path choices
+  found_after l choices file =
       elim (stands.all choices file) [
         | inl f ↦ inl (Contains-append_left found (path ∷ []) choices f)
-        | inr t ↦ elim (equal_or_behind path choices (l ∙ sym file.whole.1) t) [
+        | inr t ↦ elim (equal_or_after path choices (l ∙ sym file.whole.1) t) [
           | inl e ↦ inl (Contains-append_right found (path ∷ []) choices (0, omega arith, e))
           | inr b ↦ inr b
         ]
@@ -168,13 +168,13 @@ all_more P [] x h p = (p, tt)
 all_more P (y ∷ ys) x h p = (h.0, all_more P ys x h.1 p)
 
 pub files_more : (Sought : List ℕ → Type 0) (ps : List Part) (path : List ℕ) (found : List (List ℕ)) → MakeFiles Sought ps found → IsPath ps path → length path ≡ length ps
-    → Sought (front_of ps path) → MakeFiles Sought ps (found ++ path ∷ [])
+    → Sought (prefix_of ps path) → MakeFiles Sought ps (found ++ path ∷ [])
 files_more Sought ps path found files is l sought =
-    all_more (λ choices. IsWhole ps choices × Sought (front_of ps choices)) found path files ((is, l), sought)
+    all_more (λ choices. IsWhole ps choices × Sought (prefix_of ps choices)) found path files ((is, l), sought)
 
-pub at_start : (Sought : List ℕ → Type 0) (ps : List Part) (path : List ℕ) → IsPath ps path → IsFront ps path → ((choices : List ℕ) → IsWhole ps choices → IsToCome [] choices → IsToCome path choices)
+pub at_start : (Sought : List ℕ → Type 0) (ps : List Part) (path : List ℕ) → IsPath ps path → IsPrefix ps path → ((choices : List ℕ) → IsWhole ps choices → IsToCome [] choices → IsToCome path choices)
     → StandsAt Sought ps path []
-at_start Sought ps path is front kept = record { is_path = is; front = front; files = tt; all = λ choices file. inr (kept choices file.whole tt) }
+at_start Sought ps path is prefix kept = record { is_path = is; prefix = prefix; files = tt; all = λ choices file. inr (kept choices file.whole tt) }
 
 pub on_ok : {A B : Type 0} (r : Result A B) (P : Type 0) → P → IfOk r (λ _. P)
 on_ok (Ok x) P h = h
@@ -182,7 +182,7 @@ on_ok (Err e) P h = tt
 
 -- a path that is passed by
 pub turned_step : (r : Result Bool AllocError) (path next : List ℕ) (found more_found : List (List ℕ))
-    → (more_found ≡ found) ⊎ (more_found ≡ found ++ path ∷ []) → IfOk r (λ more. more ≡ true → IsBehind path next)
+    → (more_found ≡ found) ⊎ (more_found ≡ found ++ path ∷ []) → IfOk r (λ more. more ≡ true → IsLater path next)
     → IfOk r (λ more. IsStep path found next more_found more)
 turned_step (Ok more) path next found more_found has h = (has, λ t. inr (h t))
 turned_step (Err e) path next found more_found has h = tt

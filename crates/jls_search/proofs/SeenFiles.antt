@@ -82,21 +82,21 @@ count_seen [] (s ∷ seen) are = absurd are
 count_seen (f ∷ files) [] are = absurd are
 count_seen (f ∷ files) (s ∷ seen) are = ap suc (count_seen files seen are.1)
 
-pub front_seen : (files more : List (List ℕ)) (seen : List Seen) → AreSeen (files ++ more) seen → AreSeen files (take (length files) seen)
-front_seen [] more seen are = tt
-front_seen (f ∷ files) more [] are = absurd are
-front_seen (f ∷ files) more (s ∷ seen) are = (are.0, front_seen files more seen are.1)
+pub prefix_seen : (files more : List (List ℕ)) (seen : List Seen) → AreSeen (files ++ more) seen → AreSeen files (take (length files) seen)
+prefix_seen [] more seen are = tt
+prefix_seen (f ∷ files) more [] are = absurd are
+prefix_seen (f ∷ files) more (s ∷ seen) are = (are.0, prefix_seen files more seen are.1)
 
 -- the copies among the files
-pub front_copies : (copies : List (Bor (List ℕ))) (found : List (List ℕ)) (seen : List Seen) → AreSeen (bytes_of copies ++ found) seen
+pub prefix_copies : (copies : List (Bor (List ℕ))) (found : List (List ℕ)) (seen : List Seen) → AreSeen (bytes_of copies ++ found) seen
     → AreSeen (bytes_of copies) (take (length copies) seen)
-front_copies copies found seen are =
-    subst (λ n. AreSeen (bytes_of copies) (take n seen)) (count_of_slices copies) (front_seen (bytes_of copies) found seen are)
+prefix_copies copies found seen are =
+    subst (λ n. AreSeen (bytes_of copies) (take n seen)) (count_of_slices copies) (prefix_seen (bytes_of copies) found seen are)
 
-pub front_count : (copies : List (Bor (List ℕ))) (found : List (List ℕ)) (seen : List Seen) → AreSeen (bytes_of copies ++ found) seen
+pub prefix_count : (copies : List (Bor (List ℕ))) (found : List (List ℕ)) (seen : List Seen) → AreSeen (bytes_of copies ++ found) seen
     → length copies ≡ length (take (length copies) seen)
-front_count copies found seen are =
-    sym (count_seen (bytes_of copies) (take (length copies) seen) (front_copies copies found seen are) ∙ count_of_slices copies)
+prefix_count copies found seen are =
+    sym (count_seen (bytes_of copies) (take (length copies) seen) (prefix_copies copies found seen are) ∙ count_of_slices copies)
 
 -- a file, and what is seen of it
 pub file_of : (files : List (List ℕ)) (seen : List Seen) (s : Seen) → AreSeen files seen → Contains seen s
@@ -244,9 +244,9 @@ module _ (copies found : List (List ℕ)) (seen : List Seen) (are : AreSeen (cop
       of_first = λ none. let here = file_of (copies ++ found) seen (Faultless shape) are some in absurd (none here.0 here.1 here.2.1);
     }
 
-    pub differ : (front : List Seen) (copy : ℕ) → AreSeen copies front → SomeFaultlessHasOther shape seen → IsNamed front copy
+    pub differ : (prefix : List Seen) (copy : ℕ) → AreSeen copies prefix → SomeFaultlessHasOther shape seen → IsNamed prefix copy
         → IsShapeFound copies found (answer.Differ copy)
-    differ front copy fronts (other, among, not) named =
+    differ prefix copy prefixes (other, among, not) named =
         let here = file_of (copies ++ found) seen (Faultless shape) are some in
         let there = file_of (copies ++ found) seen (Faultless other) are among in (
           record {
@@ -260,25 +260,25 @@ module _ (copies found : List (List ℕ)) (seen : List Seen) (are : AreSeen (cop
             other_faultless = there.2.1;
             has_other_shape = (other, there.2.0, not);
           },
-          copy_named copies front copy fronts named,
+          copy_named copies prefix copy prefixes named,
         )
 
   -- each of them has a fault
-  pub of_copies : (front : List Seen) (found_is : ShapeFound) → AreSeen copies front → AllByRecursion IsNotFaultless seen
-      → IsOfCopies front found_is → IsShapeFound copies found found_is
-  of_copies front (answer.Taken shape) fronts none first = record {
+  pub of_copies : (prefix : List Seen) (found_is : ShapeFound) → AreSeen copies prefix → AllByRecursion IsNotFaultless seen
+      → IsOfCopies prefix found_is → IsShapeFound copies found found_is
+  of_copies prefix (answer.Taken shape) prefixes none first = record {
     of_faultless = λ file m f. absurd (none_faultless (copies ++ found) seen are none file m f);
-    of_first = λ _. first_shape shape copies front fronts first;
+    of_first = λ _. first_shape shape copies prefix prefixes first;
   }
-  of_copies front (answer.Differ copy) fronts none is = absurd is
-  of_copies front (answer.NoFrame f n) fronts none (without, first) = (
+  of_copies prefix (answer.Differ copy) prefixes none is = absurd is
+  of_copies prefix (answer.NoFrame f n) prefixes none (without, first) = (
     none_faultless (copies ++ found) seen are none,
-    no_frames copies front fronts without,
-    first_fault copies front fronts first,
+    no_frames copies prefix prefixes without,
+    first_fault copies prefix prefixes first,
   )
     where
-      first_fault : (copies : List (List ℕ)) (front : List Seen) → AreSeen copies front
-          → IsSomeAnd (slice_get front 0) (λ s. s ≡ NoFrame f n) → IsSeen (get_or copies 0 []) (NoFrame f n)
-      first_fault copies [] fronts first = absurd first
-      first_fault [] (s ∷ front) fronts first = absurd fronts
-      first_fault (c ∷ copies) (s ∷ front) fronts first = subst (IsSeen c) first fronts.0
+      first_fault : (copies : List (List ℕ)) (prefix : List Seen) → AreSeen copies prefix
+          → IsSomeAnd (slice_get prefix 0) (λ s. s ≡ NoFrame f n) → IsSeen (get_or copies 0 []) (NoFrame f n)
+      first_fault copies [] prefixes first = absurd first
+      first_fault [] (s ∷ prefix) prefixes first = absurd prefixes
+      first_fault (c ∷ copies) (s ∷ prefix) prefixes first = subst (IsSeen c) first prefixes.0

@@ -5,7 +5,7 @@ use Rattle.std.proofs.Math.ListN.{get_or-append}
 use Rattle.std.proofs.Math.Seq.{get_or-append_seam}
 use Rattle.jls_diff.specs.Parts.{Part, Same, Differ, way}
 use Rattle.jls_search.specs.Choices.{IsDiffer, IsFirstWay}
-use Rattle.jls_search.specs.Order.{IsToCome, IsBehind}
+use Rattle.jls_search.specs.Order.{IsToCome, IsLater}
 use Rattle.jls_search.proofs.Paths.{order, path_at, path_back, path_more}
 use Rattle.jls_diff.specs.Groups.{IsInside}
 use Rattle.jls_search.specs.OfGroups.{HasCopy, IsCopyOutside, IsSet}
@@ -74,7 +74,7 @@ module _ (ps : List Part) (s : Setting) (ds : List ℕ) (set : IsSet ps s ds) (n
       let out : IsInside s.group n → ⊥ = λ inside. let z = least inside in omega (arith, z, less) in
       let e = same_choice (takes out) (λ differ. out) in omega (arith, e, less)
 
-  -- none is behind the last
+  -- none is after the last
   pub none_after : ((IsInside s.group n → ⊥) → TakesCopy ps s.copy n c)
       → (IsInside s.group n → (other : ℕ) → c < other → IsFirstWay (get_or ps n (Same [])) other → ⊥) → c < get_or ds n 0 → ⊥
   none_after takes last less =
@@ -99,11 +99,11 @@ to_come_least (x ∷ cs) [] c h l least = absurd h
 to_come_least (x ∷ cs) (d ∷ ds) c (inl less) l least = inl less
 to_come_least (x ∷ cs) (d ∷ ds) c (inr (e, h)) l least = inr (e, to_come_least cs ds c h (omega (arith, l)) least)
 
-pub behind_last : (cs ds : List ℕ) (c : ℕ) → (length cs < length ds → c < get_or ds (length cs) 0 → ⊥) → IsBehind (cs ++ c ∷ []) ds
-    → IsBehind cs ds
-behind_last [] [] c last h = absurd h
-behind_last [] (d ∷ ds) c last (inl less) = absurd (last (omega arith) less)
-behind_last [] (d ∷ ds) c last (inr (e, h)) = absurd h
-behind_last (x ∷ cs) [] c last h = absurd h
-behind_last (x ∷ cs) (d ∷ ds) c last (inl less) = inl less
-behind_last (x ∷ cs) (d ∷ ds) c last (inr (e, h)) = inr (e, behind_last cs ds c (λ l. last (omega (arith, l))) h)
+pub after_last : (cs ds : List ℕ) (c : ℕ) → (length cs < length ds → c < get_or ds (length cs) 0 → ⊥) → IsLater (cs ++ c ∷ []) ds
+    → IsLater cs ds
+after_last [] [] c last h = absurd h
+after_last [] (d ∷ ds) c last (inl less) = absurd (last (omega arith) less)
+after_last [] (d ∷ ds) c last (inr (e, h)) = absurd h
+after_last (x ∷ cs) [] c last h = absurd h
+after_last (x ∷ cs) (d ∷ ds) c last (inl less) = inl less
+after_last (x ∷ cs) (d ∷ ds) c last (inr (e, h)) = inr (e, after_last cs ds c (λ l. last (omega (arith, l))) h)

@@ -7,23 +7,23 @@ use Rattle.std.specs.List.{AllByRecursion, Contains}
 use Rattle.std.specs.declared.alloc.AllocError.{AllocError}
 use Rattle.std.proofs.lemmas.List.Elements.{Contains-append_left}
 use Rattle.jls_diff.specs.Parts.{Part}
-use Rattle.jls_search.specs.Choices.{front_of}
+use Rattle.jls_search.specs.Choices.{prefix_of}
 use Rattle.jls_search.specs.OfGroups.{AddsOne, GoesOnWith, IsGivenUp, IsSet, IsSetWhole, IsSettled, IsSoughtWith, StandsWith}
-use Rattle.jls_search.specs.Order.{IsToCome, IsBehind}
+use Rattle.jls_search.specs.Order.{IsToCome, IsLater}
 use Rattle.jls_search.specs.declared.setting.Setting.{Setting}
-use Rattle.jls_search.proofs.FaultlessFiles.{all_front}
-use Rattle.jls_search.proofs.KeptReaders.{front_and_rest}
+use Rattle.jls_search.proofs.FaultlessFiles.{all_prefix}
+use Rattle.jls_search.proofs.KeptReaders.{prefix_and_rest}
 use Rattle.jls_search.proofs.Members.{first_or_rest, in_rest, is_first, none_in}
 use Rattle.jls_search.specs.Search.{lists_of}
-use Rattle.jls_search.proofs.Searching.{equal_or_behind}
+use Rattle.jls_search.proofs.Searching.{equal_or_after}
 
--- choices to come begin with the path, or stand behind all that do
-begins_or_behind : (path cs : List ℕ) → IsToCome path cs → (take (length path) cs ≡ path) ⊎ IsBehind path cs
-begins_or_behind [] cs t = inl refl
-begins_or_behind (c ∷ path) [] t = absurd t
-begins_or_behind (c ∷ path) (d ∷ cs) (inl less) = inr (inl less)
-begins_or_behind (c ∷ path) (d ∷ cs) (inr (e, t)) =
-    elim (begins_or_behind path cs t) [
+-- choices to come begin with the path, or stand after all that do
+begins_or_after : (path cs : List ℕ) → IsToCome path cs → (take (length path) cs ≡ path) ⊎ IsLater path cs
+begins_or_after [] cs t = inl refl
+begins_or_after (c ∷ path) [] t = absurd t
+begins_or_after (c ∷ path) (d ∷ cs) (inl less) = inr (inl less)
+begins_or_after (c ∷ path) (d ∷ cs) (inr (e, t)) =
+    elim (begins_or_after path cs t) [
       | inl r ↦ inl (ap (λ xs. d ∷ xs) r ∙ ap (λ x. x ∷ path) (sym e))
       | inr b ↦ inr (inr (e, b))
     ]
@@ -56,10 +56,10 @@ module _ (ps : List Part) (s : Setting) where
 
     -- all that begin with the path are settled
     module _ (found' : List (List ℕ))
-        (settled : (choices : List ℕ) → IsSoughtWith ps s choices → IsSettled ps s.group found' choices ⊎ IsBehind path choices) where
+        (settled : (choices : List ℕ) → IsSoughtWith ps s choices → IsSettled ps s.group found' choices ⊎ IsLater path choices) where
       pub turned_on : (r : Result Bool AllocError) → IfOk r (λ more. more ≡ true → IsSet ps s next)
-          → IfOk r (λ more. more ≡ true → (choices : List ℕ) → IsSetWhole ps s choices → IsBehind path choices → IsToCome next choices)
-          → IfOk r (λ more. more ≡ false → (choices : List ℕ) → IsSetWhole ps s choices → IsBehind path choices → ⊥)
+          → IfOk r (λ more. more ≡ true → (choices : List ℕ) → IsSetWhole ps s choices → IsLater path choices → IsToCome next choices)
+          → IfOk r (λ more. more ≡ false → (choices : List ℕ) → IsSetWhole ps s choices → IsLater path choices → ⊥)
           → IfOk r (λ more. GoesOnWith ps s next found' more)
       turned_on (Err e) a b c = tt
       turned_on (Ok true) a b c = record {
@@ -73,21 +73,21 @@ module _ (ps : List Part) (s : Setting) where
           elim (settled choices sought) [ inl was ↦ was | inr t ↦ absurd (c refl choices (whole_set ps s choices sought) t) ]
 
     -- a path that is given up
-    pub given_up : (AllByRecursion (λ b. b < 256) (front_of ps path) → IsGivenUp ps s.group path) → (choices : List ℕ) → IsSoughtWith ps s choices
-        → IsSettled ps s.group found choices ⊎ IsBehind path choices
+    pub given_up : (AllByRecursion (λ b. b < 256) (prefix_of ps path) → IsGivenUp ps s.group path) → (choices : List ℕ) → IsSoughtWith ps s choices
+        → IsSettled ps s.group found choices ⊎ IsLater path choices
     given_up up choices sought =
         elim (stands.all choices sought) [
           | inl was ↦ inl was
-          | inr t ↦ elim (begins_or_behind path choices t) [
+          | inr t ↦ elim (begins_or_after path choices t) [
             | inr b ↦ inr b
             | inl begins ↦ (
-                let low : AllByRecursion (λ b. b < 256) (front_of ps (take (length path) choices)) =
-                all_front (λ b. b < 256) (front_of ps (take (length path) choices)) (front_of (drop (length path) ps) (drop (length path) choices))
-                (subst (AllByRecursion (λ b. b < 256)) (front_and_rest ps choices (length path) sought.0.whole.0) sought.1) in
+                let low : AllByRecursion (λ b. b < 256) (prefix_of ps (take (length path) choices)) =
+                all_prefix (λ b. b < 256) (prefix_of ps (take (length path) choices)) (prefix_of (drop (length path) ps) (drop (length path) choices))
+                (subst (AllByRecursion (λ b. b < 256)) (prefix_and_rest ps choices (length path) sought.0.whole.0) sought.1) in
                 inl (inr (inr (
                   length path,
                   subst (IsGivenUp ps s.group) (sym begins)
-                      (up (subst (λ p. AllByRecursion (λ b. b < 256) (front_of ps p)) begins low)),
+                      (up (subst (λ p. AllByRecursion (λ b. b < 256) (prefix_of ps p)) begins low)),
                 )))
                 )
           ]
@@ -96,11 +96,11 @@ module _ (ps : List Part) (s : Setting) where
     -- a path with a choice for each part
     pub tried : (found' : List (List ℕ)) → AddsOne ps s found found' → length path ≡ length ps
         → (IsSoughtWith ps s path → IsSettled ps s.group found' path) → (choices : List ℕ) → IsSoughtWith ps s choices
-        → IsSettled ps s.group found' choices ⊎ IsBehind path choices
+        → IsSettled ps s.group found' choices ⊎ IsLater path choices
     tried found' adds l here choices sought =
         elim (stands.all choices sought) [
           | inl was ↦ inl (settled_more found found' (grew_by found found' adds) choices was)
-          | inr t ↦ elim (equal_or_behind path choices (l ∙ sym sought.0.whole.1) t) [
+          | inr t ↦ elim (equal_or_after path choices (l ∙ sym sought.0.whole.1) t) [
             | inr b ↦ inr b
             | inl e ↦ inl (subst (IsSettled ps s.group found') e (here (subst (IsSoughtWith ps s) (sym e) sought)))
           ]

@@ -17,7 +17,7 @@ use Rattle.jls_search.specs.Shapes.{HasShape}
 use Rattle.jls_search.specs.Stations.{Give, no_file, gives, gives_nothing, TakesFiles}
 use Rattle.jls_diff.specs.Parts.{Part}
 use Rattle.jls_diff.specs.PartsOf.{bytes_of}
-use Rattle.jls_search.specs.Choices.{front_of}
+use Rattle.jls_search.specs.Choices.{prefix_of}
 use Rattle.jls_search.specs.Search.{files_of, lists_of}
 use Rattle.jls_search.proofs.Members.{map_one_more, splices_one_more}
 use Rattle.jls_search.proofs.OneFile.{one_shape_of, no_shape, shape_read}
@@ -64,11 +64,11 @@ module _ (source : Option ℕ) (old between new : PartialPicture) where
       (takes_more source (bytes_of (take i copies)) ((get_or copies i d).now ∷ []) old between new h k)
 
   pub splices_taken : (ps : List Part) (vs : List (Vec ℕ Global)) (i : ℕ) (v : Vec ℕ Global) → i < length vs → v ≡ get_or vs i v
-      → TakesFiles source (files_of ps (lists_of (take i vs))) old between → TakesFiles source (front_of ps v.items ∷ []) between new
+      → TakesFiles source (files_of ps (lists_of (take i vs))) old between → TakesFiles source (prefix_of ps v.items ∷ []) between new
       → TakesFiles source (files_of ps (lists_of (take (i + 1) vs))) old new
   splices_taken ps vs i v l at h k =
       subst (λ fs. TakesFiles source fs old new) (sym (splices_one_more ps vs i v l at))
-      (takes_more source (files_of ps (lists_of (take i vs))) (front_of ps v.items ∷ []) old between new h k)
+      (takes_more source (files_of ps (lists_of (take i vs))) (prefix_of ps v.items ∷ []) old between new h k)
 
 -- One file ---------------------------------------------------------------------------------------------------------
 

@@ -3,10 +3,10 @@ use Rattle.std.specs.Prelude.{◌≡◌, ℕ, ◌<◌, List, [], ◌∷◌, ◌+
 use Rattle.jls_diff.specs.Parts.{Part, Same, Differ, way}
 
 -- the bytes that choices make of the first parts
-abbrev pub front_of : List Part → List ℕ → List ℕ
-front_of parts [] = []
-front_of [] (choice ∷ choices) = []
-front_of (part ∷ parts) (choice ∷ choices) = way choice part ++ front_of parts choices
+abbrev pub prefix_of : List Part → List ℕ → List ℕ
+prefix_of parts [] = []
+prefix_of [] (choice ∷ choices) = []
+prefix_of (part ∷ parts) (choice ∷ choices) = way choice part ++ prefix_of parts choices
 
 -- no way before this one has the same bytes
 abbrev pub IsNew : List (List ℕ) → ℕ → Type 0
@@ -33,8 +33,8 @@ IsDiffer (Same bytes) = ⊥
 IsDiffer (Differ ways) = Unit {0}
 
 -- choices go up to the next part in which copies differ, or to the end of the file
-abbrev pub IsFront : List Part → List ℕ → Type 0
-IsFront parts path = IsDiffer (get_or parts (length path) (Same [])) ⊎ (length path ≡ length parts)
+abbrev pub IsPrefix : List Part → List ℕ → Type 0
+IsPrefix parts path = IsDiffer (get_or parts (length path) (Same [])) ⊎ (length path ≡ length parts)
 
 -- a part that differs has a way
 abbrev pub HasSomeWay : Part → Type 0

@@ -1,11 +1,11 @@
--- Files without a fault, and fronts that no such file begins with.
+-- Files without a fault, and prefixes that no such file begins with.
 use Rattle.std.specs.Prelude.{◌≡◌, ℕ, ◌<◌, ◌≤◌, Bool, false, List, [], ◌++◌, length, get_or, Option, Some, None}
 use Rattle.std.specs.List.{AllByRecursion}
 use Rattle.jls_values.specs.Shape.{PictureShape}
 use Rattle.jls_partial.specs.Partial.{PartialPicture, readings_at}
 use Rattle.jls_partial.specs.Reading.{Reading, reading_of}
 use Rattle.jls_copy.specs.Course.{Course, IsCourse}
-use Rattle.jls_copy.specs.Fronts.{HasLines, Gives}
+use Rattle.jls_copy.specs.Prefixes.{HasLines, Gives}
 use Rattle.jls_copy.specs.Pieces.{pieces}
 use Rattle.jls_copy.specs.declared.reader.CopyFault.{CopyFault}
 use Rattle.jls_copy.specs.declared.reader.CopyFault.TheVariants.{NoPicture, OutOfMemory}
@@ -46,7 +46,7 @@ IsSought ceiling file = IsFaultless file × IsWithin ceiling file
 
 -- no file of some kind begins with these bytes
 abbrev pub IsDead : (List ℕ → Type 0) → List ℕ → Type 0
-IsDead Sought front = (more : List ℕ) → AllByRecursion (λ b. b < 256) (front ++ more) → Sought (front ++ more) → ⊥
+IsDead Sought prefix = (more : List ℕ) → AllByRecursion (λ b. b < 256) (prefix ++ more) → Sought (prefix ++ more) → ⊥
 
 -- Inside the crate ---------------------------------------------------------------------------------------------------
 

@@ -10,7 +10,7 @@ use Rattle.jls_diff.specs.Groups.{CoverParts, IsGroup}
 use Rattle.jls_search.specs.OfGroups.{IsOfGroup, IsOnce}
 use Rattle.jls_search.specs.GroupTries.{AreGroupsSearched}
 use Rattle.jls_diff.specs.declared.group.Group.{Group}
-use Rattle.jls_search.specs.declared.found.GroupsTold.{GroupsTold}
+use Rattle.jls_search.specs.declared.found.GroupsReported.{GroupsReported}
 use Rattle.jls_search.specs.declared.found.FoundSplices.{FoundSplices}
 
 -- what a search by groups came to: how many groups there are, how much it tried, the splices, each as its choices, and whether it was cut
@@ -67,12 +67,12 @@ splices_in f = files_of f.parts (f.choices ++ choices_by f.by_groups)
 -- As the code has it -----------------------------------------------------------------------------------------------
 
 -- what the search by groups came to, from what the code tells of it and the choices of its splices
-abbrev pub by_groups_of : List (List ℕ) → GroupsTold → ByGroups
-by_groups_of choices told = record {
-  groups = told.groups;
-  tries = told.tries;
+abbrev pub by_groups_of : List (List ℕ) → GroupsReported → ByGroups
+by_groups_of choices reported = record {
+  groups = reported.groups;
+  tries = reported.tries;
   choices = choices;
-  is_used_up = told.is_used_up;
+  is_used_up = reported.is_used_up;
 }
 
 -- what a search found, from the value of the code: its first `whole` splices are those of the search of all, the others those of groups

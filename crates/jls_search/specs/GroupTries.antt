@@ -4,7 +4,7 @@ use Rattle.std.specs.List.{AllByRecursion, Contains, flat_map, list_any, sum_by}
 use Rattle.std.specs.List.Sorted.{IsPermutation}
 use Rattle.jls_diff.specs.Parts.{Part}
 use Rattle.jls_diff.specs.declared.group.Group.{Group}
-use Rattle.jls_search.specs.Choices.{front_of}
+use Rattle.jls_search.specs.Choices.{prefix_of}
 use Rattle.jls_search.specs.OfGroups.{IsPassedBy, ReadsWith}
 use Rattle.jls_search.specs.Search.{lists_of}
 use Rattle.jls_search.specs.declared.setting.Setting.{Setting}
@@ -44,7 +44,7 @@ pub record IsSettingSearched (limit tries : ℕ) (parts : List Part) (found : Li
   pub some : s.is_cut_off ≡ false → 0 < s.tries
   pub cut_off : s.is_cut_off ≡ true → (tries ≡ limit) ⊎ ((length s.splices ≡ 64) ⊎ (length found ≡ 4096))
   pub all : s.is_cut_off ≡ false → (choices : List ℕ) → ReadsWith parts group copy choices
-      → AllByRecursion (λ b. b < 256) (front_of parts choices) → Contains found choices ⊎ IsPassedBy parts group choices
+      → AllByRecursion (λ b. b < 256) (prefix_of parts choices) → Contains found choices ⊎ IsPassedBy parts group choices
 
 -- a group was searched with each of so many copies outside of it, and has so many tries
 pub record IsGroupSearched (limit copies : ℕ) (parts : List Part) (found : List (List ℕ)) (g : GroupSearched) : Type 0 where

@@ -2,16 +2,16 @@
 use Rattle.std.specs.Prelude.{◌≡◌, ℕ, ◌<◌, ◌≤◌, List, [], ◌∷◌, ◌++◌, length, take, get_or, ◌⊎◌}
 use Rattle.std.specs.List.{AllByRecursion, Contains}
 use Rattle.jls_diff.specs.Parts.{Part, Same}
-use Rattle.jls_search.specs.Choices.{IsDiffer, IsFront, IsPath, front_of}
+use Rattle.jls_search.specs.Choices.{IsDiffer, IsPrefix, IsPath, prefix_of}
 use Rattle.jls_search.specs.Faultless.{IsDead}
 
 -- a path goes up to a part in which the copies differ, or to the end. Each other path of as many choices makes bytes with which no file of
 -- the kind that is sought begins
 pub record IsLone (Sought : List ℕ → Type 0) (parts : List Part) (path : List ℕ) : Type 0 where
   pub is_path : IsPath parts path
-  pub front : IsFront parts path
+  pub prefix : IsPrefix parts path
   pub others : (other : List ℕ) → IsPath parts other → length other ≡ length path → (other ≡ path → ⊥)
-      → IsDead Sought (front_of parts other)
+      → IsDead Sought (prefix_of parts other)
 
 -- copies differ in no part from this place on, up to that one
 abbrev pub AreSame : List Part → ℕ → ℕ → Type 0
@@ -20,19 +20,19 @@ AreSame parts from to = (place : ℕ) → from ≤ place → place < to → IsDi
 -- a path goes from so many choices on to the next part in which copies differ, or to the end
 pub record IsNext (parts : List Part) (from : ℕ) (path : List ℕ) : Type 0 where
   pub is_path : IsPath parts path
-  pub front : IsFront parts path
+  pub prefix : IsPrefix parts path
   pub from_on : from ≤ length path
   pub same : AreSame parts from (length path)
 
 -- no file of the kind that is sought begins with what all copies have alike, up to the first part in which they differ, or to the end
 abbrev pub IsFirstDead : (List ℕ → Type 0) → List Part → Type 0
-IsFirstDead Sought parts = (path : List ℕ) × IsNext parts 0 path × IsDead Sought (front_of parts path)
+IsFirstDead Sought parts = (path : List ℕ) × IsNext parts 0 path × IsDead Sought (prefix_of parts path)
 
 -- Inside the crate -------------------------------------------------------------------------------------------------
 
 -- a path is one of those that live, or no file of the kind that is sought begins with what it makes
 abbrev pub LivesOrIsDead : (List ℕ → Type 0) → List Part → List (List ℕ) → List ℕ → Type 0
-LivesOrIsDead Sought parts living path = Contains living path ⊎ IsDead Sought (front_of parts path)
+LivesOrIsDead Sought parts living path = Contains living path ⊎ IsDead Sought (prefix_of parts path)
 
 -- each path does that begins so, and goes from so many choices on to the next part in which copies differ
 abbrev pub AreJudged : (List ℕ → Type 0) → List Part → ℕ → List (List ℕ) → List ℕ → Type 0
@@ -44,11 +44,11 @@ pub record IsTaken (Sought : List ℕ → Type 0) (parts : List Part) (begin : L
   pub path : List ℕ
   pub is_next : IsNext parts (length begin) path
   pub begins : take (length begin) path ≡ begin
-  pub added : (new ≡ old ++ path ∷ []) ⊎ ((new ≡ old) × IsDead Sought (front_of parts path))
+  pub added : (new ≡ old ++ path ∷ []) ⊎ ((new ≡ old) × IsDead Sought (prefix_of parts path))
 
 -- a path of a level of so many choices
 abbrev pub IsOfLevel : List Part → ℕ → List ℕ → Type 0
-IsOfLevel parts count path = IsPath parts path × IsFront parts path × (length path ≡ count)
+IsOfLevel parts count path = IsPath parts path × IsPrefix parts path × (length path ≡ count)
 
 -- of the paths of a level of so many choices, those that live: each other one is dead
 pub record IsLevel (Sought : List ℕ → Type 0) (parts : List Part) (count : ℕ) (living : List (List ℕ)) : Type 0 where

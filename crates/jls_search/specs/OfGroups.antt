@@ -2,11 +2,11 @@
 use Rattle.std.specs.Prelude.{◌≡◌, ℕ, ◌<◌, ◌≤◌, Bool, true, false, List, [], ◌∷◌, ◌++◌, length, get_or, take, None, ◌⊎◌}
 use Rattle.std.specs.List.{AllByRecursion, Contains}
 use Rattle.jls_diff.specs.Parts.{Part, Same, Differ, way}
-use Rattle.jls_search.specs.Choices.{IsPath, IsWhole, front_of}
+use Rattle.jls_search.specs.Choices.{IsPath, IsWhole, prefix_of}
 use Rattle.jls_search.specs.Order.{IsToCome}
 use Rattle.jls_copy.specs.Course.{Course, IsCourse}
 use Rattle.jls_copy.specs.CopyReads.{IsDone}
-use Rattle.jls_copy.specs.Fronts.{IsPieceBroken}
+use Rattle.jls_copy.specs.Prefixes.{IsPieceBroken}
 use Rattle.jls_copy.specs.Pieces.{pieces}
 use Rattle.jls_copy.specs.TellingLaws.{AreRecordsOf}
 use Rattle.jls_copy.specs.declared.piece.PieceRecord.{PieceRecord}
@@ -25,7 +25,7 @@ IsCopyOutside parts group copy choices =
 -- the file that the choices make reads between the borders of the group
 abbrev pub ReadsInGroup : List Part → Group → List ℕ → Type 0
 ReadsInGroup parts group choices =
-    ReadsBetween (offset_of parts choices group.begin) (end_offset_of parts choices group.end) (front_of parts choices)
+    ReadsBetween (offset_of parts choices group.begin) (end_offset_of parts choices group.end) (prefix_of parts choices)
 
 -- the file has more than 4,096 faulty pieces
 abbrev pub HasManyFaults : List ℕ → Type 0
@@ -34,16 +34,16 @@ HasManyFaults file = (c : Course) × IsCourse file c × (rs : List PieceRecord) 
 -- no file is tried that begins with what the path makes: the file has ended there, before the group; or the path goes into the group, and
 -- the piece in hand is broken, or the file has ended there and doesn't read from the group's begin on, or has too many faulty pieces
 pub data IsGivenUp (parts : List Part) (group : Group) (path : List ℕ) : Type 0 where
-  ended_before : length path ≤ group.begin.part → IsDone (front_of parts path) true → IsGivenUp parts group path
-  broken : group.begin.part < length path → IsPieceBroken (front_of parts path) → IsGivenUp parts group path
-  ended_within : group.begin.part < length path → IsDone (front_of parts path) true
-      → (ReadsBetween (offset_of parts path group.begin) None (front_of parts path) → HasManyFaults (front_of parts path))
+  ended_before : length path ≤ group.begin.part → IsDone (prefix_of parts path) true → IsGivenUp parts group path
+  broken : group.begin.part < length path → IsPieceBroken (prefix_of parts path) → IsGivenUp parts group path
+  ended_within : group.begin.part < length path → IsDone (prefix_of parts path) true
+      → (ReadsBetween (offset_of parts path group.begin) None (prefix_of parts path) → HasManyFaults (prefix_of parts path))
       → IsGivenUp parts group path
 
 -- a file that choices make is passed by: it has too many faulty pieces, or what some of its first choices make was given up
 abbrev pub IsPassedBy : List Part → Group → List ℕ → Type 0
 IsPassedBy parts group choices =
-    HasManyFaults (front_of parts choices) ⊎ ((count : ℕ) × IsGivenUp parts group (take count choices))
+    HasManyFaults (prefix_of parts choices) ⊎ ((count : ℕ) × IsGivenUp parts group (take count choices))
 
 -- the copy of this number has something at the part, were it nothing
 abbrev pub HasCopy : ℕ → Part → Type 0
@@ -90,7 +90,7 @@ IsSettled parts group found choices = Contains found choices ⊎ IsPassedBy part
 -- choices that read with the setting, of bytes
 abbrev pub IsSoughtWith : List Part → Setting → List ℕ → Type 0
 IsSoughtWith parts setting choices =
-    ReadsWith parts setting.group setting.copy choices × AllByRecursion (λ b. b < 256) (front_of parts choices)
+    ReadsWith parts setting.group setting.copy choices × AllByRecursion (λ b. b < 256) (prefix_of parts choices)
 
 -- a search of a setting is at a path: what reads with the setting is settled, or is still to come
 pub record StandsWith (parts : List Part) (setting : Setting) (path : List ℕ) (found : List (List ℕ)) : Type 0 where
@@ -103,7 +103,7 @@ GoesOnWith parts setting path found true = StandsWith parts setting path found
 GoesOnWith parts setting path found false =
     (choices : List ℕ) → IsSoughtWith parts setting choices → IsSettled parts setting.group found choices
 
--- the choices were found before, and nothing was added; or they weren't, and were added behind those that were
+-- the choices were found before, and nothing was added; or they weren't, and were added after those that were
 abbrev pub IsAddedOnce : List (List ℕ) → List ℕ → List (List ℕ) → Type 0
 IsAddedOnce before choices found =
     (Contains before choices × (found ≡ before)) ⊎ ((Contains before choices → ⊥) × (found ≡ before ++ choices ∷ []))

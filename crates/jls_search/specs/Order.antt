@@ -8,10 +8,10 @@ IsToCome (p ∷ path) [] = ⊥
 IsToCome (p ∷ path) (choice ∷ choices) = (p < choice) ⊎ ((p ≡ choice) × IsToCome path choices)
 
 -- choices come after all that begin with a path
-abbrev pub IsBehind : List ℕ → List ℕ → Type 0
-IsBehind [] choices = ⊥
-IsBehind (p ∷ path) [] = ⊥
-IsBehind (p ∷ path) (choice ∷ choices) = (p < choice) ⊎ ((p ≡ choice) × IsBehind path choices)
+abbrev pub IsLater : List ℕ → List ℕ → Type 0
+IsLater [] choices = ⊥
+IsLater (p ∷ path) [] = ⊥
+IsLater (p ∷ path) (choice ∷ choices) = (p < choice) ⊎ ((p ≡ choice) × IsLater path choices)
 
 -- the next path begins with the path, and has more choices
 abbrev pub Goes : List ℕ → List ℕ → Type 0

@@ -6,7 +6,7 @@ use Rattle.jls_copy.specs.Course.{Course, IsCourse}
 use Rattle.jls_copy.specs.Pieces.{pieces}
 use Rattle.jls_copy.specs.declared.end.End.{End}
 use Rattle.jls_copy.specs.declared.end.End.TheVariants.{Eoi, Input, Header}
-use Rattle.jls_copy.specs.Fronts.{HasLines}
+use Rattle.jls_copy.specs.Prefixes.{HasLines}
 
 -- the offset is the first of these or later, and before the second, if there is one
 abbrev pub IsBetween : ℕ → Option ℕ → ℕ → Type 0

@@ -5,9 +5,9 @@ use Rattle.std.specs.List.{AllByRecursion, Contains}
 use Rattle.std.specs.declared.vec.Vec.{Vec}
 use Rattle.std.specs.declared.alloc.Global.{Global}
 use Rattle.jls_diff.specs.Parts.{Part, HasWays, IsSplice}
-use Rattle.jls_search.specs.Choices.{IsFront, IsPath, IsWhole, front_of}
+use Rattle.jls_search.specs.Choices.{IsPrefix, IsPath, IsWhole, prefix_of}
 use Rattle.jls_search.specs.Faultless.{IsSought}
-use Rattle.jls_search.specs.Order.{Goes, IsToCome, IsBehind}
+use Rattle.jls_search.specs.Order.{Goes, IsToCome, IsLater}
 use Rattle.jls_search.specs.declared.whole_search.WholeSearch.{WholeSearch}
 use Rattle.jls_search.specs.declared.kept.KeptReader.{KeptReader}
 use Rattle.jls_search.specs.declared.looking.Sight.{Sight}
@@ -21,15 +21,15 @@ HasEachSplice Sought parts files =
 
 -- each of these choices makes a file of the kind that is sought
 abbrev pub MakeFiles : (List ℕ → Type 0) → List Part → List (List ℕ) → Type 0
-MakeFiles Sought parts found = AllByRecursion (λ choices. IsWhole parts choices × Sought (front_of parts choices)) found
+MakeFiles Sought parts found = AllByRecursion (λ choices. IsWhole parts choices × Sought (prefix_of parts choices)) found
 
 -- the files that choices make
 abbrev pub files_of : List Part → List (List ℕ) → List (List ℕ)
-files_of parts found = map (front_of parts) found
+files_of parts found = map (prefix_of parts) found
 
 -- no prefix of choices has more bytes than a reader takes
 abbrev pub IsShort : List Part → Type 0
-IsShort parts = (choices : List ℕ) → IsPath parts choices → length (front_of parts choices) ≤ 2 ^ 63 - 1
+IsShort parts = (choices : List ℕ) → IsPath parts choices → length (prefix_of parts choices) ≤ 2 ^ 63 - 1
 
 -- the lists that the code holds
 abbrev pub lists_of : List (Vec ℕ Global) → List (List ℕ)
@@ -46,14 +46,14 @@ pub record CameTo (Sought : List ℕ → Type 0) (parts : List Part) (found : Li
 -- choices, one for each part, make a file of the kind that is sought
 pub record MakesFile (Sought : List ℕ → Type 0) (parts : List Part) (choices : List ℕ) : Type 0 where
   pub whole : IsWhole parts choices
-  pub low : AllByRecursion (λ b. b < 256) (front_of parts choices)
-  pub sought : Sought (front_of parts choices)
+  pub low : AllByRecursion (λ b. b < 256) (prefix_of parts choices)
+  pub sought : Sought (prefix_of parts choices)
 
 -- a search is at a path: choices that make a file that is sought are found, or are still to come. The path goes up to a differing part, or
 -- to the end
 pub record StandsAt (Sought : List ℕ → Type 0) (parts : List Part) (path : List ℕ) (found : List (List ℕ)) : Type 0 where
   pub is_path : IsPath parts path
-  pub front : IsFront parts path
+  pub prefix : IsPrefix parts path
   pub files : MakeFiles Sought parts found
   pub all : (choices : List ℕ) → MakesFile Sought parts choices → Contains found choices ⊎ IsToCome path choices
 
@@ -71,11 +71,11 @@ GoesOn Sought parts path found false = IsOver Sought parts found
 -- after all that begin with it
 abbrev pub IsStep : List ℕ → List (List ℕ) → List ℕ → List (List ℕ) → Bool → Type 0
 IsStep path found next found' more =
-    ((found' ≡ found) ⊎ (found' ≡ found ++ path ∷ [])) × (more ≡ true → Goes path next ⊎ IsBehind path next)
+    ((found' ≡ found) ⊎ (found' ≡ found ++ path ∷ [])) × (more ≡ true → Goes path next ⊎ IsLater path next)
 
 -- a reader that is kept was fed what its choices make
 abbrev pub IsKept : List Part → KeptReader → Type 0
-IsKept parts k = k.reader ≡ Some (front_of parts k.choices.items)
+IsKept parts k = k.reader ≡ Some (prefix_of parts k.choices.items)
 
 -- a search over parts has come so far: each splice that is sought under its ceiling is one that it found, or is still to come. The reader
 -- that it keeps was fed what its choices make
@@ -129,9 +129,9 @@ pub record GoesFrom (parts : List Part) (old new : WholeSearch) (limit : ℕ) : 
 
 -- what is seen of a path
 abbrev pub IsSeen : (List ℕ → Type 0) → List Part → List ℕ → Sight → Type 0
-IsSeen Sought parts path Dead = (choices : List ℕ) → MakesFile Sought parts choices → IsToCome path choices → IsBehind path choices
-IsSeen Sought parts path (Open reader) = (length path < length parts) × IfSome reader (λ fed. fed ≡ Some (front_of parts path))
-IsSeen Sought parts path Found = (length path ≡ length parts) × Sought (front_of parts path)
+IsSeen Sought parts path Dead = (choices : List ℕ) → MakesFile Sought parts choices → IsToCome path choices → IsLater path choices
+IsSeen Sought parts path (Open reader) = (length path < length parts) × IfSome reader (λ fed. fed ≡ Some (prefix_of parts path))
+IsSeen Sought parts path Found = (length path ≡ length parts) × Sought (prefix_of parts path)
 
 -- what is kept: a reader with the path that it was fed; where there is none, what was kept before
 abbrev pub Keeps : Option KeptReader → Option (Option (List ℕ)) → List ℕ → Option KeptReader → Type 0

@@ -8,7 +8,7 @@ ghost use Rattle.jls_diff.specs.PartsOf.{part_of, parts_of};
 ghost use Rattle.jls_search.specs.Choices.{IsNew, IsFirstWay};
 ghost use Rattle.jls_diff.specs.Groups.{IsInside};
 ghost use Rattle.jls_search.specs.OfGroups.{HasCopy, IsSet, IsSetWhole};
-ghost use Rattle.jls_search.specs.Order.{IsToCome, IsBehind};
+ghost use Rattle.jls_search.specs.Order.{IsToCome, IsLater};
 
 use crate::path::next_way_at;
 use crate::setting::{Setting, is_free};
@@ -86,7 +86,7 @@ fn first_choice(parts: &[Part<'_>], setting: Setting, place: usize) -> usize
     choice_at(parts, place, setting.copy)
 }
 
-/// The choice of the part at this place behind one, if it is one of the group and has another.
+/// The choice of the part at this place after one, if it is one of the group and has another.
 fn next_choice(parts: &[Part<'_>], setting: Setting, place: usize, choice: usize) -> Option<usize>
     requires place { place < length parts.now }
     requires first { IsFirstWay (get_or (parts_of parts.now) place (Same [])) choice }
@@ -130,9 +130,9 @@ pub(crate) fn turn(
     requires path { IsSet (parts_of parts.now) setting path.old.items }
     ensures path { IfOk result (λ more. more ≡ true → IsSet (parts_of parts.now) setting path.new.items) }
     ensures to_come { IfOk result (λ more. more ≡ true → (choices : List ℕ) → IsSetWhole (parts_of parts.now) setting choices
-        → IsBehind path.old.items choices → IsToCome path.new.items choices) }
+        → IsLater path.old.items choices → IsToCome path.new.items choices) }
     ensures none { IfOk result (λ more. more ≡ false → (choices : List ℕ) → IsSetWhole (parts_of parts.now) setting choices
-        → ¬ IsBehind path.old.items choices) }
+        → ¬ IsLater path.old.items choices) }
 {
     while let Some(choice) = path.pop() {
         if let Some(next) = next_choice(parts, setting, path.len(), choice) {

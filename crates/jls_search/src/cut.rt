@@ -1,11 +1,11 @@
-//! The cut file, which a station takes behind the copies and the splices.
+//! The cut file, which a station takes after the copies and the splices.
 
 ghost use Rattle.std.specs.Prelude.{◌<◌, ◌≤◌, ◌-◌, ◌^◌, ◌∷◌, ◌++◌, [], length, IfOk, IfSome, IfNone};
 ghost use Rattle.std.specs.List.{AllByRecursion};
 ghost use Rattle.jls_partial.specs.Partial.{nothing_known};
 ghost use Rattle.jls_copy.specs.CopyReads.{CopyReads};
 ghost use Rattle.jls_diff.specs.PartsOf.{bytes_of, parts_of};
-ghost use Rattle.jls_search.specs.Choices.{IsPath, IsWhole, front_of};
+ghost use Rattle.jls_search.specs.Choices.{IsPath, IsWhole, prefix_of};
 ghost use Rattle.jls_search.specs.Search.{IsShort, lists_of};
 ghost use Rattle.jls_search.specs.Files.{files_taken, splices_found};
 ghost use Rattle.jls_search.specs.Reading.{HasTaken};
@@ -14,7 +14,7 @@ ghost use Rattle.jls_search.specs.Stations.{TakesFiles};
 ghost use Rattle.jls_search.specs.Cuts.{TakesCut, TakesNoCut};
 ghost use Rattle.jls_station.specs.Reading.{AreBytes};
 
-use crate::feeding::feed_front;
+use crate::feeding::feed_prefix;
 use crate::file::take_read;
 use crate::files::Files;
 use crate::reading_files::{FilesRead, read_files};
@@ -32,13 +32,13 @@ fn read_cut(
     cut: &[usize],
 ) -> Result<Option<CopyRead>, AllocError>
     requires path { IsPath (parts_of parts.now) cut.now }
-    requires few { length (front_of (parts_of parts.now) cut.now) ≤ 2 ^ 63 - 1 }
-    ensures bytes { IfOk result (λ _. AreBytes (front_of (parts_of parts.now) cut.now)) }
-    ensures some { IfOk result (λ found. IfSome found (λ read. CopyReads (front_of (parts_of parts.now) cut.now) read)) }
-    ensures none { IfOk result (λ found. IfNone found (HasNoFrame (front_of (parts_of parts.now) cut.now))) }
+    requires few { length (prefix_of (parts_of parts.now) cut.now) ≤ 2 ^ 63 - 1 }
+    ensures bytes { IfOk result (λ _. AreBytes (prefix_of (parts_of parts.now) cut.now)) }
+    ensures some { IfOk result (λ found. IfSome found (λ read. CopyReads (prefix_of (parts_of parts.now) cut.now) read)) }
+    ensures none { IfOk result (λ found. IfNone found (HasNoFrame (prefix_of (parts_of parts.now) cut.now))) }
 {
     let mut reader = CopyReader::new(alloc);
-    feed_front(&mut reader, parts, cut)?;
+    feed_prefix(&mut reader, parts, cut)?;
     match reader.finish() {
         Ok(read) => Ok(Some(read)),
         Err(CopyFault::NoPicture(_, _)) => Ok(None),
@@ -59,10 +59,10 @@ fn take_cut(
     requires short { IsShort (parts_of files.now.parts.now) }
     requires taken { HasTaken source (files_taken files.now) before }
     requires cut { IsPath (parts_of files.now.parts.now) cut.now }
-    ensures some { IfOk result (λ found. IfSome found (λ station. HasShape station.shape (front_of (parts_of files.now.parts.now) cut.now)
-        × TakesFiles source (files_taken files.now ++ front_of (parts_of files.now.parts.now) cut.now ∷ [])
+    ensures some { IfOk result (λ found. IfSome found (λ station. HasShape station.shape (prefix_of (parts_of files.now.parts.now) cut.now)
+        × TakesFiles source (files_taken files.now ++ prefix_of (parts_of files.now.parts.now) cut.now ∷ [])
         (nothing_known station.shape) station)) }
-    ensures none { IfOk result (λ found. IfNone found (HasNoFrame (front_of (parts_of files.now.parts.now) cut.now))) }
+    ensures none { IfOk result (λ found. IfNone found (HasNoFrame (prefix_of (parts_of files.now.parts.now) cut.now))) }
 {
     let Some(read) = read_cut(alloc, files.parts, cut)? else {
         return Ok(None);
@@ -89,9 +89,9 @@ pub fn settle_with_cut(
     requires short { IsShort (parts_of files.now.parts.now) }
     requires cut { IsPath (parts_of files.now.parts.now) cut.now }
     ensures taken { IfOk result (λ found. IfSome found (λ station. TakesCut source (bytes_of files.now.copies.now)
-        (splices_found files.now) (front_of (parts_of files.now.parts.now) cut.now) station)) }
+        (splices_found files.now) (prefix_of (parts_of files.now.parts.now) cut.now) station)) }
     ensures nothing { IfOk result (λ found. IfNone found (TakesNoCut (bytes_of files.now.copies.now)
-        (splices_found files.now) (front_of (parts_of files.now.parts.now) cut.now))) }
+        (splices_found files.now) (prefix_of (parts_of files.now.parts.now) cut.now))) }
 {
     let FilesRead { seen, station } = read_files(alloc, source, files)?;
     match first_faultless(&seen) {

@@ -1,4 +1,4 @@
-//! Files without a fault, and fronts that no such file begins with.
+//! Files without a fault, and prefixes that no such file begins with.
 
 ghost use Rattle.std.specs.Prelude.{◌≡◌, ℕ, List, ◌<◌, ◌↔◌, true, false, IsTrue, IfOk, IfSome};
 ghost use Rattle.std.specs.List.{AllByRecursion};
@@ -8,7 +8,7 @@ ghost use Rattle.jls_search.specs.Faultless.{EndsWell, IsFaultless, IsSought, Is
 use crate::ceiling::is_read_within;
 use crate::lines::is_each_line_read;
 use jls_copy::{
-    CopyFault, CopyRead, CopyReader, End, final_ends_stay, fronts_stay_broken,
+    CopyFault, CopyRead, CopyReader, End, final_ends_stay, prefixes_stay_broken,
     records_are_of_faulty_pieces,
 };
 use std::alloc::AllocError;
@@ -106,9 +106,9 @@ fn has_fault(reader: CopyReader) -> Result<bool, AllocError>
 /// Whether it is known that no file without a fault begins with the bytes fed. A piece that a marker closed is faulty, or the piece in hand
 /// is broken, or the copy has ended and has a fault. `false` says nothing. The only refusal is out of memory.
 pub fn is_dead(reader: CopyReader) -> Result<bool, AllocError>
-    ensures { IfOk result (λ dead. dead ≡ true → IfSome reader (λ front. IsDead IsFaultless front)) }
+    ensures { IfOk result (λ dead. dead ≡ true → IfSome reader (λ prefix. IsDead IsFaultless prefix)) }
 {
-    fronts_stay_broken();
+    prefixes_stay_broken();
     final_ends_stay();
     let faulty = reader.has_faulty_piece();
     if faulty {

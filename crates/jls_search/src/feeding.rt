@@ -1,11 +1,11 @@
-//! Splices and their fronts, fed to a reader of copies.
+//! Splices and their prefixes, fed to a reader of copies.
 
 ghost use Rattle.std.specs.Prelude.{◌≡◌, ℕ, ◌+◌, ◌-◌, ◌^◌, ◌<◌, ◌≤◌, [], length, get_or, Some, IfOk, OnOk, IfSome};
 ghost use Rattle.std.specs.List.{AllByRecursion};
 ghost use Rattle.jls_copy.specs.ReadCopy.{after};
 ghost use Rattle.jls_diff.specs.PartsOf.{part_of, parts_of};
 ghost use Rattle.jls_diff.specs.Parts.{Same, way};
-ghost use Rattle.jls_search.specs.Choices.{IsFirstWay, IsPath, front_of};
+ghost use Rattle.jls_search.specs.Choices.{IsFirstWay, IsPath, prefix_of};
 
 use jls_copy::CopyReader;
 use jls_diff::Part;
@@ -42,16 +42,16 @@ fn feed_way(reader: &mut CopyReader, way: &[u8]) -> Result<(), AllocError>
 
 /// Feeds what the choices make of the first parts, part by part, as slices of the copies. If there is a choice for each part, that is a
 /// whole splice. No memory is taken for it. Where the reader refuses memory, it refuses all further bytes.
-pub fn feed_front(
+pub fn feed_prefix(
     reader: &mut CopyReader,
     parts: &[Part<'_>],
     choices: &[usize],
 ) -> Result<(), AllocError>
     requires path { IsPath (parts_of parts.now) choices.now }
     requires few { IfSome reader.old
-        (λ bytes. length bytes + length (front_of (parts_of parts.now) choices.now) ≤ 2 ^ 63 - 1) }
-    ensures fed { OnOk result (reader.new ≡ after reader.old (front_of (parts_of parts.now) choices.now)) }
-    ensures bytes { OnOk result (AllByRecursion (λ b. b < 256) (front_of (parts_of parts.now) choices.now)) }
+        (λ bytes. length bytes + length (prefix_of (parts_of parts.now) choices.now) ≤ 2 ^ 63 - 1) }
+    ensures fed { OnOk result (reader.new ≡ after reader.old (prefix_of (parts_of parts.now) choices.now)) }
+    ensures bytes { OnOk result (AllByRecursion (λ b. b < 256) (prefix_of (parts_of parts.now) choices.now)) }
 {
     for place in 0..choices.len() {
         feed_way(reader, way_at(parts, place, choices[place]))?;
@@ -66,10 +66,10 @@ pub fn reader_of(
     path: &[usize],
 ) -> Result<CopyReader, AllocError>
     requires path { IsPath (parts_of parts.now) path.now }
-    requires few { length (front_of (parts_of parts.now) path.now) ≤ 2 ^ 63 - 1 }
-    ensures { IfOk result (λ reader. reader ≡ Some (front_of (parts_of parts.now) path.now)) }
+    requires few { length (prefix_of (parts_of parts.now) path.now) ≤ 2 ^ 63 - 1 }
+    ensures { IfOk result (λ reader. reader ≡ Some (prefix_of (parts_of parts.now) path.now)) }
 {
     let mut reader = CopyReader::new(alloc);
-    feed_front(&mut reader, parts, path)?;
+    feed_prefix(&mut reader, parts, path)?;
     Ok(reader)
 }

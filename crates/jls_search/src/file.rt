@@ -3,12 +3,12 @@
 ghost use Rattle.std.specs.Prelude.{◌≡◌, ◌-◌, ◌^◌, ◌≤◌, ◌∷◌, [], ℕ, List, length, OnOk, IfSome};
 ghost use Rattle.jls_copy.specs.CopyReads.{CopyReads};
 ghost use Rattle.jls_diff.specs.PartsOf.{parts_of};
-ghost use Rattle.jls_search.specs.Choices.{IsPath, front_of};
+ghost use Rattle.jls_search.specs.Choices.{IsPath, prefix_of};
 ghost use Rattle.jls_station.specs.Given.{marked};
 ghost use Rattle.jls_station.specs.Reading.{AreBytes};
 ghost use Rattle.jls_search.specs.Stations.{TakesFiles};
 
-use crate::feeding::feed_front;
+use crate::feeding::feed_prefix;
 use jls_copy::{CopyFault, CopyRead, CopyReader};
 use jls_diff::Part;
 use jls_partial::Partial;
@@ -82,10 +82,10 @@ pub(crate) fn take_splice(
     choices: &[usize],
 ) -> Result<(), AllocError>
     requires path { IsPath (parts_of parts.now) choices.now }
-    requires few { length (front_of (parts_of parts.now) choices.now) ≤ 2 ^ 63 - 1 }
-    ensures { OnOk result (TakesFiles source (front_of (parts_of parts.now) choices.now ∷ []) station.old station.new) }
+    requires few { length (prefix_of (parts_of parts.now) choices.now) ≤ 2 ^ 63 - 1 }
+    ensures { OnOk result (TakesFiles source (prefix_of (parts_of parts.now) choices.now ∷ []) station.old station.new) }
 {
     let mut reader = CopyReader::new(alloc);
-    feed_front(&mut reader, parts, choices)?;
+    feed_prefix(&mut reader, parts, choices)?;
     take_fed(station, source, reader)
 }

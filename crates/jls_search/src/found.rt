@@ -16,9 +16,9 @@ use crate::whole_search::Searched;
 use jls_diff::Part;
 use std::alloc::{AllocError, Global};
 
-/// What is told of a search by groups.
+/// What is reported of a search by groups.
 #[derive(Clone, Copy, Debug, PartialEq, Eq)]
-pub struct GroupsTold {
+pub struct GroupsReported {
     /// How many groups there are.
     pub groups: usize,
     /// How many prefixes and files were tried in all of them, or the greatest number of 32 bits.
@@ -32,18 +32,18 @@ pub struct GroupsTold {
 pub struct FoundSplices<'a> {
     /// The parts that were found.
     pub parts: Vec<Part<'a>>,
-    /// The splices, each as its choices, one for each part: those of the search of all, and behind them those that groups gave.
+    /// The splices, each as its choices, one for each part: those of the search of all, and after them those that groups gave.
     pub splices: Vec<Vec<usize>>,
     /// How many of them the search of all came to.
     pub whole: usize,
     /// The greatest sample that the files may have that the search of all sought, if there was a limit.
     pub ceiling: Option<u16>,
-    /// How many fronts and files the search of all tried.
+    /// How many prefixes and files the search of all tried.
     pub tries: u32,
     /// Whether the search of all was cut off.
     pub is_used_up: bool,
-    /// What is told of the search by groups, if there was one.
-    pub by_groups: Option<GroupsTold>,
+    /// What is reported of the search by groups, if there was one.
+    pub by_groups: Option<GroupsReported>,
 }
 
 /// Whether groups are searched, where the search of all splices was cut off or was not, and came to so many.
@@ -54,13 +54,13 @@ fn wants_groups(is_used_up: bool, whole: usize) -> bool
     is_used_up || whole == 0
 }
 
-/// What is told of a search by groups.
-fn told_of(by: &SearchedGroups) -> GroupsTold
+/// What is reported of a search by groups.
+fn reported_of(by: &SearchedGroups) -> GroupsReported
     ensures groups { result.groups ≡ length by.now.groups.items }
     ensures tries { result.tries ≡ by.now.searched.tries }
     ensures is_used_up { result.is_used_up ≡ by.now.searched.is_used_up }
 {
-    GroupsTold {
+    GroupsReported {
         groups: by.groups.len(),
         tries: by.searched.tries,
         is_used_up: by.searched.is_used_up,
@@ -126,7 +126,7 @@ pub fn complete_by_groups<'a>(
         });
     }
     let by = search_groups(alloc, copies, &parts, limit)?;
-    let told = told_of(&by);
+    let reported = reported_of(&by);
     let mut given = splices_given(by);
     splices.append(&mut given)?;
     Ok(FoundSplices {
@@ -136,6 +136,6 @@ pub fn complete_by_groups<'a>(
         ceiling,
         tries,
         is_used_up,
-        by_groups: Some(told),
+        by_groups: Some(reported),
     })
 }

@@ -38,8 +38,8 @@ struct Extent {
     limit: u32,
 }
 
-/// How many splices there are at most when one copy more was gone through behind so many.
-fn most_behind(found: usize) -> usize
+/// How many splices there are at most when one copy more was gone through after so many.
+fn most_after(found: usize) -> usize
     requires { found ≤ 4096 }
     ensures { result ≡ min (found + 64) 4096 }
 {
@@ -66,7 +66,7 @@ fn search_setting(
         mut tries,
         is_used_up,
     } = searched;
-    let most = most_behind(splices.len());
+    let most = most_after(splices.len());
     let mut path = Vec::new(alloc);
     follow(parts, setting, &mut path)?;
     while tries < limit && splices.len() < most {
@@ -142,13 +142,13 @@ fn search_in_turn(
 /// Searches the splices of some copies by groups (`find_groups`). For each group and each copy it tries those that have the copy's ways
 /// outside of the group. It takes those that read in the group, each once. Groups in which no copy reads come first.
 ///
-/// In a group the search goes depth first, part by part: ways in the order of the copies, those with equal bytes once. A front is given
-/// up where the piece in hand begins in the group, or the group begins in it, and it is broken. Each front and each file that is tried
+/// In a group the search goes depth first, part by part: ways in the order of the copies, those with equal bytes once. A prefix is given
+/// up where the piece in hand begins in the group, or the group begins in it, and it is broken. Each prefix and each file that is tried
 /// counts. The reading of the copies, which orders the groups, does not. Each group may be tried `limit` times, with all copies together.
 /// A group with one copy gives 64 files at most, and all groups 4,096.
 ///
 /// Where the search of a group with a copy wasn't cut off, each splice that reads so was found, or was passed by. It is passed by where
-/// some front of it is given up, or it has more than 4,096 faulty pieces.
+/// some prefix of it is given up, or it has more than 4,096 faulty pieces.
 ///
 /// `is_used_up` says that somewhere the search ended with the tries of a group or with such a number of files, while there was more to
 /// try. `tries` is what was tried in all groups, or the greatest number of its type. `Err` comes where memory is refused.

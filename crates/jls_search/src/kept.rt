@@ -2,10 +2,10 @@
 
 ghost use Rattle.std.specs.Prelude.{◌≡◌, ◌-◌, ◌^◌, ◌≤◌, length, take, Some, IfOk, IfSome, OnOk};
 ghost use Rattle.jls_diff.specs.PartsOf.{parts_of};
-ghost use Rattle.jls_search.specs.Choices.{IsPath, front_of};
+ghost use Rattle.jls_search.specs.Choices.{IsPath, prefix_of};
 ghost use Rattle.jls_search.specs.Search.{IsKept, Keeps};
 
-use crate::feeding::{feed_front, reader_of};
+use crate::feeding::{feed_prefix, reader_of};
 use jls_copy::CopyReader;
 use jls_diff::Part;
 use std::alloc::{AllocError, Global};
@@ -38,12 +38,12 @@ fn fed_on(
     requires within { from ≤ length parts.now }
     requires begun { from ≤ length path.now }
     requires path { IsPath (parts_of parts.now) path.now }
-    requires few { length (front_of (parts_of parts.now) path.now) ≤ 2 ^ 63 - 1 }
-    requires fed { last.now ≡ Some (front_of (parts_of parts.now) (take from path.now)) }
-    ensures { IfOk result (λ reader. reader ≡ Some (front_of (parts_of parts.now) path.now)) }
+    requires few { length (prefix_of (parts_of parts.now) path.now) ≤ 2 ^ 63 - 1 }
+    requires fed { last.now ≡ Some (prefix_of (parts_of parts.now) (take from path.now)) }
+    ensures { IfOk result (λ reader. reader ≡ Some (prefix_of (parts_of parts.now) path.now)) }
 {
     let mut reader = last.try_clone()?;
-    feed_front(&mut reader, &parts[from..], &path[from..])?;
+    feed_prefix(&mut reader, &parts[from..], &path[from..])?;
     Ok(reader)
 }
 
@@ -56,8 +56,8 @@ pub(crate) fn reader_on(
 ) -> Result<CopyReader, AllocError>
     requires kept { IfSome kept.now (IsKept (parts_of parts.now)) }
     requires path { IsPath (parts_of parts.now) path.now }
-    requires few { length (front_of (parts_of parts.now) path.now) ≤ 2 ^ 63 - 1 }
-    ensures { IfOk result (λ reader. reader ≡ Some (front_of (parts_of parts.now) path.now)) }
+    requires few { length (prefix_of (parts_of parts.now) path.now) ≤ 2 ^ 63 - 1 }
+    ensures { IfOk result (λ reader. reader ≡ Some (prefix_of (parts_of parts.now) path.now)) }
 {
     if let Some(last) = kept {
         if path.starts_with(&last.choices) {

@@ -4,7 +4,7 @@ ghost use Rattle.std.specs.Prelude.{◌≡◌, ℕ, List, Option, ◌+◌, ◌-�
 ghost use Rattle.std.specs.Prelude.{IsSome, IfOk, IfSome, IfNone, OnOk};
 ghost use Rattle.std.specs.List.{AllByRecursion, Contains};
 ghost use Rattle.jls_diff.specs.PartsOf.{parts_of};
-ghost use Rattle.jls_search.specs.Choices.{HasSomeWay, IsPath, front_of};
+ghost use Rattle.jls_search.specs.Choices.{HasSomeWay, IsPath, prefix_of};
 ghost use Rattle.jls_search.specs.Faultless.{IsDead, IsSought};
 ghost use Rattle.jls_search.specs.Search.{IsKept, IsShort, lists_of};
 ghost use Rattle.jls_search.specs.Levels.{AreJudged, IsFirstDead, IsLevel, IsLone, IsNext, IsTaken};
@@ -46,9 +46,9 @@ fn is_found_dead(
 ) -> Result<bool, AllocError>
     requires kept { IfSome judge.now.kept (IsKept (parts_of parts.now)) }
     requires path { IsPath (parts_of parts.now) path.now }
-    requires few { length (front_of (parts_of parts.now) path.now) ≤ 2 ^ 63 - 1 }
+    requires few { length (prefix_of (parts_of parts.now) path.now) ≤ 2 ^ 63 - 1 }
     ensures { IfOk result
-        (λ dead. dead ≡ true → IsDead (IsSought judge.now.ceiling) (front_of (parts_of parts.now) path.now)) }
+        (λ dead. dead ≡ true → IsDead (IsSought judge.now.ceiling) (prefix_of (parts_of parts.now) path.now)) }
 {
     let reader = reader_on(alloc, parts, &judge.kept, path)?;
     let above = is_above(judge.ceiling, &reader)?;
@@ -158,7 +158,7 @@ fn first_level(
     Ok(level_of(living))
 }
 
-/// The level behind this one; `None` where this one is at the end, or no path of that one lives. `None` also comes where that one was not
+/// The level after this one; `None` where this one is at the end, or no path of that one lives. `None` also comes where that one was not
 /// gone through completely: its tries were used up, or too many paths of it live.
 fn next_level(
     alloc: Global,
@@ -171,10 +171,10 @@ fn next_level(
     requires short { IsShort (parts_of parts.now) }
     requires kept { IfSome judge.now.kept (IsKept (parts_of parts.now)) }
     requires level { IsLevel (IsSought judge.now.ceiling) (parts_of parts.now) level.now.count (lists_of level.now.living.items) }
-    ensures level { IfOk result (λ behind. IfSome behind (λ next.
+    ensures level { IfOk result (λ after. IfSome after (λ next.
         IsLevel (IsSought judge.now.ceiling) (parts_of parts.now) next.count (lists_of next.living.items))) }
     ensures left { OnOk result (left.new ≤ left.old) }
-    ensures spent { IfOk result (λ behind. IfSome behind (λ next. length (lists_of next.living.items) + left.new ≤ left.old)) }
+    ensures spent { IfOk result (λ after. IfSome after (λ next. length (lists_of next.living.items) + left.new ≤ left.old)) }
 {
     if level.count >= parts.len() {
         return Ok(None);

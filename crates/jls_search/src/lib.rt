@@ -28,7 +28,7 @@
 //! - `shape_rule`: the shape that is taken, or the copy that is named
 //! - `file`, `taking`: a station takes one file; all files
 //! - `settling`: the station of the shape that is taken, or why there is none
-//! - `cut`: where all those files have a fault, a station of the cut file's shape takes it behind them
+//! - `cut`: where all those files have a fault, a station of the cut file's shape takes it after them
 //!
 //! Each file is decoded once. If the shape that is taken is not the first frame's, as after a damaged header, each is decoded once more.
 //!
@@ -76,9 +76,9 @@ mod whole_search;
 pub use copies::{SearchedCopies, search_copies};
 pub use cut::settle_with_cut;
 pub use faultless::{is_dead, is_faultless, is_read_faultless, is_sought};
-pub use feeding::{feed_front, reader_of, way_at};
+pub use feeding::{feed_prefix, reader_of, way_at};
 pub use files::Files;
-pub use found::{FoundSplices, GroupsTold, complete_by_groups};
+pub use found::{FoundSplices, GroupsReported, complete_by_groups};
 pub use group_search::{MOST_BY_GROUPS, SearchedGroups, search_groups};
 pub use kept::{Judge, KeptReader};
 pub use laws::{parts_can_be_searched, searches_come_to_each_splice};

@@ -2,7 +2,7 @@
 
 ghost use Rattle.std.specs.Prelude.{◌≡◌, ◌-◌, ◌^◌, ◌<◌, ◌≤◌, length, IfOk, IfSome};
 ghost use Rattle.jls_diff.specs.PartsOf.{parts_of};
-ghost use Rattle.jls_search.specs.Choices.{IsPath, front_of};
+ghost use Rattle.jls_search.specs.Choices.{IsPath, prefix_of};
 ghost use Rattle.jls_search.specs.Faultless.{IsSought};
 ghost use Rattle.jls_search.specs.Search.{IsKept, IsSeen};
 
@@ -33,7 +33,7 @@ fn look_at_file(
 ) -> Result<Sight, AllocError>
     requires kept { IfSome judge.now.kept (IsKept (parts_of parts.now)) }
     requires path { IsPath (parts_of parts.now) path.now }
-    requires few { length (front_of (parts_of parts.now) path.now) ≤ 2 ^ 63 - 1 }
+    requires few { length (prefix_of (parts_of parts.now) path.now) ≤ 2 ^ 63 - 1 }
     requires whole { length path.now ≡ length (parts_of parts.now) }
     ensures { IfOk result (λ sight. IsSeen (IsSought judge.now.ceiling) (parts_of parts.now) path.now sight) }
 {
@@ -46,7 +46,7 @@ fn look_at_file(
 }
 
 /// What is seen of a shorter one.
-fn look_at_front(
+fn look_at_prefix(
     alloc: Global,
     parts: &[Part<'_>],
     judge: &Judge,
@@ -54,7 +54,7 @@ fn look_at_front(
 ) -> Result<Sight, AllocError>
     requires kept { IfSome judge.now.kept (IsKept (parts_of parts.now)) }
     requires path { IsPath (parts_of parts.now) path.now }
-    requires few { length (front_of (parts_of parts.now) path.now) ≤ 2 ^ 63 - 1 }
+    requires few { length (prefix_of (parts_of parts.now) path.now) ≤ 2 ^ 63 - 1 }
     requires more { length path.now < length (parts_of parts.now) }
     ensures { IfOk result (λ sight. IsSeen (IsSought judge.now.ceiling) (parts_of parts.now) path.now sight) }
 {
@@ -83,11 +83,11 @@ pub(crate) fn look(
 ) -> Result<Sight, AllocError>
     requires kept { IfSome judge.now.kept (IsKept (parts_of parts.now)) }
     requires path { IsPath (parts_of parts.now) path.now }
-    requires few { length (front_of (parts_of parts.now) path.now) ≤ 2 ^ 63 - 1 }
+    requires few { length (prefix_of (parts_of parts.now) path.now) ≤ 2 ^ 63 - 1 }
     ensures { IfOk result (λ sight. IsSeen (IsSought judge.now.ceiling) (parts_of parts.now) path.now sight) }
 {
     if path.len() < parts.len() {
-        look_at_front(alloc, parts, judge, path)
+        look_at_prefix(alloc, parts, judge, path)
     } else {
         look_at_file(alloc, parts, judge, path)
     }

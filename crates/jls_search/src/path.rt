@@ -5,8 +5,8 @@ ghost use Rattle.std.specs.Prelude.{OnOk};
 ghost use Rattle.std.specs.List.{AllByRecursion};
 ghost use Rattle.jls_diff.specs.PartsOf.{part_of, parts_of};
 ghost use Rattle.jls_diff.specs.Parts.{Same};
-ghost use Rattle.jls_search.specs.Choices.{IsDiffer, IsFirstWay, IsFront, IsNew, IsPath, IsWhole, HasSomeWay};
-ghost use Rattle.jls_search.specs.Order.{Goes, IsToCome, IsBehind};
+ghost use Rattle.jls_search.specs.Choices.{IsDiffer, IsFirstWay, IsPrefix, IsNew, IsPath, IsWhole, HasSomeWay};
+ghost use Rattle.jls_search.specs.Order.{Goes, IsToCome, IsLater};
 ghost use Rattle.jls_search.specs.Levels.{AreSame};
 
 use jls_diff::Part;
@@ -25,14 +25,14 @@ fn is_new(ways: &[&[u8]], choice: usize) -> bool
     true
 }
 
-/// The next of these ways behind one, before which none has the same bytes.
-fn next_new(ways: &[&[u8]], behind: usize) -> Option<usize>
-    requires { behind < length ways.now }
-    ensures some { IfSome result (λ choice. (behind < choice) × (choice < length ways.now) × IsNew (map (λ way. way.now) ways.now) choice
-        × ((other : ℕ) → behind < other → other < choice → ¬ IsNew (map (λ way. way.now) ways.now) other)) }
-    ensures none { IfNone result ((other : ℕ) → behind < other → other < length ways.now → ¬ IsNew (map (λ way. way.now) ways.now) other) }
+/// The next of these ways after one, before which none has the same bytes.
+fn next_new(ways: &[&[u8]], after: usize) -> Option<usize>
+    requires { after < length ways.now }
+    ensures some { IfSome result (λ choice. (after < choice) × (choice < length ways.now) × IsNew (map (λ way. way.now) ways.now) choice
+        × ((other : ℕ) → after < other → other < choice → ¬ IsNew (map (λ way. way.now) ways.now) other)) }
+    ensures none { IfNone result ((other : ℕ) → after < other → other < length ways.now → ¬ IsNew (map (λ way. way.now) ways.now) other) }
 {
-    let mut choice = behind + 1;
+    let mut choice = after + 1;
     while choice < ways.len() {
         if is_new(ways, choice) {
             return Some(choice);
@@ -42,30 +42,30 @@ fn next_new(ways: &[&[u8]], behind: usize) -> Option<usize>
     None
 }
 
-/// The next way of a part behind one, before which none has the same bytes.
-fn next_way(part: &Part<'_>, behind: usize) -> Option<usize>
-    requires { IsFirstWay (part_of part.now) behind }
+/// The next way of a part after one, before which none has the same bytes.
+fn next_way(part: &Part<'_>, after: usize) -> Option<usize>
+    requires { IsFirstWay (part_of part.now) after }
     ensures some { IfSome result (λ choice. IsFirstWay (part_of part.now) choice
-        × ((other : ℕ) → behind < other → other < choice → ¬ IsFirstWay (part_of part.now) other)) }
-    ensures rises { IfSome result (λ choice. behind < choice) }
-    ensures none { IfNone result ((other : ℕ) → behind < other → ¬ IsFirstWay (part_of part.now) other) }
+        × ((other : ℕ) → after < other → other < choice → ¬ IsFirstWay (part_of part.now) other)) }
+    ensures rises { IfSome result (λ choice. after < choice) }
+    ensures none { IfNone result ((other : ℕ) → after < other → ¬ IsFirstWay (part_of part.now) other) }
 {
     match part {
         Part::Same(_) => None,
-        Part::Differ(ways) => next_new(ways, behind),
+        Part::Differ(ways) => next_new(ways, after),
     }
 }
 
-/// The next way of the part at this place behind one, before which none has the same bytes.
-pub fn next_way_at(parts: &[Part<'_>], place: usize, behind: usize) -> Option<usize>
+/// The next way of the part at this place after one, before which none has the same bytes.
+pub fn next_way_at(parts: &[Part<'_>], place: usize, after: usize) -> Option<usize>
     requires place { place < length parts.now }
-    requires first { IsFirstWay (get_or (parts_of parts.now) place (Same [])) behind }
+    requires first { IsFirstWay (get_or (parts_of parts.now) place (Same [])) after }
     ensures some { IfSome result (λ choice. IsFirstWay (get_or (parts_of parts.now) place (Same [])) choice
-        × ((other : ℕ) → behind < other → other < choice → ¬ IsFirstWay (get_or (parts_of parts.now) place (Same [])) other)) }
-    ensures rises { IfSome result (λ choice. behind < choice) }
-    ensures none { IfNone result ((other : ℕ) → behind < other → ¬ IsFirstWay (get_or (parts_of parts.now) place (Same [])) other) }
+        × ((other : ℕ) → after < other → other < choice → ¬ IsFirstWay (get_or (parts_of parts.now) place (Same [])) other)) }
+    ensures rises { IfSome result (λ choice. after < choice) }
+    ensures none { IfNone result ((other : ℕ) → after < other → ¬ IsFirstWay (get_or (parts_of parts.now) place (Same [])) other) }
 {
-    next_way(&parts[place], behind)
+    next_way(&parts[place], after)
 }
 
 /// Whether all copies have the part alike.
@@ -94,7 +94,7 @@ pub(crate) fn is_same_at(parts: &[Part<'_>], place: usize) -> bool
 pub(crate) fn follow_same(parts: &[Part<'_>], path: &mut Vec<usize>) -> Result<(), AllocError>
     requires { IsPath (parts_of parts.now) path.old.items }
     ensures path { OnOk result (IsPath (parts_of parts.now) path.new.items) }
-    ensures front { OnOk result (IsFront (parts_of parts.now) path.new.items) }
+    ensures prefix { OnOk result (IsPrefix (parts_of parts.now) path.new.items) }
     ensures grew { OnOk result ((more : List ℕ) × (path.new.items ≡ path.old.items ++ more)) }
     ensures same { OnOk result (AreSame (parts_of parts.now) (length path.old.items) (length path.new.items)) }
     ensures kept { OnOk result
@@ -112,7 +112,7 @@ pub(crate) fn descend(parts: &[Part<'_>], path: &mut Vec<usize>) -> Result<(), A
     requires more { length path.old.items < length parts.now }
     requires some_way { AllByRecursion HasSomeWay (parts_of parts.now) }
     ensures path { OnOk result (IsPath (parts_of parts.now) path.new.items) }
-    ensures front { OnOk result (IsFront (parts_of parts.now) path.new.items) }
+    ensures prefix { OnOk result (IsPrefix (parts_of parts.now) path.new.items) }
     ensures grew { OnOk result (Goes path.old.items path.new.items) }
     ensures kept { OnOk result
         ((choices : List ℕ) → IsWhole (parts_of parts.now) choices → IsToCome path.old.items choices → IsToCome path.new.items choices) }
@@ -125,11 +125,11 @@ pub(crate) fn descend(parts: &[Part<'_>], path: &mut Vec<usize>) -> Result<(), A
 fn pass(parts: &[Part<'_>], path: &mut Vec<usize>) -> Result<bool, AllocError>
     requires { IsPath (parts_of parts.now) path.old.items }
     ensures path { IfOk result (λ more. more ≡ true → IsPath (parts_of parts.now) path.new.items) }
-    ensures behind { IfOk result (λ more. more ≡ true → IsBehind path.old.items path.new.items) }
+    ensures after { IfOk result (λ more. more ≡ true → IsLater path.old.items path.new.items) }
     ensures to_come { IfOk result (λ more. more ≡ true →
-        (choices : List ℕ) → IsWhole (parts_of parts.now) choices → IsBehind path.old.items choices → IsToCome path.new.items choices) }
+        (choices : List ℕ) → IsWhole (parts_of parts.now) choices → IsLater path.old.items choices → IsToCome path.new.items choices) }
     ensures none { IfOk result (λ more. more ≡ false →
-        (choices : List ℕ) → IsWhole (parts_of parts.now) choices → ¬ IsBehind path.old.items choices) }
+        (choices : List ℕ) → IsWhole (parts_of parts.now) choices → ¬ IsLater path.old.items choices) }
 {
     while let Some(choice) = path.pop() {
         if let Some(next) = next_way_at(parts, path.len(), choice) {
@@ -140,16 +140,16 @@ fn pass(parts: &[Part<'_>], path: &mut Vec<usize>) -> Result<bool, AllocError>
     Ok(false)
 }
 
-/// Gives up all choices that begin with the path, and goes to the next front; `false` where there is none.
+/// Gives up all choices that begin with the path, and goes to the next prefix; `false` where there is none.
 pub(crate) fn turn(parts: &[Part<'_>], path: &mut Vec<usize>) -> Result<bool, AllocError>
     requires { IsPath (parts_of parts.now) path.old.items }
     ensures path { IfOk result (λ more. more ≡ true → IsPath (parts_of parts.now) path.new.items) }
-    ensures front { IfOk result (λ more. more ≡ true → IsFront (parts_of parts.now) path.new.items) }
-    ensures behind { IfOk result (λ more. more ≡ true → IsBehind path.old.items path.new.items) }
+    ensures prefix { IfOk result (λ more. more ≡ true → IsPrefix (parts_of parts.now) path.new.items) }
+    ensures after { IfOk result (λ more. more ≡ true → IsLater path.old.items path.new.items) }
     ensures to_come { IfOk result (λ more. more ≡ true →
-        (choices : List ℕ) → IsWhole (parts_of parts.now) choices → IsBehind path.old.items choices → IsToCome path.new.items choices) }
+        (choices : List ℕ) → IsWhole (parts_of parts.now) choices → IsLater path.old.items choices → IsToCome path.new.items choices) }
     ensures none { IfOk result (λ more. more ≡ false →
-        (choices : List ℕ) → IsWhole (parts_of parts.now) choices → ¬ IsBehind path.old.items choices) }
+        (choices : List ℕ) → IsWhole (parts_of parts.now) choices → ¬ IsLater path.old.items choices) }
 {
     if pass(parts, path)? {
         follow_same(parts, path)?;

@@ -10,7 +10,7 @@ ghost use Rattle.jls_search.specs.ReadsBetween.{IsBetween, Reaches, ReadsBetween
 use jls_copy::{CopyFault, CopyRead, CopyReader, End, PieceRecord, records_are_of_faulty_pieces};
 use std::alloc::AllocError;
 
-/// Whether an offset is the first of these or behind it, and before the second, if there is one.
+/// Whether an offset is the first of these or after it, and before the second, if there is one.
 fn is_between(from: u64, to: Option<u64>, offset: u64) -> bool
     ensures { IsTrue result ↔ IsBetween from to offset }
 {
@@ -22,11 +22,11 @@ fn is_between(from: u64, to: Option<u64>, offset: u64) -> bool
 
 /// Whether one of the records is of a piece that begins there.
 fn has_record_between(records: &[PieceRecord], from: u64, to: Option<u64>) -> bool
-    ensures none { result ≡ false → AllByRecursion (λ told. IsBetween from to told.offset → ⊥) records.now }
-    ensures some { result ≡ true → (told : Record) × Contains records.now told × IsBetween from to told.offset }
+    ensures none { result ≡ false → AllByRecursion (λ reported. IsBetween from to reported.offset → ⊥) records.now }
+    ensures some { result ≡ true → (reported : Record) × Contains records.now reported × IsBetween from to reported.offset }
 {
-    for told in records {
-        if is_between(from, to, told.offset) {
+    for reported in records {
+        if is_between(from, to, reported.offset) {
             return true;
         }
     }
@@ -47,7 +47,7 @@ fn reaches(from: u64, to: Option<u64>, end: End) -> bool
     }
 }
 
-/// Whether what was read is a file that reads between two offsets: no piece that begins at the first or behind it, and before the second,
+/// Whether what was read is a file that reads between two offsets: no piece that begins at the first or after it, and before the second,
 /// is faulty. Without a second one it goes to the file's end. `false` comes too where the file has more than 4,096 faulty pieces.
 pub fn reads_between(read: &CopyRead, from: u64, to: Option<u64>) -> bool
     ensures reads { result ≡ true → (file : List ℕ) → CopyReads file read.now → ReadsBetween from to file }

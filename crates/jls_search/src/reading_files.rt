@@ -3,13 +3,13 @@
 ghost use Rattle.std.specs.Prelude.{◌-◌, ◌^◌, ◌≤◌, ◌∷◌, [], ℕ, List, Some, length, Option, IfOk, IfSome};
 ghost use Rattle.std.specs.List.{AllByRecursion};
 ghost use Rattle.jls_diff.specs.PartsOf.{bytes_of, parts_of};
-ghost use Rattle.jls_search.specs.Choices.{IsPath, IsWhole, front_of};
+ghost use Rattle.jls_search.specs.Choices.{IsPath, IsWhole, prefix_of};
 ghost use Rattle.jls_search.specs.Search.{IsShort, files_of, lists_of};
 ghost use Rattle.jls_station.specs.Reading.{AreBytes};
 ghost use Rattle.jls_search.specs.Files.{files_taken};
 ghost use Rattle.jls_search.specs.Reading.{AreRead, HasTaken, ReadsMore};
 
-use crate::feeding::feed_front;
+use crate::feeding::feed_prefix;
 use crate::file::take_read;
 use crate::files::Files;
 use crate::seen::{Seen, see};
@@ -88,11 +88,11 @@ fn read_splice(
     choices: &[usize],
 ) -> Result<FilesRead, AllocError>
     requires path { IsPath (parts_of parts.now) choices.now }
-    requires few { length (front_of (parts_of parts.now) choices.now) ≤ 2 ^ 63 - 1 }
-    ensures { IfOk result (λ read. ReadsMore source (front_of (parts_of parts.now) choices.now ∷ []) before read) }
+    requires few { length (prefix_of (parts_of parts.now) choices.now) ≤ 2 ^ 63 - 1 }
+    ensures { IfOk result (λ read. ReadsMore source (prefix_of (parts_of parts.now) choices.now ∷ []) before read) }
 {
     let mut reader = CopyReader::new(alloc);
-    feed_front(&mut reader, parts, choices)?;
+    feed_prefix(&mut reader, parts, choices)?;
     read_file(alloc, source, before, reader)
 }
 

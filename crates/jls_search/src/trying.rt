@@ -3,7 +3,7 @@
 ghost use Rattle.std.specs.Prelude.{◌≡◌, ◌↔◌, ℕ, List, ◌-◌, ◌^◌, ◌<◌, ◌≤◌, true, false, length, IsTrue, IfOk, OnOk};
 ghost use Rattle.std.specs.List.{AllByRecursion, Contains};
 ghost use Rattle.jls_diff.specs.PartsOf.{parts_of};
-ghost use Rattle.jls_search.specs.Choices.{IsPath, front_of};
+ghost use Rattle.jls_search.specs.Choices.{IsPath, prefix_of};
 ghost use Rattle.jls_search.specs.Search.{IsShort, lists_of};
 ghost use Rattle.jls_diff.specs.Groups.{IsGroup};
 ghost use Rattle.jls_search.specs.OfGroups.{AddsOne, GoesOnWith, HasManyFaults, IsAddedOnce, IsGivenUp, IsSet, IsSetting, IsSettled};
@@ -20,7 +20,7 @@ use std::alloc::{AllocError, Global};
 
 /// Whether the path is given up: the piece in hand begins in the group, or the group begins in it, and it is broken; or the file is at its
 /// end, and reads no more.
-fn is_front_dead(
+fn is_prefix_dead(
     alloc: Global,
     parts: &[Part<'_>],
     setting: Setting,
@@ -28,8 +28,8 @@ fn is_front_dead(
 ) -> Result<bool, AllocError>
     requires group { IsGroup (parts_of parts.now) setting.group }
     requires path { IsPath (parts_of parts.now) path.now }
-    requires few { length (front_of (parts_of parts.now) path.now) ≤ 2 ^ 63 - 1 }
-    ensures { IfOk result (λ dead. dead ≡ true → AllByRecursion (λ b. b < 256) (front_of (parts_of parts.now) path.now)
+    requires few { length (prefix_of (parts_of parts.now) path.now) ≤ 2 ^ 63 - 1 }
+    ensures { IfOk result (λ dead. dead ≡ true → AllByRecursion (λ b. b < 256) (prefix_of (parts_of parts.now) path.now)
         → IsGivenUp (parts_of parts.now) setting.group path.now) }
 {
     let begin = setting.group.begin;
@@ -56,11 +56,11 @@ fn reads_in_group(
 ) -> Result<bool, AllocError>
     requires group { IsGroup (parts_of parts.now) setting.group }
     requires path { IsPath (parts_of parts.now) path.now }
-    requires few { length (front_of (parts_of parts.now) path.now) ≤ 2 ^ 63 - 1 }
+    requires few { length (prefix_of (parts_of parts.now) path.now) ≤ 2 ^ 63 - 1 }
     requires whole { length path.now ≡ length (parts_of parts.now) }
     ensures reads { IfOk result (λ answer. answer ≡ true → ReadsInGroup (parts_of parts.now) setting.group path.now) }
-    ensures unread { IfOk result (λ answer. answer ≡ false → AllByRecursion (λ b. b < 256) (front_of (parts_of parts.now) path.now)
-        → ReadsInGroup (parts_of parts.now) setting.group path.now → HasManyFaults (front_of (parts_of parts.now) path.now)) }
+    ensures unread { IfOk result (λ answer. answer ≡ false → AllByRecursion (λ b. b < 256) (prefix_of (parts_of parts.now) path.now)
+        → ReadsInGroup (parts_of parts.now) setting.group path.now → HasManyFaults (prefix_of (parts_of parts.now) path.now)) }
 {
     let reader = reader_of(alloc, parts, path)?;
     let from = border_offset(parts, path, setting.group.begin);
@@ -137,7 +137,7 @@ fn try_whole(
 }
 
 /// Tries a shorter path, and goes to the next; `false` where there is none.
-fn try_front(
+fn try_prefix(
     alloc: Global,
     parts: &[Part<'_>],
     setting: Setting,
@@ -150,7 +150,7 @@ fn try_front(
     ensures goes { (found : List (List ℕ)) → StandsWith (parts_of parts.now) setting path.old.items found
         → IfOk result (λ more. GoesOnWith (parts_of parts.now) setting path.new.items found more) }
 {
-    let dead = is_front_dead(alloc, parts, setting, path)?;
+    let dead = is_prefix_dead(alloc, parts, setting, path)?;
     if dead {
         return turn(parts, setting, path);
     }
@@ -173,7 +173,7 @@ pub(crate) fn try_next(
     ensures found { OnOk result (AddsOne (parts_of parts.now) setting (lists_of found.old.items) (lists_of found.new.items)) }
 {
     if path.len() < parts.len() {
-        let more = try_front(alloc, parts, setting, path)?;
+        let more = try_prefix(alloc, parts, setting, path)?;
         Ok(more)
     } else {
         try_whole(alloc, parts, setting, path, found)

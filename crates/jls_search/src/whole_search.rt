@@ -5,7 +5,7 @@ ghost use Rattle.std.specs.Prelude.{OnOk};
 ghost use Rattle.std.specs.List.{AllByRecursion};
 ghost use Rattle.jls_diff.specs.Parts.{Part as SpecPart};
 ghost use Rattle.jls_diff.specs.PartsOf.{parts_of};
-ghost use Rattle.jls_search.specs.Choices.{HasSomeWay, IsPath, front_of};
+ghost use Rattle.jls_search.specs.Choices.{HasSomeWay, IsPath, prefix_of};
 ghost use Rattle.jls_search.specs.Faultless.{IsSought};
 ghost use Rattle.jls_search.specs.Search.{IsShort, IsBegun, IsKept, IsSearch, IsStep, CanGoOn, GoesFrom, GoesOn, WereTried, StandsAt};
 ghost use Rattle.jls_search.specs.Search.{CameTo, HasEachSplice, MakeFiles, files_of, lists_of};
@@ -50,7 +50,7 @@ fn pass_found(
     requires whole { length path.old.items ≡ length (parts_of parts.now) }
     ensures next { (ceiling : Option ℕ)
         → StandsAt (IsSought ceiling) (parts_of parts.now) path.old.items (lists_of found.old.items)
-        → IsSought ceiling (front_of (parts_of parts.now) path.old.items)
+        → IsSought ceiling (prefix_of (parts_of parts.now) path.old.items)
         → IfOk result (λ more. GoesOn (IsSought ceiling) (parts_of parts.now) path.new.items (lists_of found.new.items) more) }
     ensures count { IfOk result (λ more. (length (lists_of found.old.items) ≤ length (lists_of found.new.items))
         × (length (lists_of found.new.items) ≤ length (lists_of found.old.items) + 1)) }

@@ -1,5 +1,5 @@
 -- Two copies of the file of two lines: the first lacks what follows line 0, up to EOI; the second has another first byte, and is cut off
--- behind line 0. The choices of 0xFF and of the bytes behind it are the only ones that are not dead. What they make is the cut file: the
+-- after line 0. The choices of 0xFF and of the bytes after it are the only ones that are not dead. What they make is the cut file: the
 -- undamaged file begins with it, and it gives line 0.
 use Rattle.std.proofs.Common.{◌≡◌, ℕ, zero, suc, ◌<◌, List, [], ◌∷◌, ◌++◌, Some, None, length, take, refl, sym, ap, ◌∙◌, subst, lit<, arith, inl, inr}
 use Rattle.std.specs.Prelude.{get_or}
@@ -20,7 +20,7 @@ use Rattle.jls_copy.specs.Numbers.{Interval}
 use Rattle.jls_copy.specs.Pieces.{FoundPiece, Lines, IsOutcome, placed, readings_of}
 use Rattle.jls_copy.specs.ReadCopy.{ReadCopy}
 use Rattle.jls_copy.specs.declared.end.End.TheVariants.{Header, Input}
-use Rattle.jls_copy.specs.Fronts.{Gives}
+use Rattle.jls_copy.specs.Prefixes.{Gives}
 use Rattle.jls_copy.proofs.OneCourse.{one_course}
 use Rattle.jls_copy_laws.specs.Gives.{GivesReading}
 use Rattle.jls_copy_laws.proofs.Gives.{readings_are_of_the_course}
@@ -28,7 +28,7 @@ use Rattle.jls_copy_laws.proofs.Members.{none_in, first_or_rest, all_at}
 use Rattle.jls_headline.specs.Damaged.{picture_reading}
 use Rattle.jls_headline.proofs.TwoLineCopies.{shape, pic, plan, frame_payload, scan_payload, pieces_read, first, first_course, course_with, bytes_of_test}
 use Rattle.jls_diff.specs.Parts.{Part, Same, Differ, made, AreParts, IsSplice}
-use Rattle.jls_search.specs.Choices.{IsPath, front_of}
+use Rattle.jls_search.specs.Choices.{IsPath, prefix_of}
 use Rattle.jls_search.specs.Faultless.{IsDead, IsFaultless, IsSought}
 use Rattle.jls_search.specs.Levels.{IsLone}
 use Rattle.jls_search.specs.Shapes.{HasNoFrame, HasShape}
@@ -40,16 +40,16 @@ use Rattle.jls_splice_laws.proofs.FaultlessExamples.{file, file_is_whole, no_soi
 -- The copies -------------------------------------------------------------------------------------------------------
 
 -- SOI but for its 0xFF, SOF55, DRI and SOS, and the byte of line 0
-abbrev behind : List ℕ
-behind =
+abbrev following : List ℕ
+following =
     0xD8 ∷ 0xFF ∷ 0xF7 ∷ 0 ∷ 0x0B ∷ 8 ∷ 0 ∷ 2 ∷ 0 ∷ 1 ∷ 1 ∷ 1 ∷ 0x11 ∷ 0 ∷ 0xFF ∷ 0xDD ∷ 0 ∷ 4 ∷ 0 ∷ 1
     ∷ 0xFF ∷ 0xDA ∷ 0 ∷ 8 ∷ 1 ∷ 1 ∷ 0 ∷ 0 ∷ 0 ∷ 0 ∷ 0x80 ∷ []
 
 abbrev cut : List ℕ
-cut = 0xFF ∷ behind
+cut = 0xFF ∷ following
 
 abbrev other : List ℕ
-other = 1 ∷ behind
+other = 1 ∷ following
 
 -- RST0, the byte of line 1, and EOI
 abbrev rest : List ℕ
@@ -59,7 +59,7 @@ abbrev copies : List (List ℕ)
 copies = first ∷ other ∷ []
 
 abbrev parts : List Part
-parts = Differ ((0xFF ∷ []) ∷ (1 ∷ []) ∷ []) ∷ Same behind ∷ Differ ((0xFF ∷ 0xD9 ∷ []) ∷ [] ∷ []) ∷ []
+parts = Differ ((0xFF ∷ []) ∷ (1 ∷ []) ∷ []) ∷ Same following ∷ Differ ((0xFF ∷ 0xD9 ∷ []) ∷ [] ∷ []) ∷ []
 
 abbrev path : List ℕ
 path = 0 ∷ 0 ∷ []
@@ -73,24 +73,24 @@ are_parts = record { ways = (refl, (tt, (refl, tt))); make = by }
     by (suc (suc j)) l = absurd (omega (arith, l))
 
 -- the path makes the cut file, and the undamaged file begins with it: the first copy has both parts
-makes_cut : front_of parts path ≡ cut
+makes_cut : prefix_of parts path ≡ cut
 makes_cut = refl
 
 file_begins : cut ++ rest ≡ file
 file_begins = refl
 
 cut_is_splice : IsSplice 2 (take 2 parts) cut
-cut_is_splice = (0, lit< tt, behind, refl, (0, lit< tt, [], refl, refl))
+cut_is_splice = (0, lit< tt, following, refl, (0, lit< tt, [], refl, refl))
 
 -- The second copy's first byte is not that of a file without a fault: the other path is dead
 is_lone : IsLone (IsSought None) parts path
-is_lone = record { is_path = ((lit< tt, λ o l _. absurd (omega (arith, l))), (refl, tt)); front = inl tt; others = dead }
+is_lone = record { is_path = ((lit< tt, λ o l _. absurd (omega (arith, l))), (refl, tt)); prefix = inl tt; others = dead }
   where
-    dead : (o : List ℕ) → IsPath parts o → length o ≡ 2 → (o ≡ path → ⊥) → IsDead (IsSought None) (front_of parts o)
+    dead : (o : List ℕ) → IsPath parts o → length o ≡ 2 → (o ≡ path → ⊥) → IsDead (IsSought None) (prefix_of parts o)
     dead [] is long not = absurd (omega (arith, long))
     dead (c ∷ []) is long not = absurd (omega (arith, long))
     dead (zero ∷ d ∷ []) is long not = absurd (not (ap (λ x. 0 ∷ x ∷ []) is.1.0))
-    dead (suc zero ∷ d ∷ []) is long not = λ more low sought. has_fault_there (behind ++ more) sought.0
+    dead (suc zero ∷ d ∷ []) is long not = λ more low sought. has_fault_there (following ++ more) sought.0
     dead (suc (suc c) ∷ d ∷ []) is long not = (let l = is.0.0 in absurd (omega (arith, l)))
     dead (c ∷ d ∷ e ∷ o) is long not = absurd (omega (arith, long))
 
@@ -129,10 +129,10 @@ first_has_a_fault f =
     elim given [ inl (p, m, lines, reads, has) ↦ no_piece_has_it p g.0 lines m reads has | inr (p, m, head, is, has) ↦ none_in p m ]
 
 each_has_a_fault : AllByRecursion (λ copy. IsFaultless copy → ⊥) copies
-each_has_a_fault = (first_has_a_fault, (has_fault_there behind, tt))
+each_has_a_fault = (first_has_a_fault, (has_fault_there following, tt))
 
 other_has_no_frame : HasNoFrame other
-other_has_no_frame = (without_units 0 (Header fault.NoSoi 0), no_soi behind, refl)
+other_has_no_frame = (without_units 0 (Header fault.NoSoi 0), no_soi following, refl)
 
 -- The station ------------------------------------------------------------------------------------------------------
 
@@ -195,8 +195,8 @@ module _ (a b : ReadCopy) (ra : CopyReads first a) (rb : CopyReads cut b) where
   }
 
   -- so the law tells of each line of the picture
-  each_line_is_told : CutLinesAreThePicture → (component line : ℕ) → CutTellsOfLine pic station cut component line
-  each_line_is_told law component line = (law None copies parts path None station were_cut pic cut rest file_is_whole tt cut_is_splice).1 component line
+  each_line_is_reported : CutLinesAreThePicture → (component line : ℕ) → CutTellsOfLine pic station cut component line
+  each_line_is_reported law component line = (law None copies parts path None station were_cut pic cut rest file_is_whole tt cut_is_splice).1 component line
 
 -- and the cut file gives line 0
 gives_line_0 : GivesReading cut (picture_reading pic 0 0)

@@ -3,7 +3,7 @@ use Rattle.std.proofs.Common.{◌≡◌, ℕ, zero, suc, ◌<◌, ◌≤◌, Boo
 use Rattle.std.specs.Prelude.{get_or, MatchBool}
 use Rattle.std.specs.List.{list_any, AllByRecursion, Contains}
 use Rattle.std.specs.Ordering.{eq_by_cmp}
-use Rattle.std.specs.Cmp.Lexicographic.{pointwise, told_text}
+use Rattle.std.specs.Cmp.Lexicographic.{pointwise, reported_text}
 use Rattle.std.proofs.lemmas.List.Elements.{Contains-append_right}
 use Rattle.jls_values.specs.OrderedSet as set
 use Rattle.jls_partial.specs.Partial.{readings_at}
@@ -13,17 +13,17 @@ use Rattle.jls_partial.specs.Status.{status_of}
 use Rattle.jls_partial.specs.declared.status.Status.TheVariants.{Settled}
 use Rattle.jls_partial.proofs.Unions.{either, in_its_line}
 use Rattle.jls_copy.specs.Course.{Course}
-use Rattle.jls_copy.specs.Fronts.{Gives, FrontsKeepReadings}
+use Rattle.jls_copy.specs.Prefixes.{Gives, PrefixesKeepReadings}
 use Rattle.jls_copy_laws.specs.CourseGives.{CourseGives}
 use Rattle.jls_copy_laws.specs.Gives.{GivesReading}
 use Rattle.jls_copy_laws.proofs.Gives.{readings_are_of_the_course}
-use Rattle.jls_copy_laws.proofs.Members.{is_first, in_rest, all_front}
+use Rattle.jls_copy_laws.proofs.Members.{is_first, in_rest, all_prefix}
 use Rattle.jls_file_laws.specs.Covering.{IsLineOf}
 use Rattle.jls_headline.specs.CollectedLaws.{CollectedHoldsExactlyUnder}
 use Rattle.jls_headline.specs.Damaged.{picture_reading}
 use Rattle.jls_headline.specs.Stations.{HoldsExactly}
 use Rattle.jls_diff.specs.Parts.{Part, Same, Differ, HasWays, IsSplice}
-use Rattle.jls_search.specs.Choices.{IsPath, front_of}
+use Rattle.jls_search.specs.Choices.{IsPath, prefix_of}
 use Rattle.jls_search.specs.Faultless.{IsSought}
 use Rattle.jls_search.proofs.Paths.{path_len}
 use Rattle.jls_splice_laws.specs.CutLaws.{SoughtFilesBeginWithTheCut, WholeFilesBeginWithTheirLines, CutsAreHeld, CutLinesAreThePicture}
@@ -33,12 +33,12 @@ use Rattle.jls_splice_laws.proofs.TakenFiles.{kept_of_shape}
 
 -- Paths of splices -------------------------------------------------------------------------------------------------
 
-told : {P Q : Type 0} (r : Bool) → MatchBool r P Q → P ⊎ Q
-told true h = inl h
-told false h = inr h
+reported : {P Q : Type 0} (r : Bool) → MatchBool r P Q → P ⊎ Q
+reported true h = inl h
+reported false h = inr h
 
 same_or_other : (a b : List ℕ) → (a ≡ b) ⊎ (a ≡ b → ⊥)
-same_or_other a b = told (pointwise nat_eq a b) (told_text a b (pointwise nat_eq a b) refl)
+same_or_other a b = reported (pointwise nat_eq a b) (reported_text a b (pointwise nat_eq a b) refl)
 
 -- the first way with these bytes
 record FirstWith (ways : List (List ℕ)) (bytes : List ℕ) : Type 0 where
@@ -69,7 +69,7 @@ record MadeByPath (parts : List Part) (count : ℕ) (bytes : List ℕ) : Type 0 
   path : List ℕ
   is_path : IsPath parts path
   long : length path ≡ count
-  makes : bytes ≡ front_of parts path
+  makes : bytes ≡ prefix_of parts path
 
 made_by_path : (count : ℕ) (parts : List Part) (n : ℕ) (bytes : List ℕ) → n ≤ length parts → AllByRecursion (HasWays count) parts
     → IsSplice count (take n parts) bytes → MadeByPath parts n bytes
@@ -90,10 +90,10 @@ made_by_path count (Differ ways ∷ parts) (suc n) bytes l h (j, k, rest, e, mor
 
 -- each other path of as many choices is dead, so this is the path
 pub sought_files_begin_with_the_cut : SoughtFilesBeginWithTheCut
-sought_files_begin_with_the_cut ceiling copies parts are path lone front more splice low sought =
-    let r = made_by_path (length copies) parts (length path) front (path_len parts path lone.is_path) are.ways splice in
+sought_files_begin_with_the_cut ceiling copies parts are path lone prefix more splice low sought =
+    let r = made_by_path (length copies) parts (length path) prefix (path_len parts path lone.is_path) are.ways splice in
     elim (same_or_other r.path path) [
-      | inl same ↦ r.makes ∙ ap (front_of parts) same
+      | inl same ↦ r.makes ∙ ap (prefix_of parts) same
       | inr other ↦ absurd
           (lone.others r.path r.is_path r.long other more
           (subst (λ bytes. AllByRecursion (λ b. b < 256) (bytes ++ more)) r.makes low)
@@ -110,14 +110,14 @@ course_of_gives : (c : Course) (r : Reading) → Gives c r → CourseGives c r
 course_of_gives c r (inl (p, m, lines, reads, among)) = inl (p, m, record { lines = lines; reads = reads; among = among })
 course_of_gives c r (inr (p, m, head, is, among)) = inr (p, m, record { head = head; is_head = is; among = among })
 
-pub whole_files_begin_with_their_lines : WholeFilesAreFaultless → FrontsKeepReadings → WholeFilesBeginWithTheirLines
-whole_files_begin_with_their_lines faultless keep pic front more whole shape (c, is, framed) r gives =
-    let f = faultless pic (front ++ more) whole in
-    let low = all_front (λ b. b < 256) front more whole.bytes in
-    let own = gives_of_course c r ((readings_are_of_the_course front c shape r low is framed).0 gives) in
-    let kept = keep front more whole.bytes c f.course is f.is_course f.each r own in
+pub whole_files_begin_with_their_lines : WholeFilesAreFaultless → PrefixesKeepReadings → WholeFilesBeginWithTheirLines
+whole_files_begin_with_their_lines faultless keep pic prefix more whole shape (c, is, framed) r gives =
+    let f = faultless pic (prefix ++ more) whole in
+    let low = all_prefix (λ b. b < 256) prefix more whole.bytes in
+    let own = gives_of_course c r ((readings_are_of_the_course prefix c shape r low is framed).0 gives) in
+    let kept = keep prefix more whole.bytes c f.course is f.is_course f.each r own in
     (whole.reads.readings r).0
-    ((readings_are_of_the_course (front ++ more) f.course f.shape r whole.bytes f.is_course f.framed).1 (course_of_gives f.course r kept))
+    ((readings_are_of_the_course (prefix ++ more) f.course f.shape r whole.bytes f.is_course f.framed).1 (course_of_gives f.course r kept))
 
 -- The station ------------------------------------------------------------------------------------------------------
 
@@ -150,21 +150,21 @@ cuts_are_held holds source copies splices cut station takes r gives =
 
 -- Both -------------------------------------------------------------------------------------------------------------
 
-pub cut_lines_are_the_picture : WholeFilesAreFaultless → FrontsKeepReadings → CollectedHoldsExactlyUnder → CutLinesAreThePicture
-cut_lines_are_the_picture faultless keep holds ceiling copies parts path source station w pic front more whole within splice = (
+pub cut_lines_are_the_picture : WholeFilesAreFaultless → PrefixesKeepReadings → CollectedHoldsExactlyUnder → CutLinesAreThePicture
+cut_lines_are_the_picture faultless keep holds ceiling copies parts path source station w pic prefix more whole within splice = (
   begins,
   λ component line. record {
     no_other = λ samples gives. (line_of_cut (reading_of component line samples) gives).2;
-    held = λ gives. cuts_are_held holds source copies w.splices (front_of parts path) station w.takes (picture_reading pic component line) gives;
+    held = λ gives. cuts_are_held holds source copies w.splices (prefix_of parts path) station w.takes (picture_reading pic component line) gives;
   },
 )
   where
-    begins : front ≡ front_of parts path
+    begins : prefix ≡ prefix_of parts path
     begins =
-        sought_files_begin_with_the_cut ceiling copies parts w.are_parts path w.is_lone front more splice whole.bytes
-        (faultless pic (front ++ more) whole, within)
+        sought_files_begin_with_the_cut ceiling copies parts w.are_parts path w.is_lone prefix more splice whole.bytes
+        (faultless pic (prefix ++ more) whole, within)
 
-    line_of_cut : (r : Reading) → GivesReading (front_of parts path) r → IsLineOf pic r
+    line_of_cut : (r : Reading) → GivesReading (prefix_of parts path) r → IsLineOf pic r
     line_of_cut r gives =
-        whole_files_begin_with_their_lines faultless keep pic (front_of parts path) more
+        whole_files_begin_with_their_lines faultless keep pic (prefix_of parts path) more
         (subst (λ bytes. IsWholeFile pic (bytes ++ more)) begins whole) station.shape w.takes.shape_is r gives

@@ -45,10 +45,10 @@ was_whole settled true e = refl
 was_whole settled false e = absurd (omega (arith, e))
 
 did_make : (a : Asked) (status : ℕ) (desk report faults : List Event) → Performs a status desk report faults → status ≤ 1 → DidMake a desk report
-did_make a _ _ _ _ (came_of _ _ _ _ line (at_copies r desk stops) told) e = absurd (not_done r.cause e)
-did_make a _ _ _ _ (came_of _ _ _ _ line (not_made r copies desk faults read cant) told) e = absurd (not_done r.cause e)
-did_make a _ _ _ _ (came_of _ _ _ _ line (not_handed r copies m reading desk report faults noting read made tells noted stops) told) e = absurd (not_done r.cause e)
-did_make a _ _ _ _ (came_of _ _ _ _ line (done copies m settled whole reading desk report faults noting read made tells noted handed is_set is_read) told) e = record {
+did_make a _ _ _ _ (came_of _ _ _ _ line (at_copies r desk stops) reported) e = absurd (not_done r.cause e)
+did_make a _ _ _ _ (came_of _ _ _ _ line (not_made r copies desk faults read cant) reported) e = absurd (not_done r.cause e)
+did_make a _ _ _ _ (came_of _ _ _ _ line (not_handed r copies m reading desk report faults noting read made tells noted stops) reported) e = absurd (not_done r.cause e)
+did_make a _ _ _ _ (came_of _ _ _ _ line (done copies m settled whole reading desk report faults noting read made tells noted handed is_set is_read) reported) e = record {
   copies = copies;
   made = m;
   reading = reading;
@@ -59,7 +59,7 @@ did_make a _ _ _ _ (came_of _ _ _ _ line (done copies m settled whole reading de
   is_made = made;
   handed = handed;
 }
-did_make a _ _ _ _ (no_names faults told) e = absurd (omega (arith, e))
+did_make a _ _ _ _ (no_names faults reported) e = absurd (omega (arith, e))
 
 -- a run that is done ends with status 0 only if each line is settled
 is_settled : (settled whole : Bool) → exit_status (Done settled whole) ≡ 0 → IsTrue settled
@@ -73,11 +73,11 @@ at_most_1 n e = omega (arith, e)
 
 did_settle : (a : Asked) (status : ℕ) (desk report faults : List Event) → Performs a status desk report faults → status ≡ 0
     → (did : DidMake a desk report) × IsSettled did.made.picture
-did_settle a _ _ _ _ (came_of _ _ _ _ line (at_copies r desk stops) told) e = absurd (not_done r.cause (at_most_1 _ e))
-did_settle a _ _ _ _ (came_of _ _ _ _ line (not_made r copies desk faults read cant) told) e = absurd (not_done r.cause (at_most_1 _ e))
-did_settle a _ _ _ _ (came_of _ _ _ _ line (not_handed r copies m reading desk report faults noting read made tells noted stops) told) e =
+did_settle a _ _ _ _ (came_of _ _ _ _ line (at_copies r desk stops) reported) e = absurd (not_done r.cause (at_most_1 _ e))
+did_settle a _ _ _ _ (came_of _ _ _ _ line (not_made r copies desk faults read cant) reported) e = absurd (not_done r.cause (at_most_1 _ e))
+did_settle a _ _ _ _ (came_of _ _ _ _ line (not_handed r copies m reading desk report faults noting read made tells noted stops) reported) e =
     absurd (not_done r.cause (at_most_1 _ e))
-did_settle a _ _ _ _ (came_of _ _ _ _ line (done copies m settled whole reading desk report faults noting read made tells noted handed is_set is_read) told) e = (
+did_settle a _ _ _ _ (came_of _ _ _ _ line (done copies m settled whole reading desk report faults noting read made tells noted handed is_set is_read) reported) e = (
   record {
     copies = copies;
     made = m;
@@ -91,7 +91,7 @@ did_settle a _ _ _ _ (came_of _ _ _ _ line (done copies m settled whole reading 
   },
   is_set.0 (is_settled settled whole e),
 )
-did_settle a _ _ _ _ (no_names faults told) e = absurd (omega (arith, e))
+did_settle a _ _ _ _ (no_names faults reported) e = absurd (omega (arith, e))
 
 -- as many copies were read as there are names
 some_copy : (names : List (List ℕ)) (copies : List CopyBytes) (events : List Event) → AreCopiesRead names copies events → 0 < length names

@@ -20,7 +20,7 @@ use Rattle.jls_copy_laws.proofs.Members.{none_in}
 use Rattle.jls_headline.proofs.FileExamples.{file_reads}
 use Rattle.jls_headline.proofs.TwoLineCopies.{shape, pic, bits_8, frame_payload, scan_payload, pieces_read, bytes_of_test}
 use Rattle.jls_diff.specs.Parts.{Part, Same, Differ, made, AreParts, IsSplice}
-use Rattle.jls_copy.specs.Fronts.{Gives}
+use Rattle.jls_copy.specs.Prefixes.{Gives}
 use Rattle.jls_search.specs.Faultless.{GivesEachLine, EndsWell, IsFaultless}
 use Rattle.jls_splice_laws.specs.Searches.{done, Searched, along, given_up}
 use Rattle.jls_splice_laws.specs.WholeFiles.{IsWholeFile}
@@ -108,7 +108,7 @@ is_course =
             refl,
             (((λ (h : 0x80 ≡ 0xFF). omega (arith, h)), lit< tt), tt),
             (λ (h : 0x40 ≡ 0xFF). omega (arith, h)),
-            record { fill = 0; code = 0xD9; behind = []; bytes_are = refl; ends = refl },
+            record { fill = 0; code = 0xD9; following = []; bytes_are = refl; ends = refl },
           ),
           (refl, for_good final 35 (0xFF ∷ 0xD9 ∷ []) (Eoi 35) (at_eoi final 35 0 [] refl)),
         ),
@@ -192,7 +192,7 @@ has_fault_there more f =
     let e = one_course (1 ∷ more) f.course (without_units 0 (Header fault.NoSoi 0)) f.is_course (no_soi more) in
     subst (λ (c : Course). EndsWell c.end) e f.ends
 
--- so a search gives up behind the first byte, and finds nothing
+-- so a search gives up after the first byte, and finds nothing
 nothing_found : Searched [] (Same (1 ∷ []) ∷ Differ ((2 ∷ []) ∷ (3 ∷ []) ∷ []) ∷ []) []
 nothing_found =
     let ended = done (1 ∷ []) (without_units 0 (Header fault.NoSoi 0), no_soi [], refl) (has_fault_there []) in

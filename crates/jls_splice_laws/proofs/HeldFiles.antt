@@ -18,7 +18,7 @@ use Rattle.jls_search.specs.Shapes.{HasShape}
 use Rattle.jls_search.proofs.OneFile.{shape_read}
 use Rattle.jls_splice_laws.specs.SplicingLaws.{under, FilesAreHeld}
 
--- what was read for the station behind files
+-- what was read for the station after files
 record Read (source : Option ℕ) (copies : List SourcedCopy) (shape : PictureShape) (files : List (List ℕ)) (new : PartialPicture) : Type 0 where
   given : List (List ℕ)
   of_shape : AreOfShape shape files given

@@ -8,7 +8,7 @@ use Rattle.jls_partial.specs.Reading.{Reading}
 use Rattle.jls_marker.specs.HeaderState.{HeaderState, no_headers}
 use Rattle.jls_marker.specs.Scan.{Scan, intervals}
 use Rattle.jls_copy.specs.ScanData.{ClosedPiece, IsClosedPiece, closed_bytes}
-use Rattle.jls_copy.specs.Numbers.{PieceNumber, Interval, BeyondLast, next_number, number_behind, given_last, RiseByEightAtMost, mark_before}
+use Rattle.jls_copy.specs.Numbers.{PieceNumber, Interval, BeyondLast, next_number, number_after, given_last, RiseByEightAtMost, mark_before}
 use Rattle.jls_copy.specs.Course.{CopyUnit, segment, scan, segment_unit_bytes, unit_bytes, IsUnit, AreUnits, Course, IsCourse, with_soi, with_another_marker, with_no_marker, with_fill_alone}
 use Rattle.jls_copy.specs.Pieces.{FoundPiece, pieces_from, unit_pieces, pieces, piece_begun}
 use Rattle.jls_copy.specs.declared.end.End.{End}
@@ -21,7 +21,7 @@ use Rattle.jls_copy_laws.proofs.Members.{none_in, first_or_rest, all_at, all_fro
 use Rattle.jls_headline.specs.Damaged.{AreNumbers, picture_reading}
 use Rattle.jls_headline.proofs.LostIntervals.{given_by_scan}
 use Rattle.jls_headline.proofs.ScanNumbers.{numbered_pieces_give}
-use Rattle.jls_copy.specs.Fronts.{HasLines, Gives}
+use Rattle.jls_copy.specs.Prefixes.{HasLines, Gives}
 use Rattle.jls_splice_laws.specs.WholeFiles.{WholeFilesAreFaultless, WholeFilesSurvive}
 
 -- Numbers ----------------------------------------------------------------------------------------------------------
@@ -35,13 +35,13 @@ next_near k m = omega arith
 mark_is : (k m : ℕ) → m < 8 → m ≡ mark_before (next_number k m)
 mark_is k m l = omega arith
 
-behind_within : (n k m : ℕ) → nat_lt (next_number k m) n ≡ true → number_behind n k m ≡ Interval (next_number k m)
-behind_within n k m t = rw t refl
+after_within : (n k m : ℕ) → nat_lt (next_number k m) n ≡ true → number_after n k m ≡ Interval (next_number k m)
+after_within n k m t = rw t refl
 
-behind_beyond : (n k m : ℕ) → nat_lt (next_number k m) n ≡ false → number_behind n k m ≡ BeyondLast (next_number k m)
-behind_beyond n k m t = rw t refl
+after_beyond : (n k m : ℕ) → nat_lt (next_number k m) n ≡ false → number_after n k m ≡ BeyondLast (next_number k m)
+after_beyond n k m t = rw t refl
 
--- the numbers of the pieces behind the first, where each piece reads as lines
+-- the numbers of the pieces after the first, where each piece reads as lines
 record Numbered (s : Scan) (k : ℕ) (closed : List ClosedPiece) : Type 0 where
   numbers : List ℕ
   rise : RiseByEightAtMost (intervals s) k numbers
@@ -53,8 +53,8 @@ beyond_is_faulty : (index : ℕ) (s : Scan) (last k at : ℕ) (closed : List Clo
 beyond_is_faulty index s last k at [] bytes h = h.0.1
 beyond_is_faulty index s last k at (c ∷ closed) bytes h = h.0.1
 
-abbrev behind : ℕ → Scan → ℕ → ℕ → ClosedPiece → List ClosedPiece → List ℕ → PieceNumber → List FoundPiece
-behind index s k at c closed last n = pieces_from (piece_begun index s n (at + length (closed_bytes c))) (given_last k n) closed last
+abbrev following : ℕ → Scan → ℕ → ℕ → ClosedPiece → List ClosedPiece → List ℕ → PieceNumber → List FoundPiece
+following index s k at c closed last n = pieces_from (piece_begun index s n (at + length (closed_bytes c))) (given_last k n) closed last
 
 numbers_of : (index : ℕ) (s : Scan) (k at : ℕ) (closed : List ClosedPiece) (last : List ℕ) → AllByRecursion IsClosedPiece closed
     → AllByRecursion HasLines (pieces_from (piece_begun index s (Interval k) at) k closed last) → Numbered s k closed
@@ -62,10 +62,10 @@ numbers_of index s k at [] last are h = record { numbers = []; rise = tt; marks_
 numbers_of index s k at (c ∷ closed) last are h =
     elim (cases_Bool (nat_lt (next_number k c.mark) (intervals s))) [
       | inl t ↦ (
-          let e = behind_within (intervals s) k c.mark t in
+          let e = after_within (intervals s) k c.mark t in
           let low : next_number k c.mark < intervals s = grind (arith, nat_tests, t) in
           let more = numbers_of index s (next_number k c.mark) (at + length (closed_bytes c)) closed last are.1
-          (subst (λ n. AllByRecursion HasLines (behind index s k at c closed last n)) e h.1) in
+          (subst (λ n. AllByRecursion HasLines (following index s k at c closed last n)) e h.1) in
           record {
             numbers = next_number k c.mark ∷ more.numbers;
             rise = (next_above k c.mark, next_near k c.mark, low, more.rise);
@@ -73,7 +73,7 @@ numbers_of index s k at (c ∷ closed) last are h =
                 ∙ ap (λ ms. mark_before (next_number k c.mark) ∷ ms) more.marks_are;
           })
       | inr t ↦ absurd (beyond_is_faulty index s k (next_number k c.mark) (at + length (closed_bytes c)) closed last
-          (subst (λ n. AllByRecursion HasLines (behind index s k at c closed last n)) (behind_beyond (intervals s) k c.mark t) h.1))
+          (subst (λ n. AllByRecursion HasLines (following index s k at c closed last n)) (after_beyond (intervals s) k c.mark t) h.1))
     ]
 
 -- the scan of a unit whose pieces all read as lines has numbers

@@ -12,7 +12,7 @@ use Rattle.jls_copy_laws.specs.Gives.{GivesReading}
 use Rattle.jls_headline.specs.Damaged.{picture_reading}
 use Rattle.jls_headline.specs.LineLaws.{SaysNoOther}
 use Rattle.jls_diff.specs.Parts.{Part, AreParts, IsSplice}
-use Rattle.jls_search.specs.Choices.{front_of}
+use Rattle.jls_search.specs.Choices.{prefix_of}
 use Rattle.jls_search.specs.Faultless.{IsSought, IsWithin}
 use Rattle.jls_search.specs.Levels.{IsLone}
 use Rattle.jls_search.specs.Cuts.{TakesCut}
@@ -25,15 +25,15 @@ abbrev pub SoughtFilesBeginWithTheCut : Type 0
 SoughtFilesBeginWithTheCut =
     (ceiling : Option ℕ) (copies : List (List ℕ)) (parts : List Part) → AreParts copies parts
     → (path : List ℕ) → IsLone (IsSought ceiling) parts path
-    → (front more : List ℕ) → IsSplice (length copies) (take (length path) parts) front
-    → AllByRecursion (λ b. b < 256) (front ++ more) → IsSought ceiling (front ++ more)
-    → front ≡ front_of parts path
+    → (prefix more : List ℕ) → IsSplice (length copies) (take (length path) parts) prefix
+    → AllByRecursion (λ b. b < 256) (prefix ++ more) → IsSought ceiling (prefix ++ more)
+    → prefix ≡ prefix_of parts path
 
 -- Each reading that a prefix of an undamaged file gives is a line of that file's picture. The prefix has a frame
 abbrev pub WholeFilesBeginWithTheirLines : Type 0
 WholeFilesBeginWithTheirLines =
-    (pic : WholePicture) (front more : List ℕ) → IsWholeFile pic (front ++ more)
-    → (shape : PictureShape) → HasShape shape front → (r : Reading) → GivesReading front r → IsLineOf pic r
+    (pic : WholePicture) (prefix more : List ℕ) → IsWholeFile pic (prefix ++ more)
+    → (shape : PictureShape) → HasShape shape prefix → (r : Reading) → GivesReading prefix r → IsLineOf pic r
 
 -- Each reading that a cut file gives is among those that a station which took it holds of that line. If the line is settled, it is the one
 abbrev pub CutsAreHeld : Type 0
@@ -59,7 +59,7 @@ pub record WereCut (ceiling : Option ℕ) (copies : List (List ℕ)) (parts : Li
   pub are_parts : AreParts copies parts
   pub is_lone : IsLone (IsSought ceiling) parts path
   pub splices : List (List ℕ)
-  pub takes : TakesCut source copies splices (front_of parts path) station
+  pub takes : TakesCut source copies splices (prefix_of parts path) station
 
 -- An undamaged file begins with bytes that have, at each part before the cut, what some copy has there. No sample of the file is above the
 -- ceiling, if there is one. Then these bytes are the cut file. Each reading that it gives is a line of the file's picture, and the station
@@ -68,7 +68,7 @@ abbrev pub CutLinesAreThePicture : Type 0
 CutLinesAreThePicture =
     (ceiling : Option ℕ) (copies : List (List ℕ)) (parts : List Part) (path : List ℕ) (source : Option ℕ) (station : PartialPicture)
     → WereCut ceiling copies parts path source station
-    → (pic : WholePicture) (front more : List ℕ) → IsWholeFile pic (front ++ more) → IsWithin ceiling (front ++ more)
-    → IsSplice (length copies) (take (length path) parts) front
-    → (front ≡ front_of parts path)
-    × ((component line : ℕ) → CutTellsOfLine pic station (front_of parts path) component line)
+    → (pic : WholePicture) (prefix more : List ℕ) → IsWholeFile pic (prefix ++ more) → IsWithin ceiling (prefix ++ more)
+    → IsSplice (length copies) (take (length path) parts) prefix
+    → (prefix ≡ prefix_of parts path)
+    × ((component line : ℕ) → CutTellsOfLine pic station (prefix_of parts path) component line)

@@ -2,7 +2,7 @@
 use Rattle.std.specs.Prelude.{ℕ, ◌<◌, true, List, [], ◌∷◌, ◌++◌, length}
 use Rattle.std.specs.List.{AllByRecursion, Contains}
 use Rattle.jls_copy.specs.CopyReads.{IsDone}
-use Rattle.jls_copy.specs.Fronts.{IsPieceBroken}
+use Rattle.jls_copy.specs.Prefixes.{IsPieceBroken}
 use Rattle.jls_diff.specs.Parts.{Part, Same, Differ, AreParts, IsSplice}
 use Rattle.jls_search.specs.Faultless.{IsFaultless}
 use Rattle.jls_search.specs.Search.{HasEachSplice}
@@ -10,23 +10,23 @@ use Rattle.jls_search.specs.Search.{HasEachSplice}
 -- a prefix that can be given up: its current piece is broken, whatever follows; or bytes after it leave its course as it is, and it has a
 -- fault
 pub data CanBeGivenUp : List ℕ → Type 0 where
-  broken : (front : List ℕ) → IsPieceBroken front → CanBeGivenUp front
-  done : (front : List ℕ) → IsDone front true → (IsFaultless front → ⊥) → CanBeGivenUp front
+  broken : (prefix : List ℕ) → IsPieceBroken prefix → CanBeGivenUp prefix
+  done : (prefix : List ℕ) → IsDone prefix true → (IsFaultless prefix → ⊥) → CanBeGivenUp prefix
 
--- The files that a search finds from a front on, through these parts, depth first: at a part each of its ways in turn, in their order. Ways
--- that stand there before can be passed over, and fronts that can be given up can be
+-- The files that a search finds from a prefix on, through these parts, depth first: at a part each of its ways in turn, in their order. Ways
+-- that stand there before can be passed over, and prefixes that can be given up can be
 pub data Searched : List ℕ → List Part → List (List ℕ) → Type 0 where
   found : (file : List ℕ) → IsFaultless file → Searched file [] (file ∷ [])
   has_fault : (file : List ℕ) → (IsFaultless file → ⊥) → Searched file [] []
-  along : (front bytes : List ℕ) (parts : List Part) (files : List (List ℕ)) → Searched (front ++ bytes) parts files
-      → Searched front (Same bytes ∷ parts) files
-  no_way : (front : List ℕ) (parts : List Part) → Searched front (Differ [] ∷ parts) []
-  last_way : (front here : List ℕ) (ways : List (List ℕ)) (parts : List Part) (files more : List (List ℕ))
-      → Searched front (Differ ways ∷ parts) files → Searched (front ++ here) parts more
-      → Searched front (Differ (ways ++ here ∷ []) ∷ parts) (files ++ more)
-  way_again : (front here : List ℕ) (ways : List (List ℕ)) (parts : List Part) (files : List (List ℕ)) → Contains ways here
-      → Searched front (Differ ways ∷ parts) files → Searched front (Differ (ways ++ here ∷ []) ∷ parts) files
-  given_up : (front : List ℕ) (parts : List Part) → CanBeGivenUp front → Searched front parts []
+  along : (prefix bytes : List ℕ) (parts : List Part) (files : List (List ℕ)) → Searched (prefix ++ bytes) parts files
+      → Searched prefix (Same bytes ∷ parts) files
+  no_way : (prefix : List ℕ) (parts : List Part) → Searched prefix (Differ [] ∷ parts) []
+  last_way : (prefix here : List ℕ) (ways : List (List ℕ)) (parts : List Part) (files more : List (List ℕ))
+      → Searched prefix (Differ ways ∷ parts) files → Searched (prefix ++ here) parts more
+      → Searched prefix (Differ (ways ++ here ∷ []) ∷ parts) (files ++ more)
+  way_again : (prefix here : List ℕ) (ways : List (List ℕ)) (parts : List Part) (files : List (List ℕ)) → Contains ways here
+      → Searched prefix (Differ ways ∷ parts) files → Searched prefix (Differ (ways ++ here ∷ []) ∷ parts) files
+  given_up : (prefix : List ℕ) (parts : List Part) → CanBeGivenUp prefix → Searched prefix parts []
 
 -- each of these files is a splice without a fault
 abbrev pub AreFaultlessSplices : ℕ → List Part → List (List ℕ) → Type 0

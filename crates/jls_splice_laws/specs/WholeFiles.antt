@@ -6,7 +6,7 @@ use Rattle.jls_copy.specs.Pieces.{pieces}
 use Rattle.jls_write.specs.Picture.{WholePicture}
 use Rattle.jls_headline.specs.ReadsAs.{ReadsAs}
 use Rattle.jls_headline.specs.Damaged.{Survives}
-use Rattle.jls_copy.specs.Fronts.{HasLines}
+use Rattle.jls_copy.specs.Prefixes.{HasLines}
 use Rattle.jls_search.specs.Faultless.{EndsWell, IsFaultless}
 
 -- each piece of the file reads as lines

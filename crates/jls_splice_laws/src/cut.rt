@@ -3,7 +3,7 @@
 ghost use Rattle.jls_splice_laws.specs.CutLaws.{CutLinesAreThePicture, CutsAreHeld, SoughtFilesBeginWithTheCut, WholeFilesBeginWithTheirLines};
 
 use crate::settled::whole_files_survive;
-use jls_copy::fronts_keep_readings;
+use jls_copy::prefixes_keep_readings;
 use jls_headline::collected_copies_are_held;
 
 /// A law: assume that each other choice of ways for the first parts is dead. Assume also that an undamaged file has, at each of these
@@ -17,6 +17,6 @@ pub fn cut_lines_are_the_picture()
     ensures all { CutLinesAreThePicture }
 {
     whole_files_survive();
-    fronts_keep_readings();
+    prefixes_keep_readings();
     collected_copies_are_held();
 }

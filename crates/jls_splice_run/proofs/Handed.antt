@@ -10,9 +10,9 @@ use Rattle.jls_splice_run.specs.Handing.{HandsAll, HandsFile, HandsFiles, StopsA
 use Rattle.jls_splice_run.specs.Runs.{GrewBoth}
 
 -- one event, and then others
-pub grew_behind : (A B : List Event → Type 0) (old mid new : History) (first : Event) → ((events : List Event) → A events → B (first ∷ events))
+pub grew_after : (A B : List Event → Type 0) (old mid new : History) (first : Event) → ((events : List Event) → A events → B (first ∷ events))
     → mid ≡ old ++ first ∷ [] → GrewBy A mid new → GrewBy B old new
-grew_behind A B old mid new first see e h =
+grew_after A B old mid new first see e h =
     grew_on (λ events. events ≡ first ∷ []) A B old mid new (λ a b is t. subst (λ (x : List Event). B (x ++ b)) (sym is) (see b t))
     (record { events = first ∷ []; grew = e; they_are = refl }) h
 

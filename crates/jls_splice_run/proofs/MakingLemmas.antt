@@ -4,12 +4,12 @@ use Rattle.std.specs.Prelude.{◌^◌, ◌⊎◌, IfSome, IfNone, option_map, if
 use Rattle.std.specs.List.{sum_by}
 use Rattle.std.proofs.lemmas.List.Sums.{sum_by-cons}
 use Rattle.jls_diff.specs.Parts.{AreParts, Part, Same, made, way}
-use Rattle.jls_search.proofs.Fronts.{front_more}
-use Rattle.jls_search.specs.Choices.{IsFirstWay, IsPath, front_of}
+use Rattle.jls_search.proofs.Prefixes.{prefix_more}
+use Rattle.jls_search.specs.Choices.{IsFirstWay, IsPath, prefix_of}
 use Rattle.jls_search.specs.SearchLaws.{AreShort}
 use Rattle.jls_search.specs.Found.{Found}
 use Rattle.jls_splice_run.specs.Limits.{has_some}
-use Rattle.jls_splice_run.specs.Making.{files_told, lacks_single, promise_of}
+use Rattle.jls_splice_run.specs.Making.{files_reported, lacks_single, promise_of}
 use Rattle.jls_splice_run.specs.declared.found.Promise.TheVariants.{Picture, Lines}
 use Rattle.jls_splice_run.specs.Single.{IsSingleAsked}
 
@@ -22,11 +22,11 @@ path_at (p ∷ ps) (c ∷ cs) zero h l = (omega arith, h.0)
 path_at (p ∷ ps) (c ∷ cs) (suc i) h l = let r = path_at ps cs i h.1 (omega (arith, l)) in (omega (arith, r.0), r.1)
 
 -- one choice more
-pub front_one_more : (ps : List Part) (cs : List ℕ) (i : ℕ) (file bytes : List ℕ) → IsPath ps cs → i < length cs
-    → file ≡ front_of ps (take i cs) → bytes ≡ way (get_or cs i 0) (get_or ps i (Same [])) → file ++ bytes ≡ front_of ps (take (i + 1) cs)
-front_one_more ps cs i file bytes path l is here =
+pub prefix_one_more : (ps : List Part) (cs : List ℕ) (i : ℕ) (file bytes : List ℕ) → IsPath ps cs → i < length cs
+    → file ≡ prefix_of ps (take i cs) → bytes ≡ way (get_or cs i 0) (get_or ps i (Same [])) → file ++ bytes ≡ prefix_of ps (take (i + 1) cs)
+prefix_one_more ps cs i file bytes path l is here =
     let e : i + 1 ≡ suc i = omega arith in
-    rw e (ap (λ z. z ++ bytes) is ∙ ap (λ z. front_of ps (take i cs) ++ z) here ∙ sym (front_more ps cs i path l))
+    rw e (ap (λ z. z ++ bytes) is ∙ ap (λ z. prefix_of ps (take i cs) ++ z) here ∙ sym (prefix_more ps cs i path l))
 
 -- the first copy of short ones is short
 first_within : (copies : List (List ℕ)) → length (get_or copies 0 []) ≤ sum_by length copies
@@ -52,10 +52,10 @@ length-map f [] = refl
 length-map f (x ∷ xs) = ap suc (length-map f xs)
 
 -- how many files have a name, as the code has it
-pub told_maps : {A B C D : Type 0} (f : A → C) (g : B → D) (x : Option A) (ys : List B)
-    → files_told (option_map f x) (map g ys) ≡ files_told x ys
-told_maps f g None ys = refl
-told_maps f g (Some x) ys = ap Some (length-map g ys)
+pub reported_maps : {A B C D : Type 0} (f : A → C) (g : B → D) (x : Option A) (ys : List B)
+    → files_reported (option_map f x) (map g ys) ≡ files_reported x ys
+reported_maps f g None ys = refl
+reported_maps f g (Some x) ys = ap Some (length-map g ys)
 
 -- a single file that is asked for by a name, as the code has the name
 pub single_maps : {A B : Type 0} (f : A → B) (o : Option A) (files : List (List ℕ)) (single : Option (List ℕ))

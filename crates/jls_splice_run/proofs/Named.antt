@@ -24,11 +24,11 @@ is_named_at (s ∷ ss) file zero d l e = ap (λ b. b || is_named (named_files ss
 is_named_at (s ∷ ss) file (suc i) d l e =
     or_true (bytes_eq s.bytes.items file) ∙ ap (λ b. bytes_eq s.bytes.items file || b) (is_named_at ss file i d (omega (arith, l)) e)
 
--- the files up to a place, that one, and those behind it
-one_behind : {X : Type 0} (xs : List X) (i : ℕ) (d : X) → i < length xs → drop i xs ≡ get_or xs i d ∷ drop (suc i) xs
-one_behind [] i d l = absurd (omega (arith, l))
-one_behind (x ∷ xs) zero d l = refl
-one_behind (x ∷ xs) (suc i) d l = one_behind xs i d (omega (arith, l))
+-- the files up to a place, that one, and those after it
+one_after : {X : Type 0} (xs : List X) (i : ℕ) (d : X) → i < length xs → drop i xs ≡ get_or xs i d ∷ drop (suc i) xs
+one_after [] i d l = absurd (omega (arith, l))
+one_after (x ∷ xs) zero d l = refl
+one_after (x ∷ xs) (suc i) d l = one_after xs i d (omega (arith, l))
 
 named_one_more : (files : List NumberedFile) (i : ℕ) (x : NumberedFile) → i < length files → x ≡ get_or files i x
     → named_files (take (i + 1) files) ≡ named_files (take i files) ++ named_file x ∷ []
@@ -41,7 +41,7 @@ named_split : (files : List NumberedFile) (i : ℕ) (x : NumberedFile) → i < l
 named_split files i x l is =
     ap named_files (sym (take-append-drop i files)) ∙ map-append named_file (take i files) (drop i files)
     ∙ ap (λ (ys : List NumberedFile). named_files (take i files) ++ named_files ys)
-    (one_behind files i x l ∙ ap (λ (y : NumberedFile). y ∷ drop (suc i) files) (sym is))
+    (one_after files i x l ∙ ap (λ (y : NumberedFile). y ∷ drop (suc i) files) (sym is))
 
 named_count : (files : List NumberedFile) (i : ℕ) → i ≤ length files → length (named_files (take i files)) ≡ i
 named_count files zero l = refl

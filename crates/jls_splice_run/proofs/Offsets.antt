@@ -27,7 +27,7 @@ got_again [] i d within = absurd (omega (arith, within))
 got_again (p ∷ ps) zero d within = refl
 got_again (p ∷ ps) (suc i) d within = got_again ps i d (omega (arith, within))
 
--- the offset behind a part
+-- the offset after a part
 pub offset_more : (parts : List CodePart) (i : ℕ) (x : CodePart) → i < length parts → x ≡ get_or parts i x
     → offset_at (parts_of parts) (i + 1) ≡ offset_at (parts_of parts) i + length (way 0 (part_of x))
 offset_more parts i x within is =

@@ -34,7 +34,7 @@ d128 = decimal-digits_of 128 (lit< tt) (lit< tt)
 d4095 : decimal 4095 ≡ codes "4095"
 d4095 = decimal-digits_of 4095 (lit< tt) (lit< tt)
 
--- "abXc" and "abYcZZ": one byte differs, and two stand behind the end of the first
+-- "abXc" and "abYcZZ": one byte differs, and two stand after the end of the first
 abbrev parts : List Part
 parts = Same (codes "ab") ∷ Differ (codes "X" ∷ codes "Y" ∷ []) ∷ Same (codes "c") ∷ Differ ([] ∷ codes "ZZ" ∷ []) ∷ []
 

@@ -1,4 +1,4 @@
--- Lines of a search, one behind the other.
+-- Lines of a search, one after the other.
 use Rattle.std.proofs.Common.{◌≡◌, ℕ, suc, ◌+◌, ◌*◌, ◌<◌, ◌≤◌, Bool, true, false, List, [], ◌∷◌, ◌++◌, length, map, Result, Ok, Err, refl, ap, ◌∙◌, subst, arith, inl, inr}
 use Rattle.std.specs.Prelude.{min, OnOk, OnErr}
 use Rattle.std.proofs.lemmas.Bool.{cases_lt}
@@ -6,7 +6,7 @@ use Rattle.jls_io.specs.Event.{Event}
 use Rattle.jls_diff.specs.Parts.{Part}
 use Rattle.jls_search.specs.Search.{CanGoOn, GoesFrom, Tried, lists_of, nothing, one_more}
 use Rattle.jls_search.specs.declared.whole_search.WholeSearch.{WholeSearch}
-use Rattle.jls_splice_run.specs.Telling.{line, nothing_tried, GoesOn, HasTold, IsTold, TellsLine}
+use Rattle.jls_splice_run.specs.Telling.{line, nothing_tried, GoesOn, HasReported, IsReported, TellsLine}
 use Rattle.jls_splice_run.specs.declared.options.SearchOptions.{SearchOptions}
 
 pub length-map : {X Y : Type 0} (f : X → Y) (xs : List X) → length (map f xs) ≡ length xs
@@ -22,32 +22,32 @@ pub on_ok_anyway : {T E : Type 0} (r : Result T E) (P : Type 0) → P → OnOk r
 on_ok_anyway (Ok x) P h = h
 on_ok_anyway (Err e) P h = tt
 
--- nothing is told before anything was tried
-pub none_told : (tells : Bool) → IsTold tells 0 0 []
-none_told true = nothing_tried
-none_told false = refl
+-- nothing is reported before anything was tried
+pub none_reported : (tells : Bool) → IsReported tells 0 0 []
+none_reported true = nothing_tried
+none_reported false = refl
 
 pub on_err_anyway : {T E : Type 0} (r : Result T E) (P : Type 0) → P → OnErr r P
 on_err_anyway (Ok x) P h = tt
 on_err_anyway (Err e) P h = h
 
 -- one line more
-told_more : (tells : Bool) (rounds found tries files : ℕ) (events more : List Event) → IsTold tells (64 * rounds) found events
+reported_more : (tells : Bool) (rounds found tries files : ℕ) (events more : List Event) → IsReported tells (64 * rounds) found events
     → 64 * rounds < tries → tries ≤ 64 * rounds + 64 → found ≤ files → TellsLine tells tries files more
-    → IsTold tells tries files (events ++ more)
-told_more true rounds found tries files events more told less near le printed = line rounds found tries files events more told less near le printed
-told_more false rounds found tries files events more told less near le none = ap (λ (xs : List Event). xs ++ more) told ∙ none
+    → IsReported tells tries files (events ++ more)
+reported_more true rounds found tries files events more reported less near le printed = line rounds found tries files events more reported less near le printed
+reported_more false rounds found tries files events more reported less near le none = ap (λ (xs : List Event). xs ++ more) reported ∙ none
 
-pub told_on : (options : SearchOptions) (old new : WholeSearch) (events more : List Event) → CanGoOn old options.tries → HasTold options old events
-    → GoesOn options old new more → HasTold options new (events ++ more)
-told_on options old new events more can h g =
+pub reported_on : (options : SearchOptions) (old new : WholeSearch) (events more : List Event) → CanGoOn old options.tries → HasReported options old events
+    → GoesOn options old new more → HasReported options new (events ++ more)
+reported_on options old new events more can h g =
     let p = h.paused can in
     let before = length (lists_of old.splices.items) in
     let now = length (lists_of new.splices.items) in
     let at = p.1 in let less = g.tries in let near = g.near in
-    let told : IsTold options.tells (64 * p.0) before events = subst (λ n. IsTold options.tells n before events) at h.told in
+    let reported : IsReported options.tells (64 * p.0) before events = subst (λ n. IsReported options.tells n before events) at h.reported in
     record {
-      told = told_more options.tells p.0 before new.tries now events more told (omega (arith, at, less)) (omega (arith, at, near)) g.files g.told;
+      reported = reported_more options.tells p.0 before new.tries now events more reported (omega (arith, at, less)) (omega (arith, at, near)) g.files g.reported;
       within = g.within;
       paused = λ again. (let e = g.paused again in (p.0 + 1, omega (arith, at, e)));
     }
@@ -56,7 +56,7 @@ told_on options old new events more can h g =
 pub went_on : (parts : List Part) (options : SearchOptions) (old new : WholeSearch) (pause : ℕ) → pause ≡ min (old.tries + 64) options.tries
     → CanGoOn old options.tries → (CanGoOn new pause → ⊥) → GoesFrom parts old new pause → (events : List Event)
     → TellsLine options.tells new.tries (length (lists_of new.splices.items)) events → GoesOn options old new events
-went_on parts options old new pause at can stops went events told =
+went_on parts options old new pause at can stops went events reported =
     let below = can.1 in
     let within = went.within in
     let less = went.some (can.0, omega (arith, at, below), can.2) in
@@ -68,12 +68,12 @@ went_on parts options old new pause at can stops went events told =
       paused = λ again.
           elim (cases_lt new.tries pause) [
             | inl before ↦ absurd (stops (again.0, before, again.2))
-            | inr behind ↦ (let more = again.1 in omega (arith, at, below, within, behind, more))
+            | inr after ↦ (let more = again.1 in omega (arith, at, below, within, after, more))
           ];
-      told = told;
+      reported = reported;
     }
 
--- tries behind tries
+-- tries after tries
 pub tried_on : (parts : List Part) (a b c : WholeSearch) → Tried parts a b → Tried parts b c → Tried parts a c
 tried_on parts a _ _ t (nothing b) = t
 tried_on parts a _ _ t (one_more b mid c u more) = one_more a mid c (tried_on parts a b mid t u) more

@@ -5,28 +5,28 @@ use Rattle.std.specs.List.{AllByRecursion}
 use Rattle.std.proofs.lemmas.List.{append-nil, append_assoc, drop_more, take-append-drop}
 use Rattle.jls_io.specs.Event.{Event}
 use Rattle.jls_diff.specs.Parts.{Part}
-use Rattle.jls_splice_run.specs.Limits.{AreInTurn, IsSearchMade, SearchMade, WentThrough, counting, counting_of, cut_limit, has_some, last_or, limit_or, limits, none, one_more, through_all, tries_after, tries_behind, up_to}
-use Rattle.jls_splice_run.specs.Telling.{AreTold, HasSearched, HasTurned, IsTold, ToldSome, ToldUpTo, TookTurns}
+use Rattle.jls_splice_run.specs.Limits.{AreInTurn, IsSearchMade, SearchMade, WentThrough, counting, counting_of, cut_limit, has_some, last_or, limit_or, limits, none, one_more, through_all, tries_after, next_tries, up_to}
+use Rattle.jls_splice_run.specs.Telling.{AreReported, HasSearched, HasTurned, IsReported, ReportedSome, ReportedUpTo, TookTurns}
 use Rattle.jls_splice_run.specs.declared.limits.Turned.{Turned}
 use Rattle.jls_splice_run.specs.declared.options.SearchOptions.{SearchOptions}
-use Rattle.jls_splice_run.proofs.Rounds.{none_told}
+use Rattle.jls_splice_run.proofs.Rounds.{none_reported}
 
--- ---- what was told
+-- ---- what was reported
 
-pub told_behind : (tells : Bool) (xs : List SearchMade) (s : SearchMade) (a b : List Event) → AreTold tells xs a
-    → IsTold tells s.tries (length s.choices) b → AreTold tells (xs ++ s ∷ []) (a ++ b)
-told_behind tells [] s a b nothing h = (b, [], ap (λ (z : List Event). z ++ b) nothing ∙ sym (append-nil b), h, refl)
-told_behind tells (x ∷ xs) s a b (first, rest, is, one, more) h = (
+pub reported_after : (tells : Bool) (xs : List SearchMade) (s : SearchMade) (a b : List Event) → AreReported tells xs a
+    → IsReported tells s.tries (length s.choices) b → AreReported tells (xs ++ s ∷ []) (a ++ b)
+reported_after tells [] s a b nothing h = (b, [], ap (λ (z : List Event). z ++ b) nothing ∙ sym (append-nil b), h, refl)
+reported_after tells (x ∷ xs) s a b (first, rest, is, one, more) h = (
   first,
   rest ++ b,
   ap (λ (z : List Event). z ++ b) is ∙ append_assoc first rest b,
   one,
-  told_behind tells xs s rest b more h,
+  reported_after tells xs s rest b more h,
 )
 
-pub all_told : (tells : Bool) (s : SearchMade) (xs : List SearchMade) (a b : List Event) → IsTold tells s.tries (length s.choices) a
-    → AreTold tells xs b → AreTold tells (s ∷ xs) (a ++ b)
-all_told tells s xs a b one more = (a, b, refl, one, more)
+pub all_reported : (tells : Bool) (s : SearchMade) (xs : List SearchMade) (a b : List Event) → IsReported tells s.tries (length s.choices) a
+    → AreReported tells xs b → AreReported tells (s ∷ xs) (a ++ b)
+all_reported tells s xs a b one more = (a, b, refl, one, more)
 
 -- ---- what counts
 
@@ -40,12 +40,12 @@ limit_more limit [] s = refl
 limit_more limit (x ∷ xs) s = limit_more (if x.is_used_up then limit else x.ceiling) xs s
 
 pub tries_more : (most tries : ℕ) (xs : List SearchMade) (s : SearchMade)
-    → tries_after most tries (xs ++ s ∷ []) ≡ tries_behind most (tries_after most tries xs) s
+    → tries_after most tries (xs ++ s ∷ []) ≡ next_tries most (tries_after most tries xs) s
 tries_more most tries [] s = refl
-tries_more most tries (x ∷ xs) s = tries_more most (tries_behind most tries x) xs s
+tries_more most tries (x ∷ xs) s = tries_more most (next_tries most tries x) xs s
 
 -- never more than are allowed
-within_one : (most tries : ℕ) (s : SearchMade) → tries ≤ most → tries_behind most tries s ≤ most
+within_one : (most tries : ℕ) (s : SearchMade) → tries ≤ most → next_tries most tries s ≤ most
 within_one most tries s l = by (has_some s.choices)
   where
     by : (b : Bool) → (if b then min most (max 256 (16 * s.tries)) else tries) ≤ most
@@ -54,7 +54,7 @@ within_one most tries s l = by (has_some s.choices)
 
 tries_within : (most tries : ℕ) (xs : List SearchMade) → tries ≤ most → tries_after most tries xs ≤ most
 tries_within most tries [] l = l
-tries_within most tries (x ∷ xs) l = tries_within most (tries_behind most tries x) xs (within_one most tries x l)
+tries_within most tries (x ∷ xs) l = tries_within most (next_tries most tries x) xs (within_one most tries x l)
 
 -- ---- a search with fewer tries than are allowed, that was not cut off
 
@@ -88,7 +88,7 @@ went_made parts most _ _ first (one_more limits limit xs s went ceiling made who
 turned_made : (parts : List Part) (most : ℕ) (limits : List ℕ) (xs : List SearchMade) (first : SearchMade) → AreInTurn parts most limits xs
     → IsSearchMade parts most first → IsSearchMade parts most (counting first xs)
 turned_made parts most _ _ first (through_all limits xs went) is = went_made parts most limits xs first went is
-turned_made parts most _ _ first (up_to limits limit behind xs s went ceiling made cut) is =
+turned_made parts most _ _ first (up_to limits limit after xs s went ceiling made cut) is =
     subst (IsSearchMade parts most) (sym (counting_more first xs s))
     (counting_made parts most (counting first xs) s (went_made parts most limits xs first went is) (λ e. absurd cc))
 
@@ -121,63 +121,63 @@ went_within parts most _ _ (one_more limits limit xs s went ceiling made whole) 
 turned_within : (parts : List Part) (most : ℕ) (limits : List ℕ) (xs : List SearchMade) → AreInTurn parts most limits xs
     → AllByRecursion (λ s. s.tries ≤ most) xs
 turned_within parts most _ _ (through_all limits xs went) = went_within parts most limits xs went
-turned_within parts most _ _ (up_to limits limit behind xs s went ceiling made cut) =
+turned_within parts most _ _ (up_to limits limit after xs s went ceiling made cut) =
     let allowed = tries_within most most xs (omega arith) in
     let w = made.within in
     all_and_one (λ s. s.tries ≤ most) xs s (went_within parts most limits xs went) (omega (arith, allowed, w))
 
--- ---- what was told where memory ran out
+-- ---- what was reported where memory ran out
 
 -- in the first search
-pub none_before : (most : ℕ) (tells : Bool) (events : List Event) → ToldSome most tells events → ToldUpTo most tells events
+pub none_before : (most : ℕ) (tells : Bool) (events : List Event) → ReportedSome most tells events → ReportedUpTo most tells events
 none_before most tells events h = ([], [], events, refl, tt, refl, h)
 
-pub nothing_told : (most : ℕ) (tells : Bool) → ToldUpTo most tells []
-nothing_told most tells = none_before most tells [] (0, 0, omega arith, none_told tells)
+pub nothing_reported : (most : ℕ) (tells : Bool) → ReportedUpTo most tells []
+nothing_reported most tells = none_before most tells [] (0, 0, omega arith, none_reported tells)
 
--- behind searches that were made
-pub told_before : (most : ℕ) (tells : Bool) (xs : List SearchMade) (done last : List Event) → AllByRecursion (λ s. s.tries ≤ most) xs
-    → AreTold tells xs done → ToldSome most tells last → ToldUpTo most tells (done ++ last)
-told_before most tells xs done last all told some = (xs, done, last, refl, all, told, some)
+-- after searches that were made
+pub reported_before : (most : ℕ) (tells : Bool) (xs : List SearchMade) (done last : List Event) → AllByRecursion (λ s. s.tries ≤ most) xs
+    → AreReported tells xs done → ReportedSome most tells last → ReportedUpTo most tells (done ++ last)
+reported_before most tells xs done last all reported some = (xs, done, last, refl, all, reported, some)
 
 pub all_before : (most : ℕ) (tells : Bool) (xs : List SearchMade) (events : List Event) → AllByRecursion (λ s. s.tries ≤ most) xs
-    → AreTold tells xs events → ToldUpTo most tells events
-all_before most tells xs events all told = (xs, events, [], sym (append-nil events), all, told, (0, 0, omega arith, none_told tells))
+    → AreReported tells xs events → ReportedUpTo most tells events
+all_before most tells xs events all reported = (xs, events, [], sym (append-nil events), all, reported, (0, 0, omega arith, none_reported tells))
 
 -- one search before others
-pub one_before : (most : ℕ) (tells : Bool) (s : SearchMade) (a b : List Event) → s.tries ≤ most → IsTold tells s.tries (length s.choices) a
-    → ToldUpTo most tells b → ToldUpTo most tells (a ++ b)
-one_before most tells s a b within one (xs, done, last, is, all, told, some) = (
+pub one_before : (most : ℕ) (tells : Bool) (s : SearchMade) (a b : List Event) → s.tries ≤ most → IsReported tells s.tries (length s.choices) a
+    → ReportedUpTo most tells b → ReportedUpTo most tells (a ++ b)
+one_before most tells s a b within one (xs, done, last, is, all, reported, some) = (
   s ∷ xs,
   a ++ done,
   last,
   ap (λ (z : List Event). a ++ z) is ∙ sym (append_assoc a done last),
   (within, all),
-  all_told tells s xs a done one told,
+  all_reported tells s xs a done one reported,
   some,
 )
 
 pub turned_before : (parts : List Part) (options : SearchOptions) (limits : List ℕ) (turned : Turned) (events : List Event)
-    → HasTurned parts options limits turned events → ToldUpTo options.tries options.tells events
+    → HasTurned parts options limits turned events → ReportedUpTo options.tries options.tells events
 turned_before parts options limits turned events h =
-    all_before options.tries options.tells h.searches events (went_within parts options.tries limits h.searches h.through) h.told
+    all_before options.tries options.tells h.searches events (went_within parts options.tries limits h.searches h.through) h.reported
 
 -- a search in turn has no more tries than are allowed
-few_told : (fewer most : ℕ) (tells : Bool) (events : List Event) → fewer ≤ most → ToldSome fewer tells events → ToldSome most tells events
-few_told fewer most tells events less (tries, files, within, told) = (tries, files, omega (arith, less, within), told)
+few_reported : (fewer most : ℕ) (tells : Bool) (events : List Event) → fewer ≤ most → ReportedSome fewer tells events → ReportedSome most tells events
+few_reported fewer most tells events less (tries, files, within, reported) = (tries, files, omega (arith, less, within), reported)
 
 pub some_before : (parts : List Part) (options : SearchOptions) (limits : List ℕ) (turned : Turned) (a b : List Event)
-    → HasTurned parts options limits turned a → ToldSome turned.tries options.tells b → ToldUpTo options.tries options.tells (a ++ b)
+    → HasTurned parts options limits turned a → ReportedSome turned.tries options.tells b → ReportedUpTo options.tries options.tells (a ++ b)
 some_before parts options limits turned a b h some =
     let allowed = tries_within options.tries options.tries h.searches (omega arith) in
     let same = h.tries_are in
-    told_before options.tries options.tells h.searches a b (went_within parts options.tries limits h.searches h.through) h.told
-    (few_told turned.tries options.tries options.tells b (omega (arith, allowed, same)) some)
+    reported_before options.tries options.tells h.searches a b (went_within parts options.tries limits h.searches h.through) h.reported
+    (few_reported turned.tries options.tries options.tells b (omega (arith, allowed, same)) some)
 
 pub searched_before : (options : SearchOptions) (parts : List Part) (s : SearchMade) (cut : Option ℕ) (events : List Event)
-    → HasSearched options parts s cut events → ToldUpTo options.tries options.tells events
+    → HasSearched options parts s cut events → ReportedUpTo options.tries options.tells events
 searched_before options parts s cut events h =
-    all_before options.tries options.tells (h.searches.first ∷ h.searches.more) events (h.are.is_first.within, others) h.told
+    all_before options.tries options.tells (h.searches.first ∷ h.searches.more) events (h.are.is_first.within, others) h.reported
   where
     by : (ceiling : Option ℕ) (used : Bool) → options.ceiling ≡ ceiling → h.searches.first.is_used_up ≡ used
         → AllByRecursion (λ s. s.tries ≤ options.tries) h.searches.more
@@ -199,33 +199,33 @@ module _ (parts : List Part) (options : SearchOptions) where
     tries_are = t;
     found_is = λ first. ap (last_or first) (sym f);
     whole_is = λ limit. ap (limit_or limit) (sym w);
-    told = refl;
+    reported = refl;
   }
 
   pub turned_on : (limits : List ℕ) (old new : Turned) (limit : ℕ) (s : SearchMade) (a b : List Event) → HasTurned parts options limits old a
-      → IsTold options.tells s.tries (length s.choices) b → s.ceiling ≡ Some limit → IsSearchMade parts old.tries s → s.is_used_up ≡ false
-      → new.tries ≡ tries_behind options.tries old.tries s → new.whole ≡ Some limit
+      → IsReported options.tells s.tries (length s.choices) b → s.ceiling ≡ Some limit → IsSearchMade parts old.tries s → s.is_used_up ≡ false
+      → new.tries ≡ next_tries options.tries old.tries s → new.whole ≡ Some limit
       → ((first : SearchMade) → last_or first new.found ≡ counting_of (last_or first old.found) s)
       → HasTurned parts options (limits ++ limit ∷ []) new (a ++ b)
-  turned_on limits old new limit s a b h told ceiling made whole tries limit_is found = record {
+  turned_on limits old new limit s a b h reported ceiling made whole tries limit_is found = record {
     searches = h.searches ++ s ∷ [];
     through = one_more limits limit h.searches s h.through ceiling (subst (λ n. IsSearchMade parts n s) h.tries_are made) whole;
-    tries_are = tries ∙ ap (λ n. tries_behind options.tries n s) h.tries_are ∙ sym (tries_more options.tries options.tries h.searches s);
+    tries_are = tries ∙ ap (λ n. next_tries options.tries n s) h.tries_are ∙ sym (tries_more options.tries options.tries h.searches s);
     found_is = λ first. counting_more first h.searches s ∙ ap (λ z. counting_of z s) (h.found_is first) ∙ sym (found first);
     whole_is = λ o. limit_more o h.searches s ∙ (rw whole ceiling) ∙ ap (limit_or o) (sym limit_is);
-    told = told_behind options.tells h.searches s a b h.told told;
+    reported = reported_after options.tells h.searches s a b h.reported reported;
   }
 
   -- the last was cut off
-  pub turned_up_to : (limits behind : List ℕ) (turned : Turned) (limit : ℕ) (s : SearchMade) (a b : List Event)
-      → HasTurned parts options limits turned a → IsTold options.tells s.tries (length s.choices) b → s.ceiling ≡ Some limit
-      → IsSearchMade parts turned.tries s → s.is_used_up ≡ true → TookTurns parts options (limits ++ limit ∷ behind) turned (a ++ b)
-  turned_up_to limits behind turned limit s a b h told ceiling made cut = record {
+  pub turned_up_to : (limits after : List ℕ) (turned : Turned) (limit : ℕ) (s : SearchMade) (a b : List Event)
+      → HasTurned parts options limits turned a → IsReported options.tells s.tries (length s.choices) b → s.ceiling ≡ Some limit
+      → IsSearchMade parts turned.tries s → s.is_used_up ≡ true → TookTurns parts options (limits ++ limit ∷ after) turned (a ++ b)
+  turned_up_to limits after turned limit s a b h reported ceiling made cut = record {
     searches = h.searches ++ s ∷ [];
-    in_turn = up_to limits limit behind h.searches s h.through ceiling (subst (λ n. IsSearchMade parts n s) h.tries_are made) cut;
+    in_turn = up_to limits limit after h.searches s h.through ceiling (subst (λ n. IsSearchMade parts n s) h.tries_are made) cut;
     found_is = λ first. counting_more first h.searches s ∙ (rw cut refl) ∙ h.found_is first;
     whole_is = λ o. limit_more o h.searches s ∙ (rw cut refl) ∙ h.whole_is o;
-    told = told_behind options.tells h.searches s a b h.told told;
+    reported = reported_after options.tells h.searches s a b h.reported reported;
   }
 
   pub took_all : (limits : List ℕ) (turned : Turned) (events : List Event) → HasTurned parts options limits turned events
@@ -235,7 +235,7 @@ module _ (parts : List Part) (options : SearchOptions) where
     in_turn = through_all limits h.searches h.through;
     found_is = h.found_is;
     whole_is = h.whole_is;
-    told = h.told;
+    reported = h.reported;
   }
 
 -- ---- all searches
@@ -243,8 +243,8 @@ module _ (parts : List Part) (options : SearchOptions) where
 module _ (options : SearchOptions) (parts : List Part) (first : SearchMade) (asked : first.ceiling ≡ options.ceiling) (made : IsSearchMade parts options.tries first) where
   -- the one that is asked for is the only one
   pub searched_once : (events : List Event) → IsSome options.ceiling ⊎ (first.is_used_up ≡ false)
-      → IsTold options.tells first.tries (length first.choices) events → HasSearched options parts first options.ceiling events
-  searched_once events why told = record {
+      → IsReported options.tells first.tries (length first.choices) events → HasSearched options parts first options.ceiling events
+  searched_once events why reported = record {
     searches = record { first = first; more = [] };
     are = record {
       ceiling_is = asked;
@@ -254,7 +254,7 @@ module _ (options : SearchOptions) (parts : List Part) (first : SearchMade) (ask
     };
     counts = refl;
     cut_is = asked;
-    told = (events, [], sym (append-nil events), told, refl);
+    reported = (events, [], sym (append-nil events), reported, refl);
   }
     where
       not_both : IsSome options.ceiling ⊎ (first.is_used_up ≡ false) → options.ceiling ≡ None → first.is_used_up ≡ true → ⊥
@@ -267,9 +267,9 @@ module _ (options : SearchOptions) (parts : List Part) (first : SearchMade) (ask
 
   -- others follow in turn
   pub searched_in_turn : (turned : Turned) (s : SearchMade) (cut : Option ℕ) (a b : List Event) → options.ceiling ≡ None
-      → first.is_used_up ≡ true → IsTold options.tells first.tries (length first.choices) a → TookTurns parts options limits turned b
+      → first.is_used_up ≡ true → IsReported options.tells first.tries (length first.choices) a → TookTurns parts options limits turned b
       → s ≡ last_or first turned.found → cut ≡ turned.whole → HasSearched options parts s cut (a ++ b)
-  searched_in_turn turned s cut a b unlimited used told t counts cut_is = record {
+  searched_in_turn turned s cut a b unlimited used reported t counts cut_is = record {
     searches = record { first = first; more = t.searches };
     are = record {
       ceiling_is = asked;
@@ -279,7 +279,7 @@ module _ (options : SearchOptions) (parts : List Part) (first : SearchMade) (ask
     };
     counts = t.found_is first ∙ sym counts;
     cut_is = t.whole_is first.ceiling ∙ ap (λ o. limit_or o turned.whole) (asked ∙ unlimited) ∙ or_itself turned.whole ∙ sym cut_is;
-    told = (a, b, refl, told, t.told);
+    reported = (a, b, refl, reported, t.reported);
   }
     where
       neither : IsSome options.ceiling ⊎ (first.is_used_up ≡ false) → ⊥

@@ -1,7 +1,7 @@
 -- What was made, handed out.
 use Rattle.std.specs.Prelude.{◌≡◌, ℕ, ◌+◌, List, [], ◌∷◌, ◌++◌, Option, Some, codes, length}
 use Rattle.jls_io.specs.Event.{Event, created, not_created}
-use Rattle.jls_io.specs.Writing.{Wrote, WroteFront}
+use Rattle.jls_io.specs.Writing.{Wrote, WrotePrefix}
 use Rattle.jls_io.specs.Outputs.{HandsOut}
 use Rattle.jls_splice_run.specs.declared.outcome.Cause.TheVariants as cause
 use Rattle.jls_splice_run.specs.declared.outcome.Refusal.{Refusal}
@@ -10,14 +10,14 @@ use Rattle.jls_splice_run.specs.Listing.{NamedFile}
 -- the report output stops the run: it was handed so many of the bytes when a write failed
 pub record StopsAtReport (bytes : List ℕ) (r : Refusal) (events : List Event) : Type 0 where
   pub count : ℕ
-  pub wrote : WroteFront bytes count events
+  pub wrote : WrotePrefix bytes count events
   pub name_is : r.name.now ≡ codes "-"
   pub cause_is : r.cause ≡ cause.NotWritten count
 
 -- an output of this name stops the run. It is not created, or it was handed so many of the bytes when a write failed
 pub data StopsAtOutput (name bytes : List ℕ) (r : Refusal) : List Event → Type 0 where
   not_there : r.name.now ≡ name → r.cause ≡ cause.NotCreated → StopsAtOutput name bytes r (not_created name ∷ [])
-  cut : (count : ℕ) (writes : List Event) → r.name.now ≡ name → r.cause ≡ cause.NotWritten count → WroteFront bytes count writes
+  cut : (count : ℕ) (writes : List Event) → r.name.now ≡ name → r.cause ≡ cause.NotWritten count → WrotePrefix bytes count writes
       → StopsAtOutput name bytes r (created name ∷ writes)
 
 -- an output is handed these bytes if there are a name and bytes. Else nothing is done
@@ -41,7 +41,7 @@ pub data StopsAtNumber (prefix : List ℕ) (number : ℕ) (file : NamedFile) (r 
   number_not_there : r.name.now ≡ prefix → r.cause ≡ cause.FileNotCreated number
       → StopsAtNumber prefix number file r (not_created file.name ∷ [])
   number_cut : (count : ℕ) (writes : List Event) → r.name.now ≡ prefix → r.cause ≡ cause.FileNotWritten number count
-      → WroteFront file.bytes count writes → StopsAtNumber prefix number file r (created file.name ∷ writes)
+      → WrotePrefix file.bytes count writes → StopsAtNumber prefix number file r (created file.name ∷ writes)
 
 -- one of these outputs stops the run, and those before it were handed their files
 pub record StopsAtFiles (prefix : List ℕ) (files : List NamedFile) (r : Refusal) (events : List Event) : Type 0 where

@@ -33,13 +33,13 @@ has_some (x ∷ xs) = true
 
 -- how many tries the next search has: as many as this one had; or if this one found a file, 16 times as many as it made, but 256 at least,
 -- and never more than are allowed
-abbrev pub tries_behind : ℕ → ℕ → SearchMade → ℕ
-tries_behind most tries s = if has_some s.choices then min most (max 256 (16 * s.tries)) else tries
+abbrev pub next_tries : ℕ → ℕ → SearchMade → ℕ
+next_tries most tries s = if has_some s.choices then min most (max 256 (16 * s.tries)) else tries
 
--- and the next behind several
+-- and the next after several
 abbrev pub tries_after : ℕ → ℕ → List SearchMade → ℕ
 tries_after most tries [] = tries
-tries_after most tries (s ∷ more) = tries_after most (tries_behind most tries s) more
+tries_after most tries (s ∷ more) = tries_after most (next_tries most tries s) more
 
 -- searches under these limits in turn, none of which was cut off, where the first had so many tries
 pub data WentThrough (parts : List Part) (most : ℕ) : List ℕ → List SearchMade → Type 0 where
@@ -52,9 +52,9 @@ pub data WentThrough (parts : List Part) (most : ℕ) : List ℕ → List Search
 pub data AreInTurn (parts : List Part) (most : ℕ) : List ℕ → List SearchMade → Type 0 where
   through_all : (limits : List ℕ) (searches : List SearchMade) → WentThrough parts most limits searches
       → AreInTurn parts most limits searches
-  up_to : (limits : List ℕ) (limit : ℕ) (behind : List ℕ) (searches : List SearchMade) (s : SearchMade)
+  up_to : (limits : List ℕ) (limit : ℕ) (after : List ℕ) (searches : List SearchMade) (s : SearchMade)
       → WentThrough parts most limits searches → s.ceiling ≡ Some limit → IsSearchMade parts (tries_after most most searches) s
-      → s.is_used_up ≡ true → AreInTurn parts most (limits ++ limit ∷ behind) (searches ++ s ∷ [])
+      → s.is_used_up ≡ true → AreInTurn parts most (limits ++ limit ∷ after) (searches ++ s ∷ [])
 
 -- all searches that are made: the one that is asked for, and those under limits in turn
 pub record Searches : Type 0 where

@@ -79,16 +79,16 @@ outcome_lines r = before_line r.before ++ files_line r.files ++ single_line r.la
 abbrev pub found_text : List Difference → SearchReport → List ℕ
 found_text ds report = differ_lines ds ++ search_lines report ++ outcome_lines report
 
--- text with these words in front of each of its lines, where it begins a line or not
-abbrev pub in_front : List ℕ → Bool → List ℕ → List ℕ
-in_front words begins [] = []
-in_front words true (b ∷ bs) = words ++ b ∷ in_front words (nat_eq b 10) bs
-in_front words false (b ∷ bs) = b ∷ in_front words (nat_eq b 10) bs
+-- text with these words before each of its lines, where it begins a line or not
+abbrev pub in_prefix : List ℕ → Bool → List ℕ → List ℕ
+in_prefix words begins [] = []
+in_prefix words true (b ∷ bs) = words ++ b ∷ in_prefix words (nat_eq b 10) bs
+in_prefix words false (b ∷ bs) = b ∷ in_prefix words (nat_eq b 10) bs
 
 -- what standard error has where the output is standard output: the lines of what the searches came to and of what is made of it, each with
--- the program's name in front
+-- the program's name first
 abbrev pub noted_text : SearchReport → List ℕ
-noted_text report = in_front (codes "jls-splice: ") true (search_lines report ++ outcome_lines report)
+noted_text report = in_prefix (codes "jls-splice: ") true (search_lines report ++ outcome_lines report)
 
 -- the line of how far a search is: how many prefixes and files were tried, and how many files were found
 abbrev pub progress_line : ℕ → ℕ → List ℕ

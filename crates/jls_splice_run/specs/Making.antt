@@ -20,7 +20,7 @@ use Rattle.jls_splice_run.specs.declared.found.Promise.{Promise}
 use Rattle.jls_splice_run.specs.declared.found.Promise.TheVariants.{Picture, Lines}
 use Rattle.jls_splice_run.specs.declared.found.SearchReport.{SearchReport}
 use Rattle.jls_splice_run.specs.Limits.{AreSearches, SearchMade, Searches, counting, cut_limit, has_some}
-use Rattle.jls_splice_run.specs.Telling.{AreTold, ToldUpTo}
+use Rattle.jls_splice_run.specs.Telling.{AreReported, ReportedUpTo}
 use Rattle.jls_station.specs.declared.input.ReadStop.{ReadStop}
 use Rattle.jls_station.specs.declared.input.ReadStop.TheVariants.{Whole}
 use Rattle.jls_station.specs.CopyFiles.{CopyBytes}
@@ -28,7 +28,7 @@ use Rattle.jls_search.specs.Shapes.{IsShapeFound, IsShapeTaken}
 use Rattle.jls_search.specs.Stations.{TakesFiles}
 use Rattle.jls_search.specs.Cuts.{TakesCut, TakesNoCut}
 use Rattle.jls_search.specs.Levels.{IsFirstDead, IsLone}
-use Rattle.jls_search.specs.Choices.{front_of}
+use Rattle.jls_search.specs.Choices.{prefix_of}
 use Rattle.jls_search.specs.Faultless.{IsSought}
 use Rattle.jls_search.specs.declared.shape_found.ShapeFound.{ShapeFound}
 use Rattle.jls_search.specs.declared.shape_found.ShapeFound.TheVariants.{Taken, Differ, NoFrame}
@@ -61,7 +61,7 @@ IsPictureOf source copies splices (Some cut) p = TakesCut source copies splices 
 
 -- the cut file that choices make, if one was taken
 abbrev pub cut_file : Found → Option (List ℕ) → Option (List ℕ)
-cut_file f cut = option_map (front_of f.parts) cut
+cut_file f cut = option_map (prefix_of f.parts) cut
 
 -- the cut file is what the first choices make, where the search of all splices found nothing: each other path of as many choices makes
 -- bytes with which no file begins that is sought
@@ -75,7 +75,7 @@ FindsNoCut ceiling tries f = (has_some f.choices ≡ true) ⊎ ((tries ≡ 0) �
 -- the cut file that was found is taken, if one was found; or none is, where a copy or splice has no fault or the cut file no frame
 abbrev pub IsCutTaken : List (List ℕ) → Found → Option (List ℕ) → Option (List ℕ) → Type 0
 IsCutTaken copies f lone cut =
-    (cut ≡ lone) ⊎ ((cut ≡ None) × IfSome lone (λ path. TakesNoCut copies (splices_in f) (front_of f.parts path)))
+    (cut ≡ lone) ⊎ ((cut ≡ None) × IfSome lone (λ path. TakesNoCut copies (splices_in f) (prefix_of f.parts path)))
 
 -- what is made of copies: all searches that were made; the limit of samples of the one that counts, if it had one; what was found, with
 -- how many tries; the limit under which a cut file was sought, if there was one; its choices, if one was found; and those of the one that
@@ -117,7 +117,7 @@ pub record IsMade (a : Asked) (copies : List (List ℕ)) (m : Made) : Type 0 whe
   pub is_single : IsSingleAsked a.options.file (files_taken copies m.found) m.single
   pub are_named : AreNamedAsked a.options.files (files_taken copies m.found) m.files
 
--- ---- what is told of it
+-- ---- what is reported of it
 
 -- a single file is asked for, and there is none
 abbrev pub lacks_single : {A B : Type 0} → Option A → Option B → Bool
@@ -126,38 +126,38 @@ lacks_single (Some name) (Some file) = false
 lacks_single (Some name) None = true
 
 -- how many files have numbers, where they are asked for
-abbrev pub files_told : {A B : Type 0} → Option A → List B → Option ℕ
-files_told None files = None
-files_told (Some prefix) files = Some (length files)
+abbrev pub files_reported : {A B : Type 0} → Option A → List B → Option ℕ
+files_reported None files = None
+files_reported (Some prefix) files = Some (length files)
 
--- what is told of a search by groups, where there was one
-abbrev pub groups_told : Option ByGroups → Option GroupSearch
-groups_told None = None
-groups_told (Some b) = Some (record { groups = b.groups; is_used_up = b.is_used_up })
+-- what is reported of a search by groups, where there was one
+abbrev pub groups_reported : Option ByGroups → Option GroupSearch
+groups_reported None = None
+groups_reported (Some b) = Some (record { groups = b.groups; is_used_up = b.is_used_up })
 
 -- where the cut file ends
 abbrev pub cut_end : List Part → Option ℕ → List ℕ → CutEnd
 cut_end parts ceiling path = record { offset = offset_at parts (length path); limit = ceiling }
 
 -- the limit of the search that counts, where none was given
-abbrev pub limit_told : Option ℕ → Option ℕ → Option ℕ
-limit_told None ceiling = ceiling
-limit_told (Some given) ceiling = None
+abbrev pub limit_reported : Option ℕ → Option ℕ → Option ℕ
+limit_reported None ceiling = ceiling
+limit_reported (Some given) ceiling = None
 
 -- the promise that holds: of the picture, if the search of all splices was not cut off and found a file, and each line is settled
 abbrev pub promise_of : Option ℕ → Found → Bool → Promise
 promise_of ceiling f is_settled =
     if f.is_used_up then Lines else (if has_some f.choices then (if is_settled then Picture ceiling else Lines) else Lines)
 
--- what is told of the search
+-- what is reported of the search
 abbrev pub report_on : Asked → List (List ℕ) → Made → SearchReport
 report_on a copies m = record {
   splices = count_new copies (splices_in m.found);
   is_used_up = m.found.is_used_up;
-  limit = limit_told a.options.ceiling m.ceiling;
-  by_groups = groups_told m.found.by_groups;
+  limit = limit_reported a.options.ceiling m.ceiling;
+  by_groups = groups_reported m.found.by_groups;
   before = option_map (cut_end m.found.parts m.cut_ceiling) m.cut;
-  files = files_told a.options.files m.files;
+  files = files_reported a.options.files m.files;
   lacks_single_file = lacks_single a.options.file m.single;
   promise = promise_of m.ceiling m.found m.is_settled;
 }
@@ -172,9 +172,9 @@ lines a copies m =
 abbrev pub notes : Asked → List (List ℕ) → Made → List ℕ
 notes a copies m = if bytes_eq a.out (codes "-") then noted_text (report_on a copies m) else []
 
--- events of the fault output: each search told how far it was, if that is asked for
+-- events of the fault output: each search reported how far it was, if that is asked for
 abbrev pub Tells : Asked → Searches → List Event → Type 0
-Tells a w events = AreTold a.options.progress (w.first ∷ w.more) events
+Tells a w events = AreReported a.options.progress (w.first ∷ w.more) events
 
 -- ---- why nothing is made
 
@@ -204,7 +204,7 @@ IsUnsettled a copies splices r =
 -- the search kept to its tries
 abbrev pub CantMake : Asked → List CopyBytes → Refusal → List Event → Type 0
 CantMake a copies r events =
-    (IsWantOfMemory a r × ToldUpTo a.options.tries a.options.progress events)
+    (IsWantOfMemory a r × ReportedUpTo a.options.tries a.options.progress events)
     ⊎ ((w : Searches) × (ceiling : Option ℕ) × (f : Found) × (tries : ℕ) × IsCounted a (bytes_read copies) w ceiling f tries
     × IsFound ceiling (bytes_read copies) f × IsUnsettled a copies (splices_in f) r × Tells a w events)
 
@@ -236,7 +236,7 @@ pub record AreTextsOf (a : Asked) (copies : List (List ℕ)) (m : Made) (v : Mad
   pub files_are : named_files v.files.items ≡ m.files
   pub settled_is : v.settled ≡ m.is_settled
 
--- and it was made of these copies, and told so
+-- and it was made of these copies, and reported so
 abbrev pub HoldsMade : Asked → List CopyBytes → MadeValue → List Event → Type 0
 HoldsMade a copies v events =
     (m : Made) × IsMade a (bytes_read copies) m × AreTextsOf a (bytes_read copies) m v × Tells a m.searches events

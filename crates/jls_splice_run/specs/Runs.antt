@@ -3,7 +3,7 @@ use Rattle.std.specs.Prelude.{◌≡◌, ◌↔◌, ℕ, Bool, true, false, IsTr
 use Rattle.clap.specs.Words.{Text}
 use Rattle.clap.specs.declared.error.kind.ErrorKind.{ErrorKind}
 use Rattle.jls_io.specs.Event.{Event, History}
-use Rattle.jls_io.specs.Writing.{Wrote, WroteFront, Printed}
+use Rattle.jls_io.specs.Writing.{Wrote, WrotePrefix, Printed}
 use Rattle.jls_partial.specs.Status.{IsSettled}
 use Rattle.jls_partial.specs.Text.{text}
 use Rattle.jls_station.specs.CopyFiles.{AreCopiesRead, CopyBytes}
@@ -117,7 +117,7 @@ pub data Run (words : List Text) : ℕ → List Event → List Event → List Ev
       → AreRefused words k → is_help k ≡ true → Wrote help report → Run words 0 [] report []
   -- and a write failed there
   help_cut : (k : ErrorKind) (help : List ℕ) (count : ℕ) (report faults : List Event)
-      → AreRefused words k → is_help k ≡ true → WroteFront help count report
+      → AreRefused words k → is_help k ≡ true → WrotePrefix help count report
       → Printed (not_written_line program (codes "-") count) faults
       → Run words 4 [] report faults
   -- memory ran out as the words were read

@@ -19,54 +19,54 @@ pub data Lines : ℕ → ℕ → List Event → Type 0 where
       → tries ≤ 64 * rounds + 64 → found ≤ files → Printed (progress_line tries files) more → Lines tries files (events ++ more)
 
 -- the lines of a search of so many tries, which found so many files, if they are asked for, and else nothing
-abbrev pub IsTold : Bool → ℕ → ℕ → List Event → Type 0
-IsTold true tries files events = Lines tries files events
-IsTold false tries files events = events ≡ []
+abbrev pub IsReported : Bool → ℕ → ℕ → List Event → Type 0
+IsReported true tries files events = Lines tries files events
+IsReported false tries files events = events ≡ []
 
 -- the lines of a search that ended because memory ran out, after so many tries at most
-abbrev pub ToldSome : ℕ → Bool → List Event → Type 0
-ToldSome limit tells events = (tries : ℕ) × (files : ℕ) × (tries ≤ limit) × IsTold tells tries files events
+abbrev pub ReportedSome : ℕ → Bool → List Event → Type 0
+ReportedSome limit tells events = (tries : ℕ) × (files : ℕ) × (tries ≤ limit) × IsReported tells tries files events
 
 -- the lines of searches, one after the other, if they are asked for
-abbrev pub AreTold : Bool → List SearchMade → List Event → Type 0
-AreTold tells [] events = events ≡ []
-AreTold tells (s ∷ more) events =
-    (first : List Event) × (rest : List Event) × (events ≡ first ++ rest) × IsTold tells s.tries (length s.choices) first
-    × AreTold tells more rest
+abbrev pub AreReported : Bool → List SearchMade → List Event → Type 0
+AreReported tells [] events = events ≡ []
+AreReported tells (s ∷ more) events =
+    (first : List Event) × (rest : List Event) × (events ≡ first ++ rest) × IsReported tells s.tries (length s.choices) first
+    × AreReported tells more rest
 
 -- the lines of searches that ended because memory ran out, each after so many tries at most
-abbrev pub ToldUpTo : ℕ → Bool → List Event → Type 0
-ToldUpTo limit tells events =
+abbrev pub ReportedUpTo : ℕ → Bool → List Event → Type 0
+ReportedUpTo limit tells events =
     (searches : List SearchMade) × (done : List Event) × (last : List Event) × (events ≡ done ++ last)
-    × AllByRecursion (λ s. s.tries ≤ limit) searches × AreTold tells searches done × ToldSome limit tells last
+    × AllByRecursion (λ s. s.tries ≤ limit) searches × AreReported tells searches done × ReportedSome limit tells last
 
--- all searches of a run over these parts: the one that counts, the limit under which the cut file is sought, and what they told
+-- all searches of a run over these parts: the one that counts, the limit under which the cut file is sought, and what they reported
 pub record HasSearched (options : SearchOptions) (parts : List Part) (s : SearchMade) (cut : Option ℕ) (events : List Event) : Type 0 where
   pub searches : Searches
   pub are : AreSearches options.ceiling options.tries parts searches
   pub counts : counting searches.first searches.more ≡ s
   pub cut_is : cut_limit searches.first.ceiling searches.more ≡ cut
-  pub told : AreTold options.tells (searches.first ∷ searches.more) events
+  pub reported : AreReported options.tells (searches.first ∷ searches.more) events
 
 -- Inside the crate -------------------------------------------------------------------------------------------------
 
--- one line is told, if that is asked for
+-- one line is reported, if that is asked for
 abbrev pub TellsLine : Bool → ℕ → ℕ → List Event → Type 0
 TellsLine true tries files events = Printed (progress_line tries files) events
 TellsLine false tries files events = events ≡ []
 
--- it went on to the next pause, and told a line there
+-- it went on to the next pause, and reported a line there
 pub record GoesOn (options : SearchOptions) (old new : WholeSearch) (events : List Event) : Type 0 where
   pub tries : old.tries < new.tries
   pub near : new.tries ≤ old.tries + 64
   pub within : new.tries ≤ options.tries
   pub files : length (lists_of old.splices.items) ≤ length (lists_of new.splices.items)
   pub paused : CanGoOn new options.tries → new.tries ≡ old.tries + 64
-  pub told : TellsLine options.tells new.tries (length (lists_of new.splices.items)) events
+  pub reported : TellsLine options.tells new.tries (length (lists_of new.splices.items)) events
 
--- it has told all so far, and where it can go on it stands at a pause
-pub record HasTold (options : SearchOptions) (walk : WholeSearch) (events : List Event) : Type 0 where
-  pub told : IsTold options.tells walk.tries (length (lists_of walk.splices.items)) events
+-- it has said all so far, and where it can go on it stands at a pause
+pub record HasReported (options : SearchOptions) (walk : WholeSearch) (events : List Event) : Type 0 where
+  pub reported : IsReported options.tells walk.tries (length (lists_of walk.splices.items)) events
   pub within : walk.tries ≤ options.tries
   pub paused : CanGoOn walk options.tries → (rounds : ℕ) × (walk.tries ≡ 64 * rounds)
 
@@ -75,14 +75,14 @@ abbrev pub WasBegun : Option ℕ → List Part → WholeSearch → Type 0
 WasBegun ceiling parts walk =
     (begun : WholeSearch) × IsBegun begun × IsSearch parts begun × Tried parts begun walk × (begun.judge.ceiling ≡ ceiling)
 
--- searches under these limits in turn, none of which was cut off: how many tries the next one has, what they came to, and what they told
+-- searches under these limits in turn, none of which was cut off: how many tries the next one has, what they came to, and what they reported
 pub record HasTurned (parts : List Part) (options : SearchOptions) (limits : List ℕ) (turned : Turned) (events : List Event) : Type 0 where
   pub searches : List SearchMade
   pub through : WentThrough parts options.tries limits searches
   pub tries_are : turned.tries ≡ tries_after options.tries options.tries searches
   pub found_is : (first : SearchMade) → counting first searches ≡ last_or first turned.found
   pub whole_is : (limit : Option ℕ) → cut_limit limit searches ≡ limit_or limit turned.whole
-  pub told : AreTold options.tells searches events
+  pub reported : AreReported options.tells searches events
 
 -- and all that are made in turn
 pub record TookTurns (parts : List Part) (options : SearchOptions) (limits : List ℕ) (turned : Turned) (events : List Event) : Type 0 where
@@ -90,4 +90,4 @@ pub record TookTurns (parts : List Part) (options : SearchOptions) (limits : Lis
   pub in_turn : AreInTurn parts options.tries limits searches
   pub found_is : (first : SearchMade) → counting first searches ≡ last_or first turned.found
   pub whole_is : (limit : Option ℕ) → cut_limit limit searches ≡ limit_or limit turned.whole
-  pub told : AreTold options.tells searches events
+  pub reported : AreReported options.tells searches events

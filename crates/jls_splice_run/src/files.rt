@@ -4,7 +4,7 @@ ghost use Rattle.std.specs.Prelude.{◌≡◌, ◌-◌, ◌^◌, ◌≤◌, ◌<
 ghost use Rattle.std.specs.List.{AllByRecursion};
 ghost use Rattle.jls_diff.specs.Parts.{Same, way};
 ghost use Rattle.jls_diff.specs.PartsOf.{bytes_of, part_of, parts_of};
-ghost use Rattle.jls_search.specs.Choices.{IsFirstWay, IsPath, IsWhole, front_of};
+ghost use Rattle.jls_search.specs.Choices.{IsFirstWay, IsPath, IsWhole, prefix_of};
 ghost use Rattle.jls_search.specs.Search.{files_of, lists_of};
 ghost use Rattle.jls_splice_run.specs.Files as spec;
 
@@ -38,7 +38,7 @@ pub(crate) fn file_of(
     choices: &[usize],
 ) -> Result<Vec<u8>, AllocError>
     requires { IsPath (parts_of parts.now) choices.now }
-    ensures { IfOk result (λ file. file.items ≡ front_of (parts_of parts.now) choices.now) }
+    ensures { IfOk result (λ file. file.items ≡ prefix_of (parts_of parts.now) choices.now) }
 {
     let mut file = Vec::new(alloc);
     for place in 0..choices.len() {

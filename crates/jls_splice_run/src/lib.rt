@@ -10,7 +10,7 @@
 //! - `options`, `searching`: how a search is made; a search that goes on 64 tries at a time, and tells how far it is
 //! - `limits`: all searches of a run: the one that is asked for, and where it is cut off others under limits of samples in turn
 //! - `differences`: where copies differ: the offset in the first copy, and how many bytes that one has there
-//! - `found`, `lines`: what is told of a search, as one value; its lines, and the line that says how far a search is
+//! - `found`, `lines`: what is reported of a search, as one value; its lines, and the line that says how far a search is
 //! - `outcome`, `printing`: what came of a run, why it stopped, and the exit status; the fault line
 //!
 //! Definitions: `Tasks`, `Copies`, `Making`, `Single`, `Files`, `Listing`, `Handing`, `Runs`; `Limits`, `Telling`; `Differences`,

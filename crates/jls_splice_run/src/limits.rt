@@ -8,9 +8,9 @@ ghost use Rattle.jls_diff.specs.PartsOf.{bytes_of, parts_of};
 ghost use Rattle.jls_search.specs.Choices.{HasSomeWay};
 ghost use Rattle.jls_search.specs.Search.{IsShort};
 ghost use Rattle.jls_search.specs.SearchLaws.{AreShort};
-ghost use Rattle.jls_splice_run.specs.Limits.{IsSearchMade, SearchMade, counting_of, last_or, made_under, tries_behind};
+ghost use Rattle.jls_splice_run.specs.Limits.{IsSearchMade, SearchMade, counting_of, last_or, made_under, next_tries};
 ghost use Rattle.jls_splice_run.specs.Limits as spec;
-ghost use Rattle.jls_splice_run.specs.Telling.{HasSearched, ToldUpTo, TookTurns};
+ghost use Rattle.jls_splice_run.specs.Telling.{HasSearched, ReportedUpTo, TookTurns};
 
 use crate::options::SearchOptions;
 use crate::searching::search_once;
@@ -25,10 +25,10 @@ const LIMITS: [u16; 16] = [
 ];
 
 /// How many times the tries of a search that found a file the next one has.
-const TRIES_BEHIND: u64 = 16;
+const TRIES_AFTER: u64 = 16;
 
 /// How many tries it has at least, if that many are allowed.
-const FEWEST_BEHIND: u64 = 256;
+const FEWEST_AFTER: u64 = 256;
 
 /// A search under a limit of samples.
 #[derive(Drop)]
@@ -59,13 +59,13 @@ pub struct SearchedInTurn<'a> {
     pub cut_limit: Option<u16>,
 }
 
-/// How many tries a search has behind one that found a file and made so many.
+/// How many tries a search has after one that found a file and made so many.
 fn tries_after(most: u32, tries: u32) -> u32
     ensures { result ≡ min most (max 256 (16 * tries)) }
 {
-    let many = u64::from(tries) * TRIES_BEHIND;
-    let wanted = if many < FEWEST_BEHIND {
-        FEWEST_BEHIND
+    let many = u64::from(tries) * TRIES_AFTER;
+    let wanted = if many < FEWEST_AFTER {
+        FEWEST_AFTER
     } else {
         many
     };
@@ -79,7 +79,7 @@ fn tries_after(most: u32, tries: u32) -> u32
 /// What searches in turn came to with one more that was not cut off.
 fn with_one_more(turned: Turned, limit: u16, searched: Searched, most: u32) -> Turned
     requires { searched.is_used_up ≡ false }
-    ensures tries { result.tries ≡ tries_behind most turned.tries (made_under (Some limit) searched) }
+    ensures tries { result.tries ≡ next_tries most turned.tries (made_under (Some limit) searched) }
     ensures whole { result.whole ≡ Some limit }
     ensures found { (first : SearchMade)
         → last_or first result.found ≡ counting_of (last_or first turned.found) (made_under (Some limit) searched) }
@@ -110,7 +110,7 @@ fn search_in_turn<E: Sink>(
     requires short { IsShort (parts_of parts.now) }
     ensures turned { IfOk result (λ turned. GrewBy (TookTurns (parts_of parts.now) options limits.now turned)
         (E.history faults.old) (E.history faults.new)) }
-    ensures told_some { OnErr result (GrewBy (ToldUpTo options.tries options.tells) (E.history faults.old) (E.history faults.new)) }
+    ensures reported_some { OnErr result (GrewBy (ReportedUpTo options.tries options.tells) (E.history faults.old) (E.history faults.new)) }
 {
     let mut turned = Turned {
         tries: options.tries,
@@ -179,7 +179,7 @@ fn search_all<E: Sink>(
     ensures searched { IfOk result (λ all. GrewBy
         (HasSearched options (parts_of parts.now) (made_under all.ceiling all.searched) all.cut_limit)
         (E.history faults.old) (E.history faults.new)) }
-    ensures told_some { OnErr result (GrewBy (ToldUpTo options.tries options.tells) (E.history faults.old) (E.history faults.new)) }
+    ensures reported_some { OnErr result (GrewBy (ReportedUpTo options.tries options.tells) (E.history faults.old) (E.history faults.new)) }
 {
     let first = search_once(alloc, parts, options, faults)?;
     if options.ceiling.is_some() || !first.is_used_up {
@@ -211,7 +211,7 @@ pub fn search_and_tell<'a, E: Sink>(
     ensures searched { IfOk result (λ found. GrewBy
         (HasSearched options (parts_of found.copies.parts.items) (made_under found.copies.ceiling found.copies.searched) found.cut_limit)
         (E.history faults.old) (E.history faults.new)) }
-    ensures told_some { OnErr result (GrewBy (ToldUpTo options.tries options.tells) (E.history faults.old) (E.history faults.new)) }
+    ensures reported_some { OnErr result (GrewBy (ReportedUpTo options.tries options.tells) (E.history faults.old) (E.history faults.new)) }
 {
     parts_can_be_searched();
     let parts = find_parts(alloc, copies)?;

@@ -94,7 +94,7 @@ fn name_copies(
     Ok(named)
 }
 
-/// The splices without a fault, behind those that have a name. Each splice is made in memory for it, one at a time.
+/// The splices without a fault, after those that have a name. Each splice is made in memory for it, one at a time.
 fn name_splices(
     alloc: Global,
     prefix: &str,

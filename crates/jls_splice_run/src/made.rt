@@ -14,7 +14,7 @@ ghost use Rattle.jls_search.specs.Search.{IsShort, files_of, lists_of};
 ghost use Rattle.jls_search.specs.Found.{IsFound, IsGroupSearch, by_groups_of, found_of, splices_in};
 ghost use Rattle.jls_search.specs.Files as given;
 ghost use Rattle.jls_splice_run.specs.Limits.{Searches};
-ghost use Rattle.jls_splice_run.specs.Telling.{HasSearched, ToldUpTo};
+ghost use Rattle.jls_splice_run.specs.Telling.{HasSearched, ReportedUpTo};
 ghost use Rattle.jls_splice_run.specs.Making.{AreTextsOf, CantMake, FindsNoCut, HoldsMade, IsCut, files_taken, lacks_single, made_of, search_of};
 ghost use Rattle.jls_splice_run.specs.Making as spec;
 ghost use Rattle.jls_splice_run.specs.Listing.{AreNamedAsked, named_files};
@@ -35,7 +35,7 @@ use crate::single::single_file;
 use crate::task::{Task, want_of_memory};
 use jls_io::Sink;
 use jls_search::{
-    Files, FoundSplices, GroupsTold, are_short, complete_by_groups, lone_path,
+    Files, FoundSplices, GroupsReported, are_short, complete_by_groups, lone_path,
     parts_can_be_searched,
 };
 use jls_station::CopyFile;
@@ -90,7 +90,7 @@ fn search<'c, E: Sink>(
     ensures searched { IfOk result (λ found. GrewBy (HasSearched options (parts_of found.splices.parts.items)
         (search_of found.splices.ceiling (found_of found.splices) found.splices.tries) found.cut_limit)
         (E.history faults.old) (E.history faults.new)) }
-    ensures told_some { OnErr result (GrewBy (ToldUpTo options.tries options.tells) (E.history faults.old) (E.history faults.new)) }
+    ensures reported_some { OnErr result (GrewBy (ReportedUpTo options.tries options.tells) (E.history faults.old) (E.history faults.new)) }
 {
     parts_can_be_searched();
     if !are_short(copies) {
@@ -164,8 +164,8 @@ fn files_asked(
 }
 
 /// How many files have a name, if names are asked for.
-fn files_told(prefix: Option<&str>, files: &[NumberedFile]) -> Option<usize>
-    ensures { result ≡ spec.files_told prefix.entry files.now }
+fn files_reported(prefix: Option<&str>, files: &[NumberedFile]) -> Option<usize>
+    ensures { result ≡ spec.files_reported prefix.entry files.now }
 {
     match prefix {
         Some(_) => Some(files.len()),
@@ -173,22 +173,22 @@ fn files_told(prefix: Option<&str>, files: &[NumberedFile]) -> Option<usize>
     }
 }
 
-/// What is told of the search by groups.
-fn groups_told(by_groups: Option<GroupsTold>) -> Option<GroupSearch>
-    ensures { (choices : List (List ℕ)) → result ≡ spec.groups_told (option_map (by_groups_of choices) by_groups) }
+/// What is reported of the search by groups.
+fn groups_reported(by_groups: Option<GroupsReported>) -> Option<GroupSearch>
+    ensures { (choices : List (List ℕ)) → result ≡ spec.groups_reported (option_map (by_groups_of choices) by_groups) }
 {
     match by_groups {
-        Some(told) => Some(GroupSearch {
-            groups: told.groups,
-            is_used_up: told.is_used_up,
+        Some(reported) => Some(GroupSearch {
+            groups: reported.groups,
+            is_used_up: reported.is_used_up,
         }),
         None => None,
     }
 }
 
 /// The limit of the search that counts, where none was given.
-fn limit_told(given: Option<u16>, limit: Option<u16>) -> Option<u16>
-    ensures { result ≡ spec.limit_told given limit }
+fn limit_reported(given: Option<u16>, limit: Option<u16>) -> Option<u16>
+    ensures { result ≡ spec.limit_reported given limit }
 {
     match given {
         Some(_) => None,
@@ -261,10 +261,10 @@ fn texts_of(
     let report = SearchReport {
         splices,
         is_used_up: found.is_used_up,
-        limit: limit_told(task.options.ceiling, found.ceiling),
-        by_groups: groups_told(found.by_groups),
+        limit: limit_reported(task.options.ceiling, found.ceiling),
+        by_groups: groups_reported(found.by_groups),
         before: cut_end(all, &taken.cut),
-        files: files_told(task.options.files, &numbered),
+        files: files_reported(task.options.files, &numbered),
         lacks_single_file: lacks_file(task.options.file, &file),
         promise: promise_of(found, settled),
     };

@@ -1,15 +1,15 @@
 //! What is noted of a search on the fault output, where the output is standard output.
 
 ghost use Rattle.std.specs.Prelude.{◌≡◌, ◌++◌, codes, true, OnOk};
-ghost use Rattle.jls_splice_run.specs.Lines.{in_front, noted_text};
+ghost use Rattle.jls_splice_run.specs.Lines.{in_prefix, noted_text};
 
 use crate::found::SearchReport;
 use crate::lines::{put_outcome, put_searches};
 use std::alloc::{AllocError, Global};
 
-/// Appends text with the program's name in front of each of its lines.
-fn put_in_front(out: &mut Vec<u8>, text: &[u8]) -> Result<(), AllocError>
-    ensures { OnOk result (out.new.items ≡ out.old.items ++ in_front (codes "jls-splice: ") true text.now) }
+/// Appends text with the program's name before each of its lines.
+fn put_first(out: &mut Vec<u8>, text: &[u8]) -> Result<(), AllocError>
+    ensures { OnOk result (out.new.items ≡ out.old.items ++ in_prefix (codes "jls-splice: ") true text.now) }
 {
     let mut begins = true;
     for byte in text {
@@ -22,7 +22,7 @@ fn put_in_front(out: &mut Vec<u8>, text: &[u8]) -> Result<(), AllocError>
     Ok(())
 }
 
-/// Appends the lines of what the searches came to and of what is made of it, each with the program's name in front. At `Err` a prefix of
+/// Appends the lines of what the searches came to and of what is made of it, each with the program's name first. At `Err` a prefix of
 /// them may have been appended.
 pub fn put_noted(alloc: Global, out: &mut Vec<u8>, report: &SearchReport) -> Result<(), AllocError>
     ensures { OnOk result (out.new.items ≡ out.old.items ++ noted_text report.now) }
@@ -30,5 +30,5 @@ pub fn put_noted(alloc: Global, out: &mut Vec<u8>, report: &SearchReport) -> Res
     let mut lines = Vec::new(alloc);
     put_searches(&mut lines, report)?;
     put_outcome(&mut lines, report)?;
-    put_in_front(out, &lines)
+    put_first(out, &lines)
 }

@@ -5,7 +5,7 @@
 pub struct SearchOptions {
     /// The greatest sample that a file may have that is sought, if there is a limit.
     pub ceiling: Option<u16>,
-    /// How many fronts and files are tried at most.
+    /// How many prefixes and files are tried at most.
     pub tries: u32,
     /// Whether it tells how far it is.
     pub tells: bool,

@@ -21,7 +21,7 @@ pub enum Cause {
     NotCreated,
     /// A write failed when so many bytes had gone out.
     NotWritten(u64),
-    /// The output of this number, under the name with `-` and the number behind it, can't be created.
+    /// The output of this number, under the name with `-` and the number after it, can't be created.
     FileNotCreated(u64),
     /// A write to the output of this number failed when so many bytes had gone out.
     FileNotWritten(u64, u64),

@@ -9,7 +9,7 @@ ghost use Rattle.jls_search.specs.Choices.{HasSomeWay};
 ghost use Rattle.jls_search.specs.Search.{CanGoOn, IsSearch, IsShort, Tried, lists_of};
 ghost use Rattle.jls_splice_run.specs.Limits.{IsSearchMade, made_under};
 ghost use Rattle.jls_splice_run.specs.Lines.{progress_line};
-ghost use Rattle.jls_splice_run.specs.Telling.{GoesOn, HasTold, IsTold, TellsLine, ToldSome, WasBegun};
+ghost use Rattle.jls_splice_run.specs.Telling.{GoesOn, HasReported, IsReported, TellsLine, ReportedSome, WasBegun};
 
 use crate::lines::put_progress;
 use crate::options::SearchOptions;
@@ -56,9 +56,9 @@ fn tell<E: Sink>(
     walk: &WholeSearch,
     faults: &mut E,
 ) -> Result<(), AllocError>
-    ensures told { OnOk result (GrewBy (TellsLine options.tells walk.now.tries (length (lists_of walk.now.splices.items)))
+    ensures reported { OnOk result (GrewBy (TellsLine options.tells walk.now.tries (length (lists_of walk.now.splices.items)))
         (E.history faults.old) (E.history faults.new)) }
-    ensures untold { OnErr result (E.history faults.new ≡ E.history faults.old) }
+    ensures unreported { OnErr result (E.history faults.new ≡ E.history faults.old) }
 {
     let tells = options.tells;
     if !tells {
@@ -85,8 +85,8 @@ fn go_on<E: Sink>(
     ensures fewer { OnOk result (walk.old.tries < walk.new.tries) }
     ensures tried { OnOk result (Tried (parts_of parts.now) walk.old walk.new) }
     ensures ceiling { OnOk result (walk.new.judge.ceiling ≡ walk.old.judge.ceiling) }
-    ensures told { OnOk result (GrewBy (GoesOn options walk.old walk.new) (E.history faults.old) (E.history faults.new)) }
-    ensures untold { OnErr result (E.history faults.new ≡ E.history faults.old) }
+    ensures reported { OnOk result (GrewBy (GoesOn options walk.old walk.new) (E.history faults.old) (E.history faults.new)) }
+    ensures unreported { OnErr result (E.history faults.new ≡ E.history faults.old) }
 {
     let pause = next_pause(walk.tries, options.tries);
     walk.go_on(alloc, parts, pause)?;
@@ -106,8 +106,8 @@ fn search_parts<E: Sink>(
     ensures ceiling { IfOk result (λ walk. walk.judge.ceiling ≡ options.ceiling) }
     ensures stops { IfOk result (λ walk. CanGoOn walk options.tries → ⊥) }
     ensures tried { IfOk result (λ walk. WasBegun options.ceiling (parts_of parts.now) walk) }
-    ensures told { IfOk result (λ walk. GrewBy (HasTold options walk) (E.history faults.old) (E.history faults.new)) }
-    ensures told_some { OnErr result (GrewBy (ToldSome options.tries options.tells) (E.history faults.old) (E.history faults.new)) }
+    ensures reported { IfOk result (λ walk. GrewBy (HasReported options walk) (E.history faults.old) (E.history faults.new)) }
+    ensures reported_some { OnErr result (GrewBy (ReportedSome options.tries options.tells) (E.history faults.old) (E.history faults.new)) }
 {
     let mut walk = WholeSearch::begin(alloc, parts, options.ceiling)?;
     while walk.can_go_on(options.tries) {
@@ -127,9 +127,9 @@ pub(crate) fn search_once<E: Sink>(
     requires some_way { AllByRecursion HasSomeWay (parts_of parts.now) }
     requires short { IsShort (parts_of parts.now) }
     ensures is_made { IfOk result (λ s. IsSearchMade (parts_of parts.now) options.tries (made_under options.ceiling s)) }
-    ensures told { IfOk result (λ s. GrewBy (IsTold options.tells s.tries (length (lists_of s.splices.items)))
+    ensures reported { IfOk result (λ s. GrewBy (IsReported options.tells s.tries (length (lists_of s.splices.items)))
         (E.history faults.old) (E.history faults.new)) }
-    ensures told_some { OnErr result (GrewBy (ToldSome options.tries options.tells) (E.history faults.old) (E.history faults.new)) }
+    ensures reported_some { OnErr result (GrewBy (ReportedSome options.tries options.tells) (E.history faults.old) (E.history faults.new)) }
 {
     let walk = search_parts(alloc, parts, options, faults)?;
     Ok(walk.into_searched())

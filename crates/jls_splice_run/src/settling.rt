@@ -5,7 +5,7 @@ ghost use Rattle.std.specs.List.{AllByRecursion};
 ghost use Rattle.jls_station.specs.CopyFiles.{copies_of};
 ghost use Rattle.jls_diff.specs.PartsOf.{bytes_of, parts_of};
 ghost use Rattle.jls_search.specs.Cuts.{TakesNoCut};
-ghost use Rattle.jls_search.specs.Choices.{IsPath, IsWhole, front_of};
+ghost use Rattle.jls_search.specs.Choices.{IsPath, IsWhole, prefix_of};
 ghost use Rattle.jls_search.specs.Search.{IsShort, lists_of};
 ghost use Rattle.jls_search.specs.Files.{splices_found};
 ghost use Rattle.jls_splice_run.specs.Copies.{bytes_read};
@@ -90,9 +90,9 @@ pub(crate) fn settle<'a>(
     requires cut { IfSome cut (λ path. IsPath (parts_of files.now.parts.now) path.items) }
     ensures settled { IfOk result (λ taken.
         IsPictureOf (task_of task.now).options.source (bytes_read (copies_of copies.now)) (splices_found files.now)
-        (option_map (λ path. front_of (parts_of files.now.parts.now) path.items) taken.cut) taken.station) }
+        (option_map (λ path. prefix_of (parts_of files.now.parts.now) path.items) taken.cut) taken.station) }
     ensures cut { IfOk result (λ taken. (taken.cut ≡ cut) ⊎ ((taken.cut ≡ None) × IfSome cut (λ path.
-        TakesNoCut (bytes_read (copies_of copies.now)) (splices_found files.now) (front_of (parts_of files.now.parts.now) path.items)))) }
+        TakesNoCut (bytes_read (copies_of copies.now)) (splices_found files.now) (prefix_of (parts_of files.now.parts.now) path.items)))) }
     ensures stopped { IfErr result (λ refusal.
         IsUnsettled (task_of task.now) (copies_of copies.now) (splices_found files.now) refusal) }
 {

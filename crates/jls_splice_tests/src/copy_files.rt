@@ -74,7 +74,7 @@ fn desk<'a>(files: &'a [(&'a str, &'a [u8])], most: usize, is_torn: bool) -> Cou
     })
 }
 
-/// Bytes stand behind the EOI of one copy, and the other is longer than a read.
+/// Bytes stand after the EOI of one copy, and the other is longer than a read.
 #[test]
 fn each_copy_is_read_to_its_end(rt: HostRuntime) -> Result<(), Fail> {
     let alloc = rt.alloc();

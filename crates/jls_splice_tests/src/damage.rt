@@ -7,7 +7,7 @@ use std::alloc::{AllocError, Global};
 #[derive(Clone, Copy)]
 struct Damage {
     from: usize,
-    behind: usize,
+    after: usize,
     /// The byte that stands for each of them now; none where they are lost.
     becomes: Option<u8>,
 }
@@ -20,7 +20,7 @@ fn damage_of(text: &str) -> Option<Damage> {
     let count = count.parse::<usize>().ok()?;
     Some(Damage {
         from,
-        behind: from.saturating_add(count),
+        after: from.saturating_add(count),
         becomes: becomes.parse::<u8>().ok(),
     })
 }
@@ -32,7 +32,7 @@ fn damages_of(alloc: Global, text: &str, further: usize) -> Result<Vec<Damage>, 
         if let Some(damage) = damage_of(word) {
             damages.push(Damage {
                 from: damage.from.saturating_add(further),
-                behind: damage.behind.saturating_add(further),
+                after: damage.after.saturating_add(further),
                 ..damage
             })?;
         }
@@ -43,7 +43,7 @@ fn damages_of(alloc: Global, text: &str, further: usize) -> Result<Vec<Damage>, 
 /// What stands for the byte at an offset.
 fn byte_at(damages: &[Damage], offset: usize, byte: u8) -> Option<u8> {
     for damage in damages {
-        if damage.from <= offset && offset < damage.behind {
+        if damage.from <= offset && offset < damage.after {
             return damage.becomes;
         }
     }

@@ -91,7 +91,7 @@ const RESTARTS: &[u8] = b"\
 \x40\x02\x78\x00\x00\x03\x8c\xd2\x40\x0a\x00\x00\x03\x8c\x33\xd0\x00\x6c\x00\x00\x07\xb8\x00\x00\x07\
 \x88\x00\x00\x18\x00\x00\x07\x88\x00\x00\x07\x7c\xff\xd9";
 
-/// What `comment` begins with in place of SOI, and is `eight` behind that: SOI, and a COM segment in which FF D0 stands.
+/// What `comment` begins with in place of SOI, and is `eight` after that: SOI, and a COM segment in which FF D0 stands.
 const COMMENT: &[u8] = b"\xff\xd8\xff\xfe\x00\x06\xff\xd0\x41\x42";
 
 /// 4 samples by 4 lines of zeros.

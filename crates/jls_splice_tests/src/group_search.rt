@@ -19,10 +19,10 @@ const FIRST: usize = 31;
 
 const SECOND: usize = 49;
 
-/// How many bytes an interval has, with the marker behind it.
+/// How many bytes an interval has, with the marker after it.
 const STEP: usize = 18;
 
-/// Adds an interval, and the marker behind it. All of its samples are 0: each line is one bit 1, so it is 8 times FF 7F (T.87 A.7.1 and
+/// Adds an interval, and the marker after it. All of its samples are 0: each line is one bit 1, so it is 8 times FF 7F (T.87 A.7.1 and
 /// C.1).
 fn push_interval(file: &mut Vec<u8>, mark: u8) -> Result<(), AllocError> {
     for _ in 0..8u8 {
@@ -34,7 +34,7 @@ fn push_interval(file: &mut Vec<u8>, mark: u8) -> Result<(), AllocError> {
     Ok(())
 }
 
-/// A file with so many intervals, and 40 bytes 0 behind it.
+/// A file with so many intervals, and 40 bytes 0 after it.
 fn whole_file(alloc: Global, intervals: u8) -> Result<Vec<u8>, AllocError> {
     let mut file = Vec::from_slice(alloc, &header(u16::from(intervals) * 120))?;
     for number in 0..intervals {
@@ -73,7 +73,7 @@ fn found_in(alloc: Global, copies: &[&[u8]], limit: u32) -> Result<(Counts, bool
     let searched = search_copies(alloc, copies, None, limit)?;
     let found = complete_by_groups(alloc, copies, searched, limit)?;
     let (groups, is_used_up) = match found.by_groups {
-        Some(told) => (Some(told.groups), told.is_used_up),
+        Some(reported) => (Some(reported.groups), reported.is_used_up),
         None => (None, false),
     };
     Ok(((found.whole, groups, found.splices.len()), is_used_up))
@@ -154,7 +154,7 @@ fn groups_have_tries_and_splices_of_their_own(rt: HostRuntime) -> Result<(), Fai
     Ok(())
 }
 
-/// The first interval is damaged at the same place in both copies, and they differ at seven places behind EOI, which are of the second
+/// The first interval is damaged at the same place in both copies, and they differ at seven places after EOI, which are of the second
 /// group. It gives the most that it may with each copy outside of it, of 128 files.
 #[test]
 fn a_group_gives_64_files_with_each_copy(rt: HostRuntime) -> Result<(), Fail> {

@@ -1,7 +1,7 @@
 //! Tests of `jls-splice` and of what it is made of. They stand apart, so that those crates are proved once, without them.
 //!
 //! - `parts`, `groups`: where copies differ
-//! - `fronts`, `group_search`, `stations`: the searches, and stations of the files taken
+//! - `prefixes`, `group_search`, `stations`: the searches, and stations of the files taken
 //! - `copy_files`, `lines`, `words`: copies that are read, printed lines, the command line
 //! - `memory`, `files`, `damage`, `program`: runs over files in memory
 #![tactic(auto)]
@@ -12,8 +12,6 @@ mod copy_files;
 mod damage;
 #[cfg(test)]
 mod files;
-#[cfg(test)]
-mod fronts;
 #[cfg(test)]
 mod group_search;
 #[cfg(test)]
@@ -26,6 +24,8 @@ mod memory;
 mod numbered;
 #[cfg(test)]
 mod parts;
+#[cfg(test)]
+mod prefixes;
 #[cfg(test)]
 mod program;
 #[cfg(test)]

@@ -8,7 +8,7 @@ use std::alloc::{AllocError, Global};
 use std::process::Abort;
 use std::test::Fail;
 
-/// What is damaged in each copy of a file; the words behind the program's name; and what is to come of it.
+/// What is damaged in each copy of a file; the words after the program's name; and what is to come of it.
 struct Row {
     file: &'static str,
     copies: &'static str,
@@ -20,7 +20,7 @@ struct Row {
     numbered: &'static [&'static str],
     /// How many names there are.
     count: usize,
-    told: &'static str,
+    reported: &'static str,
 }
 
 const ROWS: [Row; 10] = [
@@ -32,7 +32,7 @@ const ROWS: [Row; 10] = [
         status: 0,
         numbered: &["eight"],
         count: 1,
-        told: "files 1",
+        reported: "files 1",
     },
     Row {
         file: "eight",
@@ -42,7 +42,7 @@ const ROWS: [Row; 10] = [
         status: 1,
         numbered: &["eight", "other"],
         count: 2,
-        told: "files 2",
+        reported: "files 2",
     },
     Row {
         file: "eight",
@@ -52,7 +52,7 @@ const ROWS: [Row; 10] = [
         status: 1,
         numbered: &["other", "eight"],
         count: 2,
-        told: "no single file",
+        reported: "no single file",
     },
     Row {
         file: "eight",
@@ -62,7 +62,7 @@ const ROWS: [Row; 10] = [
         status: 0,
         numbered: &["eight"],
         count: 1,
-        told: "splices 0",
+        reported: "splices 0",
     },
     Row {
         file: "eight",
@@ -72,7 +72,7 @@ const ROWS: [Row; 10] = [
         status: 1,
         numbered: &[],
         count: 0,
-        told: "files 0",
+        reported: "files 0",
     },
     Row {
         file: "eight",
@@ -82,7 +82,7 @@ const ROWS: [Row; 10] = [
         status: 4,
         numbered: &["eight"],
         count: 1,
-        told: "jls-splice: STANDS-2: cannot be created",
+        reported: "jls-splice: STANDS-2: cannot be created",
     },
     Row {
         file: "eight",
@@ -92,7 +92,7 @@ const ROWS: [Row; 10] = [
         status: 2,
         numbered: &[],
         count: 0,
-        told: "jls-splice: OUT-64: is named as OUT and by --files",
+        reported: "jls-splice: OUT-64: is named as OUT and by --files",
     },
     Row {
         file: "eight",
@@ -102,7 +102,7 @@ const ROWS: [Row; 10] = [
         status: 0,
         numbered: &["eight"],
         count: 1,
-        told: "files 1",
+        reported: "files 1",
     },
     Row {
         file: "eight",
@@ -112,7 +112,7 @@ const ROWS: [Row; 10] = [
         status: 0,
         numbered: &["eight"],
         count: 1,
-        told: "jls-splice: files 1",
+        reported: "jls-splice: files 1",
     },
     Row {
         file: "sixteen",
@@ -123,7 +123,7 @@ const ROWS: [Row; 10] = [
         status: 1,
         numbered: &[],
         count: 64,
-        told: "files 64",
+        reported: "files 64",
     },
 ];
 
@@ -167,8 +167,8 @@ fn are_all(alloc: Global, row: &Row, files: &MemoryFiles<'_>) -> Result<bool, Al
 }
 
 /// Whether the line of a row is printed.
-fn is_told(row: &Row, ending: &Ending) -> bool {
-    has_line(&ending.report, row.told) || has_line(&ending.faults, row.told)
+fn is_reported(row: &Row, ending: &Ending) -> bool {
+    has_line(&ending.report, row.reported) || has_line(&ending.faults, row.reported)
 }
 
 fn check_row(rt: &impl Abort, alloc: Global, row: &Row) -> Result<(), Fail> {
@@ -181,7 +181,7 @@ fn check_row(rt: &impl Abort, alloc: Global, row: &Row) -> Result<(), Fail> {
     assert!(rt; are_first, "{}: {}", row.copies, row.words);
     let are_all = are_all(alloc, row, &files)?;
     assert!(rt; are_all, "{}: {}", row.copies, row.words);
-    assert!(rt; is_told(row, &ending), "{}: {}", row.copies, row.words);
+    assert!(rt; is_reported(row, &ending), "{}: {}", row.copies, row.words);
     Ok(())
 }
 

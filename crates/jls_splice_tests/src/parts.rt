@@ -63,7 +63,7 @@ fn damaged(alloc: Global, file: &[u8], damages: &[Damage]) -> Result<Vec<u8>, Al
     Ok(copy)
 }
 
-/// Parts as text: how many bytes all have alike, behind `=`; or how many each copy has.
+/// Parts as text: how many bytes all have alike, after `=`; or how many each copy has.
 fn text(alloc: Global, parts: &[Part<'_>]) -> Result<String, Fail> {
     let mut out = String::new(alloc);
     for part in parts {
@@ -145,12 +145,12 @@ const CASES: [Case<'static>; 18] = [
         wanted: "=100 50,50 =14 50,50 =186 ",
     },
     Case {
-        name: "in front of zeros",
+        name: "before zeros",
         copies: &[&[Zeros(100, 64)], &[Other(99)]],
         wanted: "=99 1,1 64,64 =236 ",
     },
     Case {
-        name: "behind zeros",
+        name: "after zeros",
         copies: &[&[Zeros(100, 64)], &[Other(164)]],
         wanted: "=100 64,64 1,1 =235 ",
     },
@@ -175,12 +175,12 @@ const CASES: [Case<'static>; 18] = [
         wanted: "=100 0,25,25 0,35,35 =240 ",
     },
     Case {
-        name: "lost, and another differs soon behind",
+        name: "lost, and another differs soon after",
         copies: &[&[Lost(100, 60)], &[Other(110)], &[Other(165)]],
         wanted: "=100 0,38,38 6,28,28 =234 ",
     },
     Case {
-        name: "cut off, and two others differ behind the cut",
+        name: "cut off, and two others differ after the cut",
         copies: &[&[Other(320)], &[Other(360)], &[Lost(300, 100)]],
         wanted: "=300 40,40,0 60,60,0 ",
     },
@@ -267,7 +267,7 @@ fn parts_of_blank_copies(rt: HostRuntime) -> Result<(), Fail> {
     Ok(())
 }
 
-/// Of one length too, but 20 bytes are lost, and as many zeros stand behind the end.
+/// Of one length too, but 20 bytes are lost, and as many zeros stand after the end.
 #[test]
 fn parts_of_a_padded_copy(rt: HostRuntime) -> Result<(), Fail> {
     let alloc = rt.alloc();

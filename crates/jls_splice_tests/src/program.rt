@@ -1,4 +1,4 @@
-//! Runs over copies of one file, each damaged in its own way: what comes back is the picture of the file, or is told not to.
+//! Runs over copies of one file, each damaged in its own way: what comes back is the picture of the file, or is reported not to.
 
 use crate::damage::copies_of;
 use crate::files::{file_of, text_of};
@@ -10,7 +10,7 @@ use std::alloc::{AllocError, Global};
 use std::process::Abort;
 use std::test::Fail;
 
-/// What stands in a row behind its name: the file; what is damaged in each copy; the words behind the program's name, where `1..65` are the
+/// What stands in a row after its name: the file; what is damaged in each copy; the words after the program's name, where `1..65` are the
 /// numbers from 1 to 65; the status; the picture that OUT is to be, or `other` where it is to be none of them, or `nothing` where no output
 /// is created; and a line that is printed.
 const ROWS: &str = "\
@@ -18,7 +18,7 @@ one place: eight: 100+8=0 / 400+8=0: OUT 1 2: 0 eight: splices 1
 two places: eight: 100+8=0 300+8=0 / 200+8=0 500+8=0: OUT 1 2: 0 eight: splices 1
 twelve bytes apart: eight: 200+8=0 / 220+8=0: OUT 1 2: 0 eight: splices 1
 sectors that touch: eight: 200+64=0 / 264+64=0: OUT 1 2: 0 eight: splices 1
-cut off behind the damage: eight: 500+999=lost / 100+8=0: OUT 1 2: 0 eight: splices 1
+cut off after the damage: eight: 500+999=lost / 100+8=0: OUT 1 2: 0 eight: splices 1
 lost and zeroed: eight: 200+5=lost / 400+8=0: OUT 1 2: 0 eight: splices 1
 a header and data: eight: 0+24=0 / 300+8=0: OUT 1 2: 0 eight: splices 1
 a header twice and data: eight: 2+4=0 300+8=0 / 12+3=0: OUT 1 2: 0 eight: splices 1
@@ -95,7 +95,7 @@ struct Row<'a> {
     words: &'a str,
     status: &'a str,
     picture: &'a str,
-    told: &'a str,
+    reported: &'a str,
 }
 
 fn row_of(text: &str) -> Option<Row<'_>> {
@@ -103,7 +103,7 @@ fn row_of(text: &str) -> Option<Row<'_>> {
     let (file, rest) = rest.split_once(": ")?;
     let (copies, rest) = rest.split_once(": ")?;
     let (words, rest) = rest.split_once(": ")?;
-    let (end, told) = rest.split_once(": ")?;
+    let (end, reported) = rest.split_once(": ")?;
     let (status, picture) = end.split_once(' ')?;
     Some(Row {
         name,
@@ -112,7 +112,7 @@ fn row_of(text: &str) -> Option<Row<'_>> {
         words,
         status,
         picture,
-        told,
+        reported,
     })
 }
 
@@ -124,7 +124,7 @@ pub(crate) struct Ending {
     pub faults: Vec<u8>,
 }
 
-/// Runs the program with the words of a line behind its name.
+/// Runs the program with the words of a line after its name.
 pub(crate) fn run_line(
     alloc: Global,
     line: &str,
@@ -156,8 +156,8 @@ pub(crate) fn has_line(text: &[u8], line: &str) -> bool {
 }
 
 /// Whether the line of a row is printed.
-fn is_told(row: Row<'_>, ending: &Ending) -> bool {
-    has_line(&ending.report, row.told) || has_line(&ending.faults, row.told)
+fn is_reported(row: Row<'_>, ending: &Ending) -> bool {
+    has_line(&ending.report, row.reported) || has_line(&ending.faults, row.reported)
 }
 
 /// Whether OUT is as the row says.
@@ -198,7 +198,7 @@ fn check_row(rt: &impl Abort, alloc: Global, text: &str) -> Result<(), Fail> {
     let is_right = is_output(alloc, row, &files)?;
     assert!(rt; is_right, "{}", row.name);
     assert!(rt; is_mended(row, &file, files.output("NAME")), "{}", row.name);
-    assert!(rt; is_told(row, &ending), "{}", row.name);
+    assert!(rt; is_reported(row, &ending), "{}", row.name);
     Ok(())
 }
 

@@ -124,8 +124,8 @@ fn no_copy_has_a_frame(rt: HostRuntime) -> Result<(), Fail> {
     ];
     for (copies, fault, offset) in cases {
         match outcome_of(rt.alloc(), copies)? {
-            Settled::NoFrame(told, place) => {
-                assert_eq!(rt; told, fault);
+            Settled::NoFrame(reported, place) => {
+                assert_eq!(rt; reported, fault);
                 assert_eq!(rt; place, offset);
             }
             _ => return Err(Fail::from("a frame was found")),

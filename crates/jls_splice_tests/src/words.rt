@@ -10,7 +10,7 @@ fn numbers_of(word: &str) -> Option<(u32, u32)> {
     Some((first.parse::<u32>().ok()?, last.parse::<u32>().ok()?))
 }
 
-/// The words of a command line, behind the program's name. `FIRST..LAST` stands for the numbers from one to the other.
+/// The words of a command line, after the program's name. `FIRST..LAST` stands for the numbers from one to the other.
 pub(crate) fn words_of(alloc: Global, line: &str) -> Result<Vec<String>, AllocError> {
     let mut words = Vec::new(alloc);
     words.push(String::from_str(alloc, "jls-splice")?)?;

@@ -15,7 +15,7 @@ use Rattle.jls_station.specs.Given.{Given, CopyReport, by_copy, given_by_copy, g
 use Rattle.jls_station.specs.InputFaults.{input_fault_of_copy, IsCopyRefused}
 use Rattle.jls_station.specs.Inputs.{IsCopyDone, ReadsGive, ReadsRefuse}
 use Rattle.jls_station.specs.Reading.{IsRead}
-use Rattle.jls_station.specs.TakingCopies.{IsTakenFor, no_frame, unread, for_memory, CopyGives, CopyStops, no_picture, not_read, behind_the_last}
+use Rattle.jls_station.specs.TakingCopies.{IsTakenFor, no_frame, unread, for_memory, CopyGives, CopyStops, no_picture, not_read, after_the_last}
 use Rattle.jls_station.specs.Texts.{is_text}
 use Rattle.jls_station.specs.declared.input.ReadStop.{ReadStop}
 use Rattle.jls_station.specs.declared.input.ReadStop.TheVariants.{Whole, Failed, Turns}
@@ -132,7 +132,7 @@ module _ (source : Option ℕ) (stop : ReadStop) (old new : History) where
       → GrewBy (λ reads. IsRead IsCopyDone reads bytes how) old new → CopyGivesNone bytes f
       → IsTakenFor (input_fault_of_copy f how (length bytes)) answer → GrewBy (CopyStops answer) old new
   stops_for bytes copy.OutOfMemory how _ k h for_memory =
-      grew_as (λ reads. IsRead IsCopyDone reads bytes how) (CopyStops take.OutOfMemory) old new (λ reads is. behind_the_last bytes how reads is) k
+      grew_as (λ reads. IsRead IsCopyDone reads bytes how) (CopyStops take.OutOfMemory) old new (λ reads is. after_the_last bytes how reads is) k
   stops_for bytes (copy.NoPicture f offset) Whole _ k h (no_frame _ _) =
       grew_as (λ reads. IsRead IsCopyDone reads bytes Whole) (CopyStops (take.NoPicture f offset)) old new (λ reads is. no_picture bytes f offset reads is h) k
   stops_for bytes (copy.NoPicture f offset) Failed _ k h (unread _ _) =

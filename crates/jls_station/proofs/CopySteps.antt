@@ -7,7 +7,7 @@ use Rattle.std.proofs.lemmas.List.{append-nil, length-append}
 use Rattle.jls_copy.specs.ReadCopy.{after}
 use Rattle.jls_io.specs.Event.{History, GrewBy, gave}
 use Rattle.jls_station.specs.Inputs.{IsCopyDone}
-use Rattle.jls_station.specs.KnownCopies.{IsFrontOf}
+use Rattle.jls_station.specs.KnownCopies.{IsPrefixOf}
 use Rattle.jls_station.specs.Reading.{AreBytes, ReadSoFar}
 use Rattle.jls_station.specs.Texts.{is_text}
 use Rattle.jls_station.specs.declared.input.ReadStop.{ReadStop}
@@ -26,17 +26,17 @@ pub record CopySoFar (first reader : Option (List ℕ)) (made count : ℕ) (old 
   pub known : (before : Option (List ℕ)) (fed : List ℕ) → first ≡ Some fed → Consumes before left fed → Consumes before left' bytes
 
 -- what was read of known bytes
-pub front_of : (before left : Option (List ℕ)) (front : List ℕ) (stop : ReadStop) → Consumes before left front
-    → (stop ≡ Whole → IsCopyDone front ⊎ IsAtEnd left) → IfSome before (λ bytes. IsFrontOf bytes front stop)
-front_of None left front stop h e = tt
-front_of (Some bytes) None front stop h e = absurd h
-front_of (Some bytes) (Some behind) front stop h e = record { behind = behind; bytes_are = h; enough = e }
+pub prefix_of : (before left : Option (List ℕ)) (prefix : List ℕ) (stop : ReadStop) → Consumes before left prefix
+    → (stop ≡ Whole → IsCopyDone prefix ⊎ IsAtEnd left) → IfSome before (λ bytes. IsPrefixOf bytes prefix stop)
+prefix_of None left prefix stop h e = tt
+prefix_of (Some bytes) None prefix stop h e = absurd h
+prefix_of (Some bytes) (Some following) prefix stop h e = record { following = following; bytes_are = h; enough = e }
 
 -- a read that gives nothing consumes nothing
-pub consumes_no_more : (before mid left : Option (List ℕ)) (front : List ℕ) → Consumes before mid front → Consumes mid left []
-    → Consumes before left front
-consumes_no_more before mid left front h k =
-    subst (λ (t : List ℕ). Consumes before left t) (append-nil front) (consumes_on before mid left front [] h k)
+pub consumes_no_more : (before mid left : Option (List ℕ)) (prefix : List ℕ) → Consumes before mid prefix → Consumes mid left []
+    → Consumes before left prefix
+consumes_no_more before mid left prefix h k =
+    subst (λ (t : List ℕ). Consumes before left t) (append-nil prefix) (consumes_on before mid left prefix [] h k)
 
 -- what a reader that was fed some bytes answers is about these
 pub about : (Q : List ℕ → Type 0) (reader : Option (List ℕ)) (bytes : List ℕ) → reader ≡ Some bytes → IfSome reader Q → Q bytes

@@ -13,7 +13,7 @@ use Rattle.jls_copy.specs.declared.reader.CopyFault.TheVariants as copy
 use Rattle.jls_station.specs.Forms.{IsCountedIn}
 use Rattle.jls_station.specs.Given.{given_by_text}
 use Rattle.jls_station.specs.InputFaults.{input_fault_of, input_fault_of_copy, IsCopyRefused}
-use Rattle.jls_station.specs.KnownCopies.{IsFrontOf}
+use Rattle.jls_station.specs.KnownCopies.{IsPrefixOf}
 use Rattle.jls_station.specs.KnownInputs.{CountsWithin, RefusesInput}
 use Rattle.jls_station.specs.Texts.{is_text, IsNoText}
 use Rattle.jls_station.specs.declared.input.ReadStop.{ReadStop}
@@ -33,10 +33,10 @@ input_ran_out (Some bytes) = tt
 
 pub none_read : (o : Option (List ℕ)) → IfSome o (λ bytes. RefusesInput bytes (fault.Read Failed 0))
 none_read None = tt
-none_read (Some bytes) = ([], record { behind = bytes; bytes_are = refl; enough = λ t. absurd cc }, refl, λ t. absurd cc)
+none_read (Some bytes) = ([], record { following = bytes; bytes_are = refl; enough = λ t. absurd cc }, refl, λ t. absurd cc)
 
 none_there : RefusesInput [] (fault.NoPicture marker.Ended 0)
-none_there = (refl, [], record { behind = []; bytes_are = refl; enough = λ t. inr refl }, empty_gives_none)
+none_there = (refl, [], record { following = []; bytes_are = refl; enough = λ t. inr refl }, empty_gives_none)
 
 pub empty_refused : (old new : Option (List ℕ)) → Consumes old new [] → IsAtEnd new
     → IfSome old (λ bytes. RefusesInput bytes (fault.NoPicture marker.Ended 0))
@@ -47,12 +47,12 @@ empty_refused old new h e =
 -- ---- a text
 
 -- one that was not read to its end
-pub text_unread : (old new : Option (List ℕ)) (front : List ℕ) (stop : ReadStop) → (stop ≡ Whole → ⊥) → Consumes old new front
-    → IfSome old (λ bytes. RefusesInput bytes (fault.Read stop (length front)))
-text_unread None new front stop not h = tt
-text_unread (Some bytes) None front stop not h = absurd h
-text_unread (Some bytes) (Some left) front stop not h =
-    (front, record { behind = left; bytes_are = h; enough = λ is. absurd (not is) }, refl, not)
+pub text_unread : (old new : Option (List ℕ)) (prefix : List ℕ) (stop : ReadStop) → (stop ≡ Whole → ⊥) → Consumes old new prefix
+    → IfSome old (λ bytes. RefusesInput bytes (fault.Read stop (length prefix)))
+text_unread None new prefix stop not h = tt
+text_unread (Some bytes) None prefix stop not h = absurd h
+text_unread (Some bytes) (Some left) prefix stop not h =
+    (prefix, record { following = left; bytes_are = h; enough = λ is. absurd (not is) }, refl, not)
 
 bad_so : (known bytes : List ℕ) → is_text bytes ≡ true → known ≡ bytes → (f : TextFault) → IsNoText bytes f
     → RefusesInput known (fault.Text f)
@@ -78,13 +78,13 @@ module _ (bytes : List ℕ) (text : is_text bytes ≡ true) where
 
 -- ---- a copy
 
-copy_refused_so : (bytes front : List ℕ) (f : CopyFault) (stop : ReadStop) → is_text bytes ≡ false → IsFrontOf bytes front stop
-    → CopyGivesNone front f
-    → RefusesInput bytes (input_fault_of_copy f stop (length front))
-copy_refused_so bytes front copy.OutOfMemory stop copied k h = tt
-copy_refused_so bytes front (copy.NoPicture f offset) Whole copied k h = (copied, front, k, h)
-copy_refused_so bytes front (copy.NoPicture f offset) Failed copied k h = (front, k, refl, λ t. absurd cc)
-copy_refused_so bytes front (copy.NoPicture f offset) Turns copied k h = (front, k, refl, λ t. absurd cc)
+copy_refused_so : (bytes prefix : List ℕ) (f : CopyFault) (stop : ReadStop) → is_text bytes ≡ false → IsPrefixOf bytes prefix stop
+    → CopyGivesNone prefix f
+    → RefusesInput bytes (input_fault_of_copy f stop (length prefix))
+copy_refused_so bytes prefix copy.OutOfMemory stop copied k h = tt
+copy_refused_so bytes prefix (copy.NoPicture f offset) Whole copied k h = (copied, prefix, k, h)
+copy_refused_so bytes prefix (copy.NoPicture f offset) Failed copied k h = (prefix, k, refl, λ t. absurd cc)
+copy_refused_so bytes prefix (copy.NoPicture f offset) Turns copied k h = (prefix, k, refl, λ t. absurd cc)
 
 -- the first bytes that are consumed tell whether the input is a text
 consumed_copy : (first left bytes : List ℕ) → is_text first ≡ false → 0 < length first → bytes ≡ first ++ left → is_text bytes ≡ false
@@ -92,15 +92,15 @@ consumed_copy first left bytes copied some is = ap is_text is ∙ same_first fir
 
 pub known_input_stops : (first : List ℕ) (stop : ReadStop) (before left reader : Option (List ℕ)) (answer : InputFault)
     → is_text first ≡ false → 0 < length first → Consumes before left first
-    → IsSomeAnd reader (λ front. IfSome before (λ bytes. IsFrontOf bytes front stop))
+    → IsSomeAnd reader (λ prefix. IfSome before (λ bytes. IsPrefixOf bytes prefix stop))
     → IfSome reader (λ bytes. IsCopyRefused bytes stop answer)
     → IfSome before (λ bytes. RefusesInput bytes answer)
 known_input_stops first stop before left None answer copied some c k h = absurd k
-known_input_stops first stop None left (Some front) answer copied some c k h = tt
-known_input_stops first stop (Some bytes) None (Some front) answer copied some c k h = absurd c
-known_input_stops first stop (Some bytes) (Some left) (Some front) answer copied some c k h =
+known_input_stops first stop None left (Some prefix) answer copied some c k h = tt
+known_input_stops first stop (Some bytes) None (Some prefix) answer copied some c k h = absurd c
+known_input_stops first stop (Some bytes) (Some left) (Some prefix) answer copied some c k h =
     subst (λ (x : InputFault). RefusesInput bytes x) (sym h.2)
-    (copy_refused_so bytes front h.0 stop (consumed_copy first left bytes copied some c) k h.1)
+    (copy_refused_so bytes prefix h.0 stop (consumed_copy first left bytes copied some c) k h.1)
 
 -- ---- how many bytes were read of a copy
 

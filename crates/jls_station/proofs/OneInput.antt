@@ -19,7 +19,7 @@ use Rattle.jls_io.specs.Event.{Event, History, GrewBy, opened, not_opened, gave,
 use Rattle.jls_io.proofs.Growing.{grew_as, grew_twice}
 use Rattle.jls_station.specs.Forms.{IsForm}
 use Rattle.jls_station.specs.Given.{Given, Gives, by_text, given_by_text}
-use Rattle.jls_station.specs.Inputs.{IsCopyDone, IsEnough, IsRefused, no_text, no_picture, copy_not_read, between_reads, behind_the_last, ReadsGive, ReadsRefuse, for_fault, for_memory}
+use Rattle.jls_station.specs.Inputs.{IsCopyDone, IsEnough, IsRefused, no_text, no_picture, copy_not_read, between_reads, after_the_last, ReadsGive, ReadsRefuse, for_fault, for_memory}
 use Rattle.jls_station.specs.Reading.{AreBytes, GoesOn, StopsWith, IsRead, IsReadInPart, ReadSoFar}
 use Rattle.jls_station.specs.Texts.{is_text, IsTextOf, IsNoText}
 use Rattle.jls_station.specs.InputFaults.{input_fault_of, input_fault_of_copy}
@@ -35,18 +35,18 @@ bytes_both : (xs ys : List ℕ) → AreBytes xs → AreBytes ys → AreBytes (xs
 bytes_both [] ys h k = k
 bytes_both (x ∷ xs) ys h k = (h.0, bytes_both xs ys h.1 k)
 
-bytes_front : (n : ℕ) (xs : List ℕ) → AreBytes xs → AreBytes (take n xs)
-bytes_front zero xs h = tt
-bytes_front (suc n) [] h = tt
-bytes_front (suc n) (x ∷ xs) h = (h.0, bytes_front n xs h.1)
+bytes_prefix : (n : ℕ) (xs : List ℕ) → AreBytes xs → AreBytes (take n xs)
+bytes_prefix zero xs h = tt
+bytes_prefix (suc n) [] h = tt
+bytes_prefix (suc n) (x ∷ xs) h = (h.0, bytes_prefix n xs h.1)
 
 bytes_each : (xs : List ℕ) → ((k : ℕ) → get_or xs k 0 < 256) → AreBytes xs
 bytes_each [] h = tt
 bytes_each (x ∷ xs) h = (h 0, bytes_each xs (λ k. h (suc k)))
 
--- the front of a buffer
-pub front_of_buffer : (n : ℕ) (xs : List ℕ) → ((k : ℕ) → get_or xs k 0 < 256) → AreBytes (take n xs)
-front_of_buffer n xs h = bytes_front n xs (bytes_each xs h)
+-- the prefix of a buffer
+pub prefix_of_buffer : (n : ℕ) (xs : List ℕ) → ((k : ℕ) → get_or xs k 0 < 256) → AreBytes (take n xs)
+prefix_of_buffer n xs h = bytes_prefix n xs (bytes_each xs h)
 
 -- ---- results
 
@@ -245,8 +245,8 @@ module _ (old new : History) where
     pub refused_for : (f : InputFault) → IsRefused bytes stop f → GrewBy (ReadsRefuse f) old new
     refused_for f is = record { events = h.events; grew = h.grew; they_are = for_fault f bytes stop h.events h.they_are is }
 
-    pub out_of_memory_behind : (is_text bytes ≡ true → stop ≡ Whole) → GrewBy (ReadsRefuse fault.OutOfMemory) old new
-    out_of_memory_behind is = record { events = h.events; grew = h.grew; they_are = for_memory h.events (behind_the_last bytes stop h.events h.they_are is) }
+    pub out_of_memory_after : (is_text bytes ≡ true → stop ≡ Whole) → GrewBy (ReadsRefuse fault.OutOfMemory) old new
+    out_of_memory_after is = record { events = h.events; grew = h.grew; they_are = for_memory h.events (after_the_last bytes stop h.events h.they_are is) }
 
     pub given_so : (source : Option ℕ) (g : Given) → g.stop ≡ stop → Gives source bytes g → GrewBy (ReadsGive source g) old new
     given_so source g is gives = record {
@@ -280,13 +280,13 @@ module _ (old new : History) (bytes : List ℕ) (text : is_text bytes ≡ true) 
   refused_by (text_fault.Order offset) e = refused_as_text (text_fault.Order offset) e
   refused_by (text_fault.Sample offset) e = refused_as_text (text_fault.Sample offset) e
   refused_by (text_fault.Trailing offset) e = refused_as_text (text_fault.Trailing offset) e
-  refused_by text_fault.OutOfMemory e = out_of_memory_behind old new bytes Whole h (λ _. refl)
+  refused_by text_fault.OutOfMemory e = out_of_memory_after old new bytes Whole h (λ _. refl)
 
 -- the fault of a copy, likewise
 pub refused_as_copy : (old new : History) (bytes : List ℕ) (stop : ReadStop) → is_text bytes ≡ false
     → GrewBy (λ reads. IsRead IsEnough reads bytes stop) old new
     → (f : CopyFault) → CopyGivesNone bytes f → GrewBy (ReadsRefuse (input_fault_of_copy f stop (length bytes))) old new
-refused_as_copy old new bytes stop copied h copy.OutOfMemory e = out_of_memory_behind old new bytes stop h (λ is. absurd (false≢true (sym copied ∙ is)))
+refused_as_copy old new bytes stop copied h copy.OutOfMemory e = out_of_memory_after old new bytes stop h (λ is. absurd (false≢true (sym copied ∙ is)))
 refused_as_copy old new bytes Whole copied h (copy.NoPicture f offset) e = refused_for old new bytes Whole h (fault.NoPicture f offset) (no_picture bytes f offset copied e)
 refused_as_copy old new bytes Failed copied h (copy.NoPicture f offset) e =
     refused_for old new bytes Failed h (fault.Read Failed (length bytes)) (copy_not_read bytes Failed f offset copied (λ t. absurd cc) e)

@@ -17,8 +17,8 @@ abbrev pub begins_as_text : List ℕ → Bool
 begins_as_text bytes = starts_with nat_eq bytes magic
 
 -- the bytes begin as the text of a partial picture does, and no more are read
-abbrev pub IsTextFront : List ℕ → Type 0
-IsTextFront bytes = begins_as_text bytes ≡ true
+abbrev pub IsTextPrefix : List ℕ → Type 0
+IsTextPrefix bytes = begins_as_text bytes ≡ true
 
 -- what was read of a copy, and how its reading stopped
 pub record CopyBytes : Type 0 where
@@ -29,18 +29,18 @@ pub record CopyBytes : Type 0 where
 pub record IsCopyRead (name : List ℕ) (copy : CopyBytes) (events : List Event) : Type 0 where
   pub reads : List Event
   pub events_are : events ≡ opened name ∷ reads
-  pub is_read : IsRead IsTextFront reads copy.bytes copy.stop
-  pub no_text : IsTextFront copy.bytes → ⊥
+  pub is_read : IsRead IsTextPrefix reads copy.bytes copy.stop
+  pub no_text : IsTextPrefix copy.bytes → ⊥
 
 -- a copy of this name stops a run for this cause. It is not opened, it begins as a text, or memory ran out between two reads or after the
 -- last
 pub data StopsAtCopy : List ℕ → CopyCause → List Event → Type 0 where
   not_there : (name : List ℕ) → StopsAtCopy name cause.NotOpened (not_opened name ∷ [])
   partial_picture : (name bytes : List ℕ) (stop : ReadStop) (reads : List Event)
-      → IsRead IsTextFront reads bytes stop → IsTextFront bytes → StopsAtCopy name cause.PartialPicture (opened name ∷ reads)
+      → IsRead IsTextPrefix reads bytes stop → IsTextPrefix bytes → StopsAtCopy name cause.PartialPicture (opened name ∷ reads)
   between_reads : (name : List ℕ) (reads : List Event)
-      → IsReadInPart IsTextFront reads → StopsAtCopy name cause.OutOfMemory (opened name ∷ reads)
-  behind_the_last : (name : List ℕ) (copy : CopyBytes) (events : List Event)
+      → IsReadInPart IsTextPrefix reads → StopsAtCopy name cause.OutOfMemory (opened name ∷ reads)
+  after_the_last : (name : List ℕ) (copy : CopyBytes) (events : List Event)
       → IsCopyRead name copy events → StopsAtCopy name cause.OutOfMemory events
 
 -- ---- all copies

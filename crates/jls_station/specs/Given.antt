@@ -39,7 +39,7 @@ pub record Given : Type 0 where
 abbrev pub found_in : List ℕ → ReadCopy → FoundCopy
 found_in bytes read = record { pieces = read.pieces; piece_count = read.piece_count; ended = read.ended; count = length bytes }
 
--- and what is told of it, where its reading stopped so
+-- and what is reported of it, where its reading stopped so
 abbrev pub report_of : List ℕ → ReadCopy → ReadStop → CopyReport
 report_of bytes read stop = record { found = found_in bytes read; stop = stop }
 

@@ -15,7 +15,7 @@ abbrev pub input_fault_of : TextFault → InputFault
 input_fault_of OutOfMemory = fault.OutOfMemory
 input_fault_of f = fault.Text f
 
--- the reading of the copy stopped so, behind so many bytes
+-- the reading of the copy stopped so, after so many bytes
 abbrev pub input_fault_of_copy : CopyFault → ReadStop → ℕ → InputFault
 input_fault_of_copy copy.OutOfMemory stop count = fault.OutOfMemory
 input_fault_of_copy (copy.NoPicture f offset) Whole count = fault.NoPicture f offset

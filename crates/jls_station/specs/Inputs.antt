@@ -39,7 +39,7 @@ pub data IsRefused : List ℕ → ReadStop → InputFault → Type 0 where
 -- text or a copy
 pub data RunsOutOfMemory : List Event → Type 0 where
   between_reads : (reads : List Event) → IsReadInPart IsEnough reads → RunsOutOfMemory reads
-  behind_the_last : (bytes : List ℕ) (stop : ReadStop) (reads : List Event) → IsRead IsEnough reads bytes stop
+  after_the_last : (bytes : List ℕ) (stop : ReadStop) (reads : List Event) → IsRead IsEnough reads bytes stop
       → (is_text bytes ≡ true → stop ≡ Whole) → RunsOutOfMemory reads
 
 -- these are all reads of an input, and it gives this

@@ -3,7 +3,7 @@ use Rattle.std.specs.Prelude.{◌≡◌, ◌≤◌, ℕ, true, false, List, leng
 use Rattle.jls_copy.specs.CopyReads.{CopyGivesNone}
 use Rattle.jls_copy.specs.declared.reader.CopyFault.TheVariants as copy
 use Rattle.jls_station.specs.Given.{Given}
-use Rattle.jls_station.specs.KnownCopies.{IsFrontOf}
+use Rattle.jls_station.specs.KnownCopies.{IsPrefixOf}
 use Rattle.jls_station.specs.Texts.{is_text, IsNoText}
 use Rattle.jls_station.specs.declared.input.ReadStop.TheVariants.{Whole}
 use Rattle.jls_station.specs.declared.input.InputFault.{InputFault}
@@ -14,9 +14,9 @@ use Rattle.jls_station.specs.declared.input.InputFault.TheVariants as fault
 abbrev pub RefusesInput : List ℕ → InputFault → Type 0
 RefusesInput bytes (fault.Text f) = (is_text bytes ≡ true) × IsNoText bytes f
 RefusesInput bytes (fault.NoPicture f offset) =
-    (is_text bytes ≡ false) × (front : List ℕ) × IsFrontOf bytes front Whole × CopyGivesNone front (copy.NoPicture f offset)
+    (is_text bytes ≡ false) × (prefix : List ℕ) × IsPrefixOf bytes prefix Whole × CopyGivesNone prefix (copy.NoPicture f offset)
 RefusesInput bytes (fault.Read stop count) =
-    (front : List ℕ) × IsFrontOf bytes front stop × (count ≡ length front) × (stop ≡ Whole → ⊥)
+    (prefix : List ℕ) × IsPrefixOf bytes prefix stop × (count ≡ length prefix) × (stop ≡ Whole → ⊥)
 RefusesInput bytes fault.OutOfMemory = Unit {0}
 
 -- of a copy no more bytes were read than these

@@ -41,7 +41,7 @@ pub data CopyStops : TakeFault → List Event → Type 0 where
       → IsRead IsCopyDone reads bytes stop → CopyGivesNone bytes (copy.NoPicture f offset)
       → CopyStops (fault.Read stop (length bytes)) reads
   between_reads : (reads : List Event) → IsReadInPart IsCopyDone reads → CopyStops fault.OutOfMemory reads
-  behind_the_last : (bytes : List ℕ) (stop : ReadStop) (reads : List Event) → IsRead IsCopyDone reads bytes stop
+  after_the_last : (bytes : List ℕ) (stop : ReadStop) (reads : List Event) → IsRead IsCopyDone reads bytes stop
       → CopyStops fault.OutOfMemory reads
 
 -- a station that held `old` took a copy of its shape, whose report this is, and holds `new`

@@ -12,7 +12,7 @@ use jls_copy::{CopyFault, CopyReader};
 use jls_partial::Partial;
 use std::alloc::AllocError;
 
-/// What a copy gave: its readings, under a source if there is one, and what is told of it beside them.
+/// What a copy gave: its readings, under a source if there is one, and what is reported of it beside them.
 #[derive(Drop)]
 pub(crate) struct CopyGiven {
     pub(crate) partial: Partial,

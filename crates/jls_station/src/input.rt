@@ -15,7 +15,7 @@ ghost use Rattle.jls_station.specs.declared.input.InputFault.TheVariants.{OutOfM
 ghost use Rattle.jls_station.specs.declared.input.ReadStop.TheVariants.{Whole};
 
 use crate::copy_end::{CopyGiven, read_of_copy};
-use crate::reading::{front, read_copy_on, read_text_on};
+use crate::reading::{prefix, read_copy_on, read_text_on};
 use crate::take_report::TakeReport;
 use jls_copy::{CopyReader, copies_have_one_course};
 use jls_io::Source;
@@ -236,7 +236,7 @@ pub fn read_form<S: Source>(
     if count == 0 {
         return Err(InputFault::NoPicture(MarkerFault::Ended, 0));
     }
-    let first = front(&chunk, count);
+    let first = prefix(&chunk, count);
     if first[0] == FIRST_OF_TEXT {
         read_text(device, first, text)?;
         Ok(InputForm::Text)

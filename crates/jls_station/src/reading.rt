@@ -4,7 +4,7 @@ ghost use Rattle.std.specs.Prelude.{◌≡◌, ◌≤◌, ◌<◌, ◌*◌, ◌�
 ghost use Rattle.std.specs.Io.KnownBytes.{Consumes, IsAtEnd};
 ghost use Rattle.jls_io.specs.Event.{History, GrewBy};
 ghost use Rattle.jls_station.specs.Inputs.{IsEnough, IsCopyDone};
-ghost use Rattle.jls_station.specs.KnownCopies.{IsFrontOf};
+ghost use Rattle.jls_station.specs.KnownCopies.{IsPrefixOf};
 ghost use Rattle.jls_station.specs.Reading.{AreBytes, ReadSoFar, IsRead, IsReadInPart};
 ghost use Rattle.jls_station.specs.Texts.{is_text};
 ghost use Rattle.jls_station.specs.declared.input.ReadStop.TheVariants.{Whole};
@@ -17,10 +17,10 @@ use std::alloc::AllocError;
 /// The most reads of one input.
 const READS: u64 = 4_294_967_295;
 
-/// The front of a buffer, which has as many bytes as a read gave.
-pub(crate) fn front(buffer: &[u8], count: usize) -> &[u8]
+/// The prefix of a buffer, which has as many bytes as a read gave.
+pub(crate) fn prefix(buffer: &[u8], count: usize) -> &[u8]
     requires { count ≤ length buffer.now }
-    ensures front { result.now ≡ take count buffer.now }
+    ensures prefix { result.now ≡ take count buffer.now }
     ensures bytes { AreBytes result.now }
 {
     &buffer[..count]
@@ -51,7 +51,7 @@ pub(crate) fn read_text_on<S: Source>(
         if n == 0 {
             return Ok(ReadStop::Whole);
         }
-        bytes.extend_from_slice(front(&chunk, n))?;
+        bytes.extend_from_slice(prefix(&chunk, n))?;
     }
     Ok(ReadStop::Turns)
 }
@@ -83,7 +83,7 @@ pub(crate) fn read_copy_on<S: Source>(
         → OnErr result (GrewBy (IsReadInPart IsCopyDone) before (S.history device.new)) }
     ensures known { (before : Option (List ℕ)) (fed : List ℕ) → reader.old ≡ Some fed
         → Consumes before (S.remaining device.old) fed
-        → IfOk result (λ stop. IsSomeAnd reader.new (λ front. IfSome before (λ bytes. IsFrontOf bytes front stop))) }
+        → IfOk result (λ stop. IsSomeAnd reader.new (λ prefix. IfSome before (λ bytes. IsPrefixOf bytes prefix stop))) }
 {
     let mut chunk = [0u8; 4096];
     for _ in made..READS {
@@ -97,7 +97,7 @@ pub(crate) fn read_copy_on<S: Source>(
         if n == 0 {
             return Ok(ReadStop::Whole);
         }
-        reader.feed(front(&chunk, n))?;
+        reader.feed(prefix(&chunk, n))?;
     }
     if is_enough(reader) {
         Ok(ReadStop::Whole)

@@ -3,10 +3,10 @@
 ghost use Rattle.std.specs.Prelude.{◌≡◌, ◌↔◌, true, false, OnOk, OnErr, IfErr, IsErrOf};
 ghost use Rattle.jls_values.specs.Join.{IsBetween};
 ghost use Rattle.jls_values.specs.declared.merge.MergeFault.TheVariants.{ShapeDiffers, OutOfMemory};
-ghost use Rattle.jls_partial.specs.Merging.{TakesFront};
+ghost use Rattle.jls_partial.specs.Merging.{TakesPrefix};
 ghost use Rattle.jls_partial.specs.Partial.{PartialPicture, has_same_shape, nothing_known, union};
 ghost use Rattle.jls_partial.specs.Text.{IsTextOf};
-ghost use Rattle.jls_partial.specs.TextFront.{text_front};
+ghost use Rattle.jls_partial.specs.TextPrefix.{text_prefix};
 ghost use Rattle.jls_partial.specs.TextMerging.{RefusesText, MergesText, HasOtherHead};
 ghost use Rattle.jls_partial.specs.declared.text_merging.MergeTextFault.TheVariants as MergeTextFault;
 
@@ -80,7 +80,7 @@ impl Station {
         // Whatever the answer.
         ensures other_head { HasOtherHead self.old bytes.now → self.new ≡ self.old }
         // What is held after a fault.
-        ensures front { OnErr result (TakesFront self.old self.new (text_front bytes.now)) }
+        ensures prefix { OnErr result (TakesPrefix self.old self.new (text_prefix bytes.now)) }
         // Where memory ran out for what is a text.
         ensures between { (p : PartialPicture) → IsTextOf bytes.now p
             → OnErr result (IsBetween union self.old self.new (union self.old p)) }

@@ -1,4 +1,4 @@
-//! What is told of a copy that was read.
+//! What is reported of a copy that was read.
 
 ghost use Rattle.std.specs.Prelude.{◌≡◌};
 
@@ -6,7 +6,7 @@ use crate::input::ReadStop;
 use jls_copy::{End, PieceRecord};
 use std::marker::Model;
 
-/// What is told of a copy beside its readings. Clauses see it as what was found and how the reading stopped.
+/// What is reported of a copy beside its readings. Clauses see it as what was found and how the reading stopped.
 #[derive(Drop)]
 pub struct TakeReport {
     pub(crate) pieces: Vec<PieceRecord>,

@@ -4,7 +4,7 @@ ghost use Rattle.std.specs.Prelude.{◌≡◌, ◌≤◌, [], length, take, true
 ghost use Rattle.std.specs.Io.KnownBytes.{Consumes};
 ghost use Rattle.jls_io.specs.Event.{GrewBy};
 ghost use Rattle.jls_station.specs.Reading.{AreBytes, IsRead, IsReadInPart};
-ghost use Rattle.jls_station.specs.CopyFiles.{begins_as_text, IsTextFront};
+ghost use Rattle.jls_station.specs.CopyFiles.{begins_as_text, IsTextPrefix};
 
 use crate::input::ReadStop;
 use jls_io::Source;
@@ -13,10 +13,10 @@ use std::alloc::AllocError;
 /// The most reads of one copy.
 const READS: u64 = 4_294_967_295;
 
-/// The front of a buffer, which has as many bytes as a read gave.
-fn front(buffer: &[u8], count: usize) -> &[u8]
+/// The prefix of a buffer, which has as many bytes as a read gave.
+fn prefix(buffer: &[u8], count: usize) -> &[u8]
     requires { count ≤ length buffer.now }
-    ensures front { result.now ≡ take count buffer.now }
+    ensures prefix { result.now ≡ take count buffer.now }
     ensures bytes { AreBytes result.now }
 {
     &buffer[..count]
@@ -34,8 +34,8 @@ pub(crate) fn is_text(bytes: &[u8]) -> bool
 /// bytes begin as the text of a partial picture: that stops the reading as its end does.
 pub fn read_to_end<S: Source>(device: &mut S, bytes: &mut Vec<u8>) -> Result<ReadStop, AllocError>
     ensures read { IfOk result (λ stop.
-        GrewBy (λ reads. IsRead IsTextFront reads bytes.new.items stop) (S.history device.old) (S.history device.new)) }
-    ensures refused { OnErr result (GrewBy (IsReadInPart IsTextFront) (S.history device.old) (S.history device.new)) }
+        GrewBy (λ reads. IsRead IsTextPrefix reads bytes.new.items stop) (S.history device.old) (S.history device.new)) }
+    ensures refused { OnErr result (GrewBy (IsReadInPart IsTextPrefix) (S.history device.old) (S.history device.new)) }
     ensures known { OnOk result (Consumes (S.remaining device.old) (S.remaining device.new) bytes.new.items) }
 {
     bytes.clear();
@@ -51,7 +51,7 @@ pub fn read_to_end<S: Source>(device: &mut S, bytes: &mut Vec<u8>) -> Result<Rea
         if n == 0 {
             return Ok(ReadStop::Whole);
         }
-        bytes.extend_from_slice(front(&chunk, n))?;
+        bytes.extend_from_slice(prefix(&chunk, n))?;
     }
     if is_text(bytes) {
         Ok(ReadStop::Whole)

@@ -130,14 +130,14 @@ module _ {V : Type 0} {same_shape : V → V → Bool} {join : V → V → V} (la
       (laws.transitive (join_all join x xs) x (join_all join y ys) (turned x (join_all join x xs) (fits_all x xs h)) (laws.transitive x y (join_all join y ys) f (fits_all y ys g)))
       (half x xs y ys h g there) (half y ys x xs g h back)
 
-  behind : (x : V) (xs ys : List V) → ((z : V) → Contains xs z → Contains ys z) → (z : V) → Contains (x ∷ xs) z → Contains (x ∷ ys) z
-  behind x xs ys inside z (zero, lt, e) = (0, omega arith, e)
-  behind x xs ys inside z (suc k, lt, e) = let c = inside z (k, omega (arith, lt), e) in (suc c.0, omega (arith, c.1), c.2)
+  following : (x : V) (xs ys : List V) → ((z : V) → Contains xs z → Contains ys z) → (z : V) → Contains (x ∷ xs) z → Contains (x ∷ ys) z
+  following x xs ys inside z (zero, lt, e) = (0, omega arith, e)
+  following x xs ys inside z (suc k, lt, e) = let c = inside z (k, omega (arith, lt), e) in (suc c.0, omega (arith, c.1), c.2)
 
   -- lists with the same members have the same join with a value
   pub same_members : (x : V) (xs ys : List V) → AllOfShape same_shape x xs → AllOfShape same_shape x ys
       → ((y : V) → Contains xs y → Contains ys y) → ((y : V) → Contains ys y → Contains xs y) → join_all join x xs ≡ join_all join x ys
-  same_members x xs ys h g there back = same_lists x xs x ys h g (behind x xs ys there) (behind x ys xs back)
+  same_members x xs ys h g there back = same_lists x xs x ys h g (following x xs ys there) (following x ys xs back)
 
 module _ {V : Type 0} (join : V → V → V) where
   pub join_all-push : (x : V) (ys : List V) (y : V) → join_all join x (ys ++ y ∷ []) ≡ join (join_all join x ys) y

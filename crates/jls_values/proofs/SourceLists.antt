@@ -143,9 +143,9 @@ gap xs ys i x kept same search =
     record { within = r.0; below = r.1; above = r.2 }
 
 -- some of the numbers are held: all that was held is, and nothing that all of them do not give
-pub front_between : (s : set.OrderedSet nat_cmp) (xs ys all : List ℕ) → all ≡ xs ++ ys
+pub prefix_between : (s : set.OrderedSet nat_cmp) (xs ys all : List ℕ) → all ≡ xs ++ ys
     → IsBelow set.union s (set.insert_all s xs) × IsBelow set.union (set.insert_all s xs) (set.insert_all s all)
-front_between s xs ys all is = (
+prefix_between s xs ys all is = (
   same_set nat_cmp_total exact_unsigned _ _ (λ q.
       contains-union nat_cmp_total s (set.insert_all s xs) q
       ∙ ap (λ b. set.contains s q || b) (contains-insert_all nat_cmp_total s xs q)

@@ -1,4 +1,4 @@
--- Numbers that are put into the front of a list in ascending order, whose other numbers stand above them.
+-- Numbers that are put into the start of a list in ascending order, whose other numbers stand above them.
 use Rattle.std.proofs.Common.{◌≡◌, ℕ, zero, suc, ◌+◌, ◌-◌, ◌^◌, ◌<◌, ◌≤◌, ◌||◌, List, [], ◌∷◌, ◌++◌, length, get_or, take, drop, ap, sym, subst, ◌∙◌, arith, inl, inr, length-append, length-drop}
 use Rattle.std.specs.declared.cmp.Ordering.TheVariants.{Less}
 use Rattle.std.specs.Ordering.{nat_cmp, eq_by_cmp}
@@ -30,7 +30,7 @@ unfolding IsStrictlySortedBy
 rises-right [] ys h = h
 rises-right (x ∷ xs) ys h = rises-right xs ys h.1
 
--- the front of a list in order is in order
+-- the prefix of a list in order is in order
 pub sources-left : (xs ys : List ℕ) → IsSourceList (xs ++ ys) → IsSourceList xs
 sources-left xs ys h = record { sorted = rises-left xs ys h.sorted; small = all-left (λ n. n < 2 ^ 32) xs ys h.small }
 
@@ -54,7 +54,7 @@ above_from xs ys i x h lt less = all-made x (drop i ys) each
         let at : get_or (drop i ys) k 0 ≡ get_or ys (i + k) 0 = get_or-drop i ys k 0 in
         omega arith
 
--- where a number belongs is the same with numbers above it behind
+-- where a number belongs is the same with numbers above it after that
 gap-before : (xs ys : List ℕ) (i x : ℕ) → IsGap xs i x → AllByRecursion (λ n. x < n) ys → IsGap (xs ++ ys) i x
 gap-before xs ys i x g a = record {
   within = omega (arith, length-append xs ys, g.within);
@@ -72,13 +72,13 @@ gap-before xs ys i x g a = record {
               omega (arith, all-at x ys a (k - length xs) inside)
         ]
 
--- a number that is put where it belongs leaves a list in order, with the numbers above it behind
+-- a number that is put where it belongs leaves a list in order, with the numbers above it after that
 pub sources-insert-before : (xs ys : List ℕ) (i x : ℕ) → x < 2 ^ 32 → IsGap xs i x → AllByRecursion (λ n. x < n) ys
     → IsSourceList (xs ++ ys) → IsSourceList (insert xs i x ++ ys)
 sources-insert-before xs ys i x fits g a h =
     subst IsSourceList (insert-append_left xs ys i x g.within) (sources-insert (xs ++ ys) i x fits (gap-before xs ys i x g a) h)
 
--- one number more in the front is one more in the whole
+-- one number more in the prefix is one more in the whole
 pub from_list-insert-before : (xs zs ys : List ℕ) (x : ℕ) → set.from_list {R = nat_cmp} zs ≡ set.insert (set.from_list xs) x
     → set.from_list {R = nat_cmp} (zs ++ ys) ≡ set.insert (set.from_list (xs ++ ys)) x
 from_list-insert-before xs zs ys x e = same_set nat_cmp_total exact_unsigned _ _ (λ q.
@@ -90,8 +90,8 @@ from_list-insert-before xs zs ys x e = same_set nat_cmp_total exact_unsigned _ _
     ∙ ap (λ b. p x || b) (sym (list_any-append p xs ys) ∙ sym (contains-from_list nat_cmp_total (xs ++ ys) q))
     ∙ sym (contains-insert nat_cmp_total (set.from_list (xs ++ ys)) x q))
 
--- a list that was cut at a place is the front and the rest
-pub cut_again : (xs front rest : List ℕ) (n : ℕ) → front ≡ take n xs → rest ≡ take (length xs - n) (drop n xs) → front ++ rest ≡ xs
-cut_again xs front rest n f r =
+-- a list that was cut at a place is the prefix and the rest
+pub cut_again : (xs prefix rest : List ℕ) (n : ℕ) → prefix ≡ take n xs → rest ≡ take (length xs - n) (drop n xs) → prefix ++ rest ≡ xs
+cut_again xs prefix rest n f r =
     let whole : take (length xs - n) (drop n xs) ≡ drop n xs = take_all (length xs - n) (drop n xs) (omega (arith, length-drop n xs)) in
     rw (f, r, whole) (take-append-drop n xs)

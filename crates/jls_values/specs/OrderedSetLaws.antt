@@ -46,7 +46,7 @@ some_or : (b : Bool) (x : Option (Unit {0})) → is_some (cond b (Some tt) x) �
 some_or true x = refl
 some_or false x = refl
 
--- nothing is told by an entry but that it is there
+-- nothing is determined by an entry but that it is there
 marks : (x y : Option (Unit {0})) → is_some x ≡ is_some y → x ≡ y
 marks None None e = refl
 marks None (Some v) e = absurd cc

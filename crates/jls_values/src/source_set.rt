@@ -105,7 +105,7 @@ fn put(numbers: &mut Vec<u32>, number: u32)
     }
 }
 
-/// Moves the numbers of `above` up to `last` behind the others, where there is room for them. Those that are left are lent.
+/// Moves the numbers of `above` up to `last` after the others, where there is room for them. Those that are left are lent.
 fn move_up_to<'a>(numbers: &mut Vec<u32>, above: &'a [u32], last: u32) -> &'a [u32]
     requires sources { IsSourceList (numbers.old.items ++ above.now) }
     requires room { vec_len numbers.old + length above.now ≤ vec_capacity numbers.old }

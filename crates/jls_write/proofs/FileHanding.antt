@@ -7,7 +7,7 @@ use Rattle.jls_io.proofs.Known.{appends_nothing}
 use Rattle.jls_io.proofs.Writes.{nothing_written}
 use Rattle.jls_write.specs.declared.output.OutputFault.{OutputFault}
 use Rattle.jls_write.specs.declared.output.OutputFault.TheVariants.{Write, OutOfMemory}
-use Rattle.jls_write.specs.Outcomes.{HandedOut, HandedFront, StoppedBy}
+use Rattle.jls_write.specs.Outcomes.{HandedOut, HandedPrefix, StoppedBy}
 use Rattle.jls_write.proofs.Handing.{handed_on, stopped_on, stopped_first}
 use Rattle.jls_write.specs.Stops.{StopsIn}
 
@@ -21,7 +21,7 @@ stops_at_once h held before bytes some = (0, omega arith, record { out = none_ou
 
 -- a failed write
 pub stops_by : (old new : History) (held holds : Option (List ℕ)) (fault : OutputFault) (before : ℕ) (bytes : List ℕ)
-    → StoppedBy fault before (HandedFront old new held holds bytes) → StopsIn fault before old new held holds bytes
+    → StoppedBy fault before (HandedPrefix old new held holds bytes) → StopsIn fault before old new held holds bytes
 stops_by old new held holds (Write count) before bytes stopped = stopped
 stops_by old new held holds (OutOfMemory count) before bytes stopped = absurd stopped
 
@@ -38,7 +38,7 @@ stops_first old new held holds (OutOfMemory count) before a rest (n, count_is, p
   },
 )
 
--- in a later part, behind which the rest was to come
+-- in a later part, after which the rest was to come
 pub stops_on : (old mid new : History) (held keeps holds : Option (List ℕ)) (fault : OutputFault) (before now : ℕ) (a b rest all : List ℕ)
     → now ≡ before + length a → all ≡ a ++ b ++ rest
     → HandedOut old mid held keeps a → StopsIn fault now mid new keeps holds b → StopsIn fault before old new held holds all
@@ -49,12 +49,12 @@ stops_on old mid new held keeps holds (OutOfMemory count) before now a b rest al
     let two = length-append a b in
     let three = length-append (a ++ b) rest in
     let size = ap length all_is in
-    let front : take (length a + n) all ≡ a ++ take n b =
+    let prefix : take (length a + n) all ≡ a ++ take n b =
     ap (take (length a + n)) all_is ∙ take-append-le (length a + n) (a ++ b) rest (omega (arith, less, two)) ∙ take-append-add a b n in (
       length a + n,
       omega (arith, now_is, count_is),
       record {
-        out = subst (λ (t : List ℕ). HandedOut old new held holds t) (sym front) (handed_on old mid new held keeps holds a (take n b) h part.out);
+        out = subst (λ (t : List ℕ). HandedOut old new held holds t) (sym prefix) (handed_on old mid new held keeps holds a (take n b) h part.out);
         not_all = omega (arith, less, two, three, size);
       },
     )

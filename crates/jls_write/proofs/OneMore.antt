@@ -63,7 +63,7 @@ length-flat_map-le f most each a (suc n) =
 pub appended : (out a b x y : List ℕ) → x ≡ out ++ a → y ≡ x ++ b → y ≡ out ++ (a ++ b)
 appended out a b x y first second = second ∙ ap (λ t. t ++ b) first ∙ append_assoc out a b
 
--- the part of one number more, put behind
+-- the part of one number more, put after
 pub put_from_more : (f : ℕ → List ℕ) (a k : ℕ) (out now new : List ℕ) → a ≤ k
     → now ≡ out ++ flat_map f (range_with_len a (k - a)) → new ≡ now ++ f k → new ≡ out ++ flat_map f (range_with_len a (k + 1 - a))
 put_from_more f a k out now new low so_far more =

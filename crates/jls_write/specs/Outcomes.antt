@@ -2,7 +2,7 @@
 use Rattle.std.specs.Prelude.{◌≡◌, ℕ, ◌+◌, List, Option, take}
 use Rattle.std.specs.Io.KnownBytes.{Appends}
 use Rattle.jls_io.specs.Event.{History, GrewBy}
-use Rattle.jls_io.specs.Writing.{Wrote, WroteFront}
+use Rattle.jls_io.specs.Writing.{Wrote, WrotePrefix}
 use Rattle.jls_write.specs.declared.output.OutputFault.{OutputFault}
 use Rattle.jls_write.specs.declared.output.OutputFault.TheVariants.{Write, OutOfMemory}
 
@@ -12,11 +12,11 @@ pub record HandedOut (old new : History) (held holds : Option (List ℕ)) (bytes
   pub holds_them : Appends held holds bytes
 
 -- so many of the bytes went out, from the first on and not all; then a write failed, and nothing else was done
-pub record HandedFront (old new : History) (held holds : Option (List ℕ)) (bytes : List ℕ) (count : ℕ) : Type 0 where
-  pub wrote : GrewBy (WroteFront bytes count) old new
+pub record HandedPrefix (old new : History) (held holds : Option (List ℕ)) (bytes : List ℕ) (count : ℕ) : Type 0 where
+  pub wrote : GrewBy (WrotePrefix bytes count) old new
   pub holds_them : Appends held holds (take count bytes)
 
 -- a write failed, and the fault says how many bytes had gone out, with so many that had gone out before these
 abbrev pub StoppedBy : OutputFault → ℕ → (ℕ → Type 0) → Type 0
-StoppedBy (Write count) before Front = (n : ℕ) × (count ≡ before + n) × Front n
-StoppedBy (OutOfMemory count) before Front = ⊥
+StoppedBy (Write count) before Prefix = (n : ℕ) × (count ≡ before + n) × Prefix n
+StoppedBy (OutOfMemory count) before Prefix = ⊥

@@ -1,12 +1,12 @@
--- Words of the crate's own functions: bytes that wait in front of a sink, and the columns of the lines of a row.
+-- Words of the crate's own functions: bytes that wait before a sink, and the columns of the lines of a row.
 use Rattle.std.specs.Prelude.{◌≡◌, ℕ, ◌+◌, ◌<◌, ◌≤◌, Bool, false, List, [], ◌++◌, length, get_or, Option}
 use Rattle.std.specs.List.{flat_map}
 use Rattle.jls_io.specs.Event.{History}
 use Rattle.jls_write.specs.Outcomes.{HandedOut}
 use Rattle.jls_write.specs.Pnm.{sample_bytes}
 
--- Bytes were put after those that waited, with so many gone out before; the front of all of them went out, and the rest waits
-pub record PutBehind (old new : History) (held holds : Option (List ℕ)) (waited : List ℕ) (before : ℕ) (waits : List ℕ) (gone : ℕ)
+-- Bytes were put after those that waited, with so many gone out before; the prefix of all of them went out, and the rest waits
+pub record PutAfter (old new : History) (held holds : Option (List ℕ)) (waited : List ℕ) (before : ℕ) (waits : List ℕ) (gone : ℕ)
     (bytes : List ℕ) : Type 0 where
   pub out : List ℕ
   pub all : waited ++ bytes ≡ out ++ waits

@@ -1,6 +1,6 @@
 //! Bytes handed to a sink, with a count of all that have gone out.
 
-ghost use Rattle.jls_write.specs.Outcomes.{HandedOut, HandedFront, StoppedBy};
+ghost use Rattle.jls_write.specs.Outcomes.{HandedOut, HandedPrefix, StoppedBy};
 ghost use Rattle.std.specs.Prelude.{◌≡◌, ◌+◌, ◌<◌, ◌^◌, length, IfOk, IfErr, OnOk};
 
 use jls_io::{Sink, write_all};
@@ -23,7 +23,7 @@ pub fn write_part<W: Sink>(sink: &mut W, before: u64, bytes: &[u8]) -> Result<u6
     ensures count { IfOk result (λ count. count ≡ before + length bytes.now) }
     ensures all { OnOk result (HandedOut (W.history sink.old) (W.history sink.new)
         (W.contents sink.old) (W.contents sink.new) bytes.now) }
-    ensures front { IfErr result (λ fault. StoppedBy fault before (HandedFront (W.history sink.old) (W.history sink.new)
+    ensures prefix { IfErr result (λ fault. StoppedBy fault before (HandedPrefix (W.history sink.old) (W.history sink.new)
         (W.contents sink.old) (W.contents sink.new) bytes.now)) }
 {
     match write_all(sink, bytes) {

@@ -1,8 +1,8 @@
 //! Pictures as PNM.
 
-ghost use Rattle.jls_write.specs.Outcomes.{HandedOut, HandedFront, StoppedBy};
+ghost use Rattle.jls_write.specs.Outcomes.{HandedOut, HandedPrefix, StoppedBy};
 ghost use Rattle.jls_write.specs.Pnm.{is_wide, row_bytes, raster, pnm};
-ghost use Rattle.jls_write.specs.Waiting.{PutBehind};
+ghost use Rattle.jls_write.specs.Waiting.{PutAfter};
 ghost use Rattle.std.specs.Prelude.{◌≡◌, ◌+◌, ◌<◌, ◌≤◌, ◌^◌, ◌++◌, length, IfErr, OnOk};
 
 use crate::output::OutputFault;
@@ -12,7 +12,7 @@ use crate::pnm_header::{largest_sample, pnm_header};
 use crate::waiting::Waiting;
 use jls_io::Sink;
 
-/// Puts a line of the raster behind what waits, and hands out what there is no room for. Its lines are lent once.
+/// Puts a line of the raster after what waits, and hands out what there is no room for. Its lines are lent once.
 fn write_row<W: Sink>(
     sink: &mut W,
     waiting: &mut Waiting,
@@ -25,9 +25,9 @@ fn write_row<W: Sink>(
     requires early { waiting.old.gone < 2 ^ 60 }
     requires few { length waiting.old.bytes.items < 4096 }
     ensures few { OnOk result (length waiting.new.bytes.items < 4096) }
-    ensures all { OnOk result (PutBehind (W.history sink.old) (W.history sink.new) (W.contents sink.old) (W.contents sink.new)
+    ensures all { OnOk result (PutAfter (W.history sink.old) (W.history sink.new) (W.contents sink.old) (W.contents sink.new)
         waiting.old.bytes.items waiting.old.gone waiting.new.bytes.items waiting.new.gone (row_bytes picture.now row)) }
-    ensures front { IfErr result (λ fault. StoppedBy fault waiting.old.gone (HandedFront (W.history sink.old) (W.history sink.new)
+    ensures prefix { IfErr result (λ fault. StoppedBy fault waiting.old.gone (HandedPrefix (W.history sink.old) (W.history sink.new)
         (W.contents sink.old) (W.contents sink.new) (waiting.old.bytes.items ++ row_bytes picture.now row))) }
 {
     let lines = lines_of_row(picture, row);
@@ -42,7 +42,7 @@ fn write_row<W: Sink>(
     Ok(())
 }
 
-/// Puts the raster behind what waits, and hands out what there is no room for.
+/// Puts the raster after what waits, and hands out what there is no room for.
 fn write_raster<W: Sink>(
     sink: &mut W,
     waiting: &mut Waiting,
@@ -50,10 +50,10 @@ fn write_raster<W: Sink>(
 ) -> Result<(), OutputFault>
     requires begun { waiting.old.gone ≡ 0 }
     requires few { length waiting.old.bytes.items < 4096 }
-    ensures all { OnOk result (PutBehind (W.history sink.old) (W.history sink.new) (W.contents sink.old) (W.contents sink.new)
+    ensures all { OnOk result (PutAfter (W.history sink.old) (W.history sink.new) (W.contents sink.old) (W.contents sink.new)
         waiting.old.bytes.items waiting.old.gone waiting.new.bytes.items waiting.new.gone (raster picture.now)) }
     ensures early { OnOk result (waiting.new.gone < 2 ^ 60) }
-    ensures front { IfErr result (λ fault. StoppedBy fault waiting.old.gone (HandedFront (W.history sink.old) (W.history sink.new)
+    ensures prefix { IfErr result (λ fault. StoppedBy fault waiting.old.gone (HandedPrefix (W.history sink.old) (W.history sink.new)
         (W.contents sink.old) (W.contents sink.new) (waiting.old.bytes.items ++ raster picture.now))) }
 {
     let wide = largest_sample(picture.shape()) >= 256;
@@ -69,7 +69,7 @@ fn write_raster<W: Sink>(
 pub fn write_pnm<W: Sink>(picture: &Picture<'_>, sink: &mut W) -> Result<(), OutputFault>
     ensures all { OnOk result (HandedOut (W.history sink.old) (W.history sink.new)
         (W.contents sink.old) (W.contents sink.new) (pnm picture.now)) }
-    ensures front { IfErr result (λ fault. StoppedBy fault 0 (HandedFront (W.history sink.old) (W.history sink.new)
+    ensures prefix { IfErr result (λ fault. StoppedBy fault 0 (HandedPrefix (W.history sink.old) (W.history sink.new)
         (W.contents sink.old) (W.contents sink.new) (pnm picture.now))) }
 {
     let mut waiting = Waiting::of(&pnm_header(picture.shape()));

@@ -51,7 +51,7 @@ fn put_line(header: &mut ArrayVec<u8, ROOM>, name: &[u8], n: u16)
     put_text(header, b"\n");
 }
 
-/// The header of a PGM or a PPM file, behind these first bytes.
+/// The header of a PGM or a PPM file, after these first bytes.
 fn plain_header(magic: &[u8; 3], shape: &Shape) -> ArrayVec<u8, ROOM>
     ensures { result.items ≡ Rattle.jls_write.specs.Pnm.plain_header magic.now shape.now }
 {

@@ -50,7 +50,7 @@ impl<'a, 'b> ScanPart<'a, 'b> {
         if rows == 0 { 1 } else { height.div_ceil(rows) }
     }
 
-    /// The first row of an interval, and the row behind its last.
+    /// The first row of an interval, and the row after its last.
     pub(crate) fn rows(&self, interval: u32) -> (u16, u16)
         requires { interval < intervals (scan_from self.now.picture.now self.now.options self.now.first self.now.count) }
         ensures first { result.0 ≡ first_row (scan_from self.now.picture.now self.now.options self.now.first self.now.count) interval }

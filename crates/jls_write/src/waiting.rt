@@ -1,14 +1,14 @@
-//! Bytes that wait in front of a sink, so that it is handed many at once.
+//! Bytes that wait before a sink, so that it is handed many at once.
 
-ghost use Rattle.jls_write.specs.Outcomes.{HandedOut, HandedFront, StoppedBy};
-ghost use Rattle.jls_write.specs.Waiting.{PutBehind};
+ghost use Rattle.jls_write.specs.Outcomes.{HandedOut, HandedPrefix, StoppedBy};
+ghost use Rattle.jls_write.specs.Waiting.{PutAfter};
 ghost use Rattle.std.specs.Prelude.{◌≡◌, ◌+◌, ◌<◌, ◌≤◌, ◌^◌, [], ◌++◌, length, IfErr, OnOk};
 
 use crate::output::{OutputFault, write_part};
 use arrayvec::ArrayVec;
 use jls_io::Sink;
 
-/// Room for bytes that wait: for fewer than `FULL`, and as many behind them.
+/// Room for bytes that wait: for fewer than `FULL`, and as many after them.
 pub(crate) const ROOM: usize = 8192;
 
 /// So many bytes are handed out at once, or more, but for the last ones of a file.
@@ -43,7 +43,7 @@ impl Waiting {
         ensures empty { OnOk result (self.new.bytes.items ≡ []) }
         ensures all { OnOk result (HandedOut (W.history sink.old) (W.history sink.new)
             (W.contents sink.old) (W.contents sink.new) self.old.bytes.items) }
-        ensures front { IfErr result (λ fault. StoppedBy fault self.old.gone (HandedFront (W.history sink.old) (W.history sink.new)
+        ensures prefix { IfErr result (λ fault. StoppedBy fault self.old.gone (HandedPrefix (W.history sink.old) (W.history sink.new)
             (W.contents sink.old) (W.contents sink.new) self.old.bytes.items)) }
     {
         self.gone = write_part(sink, self.gone, &self.bytes)?;
@@ -55,9 +55,9 @@ impl Waiting {
     pub(crate) fn make_room<W: Sink>(&mut self, sink: &mut W) -> Result<(), OutputFault>
         requires { self.old.gone < 2 ^ 63 }
         ensures few { OnOk result (length self.new.bytes.items < 4096) }
-        ensures all { OnOk result (PutBehind (W.history sink.old) (W.history sink.new)
+        ensures all { OnOk result (PutAfter (W.history sink.old) (W.history sink.new)
             (W.contents sink.old) (W.contents sink.new) self.old.bytes.items self.old.gone self.new.bytes.items self.new.gone []) }
-        ensures front { IfErr result (λ fault. StoppedBy fault self.old.gone (HandedFront (W.history sink.old) (W.history sink.new)
+        ensures prefix { IfErr result (λ fault. StoppedBy fault self.old.gone (HandedPrefix (W.history sink.old) (W.history sink.new)
             (W.contents sink.old) (W.contents sink.new) self.old.bytes.items)) }
     {
         if self.bytes.len() < FULL {

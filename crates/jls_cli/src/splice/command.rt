@@ -21,7 +21,7 @@ fn word<'a>(alloc: Global, id: &'a str, help: &'a str) -> Arg<'a>
     Arg::new(alloc, id).required(true).help(help)
 }
 
-/// The copies behind the first, one at least.
+/// The copies after the first, one at least.
 fn others<'a>(alloc: Global) -> Arg<'a>
     ensures rule { rule_of result ≡ others_rule }
     ensures local { result.global ≡ false }
@@ -112,8 +112,8 @@ fn with_options<'a>(alloc: Global) -> Result<Command<'a>, AllocError>
     ensures local { IfOk result (λ c. (out-Command c).has_globals ≡ false) }
 {
     let bounded = with_numbers(alloc)?;
-    let told = bounded.arg(progress(alloc))?;
-    let named = told.arg(file(alloc))?;
+    let reported = bounded.arg(progress(alloc))?;
+    let named = reported.arg(file(alloc))?;
     named.arg(files(alloc))
 }
 

@@ -6,7 +6,7 @@ use jls_bits::*;
 use std::alloc::{AllocError, Global};
 use std::test::Fail;
 
-/// Which Golomb code: its k, its longest length g, and the bits qbpp of the number behind an escape.
+/// Which Golomb code: its k, its longest length g, and the bits qbpp of the number after an escape.
 #[derive(Clone, Copy)]
 struct Code {
     k: u8,
@@ -30,7 +30,7 @@ fn written(alloc: Global, text: &[u8]) -> Result<BitWriter, AllocError> {
     Ok(writer)
 }
 
-/// Whether the code of a number is these bits, and whether a reader over them gives the number back and stops behind
+/// Whether the code of a number is these bits, and whether a reader over them gives the number back and stops after
 /// its code.
 fn is_code(alloc: Global, text: &str, mapped: u32, code: Code) -> Result<bool, AllocError>
     requires k { code.k ≤ 16 }
@@ -123,7 +123,7 @@ fn codes_at_the_ends_of_k_and_g(rt: HostRuntime) -> Result<(), Fail> {
     Ok(())
 }
 
-/// What a reader finds at the front of exactly these bits, and how many it leaves. Other bits, zeros, fill up the first
+/// What a reader finds at the start of exactly these bits, and how many it leaves. Other bits, zeros, fill up the first
 /// byte and are passed before.
 fn read_alone(alloc: Global, text: &[u8], code: Code) -> Result<(Option<u32>, u128), AllocError>
     requires k { code.k ≤ 16 }
@@ -189,7 +189,7 @@ fn a_reader_stays_where_no_code_stands(rt: HostRuntime) -> Result<(), Fail> {
 }
 
 /// A reader that was pushed these bits up to the first that decides, how many it took, and its last answer.
-fn told(bits: &[u8], code: Code) -> (GolombReader, usize, GolombStep)
+fn reported(bits: &[u8], code: Code) -> (GolombReader, usize, GolombStep)
     requires k { code.k ≤ 16 }
     requires qbpp { (1 ≤ code.qbpp) × (code.qbpp ≤ 16) }
     requires g { (code.qbpp + 2 ≤ code.g) × (code.g ≤ 64) }
@@ -225,7 +225,7 @@ fn a_reader_answers_at_the_first_bit_that_decides(rt: HostRuntime) {
             g: 32,
             qbpp: 8,
         };
-        let (_, taken, answer) = told(bits, code);
+        let (_, taken, answer) = reported(bits, code);
         assert!(rt; taken == count && answer == step, "{bits:?}");
     }
 }
@@ -244,13 +244,13 @@ fn a_cut_code_allows_the_numbers_whose_codes_it_begins(rt: HostRuntime) {
         (b"0000000000000000000000010101", 92, 96),
     ];
     for (bits, first, last) in table {
-        let (reader, _, _) = told(bits, OF_K_2);
+        let (reader, _, _) = reported(bits, OF_K_2);
         for number in 0..257 {
             let allowed = first <= number && number <= last;
             assert!(rt; reader.allows(number) == allowed, "{bits:?} {number}");
         }
     }
-    let (refused, _, _) = told(b"000000000000000000000000", OF_K_2);
+    let (refused, _, _) = reported(b"000000000000000000000000", OF_K_2);
     assert!(rt; !refused.allows(256));
 }
 
@@ -279,7 +279,7 @@ fn a_chunk_gives_a_code_its_bits(rt: HostRuntime) {
         let mut second = chunk_of(&code[cut..]);
         second.append(0b101, 3);
         let CodeStep::Done(number) = state.push_chunk(2, 32, 8, &mut second) else {
-            panic!(rt; "no code is whole behind {cut}")
+            panic!(rt; "no code is whole after {cut}")
         };
         assert!(rt; number == 33 && second.len() == 3, "cut at {cut}");
     }
@@ -287,7 +287,7 @@ fn a_chunk_gives_a_code_its_bits(rt: HostRuntime) {
 
 #[test]
 fn a_short_code_is_taken_where_it_stands_whole(rt: HostRuntime) {
-    // The bits, with k, LIMIT and qbpp; the number of the short code at the front, and how many bits are left. 33 is 8 times 4 and 1;
+    // The bits, with k, LIMIT and qbpp; the number of the short code at the start, and how many bits are left. 33 is 8 times 4 and 1;
     // at k 2 and LIMIT 32 an escape has 23 zeros, so 91 is the last number with a short code.
     let table: [(&[u8], (u8, u8, u8), Option<u32>, u8); 12] = [
         (b"", (2, 32, 8), None, 0),

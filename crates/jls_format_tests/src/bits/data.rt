@@ -103,15 +103,15 @@ fn alone(alloc: Global, number: u32, count: u8) -> Result<Vec<u8>, AllocError>
     writer.finish()
 }
 
-/// What is written of a number behind one of no bit.
-fn behind_nothing(alloc: Global) -> Result<Vec<u8>, AllocError> {
+/// What is written of a number after one of no bit.
+fn after_nothing(alloc: Global) -> Result<Vec<u8>, AllocError> {
     let mut writer = BitWriter::new(alloc);
     writer.push_bits(0, 0)?;
     writer.push_bits(0x8000_0001, 32)?;
     writer.finish()
 }
 
-/// What is written of numbers of several lengths, one behind the other.
+/// What is written of numbers of several lengths, one after the other.
 fn several(alloc: Global) -> Result<Vec<u8>, AllocError> {
     let mut writer = BitWriter::new(alloc);
     writer.push_bits(5, 3)?;
@@ -129,7 +129,7 @@ fn numbers_are_pushed_with_their_top_bit_first(rt: HostRuntime) -> Result<(), Fa
     let ones = alone(alloc, 0xFFFF_FFFF, 32)?;
     assert!(rt; ones.as_slice() == [0xFF, 0x7F, 0xFF, 0x7F, 0xC0].as_slice());
     let ends = [0x80, 0x00, 0x00, 0x01];
-    assert!(rt; behind_nothing(alloc)?.as_slice() == ends.as_slice());
+    assert!(rt; after_nothing(alloc)?.as_slice() == ends.as_slice());
     assert!(rt; several(alloc)?.as_slice() == [0xAF, 0xFF, 0x78].as_slice());
     Ok(())
 }

@@ -7,7 +7,7 @@ use jls_values::Params;
 use std::alloc::Global;
 use std::test::Fail;
 
-/// What the bytes of an interval of 8 bits give where the input ends behind them.
+/// What the bytes of an interval of 8 bits give where the input ends after them.
 fn cut(alloc: Global, size: &Size, piece: &[u8]) -> Result<CutEnd, Fail> {
     let params = Params::new(8, 0, 0, 0, 0, 0)?;
     let mut decoder = size.decoder(alloc, &params);
@@ -53,7 +53,7 @@ fn prefixes(rt: HostRuntime) -> Result<(), Fail> {
 
 /// The lines 1 and 34 of one sample, of 8 bits, are the bytes 50 00 0C. Where the input ends before or in line 1, or in other bytes
 /// in its place: nothing; in the zeros of its code; in an escape that can be 92 to 96; in an escape that could only be a number of
-/// at most 16, which has a short code; behind so many zeros that no code begins with them.
+/// at most 16, which has a short code; after so many zeros that no code begins with them.
 #[test]
 fn cut_codes(rt: HostRuntime) -> Result<(), Fail> {
     let size = Size::new(1, 1, 2);

@@ -106,7 +106,7 @@ fn changed_bits(rt: HostRuntime) -> Result<(), Fail> {
 }
 
 #[test]
-fn a_byte_behind(rt: HostRuntime) -> Result<(), Fail> {
+fn a_byte_after(rt: HostRuntime) -> Result<(), Fail> {
     let params = Params::new(8, 0, 0, 0, 0, 0)?;
     let mut piece = PIECE.to_vec(rt.alloc())?;
     piece.push(0)?;

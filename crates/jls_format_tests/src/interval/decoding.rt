@@ -217,7 +217,7 @@ fn an_escape(rt: HostRuntime) -> Result<(), Fail> {
             &[&[1], &[34]]
         )
     );
-    // Cut in front of the escape and inside it; escapes of a number with a short code, and with too many zeros.
+    // Cut before the escape and inside it; escapes of a number with a short code, and with too many zeros.
     let pieces: [&[u8]; 5] = [
         &[0x50],
         &[0x50, 0x00],
@@ -268,7 +268,7 @@ fn broken_pieces(rt: HostRuntime) -> Result<(), Fail> {
         // An escape for 1, which has a short code, and one for 256, to which no error is mapped.
         &[0x00, 0x00, 0x01, 0x00],
         &[0x00, 0x00, 0x01, 0xFF, 0x00],
-        // A marker behind the last line, and behind more bits than may follow it.
+        // A marker after the last line, and after more bits than may follow it.
         &[0x70, 0xFF, 0xA3],
         &[0x80, 0x00, 0xFF, 0x90],
     ];
@@ -292,7 +292,7 @@ fn long_pieces(rt: HostRuntime) -> Result<(), Fail> {
     assert!(rt; reads_as(alloc, &params, &Size::new(1, 1, 1), &[0xC0], &[&[0]]));
     let pieces: [&[u8]; 4] = [
         &[0x80, 0x00],
-        // Eight bits, behind a code of eight.
+        // Eight bits, after a code of eight.
         &[0x05, 0x00],
         &[0x80, 0x00, 0xFF, 0x00],
         &[0x28, 0x38],

@@ -1,6 +1,6 @@
 //! Copies of every kind, checked: each is spelt in hexadecimal digits, and its report is known.
 
-use super::failing::{lines_in, report_of_front};
+use super::failing::{lines_in, report_of_prefix};
 use super::memory::{GOOD, Manners, MemoryFiles};
 use super::{copies, run_line};
 use jls_io::Counted;
@@ -34,7 +34,7 @@ const COPIES: [(&str, u8, &str); 20] = [
         0,
         "end eoi 61 / picture 4x4, 8 bits, components 1 / settled 4, missing 0, disputed 0",
     ),
-    // A byte behind its scan data.
+    // A byte after its scan data.
     (
         "FF D8 FF F7 00 0B 08 00 04 00 04 01 01 11 00 FF DA 00 08 01 01 00 00 00 00 C0 00 00 6C 80 20 8E 01 C0 00 00 57 \
          40 00 00 6E E6 00 00 01 BC 18 00 00 05 D8 00 00 91 60 00 FF D9",
@@ -164,16 +164,16 @@ fn check_copy(
     };
     for manners in [GOOD, Manners { most: 1, ..GOOD }, parted] {
         let files = [("copy", copy)];
-        let mut told = Vec::new(alloc);
+        let mut reported = Vec::new(alloc);
         let mut desk = MemoryFiles::new(alloc, &files, manners);
         let (found, faults) = run_line(
             alloc,
             "check copy",
             &mut desk,
-            &mut Counted::new(&mut told),
+            &mut Counted::new(&mut reported),
         )?;
         assert!(rt;
-            found == status && told.as_slice() == report.as_bytes() && faults.is_empty(),
+            found == status && reported.as_slice() == report.as_bytes() && faults.is_empty(),
             "{report}"
         );
     }
@@ -195,10 +195,10 @@ fn checks_copies_of_every_kind(rt: HostRuntime) -> Result<(), Fail> {
 }
 
 #[test]
-fn checks_the_front_of_a_copy(rt: HostRuntime) -> Result<(), Fail> {
+fn checks_the_prefix_of_a_copy(rt: HostRuntime) -> Result<(), Fail> {
     let alloc = rt.alloc();
     for count in 15..61usize {
-        let report = report_of_front(alloc, count, false)?;
+        let report = report_of_prefix(alloc, count, false)?;
         let status = if lines_in(count) == 10 { 0 } else { 1 };
         check_copy(&rt, alloc, &copies::WHOLE[..count], status, &report)?;
     }
@@ -233,16 +233,16 @@ fn report_of_head(alloc: Global, count: usize) -> Result<String, Fail> {
 }
 
 #[test]
-fn checks_the_front_of_an_interval(rt: HostRuntime) -> Result<(), Fail> {
+fn checks_the_prefix_of_an_interval(rt: HostRuntime) -> Result<(), Fail> {
     let alloc = rt.alloc();
     let copy = bytes_of(alloc, FOUR_LINES)?;
     for count in 0..32usize {
         let report = report_of_head(alloc, count)?;
         let status = if lines_in_head(count) == 4 { 0 } else { 1 };
-        let Some(front) = copy.get(..25 + count) else {
+        let Some(prefix) = copy.get(..25 + count) else {
             return Err(Fail::from("a shorter copy"));
         };
-        check_copy(&rt, alloc, front, status, &report)?;
+        check_copy(&rt, alloc, prefix, status, &report)?;
     }
     Ok(())
 }

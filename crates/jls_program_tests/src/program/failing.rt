@@ -37,8 +37,8 @@ pub(super) fn lines_in(count: usize) -> usize
 }
 
 /// What `check` reports of the first so many bytes of `whole`, with the frame among them and the end of the image not: where a read fails
-/// behind them, and where they are all.
-pub(super) fn report_of_front(
+/// after them, and where they are all.
+pub(super) fn report_of_prefix(
     alloc: Global,
     count: usize,
     has_failed: bool,
@@ -66,7 +66,7 @@ pub(super) fn report_of_front(
 }
 
 /// The text of the first so many lines of the picture of ten.
-fn text_of_front(alloc: Global, lines: usize) -> Result<Vec<u8>, Fail>
+fn text_of_prefix(alloc: Global, lines: usize) -> Result<Vec<u8>, Fail>
     requires { lines ≤ 10 }
 {
     let mut text = Vec::from_slice(alloc, &TEN[..15])?;
@@ -75,7 +75,7 @@ fn text_of_front(alloc: Global, lines: usize) -> Result<Vec<u8>, Fail>
     Ok(text)
 }
 
-/// Devices whose reads fail behind so many bytes.
+/// Devices whose reads fail after so many bytes.
 fn failing_at(count: usize) -> Manners {
     Manners {
         reads_fail_at: Some(count),
@@ -86,7 +86,7 @@ fn failing_at(count: usize) -> Manners {
 /// The line on the fault output if no picture was read.
 const UNREAD: &[u8] = b"jls-salvage: whole: read failed\n";
 
-/// `check` says what was read of a copy whose reads fail behind so many bytes.
+/// `check` says what was read of a copy whose reads fail after so many bytes.
 fn check_checked(rt: &impl Abort, alloc: Global, count: usize) -> Result<(), Fail> {
     let found = run_words(alloc, "check whole", failing_at(count))?;
     assert!(rt; found.status == 4, "at {count}");
@@ -96,7 +96,7 @@ fn check_checked(rt: &impl Abort, alloc: Global, count: usize) -> Result<(), Fai
             "at {count}"
         );
     } else {
-        let report = report_of_front(alloc, count, true)?;
+        let report = report_of_prefix(alloc, count, true)?;
         assert!(rt;
             found.report.as_slice() == report.as_bytes() && found.faults.is_empty(),
             "at {count}"
@@ -115,7 +115,7 @@ fn check_joined(rt: &impl Abort, alloc: Global, count: usize) -> Result<(), Fail
             "at {count}"
         );
     } else {
-        let text = text_of_front(alloc, lines_in(count))?;
+        let text = text_of_prefix(alloc, lines_in(count))?;
         assert!(rt;
             found.output == Some(text) && found.faults.is_empty(),
             "at {count}"

@@ -87,12 +87,12 @@ fn is_refused(alloc: Global, found: &Ending, line: &str) -> Result<bool, AllocEr
 
 fn check_row(rt: &impl Abort, alloc: Global, row: &str, manners: Manners) -> Result<(), Fail> {
     let (words, end) = row.split_once(" => ").ok_or("no end")?;
-    let (status, told) = end.split_once(' ').ok_or("no status")?;
+    let (status, reported) = end.split_once(' ').ok_or("no status")?;
     let found = run_words(alloc, words, manners)?;
     let is_right = if found.status <= 1 {
-        is_joined(&found, told)
+        is_joined(&found, reported)
     } else {
-        is_refused(alloc, &found, told)?
+        is_refused(alloc, &found, reported)?
     };
     assert!(rt; is_right, "{row}");
     assert!(rt; Ok(found.status) == status.parse::<u8>(), "{row}");

@@ -1,4 +1,4 @@
-//! Files in memory, which do as they are told.
+//! Files in memory, which do as they are reported.
 
 use jls_io::Open;
 use std::alloc::Global;
@@ -13,7 +13,7 @@ pub(super) type File<'a> = (&'a str, &'a [u8]);
 pub(super) struct Manners {
     /// The most bytes that one call gives or takes.
     pub most: usize,
-    /// Whether a read gives nothing behind the next byte FF.
+    /// Whether a read gives nothing after the next byte FF.
     pub parts_at_ff: bool,
     /// How many bytes an input gives before its reads fail.
     pub reads_fail_at: Option<usize>,
@@ -56,7 +56,7 @@ impl<'a> MemoryFiles<'a> {
         }
     }
 
-    /// The names of the outputs that were created, each with a blank behind it.
+    /// The names of the outputs that were created, each with a blank after it.
     pub(super) fn created(&self) -> &str {
         self.created.as_str()
     }

@@ -165,7 +165,7 @@ pub(super) const FILES: [File<'static>; 44] = [
     ("beyond", copies::BEYOND),
     ("seven", copies::SEVEN),
     ("near", copies::NEAR),
-    ("front", copies::FRONT),
+    ("prefix", copies::PREFIX),
     ("empty", b""),
     ("copy", b"\xff\xd8\xff\xd9"),
     ("dot", b"."),

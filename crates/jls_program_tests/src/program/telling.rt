@@ -41,7 +41,7 @@ const SHOWN: [(&str, u8, &str); 16] = [
         "end fault 6 21\npicture 1x10, 8 bits, components 1\nsettled 0, missing 10, disputed 0\nmissing 1 0-9\n",
     ),
     (
-        "check front",
+        "check prefix",
         1,
         "end input 45\npicture 1x10, 8 bits, components 1\nsettled 5, missing 5, disputed 0\nmissing 1 5-9\n",
     ),

@@ -1,4 +1,4 @@
-//! Damaged copies as inputs, from sources that give so many bytes a read at most, and that end or fail behind the last one.
+//! Damaged copies as inputs, from sources that give so many bytes a read at most, and that end or fail after the last one.
 
 use jls_io::Counted;
 use jls_partial::Partial;
@@ -32,7 +32,7 @@ const COPIES: [(&str, &str, &str); 8] = [
         "0=0 8=8 9=9 | 0 Eoi(38) 40 Whole",
         "0=0 8=8 9=9 | 0 Eoi(38) 40 Whole",
     ),
-    // Cut behind FF.
+    // Cut after FF.
     (
         "FF D8 FF F7 00 0B 08 00 0A 00 01 01 01 11 00 FF DD 00 04 00 01 FF DA 00 08 01 01 00 00 00 00 80 FF D0 50 FF D1 70 FF D2 28 \
          FF D3 38 FF",
@@ -63,7 +63,7 @@ const COPIES: [(&str, &str, &str); 8] = [
     ),
 ];
 
-/// A stream that gives so many of its bytes a read at most, and fails behind the last one if it is broken.
+/// A stream that gives so many of its bytes a read at most, and fails after the last one if it is broken.
 #[derive(Clone, Copy)]
 struct Slices<'a> {
     bytes: &'a [u8],

@@ -1,11 +1,11 @@
 use Rattle.std.proofs.Common.{◌≡◌, ◌++◌, length}
-use Rattle.jls_bits.specs.CodeState.{bits_told, IsOpen}
+use Rattle.jls_bits.specs.CodeState.{bits_fed, IsOpen}
 use Rattle.jls_bits.proofs.golomb.read_code.Given as goal
 
 abbrev pub invariant-loop-bit : goal.invariant-loop-bit
 invariant-loop-bit l = record {
   «open» : IsOpen l.k l.g l.qbpp l.state;
-  told : l.initial.reader.left ≡ bits_told l.g l.qbpp l.state ++ l.reader.left;
+  fed : l.initial.reader.left ≡ bits_fed l.g l.qbpp l.state ++ l.reader.left;
   whole : l.reader.whole ≡ l.initial.reader.whole;
 }
 

@@ -5,4 +5,4 @@ pub returns-clause-whole : goal.returns-clause-whole
 returns-clause-whole c = λ bytes. (below_markers bytes, whole_below bytes)
 
 pub returns-clause-read : goal.returns-clause-read
-returns-clause-read c = λ front back x. read_before front back x
+returns-clause-read c = λ prefix back x. read_before prefix back x

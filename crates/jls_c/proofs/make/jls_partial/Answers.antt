@@ -1,4 +1,4 @@
-use Rattle.jls_c.proofs.Told.{partial_made}
+use Rattle.jls_c.proofs.Reported.{partial_made}
 use Rattle.jls_c.proofs.make.jls_partial.Goals as goal
 
 pub returns-in-Ok-clause-done : goal.returns-in-Ok-clause-done

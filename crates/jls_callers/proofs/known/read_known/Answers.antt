@@ -2,7 +2,7 @@ use Rattle.std.proofs.Common.{◌≡◌, ℕ, List, Option, None, subst}
 use Rattle.std.specs.Prelude.{IfSome}
 use Rattle.jls_partial.specs.Text.{IsTextOf}
 use Rattle.jls_station.specs.Given.{Given}
-use Rattle.jls_station.specs.KnownCopies.{BytesGive, IsFrontOf}
+use Rattle.jls_station.specs.KnownCopies.{BytesGive, IsPrefixOf}
 use Rattle.jls_station.specs.declared.input.ReadStop.{ReadStop}
 use Rattle.jls_callers.proofs.Answered.{ok_then}
 use Rattle.jls_callers.proofs.WholeBytes.{whole_reads}
@@ -22,7 +22,7 @@ returns-clause-copy g c = λ bytes is.
     (λ given h copied whole.
     let b = subst (λ (o : Option (List ℕ)). IfSome o (BytesGive source given.partial given.stop)) is (h copied) in (
       b.read,
-      whole_reads c.copies_have_one_course.ensures c.final_ends_stay.ensures bytes b.front b.read
-          (subst (λ (s : ReadStop). IsFrontOf bytes b.front s) whole b.is_front) b.reads_as,
+      whole_reads c.copies_have_one_course.ensures c.final_ends_stay.ensures bytes b.prefix b.read
+          (subst (λ (s : ReadStop). IsPrefixOf bytes b.prefix s) whole b.is_prefix) b.reads_as,
       b.partial_is,
     ))

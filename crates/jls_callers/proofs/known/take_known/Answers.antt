@@ -3,7 +3,7 @@ use Rattle.std.specs.Prelude.{IfSome}
 use Rattle.std.proofs.lemmas.Result.{IfErr-at_err}
 use Rattle.jls_partial.specs.Partial.{PartialPicture, has_same_shape, union}
 use Rattle.jls_station.specs.Given.{CopyReport}
-use Rattle.jls_station.specs.KnownCopies.{IsFrontOf, TakesBytes, RefusesBytes}
+use Rattle.jls_station.specs.KnownCopies.{IsPrefixOf, TakesBytes, RefusesBytes}
 use Rattle.jls_station.specs.declared.input.ReadStop.{ReadStop}
 use Rattle.jls_station.specs.declared.take_copy.TakeFault.{TakeFault}
 use Rattle.jls_callers.proofs.Answered.{ok_then}
@@ -22,8 +22,8 @@ returns-clause-taken g c = λ bytes is.
     let b = t.gives in
     let shape = ap (λ (p : PartialPicture). has_same_shape old p) b.partial_is ∙ shape_kept source old b.read.partial in (
       b.read,
-      whole_reads c.copies_have_one_course.ensures c.final_ends_stay.ensures bytes b.front b.read
-          (subst (λ (s : ReadStop). IsFrontOf bytes b.front s) whole b.is_front) b.reads_as,
+      whole_reads c.copies_have_one_course.ensures c.final_ends_stay.ensures bytes b.prefix b.read
+          (subst (λ (s : ReadStop). IsPrefixOf bytes b.prefix s) whole b.is_prefix) b.reads_as,
       sym shape ∙ t.one_shape,
       t.union_is ∙ ap (λ (p : PartialPicture). union old p) b.partial_is,
     ))
@@ -40,7 +40,7 @@ returns-clause-not_read g c = λ bytes stop count is e.
     let old = c.args.station.now in
     let source = c.args.source in
     let h = subst (λ (o : Option (List ℕ)). IfSome o (λ b. RefusesBytes source old b (TakeFault.Read stop count))) is (IfErr-at_err _ e c.take_copy.ensures.known_refused) in
-    (h.0, h.1.behind, h.1.bytes_are, h.2)
+    (h.0, h.1.following, h.1.bytes_are, h.2)
 
 pub returns-clause-other_shape : goal.returns-clause-other_shape
 returns-clause-other_shape g c = λ bytes is e.
@@ -49,4 +49,4 @@ returns-clause-other_shape g c = λ bytes is e.
     let h = subst (λ (o : Option (List ℕ)). IfSome o (λ b. RefusesBytes source old b TakeFault.ShapeDiffers)) is (IfErr-at_err _ e c.take_copy.ensures.known_refused) in
     let b = h.2 in
     let shape = ap (λ (p : PartialPicture). has_same_shape old p) b.partial_is ∙ shape_kept source old b.read.partial in
-    (b.front, b.is_front.behind, b.read, b.is_front.bytes_are, b.reads_as, sym shape ∙ h.3)
+    (b.prefix, b.is_prefix.following, b.read, b.is_prefix.bytes_are, b.reads_as, sym shape ∙ h.3)

@@ -1,15 +1,15 @@
 use Rattle.std.proofs.Common.{◌++◌}
-use Rattle.jls_partial.specs.Merging.{TakesFront}
-use Rattle.jls_partial.specs.TextFront.{text_front}
+use Rattle.jls_partial.specs.Merging.{TakesPrefix}
+use Rattle.jls_partial.specs.TextPrefix.{text_prefix}
 use Rattle.jls_headline.specs.Collected.{Collected, text_cut_short}
 use Rattle.jls_callers.proofs.Answered.{err_then}
 use Rattle.jls_callers.proofs.texts.take_cut_text.Goals as goal
 
 pub returns : goal.returns
-returns c = λ behind copies over more further is collected other's.
+returns c = λ following copies over more further is collected other's.
     let old = c.args.station.now in
     let new = c.take_text.new.self in
     let other = c.args.other.now in
-    let bytes = c.args.front.now in
-    err_then c.take_text.result (TakesFront old new (text_front bytes)) (Collected new copies (over ++ (more ++ further))) c.take_text.ensures.front
-    (λ t. text_cut_short old new other copies over more further bytes collected other's (c.cut_texts_are_held.ensures other bytes behind is) t)
+    let bytes = c.args.prefix.now in
+    err_then c.take_text.result (TakesPrefix old new (text_prefix bytes)) (Collected new copies (over ++ (more ++ further))) c.take_text.ensures.prefix
+    (λ t. text_cut_short old new other copies over more further bytes collected other's (c.cut_texts_are_held.ensures other bytes following is) t)

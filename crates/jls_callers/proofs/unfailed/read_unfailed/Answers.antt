@@ -4,7 +4,7 @@ use Rattle.std.proofs.lemmas.Result.{IfErr-at_err}
 use Rattle.jls_io.specs.Event.{GrewBy}
 use Rattle.jls_station.specs.Given.{Given}
 use Rattle.jls_station.specs.Inputs.{IsEnough, ReadsGive}
-use Rattle.jls_station.specs.KnownCopies.{BytesGive, IsFrontOf}
+use Rattle.jls_station.specs.KnownCopies.{BytesGive, IsPrefixOf}
 use Rattle.jls_station.specs.KnownInputs.{CountsWithin, RefusesInput}
 use Rattle.jls_station.specs.declared.input.ReadStop.{ReadStop}
 use Rattle.jls_station.specs.declared.input.InputFault.TheVariants as InputFault
@@ -55,8 +55,8 @@ returns-clause-whole g c = λ bytes is below.
             λ copied.
                 let b = k.0 copied in (
                   b.read,
-                  whole_reads c.copies_have_one_course.ensures c.final_ends_stay.ensures bytes b.front b.read
-                      (subst (λ (s : ReadStop). IsFrontOf bytes b.front s) whole b.is_front) b.reads_as,
+                  whole_reads c.copies_have_one_course.ensures c.final_ends_stay.ensures bytes b.prefix b.read
+                      (subst (λ (s : ReadStop). IsPrefixOf bytes b.prefix s) whole b.is_prefix) b.reads_as,
                   b.partial_is,
                 ),
           );
@@ -79,6 +79,6 @@ returns-clause-not_read g c = λ bytes stop count is e.
       events = t.events;
       grew = t.grew;
       they_are = λ none.
-          only_turns stop count t.events bytes h.0 h.1.behind (input_shows (InputFault.Read stop count) t.events t.they_are) none
+          only_turns stop count t.events bytes h.0 h.1.following (input_shows (InputFault.Read stop count) t.events t.they_are) none
           h.3 h.2 h.1.bytes_are;
     }

@@ -1,5 +1,5 @@
-use Rattle.jls_copy.proofs.CourseTold.{course_told}
+use Rattle.jls_copy.proofs.CourseFed.{course_fed}
 use Rattle.jls_copy.proofs.course_laws.every_copy_has_a_course.Goals as goal
 
 pub returns : goal.returns
-returns c = λ bytes low. let told = course_told bytes low in (told.0, told.1)
+returns c = λ bytes low. let fed = course_fed bytes low in (fed.0, fed.1)

@@ -1,7 +1,7 @@
 use Rattle.std.proofs.Common.{◌≡◌, ◌++◌, ◌∙◌, List, ℕ, ap, codes, decimal, append_assoc}
 use Rattle.jls_host.proofs.name.name_beside.Goals as goal
 
--- three parts, one behind the other
+-- three parts, one after the other
 parts : (a b c x y z : List ℕ) → x ≡ a → y ≡ x ++ b → z ≡ y ++ c → z ≡ a ++ (b ++ c)
 parts a b c x y z e f g =
     g ∙ (ap (λ (l : List ℕ). l ++ c) f ∙ (append_assoc x b c ∙ ap (λ (l : List ℕ). l ++ (b ++ c)) e))

@@ -3,15 +3,15 @@ use Rattle.jls_values.specs.Params.{limit, qbpp}
 use Rattle.jls_context.specs.declared.mode.Neighbours.{Neighbours}
 use Rattle.jls_context.specs.Interruption.{run_k}
 use Rattle.jls_context.specs.Variables.{Variables, run_cell_at}
-use Rattle.jls_bits.specs.CodeState.{IsOpen, bits_told}
+use Rattle.jls_bits.specs.CodeState.{IsOpen, bits_fed}
 use Rattle.jls_interval.specs.Events.{Above, neighbours}
 use Rattle.jls_interval.specs.Cells.{is_same}
 use Rattle.jls_interval.specs.Runs.{run_order}
 use Rattle.jls_interval.specs.Reading.{NoInterruption}
 use Rattle.jls_interval.specs.Place.{above_of}
-use Rattle.jls_interval.specs.OpenEvents.{now_at, behind}
+use Rattle.jls_interval.specs.OpenEvents.{now_at, following}
 use Rattle.jls_interval.specs.CutEventsOpen.{BeginsInterruption}
-use Rattle.jls_interval.proofs.OpenEventBits.{rb_small, near_behind}
+use Rattle.jls_interval.proofs.OpenEventBits.{rb_small, near_after}
 use Rattle.jls_interval.proofs.cut_event.interrupted_goes_on.Goals as goal
 
 pub interruption_goes_on-requires-clause-above : goal.interruption_goes_on-requires-clause-above
@@ -30,7 +30,7 @@ interruption_goes_on-requires-clause-opened c =
     let first_is : first ≡ now_at w up line = c.neighbours-first.ensures ∙ ap (λ z. neighbours w up z c.len-column.result) c.deref.ensures.value ∙ ap (λ z. neighbours w up line z) column_is in
     let next_is : next ≡ neighbours w up line (c.len-column.result + count) = c.neighbours-next.ensures ∙ ap (λ z. neighbours w up z (c.len-column.result + count)) c.deref-2.ensures.value in
     let there : Neighbours = record { ra = first.ra; rb = next.rb; rc = next.rc; rd = next.rd } in
-    let there_is : there ≡ behind w up line count = near_behind w up line count first.ra (c.len-column.result + count) next (ap (λ (z : Neighbours). z.ra) first_is) (ap (λ z. z + count) column_is) next_is in
+    let there_is : there ≡ following w up line count = near_after w up line count first.ra (c.len-column.result + count) next (ap (λ (z : Neighbours). z.ra) first_is) (ap (λ z. z + count) column_is) next_is in
     let j_is : j ≡ run_order rx = c.run_order.ensures.value in
     subst (λ z. IsOpen (run_k (is_same there) (run_cell_at cells (is_same there))) (limit p - z - 1) (qbpp p) code) (sym j_is) (subst (λ (z : Neighbours). IsOpen (run_k (is_same z) (run_cell_at cells (is_same z))) (limit p - run_order rx - 1) (qbpp p) code) (sym there_is) c.requires.opened)
 
@@ -43,9 +43,9 @@ returns-clause-yes c = λ e.
     let first_is : first ≡ now_at w up line = c.neighbours-first.ensures ∙ ap (λ z. neighbours w up z c.len-column.result) c.deref.ensures.value ∙ ap (λ z. neighbours w up line z) column_is in
     let next_is : next ≡ neighbours w up line (c.len-column.result + count) = c.neighbours-next.ensures ∙ ap (λ z. neighbours w up z (c.len-column.result + count)) c.deref-2.ensures.value in
     let there : Neighbours = record { ra = first.ra; rb = next.rb; rc = next.rc; rd = next.rd } in
-    let there_is : there ≡ behind w up line count = near_behind w up line count first.ra (c.len-column.result + count) next (ap (λ (z : Neighbours). z.ra) first_is) (ap (λ z. z + count) column_is) next_is in
+    let there_is : there ≡ following w up line count = near_after w up line count first.ra (c.len-column.result + count) next (ap (λ (z : Neighbours). z.ra) first_is) (ap (λ z. z + count) column_is) next_is in
     let j_is : j ≡ run_order rx = c.run_order.ensures.value in
-    subst (λ (z : Neighbours). BeginsInterruption p (run_cell_at cells (is_same z)) z (run_order rx) (bits_told (limit p - run_order rx - 1) (qbpp p) code)) there_is (subst (λ z. BeginsInterruption p (run_cell_at cells (is_same there)) there z (bits_told (limit p - z - 1) (qbpp p) code)) j_is (c.interruption_goes_on.ensures.yes e))
+    subst (λ (z : Neighbours). BeginsInterruption p (run_cell_at cells (is_same z)) z (run_order rx) (bits_fed (limit p - run_order rx - 1) (qbpp p) code)) there_is (subst (λ z. BeginsInterruption p (run_cell_at cells (is_same there)) there z (bits_fed (limit p - z - 1) (qbpp p) code)) j_is (c.interruption_goes_on.ensures.yes e))
 
 pub returns-clause-no : goal.returns-clause-no
 returns-clause-no c = λ e more.
@@ -56,6 +56,6 @@ returns-clause-no c = λ e more.
     let first_is : first ≡ now_at w up line = c.neighbours-first.ensures ∙ ap (λ z. neighbours w up z c.len-column.result) c.deref.ensures.value ∙ ap (λ z. neighbours w up line z) column_is in
     let next_is : next ≡ neighbours w up line (c.len-column.result + count) = c.neighbours-next.ensures ∙ ap (λ z. neighbours w up z (c.len-column.result + count)) c.deref-2.ensures.value in
     let there : Neighbours = record { ra = first.ra; rb = next.rb; rc = next.rc; rd = next.rd } in
-    let there_is : there ≡ behind w up line count = near_behind w up line count first.ra (c.len-column.result + count) next (ap (λ (z : Neighbours). z.ra) first_is) (ap (λ z. z + count) column_is) next_is in
+    let there_is : there ≡ following w up line count = near_after w up line count first.ra (c.len-column.result + count) next (ap (λ (z : Neighbours). z.ra) first_is) (ap (λ z. z + count) column_is) next_is in
     let j_is : j ≡ run_order rx = c.run_order.ensures.value in
-    subst (λ (z : Neighbours). NoInterruption p (run_cell_at cells (is_same z)) z (run_order rx) (bits_told (limit p - run_order rx - 1) (qbpp p) code ++ more)) there_is (subst (λ z. NoInterruption p (run_cell_at cells (is_same there)) there z (bits_told (limit p - z - 1) (qbpp p) code ++ more)) j_is (c.interruption_goes_on.ensures.no e more))
+    subst (λ (z : Neighbours). NoInterruption p (run_cell_at cells (is_same z)) z (run_order rx) (bits_fed (limit p - run_order rx - 1) (qbpp p) code ++ more)) there_is (subst (λ z. NoInterruption p (run_cell_at cells (is_same there)) there z (bits_fed (limit p - z - 1) (qbpp p) code ++ more)) j_is (c.interruption_goes_on.ensures.no e more))

@@ -1,6 +1,6 @@
 use Rattle.std.proofs.Common.{◌-◌, ◌^◌, ap, arith}
 use Rattle.jls_values.specs.Params.{limit, qbpp}
-use Rattle.jls_bits.specs.CodeState.{bits_told}
+use Rattle.jls_bits.specs.CodeState.{bits_fed}
 use Rattle.jls_context.specs.Interruption.{run_k}
 use Rattle.jls_context.specs.Variables.{run_cell_at}
 use Rattle.jls_interval.specs.Cells.{is_same}
@@ -11,12 +11,12 @@ use Rattle.jls_interval.proofs.cut_sample.interruption_goes_on.Goals as goal
 pub loop-mapped-init : goal.loop-mapped-init
 loop-mapped-init c =
     let p = c.args.coder.now.cells.parameters in let near = c.args.neighbours in let cell = run_cell_at c.args.coder.now.cells (is_same near) in let g = limit p - c.args.order - 1 in
-    tried_none (run_k (is_same near) cell) g (qbpp p) (bits_told g (qbpp p) c.args.code) (NoInterruption p cell near c.args.order)
+    tried_none (run_k (is_same near) cell) g (qbpp p) (bits_fed g (qbpp p) c.args.code) (NoInterruption p cell near c.args.order)
 
 pub loop-mapped-preserved : goal.loop-mapped-preserved
 loop-mapped-preserved c =
     let p = c.args.coder.now.cells.parameters in let near = c.args.neighbours in let cell = run_cell_at c.args.coder.now.cells (is_same near) in let g = limit p - c.args.order - 1 in
-    tried_more (run_k (is_same near) cell) g (qbpp p) (bits_told g (qbpp p) c.args.code) (NoInterruption p cell near c.args.order) c.loop-mapped.mapped c.loop-mapped.invariant (c.interruption_begins.ensures.no c.if-interruption_begins.false)
+    tried_more (run_k (is_same near) cell) g (qbpp p) (bits_fed g (qbpp p) c.args.code) (NoInterruption p cell near c.args.order) c.loop-mapped.mapped c.loop-mapped.invariant (c.interruption_begins.ensures.no c.if-interruption_begins.false)
 
 pub returns-clause-no : goal.returns-clause-no
 returns-clause-no c = λ _.

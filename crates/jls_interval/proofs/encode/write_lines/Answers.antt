@@ -28,9 +28,9 @@ loop-j-preserved c =
     let p : CodingParameters = c.args.encoder.now.coder.cells.parameters in let L = items c.args.lines.now in let w : ℕ = c.args.width in let components : ℕ = c.args.components in let j : ℕ = c.loop-j.j in
     let n = length-map c.args.lines.now (λ (v : Vec ℕ Global). v.items) in let t = c.loop-j-test.true in let r = c.from.ensures in
     let within : j < length L = omega arith in let i = c.loop-j.invariant in let place = c.after-place.result in
-    let front = sym (take-map (λ (v : Vec ℕ Global). v.items) j c.args.lines.now) in
+    let prefix = sym (take-map (λ (v : Vec ℕ Global). v.items) j c.args.lines.now) in
     let up : Above = above_of place in
-    let up_is : up ≡ above components (take j L) = c.after-place.ensures.above ∙ ap (λ z. above c.from.result z) front ∙ ap (λ z. above z (take j L)) r in
+    let up_is : up ≡ above components (take j L) = c.after-place.ensures.above ∙ ap (λ z. above c.from.result z) prefix ∙ ap (λ z. above z (take j L)) r in
     let taken : length (take j c.args.lines.now) ≡ j = length-take-le j c.args.lines.now (omega arith) in
     let k : ℕ = place.component in let k_is : k ≡ j % components = c.after-place.ensures.component ∙ ap (λ z. z % c.from.result) taken ∙ ap (λ z. j % z) r in
     let line : List ℕ = c.line_at.result.now in let line_is : line ≡ get_or L j [] = c.line_at.ensures in

@@ -2,7 +2,7 @@ use Rattle.std.proofs.Common.{◌≡◌, ℕ, ◌<◌, true, List, [], ◌∷◌
 use Rattle.std.proofs.lemmas.List.{append-nil, take_more, take_all}
 use Rattle.std.specs.List.{AllByRecursion}
 use Rattle.jls_bits.specs.Bits.{is_whole}
-use Rattle.jls_bits.proofs.Appending.{whole_front, bytes_append}
+use Rattle.jls_bits.proofs.Appending.{whole_prefix, bytes_append}
 use Rattle.jls_interval.proofs.Finishing.{all_bytes}
 use Rattle.jls_interval.proofs.interval_decoder.append_bytes.Goals as goal
 
@@ -20,7 +20,7 @@ loop-byte-preserved c =
     record {
       pushed = e.pushed ∙ ap (λ z. z ++ b ∷ []) v.pushed ∙ append_assoc u (take i xs) (b ∷ []) ∙ ap (λ z. u ++ z) (sym (take_more xs i 0 c.loop-byte-test.true));
       whole = λ h. e.whole;
-      bits = λ given w f. e.bits given w (v.bits given (whole_front 0 now (b ∷ []) (subst (λ z. is_whole z ≡ true) e.pushed w)).0 f);
+      bits = λ given w f. e.bits given w (v.bits given (whole_prefix 0 now (b ∷ []) (subst (λ z. is_whole z ≡ true) e.pushed w)).0 f);
       few = (let a = v.few in let n = e.few in omega arith);
     }
 

@@ -4,7 +4,7 @@ use Rattle.std.proofs.Math.Seq.{take-add}
 use Rattle.jls_values.specs.Params.{CodingParameters}
 use Rattle.jls_bits.specs.Bits.{is_whole}
 use Rattle.jls_interval.specs.IntervalBytes.{ReadsBefore, IsReadingBefore, HasLengths}
-use Rattle.jls_bits.proofs.Appending.{whole_front}
+use Rattle.jls_bits.proofs.Appending.{whole_prefix}
 use Rattle.jls_interval.proofs.IntervalReading.{shape_none, shape_then}
 use Rattle.jls_interval.proofs.Finishing.{lengths_more, before_lengths, before_appended, before_taken, before_end}
 use Rattle.jls_interval.proofs.interval_decoder.push_bytes.Goals as goal
@@ -28,7 +28,7 @@ pub push_chunk-requires : goal.push_chunk-requires
 push_chunk-requires c =
     let h = c.requires.reading in let v = c.loop-at.invariant in let e = c.append_bytes-whole.ensures in let now : List ℕ = c.loop-at.unstuffer in let bytes : List ℕ = c.append_bytes-whole.new.unstuffer in
     let w : is_whole bytes ≡ true = sym e.whole ∙ c.if-whole.true in
-    let r = before_appended h.0 now c.loop-at.reader bytes c.loop-at.chunk c.append_bytes-whole.new.chunk e.bits w (v.reading h.0 h.1 (whole_front 0 now _ (subst (λ z. is_whole z ≡ true) e.pushed w)).0) in
+    let r = before_appended h.0 now c.loop-at.reader bytes c.loop-at.chunk c.append_bytes-whole.new.chunk e.bits w (v.reading h.0 h.1 (whole_prefix 0 now _ (subst (λ z. is_whole z ≡ true) e.pushed w)).0) in
     (h.0, r.given, r.reading)
 
 pub loop-at-preserved-in-Continue-1 : goal.loop-at-preserved-in-Continue-1
@@ -37,7 +37,7 @@ loop-at-preserved-in-Continue-1 c =
     let u : List ℕ = c.args.unstuffer.now in let xs : List ℕ = c.args.bytes.now in let at : ℕ = c.loop-at.at in let n : ℕ = c.min.result in let end : ℕ = at + n in let same : n ≡ end - at = omega arith in
     let s : List ℕ = take (end - at) (drop at xs) in let o = c.in_ok-push_chunk.ensures in
     let w : is_whole bytes ≡ true = sym e.whole ∙ c.if-whole.true in
-    let reading : (p : CodingParameters) → ReadsBefore p u c.args.given_back c.args.reader.now → is_whole bytes ≡ true → IsReadingBefore p bytes c.push_chunk.new.chunk c.push_chunk.new.self = λ p f w. before_taken p bytes c.loop-at.reader c.push_chunk.new.self c.append_bytes-whole.new.chunk c.push_chunk.new.chunk o.bits (before_appended p now c.loop-at.reader bytes c.loop-at.chunk c.append_bytes-whole.new.chunk e.bits w (v.reading p f (whole_front 0 now s (subst (λ z. is_whole z ≡ true) e.pushed w)).0)) in
+    let reading : (p : CodingParameters) → ReadsBefore p u c.args.given_back c.args.reader.now → is_whole bytes ≡ true → IsReadingBefore p bytes c.push_chunk.new.chunk c.push_chunk.new.self = λ p f w. before_taken p bytes c.loop-at.reader c.push_chunk.new.self c.append_bytes-whole.new.chunk c.push_chunk.new.chunk o.bits (before_appended p now c.loop-at.reader bytes c.loop-at.chunk c.append_bytes-whole.new.chunk e.bits w (v.reading p f (whole_prefix 0 now s (subst (λ z. is_whole z ≡ true) e.pushed w)).0)) in
     record {
       within = (let t = c.loop-at-test.true in let m = c.min.ensures in omega arith);
       room = (let f = o.few in omega arith);

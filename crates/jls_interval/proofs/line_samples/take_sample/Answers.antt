@@ -6,7 +6,7 @@ use Rattle.jls_context.specs.Mode.{context}
 use Rattle.jls_values.specs.Params.{limit, qbpp}
 use Rattle.jls_context.specs.Regular.{updated, regular_k}
 use Rattle.jls_bits.specs.Golomb.{golomb, has_golomb}
-use Rattle.jls_bits.specs.CodeState.{IsOpen, bits_told}
+use Rattle.jls_bits.specs.CodeState.{IsOpen, bits_fed}
 use Rattle.jls_bits.specs.declared.code_state.CodeState.{CodeState}
 use Rattle.jls_context.specs.Variables.{Variables, cell_at}
 use Rattle.jls_interval.specs.Code.{regular_bits}
@@ -31,8 +31,8 @@ update_regular-requires-clause-cell c =
     let d : to_z w32 (of_z w32 c.gradient-third.result) ≡ c.gradient-third.result = omega (arith, ints) in
     (c.in-Regular.ensures c.args.neighbours (record { first = a ∙ c.requires.first; second = b ∙ c.requires.second; third = d ∙ c.gradient-third.ensures.value })).at_most
 
-pub returns-in-Some-sample_of-clause-front : goal.returns-in-Some-sample_of-clause-front
-returns-in-Some-sample_of-clause-front c =
+pub returns-in-Some-sample_of-clause-prefix : goal.returns-in-Some-sample_of-clause-prefix
+returns-in-Some-sample_of-clause-prefix c =
     let old = c.args.coder.now in let cells : Variables = old.cells in let p = cells.parameters in let near : Neighbours = c.args.neighbours in
     let a : to_z w32 (of_z w32 c.args.first) ≡ c.args.first = omega (arith, ints) in let b : to_z w32 (of_z w32 c.args.second) ≡ c.args.second = omega (arith, ints) in
     let d : to_z w32 (of_z w32 c.gradient-third.result) ≡ c.gradient-third.result = omega (arith, ints) in
@@ -47,19 +47,19 @@ returns-in-Some-sample_of-clause-front c =
       bits_are = λ earlier t. sym c.fork-ahead.ensures ∙ code ∙ ap (λ z. z ++ unread) (sym s.bits ∙ ap (λ z. regular_bits p (cell_at cells z) near v) q_is ∙ sym (sample_bits p cells old.run_indices earlier t near v));
     }
 
-pub returns-in-Some-of_short-clause-front : goal.returns-in-Some-of_short-clause-front
-returns-in-Some-of_short-clause-front c =
+pub returns-in-Some-of_short-clause-prefix : goal.returns-in-Some-of_short-clause-prefix
+returns-in-Some-of_short-clause-prefix c =
     let old = c.args.coder.now in let cells : Variables = old.cells in let p = cells.parameters in let near : Neighbours = c.args.neighbours in
     let a : to_z w32 (of_z w32 c.args.first) ≡ c.args.first = omega (arith, ints) in let b : to_z w32 (of_z w32 c.args.second) ≡ c.args.second = omega (arith, ints) in
     let d : to_z w32 (of_z w32 c.gradient-third.result) ≡ c.gradient-third.result = omega (arith, ints) in
     let m = c.in-Regular.ensures near (record { first = a ∙ c.requires.first; second = b ∙ c.requires.second; third = d ∙ c.gradient-third.ensures.value }) in
     let code : CodeState = c.in-Some-of_short.code in let s = c.in-Some-of_short.ensures in
     let opened : IsOpen (regular_k (cell_at cells c.in-Regular.cell)) (limit p) (qbpp p) code = along (λ k g b. IsOpen k g b code) _ _ _ _ _ _ c.regular_k-k.ensures.value old.lengths_are.limit_is old.lengths_are.qbpp_is s.opened in
-    let told : bits_told (limit p) (qbpp p) code ≡ c.args.chunk.now = subst (λ g. bits_told g (qbpp p) code ≡ c.args.chunk.now) old.lengths_are.limit_is (subst (λ b. bits_told old.lengths.limit b code ≡ c.args.chunk.now) old.lengths_are.qbpp_is s.told) in (
+    let fed : bits_fed (limit p) (qbpp p) code ≡ c.args.chunk.now = subst (λ g. bits_fed g (qbpp p) code ≡ c.args.chunk.now) old.lengths_are.limit_is (subst (λ b. bits_fed old.lengths.limit b code ≡ c.args.chunk.now) old.lengths_are.qbpp_is s.fed) in (
       record {
         not_run = m.not_run;
         opened = subst (λ q. IsOpen (regular_k (cell_at cells q)) (limit p) (qbpp p) code) m.context_is opened;
-        told = sym told;
+        fed = sym fed;
         all = c.new.ensures;
       },
       refl,

@@ -19,5 +19,5 @@ returns-in-NotBegun-clause-step c =
     let W : w - c.len-column.result ≡ w - length line = (let e = c.len-column.ensures in omega arith) in
     let small : r ≤ 31 = (let e = c.run_index-run_index.ensures.at_most in omega arith) in
     let state = Blocks x (w - c.len-column.result) in
-    let first : (told : List Bool) → told ≡ [] → RunAt r (w - length line) told state = λ told e. subst (λ z. RunAt r (w - length line) told (Blocks z (w - c.len-column.result))) (sym x_is) (subst (λ z. RunAt r (w - length line) told (Blocks r z)) (sym W) (subst (λ z. RunAt r (w - length line) z (Blocks r (w - length line))) (sym e) (taken_start r (w - length line) [] small))) in
-    IfOk-weaker _ _ _ (λ (s : EventStep) (later : (told : List Bool) (earlier : List Event) → IsAfter p cells ri earlier → RunAt r (w - length line) told state → EventPushed k up old reader told chunk unread earlier s). λ (told : List Bool) (earlier : List Event) (t : IsAfter p cells ri earlier) h. later told earlier t (first told (subst (λ z. OpenEventAt p w up line cells r z told) c.in-NotBegun.is h))) c.push_to_run.ensures.step
+    let first : (fed : List Bool) → fed ≡ [] → RunAt r (w - length line) fed state = λ fed e. subst (λ z. RunAt r (w - length line) fed (Blocks z (w - c.len-column.result))) (sym x_is) (subst (λ z. RunAt r (w - length line) fed (Blocks r z)) (sym W) (subst (λ z. RunAt r (w - length line) z (Blocks r (w - length line))) (sym e) (taken_start r (w - length line) [] small))) in
+    IfOk-weaker _ _ _ (λ (s : EventStep) (later : (fed : List Bool) (earlier : List Event) → IsAfter p cells ri earlier → RunAt r (w - length line) fed state → EventPushed k up old reader fed chunk unread earlier s). λ (fed : List Bool) (earlier : List Event) (t : IsAfter p cells ri earlier) h. later fed earlier t (first fed (subst (λ z. OpenEventAt p w up line cells r z fed) c.in-NotBegun.is h))) c.push_to_run.ensures.step

@@ -1,5 +1,5 @@
 use Rattle.std.proofs.Common.{rules}
-use Rattle.jls_io.proofs.Handed.{flushed_not, flushed_whole, flushed_front}
+use Rattle.jls_io.proofs.Handed.{flushed_not, flushed_whole, flushed_prefix}
 use Rattle.jls_io.proofs.pending.hand_out.Goals as goal
 
 pub returns-then-not-went : goal.returns-then-not-went
@@ -15,4 +15,4 @@ returns-in-Ok g c = λ line before h.
 pub returns-in-Err : goal.returns-in-Err
 returns-in-Err g c = λ line before h.
     let history = g.E.Device.history in
-    flushed_front line c.args.bytes.now before (history c.args.faults.now) (history c.write_all.new.sink) c.args.went _ (search rules) c.in-Err.ensures.stopped h
+    flushed_prefix line c.args.bytes.now before (history c.args.faults.now) (history c.write_all.new.sink) c.args.went _ (search rules) c.in-Err.ensures.stopped h

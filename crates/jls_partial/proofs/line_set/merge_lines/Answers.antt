@@ -4,9 +4,9 @@ use Rattle.std.proofs.lemmas.List.{append-nil, take_at, take-append-drop, length
 use Rattle.jls_values.specs.Join.{IsBetween}
 use Rattle.jls_values.specs.OrderedSet.{items}
 use Rattle.jls_partial.specs.LineSet.{PictureLines, with_lines, kept_lines, line_sources, union_of_lines}
-use Rattle.jls_partial.specs.Merging.{TakesFrontOfLines}
+use Rattle.jls_partial.specs.Merging.{TakesPrefixOfLines}
 use Rattle.jls_partial.specs.Packed.{Kept}
-use Rattle.jls_partial.proofs.LineSets.{one_more, all_is_union, front_between}
+use Rattle.jls_partial.proofs.LineSets.{one_more, all_is_union, prefix_between}
 use Rattle.jls_partial.proofs.line_set.merge_lines.Goals as goal
 
 pub returns-in_err-take-clause-err : goal.returns-in_err-take-clause-err
@@ -15,24 +15,24 @@ returns-in_err-take-clause-err c =
     let p = c.args.other.now in
     let kl = kept_lines p in
     let i = c.loop-i.i in
-    let between : IsBetween union_of_lines s (with_lines s (take i kl)) (union_of_lines s p) = front_between s p c.len-i-end.ensures.sources (take i kl) (drop i kl) (sym (take-append-drop i kl)) in
+    let between : IsBetween union_of_lines s (with_lines s (take i kl)) (union_of_lines s p) = prefix_between s p c.len-i-end.ensures.sources (take i kl) (drop i kl) (sym (take-append-drop i kl)) in
     let stands : IsBetween union_of_lines s c.take.new.self (union_of_lines s p) = subst (λ (z : PictureLines). IsBetween union_of_lines s z (union_of_lines s p)) (sym (c.in_err-take.ensures.err ∙ c.loop-i.invariant)) between in
     elim c.from_residual.result as (λ r. OnErr r (IsBetween union_of_lines s c.take.new.self (union_of_lines s p))) [
       | Ok _ ↦ tt
       | Err _ ↦ stands
     ]
 
-pub returns-in_err-take-clause-front : goal.returns-in_err-take-clause-front
-returns-in_err-take-clause-front c =
+pub returns-in_err-take-clause-prefix : goal.returns-in_err-take-clause-prefix
+returns-in_err-take-clause-prefix c =
     let kl = kept_lines c.args.other.now in
     let i = c.loop-i.i in
-    let stands : TakesFrontOfLines c.args.into.now c.take.new.self kl = record {
+    let stands : TakesPrefixOfLines c.args.into.now c.take.new.self kl = record {
       taken = take i kl;
       left = drop i kl;
       parts = sym (take-append-drop i kl);
       new_is = c.in_err-take.ensures.err ∙ c.loop-i.invariant;
     } in
-    elim c.from_residual.result as (λ r. OnErr r (TakesFrontOfLines c.args.into.now c.take.new.self kl)) [
+    elim c.from_residual.result as (λ r. OnErr r (TakesPrefixOfLines c.args.into.now c.take.new.self kl)) [
       | Ok _ ↦ tt
       | Err _ ↦ stands
     ]

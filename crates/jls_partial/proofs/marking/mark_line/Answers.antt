@@ -4,7 +4,7 @@ use Rattle.std.proofs.lemmas.Result.{err_from_is_err_and}
 use Rattle.jls_partial.specs.Marking.{MarksSome}
 use Rattle.jls_partial.specs.Partial.{PartialPicture, readings_at, with_marks}
 use Rattle.jls_partial.specs.Reading.{reading_of}
-use Rattle.jls_partial.proofs.Marked.{marks_none, marks_then, marked_more, front_held}
+use Rattle.jls_partial.proofs.Marked.{marks_none, marks_then, marked_more, prefix_held}
 use Rattle.jls_partial.proofs.marking.mark_line.Goals as goal
 
 pub mark_reading-requires-clause-component_in : goal.mark_reading-requires-clause-component_in
@@ -24,7 +24,7 @@ returns-in_err-mark_reading-clause-err c =
     let p = err_from_is_err_and c.from_residual.result c.from_residual.ensures.1 in
     let old = c.args.partial.now in
     rw p.1 (marks_then old c.loop-i.partial c.mark_reading.new.self c.args.source (map (reading_of c.args.component c.args.line) (take c.loop-i.i (readings_at old c.args.component c.args.line))) c.loop-i.invariant
-    (front_held old c.args.component c.args.line c.loop-i.i)
+    (prefix_held old c.args.component c.args.line c.loop-i.i)
     (subst (MarksSome c.loop-i.partial c.args.source) (sym c.in_err-mark_reading.ensures.err) (marks_none c.loop-i.partial c.args.source)))
 
 pub loop-i-preserved : goal.loop-i-preserved

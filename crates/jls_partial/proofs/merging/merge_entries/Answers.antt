@@ -8,7 +8,7 @@ use Rattle.jls_partial.specs.LineSet.{kept_lines}
 use Rattle.jls_partial.specs.Partial.{PartialPicture}
 use Rattle.jls_partial.specs.Reading.{Reading}
 use Rattle.jls_partial.specs.Text.{entries}
-use Rattle.jls_partial.proofs.Growth.{IsSoFar, more_so_far, front_so_far, next_entry}
+use Rattle.jls_partial.proofs.Growth.{IsSoFar, more_so_far, prefix_so_far, next_entry}
 use Rattle.jls_partial.proofs.merging.merge_entries.Goals as goal
 
 -- the readings of this line come next
@@ -35,4 +35,4 @@ returns-in_err-merge_line-clause-err c =
     let all = kept_readings (entries c.args.other.now) in
     let es = c.next.new.self in
     let so_far = next c.args.into.now c.loop-at.into all e c.loop-at.at-iterator es c.in-Some.ensures.steps c.loop-at.invariant.so_far in
-    rw p.1 (front_so_far c.args.into.now c.loop-at.into c.merge_line.new.into all (map (kept_at_place e.0) (kept_lines e.1)) (kept_readings (map kept_entry es)) so_far c.in_err-merge_line.ensures.err)
+    rw p.1 (prefix_so_far c.args.into.now c.loop-at.into c.merge_line.new.into all (map (kept_at_place e.0) (kept_lines e.1)) (kept_readings (map kept_entry es)) so_far c.in_err-merge_line.ensures.err)

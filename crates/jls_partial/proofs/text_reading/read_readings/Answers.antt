@@ -4,15 +4,15 @@ use Rattle.std.specs.Option.{option_map}
 use Rattle.jls_values.specs.Shape.{PictureShape}
 use Rattle.jls_partial.specs.Entries.{at_place, kept_at_place}
 use Rattle.jls_partial.specs.InsertFaults.{reading_fault}
-use Rattle.jls_partial.specs.Merging.{TakesFront}
+use Rattle.jls_partial.specs.Merging.{TakesPrefix}
 use Rattle.jls_partial.specs.Packed.{Kept}
 use Rattle.jls_partial.specs.Partial.{PartialPicture, with_all}
-use Rattle.jls_partial.specs.TextFront.{readings_front}
+use Rattle.jls_partial.specs.TextPrefix.{readings_prefix}
 use Rattle.jls_partial.specs.TextInto.{with_readings}
 use Rattle.jls_partial.specs.TextReading.{Fails, kept_fields, readings_fields}
 use Rattle.jls_partial.proofs.Growth.{IsSoFar, more_so_far}
 use Rattle.jls_partial.proofs.TextEntries.{fits_there}
-use Rattle.jls_partial.proofs.TextFronts.{on_error, so_far_front, next_reading}
+use Rattle.jls_partial.proofs.TextPrefixes.{on_error, so_far_prefix, next_reading}
 use Rattle.jls_partial.proofs.TextLoops.{kept_fits, with_kept, readings_go_on, readings_end, readings_done}
 use Rattle.jls_partial.proofs.text_reading.read_readings.Goals as goal
 
@@ -28,17 +28,17 @@ returns-in_err-samples-clause-read c =
     subst (λ (s : PictureShape). Fails e (kept_fields size version s before c.loop.rest.now)) (c.shape.ensures.value ∙ c.loop.invariant.shape) c.in_err-samples.ensures in
     rw (p.1, p.2) (readings_end e size version shape c.loop.partial c.args.at before c.args.count c.loop.counter c.loop.rest.now (with_readings c.args.partial.now c.args.at (readings_fields size version shape None c.args.count c.args.bytes.now)) c.loop-test.true failed c.loop.invariant.same)
 
-pub returns-in_err-samples-clause-front : goal.returns-in_err-samples-clause-front
-returns-in_err-samples-clause-front c =
-    let all = map (kept_at_place c.args.at) (readings_front c.args.form.size c.args.form.version c.args.partial.now.shape None c.args.count c.args.bytes.now) in
-    let left = map (kept_at_place c.args.at) (readings_front c.args.form.size c.args.form.version c.args.partial.now.shape (option_map (λ v. v.items) c.loop.before) (c.args.count - c.loop.counter) c.loop.rest.now) in
-    on_error c.from_residual.result (TakesFront c.args.partial.now c.loop.partial all) (so_far_front c.args.partial.now c.loop.partial c.loop.partial all left c.loop.invariant.so_far refl)
+pub returns-in_err-samples-clause-prefix : goal.returns-in_err-samples-clause-prefix
+returns-in_err-samples-clause-prefix c =
+    let all = map (kept_at_place c.args.at) (readings_prefix c.args.form.size c.args.form.version c.args.partial.now.shape None c.args.count c.args.bytes.now) in
+    let left = map (kept_at_place c.args.at) (readings_prefix c.args.form.size c.args.form.version c.args.partial.now.shape (option_map (λ v. v.items) c.loop.before) (c.args.count - c.loop.counter) c.loop.rest.now) in
+    on_error c.from_residual.result (TakesPrefix c.args.partial.now c.loop.partial all) (so_far_prefix c.args.partial.now c.loop.partial c.loop.partial all left c.loop.invariant.so_far refl)
 
-pub returns-in_err-take-clause-front : goal.returns-in_err-take-clause-front
-returns-in_err-take-clause-front c =
-    let all = map (kept_at_place c.args.at) (readings_front c.args.form.size c.args.form.version c.args.partial.now.shape None c.args.count c.args.bytes.now) in
-    let left = map (kept_at_place c.args.at) (readings_front c.args.form.size c.args.form.version c.args.partial.now.shape (option_map (λ v. v.items) c.loop.before) (c.args.count - c.loop.counter) c.loop.rest.now) in
-    on_error c.from_residual-in_err-take.result (TakesFront c.args.partial.now c.take.new.self all) (so_far_front c.args.partial.now c.loop.partial c.take.new.self all left c.loop.invariant.so_far c.in_err-take.ensures.err)
+pub returns-in_err-take-clause-prefix : goal.returns-in_err-take-clause-prefix
+returns-in_err-take-clause-prefix c =
+    let all = map (kept_at_place c.args.at) (readings_prefix c.args.form.size c.args.form.version c.args.partial.now.shape None c.args.count c.args.bytes.now) in
+    let left = map (kept_at_place c.args.at) (readings_prefix c.args.form.size c.args.form.version c.args.partial.now.shape (option_map (λ v. v.items) c.loop.before) (c.args.count - c.loop.counter) c.loop.rest.now) in
+    on_error c.from_residual-in_err-take.result (TakesPrefix c.args.partial.now c.take.new.self all) (so_far_prefix c.args.partial.now c.loop.partial c.take.new.self all left c.loop.invariant.so_far c.in_err-take.ensures.err)
 
 pub take-requires : goal.take-requires
 take-requires c =
@@ -71,8 +71,8 @@ loop-preserved c =
       shape = ap (λ (q : PartialPicture). q.shape) taken ∙ c.loop.invariant.shape;
       same = subst (λ (q : PartialPicture). with_readings q c.args.at (readings_fields size version shape (Some k.0) (c.args.count - (c.loop.counter + 1)) after) ≡ total) (sym taken)
           (readings_go_on size version shape c.loop.partial c.args.at before c.args.count c.loop.counter c.loop.rest.now k after total c.loop-test.true read c.loop.invariant.same);
-      so_far = more_so_far c.args.partial.now c.loop.partial c.take.new.self (map (kept_at_place c.args.at) (readings_front size version shape None c.args.count c.args.bytes.now)) (kept_at_place c.args.at k ∷ []) (map (kept_at_place c.args.at) (readings_front size version shape (Some k.0) (c.args.count - (c.loop.counter + 1)) after))
-          (subst (IsSoFar c.args.partial.now c.loop.partial (map (kept_at_place c.args.at) (readings_front size version shape None c.args.count c.args.bytes.now))) (ap (map (kept_at_place c.args.at)) (next_reading size version shape before c.args.count c.loop.counter c.loop.rest.now k after c.loop-test.true read)) c.loop.invariant.so_far) taken;
+      so_far = more_so_far c.args.partial.now c.loop.partial c.take.new.self (map (kept_at_place c.args.at) (readings_prefix size version shape None c.args.count c.args.bytes.now)) (kept_at_place c.args.at k ∷ []) (map (kept_at_place c.args.at) (readings_prefix size version shape (Some k.0) (c.args.count - (c.loop.counter + 1)) after))
+          (subst (IsSoFar c.args.partial.now c.loop.partial (map (kept_at_place c.args.at) (readings_prefix size version shape None c.args.count c.args.bytes.now))) (ap (map (kept_at_place c.args.at)) (next_reading size version shape before c.args.count c.loop.counter c.loop.rest.now k after c.loop-test.true read)) c.loop.invariant.so_far) taken;
     }
 
 pub returns-clause-read : goal.returns-clause-read

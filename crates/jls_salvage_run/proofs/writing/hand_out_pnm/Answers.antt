@@ -18,4 +18,4 @@ returns-clause-stopped g c =
     let desk = g.D.Device.history in
     error_so _ (λ fault. cut_refusal c.args.name fault) (λ fault r made. search rules) c.write_pnm.result c.map_err.result _ _
     (λ fault h. cut_after fault (desk c.args.desk.now) (desk c.create.new.desk) (desk c.write_pnm.new.sink) c.args.name (pnm c.args.picture.now) _ _ c.in_ok-create.ensures.created h)
-    c.map_err.ensures.cases c.write_pnm.ensures.front
+    c.map_err.ensures.cases c.write_pnm.ensures.prefix

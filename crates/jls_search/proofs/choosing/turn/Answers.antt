@@ -6,8 +6,8 @@ use Rattle.jls_search.specs.Choices.{IsFirstWay}
 use Rattle.jls_search.proofs.Paths.{length-map, turned}
 use Rattle.jls_diff.specs.Groups.{IsInside}
 use Rattle.jls_search.specs.OfGroups.{IsSet}
-use Rattle.jls_search.specs.Order.{IsBehind, IsToCome}
-use Rattle.jls_search.proofs.Sets.{behind_last, last_takes, none_after, set_back, set_more}
+use Rattle.jls_search.specs.Order.{IsLater, IsToCome}
+use Rattle.jls_search.proofs.Sets.{after_last, last_takes, none_after, set_back, set_more}
 use Rattle.jls_search.proofs.choosing.turn.Goals as goal
 
 pub next_choice-requires : goal.next_choice-requires
@@ -34,13 +34,13 @@ follow-requires-clause-path c =
     (λ out. absurd (out inside)))
 
 pub returns-in-Some-next_choice-clause-to_come : goal.returns-in-Some-next_choice-clause-to_come
-returns-in-Some-next_choice-clause-to_come c = λ _ choices whole behind.
+returns-in-Some-next_choice-clause-to_come c = λ _ choices whole after.
     let ps : List Part = parts_of c.args.parts.now in
     let rest : List ℕ = c.pop.new.self.items in
     let at = c.len.ensures ∙ c.pop.new.self.ok.0 in
     let next = c.in-Some-next_choice.next in
-    let here : IsBehind (rest ++ c.in-Some.choice ∷ []) choices =
-    subst (λ p. IsBehind p choices) c.in-Some.ensures.items (c.loop-choice.invariant.behind choices whole behind) in
+    let here : IsLater (rest ++ c.in-Some.choice ∷ []) choices =
+    subst (λ p. IsLater p choices) c.in-Some.ensures.items (c.loop-choice.invariant.after choices whole after) in
     c.in_ok-follow.ensures.kept choices whole
     (subst (λ p. IsToCome p choices) (sym c.in_ok-push.ensures.items)
     (turned ps rest choices c.in-Some.choice next
@@ -48,7 +48,7 @@ returns-in-Some-next_choice-clause-to_come c = λ _ choices whole behind.
     whole.0.0 here))
 
 pub loop-choice-init : goal.loop-choice-init
-loop-choice-init c = record { set = c.requires.path; behind = λ choices whole behind. behind }
+loop-choice-init c = record { set = c.requires.path; after = λ choices whole after. after }
 
 pub loop-choice-preserved : goal.loop-choice-preserved
 loop-choice-preserved c =
@@ -61,9 +61,9 @@ loop-choice-preserved c =
     let at = c.len.ensures ∙ c.pop.new.self.ok.0 in
     record {
       set = back.0;
-      behind = λ choices whole behind.
-          behind_last rest choices p
+      after = λ choices whole after.
+          after_last rest choices p
           (λ l. none_after ps s choices whole.0 (length rest) p l back.2 (last_takes ps s rest p set)
           (subst (λ n. IsInside s.group n → (other : ℕ) → p < other → IsFirstWay (get_or ps n (Same [])) other → ⊥) at c.in_default-next_choice.ensures.none))
-          (subst (λ q. IsBehind q choices) c.in-Some.ensures.items (c.loop-choice.invariant.behind choices whole behind));
+          (subst (λ q. IsLater q choices) c.in-Some.ensures.items (c.loop-choice.invariant.after choices whole after));
     }

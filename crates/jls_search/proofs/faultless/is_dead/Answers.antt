@@ -6,7 +6,7 @@ returns-then-faulty c = λ _. dead_if_faulty c.args.reader (c.has_faulty_piece-f
 
 pub returns-then-broken : goal.returns-then-broken
 returns-then-broken c = λ _.
-    dead_if_broken c.fronts_stay_broken.ensures c.args.reader (c.is_piece_broken-broken.ensures c.if-broken.true)
+    dead_if_broken c.prefixes_stay_broken.ensures c.args.reader (c.is_piece_broken-broken.ensures c.if-broken.true)
 
 pub returns-then-done : goal.returns-then-done
 returns-then-done c =

@@ -12,7 +12,7 @@ returns-then-piece_count-ne0-clause-faulty c = λ _ file reads low faultless.
 pub returns-then-not-well_ended-clause-faulty : goal.returns-then-not-well_ended-clause-faulty
 returns-then-not-well_ended-clause-faulty c = λ _ file reads low faultless.
     let r = faultless_read c.records_are_of_faulty_pieces.ensures file c.args.read.now reads low faultless in
-    let told : IsTrue c.ends_well-well_ended.result = c.ends_well-well_ended.ensures.1 (subst EndsWell (sym c.ended.ensures) r.1) in
+    let reported : IsTrue c.ends_well-well_ended.result = c.ends_well-well_ended.ensures.1 (subst EndsWell (sym c.ended.ensures) r.1) in
     search rules
 
 pub returns-clause-faultless : goal.returns-clause-faultless
@@ -26,5 +26,5 @@ returns-clause-faultless c = λ yes file reads.
 pub returns-clause-faulty : goal.returns-clause-faulty
 returns-clause-faulty c = λ no file reads low faultless.
     let r = faultless_read c.records_are_of_faulty_pieces.ensures file c.args.read.now reads low faultless in
-    let told : IsTrue c.is_each_line_read.result = c.is_each_line_read.ensures.1 (subst IsEachLineRead (sym c.partial.ensures) r.2) in
+    let reported : IsTrue c.is_each_line_read.result = c.is_each_line_read.ensures.1 (subst IsEachLineRead (sym c.partial.ensures) r.2) in
     search rules

@@ -10,13 +10,13 @@ use Rattle.jls_diff.specs.Groups.{CoverParts, IsGroup}
 use Rattle.jls_search.specs.Found.{IsFound, IsGroupSearch, by_groups_of}
 use Rattle.jls_search.specs.OfGroups.{IsOfGroup}
 use Rattle.jls_search.specs.GroupTries.{AreGroupsSearched}
-use Rattle.jls_search.specs.declared.found.GroupsTold.{GroupsTold}
-use Rattle.jls_search.proofs.FoundMore.{all_is, front_is, group_search, found_whole, found_groups, files_whole, files_groups}
+use Rattle.jls_search.specs.declared.found.GroupsReported.{GroupsReported}
+use Rattle.jls_search.proofs.FoundMore.{all_is, prefix_is, group_search, found_whole, found_groups, files_whole, files_groups}
 use Rattle.jls_search.proofs.FoundMore.{whole_of_found, whole_of_both}
 use Rattle.jls_diff.specs.declared.group.Group.{Group}
 use Rattle.jls_search.proofs.found.complete_by_groups.Goals as goal
 
--- what the splices are, with those behind them that were given
+-- what the splices are, with those after them that were given
 appended : (vs : List (Vec ℕ Global)) (given by : Vec (Vec ℕ Global) Global) (all : List (Vec ℕ Global)) → all ≡ vs ++ given.items → given ≡ by
     → all ≡ vs ++ by.items
 appended vs given by all e is = e ∙ ap (λ (v : Vec (Vec ℕ Global) Global). vs ++ v.items) is
@@ -56,8 +56,8 @@ returns-clause-found c =
     let used = c.args.found.searched.is_used_up in
     let at : n ≡ length vs = c.len-whole.ensures ∙ c.args.found.searched.splices.ok.0 in
     let by = c.in_ok-by.by in
-    let told : GroupsTold = c.told_of-told.result in
-    let count : told.groups ≡ length by.groups.items = c.told_of-told.ensures.groups in
+    let reported : GroupsReported = c.reported_of-reported.result in
+    let count : reported.groups ≡ length by.groups.items = c.reported_of-reported.ensures.groups in
     let needed : used ≡ false → n ≡ 0 =
     λ done. elim (c.wants_groups-wants.ensures.yes c.if-not-wants.false) [ inl e ↦ absurd cc | inr z ↦ z ] in
     let e = c.in_ok-by.ensures in
@@ -68,9 +68,9 @@ returns-clause-found c =
       parts = ps;
       choices = take n (lists_of xs);
       is_used_up = used;
-      by_groups = Some (by_groups_of (drop n (lists_of xs)) told);
+      by_groups = Some (by_groups_of (drop n (lists_of xs)) reported);
     })) (sym (appended vs c.splices_given-given.result c.in_ok-by.by.searched.splices c.append.new.self.items c.in_ok-append.ensures.items c.splices_given-given.ensures))
-    (found_groups c.args.found.ceiling (bytes_of c.args.copies.now) ps vs n used c.requires.parts c.requires.searched at by.searched.splices.items by.groups.items told
+    (found_groups c.args.found.ceiling (bytes_of c.args.copies.now) ps vs n used c.requires.parts c.requires.searched at by.searched.splices.items by.groups.items reported
     needed groups cover count each)
 
 pub returns-clause-by_groups : goal.returns-clause-by_groups
@@ -80,21 +80,21 @@ returns-clause-by_groups c =
     let n = c.len-whole.result in
     let at : n ≡ length vs = c.len-whole.ensures ∙ c.args.found.searched.splices.ok.0 in
     let by = c.in_ok-by.by in
-    let told : GroupsTold = c.told_of-told.result in
+    let reported : GroupsReported = c.reported_of-reported.result in
     let copies : ℕ = length c.args.copies.now in
     let gs : List Group = by.groups.items in
     let more : List (List ℕ) = lists_of by.searched.splices.items in
-    let is = c.told_of-told.ensures in
+    let is = c.reported_of-reported.ensures in
     let e = c.in_ok-by.ensures in
     let groups = subst (λ qs. AllByRecursion (IsGroup (parts_of qs)) gs) c.deref.ensures.value e.groups in
     let cover = subst (λ qs. CoverParts (parts_of qs) gs) c.deref.ensures.value e.cover in
-    let searched : AreGroupsSearched c.args.limit copies ps gs told.tries more told.is_used_up =
-    subst (λ (k : ℕ). AreGroupsSearched c.args.limit copies ps gs k more told.is_used_up) (sym is.tries)
+    let searched : AreGroupsSearched c.args.limit copies ps gs reported.tries more reported.is_used_up =
+    subst (λ (k : ℕ). AreGroupsSearched c.args.limit copies ps gs k more reported.is_used_up) (sym is.tries)
     (subst (λ (u : Bool). AreGroupsSearched c.args.limit copies ps gs by.searched.tries more u) (sym is.is_used_up)
     (subst (λ qs. AreGroupsSearched c.args.limit copies (parts_of qs) gs by.searched.tries more by.searched.is_used_up) c.deref.ensures.value e.searched)) in
-    subst (λ (xs : List (Vec ℕ Global)). IsGroupSearch c.args.limit copies ps (by_groups_of (drop n (lists_of xs)) told))
+    subst (λ (xs : List (Vec ℕ Global)). IsGroupSearch c.args.limit copies ps (by_groups_of (drop n (lists_of xs)) reported))
     (sym (appended vs c.splices_given-given.result by.searched.splices c.append.new.self.items c.in_ok-append.ensures.items c.splices_given-given.ensures))
-    (group_search vs by.searched.splices.items n at c.args.limit copies ps gs told groups cover is.groups e.once searched)
+    (group_search vs by.searched.splices.items n at c.args.limit copies ps gs reported groups cover is.groups e.once searched)
 
 pub returns-clause-splices : goal.returns-clause-splices
 returns-clause-splices c =
@@ -116,7 +116,7 @@ returns-clause-kept c =
     let at : n ≡ length vs = c.len-whole.ensures ∙ c.args.found.searched.splices.ok.0 in
     ap (λ (xs : List (Vec ℕ Global)). take n (lists_of xs))
     (appended vs c.splices_given-given.result c.in_ok-by.by.searched.splices c.append.new.self.items c.in_ok-append.ensures.items c.splices_given-given.ensures)
-    ∙ front_is vs c.in_ok-by.by.searched.splices.items n at
+    ∙ prefix_is vs c.in_ok-by.by.searched.splices.items n at
 
 pub returns-clause-whole : goal.returns-clause-whole
 returns-clause-whole c =

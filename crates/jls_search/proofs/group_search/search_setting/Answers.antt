@@ -23,7 +23,7 @@ loop-tries-init c =
     let s = c.args.setting in
     let found = lists_of c.args.searched.splices.items in
     let n = c.len.ensures ∙ c.args.searched.splices.ok.0 in
-    let most = c.most_behind-most.ensures in
+    let most = c.most_after-most.ensures in
     let few = c.requires.few in
     record {
       more_tries = omega arith;
@@ -71,7 +71,7 @@ returns-then-not-more-clause-goes c =
     let b = count_of c.try_next.new.found.items in
     let at = c.len-in-loop-tries.ensures ∙ c.loop-tries.splices.ok.0 in
     let n = c.len.ensures ∙ c.args.searched.splices.ok.0 in
-    let most = c.most_behind-most.ensures in
+    let most = c.most_after-most.ensures in
     went c.args.limit ps s c.args.searched _ false (omega (arith, inv.more_tries)) (omega (arith, c.loop-tries-test.true))
     (added_more ps s old new (lists_of c.args.searched.splices.items) inv.added c.in_ok-more.ensures.found)
     (omega (arith, c.if-len-most.true, at, a, b, count, n, most)) (λ e. omega (arith, inv.more_tries)) (λ e. absurd cc) refl
@@ -81,7 +81,7 @@ pub returns-clause-goes : goal.returns-clause-goes
 returns-clause-goes c =
     let inv = c.loop-tries.invariant in
     let n = c.len.ensures ∙ c.args.searched.splices.ok.0 in
-    let most = c.most_behind-most.ensures in
+    let most = c.most_after-most.ensures in
     let full : (c.loop-tries.tries ≡ c.args.limit) ⊎ (min (length c.args.searched.splices.items + 64) 4096 ≤ length c.loop-tries.splices.items) =
     elim c.loop-tries-test.branch [
       | then-loop-tries-test+else-len-most w ↦ inr (

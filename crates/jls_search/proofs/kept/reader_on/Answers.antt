@@ -3,7 +3,7 @@ use Rattle.std.specs.Prelude.{IfSome}
 use Rattle.std.specs.Cmp.Lexicographic.{same_text}
 use Rattle.jls_diff.specs.Parts.{Part}
 use Rattle.jls_diff.specs.PartsOf.{part_of, parts_of}
-use Rattle.jls_search.specs.Choices.{front_of}
+use Rattle.jls_search.specs.Choices.{prefix_of}
 use Rattle.jls_search.specs.Search.{IsKept}
 use Rattle.jls_search.proofs.Paths.{path_len, length-map}
 use Rattle.jls_search.proofs.kept.reader_on.Goals as goal
@@ -30,7 +30,7 @@ fed_on-requires-clause-fed c =
     let path : List ℕ = c.args.path.now in
     let choices : List ℕ = c.in-Some.last.choices.items in
     let n : c.len-from.result ≡ length choices = c.len-from.ensures ∙ c.in-Some.last.choices.ok.0 in
-    let kept : c.in-Some.last.reader ≡ Some (front_of ps choices) = subst (λ o. IfSome o (IsKept ps)) c.in-Some.is c.requires.kept in
+    let kept : c.in-Some.last.reader ≡ Some (prefix_of ps choices) = subst (λ o. IfSome o (IsKept ps)) c.in-Some.is c.requires.kept in
     let begins : choices ≡ take (length choices) path =
     subst (λ cs. cs ≡ take (length cs) path) c.deref.ensures.value (same_text _ _ c.if-starts_with.ensures.value) in
-    kept ∙ ap (λ cs. Some (front_of ps cs)) (begins ∙ ap (λ k. take k path) (sym n))
+    kept ∙ ap (λ cs. Some (prefix_of ps cs)) (begins ∙ ap (λ k. take k path) (sym n))

@@ -1,7 +1,7 @@
 use Rattle.std.proofs.Common.{List, [], ◌∷◌, ℕ, sym, ap, ◌∙◌, subst, inl, inr, refl, Vec, Global}
 use Rattle.std.proofs.lemmas.List.{map-append}
 use Rattle.jls_diff.specs.PartsOf.{parts_of}
-use Rattle.jls_search.specs.Choices.{IsPath, front_of}
+use Rattle.jls_search.specs.Choices.{IsPath, prefix_of}
 use Rattle.jls_search.specs.Faultless.{IsDead, IsSought}
 use Rattle.jls_search.specs.Search.{lists_of}
 use Rattle.jls_search.proofs.LevelPaths.{begins_so, followed}
@@ -21,11 +21,11 @@ returns-then-dead c =
     let path : List ℕ = c.follow_same.new.path.items in
     record {
       path = path;
-      is_next = followed ps c.args.begin.items path on.path on.front on.grew on.same;
+      is_next = followed ps c.args.begin.items path on.path on.prefix on.grew on.same;
       begins = begins_so c.args.begin.items path on.grew;
       added = inr (
         refl,
-        subst (λ p. IsDead (IsSought c.args.judge.now.ceiling) (front_of ps p)) c.deref.ensures.value
+        subst (λ p. IsDead (IsSought c.args.judge.now.ceiling) (prefix_of ps p)) c.deref.ensures.value
             (c.in_ok-dead.ensures c.if-dead.true),
       );
     }
@@ -37,7 +37,7 @@ returns c =
     let path : List ℕ = c.follow_same.new.path.items in
     record {
       path = path;
-      is_next = followed ps c.args.begin.items path on.path on.front on.grew on.same;
+      is_next = followed ps c.args.begin.items path on.path on.prefix on.grew on.same;
       begins = begins_so c.args.begin.items path on.grew;
       added = inl (ap lists_of c.in_ok-push.ensures.items
           ∙ map-append (λ (v : Vec ℕ Global). v.items) c.args.living.now.items (c.follow_same.new.path ∷ []));

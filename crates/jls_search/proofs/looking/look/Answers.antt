@@ -3,8 +3,8 @@ use Rattle.jls_diff.specs.PartsOf.{part_of, parts_of}
 use Rattle.jls_search.proofs.Paths.{path_len, length-map}
 use Rattle.jls_search.proofs.looking.look.Goals as goal
 
-pub look_at_front-requires : goal.look_at_front-requires
-look_at_front-requires c = record {
+pub look_at_prefix-requires : goal.look_at_prefix-requires
+look_at_prefix-requires c = record {
   kept = c.requires.kept;
   path = c.requires.path;
   few = c.requires.few;

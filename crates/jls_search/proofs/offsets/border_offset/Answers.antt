@@ -7,4 +7,4 @@ pub overflow_add-result : goal.overflow_add-result
 overflow_add-result c =
     let m = border_fits (parts_of c.args.parts.now) c.args.path.now c.args.border 9223372036854775807 c.requires.path c.requires.within c.requires.border
     c.requires.few in
-    omega (arith, m, c.front_length.ensures)
+    omega (arith, m, c.prefix_length.ensures)

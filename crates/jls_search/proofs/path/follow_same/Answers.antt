@@ -50,14 +50,14 @@ returns-else-is_same_at-clause-same c = c.loop-path.invariant.3
 pub returns-after-loop-path-clause-same : goal.returns-after-loop-path-clause-same
 returns-after-loop-path-clause-same c = c.loop-path.invariant.3
 
-pub returns-else-is_same_at-clause-front : goal.returns-else-is_same_at-clause-front
-returns-else-is_same_at-clause-front c =
+pub returns-else-is_same_at-clause-prefix : goal.returns-else-is_same_at-clause-prefix
+returns-else-is_same_at-clause-prefix c =
     let ps : List spec.Part = parts_of c.args.parts.now in let path : List ℕ = c.loop-path.path.items in
     let other : c.is_same_at.result ≡ false = search rules in
     inl (subst (λ n. IsDiffer (get_or ps n (spec.Same []))) (c.len-in-loop-path.ensures ∙ c.loop-path.path.ok.0) (c.is_same_at.ensures.differ other))
 
-pub returns-after-loop-path-clause-front : goal.returns-after-loop-path-clause-front
-returns-after-loop-path-clause-front c =
+pub returns-after-loop-path-clause-prefix : goal.returns-after-loop-path-clause-prefix
+returns-after-loop-path-clause-prefix c =
     let ps : List spec.Part = parts_of c.args.parts.now in let path : List ℕ = c.loop-path.path.items in
     let most = path_len ps path c.loop-path.invariant.0 in
     let least : length c.args.parts.now ≤ length path = subst (λ n. length c.args.parts.now ≤ n) (c.len.ensures ∙ c.loop-path.path.ok.0) c.loop-path-test.false in

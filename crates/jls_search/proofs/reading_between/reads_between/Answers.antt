@@ -9,18 +9,18 @@ use Rattle.jls_search.proofs.reading_between.reads_between.Goals as goal
 pub returns-clause-reads : goal.returns-clause-reads
 returns-clause-reads c = λ yes file reads.
     let read : ReadCopy = c.args.read.now in
-    let told : IsTrue c.reaches.result = search rules in
+    let reported : IsTrue c.reaches.result = search rules in
     let pieces = ap length c.pieces-records.ensures in
     let count : read.piece_count ≡ length read.pieces = omega (arith, pieces, c.piece_count.ensures, c.if-piece_count-records.false) in
     read_between c.records_are_of_faulty_pieces.ensures c.args.from c.args.to file read reads count
     (subst (NoneBetween c.args.from c.args.to) c.pieces-records.ensures (c.has_record_between.ensures.none c.if-has_record_between.false))
-    (subst (Reaches c.args.from c.args.to) c.ended.ensures (c.reaches.ensures.0 told))
+    (subst (Reaches c.args.from c.args.to) c.ended.ensures (c.reaches.ensures.0 reported))
 
 pub returns-clause-unread : goal.returns-clause-unread
 returns-clause-unread c = λ no file reads low between.
     let read : ReadCopy = c.args.read.now in
-    let told : IsTrue c.reaches.result → ⊥ = search rules in
-    absurd (told (c.reaches.ensures.1 (subst (Reaches c.args.from c.args.to) (sym c.ended.ensures)
+    let reported : IsTrue c.reaches.result → ⊥ = search rules in
+    absurd (reported (c.reaches.ensures.1 (subst (Reaches c.args.from c.args.to) (sym c.ended.ensures)
     (does_reach c.records_are_of_faulty_pieces.ensures c.args.from c.args.to file read reads low between))))
 
 pub returns-then-has_record_between-clause-unread : goal.returns-then-has_record_between-clause-unread

@@ -1,7 +1,7 @@
 use Rattle.std.proofs.Common.{ℕ, List, [], ◌∷◌, ◌++◌, Vec, Global, take, sym, ap, ◌∙◌, subst, append_assoc, arith}
 use Rattle.std.proofs.lemmas.List.{append-nil, take_all}
 use Rattle.jls_diff.specs.PartsOf.{parts_of}
-use Rattle.jls_search.specs.Choices.{IsPath, front_of}
+use Rattle.jls_search.specs.Choices.{IsPath, prefix_of}
 use Rattle.jls_search.specs.Search.{files_of, lists_of}
 use Rattle.jls_search.specs.Reading.{AreRead, ReadsMore}
 use Rattle.jls_search.proofs.Members.{splices_one_more, whole_at}
@@ -28,7 +28,7 @@ loop-choices-preserved c = λ files read.
     let v = c.choices-item.result in
     let some = files_of ps (lists_of (take c.loop-choices.choices-index vs)) in
     subst (λ (all : List (List ℕ)). AreRead c.args.source all c.in_ok-read.read)
-    (append_assoc files some (front_of ps c.deref.result.now ∷ []) ∙ ap (λ (z : List ℕ). files ++ (some ++ front_of ps z ∷ [])) c.deref.ensures.value
+    (append_assoc files some (prefix_of ps c.deref.result.now ∷ []) ∙ ap (λ (z : List ℕ). files ++ (some ++ prefix_of ps z ∷ [])) c.deref.ensures.value
     ∙ ap (λ (z : List (List ℕ)). files ++ z) (sym (splices_one_more ps vs c.loop-choices.choices-index v c.loop-choices-test.true c.choices-item.is)))
     (c.in_ok-read.ensures (files ++ some) (c.loop-choices.invariant files read))
 

@@ -1,6 +1,6 @@
 use Rattle.std.proofs.Common.{sym, subst, ◌∷◌, []}
 use Rattle.jls_diff.specs.PartsOf.{parts_of}
-use Rattle.jls_search.specs.Choices.{IsPath, front_of}
+use Rattle.jls_search.specs.Choices.{IsPath, prefix_of}
 use Rattle.jls_search.specs.Stations.{TakesFiles}
 use Rattle.jls_search.proofs.Members.{whole_at}
 use Rattle.jls_search.proofs.TakenFiles.{takes_none, splices_taken}
@@ -24,5 +24,5 @@ loop-choices-preserved c =
     splices_taken c.args.source c.args.station.now c.loop-choices.station c.take_splice.new.station (parts_of c.args.parts.now)
     c.args.splices.now c.loop-choices.choices-index c.choices-item.result c.loop-choices-test.true c.choices-item.is
     c.loop-choices.invariant
-    (subst (λ choices. TakesFiles c.args.source (front_of (parts_of c.args.parts.now) choices ∷ []) c.loop-choices.station
+    (subst (λ choices. TakesFiles c.args.source (prefix_of (parts_of c.args.parts.now) choices ∷ []) c.loop-choices.station
     c.take_splice.new.station) c.deref.ensures.value c.in_ok-take_splice.ensures)

@@ -2,10 +2,10 @@ use Rattle.std.proofs.Common.{◌≡◌, ℕ, ◌+◌, ◌≤◌, List, [], ◌�
 use Rattle.std.specs.List.{Contains}
 use Rattle.jls_diff.specs.PartsOf.{parts_of}
 use Rattle.jls_diff.specs.Parts.{Part}
-use Rattle.jls_search.specs.Order.{IsBehind}
+use Rattle.jls_search.specs.Order.{IsLater}
 use Rattle.jls_search.specs.Faultless.{IsSought}
 use Rattle.jls_search.specs.Search.{MakeFiles, lists_of}
-use Rattle.jls_search.proofs.Searching.{turned_on, turned_step, found_behind, files_more, on_ok}
+use Rattle.jls_search.proofs.Searching.{turned_on, turned_step, found_after, files_more, on_ok}
 use Rattle.jls_search.proofs.whole_search.pass_found.Goals as goal
 
 pub returns-clause-next : goal.returns-clause-next
@@ -16,8 +16,8 @@ returns-clause-next c = λ ceiling stands sought.
     let E : M ≡ F ++ path ∷ [] = c.in_ok-take_found.ensures ∙ ap (λ p. F ++ p ∷ []) c.deref.ensures.value in
     turned_on Sought ps path next F stands M
     (subst (MakeFiles Sought ps) (sym E) (files_more Sought ps path F stands.files stands.is_path c.requires.whole sought))
-    (λ choices file. subst (λ fs. Contains fs choices ⊎ IsBehind path choices) (sym E) (found_behind Sought ps path next F stands c.requires.whole choices file))
-    c.turn.result c.turn.ensures.path c.turn.ensures.front c.turn.ensures.to_come c.turn.ensures.none
+    (λ choices file. subst (λ fs. Contains fs choices ⊎ IsLater path choices) (sym E) (found_after Sought ps path next F stands c.requires.whole choices file))
+    c.turn.result c.turn.ensures.path c.turn.ensures.prefix c.turn.ensures.to_come c.turn.ensures.none
 
 pub returns-clause-count : goal.returns-clause-count
 returns-clause-count c =
@@ -30,4 +30,4 @@ returns-clause-step c =
     let path : List ℕ = c.args.path.now.items in
     let F : List (List ℕ) = lists_of c.args.found.now.items in let M : List (List ℕ) = lists_of c.take_found.new.found.items in
     let E : M ≡ F ++ path ∷ [] = c.in_ok-take_found.ensures ∙ ap (λ p. F ++ p ∷ []) c.deref.ensures.value in
-    turned_step c.turn.result path c.turn.new.path.items F M (inr E) c.turn.ensures.behind
+    turned_step c.turn.result path c.turn.new.path.items F M (inr E) c.turn.ensures.after

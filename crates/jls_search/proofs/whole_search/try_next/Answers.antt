@@ -7,10 +7,10 @@ use Rattle.jls_search.specs.Faultless.{IsSought}
 use Rattle.jls_search.specs.Search.{IsKept, IsSeen, Keeps, lists_of}
 use Rattle.jls_search.specs.declared.looking.Sight.{Sight}
 use Rattle.jls_search.specs.declared.looking.Sight.TheVariants.{Dead, Open, Found}
-use Rattle.jls_search.proofs.Fronts.{on_ok as anyway}
+use Rattle.jls_search.proofs.Prefixes.{on_ok as anyway}
 use Rattle.jls_search.proofs.KeptReaders.{still_kept}
 use Rattle.jls_search.proofs.Paths.{length-map}
-use Rattle.jls_search.proofs.Searching.{descended, turned_on, turned_step, dead_behind, on_ok}
+use Rattle.jls_search.proofs.Searching.{descended, turned_on, turned_step, dead_after, on_ok}
 use Rattle.jls_search.proofs.whole_search.try_next.Goals as goal
 
 seen : (Sought : List ℕ → Type 0) (ps : List Part) (path there : List ℕ) (sight is : Sight) → there ≡ path → sight ≡ is
@@ -33,7 +33,7 @@ descend-requires c =
 pub returns-in_ok-descend-in-Open-clause-next : goal.returns-in_ok-descend-in-Open-clause-next
 returns-in_ok-descend-in-Open-clause-next c =
     descended (IsSought c.args.judge.now.ceiling) (parts_of c.args.parts.now) c.args.path.now.items c.descend.new.path.items (lists_of c.args.found.now.items) c.requires.stands
-    c.in_ok-descend-in-Open.ensures.path c.in_ok-descend-in-Open.ensures.front c.in_ok-descend-in-Open.ensures.kept
+    c.in_ok-descend-in-Open.ensures.path c.in_ok-descend-in-Open.ensures.prefix c.in_ok-descend-in-Open.ensures.kept
 
 pub pass_found-requires : goal.pass_found-requires
 pass_found-requires c =
@@ -53,8 +53,8 @@ returns-in-Dead-clause-next c =
     let ps : List Part = parts_of c.args.parts.now in let path : List ℕ = c.args.path.now.items in let next : List ℕ = c.turn.new.path.items in
     let F : List (List ℕ) = lists_of c.args.found.now.items in
     turned_on (IsSought c.args.judge.now.ceiling) ps path next F c.requires.stands F c.requires.stands.files
-    (dead_behind (IsSought c.args.judge.now.ceiling) ps path next F c.requires.stands (seen (IsSought c.args.judge.now.ceiling) ps path c.deref.result.now c.in_ok-sight.sight Dead c.deref.ensures.value c.in-Dead.is c.in_ok-sight.ensures))
-    c.turn.result c.turn.ensures.path c.turn.ensures.front c.turn.ensures.to_come c.turn.ensures.none
+    (dead_after (IsSought c.args.judge.now.ceiling) ps path next F c.requires.stands (seen (IsSought c.args.judge.now.ceiling) ps path c.deref.result.now c.in_ok-sight.sight Dead c.deref.ensures.value c.in-Dead.is c.in_ok-sight.ensures))
+    c.turn.result c.turn.ensures.path c.turn.ensures.prefix c.turn.ensures.to_come c.turn.ensures.none
 
 pub returns-in-Dead-clause-count : goal.returns-in-Dead-clause-count
 returns-in-Dead-clause-count c =
@@ -67,7 +67,7 @@ returns-in_ok-descend-in-Open-clause-step c = (inl refl, λ _. inl c.in_ok-desce
 pub returns-in-Dead-clause-step : goal.returns-in-Dead-clause-step
 returns-in-Dead-clause-step c =
     let F : List (List ℕ) = lists_of c.args.found.now.items in
-    turned_step c.turn.result c.args.path.now.items c.turn.new.path.items F F (inl refl) c.turn.ensures.behind
+    turned_step c.turn.result c.args.path.now.items c.turn.new.path.items F F (inl refl) c.turn.ensures.after
 
 pub returns-in_ok-descend-in-Open-clause-kept : goal.returns-in_ok-descend-in-Open-clause-kept
 returns-in_ok-descend-in-Open-clause-kept c =

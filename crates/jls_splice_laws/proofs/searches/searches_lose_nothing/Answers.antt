@@ -5,4 +5,4 @@ pub returns-clause-splices : goal.returns-clause-splices
 returns-clause-splices c = searches_find_splices c.splices_are_listed.ensures
 
 pub returns-clause-all : goal.returns-clause-all
-returns-clause-all c = searches_lose_nothing c.splices_are_listed.ensures c.fronts_stay_broken.ensures c.final_ends_stay.ensures
+returns-clause-all c = searches_lose_nothing c.splices_are_listed.ensures c.prefixes_stay_broken.ensures c.final_ends_stay.ensures

@@ -1,11 +1,11 @@
 use Rattle.std.proofs.Common.{◌≡◌, ℕ, List, ◌∷◌, [], ◌++◌, refl, subst}
 use Rattle.std.specs.String.{string_bytes}
 use Rattle.jls_io.specs.Event.{GrewBy, created, not_created}
-use Rattle.jls_io.specs.Writing.{Wrote, WroteFront}
+use Rattle.jls_io.specs.Writing.{Wrote, WrotePrefix}
 use Rattle.jls_io.specs.Outputs.{HandsOut}
 use Rattle.jls_splice_run.specs.Handing.{StopsAtNumber, number_cut, number_not_there}
 use Rattle.jls_splice_run.specs.Listing.{named_file}
-use Rattle.jls_splice_run.proofs.Handed.{grew_behind}
+use Rattle.jls_splice_run.proofs.Handed.{grew_after}
 use Rattle.jls_splice_run.proofs.handing.write_numbered.Goals as goal
 
 pub returns-in-Err-clause-stopped : goal.returns-in-Err-clause-stopped
@@ -20,7 +20,7 @@ returns-in-Ok-write_all-clause-written g c =
     let name = string_bytes c.args.file.now.name in
     let bytes = c.args.file.now.bytes.items in
     let made = subst (λ (name : List ℕ). history c.create_output.new.self ≡ history c.args.desk.now ++ created name ∷ []) c.deref.ensures c.in-Ok.ensures.created in
-    grew_behind (Wrote bytes) (HandsOut name bytes) (history c.args.desk.now) (history c.create_output.new.self) (history c.write_all.new.sink) (created name)
+    grew_after (Wrote bytes) (HandsOut name bytes) (history c.args.desk.now) (history c.create_output.new.self) (history c.write_all.new.sink) (created name)
     (λ writes h. record { writes = writes; events_are = refl; wrote = h }) made
     (subst (λ (text : List ℕ). GrewBy (Wrote text) (history c.create_output.new.self) (history c.write_all.new.sink)) c.deref-2.ensures.value c.in-Ok-write_all.ensures.written)
 
@@ -31,6 +31,6 @@ returns-in-Err-write_all-clause-stopped g c =
     let bytes = c.args.file.now.bytes.items in
     let count = c.in-Err-write_all.count in
     let made = subst (λ (name : List ℕ). history c.create_output.new.self ≡ history c.args.desk.now ++ created name ∷ []) c.deref.ensures c.in-Ok.ensures.created in
-    grew_behind (WroteFront bytes count) (StopsAtNumber c.args.prefix.now c.args.number (named_file c.args.file.now) _) (history c.args.desk.now) (history c.create_output.new.self) (history c.write_all.new.sink) (created name)
+    grew_after (WrotePrefix bytes count) (StopsAtNumber c.args.prefix.now c.args.number (named_file c.args.file.now) _) (history c.args.desk.now) (history c.create_output.new.self) (history c.write_all.new.sink) (created name)
     (λ writes h. number_cut count writes refl refl h) made
-    (subst (λ (text : List ℕ). GrewBy (WroteFront text count) (history c.create_output.new.self) (history c.write_all.new.sink)) c.deref-2.ensures.value c.in-Err-write_all.ensures.stopped)
+    (subst (λ (text : List ℕ). GrewBy (WrotePrefix text count) (history c.create_output.new.self) (history c.write_all.new.sink)) c.deref-2.ensures.value c.in-Err-write_all.ensures.stopped)

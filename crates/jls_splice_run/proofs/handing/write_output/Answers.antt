@@ -1,9 +1,9 @@
 use Rattle.std.proofs.Common.{◌∷◌, [], refl}
 use Rattle.jls_io.specs.Event.{created, not_created}
-use Rattle.jls_io.specs.Writing.{Wrote, WroteFront}
+use Rattle.jls_io.specs.Writing.{Wrote, WrotePrefix}
 use Rattle.jls_io.specs.Outputs.{HandsOut}
 use Rattle.jls_splice_run.specs.Handing.{StopsAtOutput, cut, not_there}
-use Rattle.jls_splice_run.proofs.Handed.{grew_behind}
+use Rattle.jls_splice_run.proofs.Handed.{grew_after}
 use Rattle.jls_splice_run.proofs.handing.write_output.Goals as goal
 
 pub returns-in-Err-clause-stopped : goal.returns-in-Err-clause-stopped
@@ -15,7 +15,7 @@ returns-in-Ok-write_all-clause-written g c =
     let history = g.D.Device.history in
     let name = c.args.name.now in
     let bytes = c.args.bytes.now in
-    grew_behind (Wrote bytes) (HandsOut name bytes) (history c.args.desk.now) (history c.create_output.new.self) (history c.write_all.new.sink) (created name)
+    grew_after (Wrote bytes) (HandsOut name bytes) (history c.args.desk.now) (history c.create_output.new.self) (history c.write_all.new.sink) (created name)
     (λ writes h. record { writes = writes; events_are = refl; wrote = h }) c.in-Ok.ensures.created c.in-Ok-write_all.ensures.written
 
 pub returns-in-Err-write_all-clause-stopped : goal.returns-in-Err-write_all-clause-stopped
@@ -24,5 +24,5 @@ returns-in-Err-write_all-clause-stopped g c =
     let name = c.args.name.now in
     let bytes = c.args.bytes.now in
     let count = c.in-Err-write_all.count in
-    grew_behind (WroteFront bytes count) (StopsAtOutput name bytes _) (history c.args.desk.now) (history c.create_output.new.self) (history c.write_all.new.sink) (created name)
+    grew_after (WrotePrefix bytes count) (StopsAtOutput name bytes _) (history c.args.desk.now) (history c.create_output.new.self) (history c.write_all.new.sink) (created name)
     (λ writes h. cut count writes refl refl h) c.in-Ok.ensures.created c.in-Err-write_all.ensures.stopped

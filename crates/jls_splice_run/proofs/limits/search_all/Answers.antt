@@ -4,7 +4,7 @@ use Rattle.jls_io.specs.Event.{GrewBy}
 use Rattle.jls_io.proofs.Growing.{grew_as, grew_on}
 use Rattle.jls_diff.specs.PartsOf.{parts_of}
 use Rattle.jls_splice_run.specs.Limits.{last_or, limits, made_under}
-use Rattle.jls_splice_run.specs.Telling.{HasSearched, IsTold, ToldUpTo, TookTurns}
+use Rattle.jls_splice_run.specs.Telling.{HasSearched, IsReported, ReportedUpTo, TookTurns}
 use Rattle.jls_splice_run.proofs.Rounds.{on_err_anyway}
 use Rattle.jls_splice_run.proofs.Turns.{none_given, one_before, searched_in_turn, searched_once}
 use Rattle.jls_splice_run.proofs.limits.search_all.Goals.{then-is_some-via-then-is_some, then-is_some-via-else-is_some+then-not-first}
@@ -16,28 +16,28 @@ returns-then-is_some-clause-searched g c =
     let parts = parts_of c.args.parts.now in
     let options = c.args.options in
     let first = made_under options.ceiling c.in_ok-first.first in
-    grew_as (IsTold options.tells first.tries (length first.choices)) (HasSearched options parts first options.ceiling)
+    grew_as (IsReported options.tells first.tries (length first.choices)) (HasSearched options parts first options.ceiling)
     (history c.args.faults.now) (history c.search_once.new.faults)
-    (λ events told. searched_once options parts first refl c.in_ok-first.ensures.is_made events (
+    (λ events reported. searched_once options parts first refl c.in_ok-first.ensures.is_made events (
     elim c.then-is_some.branch [
       | then-is_some-via-then-is_some w ↦ inl (sym c.is_some.ensures ∙ w.if-is_some.true)
       | then-is_some-via-else-is_some+then-not-first w ↦ inr (not-true c.in_ok-first.first.is_used_up w.if-not-first.true)
     ]
-    ) told)
-    c.in_ok-first.ensures.told
+    ) reported)
+    c.in_ok-first.ensures.reported
 
-pub returns-in_err-turned-clause-told_some : goal.returns-in_err-turned-clause-told_some
-returns-in_err-turned-clause-told_some g c =
+pub returns-in_err-turned-clause-reported_some : goal.returns-in_err-turned-clause-reported_some
+returns-in_err-turned-clause-reported_some g c =
     let history = g.E.Device.history in
     let options = c.args.options in
     let first = made_under options.ceiling c.in_ok-first.first in
     let h = history c.args.faults.now in
     let h' = history c.search_in_turn.new.faults in
-    on_err_anyway _ (GrewBy (ToldUpTo options.tries options.tells) h h')
-    (grew_on (IsTold options.tells first.tries (length first.choices)) (ToldUpTo options.tries options.tells) (ToldUpTo options.tries options.tells)
+    on_err_anyway _ (GrewBy (ReportedUpTo options.tries options.tells) h h')
+    (grew_on (IsReported options.tells first.tries (length first.choices)) (ReportedUpTo options.tries options.tells) (ReportedUpTo options.tries options.tells)
     h (history c.search_once.new.faults) h'
-    (λ a b told up. one_before options.tries options.tells first a b c.in_ok-first.ensures.is_made.within told up)
-    c.in_ok-first.ensures.told c.in_err-turned.ensures.told_some)
+    (λ a b reported up. one_before options.tries options.tells first a b c.in_ok-first.ensures.is_made.within reported up)
+    c.in_ok-first.ensures.reported c.in_err-turned.ensures.reported_some)
 
 pub returns-clause-searched : goal.returns-clause-searched
 returns-clause-searched g c =
@@ -49,8 +49,8 @@ returns-clause-searched g c =
     let all = c.chosen.result in
     let s = made_under all.ceiling all.searched in
     let none : options.ceiling ≡ None = none_given options.ceiling (sym c.is_some.ensures ∙ c.if-is_some.false) in
-    grew_on (IsTold options.tells first.tries (length first.choices)) (TookTurns parts options limits turned) (HasSearched options parts s all.cut_limit)
+    grew_on (IsReported options.tells first.tries (length first.choices)) (TookTurns parts options limits turned) (HasSearched options parts s all.cut_limit)
     (history c.args.faults.now) (history c.search_once.new.faults) (history c.search_in_turn.new.faults)
-    (λ a b told t. searched_in_turn options parts first refl c.in_ok-first.ensures.is_made turned s all.cut_limit a b none (not-false c.in_ok-first.first.is_used_up c.if-not-first.false) told t
+    (λ a b reported t. searched_in_turn options parts first refl c.in_ok-first.ensures.is_made turned s all.cut_limit a b none (not-false c.in_ok-first.first.is_used_up c.if-not-first.false) reported t
     (c.chosen.ensures.counts ∙ ap (λ (o : Option ℕ). last_or (made_under o c.in_ok-first.first) turned.found) (sym none)) c.chosen.ensures.cut)
-    c.in_ok-first.ensures.told c.in_ok-turned.ensures.turned
+    c.in_ok-first.ensures.reported c.in_ok-turned.ensures.turned

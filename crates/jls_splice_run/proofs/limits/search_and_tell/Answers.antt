@@ -4,17 +4,17 @@ use Rattle.jls_io.proofs.Growing.{grew_not}
 use Rattle.jls_diff.proofs.Slices.{count_of_slices}
 use Rattle.jls_diff.specs.PartsOf.{bytes_of, parts_of}
 use Rattle.jls_search.specs.Search.{IsShort}
-use Rattle.jls_splice_run.specs.Telling.{ToldUpTo}
+use Rattle.jls_splice_run.specs.Telling.{ReportedUpTo}
 use Rattle.jls_splice_run.proofs.Rounds.{on_err_anyway}
-use Rattle.jls_splice_run.proofs.Turns.{nothing_told}
+use Rattle.jls_splice_run.proofs.Turns.{nothing_reported}
 use Rattle.jls_splice_run.proofs.limits.search_and_tell.Goals as goal
 
-pub returns-in_err-parts-clause-told_some : goal.returns-in_err-parts-clause-told_some
-returns-in_err-parts-clause-told_some g c =
+pub returns-in_err-parts-clause-reported_some : goal.returns-in_err-parts-clause-reported_some
+returns-in_err-parts-clause-reported_some g c =
     let options = c.args.options in
     let h = g.E.Device.history c.args.faults.now in
-    on_err_anyway _ (GrewBy (ToldUpTo options.tries options.tells) h h)
-    (grew_not (ToldUpTo options.tries options.tells) h (nothing_told options.tries options.tells))
+    on_err_anyway _ (GrewBy (ReportedUpTo options.tries options.tells) h h)
+    (grew_not (ReportedUpTo options.tries options.tells) h (nothing_reported options.tries options.tells))
 
 pub search_all-requires-clause-short : goal.search_all-requires-clause-short
 search_all-requires-clause-short g c =

@@ -4,7 +4,7 @@ use Rattle.jls_io.specs.Event.{GrewBy}
 use Rattle.jls_io.proofs.Growing.{grew_as, grew_not, grew_on}
 use Rattle.jls_diff.specs.PartsOf.{parts_of}
 use Rattle.jls_splice_run.specs.Limits.{made_under}
-use Rattle.jls_splice_run.specs.Telling.{HasTurned, IsTold, ToldSome, ToldUpTo, TookTurns}
+use Rattle.jls_splice_run.specs.Telling.{HasTurned, IsReported, ReportedSome, ReportedUpTo, TookTurns}
 use Rattle.jls_splice_run.proofs.Rounds.{on_err_anyway}
 use Rattle.jls_splice_run.proofs.Turns.{some_before, split_at, took_all, turned_not, turned_on, turned_up_to}
 use Rattle.jls_splice_run.proofs.limits.search_in_turn.Goals as goal
@@ -15,8 +15,8 @@ loop-limit-init g c =
     let options = c.args.options in
     grew_not (HasTurned parts options [] _) (g.E.Device.history c.args.faults.now) (turned_not parts options _ refl refl refl)
 
-pub returns-in_err-searched-clause-told_some : goal.returns-in_err-searched-clause-told_some
-returns-in_err-searched-clause-told_some g c =
+pub returns-in_err-searched-clause-reported_some : goal.returns-in_err-searched-clause-reported_some
+returns-in_err-searched-clause-reported_some g c =
     let history = g.E.Device.history in
     let parts = parts_of c.args.parts.now in
     let options = c.args.options in
@@ -24,10 +24,10 @@ returns-in_err-searched-clause-told_some g c =
     let limits = take c.loop-limit.limit-index c.args.limits.now in
     let h = history c.args.faults.now in
     let h' = history c.search_once.new.faults in
-    on_err_anyway _ (GrewBy (ToldUpTo options.tries options.tells) h h')
-    (grew_on (HasTurned parts options limits turned) (ToldSome turned.tries options.tells) (ToldUpTo options.tries options.tells)
+    on_err_anyway _ (GrewBy (ReportedUpTo options.tries options.tells) h h')
+    (grew_on (HasTurned parts options limits turned) (ReportedSome turned.tries options.tells) (ReportedUpTo options.tries options.tells)
     h (history c.loop-limit.faults) h' (λ a b t some. some_before parts options limits turned a b t some)
-    c.loop-limit.invariant c.in_err-searched.ensures.told_some)
+    c.loop-limit.invariant c.in_err-searched.ensures.reported_some)
 
 pub returns-then-searched-clause-turned : goal.returns-then-searched-clause-turned
 returns-then-searched-clause-turned g c =
@@ -42,11 +42,11 @@ returns-then-searched-clause-turned g c =
     let h = history c.args.faults.now in
     let h' = history c.search_once.new.faults in
     subst (λ (ls : List ℕ). GrewBy (TookTurns parts options ls turned) h h') (split_at all i 0 c.loop-limit-test.true)
-    (grew_on (HasTurned parts options (take i all) turned) (IsTold options.tells s.tries (length s.choices))
+    (grew_on (HasTurned parts options (take i all) turned) (IsReported options.tells s.tries (length s.choices))
     (TookTurns parts options (take i all ++ limit ∷ drop (i + 1) all) turned)
     h (history c.loop-limit.faults) h'
-    (λ a b t told. turned_up_to parts options (take i all) (drop (i + 1) all) turned limit s a b t told refl c.in_ok-searched.ensures.is_made c.if-searched.true)
-    c.loop-limit.invariant c.in_ok-searched.ensures.told)
+    (λ a b t reported. turned_up_to parts options (take i all) (drop (i + 1) all) turned limit s a b t reported refl c.in_ok-searched.ensures.is_made c.if-searched.true)
+    c.loop-limit.invariant c.in_ok-searched.ensures.reported)
 
 pub loop-limit-preserved : goal.loop-limit-preserved
 loop-limit-preserved g c =
@@ -63,11 +63,11 @@ loop-limit-preserved g c =
     let h' = history c.search_once.new.faults in
     let e = c.with_one_more-turned.ensures in
     subst (λ (ls : List ℕ). GrewBy (HasTurned parts options ls new) h h') (sym (take_more all i 0 c.loop-limit-test.true))
-    (grew_on (HasTurned parts options (take i all) old) (IsTold options.tells s.tries (length s.choices))
+    (grew_on (HasTurned parts options (take i all) old) (IsReported options.tells s.tries (length s.choices))
     (HasTurned parts options (take i all ++ limit ∷ []) new)
     h (history c.loop-limit.faults) h'
-    (λ a b t told. turned_on parts options (take i all) old new limit s a b t told refl c.in_ok-searched.ensures.is_made c.if-searched.false e.tries e.whole e.found)
-    c.loop-limit.invariant c.in_ok-searched.ensures.told)
+    (λ a b t reported. turned_on parts options (take i all) old new limit s a b t reported refl c.in_ok-searched.ensures.is_made c.if-searched.false e.tries e.whole e.found)
+    c.loop-limit.invariant c.in_ok-searched.ensures.reported)
 
 pub returns-clause-turned : goal.returns-clause-turned
 returns-clause-turned g c =

@@ -5,13 +5,13 @@ use Rattle.jls_io.specs.Event.{Event}
 use Rattle.jls_io.proofs.Growing.{grew_as, grew_not}
 use Rattle.jls_cli.specs.SpliceAsking.{Asked}
 use Rattle.jls_diff.specs.declared.part.Part.{Part as CodePart}
-use Rattle.jls_search.specs.Choices.{IsPath, front_of}
+use Rattle.jls_search.specs.Choices.{IsPath, prefix_of}
 use Rattle.jls_search.specs.Cuts.{TakesNoCut}
 use Rattle.jls_diff.proofs.Slices.{count_of_slices}
 use Rattle.jls_diff.specs.PartsOf.{bytes_of, parts_of}
 use Rattle.jls_search.specs.Search.{files_of, lists_of}
 use Rattle.jls_search.specs.Found.{IsFound, IsGroupSearch, found_of, splices_in}
-use Rattle.jls_splice_run.specs.Telling.{HasSearched, ToldUpTo}
+use Rattle.jls_splice_run.specs.Telling.{HasSearched, ReportedUpTo}
 use Rattle.jls_splice_run.specs.Copies.{bytes_read}
 use Rattle.jls_splice_run.specs.Making.{AreTextsOf, CantMake, FindsNoCut, HoldsMade, IsCounted, IsCut, IsPictureOf, IsUnsettled, IsWantOfMemory, cut_file, files_taken, made_of, search_of}
 use Rattle.jls_splice_run.specs.Listing.{AreNamedAsked, named_files}
@@ -21,7 +21,7 @@ use Rattle.jls_splice_run.specs.declared.made.FoundInTurn.{FoundInTurn}
 use Rattle.jls_splice_run.specs.declared.options.SearchOptions.{SearchOptions}
 use Rattle.jls_splice_run.specs.declared.outcome.Refusal.{Refusal}
 use Rattle.jls_splice_run.proofs.MakingLemmas.{cut_mapped, found_mapped, mapped_twice, none_mapped}
-use Rattle.jls_splice_run.proofs.Turns.{nothing_told, searched_before}
+use Rattle.jls_splice_run.proofs.Turns.{nothing_reported, searched_before}
 use Rattle.jls_splice_run.proofs.made.make.Goals as goal
 
 -- how the searches of what was asked are made
@@ -46,17 +46,17 @@ returns-in-Err-clause-stopped g c =
     let a = task_of c.args.task.now in
     let want = c.want_of_memory.ensures in
     grew_not (CantMake a (copies_of c.args.copies.now) c.want_of_memory.result) (g.E.Device.history c.args.faults.now)
-    (inl ((want.name, want.cause), nothing_told a.options.tries a.options.progress))
+    (inl ((want.name, want.cause), nothing_reported a.options.tries a.options.progress))
 
 pub returns-in-Err-search-clause-stopped : goal.returns-in-Err-search-clause-stopped
 returns-in-Err-search-clause-stopped g c =
     let a = task_of c.args.task.now in
     let want = c.want_of_memory-in-Err-search.ensures in
-    grew_as (ToldUpTo a.options.tries a.options.progress) (CantMake a (copies_of c.args.copies.now) c.want_of_memory-in-Err-search.result)
+    grew_as (ReportedUpTo a.options.tries a.options.progress) (CantMake a (copies_of c.args.copies.now) c.want_of_memory-in-Err-search.result)
     (g.E.Device.history c.args.faults.now) (g.E.Device.history c.search.new.faults)
-    (λ events told. inl ((want.name, want.cause), told)) c.in-Err-search.ensures.told_some
+    (λ events reported. inl ((want.name, want.cause), reported)) c.in-Err-search.ensures.reported_some
 
--- what the searches told until memory ran out behind them
+-- what the searches reported until memory ran out after them
 searched_in : (a : Asked) (found : FoundInTurn) (copies : List CopyBytes) (r : Refusal) → IsWantOfMemory a r → (events : List Event)
     → Searched a found events → CantMake a copies r events
 searched_in a found copies r want events h =
@@ -103,7 +103,7 @@ returns-in-Err-settle-clause-stopped g c =
     let unsettled = subst (λ (xs : List (List ℕ)). IsUnsettled a copies xs r) splices c.in-Err-settle.ensures.stopped in
     grew_as (Searched a all) (CantMake a copies r)
     (g.E.Device.history c.args.faults.now) (g.E.Device.history c.search.new.faults)
-    (λ events h. inr (h.searches, found.ceiling, found_of found, found.tries, counted_in a (bytes_read copies) all events groups h, is_found, unsettled, h.told))
+    (λ events h. inr (h.searches, found.ceiling, found_of found, found.tries, counted_in a (bytes_read copies) all events groups h, is_found, unsettled, h.reported))
     c.in-Ok-search.ensures.searched
 
 pub returns-clause-stopped : goal.returns-clause-stopped
@@ -126,13 +126,13 @@ returns-in-Ok-texts_of-clause-made g c =
     let taken = c.in-Ok-settle.taken in
     let parts = parts_of found.parts.items in
     let searched : bytes_of c.deref.result.now ≡ copies = ap bytes_of c.deref.ensures.value ∙ c.in-Ok.ensures in
-    let told : bytes_of c.deref-5.result.now ≡ copies = ap bytes_of c.deref-5.ensures.value ∙ c.in-Ok.ensures in
+    let reported : bytes_of c.deref-5.result.now ≡ copies = ap bytes_of c.deref-5.ensures.value ∙ c.in-Ok.ensures in
     let splices : files_of (parts_of c.deref-3.result.now) (lists_of c.deref-4.result.now) ≡ splices_in (found_of found) =
     (λ i. files_of (parts_of (c.deref-3.ensures.value i)) (lists_of (c.deref-4.ensures.value i))) ∙ c.in-Ok-search.ensures.splices in
     let choices = option_map (λ (path : Vec ℕ Global). path.items) taken.cut in
-    let cut : option_map (λ (path : Vec ℕ Global). front_of (parts_of c.deref-3.result.now) path.items) taken.cut ≡ cut_file (found_of found) choices =
-    (λ i. option_map (λ (path : Vec ℕ Global). front_of (parts_of (c.deref-3.ensures.value i)) path.items) taken.cut)
-    ∙ sym (mapped_twice (front_of parts) (λ (path : Vec ℕ Global). path.items) taken.cut) in
+    let cut : option_map (λ (path : Vec ℕ Global). prefix_of (parts_of c.deref-3.result.now) path.items) taken.cut ≡ cut_file (found_of found) choices =
+    (λ i. option_map (λ (path : Vec ℕ Global). prefix_of (parts_of (c.deref-3.ensures.value i)) path.items) taken.cut)
+    ∙ sym (mapped_twice (prefix_of parts) (λ (path : Vec ℕ Global). path.items) taken.cut) in
     let is_found = subst (λ (xs : List (List ℕ)). IsFound found.ceiling xs (found_of found)) searched c.in-Ok-search.ensures.found in
     let groups = subst (λ (n : ℕ). IfSome (found_of found).by_groups (IsGroupSearch a.options.tries n parts))
     (sym (count_of_slices c.deref.result.now) ∙ ap length searched) c.in-Ok-search.ensures.of_groups in
@@ -146,17 +146,17 @@ returns-in-Ok-texts_of-clause-made g c =
         cut_ceiling_is = sym h.cut_is;
         is_lone = found_mapped (IsCut all.cut_limit (found_of found)) c.in-Ok-find_cut.cut c.in-Ok-find_cut.ensures.lone;
         no_lone = none_mapped (FindsNoCut all.cut_limit a.options.tries (found_of found)) c.in-Ok-find_cut.cut c.in-Ok-find_cut.ensures.none;
-        is_cut = cut_mapped (λ path. TakesNoCut copies (splices_in (found_of found)) (front_of parts path)) taken.cut c.in-Ok-find_cut.cut
-            (subst (λ (xs : List (List ℕ)). (taken.cut ≡ c.in-Ok-find_cut.cut) ⊎ ((taken.cut ≡ None) × IfSome c.in-Ok-find_cut.cut (λ path. TakesNoCut copies xs (front_of parts path.items)))) splices
-            (subst (λ (ps : List CodePart). (taken.cut ≡ c.in-Ok-find_cut.cut) ⊎ ((taken.cut ≡ None) × IfSome c.in-Ok-find_cut.cut (λ path. TakesNoCut copies (files_of (parts_of c.deref-3.result.now) (lists_of c.deref-4.result.now)) (front_of (parts_of ps) path.items)))) c.deref-3.ensures.value c.in-Ok-settle.ensures.cut));
+        is_cut = cut_mapped (λ path. TakesNoCut copies (splices_in (found_of found)) (prefix_of parts path)) taken.cut c.in-Ok-find_cut.cut
+            (subst (λ (xs : List (List ℕ)). (taken.cut ≡ c.in-Ok-find_cut.cut) ⊎ ((taken.cut ≡ None) × IfSome c.in-Ok-find_cut.cut (λ path. TakesNoCut copies xs (prefix_of parts path.items)))) splices
+            (subst (λ (ps : List CodePart). (taken.cut ≡ c.in-Ok-find_cut.cut) ⊎ ((taken.cut ≡ None) × IfSome c.in-Ok-find_cut.cut (λ path. TakesNoCut copies (files_of (parts_of c.deref-3.result.now) (lists_of c.deref-4.result.now)) (prefix_of (parts_of ps) path.items)))) c.deref-3.ensures.value c.in-Ok-settle.ensures.cut));
         is_picture = subst (λ (o : Option (List ℕ)). IsPictureOf a.options.source copies (splices_in (found_of found)) o taken.station) cut
             (subst (λ (xs : List (List ℕ)). IsPictureOf a.options.source copies xs
-            (option_map (λ (path : Vec ℕ Global). front_of (parts_of c.deref-3.result.now) path.items) taken.cut) taken.station) splices c.in-Ok-settle.ensures.settled);
+            (option_map (λ (path : Vec ℕ Global). prefix_of (parts_of c.deref-3.result.now) path.items) taken.cut) taken.station) splices c.in-Ok-settle.ensures.settled);
         settled = c.in-Ok-texts_of.ensures.settled;
-        is_single = subst (λ (xs : List (List ℕ)). IsSingleAsked a.options.file (files_taken xs (found_of found)) (option_map (λ (f : Vec ℕ Global). f.items) v.file)) told c.in-Ok-texts_of.ensures.single;
-        are_named = subst (λ (xs : List (List ℕ)). AreNamedAsked a.options.files (files_taken xs (found_of found)) (named_files v.files.items)) told c.in-Ok-texts_of.ensures.named;
+        is_single = subst (λ (xs : List (List ℕ)). IsSingleAsked a.options.file (files_taken xs (found_of found)) (option_map (λ (f : Vec ℕ Global). f.items) v.file)) reported c.in-Ok-texts_of.ensures.single;
+        are_named = subst (λ (xs : List (List ℕ)). AreNamedAsked a.options.files (files_taken xs (found_of found)) (named_files v.files.items)) reported c.in-Ok-texts_of.ensures.named;
       },
-      subst (λ (xs : List (List ℕ)). AreTextsOf a xs (made_of h.searches all c.in-Ok-find_cut.cut taken.cut taken.station v) v) told (c.in-Ok-texts_of.ensures.texts h.searches c.in-Ok-find_cut.cut),
-      h.told,
+      subst (λ (xs : List (List ℕ)). AreTextsOf a xs (made_of h.searches all c.in-Ok-find_cut.cut taken.cut taken.station v) v) reported (c.in-Ok-texts_of.ensures.texts h.searches c.in-Ok-find_cut.cut),
+      h.reported,
     ))
     c.in-Ok-search.ensures.searched

@@ -7,9 +7,9 @@ use Rattle.jls_search.specs.SearchLaws.{AreShort}
 use Rattle.jls_search.specs.Found.{found_of}
 use Rattle.jls_splice_run.specs.Limits.{SearchMade, made_under}
 use Rattle.jls_splice_run.specs.Making.{search_of}
-use Rattle.jls_splice_run.specs.Telling.{HasSearched, ToldUpTo}
+use Rattle.jls_splice_run.specs.Telling.{HasSearched, ReportedUpTo}
 use Rattle.jls_splice_run.proofs.Rounds.{on_err_anyway}
-use Rattle.jls_splice_run.proofs.Turns.{nothing_told, searched_before, searched_made}
+use Rattle.jls_splice_run.proofs.Turns.{nothing_reported, searched_before, searched_made}
 use Rattle.jls_splice_run.proofs.MakingLemmas.{first_is_short}
 use Rattle.jls_splice_run.proofs.made.search.Goals as goal
 
@@ -34,9 +34,9 @@ returns-clause-small g c =
     let short : AreShort copies = c.are_short.ensures.0 c.if-not-are_short.false in
     first_is_short copies (parts_of c.in_ok-more.more.parts.items) c.in_ok-more.ensures.found.are_parts some short
 
-pub returns-then-not-are_short-clause-told_some : goal.returns-then-not-are_short-clause-told_some
-returns-then-not-are_short-clause-told_some g c =
-    grew_not (ToldUpTo c.args.options.tries c.args.options.tells) (g.E.Device.history c.args.faults.now) (nothing_told c.args.options.tries c.args.options.tells)
+pub returns-then-not-are_short-clause-reported_some : goal.returns-then-not-are_short-clause-reported_some
+returns-then-not-are_short-clause-reported_some g c =
+    grew_not (ReportedUpTo c.args.options.tries c.args.options.tells) (g.E.Device.history c.args.faults.now) (nothing_reported c.args.options.tries c.args.options.tells)
 
 pub complete_by_groups-requires-clause-searched : goal.complete_by_groups-requires-clause-searched
 complete_by_groups-requires-clause-searched g c =
@@ -62,15 +62,15 @@ returns-clause-searched g c =
     (subst (λ (s : SearchMade). GrewBy (HasSearched c.args.options (parts_of found.copies.parts.items) s found.cut_limit)
     (g.E.Device.history c.args.faults.now) (g.E.Device.history c.search_and_tell.new.faults)) same c.in_ok-found.ensures.searched)
 
-pub returns-in_err-more-clause-told_some : goal.returns-in_err-more-clause-told_some
-returns-in_err-more-clause-told_some g c =
+pub returns-in_err-more-clause-reported_some : goal.returns-in_err-more-clause-reported_some
+returns-in_err-more-clause-reported_some g c =
     let found = c.in_ok-found.found in
     let options = c.args.options in
     let before = g.E.Device.history c.args.faults.now in
     let now = g.E.Device.history c.search_and_tell.new.faults in
     let parts = parts_of found.copies.parts.items in
     let s = made_under found.copies.ceiling found.copies.searched in
-    on_err_anyway _ (GrewBy (ToldUpTo options.tries options.tells) before now)
-    (grew_as (HasSearched options parts s found.cut_limit) (ToldUpTo options.tries options.tells) before now
+    on_err_anyway _ (GrewBy (ReportedUpTo options.tries options.tells) before now)
+    (grew_as (HasSearched options parts s found.cut_limit) (ReportedUpTo options.tries options.tells) before now
     (λ events h. searched_before options parts s found.cut_limit events h)
     c.in_ok-found.ensures.searched)

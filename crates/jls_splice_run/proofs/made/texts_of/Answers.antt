@@ -12,11 +12,11 @@ use Rattle.jls_partial.specs.Status.{IsSettled}
 use Rattle.jls_partial.specs.Text.{text}
 use Rattle.jls_splice_run.specs.Differences.{differences}
 use Rattle.jls_splice_run.specs.Lines.{found_text, noted_text}
-use Rattle.jls_splice_run.specs.Making.{cut_end, files_told, groups_told, lacks_single, limit_told, promise_of}
+use Rattle.jls_splice_run.specs.Making.{cut_end, files_reported, groups_reported, lacks_single, limit_reported, promise_of}
 use Rattle.jls_splice_run.specs.declared.found.SearchReport.{SearchReport}
 use Rattle.jls_splice_run.specs.Listing.{AreNamedAsked, named_file, named_files}
 use Rattle.jls_splice_run.specs.Single.{IsSingleAsked}
-use Rattle.jls_splice_run.proofs.MakingLemmas.{lacks_maps, mapped_twice, single_maps, told_maps}
+use Rattle.jls_splice_run.proofs.MakingLemmas.{lacks_maps, mapped_twice, single_maps, reported_maps}
 use Rattle.jls_splice_run.proofs.made.texts_of.Goals as goal
 
 pub returns-clause-texts : goal.returns-clause-texts
@@ -34,40 +34,40 @@ returns-clause-texts c = λ searches lone.
     let new : c.in_ok-splices.splices ≡ count_new copies (splices_in (found_of found)) =
     c.in_ok-splices.ensures ∙ (λ i. count_new copies (files_of (parts_of (c.deref-3.ensures.value i)) (lists_of (c.deref-4.ensures.value i))))
     ∙ ap (count_new copies) c.requires.splices in
-    let groups : c.groups_told.result ≡ groups_told (found_of found).by_groups = c.groups_told.ensures (drop found.whole lists) in
+    let groups : c.groups_reported.result ≡ groups_reported (found_of found).by_groups = c.groups_reported.ensures (drop found.whole lists) in
     let before : c.cut_end.result ≡ option_map (cut_end parts limit) (option_map (λ (v : Vec ℕ Global). v.items) cut) =
     c.cut_end.ensures ∙ sym (mapped_twice (cut_end parts limit) (λ (v : Vec ℕ Global). v.items) cut) in
     let lacks : c.lacks_file.result ≡ lacks_single name_asked single =
     c.lacks_file.ensures ∙ sym (lacks_maps (λ (s : Bor (List ℕ)). s.now) (λ (f : Vec ℕ Global). f.items) options.file file) in
     let numbered = c.in_ok-numbered.numbered.items in
-    let files : c.files_told.result ≡ files_told (option_map (λ (s : Bor (List ℕ)). s.now) options.files) (named_files numbered) =
-    c.files_told.ensures ∙ (λ i. files_told options.files (c.deref-5.ensures.value i))
-    ∙ sym (told_maps (λ (s : Bor (List ℕ)). s.now) named_file options.files numbered) in
+    let files : c.files_reported.result ≡ files_reported (option_map (λ (s : Bor (List ℕ)). s.now) options.files) (named_files numbered) =
+    c.files_reported.ensures ∙ (λ i. files_reported options.files (c.deref-5.ensures.value i))
+    ∙ sym (reported_maps (λ (s : Bor (List ℕ)). s.now) named_file options.files numbered) in
     let name = c.args.task.now.out.now in
-    let told : SearchReport = record {
+    let reported : SearchReport = record {
       splices = c.in_ok-splices.splices;
       is_used_up = found.is_used_up;
-      limit = c.limit_told.result;
-      by_groups = c.groups_told.result;
+      limit = c.limit_reported.result;
+      by_groups = c.groups_reported.result;
       before = c.cut_end.result;
-      files = c.files_told.result;
+      files = c.files_reported.result;
       lacks_single_file = c.lacks_file.result;
       promise = c.promise_of.result;
     } in
-    let report : told ≡ record {
+    let report : reported ≡ record {
       splices = count_new copies (splices_in (found_of found));
       is_used_up = found.is_used_up;
-      limit = limit_told options.ceiling found.ceiling;
-      by_groups = groups_told (found_of found).by_groups;
+      limit = limit_reported options.ceiling found.ceiling;
+      by_groups = groups_reported (found_of found).by_groups;
       before = option_map (cut_end parts limit) (option_map (λ (v : Vec ℕ Global). v.items) cut);
-      files = files_told (option_map (λ (s : Bor (List ℕ)). s.now) options.files) (named_files numbered);
+      files = files_reported (option_map (λ (s : Bor (List ℕ)). s.now) options.files) (named_files numbered);
       lacks_single_file = lacks_single name_asked single;
       promise = promise_of found.ceiling (found_of found) c.is_settled-settled.result;
     } =
     λ i. record {
       splices = new i;
       is_used_up = found.is_used_up;
-      limit = c.limit_told.ensures i;
+      limit = c.limit_reported.ensures i;
       by_groups = groups i;
       before = before i;
       files = files i;

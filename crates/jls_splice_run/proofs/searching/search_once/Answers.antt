@@ -4,7 +4,7 @@ use Rattle.jls_diff.specs.PartsOf.{parts_of}
 use Rattle.jls_search.specs.Faultless.{IsSought}
 use Rattle.jls_search.specs.Search.{CameTo, lists_of}
 use Rattle.jls_search.proofs.Walks.{used_up}
-use Rattle.jls_splice_run.specs.Telling.{HasTold, IsTold}
+use Rattle.jls_splice_run.specs.Telling.{HasReported, IsReported}
 use Rattle.jls_splice_run.proofs.searching.search_once.Goals as goal
 
 pub returns-clause-is_made : goal.returns-clause-is_made
@@ -27,21 +27,21 @@ returns-clause-is_made g c =
         tries_are = sym same.tries;
         found_are = ap (λ (v : Vec (Vec ℕ Global) Global). lists_of v.items) (sym same.splices);
       };
-      within = let e = same.tries in let within = c.in_ok-walk.ensures.told.they_are.within in omega (arith, e, within);
+      within = let e = same.tries in let within = c.in_ok-walk.ensures.reported.they_are.within in omega (arith, e, within);
       used_up = λ yes.
-          elim (used_up walk options.tries c.in_ok-walk.ensures.stops c.in_ok-walk.ensures.told.they_are.within c.in_ok-walk.ensures.stands.1 (sym same.used_up ∙ yes)) [
+          elim (used_up walk options.tries c.in_ok-walk.ensures.stops c.in_ok-walk.ensures.reported.they_are.within c.in_ok-walk.ensures.stands.1 (sym same.used_up ∙ yes)) [
             | inl all ↦ inl (same.tries ∙ all)
             | inr full ↦ inr (ap (λ (v : Vec (Vec ℕ Global) Global). length (lists_of v.items)) same.splices ∙ full)
           ];
     }
 
-pub returns-clause-told : goal.returns-clause-told
-returns-clause-told g c =
+pub returns-clause-reported : goal.returns-clause-reported
+returns-clause-reported g c =
     let walk = c.in_ok-walk.walk in
     let options = c.args.options in
     let same = c.into_searched.ensures in
     let searched = c.into_searched.result in
-    grew_as (HasTold options walk) (IsTold options.tells searched.tries (length (lists_of searched.splices.items)))
+    grew_as (HasReported options walk) (IsReported options.tells searched.tries (length (lists_of searched.splices.items)))
     (g.E.Device.history c.args.faults.now) (g.E.Device.history c.search_parts.new.faults)
-    (λ events h. subst (λ n. IsTold options.tells n (length (lists_of searched.splices.items)) events) (sym same.tries)
-    (subst (λ (v : Vec (Vec ℕ Global) Global). IsTold options.tells walk.tries (length (lists_of v.items)) events) (sym same.splices) h.told)) c.in_ok-walk.ensures.told
+    (λ events h. subst (λ n. IsReported options.tells n (length (lists_of searched.splices.items)) events) (sym same.tries)
+    (subst (λ (v : Vec (Vec ℕ Global) Global). IsReported options.tells walk.tries (length (lists_of v.items)) events) (sym same.splices) h.reported)) c.in_ok-walk.ensures.reported

@@ -2,7 +2,7 @@ use Rattle.std.proofs.Common.{◌≡◌, ◌-◌}
 use Rattle.jls_io.specs.Event.{GrewBy}
 use Rattle.jls_diff.specs.PartsOf.{parts_of}
 use Rattle.jls_search.specs.Search.{IsSearch}
-use Rattle.jls_splice_run.specs.Telling.{HasTold, WasBegun}
+use Rattle.jls_splice_run.specs.Telling.{HasReported, WasBegun}
 use Rattle.jls_splice_run.proofs.searching.search_parts.Given as goal
 
 abbrev pub invariant-loop-alloc : goal.invariant-loop-alloc
@@ -12,7 +12,7 @@ invariant-loop-alloc g l =
       stands : IsSearch (parts_of l.parts) l.walk;
       ceiling : l.walk.judge.ceiling ≡ l.options.ceiling;
       tried : WasBegun l.options.ceiling (parts_of l.parts) l.walk;
-      told : GrewBy (HasTold l.options l.walk) (history l.fn.faults) (history l.faults);
+      reported : GrewBy (HasReported l.options l.walk) (history l.fn.faults) (history l.faults);
     }
 
 abbrev pub decreases-loop-alloc : goal.decreases-loop-alloc

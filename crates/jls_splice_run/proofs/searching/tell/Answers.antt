@@ -8,15 +8,15 @@ use Rattle.jls_splice_run.specs.Telling.{TellsLine}
 use Rattle.jls_splice_run.proofs.Rounds.{length-map}
 use Rattle.jls_splice_run.proofs.searching.tell.Goals as goal
 
-pub returns-then-not-tells-clause-told : goal.returns-then-not-tells-clause-told
-returns-then-not-tells-clause-told g c =
+pub returns-then-not-tells-clause-reported : goal.returns-then-not-tells-clause-reported
+returns-then-not-tells-clause-reported g c =
     let history = g.E.Device.history in
     let walk = c.args.walk.now in
     grew_not (TellsLine c.args.options.tells walk.tries (length (lists_of walk.splices.items))) (history c.args.faults.now)
     (subst (λ (tells : Bool). TellsLine tells walk.tries (length (lists_of walk.splices.items)) []) (sym c.if-not-tells.true) refl)
 
-pub returns-clause-told : goal.returns-clause-told
-returns-clause-told g c =
+pub returns-clause-reported : goal.returns-clause-reported
+returns-clause-reported g c =
     let history = g.E.Device.history in
     let walk = c.args.walk.now in
     let files = length (lists_of walk.splices.items) in

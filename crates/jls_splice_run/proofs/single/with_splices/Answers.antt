@@ -1,7 +1,7 @@
 use Rattle.std.proofs.Common.{◌≡◌, ℕ, List, [], ◌∷◌, ◌++◌, Vec, Global, take, sym, ap, ◌∙◌, subst, append_assoc, arith}
 use Rattle.std.proofs.lemmas.List.{take_all}
 use Rattle.jls_diff.specs.PartsOf.{parts_of}
-use Rattle.jls_search.specs.Choices.{IsPath, front_of}
+use Rattle.jls_search.specs.Choices.{IsPath, prefix_of}
 use Rattle.jls_search.specs.Search.{files_of, lists_of}
 use Rattle.jls_search.proofs.Members.{splices_one_more, whole_at}
 use Rattle.jls_splice_run.specs.Single.{AreSeenSo}
@@ -22,7 +22,7 @@ loop-choices-preserved c = λ files seen.
     let v = c.choices-item.result in
     let bytes : List ℕ = c.deref-in-loop-choices.result.now in
     let before = files_of ps (lists_of (take i vs)) in
-    let made : bytes ≡ front_of ps v.items = c.deref-in-loop-choices.ensures.value ∙ c.in_ok-file.ensures ∙ ap (front_of ps) c.deref.ensures.value in
+    let made : bytes ≡ prefix_of ps v.items = c.deref-in-loop-choices.ensures.value ∙ c.in_ok-file.ensures ∙ ap (prefix_of ps) c.deref.ensures.value in
     subst (λ (xs : List (List ℕ)). AreSeenSo xs c.in_ok-faultless.faultless)
     (append_assoc files before (bytes ∷ []) ∙ ap (λ (z : List ℕ). files ++ (before ++ z ∷ [])) made
     ∙ ap (λ (z : List (List ℕ)). files ++ z) (sym (splices_one_more ps vs i v c.loop-choices-test.true c.choices-item.is)))

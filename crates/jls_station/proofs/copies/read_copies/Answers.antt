@@ -1,7 +1,7 @@
 use Rattle.std.proofs.Common.{◌<◌, ◌+◌, [], length, map, take, drop, get_or, List, ℕ, arith}
 use Rattle.std.specs.Borrow.{Bor}
 use Rattle.jls_io.proofs.Growing.{grew_as}
-use Rattle.jls_station.specs.CopyFiles.{IsCopyRead, StopsAtCopy, behind_the_last, copies_of, copy_of}
+use Rattle.jls_station.specs.CopyFiles.{IsCopyRead, StopsAtCopy, after_the_last, copies_of, copy_of}
 use Rattle.jls_station.specs.declared.copy.CopyCause.TheVariants as cause
 use Rattle.jls_station.specs.declared.copy.CopyRefusal.{CopyRefusal}
 use Rattle.jls_station.proofs.CopiesInTurn.{name_of, names_split, reads_on, stops_next}
@@ -32,7 +32,7 @@ returns-in-Err-push-clause-stopped g c =
     let copy = copy_of c.in-Ok.copy in
     stops_next (map name_of (take i names)) (copies_of c.loop-name.copies.items) (history c.args.desk.now) (history c.loop-name.desk) (history c.open_and_read_copy.new.desk) c.loop-name.invariant
     (map name_of names) (map name_of (drop (i + 1) names)) refusal (names_split names i none within)
-    (grew_as (IsCopyRead name copy) (StopsAtCopy name cause.OutOfMemory) (history c.loop-name.desk) (history c.open_and_read_copy.new.desk) (behind_the_last name copy) c.in-Ok.ensures.read)
+    (grew_as (IsCopyRead name copy) (StopsAtCopy name cause.OutOfMemory) (history c.loop-name.desk) (history c.open_and_read_copy.new.desk) (after_the_last name copy) c.in-Ok.ensures.read)
 
 pub loop-name-preserved : goal.loop-name-preserved
 loop-name-preserved g c =

@@ -12,12 +12,12 @@ use Rattle.jls_station.proofs.Mapped.{error_at, value_at}
 use Rattle.jls_station.proofs.KnownInputs.{none_read, empty_refused, text_counted}
 use Rattle.jls_station.proofs.OneInput.{nothing_read, one_read_more, read_to_end, read_to_failure, refused_for, empty_gives_none, empty_goes_on}
 use Rattle.jls_station.proofs.input.read_form.Given.{Over}
-use Rattle.jls_station.proofs.input.read_form.Goals.{After-front-first}
+use Rattle.jls_station.proofs.input.read_form.Goals.{After-prefix-first}
 use Rattle.jls_station.proofs.input.read_form.Goals as goal
 
 -- the first read gave some bytes, if none are not enough
-first_gave : (g : Over) (c : After-front-first g) (E : List ℕ → Type 0) → (E [] → ⊥)
-    → GrewBy (ReadSoFar E 1 c.front-first.result.now) (g.S.Device.history c.args.device.now) (g.S.Device.history c.read_some.new.self)
+first_gave : (g : Over) (c : After-prefix-first g) (E : List ℕ → Type 0) → (E [] → ⊥)
+    → GrewBy (ReadSoFar E 1 c.prefix-first.result.now) (g.S.Device.history c.args.device.now) (g.S.Device.history c.read_some.new.self)
 first_gave g c E not =
     let old = g.S.Device.history c.args.device.now in
     let new = g.S.Device.history c.read_some.new.self in
@@ -27,9 +27,9 @@ first_gave g c E not =
     let within = IfOk-at_ok _ was c.read_some.ensures.within in
     let room : length c.read_some.new.into ≡ 4096 = search rules in
     let some : 0 < length given = omega (arith, length-take c.in_ok-count.count c.read_some.new.into, within, c.if-count-eq0.false) in
-    subst (λ (t : List ℕ). GrewBy (ReadSoFar E 1 t) old new) (sym c.front-first.ensures.front)
+    subst (λ (t : List ℕ). GrewBy (ReadSoFar E 1 t) old new) (sym c.prefix-first.ensures.prefix)
     (one_read_more E 0 old old new [] 4096 given (nothing_read E 0 old old old []) (rw room at read) not (omega arith) some
-    (subst AreBytes c.front-first.ensures.front c.front-first.ensures.bytes))
+    (subst AreBytes c.prefix-first.ensures.prefix c.prefix-first.ensures.bytes))
 
 pub returns-in_err-count-clause-refused : goal.returns-in_err-count-clause-refused
 returns-in_err-count-clause-refused g c =
@@ -57,31 +57,31 @@ returns-then-count-eq0-clause-refused g c =
 pub returns-in_ok-read_text-clause-form : goal.returns-in_ok-read_text-clause-form
 returns-in_ok-read_text-clause-form g c =
     let all = c.in_ok-read_text.ensures.read _
-    (first_gave g (goal.at.returns-in_ok-read_text-clause-form g c).After-front-first IsEnough (λ e. empty_goes_on c.copies_have_one_course.ensures e.1)) in
+    (first_gave g (goal.at.returns-in_ok-read_text-clause-form g c).After-prefix-first IsEnough (λ e. empty_goes_on c.copies_have_one_course.ensures e.1)) in
     record { events = all.events; grew = all.grew; they_are = (all.they_are, c.in_ok-read_text.ensures.text) }
 
 pub returns-in_err-read_text-clause-refused : goal.returns-in_err-read_text-clause-refused
 returns-in_err-read_text-clause-refused g c =
     let p = err_from_is_err_and c.from_residual-in_err-read_text.result c.from_residual-in_err-read_text.ensures.1 in
     rw (p.1, p.2) (c.in_err-read_text.ensures.refused _
-    (first_gave g (goal.at.returns-in_err-read_text-clause-refused g c).After-front-first IsEnough (λ e. empty_goes_on c.copies_have_one_course.ensures e.1)))
+    (first_gave g (goal.at.returns-in_err-read_text-clause-refused g c).After-prefix-first IsEnough (λ e. empty_goes_on c.copies_have_one_course.ensures e.1)))
 
 pub returns-in_ok-read-clause-form : goal.returns-in_ok-read-clause-form
 returns-in_ok-read-clause-form g c =
-    c.in_ok-read.ensures.given _ (first_gave g (goal.at.returns-in_ok-read-clause-form g c).After-front-first IsCopyDone (empty_goes_on c.copies_have_one_course.ensures))
+    c.in_ok-read.ensures.given _ (first_gave g (goal.at.returns-in_ok-read-clause-form g c).After-prefix-first IsCopyDone (empty_goes_on c.copies_have_one_course.ensures))
 
 pub returns-in_err-read-clause-refused : goal.returns-in_err-read-clause-refused
 returns-in_err-read-clause-refused g c =
     let p = err_from_is_err_and c.from_residual-in_err-read.result c.from_residual-in_err-read.ensures.1 in
-    rw (p.1, p.2) (c.in_err-read.ensures.refused _ (first_gave g (goal.at.returns-in_err-read-clause-refused g c).After-front-first IsCopyDone (empty_goes_on c.copies_have_one_course.ensures)))
+    rw (p.1, p.2) (c.in_err-read.ensures.refused _ (first_gave g (goal.at.returns-in_err-read-clause-refused g c).After-prefix-first IsCopyDone (empty_goes_on c.copies_have_one_course.ensures)))
 
 -- the first read took what it gave from the known bytes
-first_taken : (g : Over) (c : After-front-first g)
-    → Consumes (g.S.Source.remaining c.args.device.now) (g.S.Source.remaining c.read_some.new.self) c.front-first.result.now
+first_taken : (g : Over) (c : After-prefix-first g)
+    → Consumes (g.S.Source.remaining c.args.device.now) (g.S.Source.remaining c.read_some.new.self) c.prefix-first.result.now
 first_taken g c =
     let was = value_at _ c.read_some.result c.map_err.result c.in_ok-count.count c.map_err.ensures.cases c.in_ok-count.was in
     subst (λ (t : List ℕ). Consumes (g.S.Source.remaining c.args.device.now) (g.S.Source.remaining c.read_some.new.self) t)
-    (sym c.front-first.ensures.front) (MatchResult-at_ok _ _ _ was c.read_some.ensures.bytes).0
+    (sym c.prefix-first.ensures.prefix) (MatchResult-at_ok _ _ _ was c.read_some.ensures.bytes).0
 
 pub returns-in_err-count-clause-known_refused : goal.returns-in_err-count-clause-known_refused
 returns-in_err-count-clause-known_refused g c =
@@ -102,16 +102,16 @@ returns-then-count-eq0-clause-known_refused g c =
 pub returns-in_err-read_text-clause-known_refused : goal.returns-in_err-read_text-clause-known_refused
 returns-in_err-read_text-clause-known_refused g c =
     let p = err_from_is_err_and c.from_residual-in_err-read_text.result c.from_residual-in_err-read_text.ensures.1 in
-    rw (p.1, p.2) (c.in_err-read_text.ensures.known_refused _ (first_taken g (goal.at.returns-in_err-read_text-clause-known_refused g c).After-front-first))
+    rw (p.1, p.2) (c.in_err-read_text.ensures.known_refused _ (first_taken g (goal.at.returns-in_err-read_text-clause-known_refused g c).After-prefix-first))
 
 pub returns-in_err-read-clause-known_refused : goal.returns-in_err-read-clause-known_refused
 returns-in_err-read-clause-known_refused g c =
     let p = err_from_is_err_and c.from_residual-in_err-read.result c.from_residual-in_err-read.ensures.1 in
-    rw (p.1, p.2) (c.in_err-read.ensures.known_refused _ (first_taken g (goal.at.returns-in_err-read-clause-known_refused g c).After-front-first))
+    rw (p.1, p.2) (c.in_err-read.ensures.known_refused _ (first_taken g (goal.at.returns-in_err-read-clause-known_refused g c).After-prefix-first))
 
 pub returns-in_ok-read_text-clause-known_count : goal.returns-in_ok-read_text-clause-known_count
 returns-in_ok-read_text-clause-known_count g c = text_counted (g.S.Source.remaining c.args.device.now)
 
 pub returns-in_ok-read-clause-known_count : goal.returns-in_ok-read-clause-known_count
 returns-in_ok-read-clause-known_count g c =
-    c.in_ok-read.ensures.known_count _ (first_taken g (goal.at.returns-in_ok-read-clause-known_count g c).After-front-first)
+    c.in_ok-read.ensures.known_count _ (first_taken g (goal.at.returns-in_ok-read-clause-known_count g c).After-prefix-first)

@@ -5,10 +5,10 @@ use Rattle.std.proofs.lemmas.List.{length-take}
 use Rattle.jls_copy.specs.ReadCopy.{after}
 use Rattle.jls_io.specs.Event.{GrewBy}
 use Rattle.jls_station.specs.Inputs.{IsCopyDone}
-use Rattle.jls_station.specs.KnownCopies.{IsFrontOf}
+use Rattle.jls_station.specs.KnownCopies.{IsPrefixOf}
 use Rattle.jls_station.specs.Reading.{AreBytes, IsRead, IsReadInPart}
 use Rattle.jls_station.specs.declared.input.ReadStop.TheVariants.{Whole, Failed}
-use Rattle.jls_station.proofs.CopySteps.{of_reader, goes_on, copy_more, front_of, consumes_no_more}
+use Rattle.jls_station.proofs.CopySteps.{of_reader, goes_on, copy_more, prefix_of, consumes_no_more}
 use Rattle.jls_station.proofs.OneInput.{on_error, one_read_more, read_to_end, read_to_failure, read_in_part}
 use Rattle.jls_station.proofs.reading.read_copy_on.Goals as goal
 
@@ -40,7 +40,7 @@ returns-in_err-feed-clause-refused g c before fed was h =
     (read_in_part IsCopyDone (c.loop.counter + 1) before (history c.read_some.new.self) (history c.read_some.new.self) (i.bytes ++ take c.in-Ok.n c.read_some.new.into)
     (one_read_more IsCopyDone c.loop.counter before (history c.loop.device) (history c.read_some.new.self) i.bytes 4096 (take c.in-Ok.n c.read_some.new.into)
     (i.so_far before fed was h) (rw room at c.in-Ok.ensures.read) (goes_on c.is_enough.result c.loop.reader i.bytes i.is c.is_enough.ensures c.if-is_enough.false) (omega arith) some
-    (subst AreBytes c.front.ensures.front c.front.ensures.bytes)) (omega arith))
+    (subst AreBytes c.prefix.ensures.prefix c.prefix.ensures.bytes)) (omega arith))
 
 pub loop-preserved : goal.loop-preserved
 loop-preserved g c =
@@ -51,16 +51,16 @@ loop-preserved g c =
     let n = length-take c.in-Ok.n c.read_some.new.into in
     let some : 0 < length (take c.in-Ok.n c.read_some.new.into) = omega (arith, n, c.in-Ok.ensures.within, c.if-n-eq0.false) in
     copy_more c.args.reader.now c.loop.reader c.feed.new.self c.args.made c.loop.counter (history c.args.device.now) (history c.loop.device) (history c.read_some.new.self)
-    4096 (take c.in-Ok.n c.read_some.new.into) (remaining c.args.device.now) (remaining c.loop.device) (remaining c.read_some.new.self) i (c.in_ok-feed.ensures.ok ∙ ap (λ (t : List ℕ). after c.loop.reader t) c.front.ensures.front) (rw room at c.in-Ok.ensures.read)
+    4096 (take c.in-Ok.n c.read_some.new.into) (remaining c.args.device.now) (remaining c.loop.device) (remaining c.read_some.new.self) i (c.in_ok-feed.ensures.ok ∙ ap (λ (t : List ℕ). after c.loop.reader t) c.prefix.ensures.prefix) (rw room at c.in-Ok.ensures.read)
     (goes_on c.is_enough.result c.loop.reader i.bytes i.is c.is_enough.ensures c.if-is_enough.false) (omega arith) some (omega (arith, n, room))
-    (subst AreBytes c.front.ensures.front c.front.ensures.bytes) c.in-Ok.ensures.bytes.0
+    (subst AreBytes c.prefix.ensures.prefix c.prefix.ensures.bytes) c.in-Ok.ensures.bytes.0
 
 pub returns-in-Err-clause-known : goal.returns-in-Err-clause-known
 returns-in-Err-clause-known g c before fed was h =
     let remaining = g.S.Source.remaining in
     let i = c.loop.invariant in
-    of_reader (λ front. IfSome before (λ bytes. IsFrontOf bytes front Failed)) c.loop.reader i.bytes i.is
-    (front_of before (remaining c.loop.device) i.bytes Failed (i.known before fed was h) (λ t. absurd cc))
+    of_reader (λ prefix. IfSome before (λ bytes. IsPrefixOf bytes prefix Failed)) c.loop.reader i.bytes i.is
+    (prefix_of before (remaining c.loop.device) i.bytes Failed (i.known before fed was h) (λ t. absurd cc))
 
 pub returns-then-n-eq0-clause-known : goal.returns-then-n-eq0-clause-known
 returns-then-n-eq0-clause-known g c before fed was h =
@@ -71,6 +71,6 @@ returns-then-n-eq0-clause-known g c before fed was h =
     let consumed : Consumes (remaining c.loop.device) (remaining c.read_some.new.self) [] =
     subst (λ (t : List ℕ). Consumes (remaining c.loop.device) (remaining c.read_some.new.self) t) none c.in-Ok.ensures.bytes.0 in
     let end = c.in-Ok.ensures.bytes.1 c.if-n-eq0.true (omega (arith, room)) in
-    of_reader (λ front. IfSome before (λ bytes. IsFrontOf bytes front Whole)) c.loop.reader i.bytes i.is
-    (front_of before (remaining c.read_some.new.self) i.bytes Whole
+    of_reader (λ prefix. IfSome before (λ bytes. IsPrefixOf bytes prefix Whole)) c.loop.reader i.bytes i.is
+    (prefix_of before (remaining c.read_some.new.self) i.bytes Whole
     (consumes_no_more before (remaining c.loop.device) (remaining c.read_some.new.self) i.bytes (i.known before fed was h) consumed) (λ _. inr end))

@@ -25,7 +25,7 @@ returns-in_err-extend_from_slice-clause-refused g c before h =
     (read_in_part IsEnough (c.loop.counter + 1) before (history c.read_some.new.self) (history c.read_some.new.self) (c.loop.bytes.items ++ take c.in-Ok.n c.read_some.new.into)
     (one_read_more IsEnough c.loop.counter before (history c.loop.device) (history c.read_some.new.self) c.loop.bytes.items 4096 (take c.in-Ok.n c.read_some.new.into)
     (c.loop.invariant.so_far before h) (rw room at c.in-Ok.ensures.read) (never_enough c.loop.bytes.items c.loop.invariant.text) (omega arith) some
-    (subst AreBytes c.front.ensures.front c.front.ensures.bytes)) (omega arith))
+    (subst AreBytes c.prefix.ensures.prefix c.prefix.ensures.bytes)) (omega arith))
 
 pub loop-preserved : goal.loop-preserved
 loop-preserved g c =
@@ -34,13 +34,13 @@ loop-preserved g c =
     let room : length c.read_some.new.into ≡ 4096 = search rules in
     let some : 0 < length (take c.in-Ok.n c.read_some.new.into) = omega (arith, length-take c.in-Ok.n c.read_some.new.into, c.in-Ok.ensures.within, c.if-n-eq0.false) in
     let more : c.loop.bytes.items ++ take c.in-Ok.n c.read_some.new.into ≡ c.extend_from_slice.new.self.items =
-    ap (λ (t : List ℕ). c.loop.bytes.items ++ t) (sym c.front.ensures.front) ∙ sym c.in_ok-extend_from_slice.ensures.items in
+    ap (λ (t : List ℕ). c.loop.bytes.items ++ t) (sym c.prefix.ensures.prefix) ∙ sym c.in_ok-extend_from_slice.ensures.items in
     record {
       text = subst (λ (t : List ℕ). is_text t ≡ true) more (still_text c.loop.bytes.items (take c.in-Ok.n c.read_some.new.into) c.loop.invariant.text);
       so_far = λ before h. subst (λ (t : List ℕ). GrewBy (ReadSoFar IsEnough (c.loop.counter + 1) t) before (history c.read_some.new.self)) more
           (one_read_more IsEnough c.loop.counter before (history c.loop.device) (history c.read_some.new.self) c.loop.bytes.items 4096 (take c.in-Ok.n c.read_some.new.into)
           (c.loop.invariant.so_far before h) (rw room at c.in-Ok.ensures.read) (never_enough c.loop.bytes.items c.loop.invariant.text) (omega arith) some
-          (subst AreBytes c.front.ensures.front c.front.ensures.bytes));
+          (subst AreBytes c.prefix.ensures.prefix c.prefix.ensures.bytes));
       known = λ before h. subst (λ (t : List ℕ). Consumes before (remaining c.read_some.new.self) t) more
           (consumes_on before (remaining c.loop.device) (remaining c.read_some.new.self) c.loop.bytes.items (take c.in-Ok.n c.read_some.new.into)
           (c.loop.invariant.known before h) c.in-Ok.ensures.bytes.0);

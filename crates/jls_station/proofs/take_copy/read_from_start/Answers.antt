@@ -58,25 +58,25 @@ pub returns-clause-known : goal.returns-clause-known
 returns-clause-known g c =
     let before = g.S.Source.remaining c.args.device.now in
     let was = value_at _ c.read_copy_on.result c.map_err.result c.in_ok-stop.stop c.map_err.ensures.cases c.in_ok-stop.was in
-    let front = IfOk-at_ok _ was (c.read_copy_on.ensures.known before [] c.new-reader.ensures (consumes_nothing before)) in
+    let prefix = IfOk-at_ok _ was (c.read_copy_on.ensures.known before [] c.new-reader.ensures (consumes_nothing before)) in
     value_so _ c.read_of_copy.result c.map_err-2.result _ _
-    (λ given h. known_copy_gives c.args.source c.in_ok-stop.stop before c.read_copy_on.new.reader given.partial given.report front h)
+    (λ given h. known_copy_gives c.args.source c.in_ok-stop.stop before c.read_copy_on.new.reader given.partial given.report prefix h)
     c.map_err-2.ensures.cases c.read_of_copy.ensures.given
 
 pub returns-clause-known_refused : goal.returns-clause-known_refused
 returns-clause-known_refused g c held =
     let before = g.S.Source.remaining c.args.device.now in
     let was = value_at _ c.read_copy_on.result c.map_err.result c.in_ok-stop.stop c.map_err.ensures.cases c.in_ok-stop.was in
-    let front = IfOk-at_ok _ was (c.read_copy_on.ensures.known before [] c.new-reader.ensures (consumes_nothing before)) in
+    let prefix = IfOk-at_ok _ was (c.read_copy_on.ensures.known before [] c.new-reader.ensures (consumes_nothing before)) in
     error_as _ c.read_of_copy.result c.map_err-2.result _ _
-    (λ fault taken made h. known_copy_stops c.args.source held c.in_ok-stop.stop before c.read_copy_on.new.reader fault taken front h (search rules))
+    (λ fault taken made h. known_copy_stops c.args.source held c.in_ok-stop.stop before c.read_copy_on.new.reader fault taken prefix h (search rules))
     c.map_err-2.ensures.cases c.read_of_copy.ensures.refused
 
 pub returns-clause-known_count : goal.returns-clause-known_count
 returns-clause-known_count g c =
     let before = g.S.Source.remaining c.args.device.now in
     let was = value_at _ c.read_copy_on.result c.map_err.result c.in_ok-stop.stop c.map_err.ensures.cases c.in_ok-stop.was in
-    let front = IfOk-at_ok _ was (c.read_copy_on.ensures.known before [] c.new-reader.ensures (consumes_nothing before)) in
+    let prefix = IfOk-at_ok _ was (c.read_copy_on.ensures.known before [] c.new-reader.ensures (consumes_nothing before)) in
     value_so _ c.read_of_copy.result c.map_err-2.result _ _
-    (λ given h. known_copy_count c.args.source c.in_ok-stop.stop before c.read_copy_on.new.reader given.partial given.report front h)
+    (λ given h. known_copy_count c.args.source c.in_ok-stop.stop before c.read_copy_on.new.reader given.partial given.report prefix h)
     c.map_err-2.ensures.cases c.read_of_copy.ensures.given

@@ -1,7 +1,7 @@
 use Rattle.std.proofs.Common.{◌≡◌, ◌++◌, ◌∙◌, List, ℕ, [], ap, sym, subst, arith}
 use Rattle.std.proofs.lemmas.List.{append-nil}
 use Rattle.std.proofs.lemmas.Result.{on_ok_weaker}
-use Rattle.jls_write.specs.Outcomes.{HandedOut, HandedFront, StoppedBy}
+use Rattle.jls_write.specs.Outcomes.{HandedOut, HandedPrefix, StoppedBy}
 use Rattle.jls_write.specs.Pnm.{pnm_header, raster, pnm}
 use Rattle.jls_write.proofs.Handing.{handed_on, stopped_on, if_err_weaker}
 use Rattle.jls_write.proofs.pnm.write_pnm.Goals as goal
@@ -20,8 +20,8 @@ returns-clause-all g c =
     (handed_on (history c.args.sink.now) (history c.write_raster.new.sink) (history c.hand_out.new.sink) (contents c.args.sink.now) (contents c.write_raster.new.sink) (contents c.hand_out.new.sink)
     put.out waits put.handed rest)) c.hand_out.ensures.all
 
-pub returns-clause-front : goal.returns-clause-front
-returns-clause-front g c =
+pub returns-clause-prefix : goal.returns-clause-prefix
+returns-clause-prefix g c =
     let history = g.W.Device.history in
     let contents = g.W.Sink.contents in
     let pic = c.args.picture.now in
@@ -33,7 +33,7 @@ returns-clause-front g c =
     let header_is : c.of-waiting.result.bytes.items ≡ pnm_header pic.shape = c.of-waiting.ensures.items ∙ c.deref.ensures.0 ∙ c.pnm_header.ensures ∙ ap pnm_header c.shape.ensures in
     let all_is : pnm pic ≡ put.out ++ waits ++ [] = sym (append-nil (put.out ++ waits) ∙ sym put.all ∙ ap (λ (t : List ℕ). t ++ raster pic) header_is) in
     if_err_weaker c.hand_out.result
-    (λ fault. StoppedBy fault gone (HandedFront (history c.write_raster.new.sink) (history c.hand_out.new.sink) (contents c.write_raster.new.sink) (contents c.hand_out.new.sink) waits))
-    (λ fault. StoppedBy fault 0 (HandedFront (history c.args.sink.now) (history c.hand_out.new.sink) (contents c.args.sink.now) (contents c.hand_out.new.sink) (pnm pic)))
+    (λ fault. StoppedBy fault gone (HandedPrefix (history c.write_raster.new.sink) (history c.hand_out.new.sink) (contents c.write_raster.new.sink) (contents c.hand_out.new.sink) waits))
+    (λ fault. StoppedBy fault 0 (HandedPrefix (history c.args.sink.now) (history c.hand_out.new.sink) (contents c.args.sink.now) (contents c.hand_out.new.sink) (pnm pic)))
     (λ fault stopped. stopped_on (history c.args.sink.now) (history c.write_raster.new.sink) (history c.hand_out.new.sink) (contents c.args.sink.now) (contents c.write_raster.new.sink) (contents c.hand_out.new.sink)
-    fault 0 gone put.out waits [] (pnm pic) (omega (arith, counted, begun)) all_is put.handed stopped) c.hand_out.ensures.front
+    fault 0 gone put.out waits [] (pnm pic) (omega (arith, counted, begun)) all_is put.handed stopped) c.hand_out.ensures.prefix

@@ -3,8 +3,8 @@ use Rattle.std.specs.List.{flat_map, range_with_len}
 use Rattle.std.proofs.lemmas.Result.{err_from_is_err_and}
 use Rattle.jls_values.specs.Shape.{PictureShape}
 use Rattle.jls_write.specs.Pnm.{row_bytes, raster}
-use Rattle.jls_write.specs.Waiting.{PutBehind}
-use Rattle.jls_write.proofs.Handing.{put_on, stopped_behind, gone_at_most}
+use Rattle.jls_write.specs.Waiting.{PutAfter}
+use Rattle.jls_write.proofs.Handing.{put_on, stopped_after, gone_at_most}
 use Rattle.jls_write.proofs.OneMore.{flat_map_more, flat_map_one, three_parts, length-flat_map-le}
 use Rattle.jls_write.proofs.Sizes.{row_at_most}
 use Rattle.jls_write.proofs.pnm.write_raster.Goals as goal
@@ -23,8 +23,8 @@ write_row-requires-clause-early g c =
     c.args.waiting.now.bytes.items c.args.waiting.now.gone c.loop-row.waiting.bytes.items c.loop-row.waiting.gone (flat_map (row_bytes pic) (range_with_len 0 c.loop-row.row)) c.loop-row.invariant.put in
     omega (arith, so_far, gone, low, height_is, c.loop-row-test.true, c.requires.begun, c.requires.few)
 
-pub returns-in_err-write_row-clause-front : goal.returns-in_err-write_row-clause-front
-returns-in_err-write_row-clause-front g c =
+pub returns-in_err-write_row-clause-prefix : goal.returns-in_err-write_row-clause-prefix
+returns-in_err-write_row-clause-prefix g c =
     let history = g.W.Device.history in
     let contents = g.W.Sink.contents in
     let pic = c.args.picture.now in
@@ -33,10 +33,10 @@ returns-in_err-write_row-clause-front g c =
     let low : row ≤ row + 1 = omega arith in
     let high : row + 1 ≤ pic.shape.height = omega (arith, height_is, c.loop-row-test.true) in
     let p = err_from_is_err_and c.from_residual.result c.from_residual.ensures.1 in
-    rw (p.1, p.2) (stopped_behind (history c.args.sink.now) (history c.loop-row.sink) (history c.write_row.new.sink) (contents c.args.sink.now) (contents c.loop-row.sink) (contents c.write_row.new.sink)
+    rw (p.1, p.2) (stopped_after (history c.args.sink.now) (history c.loop-row.sink) (history c.write_row.new.sink) (contents c.args.sink.now) (contents c.loop-row.sink) (contents c.write_row.new.sink)
     c.in_err-write_row.field-0.0 c.args.waiting.now.bytes.items c.args.waiting.now.gone c.loop-row.waiting.bytes.items c.loop-row.waiting.gone
     (flat_map (row_bytes pic) (range_with_len 0 row)) (row_bytes pic row) (flat_map (row_bytes pic) (range_with_len (row + 1) (pic.shape.height - (row + 1)))) (raster pic)
-    (three_parts (row_bytes pic) row (row + 1) pic.shape.height (row_bytes pic row) low high (sym (flat_map_one (row_bytes pic) row))) c.loop-row.invariant.put c.in_err-write_row.ensures.front)
+    (three_parts (row_bytes pic) row (row + 1) pic.shape.height (row_bytes pic row) low high (sym (flat_map_one (row_bytes pic) row))) c.loop-row.invariant.put c.in_err-write_row.ensures.prefix)
 
 pub loop-row-preserved : goal.loop-row-preserved
 loop-row-preserved g c =
@@ -46,7 +46,7 @@ loop-row-preserved g c =
     let row = c.loop-row.row in
     record {
       few = c.in_ok-write_row.ensures.few;
-      put = subst (λ (t : List ℕ). PutBehind (history c.args.sink.now) (history c.write_row.new.sink) (contents c.args.sink.now) (contents c.write_row.new.sink)
+      put = subst (λ (t : List ℕ). PutAfter (history c.args.sink.now) (history c.write_row.new.sink) (contents c.args.sink.now) (contents c.write_row.new.sink)
           c.args.waiting.now.bytes.items c.args.waiting.now.gone c.write_row.new.waiting.bytes.items c.write_row.new.waiting.gone t) (sym (flat_map_more (row_bytes pic) row))
           (put_on (history c.args.sink.now) (history c.loop-row.sink) (history c.write_row.new.sink) (contents c.args.sink.now) (contents c.loop-row.sink) (contents c.write_row.new.sink)
           c.args.waiting.now.bytes.items c.args.waiting.now.gone c.loop-row.waiting.bytes.items c.loop-row.waiting.gone c.write_row.new.waiting.bytes.items c.write_row.new.waiting.gone

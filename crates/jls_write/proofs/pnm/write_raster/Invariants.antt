@@ -1,7 +1,7 @@
 use Rattle.std.proofs.Common.{◌<◌, length}
 use Rattle.std.specs.List.{flat_map, range_with_len}
 use Rattle.jls_write.specs.Pnm.{row_bytes}
-use Rattle.jls_write.specs.Waiting.{PutBehind}
+use Rattle.jls_write.specs.Waiting.{PutAfter}
 use Rattle.jls_write.proofs.pnm.write_raster.Given as goal
 
 abbrev pub invariant-loop-row : goal.invariant-loop-row
@@ -10,6 +10,6 @@ invariant-loop-row g l =
     let contents = g.W.Sink.contents in
     record {
       few : length l.waiting.bytes.items < 4096;
-      put : PutBehind (history l.fn.sink) (history l.sink) (contents l.fn.sink) (contents l.sink)
+      put : PutAfter (history l.fn.sink) (history l.sink) (contents l.fn.sink) (contents l.sink)
           l.fn.waiting.bytes.items l.fn.waiting.gone l.waiting.bytes.items l.waiting.gone (flat_map (row_bytes l.picture) (range_with_len 0 l.row));
     }

@@ -1,7 +1,7 @@
 use Rattle.std.proofs.Common.{◌≤◌, ◌<◌, ◌-◌, length}
 use Rattle.std.specs.List.{flat_map, range_with_len}
 use Rattle.jls_write.specs.Pnm.{pixel_bytes}
-use Rattle.jls_write.specs.Waiting.{PutBehind}
+use Rattle.jls_write.specs.Waiting.{PutAfter}
 use Rattle.jls_write.proofs.pnm.write_row.Given as goal
 
 abbrev pub invariant-loop-start : goal.invariant-loop-start
@@ -11,7 +11,7 @@ invariant-loop-start g l =
     record {
       within : l.start ≤ l.picture.shape.width;
       few : length l.waiting.bytes.items < 4096;
-      put : PutBehind (history l.fn.sink) (history l.sink) (contents l.fn.sink) (contents l.sink)
+      put : PutAfter (history l.fn.sink) (history l.sink) (contents l.fn.sink) (contents l.sink)
           l.fn.waiting.bytes.items l.fn.waiting.gone l.waiting.bytes.items l.waiting.gone (flat_map (pixel_bytes l.picture l.row) (range_with_len 0 l.start));
     }
 

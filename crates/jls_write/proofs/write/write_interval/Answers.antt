@@ -1,7 +1,7 @@
 use Rattle.std.proofs.Common.{◌≡◌, ℕ, ◌++◌, List, [], length, sym, ap, subst, ◌∙◌, arith, length-append}
 use Rattle.std.proofs.lemmas.List.{append-nil}
 use Rattle.std.proofs.lemmas.Result.{on_ok_weaker}
-use Rattle.jls_write.specs.Outcomes.{HandedOut, HandedFront, StoppedBy}
+use Rattle.jls_write.specs.Outcomes.{HandedOut, HandedPrefix, StoppedBy}
 use Rattle.jls_write.proofs.Handing.{handed_on, if_err_weaker}
 use Rattle.jls_write.specs.Parts.{scan_from}
 use Rattle.jls_write.specs.Stops.{StopsIn}
@@ -57,9 +57,9 @@ returns-in_ok-count-in-Ok-clause-stops g c =
     let all_is : mark ++ code ≡ marked =
     ap (λ (t : List ℕ). t ++ code) (c.deref.ensures.value ∙ c.in-Ok.ensures.before) ∙ ap (λ (t : List ℕ). before_interval part.picture.now s c.args.interval ++ t) (c.deref-in-Ok.ensures.value ∙ c.in-Ok.ensures.code) in
     if_err_weaker c.write_part-in-Ok.result
-    (λ fault. StoppedBy fault c.in_ok-count-in-Ok.count (HandedFront (history c.write_part.new.sink) (history c.write_part-in-Ok.new.sink) (contents c.write_part.new.sink) (contents c.write_part-in-Ok.new.sink) code))
+    (λ fault. StoppedBy fault c.in_ok-count-in-Ok.count (HandedPrefix (history c.write_part.new.sink) (history c.write_part-in-Ok.new.sink) (contents c.write_part.new.sink) (contents c.write_part-in-Ok.new.sink) code))
     (λ fault. StopsIn fault c.args.before (history c.args.sink.now) (history c.write_part-in-Ok.new.sink) (contents c.args.sink.now) (contents c.write_part-in-Ok.new.sink) marked)
     (λ fault stopped. stops_on (history c.args.sink.now) (history c.write_part.new.sink) (history c.write_part-in-Ok.new.sink) (contents c.args.sink.now) (contents c.write_part.new.sink) (contents c.write_part-in-Ok.new.sink)
     fault c.args.before c.in_ok-count-in-Ok.count mark code [] marked c.in_ok-count-in-Ok.ensures.count (sym (append-nil (mark ++ code) ∙ all_is)) c.in_ok-count-in-Ok.ensures.all
     (stops_by (history c.write_part.new.sink) (history c.write_part-in-Ok.new.sink) (contents c.write_part.new.sink) (contents c.write_part-in-Ok.new.sink) fault c.in_ok-count-in-Ok.count code stopped))
-    c.write_part-in-Ok.ensures.front
+    c.write_part-in-Ok.ensures.prefix

@@ -21,7 +21,7 @@ returns-in_err-count-in-Ok-clause-stops g c =
     let p = err_from_is_err_and c.from_residual.result c.from_residual.ensures.1 in
     rw (p.1, p.2) (subst (λ (t : List ℕ). StopsIn c.in_err-count-in-Ok.field-0.0 0 (history c.args.sink.now) (history c.write_part.new.sink) (contents c.args.sink.now) (contents c.write_part.new.sink) t) all_is
     (stops_first (history c.args.sink.now) (history c.write_part.new.sink) (contents c.args.sink.now) (contents c.write_part.new.sink) c.in_err-count-in-Ok.field-0.0 0 header rest
-    (stops_by (history c.args.sink.now) (history c.write_part.new.sink) (contents c.args.sink.now) (contents c.write_part.new.sink) c.in_err-count-in-Ok.field-0.0 0 header c.in_err-count-in-Ok.ensures.front)))
+    (stops_by (history c.args.sink.now) (history c.write_part.new.sink) (contents c.args.sink.now) (contents c.write_part.new.sink) c.in_err-count-in-Ok.field-0.0 0 header c.in_err-count-in-Ok.ensures.prefix)))
 
 pub write_scans-requires-clause-early : goal.write_scans-requires-clause-early
 write_scans-requires-clause-early g c =
@@ -75,7 +75,7 @@ returns-in_err-write_part-in-Ok-clause-stops g c =
     let fault = c.in_err-write_part-in-Ok.field-0.0 in
     rw (p.1, p.2) (stops_on (history c.args.sink.now) (history c.write_scans.new.sink) (history c.write_part-in-Ok.new.sink) (contents c.args.sink.now) (contents c.write_scans.new.sink) (contents c.write_part-in-Ok.new.sink)
     fault 0 c.in_ok-count-in-Ok-2.count (header ++ scans) eoi [] (written_file pic o) counted all_is both
-    (stops_by (history c.write_scans.new.sink) (history c.write_part-in-Ok.new.sink) (contents c.write_scans.new.sink) (contents c.write_part-in-Ok.new.sink) fault c.in_ok-count-in-Ok-2.count eoi c.in_err-write_part-in-Ok.ensures.front))
+    (stops_by (history c.write_scans.new.sink) (history c.write_part-in-Ok.new.sink) (contents c.write_scans.new.sink) (contents c.write_part-in-Ok.new.sink) fault c.in_ok-count-in-Ok-2.count eoi c.in_err-write_part-in-Ok.ensures.prefix))
 
 pub returns-in_ok-write_part-in-Ok-clause-all : goal.returns-in_ok-write_part-in-Ok-clause-all
 returns-in_ok-write_part-in-Ok-clause-all g c =

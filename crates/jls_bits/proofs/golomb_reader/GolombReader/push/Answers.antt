@@ -1,5 +1,5 @@
 use Rattle.std.proofs.Common.{◌∷◌, [], ◌++◌, sym, subst, refl}
-use Rattle.jls_bits.specs.CodeState.{BeginsCode, bits_told}
+use Rattle.jls_bits.specs.CodeState.{BeginsCode, bits_fed}
 use Rattle.jls_bits.specs.Golomb.{golomb}
 use Rattle.jls_bits.specs.declared.golomb_reader.GolombStep.TheVariants.{More, Done, Refused}
 use Rattle.jls_bits.proofs.CodeSteps.{begins}
@@ -14,7 +14,7 @@ unreachable-requires c =
 pub returns-in-More-clause-done : goal.returns-in-More-clause-done
 returns-in-More-clause-done c =
     let k = c.self.inside.k in let g = c.self.inside.g in let q = c.self.inside.qbpp in let r = c.self.invariant.g_fits.0 in
-    done_exactly k g q r (bits_told g q c.in-More.next) More (begins k g q r c.in-More.next c.in-More.ensures.0)
+    done_exactly k g q r (bits_fed g q c.in-More.next) More (begins k g q r c.in-More.next c.in-More.ensures.0)
 
 pub returns-in-Done-clause-more : goal.returns-in-Done-clause-more
 returns-in-Done-clause-more c =
@@ -29,17 +29,17 @@ returns-in-Done-clause-done c =
 pub returns-in-Refused-clause-more : goal.returns-in-Refused-clause-more
 returns-in-Refused-clause-more c =
     let k = c.self.inside.k in let g = c.self.inside.g in let q = c.self.inside.qbpp in let r = c.self.invariant.g_fits.0 in
-    let given = bits_told g q c.in-Open.state ++ c.args.bit ∷ [] in
+    let given = bits_fed g q c.in-Open.state ++ c.args.bit ∷ [] in
     more_exactly k g q r given Refused (refused_begins_none k g q r given c.in-Refused.ensures)
 
 pub returns-in-Refused-clause-done : goal.returns-in-Refused-clause-done
 returns-in-Refused-clause-done c =
     let k = c.self.inside.k in let g = c.self.inside.g in let q = c.self.inside.qbpp in let r = c.self.invariant.g_fits.0 in
-    let given = bits_told g q c.in-Open.state ++ c.args.bit ∷ [] in
+    let given = bits_fed g q c.in-Open.state ++ c.args.bit ∷ [] in
     done_exactly k g q r given Refused (refused_begins_none k g q r given c.in-Refused.ensures)
 
 pub returns-in-Refused-clause-refused : goal.returns-in-Refused-clause-refused
 returns-in-Refused-clause-refused c =
     let k = c.self.inside.k in let g = c.self.inside.g in let q = c.self.inside.qbpp in let r = c.self.invariant.g_fits.0 in
-    let given = bits_told g q c.in-Open.state ++ c.args.bit ∷ [] in
+    let given = bits_fed g q c.in-Open.state ++ c.args.bit ∷ [] in
     refused_exactly k g q r given Refused (refused_begins_none k g q r given c.in-Refused.ensures)

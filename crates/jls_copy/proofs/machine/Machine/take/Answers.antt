@@ -7,9 +7,9 @@ use Rattle.jls_copy.proofs.machine.Machine.take.Goals as goal
 
 pub returns-in-Data : goal.returns-in-Data
 returns-in-Data c =
-    let told : TakesData c.in-InScan.scan c.args.bytes.now c.take.new.self c.in-Data.count =
+    let fed : TakesData c.in-InScan.scan c.args.bytes.now c.take.new.self c.in-Data.count =
     subst (λ step. TakesStep c.in-InScan.scan c.args.bytes.now c.take.new.self step) c.in-Data.is c.in_ok-count-in-InScan.ensures in
-    takes_of_scan c.args.self.now _ c.args.bytes.now c.in-Data.count c.in-InScan.scan c.take.new.self c.in-InScan.is refl told refl refl refl refl
+    takes_of_scan c.args.self.now _ c.args.bytes.now c.in-Data.count c.in-InScan.scan c.take.new.self c.in-InScan.is refl fed refl refl refl refl
     c.requires.machine.place_is c.requires.machine.header_bytes
 
 pub returns-in-Done : goal.returns-in-Done

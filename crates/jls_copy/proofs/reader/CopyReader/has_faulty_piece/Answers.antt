@@ -1,6 +1,6 @@
 use Rattle.std.proofs.Common.{◌≡◌, ℕ, true, not, ◌∙◌, subst}
 use Rattle.std.specs.Prelude.{◌==◌}
-use Rattle.jls_copy.specs.Fronts.{StaysFaulty}
+use Rattle.jls_copy.specs.Prefixes.{StaysFaulty}
 use Rattle.jls_copy.specs.ReaderState.{reading}
 use Rattle.jls_copy.proofs.FaultyPieces.{some_fault, stays_faulty}
 use Rattle.jls_copy.proofs.Gathering.{fed_or_failed}

@@ -10,7 +10,7 @@ use Rattle.jls_interval.specs.declared.line_reader.LineReader.{LineReader}
 use Rattle.jls_interval.proofs.IntervalReading.{items, working, samples_taken, shape_none, shape_then, taking_none, taking_then, taking_more, taking_all, taking_shorter, taking_fewer}
 use Rattle.jls_interval.proofs.interval_reader.IntervalReader.push_chunk.Goals as goal
 
--- samples that were taken into the line in work, of which this is the place, behind the bits taken before
+-- samples that were taken into the line in work, of which this is the place, after the bits taken before
 module _ {old d : IntervalReader} (new : LineReader) {all chunk unread : List Bool} {lines : List (Vec ℕ Global)} {k : ℕ} {up : Above} (before : TakesFirst old all d chunk) (state : d.state ≡ Working)
     (same : lines ≡ d.lines.items) (k_is : k ≡ length lines % d.components) (up_is : up ≡ above d.components (items lines)) (wide : new.width ≡ d.reader.width) (params : new.coder.cells.parameters ≡ d.reader.coder.cells.parameters) (t : TakesInLine k up d.reader new chunk unread) where
   samples : TakesFirst d chunk (record d { reader = new }) unread

@@ -19,9 +19,9 @@ use Rattle.jls_interval.proofs.interval_reader.IntervalReader.push_event.Goals a
 -- what a step says of the line in work, whose place this is
 abbrev Pushes : LineReader → LineReader → List Bool → List Bool → ℕ → Above → EventStep → Type 0
 Pushes old new chunk unread k up step =
-    (told : List Bool) (earlier : List Event) → IsAfter old.coder.cells.parameters old.coder.cells old.coder.run_indices earlier → Holds k up old told → EventPushed k up old new told chunk unread earlier step
+    (fed : List Bool) (earlier : List Event) → IsAfter old.coder.cells.parameters old.coder.cells old.coder.run_indices earlier → Holds k up old fed → EventPushed k up old new fed chunk unread earlier step
 
--- What an event says of a reader at work, in the place behind its lines
+-- What an event says of a reader at work, in the place after its lines
 module _ {p : CodingParameters} {given : List Bool} {d : IntervalReader} {new : LineReader} {chunk unread : List Bool} {lines : List (Vec ℕ Global)} {k : ℕ} {up : Above} {step : EventStep} (h : IsReading p given d) (state : d.state ≡ Working)
     (same : lines ≡ d.lines.items) (component : k ≡ length lines % d.components) (above_is : up ≡ above d.components (items lines)) (wide : new.width ≡ d.reader.width) (parameters : new.coder.cells.parameters ≡ d.reader.coder.cells.parameters) (pushed : Pushes d.reader new chunk unread k up step) where
   abbrev w : ℕ
@@ -86,7 +86,7 @@ module _ {p : CodingParameters} {given : List Bool} {d : IntervalReader} {new : 
     abbrev ok : AreCodingParameters p
     ok = in_range p d given h state
 
-    m : (taken : List Bool) × (chunk ≡ taken ++ unread) × EventDone p w (length L % n) (above n L) line line' new.coder.cells new.coder.run_indices (work.told ++ taken) work.earlier × (new.open_event ≡ NotBegun)
+    m : (taken : List Bool) × (chunk ≡ taken ++ unread) × EventDone p w (length L % n) (above n L) line line' new.coder.cells new.coder.run_indices (work.fed ++ taken) work.earlier × (new.open_event ≡ NotBegun)
     m = moved_taken p d given h state new chunk unread k k_is up up_is (subst (Pushes d.reader new chunk unread k up) moved pushed)
 
     some : 0 < length m.0
@@ -98,7 +98,7 @@ module _ {p : CodingParameters} {given : List Bool} {d : IntervalReader} {new : 
     -- the line goes on
     unfinished : (length line' ≡ w → ⊥) → Takes p given (record d { reader = new }) chunk unread
     unfinished ne =
-        let most = line_fits p w (length L % n) (above n L) line line' new.coder.cells new.coder.run_indices (work.told ++ m.0) work.earlier m.2 work.unfinished in let short : length line' < w = omega arith in let paid = h.lines_paid in
+        let most = line_fits p w (length L % n) (above n L) line line' new.coder.cells new.coder.run_indices (work.fed ++ m.0) work.earlier m.2 work.unfinished in let short : length line' < w = omega arith in let paid = h.lines_paid in
         let on = working_on p ok w n d.count h.width_at_least given L line d.reader.coder.cells d.reader.coder.run_indices d.reader.open_event work m.0 line' new.coder.cells new.coder.run_indices m.2 short in
         takes (reads new.line new.width_below d.lines m.0 d.state h.lines_at_most (omega arith) h.lines_wide most (subst (Is m.0 L line') (sym state) (subst (λ z. IsWorking p w n d.count (given ++ m.0) L line' new.coder.cells new.coder.run_indices z) (sym m.3) on)))
 

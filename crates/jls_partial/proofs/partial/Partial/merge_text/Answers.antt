@@ -3,12 +3,12 @@ use Rattle.std.proofs.lemmas.Result.{err_from_is_err_and}
 use Rattle.jls_values.specs.Join.{IsBetween}
 use Rattle.jls_values.specs.SameShape.{same_shape}
 use Rattle.jls_values.specs.Shape.{PictureShape}
-use Rattle.jls_partial.specs.Merging.{TakesFront}
+use Rattle.jls_partial.specs.Merging.{TakesPrefix}
 use Rattle.jls_partial.specs.Partial.{union}
-use Rattle.jls_partial.specs.TextFront.{text_front}
+use Rattle.jls_partial.specs.TextPrefix.{text_prefix}
 use Rattle.jls_partial.proofs.SameEntries.{shapes_differ, shapes_from_test}
-use Rattle.jls_partial.proofs.TextFronts.{on_error, nothing_taken}
-use Rattle.jls_partial.proofs.TextMerges.{head_fault, fault_behind, fault_merged, differs, merged, front_merged, text_between, no_other_head}
+use Rattle.jls_partial.proofs.TextPrefixes.{on_error, nothing_taken}
+use Rattle.jls_partial.proofs.TextMerges.{head_fault, fault_after, fault_merged, differs, merged, prefix_merged, text_between, no_other_head}
 use Rattle.jls_partial.proofs.partial.Partial.merge_text.Goals as goal
 
 pub returns-in_err-head-clause-refused : goal.returns-in_err-head-clause-refused
@@ -19,27 +19,27 @@ returns-in_err-head-clause-refused c =
 pub returns-in_err-head-clause-between : goal.returns-in_err-head-clause-between
 returns-in_err-head-clause-between c = λ p is.
     on_error c.from_residual.result (IsBetween union c.args.self.now c.args.self.now (union c.args.self.now p))
-    (text_between c.args.self.now c.args.self.now c.args.bytes.now (nothing_taken c.args.self.now c.args.self.now (text_front c.args.bytes.now) refl) p is)
+    (text_between c.args.self.now c.args.self.now c.args.bytes.now (nothing_taken c.args.self.now c.args.self.now (text_prefix c.args.bytes.now) refl) p is)
 
-pub returns-in_err-read_behind-clause-refused : goal.returns-in_err-read_behind-clause-refused
-returns-in_err-read_behind-clause-refused c =
-    let p = err_from_is_err_and c.from_residual-in_err-read_behind.result c.from_residual-in_err-read_behind.ensures.1 in
+pub returns-in_err-read_after-clause-refused : goal.returns-in_err-read_after-clause-refused
+returns-in_err-read_after-clause-refused c =
+    let p = err_from_is_err_and c.from_residual-in_err-read_after.result c.from_residual-in_err-read_after.ensures.1 in
     let head = c.in_ok-head.head in
-    rw (p.1, p.2) (fault_behind c.args.bytes.now (head.form.size, head.form.version, head.shape, head.count, head.rest.now) c.in_ok-head.ensures c.in_err-read_behind.field-0.0 c.in_err-read_behind.ensures)
+    rw (p.1, p.2) (fault_after c.args.bytes.now (head.form.size, head.form.version, head.shape, head.count, head.rest.now) c.in_ok-head.ensures c.in_err-read_after.field-0.0 c.in_err-read_after.ensures)
 
-pub returns-in_err-read_behind-clause-between : goal.returns-in_err-read_behind-clause-between
-returns-in_err-read_behind-clause-between c = λ p is.
-    on_error c.from_residual-in_err-read_behind.result (IsBetween union c.args.self.now c.args.self.now (union c.args.self.now p))
-    (text_between c.args.self.now c.args.self.now c.args.bytes.now (nothing_taken c.args.self.now c.args.self.now (text_front c.args.bytes.now) refl) p is)
+pub returns-in_err-read_after-clause-between : goal.returns-in_err-read_after-clause-between
+returns-in_err-read_after-clause-between c = λ p is.
+    on_error c.from_residual-in_err-read_after.result (IsBetween union c.args.self.now c.args.self.now (union c.args.self.now p))
+    (text_between c.args.self.now c.args.self.now c.args.bytes.now (nothing_taken c.args.self.now c.args.self.now (text_prefix c.args.bytes.now) refl) p is)
 
 pub returns-then-ne-clause-refused : goal.returns-then-ne-clause-refused
 returns-then-ne-clause-refused c =
     let head = c.in_ok-head.head in
-    differs c.args.bytes.now (head.form.size, head.form.version, head.shape, head.count, head.rest.now) c.in_ok-head.ensures c.args.self.now c.in_ok-read_behind.field-0 (λ i. omega (arith, c.type_inv.bytes i)) (subst (λ (s : PictureShape). same_shape s head.shape ≡ false) c.shape.ensures.value (shapes_differ c.shape.result.now head.shape c.ne.result c.ne.ensures c.if-ne.true)) c.in_ok-read_behind.ensures
+    differs c.args.bytes.now (head.form.size, head.form.version, head.shape, head.count, head.rest.now) c.in_ok-head.ensures c.args.self.now c.in_ok-read_after.field-0 (λ i. omega (arith, c.type_inv.bytes i)) (subst (λ (s : PictureShape). same_shape s head.shape ≡ false) c.shape.ensures.value (shapes_differ c.shape.result.now head.shape c.ne.result c.ne.ensures c.if-ne.true)) c.in_ok-read_after.ensures
 
 pub returns-then-ne-clause-between : goal.returns-then-ne-clause-between
 returns-then-ne-clause-between c = λ p is.
-    text_between c.args.self.now c.args.self.now c.args.bytes.now (nothing_taken c.args.self.now c.args.self.now (text_front c.args.bytes.now) refl) p is
+    text_between c.args.self.now c.args.self.now c.args.bytes.now (nothing_taken c.args.self.now c.args.self.now (text_prefix c.args.bytes.now) refl) p is
 
 pub returns-in_err-read_rest-clause-refused : goal.returns-in_err-read_rest-clause-refused
 returns-in_err-read_rest-clause-refused c =
@@ -48,12 +48,12 @@ returns-in_err-read_rest-clause-refused c =
     let one : head.shape ≡ c.args.self.now.shape = sym (shapes_from_test c.shape.result.now head.shape c.ne.result c.ne.ensures c.if-ne.false) ∙ c.shape.ensures.value in
     rw (p.1, p.2) (fault_merged c.args.bytes.now (head.form.size, head.form.version, head.shape, head.count, head.rest.now) c.in_ok-head.ensures c.args.self.now one c.in_err-read_rest.field-0.0 c.in_err-read_rest.ensures.read)
 
-pub returns-in_err-read_rest-clause-front : goal.returns-in_err-read_rest-clause-front
-returns-in_err-read_rest-clause-front c =
+pub returns-in_err-read_rest-clause-prefix : goal.returns-in_err-read_rest-clause-prefix
+returns-in_err-read_rest-clause-prefix c =
     let head = c.in_ok-head.head in
     let one : head.shape ≡ c.args.self.now.shape = sym (shapes_from_test c.shape.result.now head.shape c.ne.result c.ne.ensures c.if-ne.false) ∙ c.shape.ensures.value in
-    on_error c.from_residual-in_err-read_rest.result (TakesFront c.args.self.now c.read_rest.new.partial (text_front c.args.bytes.now))
-    (front_merged c.args.bytes.now (head.form.size, head.form.version, head.shape, head.count, head.rest.now) c.in_ok-head.ensures c.args.self.now one c.read_rest.new.partial c.in_err-read_rest.ensures.front)
+    on_error c.from_residual-in_err-read_rest.result (TakesPrefix c.args.self.now c.read_rest.new.partial (text_prefix c.args.bytes.now))
+    (prefix_merged c.args.bytes.now (head.form.size, head.form.version, head.shape, head.count, head.rest.now) c.in_ok-head.ensures c.args.self.now one c.read_rest.new.partial c.in_err-read_rest.ensures.prefix)
 
 pub returns-in_err-read_rest-clause-between : goal.returns-in_err-read_rest-clause-between
 returns-in_err-read_rest-clause-between c = λ p is.
@@ -61,7 +61,7 @@ returns-in_err-read_rest-clause-between c = λ p is.
     let one : head.shape ≡ c.args.self.now.shape = sym (shapes_from_test c.shape.result.now head.shape c.ne.result c.ne.ensures c.if-ne.false) ∙ c.shape.ensures.value in
     on_error c.from_residual-in_err-read_rest.result (IsBetween union c.args.self.now c.read_rest.new.partial (union c.args.self.now p))
     (text_between c.args.self.now c.read_rest.new.partial c.args.bytes.now
-    (front_merged c.args.bytes.now (head.form.size, head.form.version, head.shape, head.count, head.rest.now) c.in_ok-head.ensures c.args.self.now one c.read_rest.new.partial c.in_err-read_rest.ensures.front) p is)
+    (prefix_merged c.args.bytes.now (head.form.size, head.form.version, head.shape, head.count, head.rest.now) c.in_ok-head.ensures c.args.self.now one c.read_rest.new.partial c.in_err-read_rest.ensures.prefix) p is)
 
 pub returns-clause-ok : goal.returns-clause-ok
 returns-clause-ok c =

@@ -1,0 +1,78 @@
+-- Prefixes of copies, and the piece in hand where one ends: the piece that the prefix's end closes, if the input ends there.
+use Rattle.std.specs.Prelude.{◌≡◌, ℕ, ◌<◌, ◌⊎◌, List, ◌++◌, IfSome}
+use Rattle.std.specs.List.{AllByRecursion, Contains}
+use Rattle.jls_interval.specs.Reads.{ReadsNoMore}
+use Rattle.jls_interval.specs.IntervalBytes.{interval_asked}
+use Rattle.jls_marker.specs.Scan.{Scan}
+use Rattle.jls_copy.specs.Numbers.{PieceNumber}
+use Rattle.jls_copy.specs.Course.{Course, IsCourse}
+use Rattle.jls_partial.specs.Reading.{Reading}
+use Rattle.jls_copy.specs.Pieces.{FoundPiece, Fault, Lines, IsOutcomeAt, IsOutcome, readings_of, pieces}
+use Rattle.jls_copy.specs.declared.piece.PieceKind.{PieceKind}
+use Rattle.jls_copy.specs.CutPieces.{cut_pieces, IsHeadAt}
+use Rattle.jls_copy.specs.declared.piece.OpenPiece.{OpenPiece}
+use Rattle.jls_copy.specs.declared.piece.OpenPiece.TheVariants.{Within, Beyond}
+use Rattle.jls_copy.specs.declared.place.Place.{Place}
+use Rattle.jls_copy.specs.declared.place.Place.TheVariants.{Start, AtMarker, AtLength, InLength, InPayload, InScan, Done}
+
+-- whatever bytes follow these, they read as no lines of this number of a scan
+abbrev pub NeverReads : Scan → PieceNumber → List ℕ → Type 0
+NeverReads s n bytes = (more : List ℕ) (lines : List (List ℕ)) → IsOutcomeAt s n (bytes ++ more) (Lines lines) → ⊥
+
+-- the piece that the end of these bytes closes reads as no lines, whatever bytes follow it
+pub record IsPieceBroken (prefix : List ℕ) : Type 0 where
+  pub course : Course
+  pub is_course : IsCourse prefix course
+  pub piece : FoundPiece
+  pub in_hand : Contains (cut_pieces course) piece
+  pub broken : NeverReads piece.plan piece.number piece.bytes
+
+-- a list of bytes that begins with such a prefix has a piece with that scan, number and offset. It reads as no lines
+abbrev pub PrefixesStayBroken : Type 0
+PrefixesStayBroken =
+    (prefix more : List ℕ) → AllByRecursion (λ b. b < 256) (prefix ++ more)
+    → (broken : IsPieceBroken prefix) → (c : Course) → IsCourse (prefix ++ more) c
+    → (p : FoundPiece) × Contains (pieces c) p × (p.plan ≡ broken.piece.plan) × (p.number ≡ broken.piece.number)
+    × (p.offset ≡ broken.piece.offset) × ((lines : List (List ℕ)) → IsOutcome p (Lines lines) → ⊥)
+
+-- each list of bytes that begins with these has a faulty piece
+abbrev pub StaysFaulty : List ℕ → Type 0
+StaysFaulty prefix =
+    (more : List ℕ) → AllByRecursion (λ b. b < 256) (prefix ++ more) → (c : Course) → IsCourse (prefix ++ more) c
+    → (p : FoundPiece) × Contains (pieces c) p × (kind : PieceKind) × IsOutcome p (Fault kind)
+
+-- What they give --------------------------------------------------------------------------------------------------
+
+-- the piece reads as some lines; so it is neither too long nor broken nor beyond the last interval
+abbrev pub HasLines : FoundPiece → Type 0
+HasLines p = (lines : List (List ℕ)) × IsOutcome p (Lines lines)
+
+-- a piece of a course decodes to lines, one of which is the reading, or the piece that the input's end cuts off has it in its head
+abbrev pub Gives : Course → Reading → Type 0
+Gives c r =
+    ((p : FoundPiece) × Contains (pieces c) p × (lines : List (List ℕ)) × IsOutcome p (Lines lines)
+    × Contains (readings_of p (Lines lines)) r)
+    ⊎ ((p : FoundPiece) × Contains (cut_pieces c) p × (head : List (List ℕ)) × IsHeadAt p.plan p.number p.bytes head
+    × Contains (readings_of p (Lines head)) r)
+
+-- each reading that bytes give, a longer list of bytes that begins with them gives too, if each of its pieces reads as lines
+abbrev pub PrefixesKeepReadings : Type 0
+PrefixesKeepReadings =
+    (prefix more : List ℕ) → AllByRecursion (λ b. b < 256) (prefix ++ more)
+    → (c d : Course) → IsCourse prefix c → IsCourse (prefix ++ more) d → AllByRecursion HasLines (pieces d)
+    → (r : Reading) → Gives c r → Gives d r
+
+-- Inside the crate. An open piece reads as no lines, whatever follows
+abbrev pub OpenReadsNoMore : OpenPiece → Type 0
+OpenReadsNoMore (Within k d) = IfSome d.bytes (λ bytes. ReadsNoMore (interval_asked d) bytes)
+OpenReadsNoMore (Beyond k) = Unit {0}
+
+-- the place is in scan data, and its open piece reads as no lines, whatever follows
+abbrev pub PlaceReadsNoMore : Place → Type 0
+PlaceReadsNoMore (Start fill) = ⊥
+PlaceReadsNoMore (AtMarker fill) = ⊥
+PlaceReadsNoMore (AtLength marker code) = ⊥
+PlaceReadsNoMore (InLength marker code high) = ⊥
+PlaceReadsNoMore (InPayload marker code size) = ⊥
+PlaceReadsNoMore (InScan scan) = OpenReadsNoMore scan.piece
+PlaceReadsNoMore (Done e) = ⊥

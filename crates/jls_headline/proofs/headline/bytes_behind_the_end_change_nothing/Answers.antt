@@ -1,5 +1,0 @@
-use Rattle.jls_headline.proofs.SameCopies.{bytes_behind_the_end_change_nothing}
-use Rattle.jls_headline.proofs.headline.bytes_behind_the_end_change_nothing.Goals as goal
-
-pub returns : goal.returns
-returns c = bytes_behind_the_end_change_nothing

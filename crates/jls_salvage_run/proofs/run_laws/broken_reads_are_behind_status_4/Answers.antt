@@ -1,5 +1,0 @@
-use Rattle.jls_salvage_run.proofs.BrokenReads.{broken_reads_behind}
-use Rattle.jls_salvage_run.proofs.run_laws.broken_reads_are_behind_status_4.Goals as goal
-
-pub returns : goal.returns
-returns c = broken_reads_behind
